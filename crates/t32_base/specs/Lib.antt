@@ -1,0 +1,3 @@
+pub mod Registers
+pub mod Small
+pub mod Streams

@@ -1,0 +1,97 @@
+//! Standard input and output as a source and a sink. They tell nothing of what they have left or hold.
+ghost use Rattle.std.specs.Prelude.{None};
+
+use crate::lists::Bytes;
+use crate::streams::{Failed, Sink, Source, TakeFault, Taken};
+use std::alloc::Global;
+use std::io::{Read, Write};
+
+/// The most bytes of one read or write.
+pub const PIECE: usize = 16384;
+
+/// A reader as a source. An error of the reader is a fault.
+#[derive(Drop)]
+pub struct StdSource<R: Read> {
+    pub reader: R,
+    pub fault_calls: u64,
+    pub at_end: bool,
+}
+
+impl<R: Read> StdSource<R> {
+    pub fn new(reader: R) -> Self {
+        StdSource {
+            reader,
+            fault_calls: 0,
+            at_end: false,
+        }
+    }
+}
+
+impl<R: Read> Source for StdSource<R> {
+    ghost left = { λ _. None };
+
+    ghost ended = { λ s. s.at_end };
+
+    ghost fault_count = { λ s. s.fault_calls };
+
+    fn faults(&self) -> u64 {
+        self.fault_calls
+    }
+
+    fn take(&mut self, alloc: Global, room: u32) -> Result<Taken, TakeFault> {
+        self.at_end = false;
+        let mut buffer = [0u8; PIECE];
+        let size = PIECE.min(room as usize);
+        match self.reader.read(&mut buffer[..size]) {
+            Ok(0) => {
+                self.at_end = true;
+                Ok(Taken::End)
+            }
+            Ok(count) => match Bytes::copy_of(alloc, &buffer[..count]) {
+                Ok(piece) => Ok(Taken::Got(piece)),
+                Err(_) => Err(TakeFault::NoMemory),
+            },
+            Err(_) => {
+                self.fault_calls = self.fault_calls.saturating_add(1);
+                Err(TakeFault::Failed)
+            }
+        }
+    }
+}
+
+/// A writer as a sink. An error of the writer is a fault, and so is a write that takes nothing.
+#[derive(Drop)]
+pub struct StdSink<W: Write> {
+    pub writer: W,
+    pub fault_calls: u64,
+}
+
+impl<W: Write> StdSink<W> {
+    pub fn new(writer: W) -> Self {
+        StdSink {
+            writer,
+            fault_calls: 0,
+        }
+    }
+}
+
+impl<W: Write> Sink for StdSink<W> {
+    ghost holds = { λ _. None };
+
+    ghost fault_count = { λ s. s.fault_calls };
+
+    fn faults(&self) -> u64 {
+        self.fault_calls
+    }
+
+    fn give(&mut self, piece: &[u8]) -> Result<u32, Failed> {
+        let size = PIECE.min(piece.len());
+        match self.writer.write(&piece[..size]) {
+            Ok(count) if count > 0 => Ok(count as u32),
+            _ => {
+                self.fault_calls = self.fault_calls.saturating_add(1);
+                Err(Failed)
+            }
+        }
+    }
+}
