@@ -1,0 +1,408 @@
+//! The instructions of RV32I.
+#![tactic(auto)]
+
+ghost use Rattle.std.specs.Prelude.{◌≡◌, ◌+◌, ◌-◌, ◌*◌, ◌^◌, ◌<◌, ◌≤◌, IfSome, IsTrue, All, Some};
+ghost use Rattle.rv_insn.specs.Word.{bits, sign_extended, imm_i, imm_s, imm_b, imm_u, imm_j};
+ghost use Rattle.rv_insn.specs.Table.{decoded, key_of, rows};
+ghost use Rattle.rv_insn.specs.Encoding.{IsEncodable, IsR, IsRegister, encoded, low, packed, word_b, word_i, word_j, word_r, word_s, word_shift, word_u};
+
+/// An instruction, with its registers and its immediate or its shift.
+#[derive(Clone, Copy, PartialEq, Eq)]
+pub enum Insn {
+    Lui { rd: u8, imm: i32 },
+    Auipc { rd: u8, imm: i32 },
+    Jal { rd: u8, imm: i32 },
+    Jalr { rd: u8, rs1: u8, imm: i32 },
+    Beq { rs1: u8, rs2: u8, imm: i32 },
+    Bne { rs1: u8, rs2: u8, imm: i32 },
+    Blt { rs1: u8, rs2: u8, imm: i32 },
+    Bge { rs1: u8, rs2: u8, imm: i32 },
+    Bltu { rs1: u8, rs2: u8, imm: i32 },
+    Bgeu { rs1: u8, rs2: u8, imm: i32 },
+    Lb { rd: u8, rs1: u8, imm: i32 },
+    Lh { rd: u8, rs1: u8, imm: i32 },
+    Lw { rd: u8, rs1: u8, imm: i32 },
+    Lbu { rd: u8, rs1: u8, imm: i32 },
+    Lhu { rd: u8, rs1: u8, imm: i32 },
+    Sb { rs1: u8, rs2: u8, imm: i32 },
+    Sh { rs1: u8, rs2: u8, imm: i32 },
+    Sw { rs1: u8, rs2: u8, imm: i32 },
+    Addi { rd: u8, rs1: u8, imm: i32 },
+    Slti { rd: u8, rs1: u8, imm: i32 },
+    Sltiu { rd: u8, rs1: u8, imm: i32 },
+    Xori { rd: u8, rs1: u8, imm: i32 },
+    Ori { rd: u8, rs1: u8, imm: i32 },
+    Andi { rd: u8, rs1: u8, imm: i32 },
+    Slli { rd: u8, rs1: u8, imm: i32 },
+    Srli { rd: u8, rs1: u8, imm: i32 },
+    Srai { rd: u8, rs1: u8, imm: i32 },
+    Add { rd: u8, rs1: u8, rs2: u8 },
+    Sub { rd: u8, rs1: u8, rs2: u8 },
+    Sll { rd: u8, rs1: u8, rs2: u8 },
+    Slt { rd: u8, rs1: u8, rs2: u8 },
+    Sltu { rd: u8, rs1: u8, rs2: u8 },
+    Xor { rd: u8, rs1: u8, rs2: u8 },
+    Srl { rd: u8, rs1: u8, rs2: u8 },
+    Sra { rd: u8, rs1: u8, rs2: u8 },
+    Or { rd: u8, rs1: u8, rs2: u8 },
+    And { rd: u8, rs1: u8, rs2: u8 },
+    Fence,
+    Ecall,
+    Ebreak,
+}
+
+// The bits of a word from `high` down to `low`.
+#[inline(always)]
+fn bits(word: u32, high: u32, low: u32) -> u32
+    requires low { low ≤ high }
+    requires high { high < 32 }
+    ensures value { result ≡ bits word high low }
+    ensures fits { result < 2 ^ (high + 1 - low) }
+{
+    word >> low & u32::MAX >> (31 - (high - low))
+}
+
+// The signed number that the low `size` bits stand for.
+#[inline(always)]
+fn sign_extend(number: u32, size: u32) -> i32
+    requires positive { 0 < size }
+    requires size { size ≤ 32 }
+    requires fits { number < 2 ^ size }
+    ensures { result ≡ sign_extended size number }
+{
+    (number << (32 - size)).cast_signed() >> (32 - size)
+}
+
+#[inline(always)]
+fn imm_i(word: u32) -> i32
+    ensures { result ≡ imm_i word }
+{
+    sign_extend(bits(word, 31, 20), 12)
+}
+
+#[inline(always)]
+fn imm_s(word: u32) -> i32
+    ensures { result ≡ imm_s word }
+{
+    sign_extend(bits(word, 31, 25) * 32 + bits(word, 11, 7), 12)
+}
+
+#[inline(always)]
+fn imm_b(word: u32) -> i32
+    ensures { result ≡ imm_b word }
+{
+    let high = bits(word, 31, 31) * 4096 + bits(word, 7, 7) * 2048;
+    sign_extend(high + bits(word, 30, 25) * 32 + bits(word, 11, 8) * 2, 13)
+}
+
+#[inline(always)]
+fn imm_u(word: u32) -> i32
+    ensures { result ≡ imm_u word }
+{
+    sign_extend(bits(word, 31, 12) * 4096, 32)
+}
+
+#[inline(always)]
+fn imm_j(word: u32) -> i32
+    ensures { result ≡ imm_j word }
+{
+    let high = bits(word, 31, 31) * 1_048_576 + bits(word, 19, 12) * 4096;
+    sign_extend(
+        high + bits(word, 20, 20) * 2048 + bits(word, 30, 21) * 2,
+        21,
+    )
+}
+
+/// The instruction that a word is, if it is one.
+#[inline]
+pub fn decode(word: u32) -> Option<Insn>
+    ensures value { result ≡ decoded word }
+    ensures each_row { All (λ row. IsTrue (row.takes (key_of word)) → result ≡ Some (row.insn word)) rows }
+    ensures encodable { IfSome result IsEncodable }
+{
+    row_of(word)
+}
+
+#[inline(always)]
+fn row_of(word: u32) -> Option<Insn>
+    ensures { result ≡ decoded word }
+{
+    let rd = bits(word, 11, 7) as u8;
+    let rs1 = bits(word, 19, 15) as u8;
+    let rs2 = bits(word, 24, 20) as u8;
+    let funct3 = bits(word, 14, 12);
+    let funct7 = bits(word, 31, 25);
+    match bits(word, 6, 0) {
+        0x37 => Some(Insn::Lui {
+            rd,
+            imm: imm_u(word),
+        }),
+        0x17 => Some(Insn::Auipc {
+            rd,
+            imm: imm_u(word),
+        }),
+        0x6f => Some(Insn::Jal {
+            rd,
+            imm: imm_j(word),
+        }),
+        0x67 => match funct3 {
+            0 => Some(Insn::Jalr {
+                rd,
+                rs1,
+                imm: imm_i(word),
+            }),
+            _ => None,
+        },
+        0x63 => {
+            let imm = imm_b(word);
+            match funct3 {
+                0 => Some(Insn::Beq { rs1, rs2, imm }),
+                1 => Some(Insn::Bne { rs1, rs2, imm }),
+                4 => Some(Insn::Blt { rs1, rs2, imm }),
+                5 => Some(Insn::Bge { rs1, rs2, imm }),
+                6 => Some(Insn::Bltu { rs1, rs2, imm }),
+                7 => Some(Insn::Bgeu { rs1, rs2, imm }),
+                _ => None,
+            }
+        }
+        0x03 => {
+            let imm = imm_i(word);
+            match funct3 {
+                0 => Some(Insn::Lb { rd, rs1, imm }),
+                1 => Some(Insn::Lh { rd, rs1, imm }),
+                2 => Some(Insn::Lw { rd, rs1, imm }),
+                4 => Some(Insn::Lbu { rd, rs1, imm }),
+                5 => Some(Insn::Lhu { rd, rs1, imm }),
+                _ => None,
+            }
+        }
+        0x23 => {
+            let imm = imm_s(word);
+            match funct3 {
+                0 => Some(Insn::Sb { rs1, rs2, imm }),
+                1 => Some(Insn::Sh { rs1, rs2, imm }),
+                2 => Some(Insn::Sw { rs1, rs2, imm }),
+                _ => None,
+            }
+        }
+        0x13 => {
+            let imm = imm_i(word);
+            let shift = i32::from(rs2);
+            match funct3 {
+                0 => Some(Insn::Addi { rd, rs1, imm }),
+                2 => Some(Insn::Slti { rd, rs1, imm }),
+                3 => Some(Insn::Sltiu { rd, rs1, imm }),
+                4 => Some(Insn::Xori { rd, rs1, imm }),
+                6 => Some(Insn::Ori { rd, rs1, imm }),
+                7 => Some(Insn::Andi { rd, rs1, imm }),
+                1 => match funct7 {
+                    0 => Some(Insn::Slli {
+                        rd,
+                        rs1,
+                        imm: shift,
+                    }),
+                    _ => None,
+                },
+                _ => match funct7 {
+                    0 => Some(Insn::Srli {
+                        rd,
+                        rs1,
+                        imm: shift,
+                    }),
+                    0x20 => Some(Insn::Srai {
+                        rd,
+                        rs1,
+                        imm: shift,
+                    }),
+                    _ => None,
+                },
+            }
+        }
+        0x33 => match (funct7, funct3) {
+            (0, 0) => Some(Insn::Add { rd, rs1, rs2 }),
+            (0x20, 0) => Some(Insn::Sub { rd, rs1, rs2 }),
+            (0, 1) => Some(Insn::Sll { rd, rs1, rs2 }),
+            (0, 2) => Some(Insn::Slt { rd, rs1, rs2 }),
+            (0, 3) => Some(Insn::Sltu { rd, rs1, rs2 }),
+            (0, 4) => Some(Insn::Xor { rd, rs1, rs2 }),
+            (0, 5) => Some(Insn::Srl { rd, rs1, rs2 }),
+            (0x20, 5) => Some(Insn::Sra { rd, rs1, rs2 }),
+            (0, 6) => Some(Insn::Or { rd, rs1, rs2 }),
+            (0, 7) => Some(Insn::And { rd, rs1, rs2 }),
+            _ => None,
+        },
+        0x0f => match funct3 {
+            0 => Some(Insn::Fence),
+            _ => None,
+        },
+        0x73 => match word {
+            0x0000_0073 => Some(Insn::Ecall),
+            0x0010_0073 => Some(Insn::Ebreak),
+            _ => None,
+        },
+        _ => None,
+    }
+}
+
+/// The word of an instruction whose fields are in their ranges.
+pub fn encode(insn: Insn) -> u32
+    requires { IsEncodable insn }
+    ensures value { result ≡ encoded insn }
+    ensures reads_back { decoded result ≡ Some insn }
+{
+    match insn {
+        Insn::Lui { rd, imm } => word_u(0x37, rd, imm),
+        Insn::Auipc { rd, imm } => word_u(0x17, rd, imm),
+        Insn::Jal { rd, imm } => word_j(0x6f, rd, imm),
+        Insn::Jalr { rd, rs1, imm } => word_i(0x67, 0, rd, rs1, imm),
+        Insn::Beq { rs1, rs2, imm } => word_b(0x63, 0, rs1, rs2, imm),
+        Insn::Bne { rs1, rs2, imm } => word_b(0x63, 1, rs1, rs2, imm),
+        Insn::Blt { rs1, rs2, imm } => word_b(0x63, 4, rs1, rs2, imm),
+        Insn::Bge { rs1, rs2, imm } => word_b(0x63, 5, rs1, rs2, imm),
+        Insn::Bltu { rs1, rs2, imm } => word_b(0x63, 6, rs1, rs2, imm),
+        Insn::Bgeu { rs1, rs2, imm } => word_b(0x63, 7, rs1, rs2, imm),
+        Insn::Lb { rd, rs1, imm } => word_i(0x03, 0, rd, rs1, imm),
+        Insn::Lh { rd, rs1, imm } => word_i(0x03, 1, rd, rs1, imm),
+        Insn::Lw { rd, rs1, imm } => word_i(0x03, 2, rd, rs1, imm),
+        Insn::Lbu { rd, rs1, imm } => word_i(0x03, 4, rd, rs1, imm),
+        Insn::Lhu { rd, rs1, imm } => word_i(0x03, 5, rd, rs1, imm),
+        Insn::Sb { rs1, rs2, imm } => word_s(0x23, 0, rs1, rs2, imm),
+        Insn::Sh { rs1, rs2, imm } => word_s(0x23, 1, rs1, rs2, imm),
+        Insn::Sw { rs1, rs2, imm } => word_s(0x23, 2, rs1, rs2, imm),
+        Insn::Addi { rd, rs1, imm } => word_i(0x13, 0, rd, rs1, imm),
+        Insn::Slti { rd, rs1, imm } => word_i(0x13, 2, rd, rs1, imm),
+        Insn::Sltiu { rd, rs1, imm } => word_i(0x13, 3, rd, rs1, imm),
+        Insn::Xori { rd, rs1, imm } => word_i(0x13, 4, rd, rs1, imm),
+        Insn::Ori { rd, rs1, imm } => word_i(0x13, 6, rd, rs1, imm),
+        Insn::Andi { rd, rs1, imm } => word_i(0x13, 7, rd, rs1, imm),
+        Insn::Slli { rd, rs1, imm } => word_shift(0x13, 1, 0x00, rd, rs1, imm),
+        Insn::Srli { rd, rs1, imm } => word_shift(0x13, 5, 0x00, rd, rs1, imm),
+        Insn::Srai { rd, rs1, imm } => word_shift(0x13, 5, 0x20, rd, rs1, imm),
+        Insn::Add { rd, rs1, rs2 } => word_r(0x33, 0, 0x00, rd, rs1, rs2),
+        Insn::Sub { rd, rs1, rs2 } => word_r(0x33, 0, 0x20, rd, rs1, rs2),
+        Insn::Sll { rd, rs1, rs2 } => word_r(0x33, 1, 0x00, rd, rs1, rs2),
+        Insn::Slt { rd, rs1, rs2 } => word_r(0x33, 2, 0x00, rd, rs1, rs2),
+        Insn::Sltu { rd, rs1, rs2 } => word_r(0x33, 3, 0x00, rd, rs1, rs2),
+        Insn::Xor { rd, rs1, rs2 } => word_r(0x33, 4, 0x00, rd, rs1, rs2),
+        Insn::Srl { rd, rs1, rs2 } => word_r(0x33, 5, 0x00, rd, rs1, rs2),
+        Insn::Sra { rd, rs1, rs2 } => word_r(0x33, 5, 0x20, rd, rs1, rs2),
+        Insn::Or { rd, rs1, rs2 } => word_r(0x33, 6, 0x00, rd, rs1, rs2),
+        Insn::And { rd, rs1, rs2 } => word_r(0x33, 7, 0x00, rd, rs1, rs2),
+        Insn::Fence => 0x0ff0_000f,
+        Insn::Ecall => 0x0000_0073,
+        Insn::Ebreak => 0x0010_0073,
+    }
+}
+
+// The fields of a word put together.
+fn packed(opcode: u32, rd: u32, funct3: u32, rs1: u32, rs2: u32, funct7: u32) -> u32
+    requires opcode { opcode < 2 ^ 7 }
+    requires rd { rd < 2 ^ 5 }
+    requires funct3 { funct3 < 2 ^ 3 }
+    requires rs1 { rs1 < 2 ^ 5 }
+    requires rs2 { rs2 < 2 ^ 5 }
+    requires funct7 { funct7 < 2 ^ 7 }
+    ensures { result ≡ packed opcode rd funct3 rs1 rs2 funct7 }
+{
+    opcode + (rd << 7) + (funct3 << 12) + (rs1 << 15) + (rs2 << 20) + (funct7 << 25)
+}
+
+fn word_r(opcode: u32, funct3: u32, funct7: u32, rd: u8, rs1: u8, rs2: u8) -> u32
+    requires opcode { opcode < 2 ^ 7 }
+    requires funct3 { funct3 < 2 ^ 3 }
+    requires funct7 { funct7 < 2 ^ 7 }
+    requires fields { IsR rd rs1 rs2 }
+    ensures { result ≡ word_r opcode funct3 funct7 rd rs1 rs2 }
+{
+    packed(opcode, rd.into(), funct3, rs1.into(), rs2.into(), funct7)
+}
+
+fn word_i(opcode: u32, funct3: u32, rd: u8, rs1: u8, imm: i32) -> u32
+    requires opcode { opcode < 2 ^ 7 }
+    requires funct3 { funct3 < 2 ^ 3 }
+    requires rd { IsRegister rd }
+    requires rs1 { IsRegister rs1 }
+    ensures { result ≡ word_i opcode funct3 rd rs1 imm }
+{
+    let low = low(imm, 12);
+    packed(
+        opcode,
+        rd.into(),
+        funct3,
+        rs1.into(),
+        bits(low, 4, 0),
+        bits(low, 11, 5),
+    )
+}
+
+fn word_s(opcode: u32, funct3: u32, rs1: u8, rs2: u8, imm: i32) -> u32
+    requires opcode { opcode < 2 ^ 7 }
+    requires funct3 { funct3 < 2 ^ 3 }
+    requires rs1 { IsRegister rs1 }
+    requires rs2 { IsRegister rs2 }
+    ensures { result ≡ word_s opcode funct3 rs1 rs2 imm }
+{
+    let low = low(imm, 12);
+    packed(
+        opcode,
+        bits(low, 4, 0),
+        funct3,
+        rs1.into(),
+        rs2.into(),
+        bits(low, 11, 5),
+    )
+}
+
+fn word_b(opcode: u32, funct3: u32, rs1: u8, rs2: u8, imm: i32) -> u32
+    requires opcode { opcode < 2 ^ 7 }
+    requires funct3 { funct3 < 2 ^ 3 }
+    requires rs1 { IsRegister rs1 }
+    requires rs2 { IsRegister rs2 }
+    ensures { result ≡ word_b opcode funct3 rs1 rs2 imm }
+{
+    let low = low(imm, 13);
+    let rd = bits(low, 4, 1) * 2 + bits(low, 11, 11);
+    let funct7 = bits(low, 12, 12) * 64 + bits(low, 10, 5);
+    packed(opcode, rd, funct3, rs1.into(), rs2.into(), funct7)
+}
+
+fn word_u(opcode: u32, rd: u8, imm: i32) -> u32
+    requires opcode { opcode < 2 ^ 7 }
+    requires rd { IsRegister rd }
+    ensures { result ≡ word_u opcode rd imm }
+{
+    let low = low(imm, 32);
+    opcode + (u32::from(rd) << 7) + (bits(low, 31, 12) << 12)
+}
+
+fn word_j(opcode: u32, rd: u8, imm: i32) -> u32
+    requires opcode { opcode < 2 ^ 7 }
+    requires rd { IsRegister rd }
+    ensures { result ≡ word_j opcode rd imm }
+{
+    let low = low(imm, 21);
+    let middle = (bits(low, 19, 12) << 12) + (bits(low, 11, 11) << 20) + (bits(low, 10, 1) << 21);
+    opcode + (u32::from(rd) << 7) + middle + (bits(low, 20, 20) << 31)
+}
+
+fn word_shift(opcode: u32, funct3: u32, funct7: u32, rd: u8, rs1: u8, imm: i32) -> u32
+    requires opcode { opcode < 2 ^ 7 }
+    requires funct3 { funct3 < 2 ^ 3 }
+    requires funct7 { funct7 < 2 ^ 7 }
+    requires rd { IsRegister rd }
+    requires rs1 { IsRegister rs1 }
+    ensures { result ≡ word_shift opcode funct3 funct7 rd rs1 imm }
+{
+    packed(opcode, rd.into(), funct3, rs1.into(), low(imm, 5), funct7)
+}
+
+// The low `size` bits of an immediate.
+fn low(imm: i32, size: u32) -> u32
+    requires low { 0 < size }
+    requires high { size ≤ 32 }
+    ensures value { result ≡ low size imm }
+    ensures fits { result < 2 ^ size }
+{
+    bits(imm.cast_unsigned(), size - 1, 0)
+}
+
