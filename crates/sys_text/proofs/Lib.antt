@@ -1,0 +1,5 @@
+pub mod Bounds
+pub mod First
+mod Lines
+mod Reading
+mod Words
