@@ -118,8 +118,15 @@ system_bounds s h =
     let r = root_tests s.clusters (length s.images) s.roots t.roots in
     let e = t.header in
     record {
-      least = least s e; clusters = clusters s e; first = first s e; second = second s e; apart = apart s e;
-      least_reads = least_reads s e; syncreads = syncreads s e; least_steps = least_steps s e; syncsteps = syncsteps s e;
+      least = least s e;
+      clusters = clusters s e;
+      first = first s e;
+      second = second s e;
+      apart = apart s e;
+      least_reads = least_reads s e;
+      syncreads = syncreads s e;
+      least_steps = least_steps s e;
+      syncsteps = syncsteps s e;
       some_root = r.some;
       roots = omega (arith, r.few);
       births = r.few;

@@ -71,7 +71,11 @@ first_parts s h =
     let root = root_bounds s 0 l.root system (ap (λ rs. slice_get rs 0) l.roots) in
     let one : length s.images ≡ 1 = ap length l.images in
     record {
-      image = l.image; root = l.root; images = l.images; roots = l.roots; chans = l.chans;
+      image = l.image;
+      root = l.root;
+      images = l.images;
+      roots = l.roots;
+      chans = l.chans;
       image_number = omega (arith, root.image, one);
       births = l.births;
       system = system;

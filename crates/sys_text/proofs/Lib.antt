@@ -1,5 +1,6 @@
 pub mod Bounds
+mod Examples
 pub mod First
 mod Lines
-mod Reading
+pub mod Reading
 mod Words

@@ -404,3 +404,7 @@ read_again s h =
 -- what was read of a text of the first form is its system
 pub read_is : (text : List ℕ) (found : List (List ℕ)) (system s : System) → found ≡ fields text → system ≡ candidate_of found → IsFirstForm text s → system ≡ s
 read_is text found system s e f first = f ∙ ap candidate_of (e ∙ ap fields first.text_is) ∙ read_again s first.valid
+
+-- a text is the canonical text of one system of the first form at most
+pub same_system : (text : List ℕ) (s t : System) → IsFirstForm text s → IsFirstForm text t → s ≡ t
+same_system text s t a b = sym (read_again s a.valid) ∙ ap (λ x. candidate_of (fields x)) (sym a.text_is ∙ b.text_is) ∙ read_again t b.valid

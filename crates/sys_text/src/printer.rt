@@ -10,7 +10,8 @@ use t32_base::lists::{Bytes, Text};
 use t32_base::process::Mode;
 use t32_base::streams::NoMemory;
 
-/// The canonical text of a system.
+/// The canonical text of a system: one space between fields, numbers without leading zeros, words in lower
+/// case and eight in a line, each line ended. The only error is that memory was refused.
 pub fn system_text(alloc: Global, system: &System) -> Result<Text, NoMemory>
     ensures { IfOk result (λ text. text ≡ system_text_of system.now) }
 {

@@ -14,7 +14,7 @@ use t32_base::process::ClusterNo;
 use t32_base::streams::NoMemory;
 use thiserror::Error;
 
-/// Why a text is not read: it is not of the first form, or memory was refused.
+/// Why a text is not read.
 #[derive(Clone, Copy, PartialEq, Eq, Debug, Error)]
 pub enum NotRead {
     #[error("the text is not the canonical text of a system of one root")]
@@ -34,8 +34,10 @@ impl From<NoMemory> for NotRead {
     }
 }
 
-/// The system whose canonical text this is, if it is one of the first form. What the fields may say is
-/// printed again, and compared with the text.
+/// Reads the canonical text of a system of the first form: one image, one root that may not fork, and no
+/// channel. `NotFirst` comes only where no such system has this text, `NoMemory` where memory was refused.
+// What the fields may say is tested, printed again, and compared with the text. So a field is taken apart
+// without a check of its own.
 pub fn read_first(alloc: Global, text: &[u8]) -> Result<System, NotRead>
     ensures found { IfOk result (λ s. IsFirstForm text.now s) }
     ensures only { IsErrOf result NotRead.NotFirst → (s : Described) → IsFirstForm text.now s → ⊥ }

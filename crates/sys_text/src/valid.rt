@@ -6,7 +6,7 @@ ghost use Rattle.sys_text.specs.Valid.{is_system as is_system_of, is_first as is
 use crate::system::{Image, Root, System};
 use t32_base::process::ClusterNo;
 
-/// Whether a system keeps the rules of the text, so that its canonical text is one.
+/// Whether a system keeps the rules, so that some text has it. Takes no memory.
 pub fn is_system(system: &System) -> bool
     ensures { result ≡ is_system_of system.now }
 {
@@ -20,7 +20,7 @@ pub fn is_system(system: &System) -> bool
 }
 
 /// Whether a system keeps the rules and is of the first form: one image, one root that may not fork, and
-/// no channel.
+/// no channel. Takes no memory.
 pub fn is_first(system: &System) -> bool
     ensures { result ≡ is_first_of system.now }
 {
