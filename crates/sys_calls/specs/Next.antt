@@ -1,5 +1,5 @@
 -- The next step of a process.
-use Rattle.std.specs.Prelude.{ℕ, zero, suc, Bool, true, false, ◌==◌, List, Option, Some, None, option_and_then}
+use Rattle.std.specs.Prelude.{ℕ, zero, suc, Bool, true, false, ◌==◌, List, Option, Some, None, option_map, option_and_then}
 use Rattle.t32_base.specs.declared.process.End.{End}
 use Rattle.t32_base.specs.declared.process.End.TheVariants.{Trap, Limit}
 use Rattle.t32_base.specs.declared.process.Status.{Status}
@@ -46,6 +46,21 @@ has_step Forks = true
 has_step (Emits e p) = true
 has_step Over = false
 
+-- ---- the marks of the pages that a step changed
+
+abbrev pub marks_live : Bool → ProcState → List Bool → List Bool
+marks_live true p dirty = dirty
+marks_live false p dirty = exec_marks (p.small).regs p.memory dirty
+
+abbrev pub marks_by : Status → ProcState → List Bool → List Bool
+marks_by (Ended end) p dirty = dirty
+marks_by (Closing end) p dirty = dirty
+marks_by Live p dirty = marks_live ((p.small).left == 0) p dirty
+
+-- the marks after the next step: only an instruction that stores changes them
+abbrev pub step_marks : ProcState → List Bool → List Bool
+step_marks p dirty = marks_by (p.small).status p dirty
+
 -- ---- silent steps
 
 -- what a step leaves that sends nothing
@@ -61,17 +76,16 @@ unfoldable pub silently : ℕ → ProcState → Option ProcState
 silently zero p = Some p
 silently (suc n) p = option_and_then (λ q. silent_of (next_step q)) (silently n p)
 
--- ---- the marks of the pages that a step changed
+-- a process with the marks of its pages
+pub record Marked : Type 0 where
+  pub state : ProcState
+  pub marks : List Bool
 
-abbrev pub marks_live : Bool → ProcState → List Bool → List Bool
-marks_live true p dirty = dirty
-marks_live false p dirty = exec_marks (p.small).regs p.memory dirty
+-- the next step, where it is silent, with the marks after it
+abbrev pub silent_step : Marked → Option Marked
+silent_step p = option_map (λ q. record { state = q; marks = step_marks p.state p.marks }) (silent_of (next_step p.state))
 
-abbrev pub marks_by : Status → ProcState → List Bool → List Bool
-marks_by (Ended end) p dirty = dirty
-marks_by (Closing end) p dirty = dirty
-marks_by Live p dirty = marks_live ((p.small).left == 0) p dirty
-
--- the marks after the next step: only an instruction that stores changes them
-abbrev pub step_marks : ProcState → List Bool → List Bool
-step_marks p dirty = marks_by (p.small).status p dirty
+-- n silent steps, with the marks after them
+unfoldable pub silently_marked : ℕ → Marked → Option Marked
+silently_marked zero p = Some p
+silently_marked (suc n) p = option_and_then silent_step (silently_marked n p)

@@ -34,6 +34,10 @@ small_after (Steps regs bytes) s = with_regs (spent s) regs
 small_after (Traps code) s = with_status (spent s) (Closing (Trap code))
 small_after Calls s = s
 
+-- n instructions that step were spent, and left these registers
+abbrev pub after_instructions : ℕ → SmallState → Registers → SmallState
+after_instructions n s regs = record s { regs = regs; left = s.left - n; steps = s.steps + n }
+
 -- the answer of a call is in a0, and the pc goes on
 abbrev pub answered : SmallState → ℕ → SmallState
 answered s v = with_regs s (onward (set_reg s.regs 10 v))

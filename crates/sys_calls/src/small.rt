@@ -1,5 +1,5 @@
 //! How the state of a process changes by a step, but for its memory and its mailbox.
-ghost use Rattle.std.specs.Prelude.{◌≡◌, ◌==◌, ◌<◌, ◌≤◌, ◌+◌, OnSome, IfSome, length, slice_index_or, true};
+ghost use Rattle.std.specs.Prelude.{◌≡◌, ◌↔◌, IsTrue, min, ◌==◌, ◌<◌, ◌≤◌, ◌+◌, OnSome, IfSome, length, slice_index_or, true};
 ghost use Rattle.t32_base.specs.Small.{is_unshut};
 ghost use Rattle.sys_calls.specs.Small.{spent, stepped, with_status, with_regs, answered, lowest_linked as lowest_linked_of, shut_at, weight};
 ghost use Rattle.rv_cpu.specs.Exec.{onward};
@@ -8,11 +8,25 @@ use rv_cpu::registers::{advance, write};
 use t32_base::letter::To;
 use t32_base::process::{End, EndState, Small, Status};
 
+/// Whether the process is live.
+pub fn is_live(small: &Small) -> bool
+    ensures { IsTrue result ↔ (small.now.status ≡ Status.Live) }
+{
+    matches!(small.status, Status::Live)
+}
+
 /// Whether no instruction is left.
 pub fn is_spent_up(small: &Small) -> bool
     ensures { result ≡ (small.now.left == 0) }
 {
     small.left == 0
+}
+
+/// The instructions that are left, but at most so many.
+pub fn at_most(small: &Small, most: u32) -> u32
+    ensures { result ≡ min most small.now.left }
+{
+    most.min(small.left)
 }
 
 /// An instruction is spent, by a step.
