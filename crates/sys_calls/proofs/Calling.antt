@@ -11,7 +11,7 @@ use Rattle.t32_base.specs.declared.streams.NoMemory.{NoMemory}
 use Rattle.proc_state.specs.declared.process.Process.{Process}
 use Rattle.proc_state.specs.State.{ProcState, state_of, with_small}
 use Rattle.sys_calls.specs.declared.steps.Step.{Step}
-use Rattle.sys_calls.specs.Steps.{Makes, Marks, Sends}
+use Rattle.sys_calls.specs.Steps.{Makes, Marks, Touches}
 use Rattle.sys_calls.specs.Small.{spent, small_after}
 use Rattle.sys_calls.specs.Calls.{Next, Silent, called, call_of}
 use Rattle.sys_calls.specs.Next.{after_exec, live_step, marks_live}
@@ -74,8 +74,8 @@ pub call_makes : (p was new : Process) (result : Result Step NoMemory) → was �
     → Makes (live_step (eqb (p.small).left 0) (state_of p)) result (state_of p) (state_of new)
 call_makes p was new result same some is makes = rw (live_called (state_of p) some is) (subst (λ q. CallMakes q result new) same makes)
 
-pub call_sends : (p was new : Process) (result : Result Step NoMemory) → was ≡ p → Sends result was new → Sends result p new
-call_sends p was new result same sends = subst (λ q. Sends result q new) same sends
+pub call_touches : (p was new : Process) (result : Result Step NoMemory) → was ≡ p → Touches result was new → Touches result p new
+call_touches p was new result same sends = subst (λ q. Touches result q new) same sends
 
 pub call_marks : (p was new : Process) (result : Result Step NoMemory) → was ≡ p → eqb (p.small).left 0 ≡ false → exec (p.small).regs (p.ram).bytes ≡ Calls → (new.ram).dirty ≡ (was.ram).dirty
     → Marks result (marks_live (eqb (p.small).left 0) (state_of p) (p.ram).dirty) (p.ram).dirty (new.ram).dirty

@@ -43,11 +43,11 @@ Shorter (Ok WouldFork) old new = Unit {0}
 Shorter (Ok WasOver) old new = Unit {0}
 Shorter (Err e) old new = Unit {0}
 
--- a step that sends something changes neither the memory nor the mailbox
-abbrev pub Sends : Result Step NoMemory → Process → Process → Type 0
-Sends (Ok (Emit e)) old new = new ≡ record old { small = new.small }
-Sends (Ok WasSilent) old new = Unit {0}
-Sends (Ok WasBlocked) old new = Unit {0}
-Sends (Ok WouldFork) old new = Unit {0}
-Sends (Ok WasOver) old new = Unit {0}
-Sends (Err e) old new = Unit {0}
+-- what a step touches: one that sends something the state alone, and one that is not made nothing at all
+abbrev pub Touches : Result Step NoMemory → Process → Process → Type 0
+Touches (Ok WasSilent) old new = Unit {0}
+Touches (Ok (Emit e)) old new = new ≡ record old { small = new.small }
+Touches (Ok WasBlocked) old new = new ≡ old
+Touches (Ok WouldFork) old new = new ≡ old
+Touches (Ok WasOver) old new = new ≡ old
+Touches (Err e) old new = new ≡ old

@@ -5,7 +5,7 @@ ghost use Rattle.proc_state.specs.Ends.{leads_to};
 ghost use Rattle.proc_state.specs.State.{state_of, with_small};
 ghost use Rattle.sys_calls.specs.Small.{spent};
 ghost use Rattle.sys_calls.specs.Calls.{call_of, called, refused, write_call, ExitCall};
-ghost use Rattle.sys_calls.specs.Steps.{Makes, Marks, SameCount, Sends, Shorter};
+ghost use Rattle.sys_calls.specs.Steps.{Makes, Marks, SameCount, Touches, Shorter};
 
 use crate::small::{answer, close, go_on};
 use crate::steps::{Emission, Step};
@@ -33,7 +33,7 @@ pub fn call(alloc: Global, p: &mut Process) -> Result<Step, NoMemory>
     ensures marks { p.new.ram.dirty ≡ p.old.ram.dirty }
     ensures count { SameCount p.old p.new }
     ensures shorter { Shorter result p.old.small p.new.small }
-    ensures sends { Sends result p.old p.new }
+    ensures touches { Touches result p.old p.new }
 {
     match read(&p.small.regs, 17) {
         1 => Ok(exit(p)),
@@ -55,7 +55,7 @@ fn exit(p: &mut Process) -> Step
     ensures marks { p.new.ram.dirty ≡ p.old.ram.dirty }
     ensures count { SameCount p.old p.new }
     ensures shorter { Shorter (Ok result) p.old.small p.new.small }
-    ensures sends { Sends (Ok result) p.old p.new }
+    ensures touches { Touches (Ok result) p.old p.new }
 {
     let status = read(&p.small.regs, 10) % 256;
     close(&mut p.small, End::Exit(status as u8));
@@ -71,7 +71,7 @@ fn refuse(p: &mut Process, error: u32) -> Step
     ensures marks { p.new.ram.dirty ≡ p.old.ram.dirty }
     ensures count { SameCount p.old p.new }
     ensures shorter { Shorter (Ok result) p.old.small p.new.small }
-    ensures sends { Sends (Ok result) p.old p.new }
+    ensures touches { Touches (Ok result) p.old p.new }
 {
     answer(&mut p.small, u32::MAX - (error - 1));
     Step::Silent
@@ -84,7 +84,7 @@ fn write(alloc: Global, p: &mut Process) -> Result<Step, NoMemory>
     ensures marks { p.new.ram.dirty ≡ p.old.ram.dirty }
     ensures count { SameCount p.old p.new }
     ensures shorter { Shorter result p.old.small p.new.small }
-    ensures sends { Sends result p.old p.new }
+    ensures touches { Touches result p.old p.new }
 {
     let end = read(&p.small.regs, 10);
     let ptr = read(&p.small.regs, 11);

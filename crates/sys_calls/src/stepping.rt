@@ -5,7 +5,7 @@ ghost use Rattle.rv_cpu.specs.Exec.{bytes_after, did_of, exec, exec_marks};
 ghost use Rattle.proc_state.specs.State.{state_of};
 ghost use Rattle.sys_calls.specs.Next.{closing_step, has_step, live_step, marks_live, next_step, silently_marked, step_marks};
 ghost use Rattle.sys_calls.specs.Small.{after_instructions, lowest_linked, small_after, weight};
-ghost use Rattle.sys_calls.specs.Steps.{marked, Makes, Marks, SameCount, Sends, Shorter};
+ghost use Rattle.sys_calls.specs.Steps.{marked, Makes, Marks, SameCount, Touches, Shorter};
 
 use crate::calls::call;
 use crate::small::{at_most, close, finish, is_live, is_spent_up, run_out, shut_lowest, spend};
@@ -26,7 +26,7 @@ pub fn step(alloc: Global, p: &mut Process) -> Result<Step, NoMemory>
     ensures marks { Marks result (step_marks (state_of p.old) p.old.ram.dirty) p.old.ram.dirty p.new.ram.dirty }
     ensures count { SameCount p.old p.new }
     ensures shorter { Shorter result p.old.small p.new.small }
-    ensures sends { Sends result p.old p.new }
+    ensures touches { Touches result p.old p.new }
 {
     match p.small.status {
         Status::Ended(_) => Ok(Step::Over),
@@ -78,7 +78,7 @@ fn closing(p: &mut Process, end: End) -> Step
     ensures marks { p.new.ram.dirty ≡ p.old.ram.dirty }
     ensures count { SameCount p.old p.new }
     ensures shorter { Shorter (Ok result) p.old.small p.new.small }
-    ensures sends { Sends (Ok result) p.old p.new }
+    ensures touches { Touches (Ok result) p.old p.new }
 {
     match shut_lowest(&mut p.small) {
         Some((out, to)) => Step::Emit(Emission::Mail(Letter {
@@ -101,7 +101,7 @@ fn live(alloc: Global, p: &mut Process) -> Result<Step, NoMemory>
     ensures marks { Marks result (marks_live (p.old.small.left == 0) (state_of p.old) p.old.ram.dirty) p.old.ram.dirty p.new.ram.dirty }
     ensures count { SameCount p.old p.new }
     ensures shorter { Shorter result p.old.small p.new.small }
-    ensures sends { Sends result p.old p.new }
+    ensures touches { Touches result p.old p.new }
 {
     if is_spent_up(&p.small) {
         run_out(&mut p.small);

@@ -1,7 +1,7 @@
 use Rattle.std.proofs.Common.{sym, ◌∙◌}
 use Rattle.rv_cpu.specs.Exec.{exec}
 use Rattle.proc_state.specs.State.{state_of}
-use Rattle.sys_calls.proofs.Calling.{live_stepped, live_trapped, calls, unchanged, call_makes, call_marks, call_sends}
+use Rattle.sys_calls.proofs.Calling.{live_stepped, live_trapped, calls, unchanged, call_makes, call_marks, call_touches}
 use Rattle.sys_calls.proofs.stepping.live.Goals as goal
 
 pub returns-in-Stepped-clause-makes : goal.returns-in-Stepped-clause-makes
@@ -24,8 +24,8 @@ returns-in-Call-clause-marks c =
     let same = unchanged c.args.p.now c.instruct.new.small c.instruct.new.ram is c.instruct.ensures.small c.instruct.ensures.bytes c.instruct.ensures.marks in
     call_marks c.args.p.now _ c.call.new.p c.call.result same (sym c.is_spent_up.ensures ∙ c.if-is_spent_up.false) is c.call.ensures.marks
 
-pub returns-in-Call-clause-sends : goal.returns-in-Call-clause-sends
-returns-in-Call-clause-sends c =
+pub returns-in-Call-clause-touches : goal.returns-in-Call-clause-touches
+returns-in-Call-clause-touches c =
     let is = calls (exec c.args.p.now.small.regs c.args.p.now.ram.bytes) (sym c.in-Call.is ∙ c.instruct.ensures.did) in
     let same = unchanged c.args.p.now c.instruct.new.small c.instruct.new.ram is c.instruct.ensures.small c.instruct.ensures.bytes c.instruct.ensures.marks in
-    call_sends c.args.p.now _ c.call.new.p c.call.result same c.call.ensures.sends
+    call_touches c.args.p.now _ c.call.new.p c.call.result same c.call.ensures.touches
