@@ -1,5 +1,5 @@
 -- Laws of the kernel without failures.
-use Rattle.std.proofs.Common.{◌≡◌, ℕ, zero, suc, ◌+◌, refl, sym, ◌∙◌, ap, arith, List, [], ◌∷◌, Bool, true, false, cond, Option, Some, None, add-suc, add-zero}
+use Rattle.std.proofs.Common.{◌≡◌, ℕ, zero, suc, ◌+◌, refl, sym, ◌∙◌, ap, arith, List, [], ◌∷◌, ◌++◌, ◌-◌, ◌<◌, length, take, get_or, Bool, true, false, cond, Option, Some, None, add-suc, add-zero}
 use Rattle.std.specs.Prelude.{option_and_then}
 use Rattle.std.specs.declared.cmp.Ordering.{Ordering}
 use Rattle.std.specs.declared.cmp.Ordering.TheVariants.{Less, Equal, Greater}
@@ -13,7 +13,9 @@ use Rattle.proc_state.specs.State.{ProcState}
 use Rattle.sys_calls.specs.Calls.{Next, Silent, Blocked, Forks, Emits, Over}
 use Rattle.sys_calls.specs.Next.{next_step, silent_of, silently}
 use Rattle.plain_kernel.specs.Kernel.{Kernel, pid_cmp, process_at, with_process}
-use Rattle.plain_kernel.specs.Apply.{after_step, one_step, steps}
+use Rattle.plain_kernel.specs.Apply.{after_step, one_step, steps, apply, apply_all}
+use Rattle.plain_kernel.specs.declared.item.Item.{Item}
+use Rattle.std.proofs.lemmas.List.{take_more}
 use Rattle.plain_kernel.specs.Still.{default_step, default_after}
 use Rattle.plain_kernel.proofs.Entries.{some_same}
 
@@ -128,3 +130,36 @@ silent_steps zero k p s t same e = ap Some (sym same) ∙ ap (λ q. Some (with_p
 silent_steps (suc n) k p s t same e =
     let last = last_silent n s t e in
     ap (option_and_then (one_step p)) (silent_steps n k p s last.before same last.made) ∙ one_silent k p last.before t last.last
+
+-- ---- runs that stop
+
+pub none_further : (n m : ℕ) (p : Pid) (k : Kernel) → steps n p k ≡ None → steps (n + m) p k ≡ None
+none_further n m p k none = steps-plus n m p k ∙ ap (option_and_then (steps m p)) none
+
+-- a run that stops before its last step cannot be applied
+pub steps_stuck : (done n : ℕ) (p : Pid) (k j : Kernel) → steps done p k ≡ Some j → one_step p j ≡ None → done < n → steps n p k ≡ None
+steps_stuck done n p k j made none less =
+    let stopped : steps (done + 1) p k ≡ None = steps-plus done 1 p k ∙ ap (option_and_then (steps 1 p)) made ∙ steps_one p j ∙ none in
+    let rest : n ≡ (done + 1) + (n - (done + 1)) = omega arith in
+    ap (λ m. steps m p k) rest ∙ none_further (done + 1) (n - (done + 1)) p k stopped
+
+-- items in two parts
+pub apply_all-append : (xs ys : List Item) (k : Kernel) → apply_all (xs ++ ys) k ≡ option_and_then (apply_all ys) (apply_all xs k)
+apply_all-append [] ys k = refl
+apply_all-append (x ∷ xs) ys k = by_first (apply k x) (λ j. apply_all-append xs ys j)
+  where
+    by_first : (o : Option Kernel) → ((j : Kernel) → apply_all (xs ++ ys) j ≡ option_and_then (apply_all ys) (apply_all xs j)) → option_and_then (apply_all (xs ++ ys)) o ≡ option_and_then (apply_all ys) (option_and_then (apply_all xs) o)
+    by_first None rest = refl
+    by_first (Some j) rest = rest j
+
+one_item : (x : Item) (k : Kernel) → apply_all (x ∷ []) k ≡ apply k x
+one_item x k = whole (apply k x)
+  where
+    whole : (o : Option Kernel) → option_and_then (λ j. Some j) o ≡ o
+    whole None = refl
+    whole (Some j) = refl
+
+pub one_applied : (items : List Item) (n : ℕ) (d x : Item) (from k j : Kernel) → n < length items → x ≡ get_or items n d → apply_all (take n items) from ≡ Some k → apply k x ≡ Some j → apply_all (take (n + 1) items) from ≡ Some j
+one_applied items n d x from k j within is before now =
+    ap (λ l. apply_all l from) (take_more items n d within ∙ ap (λ y. take n items ++ y ∷ []) (sym is)) ∙ apply_all-append (take n items) (x ∷ []) from
+    ∙ ap (option_and_then (apply_all (x ∷ []))) before ∙ one_item x k ∙ now

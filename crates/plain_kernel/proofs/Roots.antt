@@ -100,6 +100,9 @@ can_boot s n d root valid within is =
       limit = b.limit;
     }
 
+pub light : (v : Process) (limit : ℕ) → load v ≡ 2 * (limit + 34) → limit ≤ 100000 → load v ≤ 200068
+light v limit e h = omega arith
+
 pub root_home : (s : System) (n : ℕ) (d root : Root) → is_system s ≡ true → n < length s.roots → root ≡ get_or s.roots n d → (root.home).0 < 16
 root_home s n d root valid within is =
     let at : slice_get s.roots n ≡ Some root = slice_get-get_or s.roots n d within ∙ ap Some (sym is) in

@@ -1,11 +1,11 @@
 -- The process that has the turn in the default schedule.
 use Rattle.std.proofs.lemmas.Bool.{false≢true}
-use Rattle.std.proofs.Common.{◌≡◌, ℕ, zero, suc, ◌+◌, ◌*◌, ◌<◌, ◌≤◌, Bool, true, false, cond, not, eqb, List, [], ◌∷◌, map, find, refl, sym, ap, ◌∙◌, subst, arith, Option, Some, None, IsSome, is_some, option_map, option_and_then, unwrap_or}
+use Rattle.std.proofs.Common.{◌≡◌, ℕ, zero, suc, ◌+◌, ◌*◌, ◌<◌, ◌≤◌, Bool, true, false, cond, not, ◌||◌, eqb, List, [], ◌∷◌, map, find, refl, sym, ap, ◌∙◌, subst, arith, Option, Some, None, Result, Ok, Err, inl, inr, IsSome, is_some, option_map, option_and_then, unwrap_or}
 use Rattle.std.specs.Prelude.{slice_get, nat_lt}
 use Rattle.std.specs.Ordering.{nat_cmp, is_eq}
 use Rattle.std.specs.declared.cmp.Ordering.{Ordering}
 use Rattle.std.specs.declared.cmp.Ordering.TheVariants.{Less, Equal, Greater}
-use Rattle.std.specs.List.{AllByRecursion}
+use Rattle.std.specs.List.{AllByRecursion, list_any}
 use Rattle.std.specs.List.Sorted.{IsStrictlySortedBy}
 use Rattle.std.specs.Map.{lookup, set_value}
 use Rattle.std.specs.FinMap.{put}
@@ -22,12 +22,17 @@ use Rattle.sys_calls.specs.Small.{spent, lowest_linked}
 use Rattle.sys_calls.specs.Calls.{Next, Silent, Blocked, Forks, Emits, Over, Call, ExitCall, Write, GetPid, Unknown, called, call_of, write_to, arg}
 use Rattle.sys_calls.specs.Next.{next_step, has_step, step_by, live_step, after_exec, closing_step, silently}
 use Rattle.plain_kernel.specs.Kernel.{Kernel, pid_cmp, with_process}
+use Rattle.plain_kernel.specs.declared.item.Item.{Item}
 use Rattle.plain_kernel.specs.declared.item.Item.TheVariants.{Run}
+use Rattle.plain_kernel.specs.declared.item.NotApplied.{NotApplied}
+use Rattle.plain_kernel.specs.declared.item.NotApplied.TheVariants.{Disabled, NoMemory as NoStepMemory}
+use Rattle.plain_kernel.specs.Answers.{Applies, StopsAt, runs_pid}
+use Rattle.std.proofs.lemmas.Bool.Decides.{nat_tests}
 use Rattle.plain_kernel.specs.Apply.{after_step, one_step, steps, apply}
 use Rattle.plain_kernel.specs.Still.{can_act, lowest, default_item, default_step, default_after, Reaches}
-use Rattle.plain_kernel.specs.Maps.{at_key, pid_of, processes_of, kernel_of, load, total_load, Changes, RunsAt, Advances, Alone, lowest_of, IsTurn, Turns}
+use Rattle.plain_kernel.specs.Maps.{at_key, pid_of, processes_of, kernel_of, load, total_load, Changes, RunsAt, Advances, Alone, lowest_of, IsTurn, RunsSteps, Turns}
 use Rattle.plain_kernel.proofs.Entries.{some_same, tied, later_no_key, later_above, lookup_state, put_state, written_same, there_before, found_after, ordered_after, put_after, state_before, load_after}
-use Rattle.plain_kernel.proofs.Laws.{steps_one, steps_joined, steps_more, one_silent, silent_steps, last_silent, no_silent, default_joined, default_one, default_none}
+use Rattle.plain_kernel.proofs.Laws.{steps_one, steps_joined, steps_more, steps_stuck, one_silent, silent_steps, last_silent, no_silent, default_joined, default_one, default_none}
 
 abbrev keys : {X : Type 0} → List (ℕ × X) → List ℕ
 keys es = map (λ e. e.0) es
@@ -316,3 +321,56 @@ still_there k (e ∷ es) (f ∷ fs) same there =
     by_test : (b : Bool) → at_key k e.0 ≡ b → f.0 ≡ e.0 → IsSome (cond b (Some e.1) (lookup (at_key k) es)) → (IsSome (lookup (at_key k) es) → IsSome (lookup (at_key k) fs)) → IsSome (lookup (at_key k) (f ∷ fs))
     by_test true is first there ih = rw (first, is) refl
     by_test false is first there ih = rw (first, is) (ih there)
+
+-- ---- what the calls of a kernel answer
+
+pub any_able : (es : List (ℕ × Process)) → is_some (option_map (λ (e : ℕ × Process). e.0) (lowest_of es)) ≡ not (not (list_any can_act (processes_of es)))
+any_able [] = refl
+any_able (x ∷ es) =
+    elim (has_step (next_step (state_of x.1))) as (λ b. is_some (option_map (λ (e : ℕ × Process). e.0) (cond b (Some x) (lowest_of es))) ≡ not (not (b || list_any can_act (processes_of es)))) [
+      | true ↦ refl
+      | false ↦ any_able es
+    ]
+
+-- a process that is not there makes no step
+pub nobody_there : (es : List (ℕ × Process)) (ts : List (ℕ × List ℕ)) (pid : ℕ) → is_some (lookup (at_key pid) es) ≡ false → one_step (pid_of pid) (kernel_of es ts) ≡ None
+unfolding one_step
+nobody_there es ts pid none = rw (lookup_state pid es) (by_case (lookup (at_key pid) es) none)
+  where
+    by_case : (o : Option Process) → is_some o ≡ false → option_and_then (λ s. after_step (kernel_of es ts) (pid_of pid) (next_step s)) (option_map state_of o) ≡ None
+    by_case None e = refl
+    by_case (Some p) e = cc
+
+not_none : (most : ℕ) (k : Kernel) (p : Pid) → (most ≡ 0 → ⊥) → apply k (Run p most) ≡ steps most p k
+not_none most k p some = ap (λ b. cond b None (steps most p k)) (tested most some)
+  where
+    tested : (n : ℕ) → (n ≡ 0 → ⊥) → eqb n 0 ≡ false
+    tested n h = grind (arith, nat_tests)
+
+-- a run of no steps is no item
+pub applies_none : (p : Pid) (most : ℕ) (k : Kernel) → most ≡ 0 → Applies (Run p most) (Err (Disabled 0)) k k
+applies_none p most k none = (ap (λ n. apply k (Run p n)) none, no_steps p k, inl none)
+
+pub applies_nobody : (p : Pid) (most : ℕ) (k : Kernel) → (most ≡ 0 → ⊥) → one_step p k ≡ None → Applies (Run p most) (Err (Disabled 0)) k k
+applies_nobody p most k some none =
+    let less : 0 < most = omega (arith, some) in
+    (not_none most k p some ∙ steps_stuck 0 most p k k (no_steps p k) none less, no_steps p k, inr (less, none))
+
+pub applies_run : (r : Result (Unit {0}) NotApplied) (pid most : ℕ) (ps qs : List (ℕ × Process)) (ts us : List (ℕ × List ℕ)) → (most ≡ 0 → ⊥) → RunsSteps r pid most ps qs ts us
+    → Applies (Run (pid_of pid) most) r (kernel_of ps ts) (kernel_of qs us)
+applies_run (Ok all) pid most ps qs ts us some runs = not_none most (kernel_of ps ts) (pid_of pid) some ∙ runs.0
+applies_run (Err (Disabled done)) pid most ps qs ts us some runs =
+    (not_none most (kernel_of ps ts) (pid_of pid) some ∙ steps_stuck done most (pid_of pid) (kernel_of ps ts) (kernel_of qs us) runs.0 runs.3 runs.2, runs.0, inr (runs.2, runs.3))
+applies_run (Err (NoStepMemory done)) pid most ps qs ts us some runs = runs.0
+
+pub no_longer : (r : Result (Unit {0}) NotApplied) (pid most : ℕ) (ps qs : List (ℕ × Process)) (ts us : List (ℕ × List ℕ)) → RunsSteps r pid most ps qs ts us → total_load qs ≤ total_load ps
+no_longer (Ok all) pid most ps qs ts us runs = runs.1
+no_longer (Err (Disabled done)) pid most ps qs ts us runs = runs.1
+no_longer (Err (NoStepMemory done)) pid most ps qs ts us runs = runs.1
+
+pub applies_other : (item : Item) (k : Kernel) → apply k item ≡ None → StopsAt item 0 k → Applies item (Err (Disabled 0)) k k
+applies_other item k none stops = (none, no_steps (runs_pid item) k, stops)
+
+pub pids_are : (es : List (ℕ × Process)) → map pid_of (keys es) ≡ map (λ (e : Pid × ProcState). e.0) (processes_of es)
+pids_are [] = refl
+pids_are (x ∷ es) = ap (λ r. pid_of x.0 ∷ r) (pids_are es)

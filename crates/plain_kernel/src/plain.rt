@@ -9,7 +9,7 @@ ghost use Rattle.plain_kernel.specs.Answers.{Applies, Runs};
 
 use crate::booting::{ttys_of, processes_of};
 use crate::item::{Item, NotApplied, RunRefused};
-use crate::processes::lowest;
+use crate::processes::{lowest, pids_of};
 use crate::running::{run_steps, run_to_end};
 use proc_state::process::Process;
 use std::alloc::Global;
@@ -74,7 +74,10 @@ impl Plain {
     fn run_process(&mut self, pid: Pid, most: u64) -> Result<(), NotApplied>
         ensures { Applies (Item.Run pid most) result self.old self.new }
     {
-        if most == 0 || !self.processes.contains_key(&pid.0) {
+        if most == 0 {
+            return Err(NotApplied::Disabled { done: 0 });
+        }
+        if !self.processes.contains_key(&pid.0) {
             return Err(NotApplied::Disabled { done: 0 });
         }
         run_steps(self.alloc, &mut self.processes, &mut self.ttys, pid.0, most)
@@ -91,11 +94,7 @@ impl Plain {
     pub fn pids(&self) -> Result<List<Pid>, NoMemory>
         ensures { IfOk result (λ pids. pids ≡ map (λ e. e.0) self.now.processes) }
     {
-        let mut pids = List::new(self.alloc);
-        for pid in self.processes.keys() {
-            pids.push(Pid(*pid))?;
-        }
-        Ok(pids)
+        pids_of(self.alloc, &self.processes)
     }
 
     /// The process with a pid: None exactly where it is not there. Takes no memory.

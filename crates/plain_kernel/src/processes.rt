@@ -1,19 +1,19 @@
 //! The processes of a kernel by pid.
-ghost use Rattle.std.specs.Prelude.{◌≡◌, ◌≤◌, ◌<◌, ◌^◌, ◌+◌, ◌-◌, IsSome, OnOk, OnErr, option_map, find, Ok, Some, false};
+ghost use Rattle.std.specs.Prelude.{◌≡◌, ◌≤◌, IsSome, IfOk, map, option_map, find, Ok, Some, false};
 ghost use Rattle.std.specs.Option.{option_map_or};
-ghost use Rattle.std.specs.BTreeMap.{get};
+ghost use Rattle.std.specs.BTreeMap.{get, keys};
 ghost use Rattle.std.specs.Ordering.{nat_cmp};
-ghost use Rattle.std.specs.Option.{ForSome};
 ghost use Rattle.proc_state.specs.State.{state_of};
 ghost use Rattle.sys_calls.specs.Next.{has_step, next_step};
-ghost use Rattle.plain_kernel.specs.Maps.{RunsAt, StepsAt};
+ghost use Rattle.plain_kernel.specs.Maps.{pid_of, RunsAt, StepsAt};
 
 use proc_state::process::Process;
 use std::alloc::Global;
 use std::collections::BTreeMap;
 use sys_calls::stepping::{can_step, run_instructions, step};
 use sys_calls::steps::Step;
-use t32_base::process::Small;
+use t32_base::lists::List;
+use t32_base::process::Pid;
 use t32_base::streams::NoMemory;
 
 /// The lowest pid that has a step.
@@ -63,4 +63,15 @@ pub fn can_step_at(processes: &BTreeMap<u32, Process>, pid: u32) -> bool
         Some(process) => can_step(process),
         None => false,
     }
+}
+
+/// Every pid, rising.
+pub fn pids_of(alloc: Global, processes: &BTreeMap<u32, Process>) -> Result<List<Pid>, NoMemory>
+    ensures { IfOk result (λ pids. pids ≡ map pid_of (keys processes.now)) }
+{
+    let mut pids = List::new(alloc);
+    for pid in processes.keys() {
+        pids.push(Pid(*pid))?;
+    }
+    Ok(pids)
 }

@@ -1,0 +1,11 @@
+use Rattle.std.proofs.Common.{◌∙◌, ap, subst}
+use Rattle.plain_kernel.specs.Kernel.{Kernel}
+use Rattle.plain_kernel.specs.Still.{Reaches}
+use Rattle.plain_kernel.specs.Maps.{booted_ttys, kernel_of}
+use Rattle.plain_kernel.proofs.Roots.{booted}
+use Rattle.plain_kernel.proofs.plain.default_run.Goals as goal
+
+pub returns : goal.returns
+returns c =
+    let family : Kernel → Type 0 = λ k. Reaches k (kernel_of c.run_to_end.new.processes.entries c.run_to_end.new.ttys.entries) in
+    subst family (booted c.args.system.now _ _ c.in_ok-processes.ensures.states (c.in_ok-ttys.ensures ∙ ap booted_ttys c.as_slice.ensures)) c.in_ok-run_to_end.ensures.reaches
