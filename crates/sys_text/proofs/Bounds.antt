@@ -1,15 +1,14 @@
 -- What the rules of a system say of its numbers and of each of its parts.
-use Rattle.std.proofs.Common.{◌≡◌, ℕ, zero, suc, ◌+◌, ◌*◌, ◌-◌, ◌<◌, ◌≤◌, Bool, true, false, ◌&&◌, not, nat_le, nat_lt, eqb, List, [], ◌∷◌, length, get_or, refl, sym, ap, ◌∙◌, arith, cond, Some, slice_get}
+use Rattle.std.proofs.Common.{◌≡◌, ℕ, ◌+◌, ◌*◌, ◌-◌, ◌<◌, ◌≤◌, Bool, true, false, ◌&&◌, nat_le, List, [], ◌∷◌, length, get_or, refl, sym, ap, ◌∙◌, arith, Some, slice_get}
 use Rattle.std.specs.List.{list_all, range_with_len}
 use Rattle.std.proofs.lemmas.Bool.Decides.{nat_tests}
 use Rattle.std.proofs.lemmas.Option.{slice_get-get_or, slice_get_within, get_or_from_slice_get}
 use Rattle.std.proofs.lemmas.List.Sums.{AllPass-from_list_all}
 use Rattle.std.proofs.lemmas.List.FromFn.{length-range_with_len, get_or-range_with_len}
-use Rattle.t32_base.specs.declared.process.ClusterNo.{ClusterNo}
 use Rattle.sys_text.specs.declared.system.System.{System}
 use Rattle.sys_text.specs.declared.system.Image.{Image}
 use Rattle.sys_text.specs.declared.system.Root.{Root}
-use Rattle.sys_text.specs.Valid.{is_within, is_pair, is_header, is_name, is_word, is_image, are_images, is_named_once, is_there, is_root, births_of, are_roots, is_chan, links, are_chans, is_system}
+use Rattle.sys_text.specs.Valid.{is_header, is_name, is_word, is_image, are_images, is_root, births_of, are_roots, is_chan, links, are_chans, is_system}
 
 -- both tests of a pair
 pub first_of_two : (a b : Bool) → (a && b) ≡ true → a ≡ true

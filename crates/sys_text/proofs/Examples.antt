@@ -1,10 +1,9 @@
 -- Worked examples: a system with its text and its pids, and for each rule a system that breaks it. Each is by evaluation.
-use Rattle.std.proofs.Common.{◌≡◌, ℕ, Bool, true, false, List, [], ◌∷◌, ◌++◌, map, refl}
+use Rattle.std.proofs.Common.{◌≡◌, ℕ, true, false, List, [], ◌∷◌, map, refl}
 use Rattle.std.specs.Prelude.{codes, replicate}
 use Rattle.t32_base.specs.declared.process.Pid.{Pid}
 use Rattle.t32_base.specs.declared.process.ClusterNo.{ClusterNo}
-use Rattle.t32_base.specs.declared.process.Mode.{Mode}
-use Rattle.t32_base.specs.declared.process.Mode.TheVariants.{Quarter, Half, Full}
+use Rattle.t32_base.specs.declared.process.Mode.TheVariants.{Half}
 use Rattle.sys_text.specs.declared.system.System.{System}
 use Rattle.sys_text.specs.declared.system.Image.{Image}
 use Rattle.sys_text.specs.declared.system.Root.{Root}

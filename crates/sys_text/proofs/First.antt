@@ -1,8 +1,6 @@
 -- A system of the first form has one image and one root.
-use Rattle.std.proofs.Common.{◌≡◌, ℕ, ◌+◌, ◌*◌, ◌<◌, ◌≤◌, Bool, true, false, ◌&&◌, nat_le, eqb, List, [], ◌∷◌, length, get_or, refl, sym, ap, ◌∙◌, arith, cond, Some, slice_get}
+use Rattle.std.proofs.Common.{◌≡◌, ℕ, Bool, true, ◌&&◌, eqb, List, [], ◌∷◌, length, get_or, refl, ap, ◌∙◌, arith, slice_get}
 use Rattle.std.proofs.lemmas.Bool.{eqb-true}
-use Rattle.std.specs.List.{list_all}
-use Rattle.std.proofs.lemmas.Bool.Decides.{nat_tests}
 use Rattle.sys_text.specs.declared.system.System.{System}
 use Rattle.sys_text.specs.declared.system.Image.{Image}
 use Rattle.sys_text.specs.declared.system.Root.{Root}

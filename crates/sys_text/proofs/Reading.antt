@@ -1,7 +1,6 @@
 -- A canonical text gives its system back.
-use Rattle.std.proofs.Common.{◌≡◌, ℕ, zero, suc, ◌+◌, ◌-◌, ◌*◌, ◌/◌, ◌%◌, ◌^◌, ◌<◌, ◌≤◌, Bool, true, false, ◌&&◌, not, nat_le, nat_lt, cond, List, [], ◌∷◌, ◌++◌, length, map, filter, fold, take, drop, get_or, refl, sym, ap, ◌∙◌, subst, arith, append_assoc, append-nil, length-append, length-drop}
+use Rattle.std.proofs.Common.{◌≡◌, ℕ, zero, suc, ◌+◌, ◌-◌, ◌*◌, ◌/◌, ◌%◌, ◌^◌, ◌<◌, ◌≤◌, Bool, true, false, ◌&&◌, not, nat_le, nat_lt, cond, List, [], ◌∷◌, ◌++◌, length, map, filter, take, drop, get_or, refl, sym, ap, ◌∙◌, arith, append_assoc, append-nil, length-append, length-drop}
 use Rattle.std.specs.List.{flat_map, list_all}
-use Rattle.std.specs.Str.{bytes_eq}
 use Rattle.std.specs.Prelude.{codes}
 use Rattle.std.specs.Fmt.{decimal}
 use Rattle.std.proofs.lemmas.Fmt.{decimal_by_steps}
@@ -19,11 +18,11 @@ use Rattle.t32_base.specs.declared.process.Mode.TheVariants.{Quarter, Half, Full
 use Rattle.sys_text.specs.declared.system.System.{System}
 use Rattle.sys_text.specs.declared.system.Image.{Image}
 use Rattle.sys_text.specs.declared.system.Root.{Root}
-use Rattle.sys_text.specs.Valid.{is_first, is_header, is_image, is_root, is_name, is_name_byte, is_letter, is_within, is_word}
-use Rattle.sys_text.specs.Text.{line_text, lines_text, hex_digit, hex_digits, word_text, words_line, words_lines, words_lines_upto, image_lines, root_line, chan_line, header_lines, system_lines, system_text, mode_text, IsFirstForm}
-use Rattle.sys_text.specs.Fields.{fields, fields_from, digit_of, next_value, value_of, mode_of, is_marker, words_of, at, number_at, candidate_of}
+use Rattle.sys_text.specs.Valid.{is_first, is_name_byte, is_word}
+use Rattle.sys_text.specs.Text.{line_text, lines_text, hex_digit, hex_digits, word_text, words_lines, words_lines_upto, image_lines, root_line, chan_line, header_lines, system_lines, system_text, mode_text, IsFirstForm}
+use Rattle.sys_text.specs.Fields.{fields, fields_from, digit_of, next_value, value_of, mode_of, is_marker, words_of, candidate_of}
 use Rattle.std.proofs.Math.Nat.{pow-suc}
-use Rattle.sys_text.proofs.Bounds.{first_of_two, second_of_two, SystemBounds, ImageBounds, RootBounds}
+use Rattle.sys_text.proofs.Bounds.{first_of_two, second_of_two}
 use Rattle.sys_text.proofs.First.{FirstParts, first_parts}
 
 -- ---- numbers

@@ -1,5 +1,5 @@
 //! Reads the canonical text of a system of the first form.
-ghost use Rattle.std.specs.Prelude.{◌≡◌, IfOk, IsErrOf, take, drop, length, ◌-◌, ◌%◌};
+ghost use Rattle.std.specs.Prelude.{◌≡◌, ◌↔◌, IsTrue, IfOk, IsErrOf, take, drop, length, ◌-◌, ◌%◌};
 ghost use Rattle.sys_text.specs.declared.system.System.{System as Described};
 ghost use Rattle.sys_text.specs.Fields.{at as at_of, number_at as number_at_of, cluster_at as cluster_at_of, words_of, candidate_of};
 ghost use Rattle.sys_text.specs.Text.{IsFirstForm};
@@ -48,11 +48,17 @@ pub fn read_first(alloc: Global, text: &[u8]) -> Result<System, NotRead>
         return Err(NotRead::NotFirst);
     }
     let printed = system_text(alloc, &system)?;
-    if printed.as_slice() == text {
+    if is_same(printed.as_slice(), text) {
         Ok(system)
     } else {
         Err(NotRead::NotFirst)
     }
+}
+
+fn is_same(printed: &[u8], text: &[u8]) -> bool
+    ensures { IsTrue result ↔ (printed.now ≡ text.now) }
+{
+    printed == text
 }
 
 /// The system whose fields these may be.

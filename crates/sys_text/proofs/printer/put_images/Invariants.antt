@@ -1,6 +1,6 @@
-use Rattle.std.proofs.Common.{◌≡◌, ◌++◌, take, map}
+use Rattle.std.proofs.Common.{◌≡◌, ◌++◌, take}
 use Rattle.std.specs.List.{flat_map}
-use Rattle.sys_text.specs.Text.{lines_text, image_lines, root_line, chan_line}
+use Rattle.sys_text.specs.Text.{lines_text, image_lines}
 use Rattle.sys_text.proofs.printer.put_images.Given as goal
 
 abbrev pub invariant-loop-image : goal.invariant-loop-image

@@ -1,6 +1,5 @@
 use Rattle.std.proofs.Common.{◌≡◌, ◌++◌, take, map}
-use Rattle.std.specs.List.{flat_map}
-use Rattle.sys_text.specs.Text.{lines_text, image_lines, root_line, chan_line}
+use Rattle.sys_text.specs.Text.{lines_text, root_line}
 use Rattle.sys_text.proofs.printer.put_roots.Given as goal
 
 abbrev pub invariant-loop-root : goal.invariant-loop-root
