@@ -2,8 +2,9 @@
 #![tactic(auto)]
 
 ghost use Rattle.std.specs.Prelude.{◌≡◌, ◌+◌, ◌-◌, ◌*◌, ◌^◌, ◌<◌, ◌≤◌, IfSome, IsTrue, All, Some};
-ghost use Rattle.rv_insn.specs.Word.{bits, sign_extended, imm_i, imm_s, imm_b, imm_u, imm_j};
-ghost use Rattle.rv_insn.specs.Table.{decoded, key_of, rows};
+ghost use Rattle.rv_insn.specs.Word.{bits, rd, rs1, rs2, sign_extended, imm_i, imm_s, imm_b, imm_u, imm_j, shamt};
+ghost use Rattle.rv_insn.specs.Table.{decoded, key_of, picked, rows};
+ghost use Rattle.rv_insn.specs.Keys.{key_at};
 ghost use Rattle.rv_insn.specs.Encoding.{IsEncodable, IsR, IsRegister, encoded, low, packed, word_b, word_i, word_j, word_r, word_s, word_shift, word_u};
 
 /// An instruction, with its registers and its immediate or its shift.
@@ -124,118 +125,286 @@ pub fn decode(word: u32) -> Option<Insn>
 }
 
 #[inline(always)]
+fn rd(word: u32) -> u8
+    ensures { result ≡ rd word }
+{
+    bits(word, 11, 7) as u8
+}
+
+#[inline(always)]
+fn rs1(word: u32) -> u8
+    ensures { result ≡ rs1 word }
+{
+    bits(word, 19, 15) as u8
+}
+
+#[inline(always)]
+fn rs2(word: u32) -> u8
+    ensures { result ≡ rs2 word }
+{
+    bits(word, 24, 20) as u8
+}
+
+#[inline(always)]
+fn shamt(word: u32) -> i32
+    ensures { result ≡ shamt word }
+{
+    bits(word, 24, 20).cast_signed()
+}
+
+#[inline(always)]
 fn row_of(word: u32) -> Option<Insn>
     ensures { result ≡ decoded word }
 {
-    let rd = bits(word, 11, 7) as u8;
-    let rs1 = bits(word, 19, 15) as u8;
-    let rs2 = bits(word, 24, 20) as u8;
-    let funct3 = bits(word, 14, 12);
-    let funct7 = bits(word, 31, 25);
-    match bits(word, 6, 0) {
-        0x37 => Some(Insn::Lui {
-            rd,
+    if bits(word, 1, 0) != 3 {
+        return None;
+    }
+    row_at(word, bits(word, 6, 2) + bits(word, 14, 12) * 32)
+}
+
+// The row of a word by its funct3 and the upper five bits of its opcode, which are one number, so that
+// one jump finds the row.
+#[inline(always)]
+fn row_at(word: u32, key: u32) -> Option<Insn>
+    requires { key ≡ bits word 6 2 + bits word 14 12 * 32 }
+    ensures { result ≡ picked (key_at key word) word }
+{
+    match key {
+        0b000_01101
+        | 0b001_01101
+        | 0b010_01101
+        | 0b011_01101
+        | 0b100_01101
+        | 0b101_01101
+        | 0b110_01101
+        | 0b111_01101 => Some(Insn::Lui {
+            rd: rd(word),
             imm: imm_u(word),
         }),
-        0x17 => Some(Insn::Auipc {
-            rd,
+        0b000_00101
+        | 0b001_00101
+        | 0b010_00101
+        | 0b011_00101
+        | 0b100_00101
+        | 0b101_00101
+        | 0b110_00101
+        | 0b111_00101 => Some(Insn::Auipc {
+            rd: rd(word),
             imm: imm_u(word),
         }),
-        0x6f => Some(Insn::Jal {
-            rd,
+        0b000_11011
+        | 0b001_11011
+        | 0b010_11011
+        | 0b011_11011
+        | 0b100_11011
+        | 0b101_11011
+        | 0b110_11011
+        | 0b111_11011 => Some(Insn::Jal {
+            rd: rd(word),
             imm: imm_j(word),
         }),
-        0x67 => match funct3 {
-            0 => Some(Insn::Jalr {
-                rd,
-                rs1,
-                imm: imm_i(word),
+        0b000_11001 => Some(Insn::Jalr {
+            rd: rd(word),
+            rs1: rs1(word),
+            imm: imm_i(word),
+        }),
+        0b000_11000 => Some(Insn::Beq {
+            rs1: rs1(word),
+            rs2: rs2(word),
+            imm: imm_b(word),
+        }),
+        0b001_11000 => Some(Insn::Bne {
+            rs1: rs1(word),
+            rs2: rs2(word),
+            imm: imm_b(word),
+        }),
+        0b100_11000 => Some(Insn::Blt {
+            rs1: rs1(word),
+            rs2: rs2(word),
+            imm: imm_b(word),
+        }),
+        0b101_11000 => Some(Insn::Bge {
+            rs1: rs1(word),
+            rs2: rs2(word),
+            imm: imm_b(word),
+        }),
+        0b110_11000 => Some(Insn::Bltu {
+            rs1: rs1(word),
+            rs2: rs2(word),
+            imm: imm_b(word),
+        }),
+        0b111_11000 => Some(Insn::Bgeu {
+            rs1: rs1(word),
+            rs2: rs2(word),
+            imm: imm_b(word),
+        }),
+        0b000_00000 => Some(Insn::Lb {
+            rd: rd(word),
+            rs1: rs1(word),
+            imm: imm_i(word),
+        }),
+        0b001_00000 => Some(Insn::Lh {
+            rd: rd(word),
+            rs1: rs1(word),
+            imm: imm_i(word),
+        }),
+        0b010_00000 => Some(Insn::Lw {
+            rd: rd(word),
+            rs1: rs1(word),
+            imm: imm_i(word),
+        }),
+        0b100_00000 => Some(Insn::Lbu {
+            rd: rd(word),
+            rs1: rs1(word),
+            imm: imm_i(word),
+        }),
+        0b101_00000 => Some(Insn::Lhu {
+            rd: rd(word),
+            rs1: rs1(word),
+            imm: imm_i(word),
+        }),
+        0b000_01000 => Some(Insn::Sb {
+            rs1: rs1(word),
+            rs2: rs2(word),
+            imm: imm_s(word),
+        }),
+        0b001_01000 => Some(Insn::Sh {
+            rs1: rs1(word),
+            rs2: rs2(word),
+            imm: imm_s(word),
+        }),
+        0b010_01000 => Some(Insn::Sw {
+            rs1: rs1(word),
+            rs2: rs2(word),
+            imm: imm_s(word),
+        }),
+        0b000_00100 => Some(Insn::Addi {
+            rd: rd(word),
+            rs1: rs1(word),
+            imm: imm_i(word),
+        }),
+        0b010_00100 => Some(Insn::Slti {
+            rd: rd(word),
+            rs1: rs1(word),
+            imm: imm_i(word),
+        }),
+        0b011_00100 => Some(Insn::Sltiu {
+            rd: rd(word),
+            rs1: rs1(word),
+            imm: imm_i(word),
+        }),
+        0b100_00100 => Some(Insn::Xori {
+            rd: rd(word),
+            rs1: rs1(word),
+            imm: imm_i(word),
+        }),
+        0b110_00100 => Some(Insn::Ori {
+            rd: rd(word),
+            rs1: rs1(word),
+            imm: imm_i(word),
+        }),
+        0b111_00100 => Some(Insn::Andi {
+            rd: rd(word),
+            rs1: rs1(word),
+            imm: imm_i(word),
+        }),
+        0b001_00100 => match bits(word, 31, 25) {
+            0 => Some(Insn::Slli {
+                rd: rd(word),
+                rs1: rs1(word),
+                imm: shamt(word),
             }),
             _ => None,
         },
-        0x63 => {
-            let imm = imm_b(word);
-            match funct3 {
-                0 => Some(Insn::Beq { rs1, rs2, imm }),
-                1 => Some(Insn::Bne { rs1, rs2, imm }),
-                4 => Some(Insn::Blt { rs1, rs2, imm }),
-                5 => Some(Insn::Bge { rs1, rs2, imm }),
-                6 => Some(Insn::Bltu { rs1, rs2, imm }),
-                7 => Some(Insn::Bgeu { rs1, rs2, imm }),
-                _ => None,
-            }
-        }
-        0x03 => {
-            let imm = imm_i(word);
-            match funct3 {
-                0 => Some(Insn::Lb { rd, rs1, imm }),
-                1 => Some(Insn::Lh { rd, rs1, imm }),
-                2 => Some(Insn::Lw { rd, rs1, imm }),
-                4 => Some(Insn::Lbu { rd, rs1, imm }),
-                5 => Some(Insn::Lhu { rd, rs1, imm }),
-                _ => None,
-            }
-        }
-        0x23 => {
-            let imm = imm_s(word);
-            match funct3 {
-                0 => Some(Insn::Sb { rs1, rs2, imm }),
-                1 => Some(Insn::Sh { rs1, rs2, imm }),
-                2 => Some(Insn::Sw { rs1, rs2, imm }),
-                _ => None,
-            }
-        }
-        0x13 => {
-            let imm = imm_i(word);
-            let shift = i32::from(rs2);
-            match funct3 {
-                0 => Some(Insn::Addi { rd, rs1, imm }),
-                2 => Some(Insn::Slti { rd, rs1, imm }),
-                3 => Some(Insn::Sltiu { rd, rs1, imm }),
-                4 => Some(Insn::Xori { rd, rs1, imm }),
-                6 => Some(Insn::Ori { rd, rs1, imm }),
-                7 => Some(Insn::Andi { rd, rs1, imm }),
-                1 => match funct7 {
-                    0 => Some(Insn::Slli {
-                        rd,
-                        rs1,
-                        imm: shift,
-                    }),
-                    _ => None,
-                },
-                _ => match funct7 {
-                    0 => Some(Insn::Srli {
-                        rd,
-                        rs1,
-                        imm: shift,
-                    }),
-                    0x20 => Some(Insn::Srai {
-                        rd,
-                        rs1,
-                        imm: shift,
-                    }),
-                    _ => None,
-                },
-            }
-        }
-        0x33 => match (funct7, funct3) {
-            (0, 0) => Some(Insn::Add { rd, rs1, rs2 }),
-            (0x20, 0) => Some(Insn::Sub { rd, rs1, rs2 }),
-            (0, 1) => Some(Insn::Sll { rd, rs1, rs2 }),
-            (0, 2) => Some(Insn::Slt { rd, rs1, rs2 }),
-            (0, 3) => Some(Insn::Sltu { rd, rs1, rs2 }),
-            (0, 4) => Some(Insn::Xor { rd, rs1, rs2 }),
-            (0, 5) => Some(Insn::Srl { rd, rs1, rs2 }),
-            (0x20, 5) => Some(Insn::Sra { rd, rs1, rs2 }),
-            (0, 6) => Some(Insn::Or { rd, rs1, rs2 }),
-            (0, 7) => Some(Insn::And { rd, rs1, rs2 }),
+        0b101_00100 => match bits(word, 31, 25) {
+            0 => Some(Insn::Srli {
+                rd: rd(word),
+                rs1: rs1(word),
+                imm: shamt(word),
+            }),
+            0x20 => Some(Insn::Srai {
+                rd: rd(word),
+                rs1: rs1(word),
+                imm: shamt(word),
+            }),
             _ => None,
         },
-        0x0f => match funct3 {
-            0 => Some(Insn::Fence),
+        0b000_01100 => match bits(word, 31, 25) {
+            0 => Some(Insn::Add {
+                rd: rd(word),
+                rs1: rs1(word),
+                rs2: rs2(word),
+            }),
+            0x20 => Some(Insn::Sub {
+                rd: rd(word),
+                rs1: rs1(word),
+                rs2: rs2(word),
+            }),
             _ => None,
         },
-        0x73 => match word {
+        0b001_01100 => match bits(word, 31, 25) {
+            0 => Some(Insn::Sll {
+                rd: rd(word),
+                rs1: rs1(word),
+                rs2: rs2(word),
+            }),
+            _ => None,
+        },
+        0b010_01100 => match bits(word, 31, 25) {
+            0 => Some(Insn::Slt {
+                rd: rd(word),
+                rs1: rs1(word),
+                rs2: rs2(word),
+            }),
+            _ => None,
+        },
+        0b011_01100 => match bits(word, 31, 25) {
+            0 => Some(Insn::Sltu {
+                rd: rd(word),
+                rs1: rs1(word),
+                rs2: rs2(word),
+            }),
+            _ => None,
+        },
+        0b100_01100 => match bits(word, 31, 25) {
+            0 => Some(Insn::Xor {
+                rd: rd(word),
+                rs1: rs1(word),
+                rs2: rs2(word),
+            }),
+            _ => None,
+        },
+        0b101_01100 => match bits(word, 31, 25) {
+            0 => Some(Insn::Srl {
+                rd: rd(word),
+                rs1: rs1(word),
+                rs2: rs2(word),
+            }),
+            0x20 => Some(Insn::Sra {
+                rd: rd(word),
+                rs1: rs1(word),
+                rs2: rs2(word),
+            }),
+            _ => None,
+        },
+        0b110_01100 => match bits(word, 31, 25) {
+            0 => Some(Insn::Or {
+                rd: rd(word),
+                rs1: rs1(word),
+                rs2: rs2(word),
+            }),
+            _ => None,
+        },
+        0b111_01100 => match bits(word, 31, 25) {
+            0 => Some(Insn::And {
+                rd: rd(word),
+                rs1: rs1(word),
+                rs2: rs2(word),
+            }),
+            _ => None,
+        },
+        0b000_00011 => Some(Insn::Fence),
+        0b000_11100 => match word {
             0x0000_0073 => Some(Insn::Ecall),
             0x0010_0073 => Some(Insn::Ebreak),
             _ => None,
@@ -405,4 +574,3 @@ fn low(imm: i32, size: u32) -> u32
 {
     bits(imm.cast_unsigned(), size - 1, 0)
 }
-
