@@ -259,9 +259,13 @@ fn stores(regs: &mut Regs, ram: &mut Ram, rs1: u8, rs2: u8, imm: i32, width: u8)
     ensures bytes { ram.new.bytes ≡ bytes_after (stores regs.old ram.old.bytes width (reg regs.old rs2) (plus (reg regs.old rs1) (word imm))) ram.old.bytes }
     ensures dirty { ram.new.dirty ≡ marks_stored (stores regs.old ram.old.bytes width (reg regs.old rs2) (plus (reg regs.old rs1) (word imm))) (plus (reg regs.old rs1) (word imm)) width ram.old.dirty }
 {
+    let next = regs.pc.wrapping_add(4);
     let addr = read(regs, rs1).wrapping_add_signed(imm);
     match ram.store(addr, width, read(regs, rs2)) {
-        Ok(()) => goes_on(regs),
+        Ok(()) => {
+            regs.pc = next;
+            Did::Stepped
+        }
         Err(BadAddr::Misaligned(_)) => Did::Trap(6),
         Err(BadAddr::OutOfRange(_)) => Did::Trap(7),
     }
