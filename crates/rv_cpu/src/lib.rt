@@ -3,7 +3,7 @@
 
 pub mod registers;
 
-ghost use Rattle.std.specs.Prelude.{◌≡◌, ◌*◌, ◌^◌, ◌<◌, ◌≤◌, ℕ, List, Some, None, int_lt};
+ghost use Rattle.std.specs.Prelude.{◌≡◌, ◌*◌, ◌^◌, ◌<◌, ◌≤◌, ℕ, List, Some, None, length, int_lt};
 ghost use Rattle.std.specs.Int.{w32, cast_unsigned, cast_signed};
 ghost use Rattle.rv_insn.specs.Encoding.{IsEncodable};
 ghost use Rattle.rv_insn.specs.Word.{sign_extended};
@@ -11,9 +11,9 @@ ghost use Rattle.rv_mem.specs.Memory.{IsWidth};
 ghost use Rattle.rv_cpu.specs.Exec.{Executed, branches, bytes_after, did_of, exec, exec_marks, executed, fetched, jumps, loads, marks_after, marks_stored, onward, plus, reg, regs_after, set_reg, signed, stores, widened, word};
 ghost use Rattle.rv_cpu.specs.Run.{machine_of, one, ran};
 
+use crate::registers::{advance, read, write};
 use byteorder::{ByteOrder, LittleEndian};
 use rv_insn::{Insn, decode};
-use crate::registers::{advance, read, write};
 use rv_mem::{BadAddr, Ram};
 use t32_base::process::Regs;
 
@@ -31,6 +31,7 @@ pub fn exec(regs: &mut Regs, ram: &mut Ram) -> Did
     ensures regs { regs.new ≡ regs_after (exec regs.old ram.old.bytes) regs.old }
     ensures bytes { ram.new.bytes ≡ bytes_after (exec regs.old ram.old.bytes) ram.old.bytes }
     ensures dirty { ram.new.dirty ≡ exec_marks regs.old ram.old.bytes ram.old.dirty }
+    ensures marks { length ram.new.dirty ≡ length ram.old.dirty }
 {
     let Some(word) = fetch(regs, ram) else {
         return Did::Trap(1);
@@ -47,6 +48,7 @@ pub fn run(regs: &mut Regs, ram: &mut Ram, most: u32) -> u32
     ensures made { result ≤ most }
     ensures ran { ran result (machine_of regs.old ram.old) ≡ Some (machine_of regs.new ram.new) }
     ensures stops { result < most → one (machine_of regs.new ram.new) ≡ None }
+    ensures marks { length ram.new.dirty ≡ length ram.old.dirty }
 {
     for made in 0..most {
         match exec(regs, ram) {
