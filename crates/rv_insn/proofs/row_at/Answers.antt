@@ -1,5 +1,4 @@
-use Rattle.std.proofs.Common.{rules, ◌≡◌, ◌+◌, ◌*◌, ◌/◌, ◌%◌, ◌∙◌, ℕ, Some, Option, sym, ap, refl, w32, to_z, of_z, arith}
-use Rattle.rv_insn.specs.declared.Insn.{Insn}
+use Rattle.std.proofs.Common.{rules, ◌≡◌, ◌+◌, ◌*◌, ◌/◌, ◌%◌, ◌∙◌, ℕ, Some, sym, ap, w32, to_z, of_z, arith}
 use Rattle.rv_insn.specs.declared.Insn.TheVariants.{Auipc, Jal}
 use Rattle.rv_insn.specs.Word.{rd, funct7, imm_u, imm_j}
 use Rattle.rv_insn.specs.Table.{picked}

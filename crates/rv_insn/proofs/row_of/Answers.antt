@@ -1,4 +1,4 @@
-use Rattle.std.proofs.Common.{◌≡◌, ◌+◌, ◌*◌, ◌/◌, ◌%◌, ◌∙◌, ℕ, Option, sym, ap, arith}
+use Rattle.std.proofs.Common.{◌≡◌, ◌+◌, ◌*◌, ◌/◌, ◌%◌, ◌∙◌, ℕ, sym, ap, arith}
 use Rattle.rv_insn.specs.Word.{bits, opcode, funct3, funct7}
 use Rattle.rv_insn.specs.Table.{decoded, picked}
 use Rattle.rv_insn.specs.Keys.{key_at}
