@@ -5,6 +5,7 @@ use plain_kernel::plain::{Plain, default_run, run};
 use std::alloc::Global;
 use std::test::Fail;
 use sys_text::reader::read_first;
+use sys_text::valid::is_system;
 use sys_text::system::System;
 use t32_base::process::{End, Pid, Status};
 
@@ -12,6 +13,7 @@ use t32_base::process::{End, Pid, Status};
 fn a_schedule_is_applied_item_by_item(rt: HostRuntime) -> Result<(), Fail> {
     let alloc = rt.alloc();
     let system = read_first(alloc, HI.as_bytes())?;
+    assert!(rt; is_system(&system));
     let mut plain = Plain::boot(alloc, &system)?;
     assert!(rt; plain.can_move());
     assert_eq!(rt; plain.pids()?.as_slice(), [Pid(16)].as_slice());

@@ -4,7 +4,6 @@ use Rattle.t32_base.specs.Registers.{Registers}
 use Rattle.rv_mem.specs.Marks.{Memory}
 use Rattle.rv_insn.specs.declared.Insn.{Insn}
 use Rattle.rv_insn.specs.Table.{decoded}
-use Rattle.rv_cpu.specs.declared.Did.{Did}
 use Rattle.rv_cpu.specs.declared.Did.TheVariants.{Stepped, Call, Trap}
 use Rattle.rv_cpu.specs.Exec.{Executed, Steps, Calls, Traps, bytes_after, did_of, exec, exec_decoded, exec_fetched, exec_marks, executed, fetched, marks_after, marks_decoded, marks_fetched, regs_after}
 use Rattle.rv_cpu.specs.Run.{Machine, machine_of, one, ran, stepped}

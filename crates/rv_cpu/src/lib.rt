@@ -1,9 +1,10 @@
-//! The processor of a process: one instruction, and many.
+//! The processor of a process: one instruction of RV32I, and many (RISC-V unprivileged specification, RV32I
+//! base integer instruction set).
 #![tactic(auto)]
 
 pub mod registers;
 
-ghost use Rattle.std.specs.Prelude.{◌≡◌, ◌*◌, ◌^◌, ◌<◌, ◌≤◌, ℕ, List, Some, None, int_lt};
+ghost use Rattle.std.specs.Prelude.{◌≡◌, ◌*◌, ◌^◌, ◌<◌, ◌≤◌, ℕ, List, Some, None, length, int_lt};
 ghost use Rattle.std.specs.Int.{w32, cast_unsigned, cast_signed};
 ghost use Rattle.rv_insn.specs.Encoding.{IsEncodable};
 ghost use Rattle.rv_insn.specs.Word.{sign_extended};
@@ -11,26 +12,34 @@ ghost use Rattle.rv_mem.specs.Memory.{IsWidth};
 ghost use Rattle.rv_cpu.specs.Exec.{Executed, branches, bytes_after, did_of, exec, exec_marks, executed, fetched, jumps, loads, marks_after, marks_stored, onward, plus, reg, regs_after, set_reg, signed, stores, widened, word};
 ghost use Rattle.rv_cpu.specs.Run.{machine_of, one, ran};
 
+use crate::registers::{advance, read, write};
 use byteorder::{ByteOrder, LittleEndian};
 use rv_insn::{Insn, decode};
-use crate::registers::{advance, read, write};
 use rv_mem::{BadAddr, Ram};
 use t32_base::process::Regs;
 
 /// What an instruction did.
 #[derive(Clone, Copy, PartialEq, Eq, Debug)]
 pub enum Did {
+    /// It was made.
     Stepped,
+    /// It is a system call, `ECALL`. Nothing changed: pc still points to it.
     Call,
+    /// It traps, and nothing changed: pc still points to it. The codes are 0, a jump or a taken branch to an
+    /// address that is no multiple of 4; 1, its word is not all in memory; 2, its word is no instruction;
+    /// 3, `EBREAK`; 4 and 5, a load from an address that is no multiple of its width, or with a byte outside
+    /// the memory; 6 and 7, the same of a store.
     Trap(u8),
 }
 
-/// Makes the instruction at `pc`.
+/// Makes the instruction at `pc`, on the registers and the memory of a process (RISC-V unprivileged
+/// specification, RV32I). A store marks the page that it writes to. Takes no memory.
 pub fn exec(regs: &mut Regs, ram: &mut Ram) -> Did
     ensures did { result ≡ did_of (exec regs.old ram.old.bytes) }
     ensures regs { regs.new ≡ regs_after (exec regs.old ram.old.bytes) regs.old }
     ensures bytes { ram.new.bytes ≡ bytes_after (exec regs.old ram.old.bytes) ram.old.bytes }
     ensures dirty { ram.new.dirty ≡ exec_marks regs.old ram.old.bytes ram.old.dirty }
+    ensures marks { length ram.new.dirty ≡ length ram.old.dirty }
 {
     let Some(word) = fetch(regs, ram) else {
         return Did::Trap(1);
@@ -41,12 +50,14 @@ pub fn exec(regs: &mut Regs, ram: &mut Ram) -> Did
     }
 }
 
-/// Makes at most `most` instructions, and stops before the first one that is a system call or a trap,
-/// which then changed nothing. Answers how many it made. Takes no memory.
+/// Makes instructions as `exec` does, at most `most`, and stops before the first one that is a system call
+/// or a trap. Answers how many it made. Where that is below `most`, `exec` tells what the next one is. Takes
+/// no memory.
 pub fn run(regs: &mut Regs, ram: &mut Ram, most: u32) -> u32
     ensures made { result ≤ most }
     ensures ran { ran result (machine_of regs.old ram.old) ≡ Some (machine_of regs.new ram.new) }
     ensures stops { result < most → one (machine_of regs.new ram.new) ≡ None }
+    ensures marks { length ram.new.dirty ≡ length ram.old.dirty }
 {
     for made in 0..most {
         match exec(regs, ram) {
@@ -69,6 +80,7 @@ fn fetch(regs: &Regs, ram: &Ram) -> Option<u32>
     }
 }
 
+// A decoded instruction.
 #[inline(always)]
 fn execute(insn: Insn, regs: &mut Regs, ram: &mut Ram) -> Did
     requires { IsEncodable insn }
@@ -138,6 +150,7 @@ fn execute(insn: Insn, regs: &mut Regs, ram: &mut Ram) -> Did
     }
 }
 
+// A register as a signed number.
 #[inline(always)]
 fn signed(regs: &Regs, i: u8) -> i32
     requires { i < 32 }
@@ -167,6 +180,7 @@ fn widened(number: u32, width: u8) -> u32
     ((number << free).cast_signed() >> free).cast_unsigned()
 }
 
+// What an instruction does that does nothing else.
 #[inline(always)]
 fn goes_on(regs: &mut Regs) -> Did
     ensures did { result ≡ Did.Stepped }
@@ -176,6 +190,7 @@ fn goes_on(regs: &mut Regs) -> Did
     Did::Stepped
 }
 
+// A register gets a value.
 #[inline(always)]
 fn puts(regs: &mut Regs, rd: u8, value: u32) -> Did
     requires { rd < 32 }
@@ -186,6 +201,7 @@ fn puts(regs: &mut Regs, rd: u8, value: u32) -> Did
     goes_on(regs)
 }
 
+// A register gets the address of the next instruction, and pc that of a target.
 #[inline(always)]
 fn jumps(regs: &mut Regs, rd: u8, target: u32) -> Did
     requires { rd < 32 }
@@ -201,6 +217,7 @@ fn jumps(regs: &mut Regs, rd: u8, target: u32) -> Did
     Did::Stepped
 }
 
+// To a target, or on.
 #[inline(always)]
 fn branches(regs: &mut Regs, taken: bool, imm: i32) -> Did
     ensures did { (m : List ℕ) → result ≡ did_of (branches regs.old m taken imm) }
@@ -217,6 +234,7 @@ fn branches(regs: &mut Regs, taken: bool, imm: i32) -> Did
     Did::Stepped
 }
 
+// A register gets the number of so many bytes.
 #[inline(always)]
 fn loads(regs: &mut Regs, ram: &Ram, rd: u8, rs1: u8, imm: i32, width: u8) -> Did
     requires rd { rd < 32 }
@@ -233,6 +251,7 @@ fn loads(regs: &mut Regs, ram: &Ram, rd: u8, rs1: u8, imm: i32, width: u8) -> Di
     }
 }
 
+// The same, where the highest bit of these bytes is a sign.
 #[inline(always)]
 fn loads_signed(regs: &mut Regs, ram: &Ram, rd: u8, rs1: u8, imm: i32, width: u8) -> Did
     requires rd { rd < 32 }
@@ -249,6 +268,8 @@ fn loads_signed(regs: &mut Regs, ram: &Ram, rd: u8, rs1: u8, imm: i32, width: u8
     }
 }
 
+// So many bytes of a register go to memory. pc is read before they are written, since the compiler does not
+// know that they are not pc.
 #[inline(always)]
 fn stores(regs: &mut Regs, ram: &mut Ram, rs1: u8, rs2: u8, imm: i32, width: u8) -> Did
     requires rs1 { rs1 < 32 }
@@ -259,9 +280,13 @@ fn stores(regs: &mut Regs, ram: &mut Ram, rs1: u8, rs2: u8, imm: i32, width: u8)
     ensures bytes { ram.new.bytes ≡ bytes_after (stores regs.old ram.old.bytes width (reg regs.old rs2) (plus (reg regs.old rs1) (word imm))) ram.old.bytes }
     ensures dirty { ram.new.dirty ≡ marks_stored (stores regs.old ram.old.bytes width (reg regs.old rs2) (plus (reg regs.old rs1) (word imm))) (plus (reg regs.old rs1) (word imm)) width ram.old.dirty }
 {
+    let next = regs.pc.wrapping_add(4);
     let addr = read(regs, rs1).wrapping_add_signed(imm);
     match ram.store(addr, width, read(regs, rs2)) {
-        Ok(()) => goes_on(regs),
+        Ok(()) => {
+            regs.pc = next;
+            Did::Stepped
+        }
         Err(BadAddr::Misaligned(_)) => Did::Trap(6),
         Err(BadAddr::OutOfRange(_)) => Did::Trap(7),
     }

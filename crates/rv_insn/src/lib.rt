@@ -1,12 +1,17 @@
-//! The instructions of RV32I.
+//! The instructions of RV32I, and the words that stand for them (RISC-V unprivileged specification, RV32I
+//! base integer instruction set).
 #![tactic(auto)]
 
 ghost use Rattle.std.specs.Prelude.{◌≡◌, ◌+◌, ◌-◌, ◌*◌, ◌^◌, ◌<◌, ◌≤◌, IfSome, IsTrue, All, Some};
-ghost use Rattle.rv_insn.specs.Word.{bits, sign_extended, imm_i, imm_s, imm_b, imm_u, imm_j};
-ghost use Rattle.rv_insn.specs.Table.{decoded, key_of, rows};
+ghost use Rattle.rv_insn.specs.Word.{bits, rd, rs1, rs2, sign_extended, imm_i, imm_s, imm_b, imm_u, imm_j, shamt};
+ghost use Rattle.rv_insn.specs.Table.{decoded, key_of, picked, rows};
+ghost use Rattle.rv_insn.specs.Keys.{key_at};
 ghost use Rattle.rv_insn.specs.Encoding.{IsEncodable, IsR, IsRegister, encoded, low, packed, word_b, word_i, word_j, word_r, word_s, word_shift, word_u};
 
-/// An instruction, with its registers and its immediate or its shift.
+/// An instruction of RV32I (RISC-V unprivileged specification, RV32I). `rd`, `rs1` and `rs2` are numbers of
+/// registers, 0 to 31. `imm` is the immediate as a signed number: of a branch or `Jal` the even distance
+/// from pc to the target in bytes, of `Lui` and `Auipc` all 32 bits, of which the low twelve are 0, of a
+/// shift by a constant the shift, 0 to 31, and else a number of twelve bits.
 #[derive(Clone, Copy, PartialEq, Eq)]
 pub enum Insn {
     Lui { rd: u8, imm: i32 },
@@ -73,6 +78,7 @@ fn sign_extend(number: u32, size: u32) -> i32
     (number << (32 - size)).cast_signed() >> (32 - size)
 }
 
+// The immediates of the formats.
 #[inline(always)]
 fn imm_i(word: u32) -> i32
     ensures { result ≡ imm_i word }
@@ -113,7 +119,9 @@ fn imm_j(word: u32) -> i32
     )
 }
 
-/// The instruction that a word is, if it is one.
+/// The instruction that a word is, with its registers and its immediate (RISC-V unprivileged specification,
+/// RV32I: the instruction listing). `None` says that the word is no instruction of RV32I. A `FENCE` of any
+/// fields is `Fence`.
 #[inline]
 pub fn decode(word: u32) -> Option<Insn>
     ensures value { result ≡ decoded word }
@@ -123,119 +131,169 @@ pub fn decode(word: u32) -> Option<Insn>
     row_of(word)
 }
 
+// The registers of a word, and the shift of a shift by a constant.
+#[inline(always)]
+fn rd(word: u32) -> u8
+    ensures { result ≡ rd word }
+{
+    bits(word, 11, 7) as u8
+}
+
+#[inline(always)]
+fn rs1(word: u32) -> u8
+    ensures { result ≡ rs1 word }
+{
+    bits(word, 19, 15) as u8
+}
+
+#[inline(always)]
+fn rs2(word: u32) -> u8
+    ensures { result ≡ rs2 word }
+{
+    bits(word, 24, 20) as u8
+}
+
+#[inline(always)]
+fn shamt(word: u32) -> i32
+    ensures { result ≡ shamt word }
+{
+    bits(word, 24, 20).cast_signed()
+}
+
+// The row that takes a word. The opcode of each row ends in two ones.
 #[inline(always)]
 fn row_of(word: u32) -> Option<Insn>
     ensures { result ≡ decoded word }
 {
-    let rd = bits(word, 11, 7) as u8;
-    let rs1 = bits(word, 19, 15) as u8;
-    let rs2 = bits(word, 24, 20) as u8;
-    let funct3 = bits(word, 14, 12);
-    let funct7 = bits(word, 31, 25);
-    match bits(word, 6, 0) {
-        0x37 => Some(Insn::Lui {
-            rd,
-            imm: imm_u(word),
-        }),
-        0x17 => Some(Insn::Auipc {
-            rd,
-            imm: imm_u(word),
-        }),
-        0x6f => Some(Insn::Jal {
-            rd,
-            imm: imm_j(word),
-        }),
-        0x67 => match funct3 {
-            0 => Some(Insn::Jalr {
-                rd,
-                rs1,
-                imm: imm_i(word),
-            }),
+    if bits(word, 1, 0) != 3 {
+        return None;
+    }
+    row_at(word, bits(word, 6, 2) + bits(word, 14, 12) * 32)
+}
+
+// The instruction of a word, by its format.
+macro_rules! insn {
+    ($name:ident, R, $word:ident) => {
+        Some(Insn::$name { rd: rd($word), rs1: rs1($word), rs2: rs2($word) })
+    };
+    ($name:ident, I, $word:ident) => {
+        Some(Insn::$name { rd: rd($word), rs1: rs1($word), imm: imm_i($word) })
+    };
+    ($name:ident, S, $word:ident) => {
+        Some(Insn::$name { rs1: rs1($word), rs2: rs2($word), imm: imm_s($word) })
+    };
+    ($name:ident, B, $word:ident) => {
+        Some(Insn::$name { rs1: rs1($word), rs2: rs2($word), imm: imm_b($word) })
+    };
+    ($name:ident, U, $word:ident) => {
+        Some(Insn::$name { rd: rd($word), imm: imm_u($word) })
+    };
+    ($name:ident, J, $word:ident) => {
+        Some(Insn::$name { rd: rd($word), imm: imm_j($word) })
+    };
+    ($name:ident, shift, $word:ident) => {
+        Some(Insn::$name { rd: rd($word), rs1: rs1($word), imm: shamt($word) })
+    };
+}
+
+// The row by one number, so that one jump finds it: funct3 and, below it, the upper five bits of the
+// opcode. A row that has no funct3 stands at all eight.
+#[inline(always)]
+fn row_at(word: u32, key: u32) -> Option<Insn>
+    requires { key ≡ bits word 6 2 + bits word 14 12 * 32 }
+    ensures { result ≡ picked (key_at key word) word }
+{
+    match key {
+        0b000_01101
+        | 0b001_01101
+        | 0b010_01101
+        | 0b011_01101
+        | 0b100_01101
+        | 0b101_01101
+        | 0b110_01101
+        | 0b111_01101 => insn!(Lui, U, word),
+        0b000_00101
+        | 0b001_00101
+        | 0b010_00101
+        | 0b011_00101
+        | 0b100_00101
+        | 0b101_00101
+        | 0b110_00101
+        | 0b111_00101 => insn!(Auipc, U, word),
+        0b000_11011
+        | 0b001_11011
+        | 0b010_11011
+        | 0b011_11011
+        | 0b100_11011
+        | 0b101_11011
+        | 0b110_11011
+        | 0b111_11011 => insn!(Jal, J, word),
+        0b000_11001 => insn!(Jalr, I, word),
+        0b000_11000 => insn!(Beq, B, word),
+        0b001_11000 => insn!(Bne, B, word),
+        0b100_11000 => insn!(Blt, B, word),
+        0b101_11000 => insn!(Bge, B, word),
+        0b110_11000 => insn!(Bltu, B, word),
+        0b111_11000 => insn!(Bgeu, B, word),
+        0b000_00000 => insn!(Lb, I, word),
+        0b001_00000 => insn!(Lh, I, word),
+        0b010_00000 => insn!(Lw, I, word),
+        0b100_00000 => insn!(Lbu, I, word),
+        0b101_00000 => insn!(Lhu, I, word),
+        0b000_01000 => insn!(Sb, S, word),
+        0b001_01000 => insn!(Sh, S, word),
+        0b010_01000 => insn!(Sw, S, word),
+        0b000_00100 => insn!(Addi, I, word),
+        0b010_00100 => insn!(Slti, I, word),
+        0b011_00100 => insn!(Sltiu, I, word),
+        0b100_00100 => insn!(Xori, I, word),
+        0b110_00100 => insn!(Ori, I, word),
+        0b111_00100 => insn!(Andi, I, word),
+        0b001_00100 => match bits(word, 31, 25) {
+            0 => insn!(Slli, shift, word),
             _ => None,
         },
-        0x63 => {
-            let imm = imm_b(word);
-            match funct3 {
-                0 => Some(Insn::Beq { rs1, rs2, imm }),
-                1 => Some(Insn::Bne { rs1, rs2, imm }),
-                4 => Some(Insn::Blt { rs1, rs2, imm }),
-                5 => Some(Insn::Bge { rs1, rs2, imm }),
-                6 => Some(Insn::Bltu { rs1, rs2, imm }),
-                7 => Some(Insn::Bgeu { rs1, rs2, imm }),
-                _ => None,
-            }
-        }
-        0x03 => {
-            let imm = imm_i(word);
-            match funct3 {
-                0 => Some(Insn::Lb { rd, rs1, imm }),
-                1 => Some(Insn::Lh { rd, rs1, imm }),
-                2 => Some(Insn::Lw { rd, rs1, imm }),
-                4 => Some(Insn::Lbu { rd, rs1, imm }),
-                5 => Some(Insn::Lhu { rd, rs1, imm }),
-                _ => None,
-            }
-        }
-        0x23 => {
-            let imm = imm_s(word);
-            match funct3 {
-                0 => Some(Insn::Sb { rs1, rs2, imm }),
-                1 => Some(Insn::Sh { rs1, rs2, imm }),
-                2 => Some(Insn::Sw { rs1, rs2, imm }),
-                _ => None,
-            }
-        }
-        0x13 => {
-            let imm = imm_i(word);
-            let shift = i32::from(rs2);
-            match funct3 {
-                0 => Some(Insn::Addi { rd, rs1, imm }),
-                2 => Some(Insn::Slti { rd, rs1, imm }),
-                3 => Some(Insn::Sltiu { rd, rs1, imm }),
-                4 => Some(Insn::Xori { rd, rs1, imm }),
-                6 => Some(Insn::Ori { rd, rs1, imm }),
-                7 => Some(Insn::Andi { rd, rs1, imm }),
-                1 => match funct7 {
-                    0 => Some(Insn::Slli {
-                        rd,
-                        rs1,
-                        imm: shift,
-                    }),
-                    _ => None,
-                },
-                _ => match funct7 {
-                    0 => Some(Insn::Srli {
-                        rd,
-                        rs1,
-                        imm: shift,
-                    }),
-                    0x20 => Some(Insn::Srai {
-                        rd,
-                        rs1,
-                        imm: shift,
-                    }),
-                    _ => None,
-                },
-            }
-        }
-        0x33 => match (funct7, funct3) {
-            (0, 0) => Some(Insn::Add { rd, rs1, rs2 }),
-            (0x20, 0) => Some(Insn::Sub { rd, rs1, rs2 }),
-            (0, 1) => Some(Insn::Sll { rd, rs1, rs2 }),
-            (0, 2) => Some(Insn::Slt { rd, rs1, rs2 }),
-            (0, 3) => Some(Insn::Sltu { rd, rs1, rs2 }),
-            (0, 4) => Some(Insn::Xor { rd, rs1, rs2 }),
-            (0, 5) => Some(Insn::Srl { rd, rs1, rs2 }),
-            (0x20, 5) => Some(Insn::Sra { rd, rs1, rs2 }),
-            (0, 6) => Some(Insn::Or { rd, rs1, rs2 }),
-            (0, 7) => Some(Insn::And { rd, rs1, rs2 }),
+        0b101_00100 => match bits(word, 31, 25) {
+            0 => insn!(Srli, shift, word),
+            0x20 => insn!(Srai, shift, word),
             _ => None,
         },
-        0x0f => match funct3 {
-            0 => Some(Insn::Fence),
+        0b000_01100 => match bits(word, 31, 25) {
+            0 => insn!(Add, R, word),
+            0x20 => insn!(Sub, R, word),
             _ => None,
         },
-        0x73 => match word {
+        0b001_01100 => match bits(word, 31, 25) {
+            0 => insn!(Sll, R, word),
+            _ => None,
+        },
+        0b010_01100 => match bits(word, 31, 25) {
+            0 => insn!(Slt, R, word),
+            _ => None,
+        },
+        0b011_01100 => match bits(word, 31, 25) {
+            0 => insn!(Sltu, R, word),
+            _ => None,
+        },
+        0b100_01100 => match bits(word, 31, 25) {
+            0 => insn!(Xor, R, word),
+            _ => None,
+        },
+        0b101_01100 => match bits(word, 31, 25) {
+            0 => insn!(Srl, R, word),
+            0x20 => insn!(Sra, R, word),
+            _ => None,
+        },
+        0b110_01100 => match bits(word, 31, 25) {
+            0 => insn!(Or, R, word),
+            _ => None,
+        },
+        0b111_01100 => match bits(word, 31, 25) {
+            0 => insn!(And, R, word),
+            _ => None,
+        },
+        0b000_00011 => Some(Insn::Fence),
+        0b000_11100 => match word {
             0x0000_0073 => Some(Insn::Ecall),
             0x0010_0073 => Some(Insn::Ebreak),
             _ => None,
@@ -244,7 +302,8 @@ fn row_of(word: u32) -> Option<Insn>
     }
 }
 
-/// The word of an instruction whose fields are in their ranges.
+/// The word of an instruction whose fields are in their ranges, which `decode` reads back as the same
+/// instruction. `Fence` gets all its fields set, 0x0ff0000f.
 pub fn encode(insn: Insn) -> u32
     requires { IsEncodable insn }
     ensures value { result ≡ encoded insn }
@@ -405,4 +464,3 @@ fn low(imm: i32, size: u32) -> u32
 {
     bits(imm.cast_unsigned(), size - 1, 0)
 }
-

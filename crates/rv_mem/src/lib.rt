@@ -8,19 +8,25 @@ ghost use Rattle.rv_mem.specs.Memory.{IsWidth, bytes_at, copy_refusal, is_inside
 use byteorder::{ByteOrder, LittleEndian};
 use std::alloc::{AllocError, Global};
 use std::marker::Model;
+use thiserror::Error;
 
-/// The address of the first byte.
+/// The address of the first byte of every memory.
 pub const BASE: u32 = 0x10000;
 
-/// Why an access was refused: its address is no multiple of its width, or a byte is outside.
-#[derive(Clone, Copy, PartialEq, Eq, Debug)]
+/// Why an access was refused, with its address.
+#[derive(Clone, Copy, PartialEq, Eq, Debug, Error)]
 pub enum BadAddr {
+    /// The address is no multiple of the access's width.
+    #[error("address {0:#x} is no multiple of the width of the access")]
     Misaligned(u32),
+    /// A byte of the access lies outside the memory.
+    #[error("the access at address {0:#x} goes outside the memory")]
     OutOfRange(u32),
 }
 
-/// Memory ran out.
-#[derive(Clone, Copy, PartialEq, Eq, Debug)]
+/// The allocator refused the room for a memory.
+#[derive(Clone, Copy, PartialEq, Eq, Debug, Error)]
+#[error("no room for the memory of a process")]
 pub struct NoMemory;
 
 impl From<AllocError> for NoMemory {
@@ -31,7 +37,9 @@ impl From<AllocError> for NoMemory {
     }
 }
 
-/// The bytes from address 0x10000 on, in pages of 256 bytes.
+/// The memory of a process: 1 to 256 pages of 256 bytes, whose first byte has the address 0x10000. Each
+/// page has a mark, which is set while the page is dirty: some byte of it was written since the page was
+/// put or its mark cleared. Contracts see the list of the bytes and the list of the marks.
 #[derive(Drop)]
 pub struct Ram {
     bytes: Vec<u8>,
@@ -50,7 +58,8 @@ impl Model for Ram {
 }
 
 impl Ram {
-    /// `pages` pages that begin with the image; the rest is zero, and nothing is dirty.
+    /// A memory of `pages` pages that begins with the image; the rest is zero, and no page is dirty.
+    /// `NoMemory` says that the allocator refused, and nothing is kept then.
     pub fn filled(alloc: Global, pages: u16, image: &[u8]) -> Result<Ram, NoMemory>
         requires some { 1 ≤ pages }
         requires at_most { pages ≤ 256 }
@@ -66,7 +75,17 @@ impl Ram {
         Ok(Ram { bytes, dirty })
     }
 
-    /// Whether each of these bytes lies in memory.
+    /// How many pages of 256 bytes the memory has: 1 to 256, with a mark each.
+    pub fn pages(&self) -> u16
+        ensures marks { result ≡ length self.now.dirty }
+        ensures bytes { length self.now.bytes ≡ 256 * length self.now.dirty }
+        ensures some { 1 ≤ result }
+        ensures at_most { result ≤ 256 }
+    {
+        self.dirty.len() as u16
+    }
+
+    /// Whether each of the `len` bytes from `addr` on lies in memory. No bytes do, at any address.
     #[inline(always)]
     pub fn inside(&self, addr: u32, len: u32) -> bool
         ensures { result ≡ is_inside self.now.bytes addr len }
@@ -75,7 +94,9 @@ impl Ram {
         len == 0 || addr.wrapping_sub(BASE) as usize + len as usize <= size
     }
 
-    /// The number at an address.
+    /// The number in the `width` bytes at `addr`, lowest byte first (RISC-V unprivileged specification,
+    /// RV32I: load and store instructions). The width is 1, 2 or 4. An address that is no multiple of the
+    /// width is refused first, and then one with a byte outside.
     #[inline(always)]
     pub fn load(&self, addr: u32, width: u8) -> Result<u32, BadAddr>
         requires { IsWidth width }
@@ -97,13 +118,15 @@ impl Ram {
         })
     }
 
-    /// Puts the low bytes of a number at an address.
+    /// Puts the low `width` bytes of a number at `addr`, lowest byte first, and marks their page. The width
+    /// is 1, 2 or 4. Refuses as `load` does, and then changes nothing.
     #[inline(always)]
     pub fn store(&mut self, addr: u32, width: u8, value: u32) -> Result<(), BadAddr>
         requires { IsWidth width }
         ensures answer { result ≡ unless (refusal self.old.bytes addr width) tt }
         ensures ok { OnOk result (self.new ≡ stored self.old addr width value) }
         ensures err { OnErr result (self.new ≡ self.old) }
+        ensures marks { length self.new.dirty ≡ length self.old.dirty }
     {
         let width = u32::from(width);
         if addr % width != 0 {
@@ -119,7 +142,8 @@ impl Ram {
         Ok(())
     }
 
-    /// Copies the bytes from an address on.
+    /// Copies the bytes from `addr` on into all of `out`. The address may be any number. With a byte outside
+    /// it answers `OutOfRange`, and `out` is as it was.
     #[inline(always)]
     pub fn copy_out(&self, addr: u32, out: &mut [u8]) -> Result<(), BadAddr>
         requires { length out.old < 2 ^ 32 }
@@ -138,7 +162,7 @@ impl Ram {
         Ok(())
     }
 
-    /// The bytes from an address on, where they lie in memory.
+    /// The `len` bytes from `addr` on, which lie in memory, with no copy of them.
     pub fn part(&self, addr: u32, len: u32) -> &[u8]
         requires { is_inside self.now.bytes addr len ≡ true }
         ensures { result.now ≡ bytes_at self.now.bytes addr len }
@@ -151,12 +175,14 @@ impl Ram {
         &self.bytes[at..end]
     }
 
-    /// Puts bytes at an address.
+    /// Puts all of `from` at `addr`, and marks each page that has one of these bytes. The address may be any
+    /// number. With a byte outside it answers `OutOfRange`, and changes nothing.
     pub fn copy_in(&mut self, addr: u32, from: &[u8]) -> Result<(), BadAddr>
         requires { length from.now < 2 ^ 32 }
         ensures answer { result ≡ unless (copy_refusal self.old.bytes addr (length from.now)) tt }
         ensures ok { OnOk result (self.new ≡ written self.old addr from.now) }
         ensures err { OnErr result (self.new ≡ self.old) }
+        ensures marks { length self.new.dirty ≡ length self.old.dirty }
     {
         if !self.inside(addr, from.len() as u32) {
             return Err(BadAddr::OutOfRange(addr));
@@ -172,7 +198,7 @@ impl Ram {
         Ok(())
     }
 
-    /// Page `i`.
+    /// A copy of page `i`, counted from 0.
     pub fn page(&self, i: u16) -> [u8; 256]
         requires { i < length self.now.dirty }
         ensures { result ≡ page_at self.now.bytes i }
@@ -183,7 +209,7 @@ impl Ram {
         page
     }
 
-    /// Puts a page, which is not dirty afterwards.
+    /// Puts page `i`, counted from 0, which is not dirty afterwards.
     pub fn set_page(&mut self, i: u16, page: &[u8; 256])
         requires { i < length self.old.dirty }
         ensures { self.new ≡ record {
@@ -196,7 +222,7 @@ impl Ram {
         self.dirty[usize::from(i)] = false;
     }
 
-    /// Whether a page was touched since it was put or its mark cleared.
+    /// Whether page `i`, counted from 0, is dirty.
     pub fn is_dirty(&self, i: u16) -> bool
         requires { i < length self.now.dirty }
         ensures { slice_get self.now.dirty i ≡ Some result }
@@ -204,7 +230,7 @@ impl Ram {
         self.dirty[usize::from(i)]
     }
 
-    /// Clears each mark.
+    /// Clears each mark: no page is dirty afterwards. The bytes stay.
     pub fn clear_dirty(&mut self)
         ensures { self.new ≡ record self.old { dirty = replicate (length self.old.dirty) false } }
     {
@@ -213,7 +239,8 @@ impl Ram {
         }
     }
 
-    /// The same bytes, with every page dirty.
+    /// A memory of the same bytes, with every page dirty. `NoMemory` says that the allocator refused, and
+    /// nothing is kept then.
     pub fn child(&self) -> Result<Ram, NoMemory>
         ensures { IfOk result (λ r. r ≡ record {
           bytes = self.now.bytes;
