@@ -29,15 +29,15 @@ fn set(small: &mut Small, register: u8, value: u32)
     rv_cpu::registers::write(&mut small.regs, register, value);
 }
 
-fn status(small: &Small) -> Status {
+fn status_of(small: &Small) -> Status {
     small.status
 }
 
-fn pc(small: &Small) -> u32 {
+fn pc_of(small: &Small) -> u32 {
     small.regs.pc
 }
 
-fn steps(small: &Small) -> u64 {
+fn steps_of(small: &Small) -> u64 {
     small.steps
 }
 
@@ -74,8 +74,8 @@ fn a_write_checks_its_end_its_length_and_its_buffer(rt: HostRuntime) -> Result<(
         let made = step(alloc, &mut p)?;
         assert_eq!(rt; sent(&made), bytes);
         assert_eq!(rt; read(&p.small.regs, 10), answer);
-        assert_eq!(rt; pc(&p.small), 0x10004);
-        assert_eq!(rt; steps(&p.small), 1);
+        assert_eq!(rt; pc_of(&p.small), 0x10004);
+        assert_eq!(rt; steps_of(&p.small), 1);
     }
     Ok(())
 }
@@ -94,9 +94,9 @@ fn each_call_answers(rt: HostRuntime) -> Result<(), Fail> {
     ] {
         let mut p = calling(alloc, argument, 0, 0, number)?;
         assert!(rt; matches!(step(alloc, &mut p)?, Step::Silent));
-        assert_eq!(rt; status(&p.small), status);
+        assert_eq!(rt; status_of(&p.small), status);
         assert_eq!(rt; read(&p.small.regs, 10), answer);
-        assert_eq!(rt; pc(&p.small), 0x10004);
+        assert_eq!(rt; pc_of(&p.small), 0x10004);
     }
     Ok(())
 }
@@ -120,9 +120,9 @@ fn a_closing_process_shuts_its_ends_and_then_exits(rt: HostRuntime) -> Result<()
         }
     }
     assert!(rt; matches!(step(alloc, &mut p)?, Step::Emit(Emission::Exit(End::Exit(0)))));
-    assert_eq!(rt; status(&p.small), Status::Ended(End::Exit(0)));
+    assert_eq!(rt; status_of(&p.small), Status::Ended(End::Exit(0)));
     assert!(rt; matches!(step(alloc, &mut p)?, Step::Over));
-    assert_eq!(rt; steps(&p.small), 4);
+    assert_eq!(rt; steps_of(&p.small), 4);
     Ok(())
 }
 
