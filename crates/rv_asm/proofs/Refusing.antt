@@ -11,8 +11,8 @@ use Rattle.rv_asm.specs.declared.refusal.AsmRefused.{AsmRefused}
 use Rattle.rv_asm.specs.declared.refusal.AsmRefused.TheVariants as refusals
 use Rattle.rv_asm.specs.Refusal.{number_of_rule}
 use Rattle.rv_asm.specs.Labels.{line_code, line_size, labels_of}
-use Rattle.rv_asm.specs.Program.{breaks, rules, broken_by, words_at, address_after, with_front, line_then, reading_from, reading_of}
-use Rattle.rv_asm.specs.RuleByRule.{breaks_among, line_breaks, IsRefused, words_from, AreWordsOf, HasCause}
+use Rattle.rv_asm.specs.Program.{breaks, rules, broken_by, words_at, address_after, with_front, reading_from, reading_of}
+use Rattle.rv_asm.specs.RuleByRule.{breaks_among, IsRefused, words_from, AreWordsOf, HasCause}
 use Rattle.rv_asm.specs.Answers.{Answers}
 
 -- ---- the rules by their numbers

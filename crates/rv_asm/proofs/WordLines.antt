@@ -1,8 +1,6 @@
 -- Lines of eight words.
-use Rattle.std.proofs.Common.{◌≡◌, ℕ, ◌+◌, ◌<◌, ◌≤◌, List, [], ◌∷◌, ◌++◌, length, get_or, take, drop, refl, sym, ap, ◌∙◌, arith, append_assoc}
-use Rattle.std.proofs.lemmas.List.{append-nil, flat_map_more, take_more, take_all}
-use Rattle.std.specs.List.{flat_map}
-use Rattle.rv_asm.specs.Printing.{spaced, line_of, words_text_of}
+use Rattle.std.proofs.Common.{◌≡◌, ℕ, ◌<◌, ◌≤◌, List, [], ◌∷◌, ◌++◌, length, take, drop, refl, sym, ap, ◌∙◌, arith, append_assoc}
+use Rattle.rv_asm.specs.Printing.{line_of, words_text_of}
 
 pub eight : (ws : List ℕ) → 8 ≤ length ws → words_text_of ws ≡ line_of (take 8 ws) ++ words_text_of (drop 8 ws)
 eight [] h = absurd (omega arith)

@@ -1,5 +1,5 @@
 -- The instructions of a statement, from its fields.
-use Rattle.std.specs.Prelude.{ℕ, ◌+◌, ◌*◌, ◌/◌, ◌%◌, ◌^◌, ℤ, pos}
+use Rattle.std.specs.Prelude.{ℕ, ◌+◌, ◌*◌, ◌/◌, ◌%◌, ◌^◌, ℤ}
 use Rattle.rv_insn.specs.declared.Insn.{Insn}
 use Rattle.rv_insn.specs.declared.Insn.TheVariants as insn
 use Rattle.rv_insn.specs.Word.{sign_extended}

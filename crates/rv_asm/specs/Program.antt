@@ -1,5 +1,5 @@
 -- A program: the rules that its lines keep, and its words.
-use Rattle.std.specs.Prelude.{ℕ, ◌+◌, ◌-◌, ◌*◌, ◌%◌, ◌^◌, Bool, true, false, not, List, [], ◌∷◌, ◌++◌, Option, Some, None, Result, Ok, Err, ℤ, pos, ◌-ℤ◌, nat_lt, nat_le, is_none, ◌&&◌, ◌||◌}
+use Rattle.std.specs.Prelude.{ℕ, ◌+◌, ◌*◌, ◌%◌, ◌^◌, Bool, true, false, not, List, [], ◌∷◌, ◌++◌, Option, Some, None, Result, Ok, Err, ℤ, pos, ◌-ℤ◌, nat_lt, nat_le, is_none, ◌&&◌, ◌||◌}
 use Rattle.std.specs.List.{find}
 use Rattle.text_parts.specs.Lines.{are_printable, lines_of}
 use Rattle.text_parts.specs.Table.{lookup}

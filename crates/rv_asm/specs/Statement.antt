@@ -1,5 +1,5 @@
 -- What a statement stands for, where its labels are not resolved.
-use Rattle.std.specs.Prelude.{ℕ, ◌%◌, Bool, List, [], ◌∷◌, Result, Ok, Err, ℤ, pos, negsuc, int_le, ◌&&◌, if◌then◌else◌}
+use Rattle.std.specs.Prelude.{ℕ, Bool, List, Result, Ok, Err, ℤ, pos, negsuc, int_le, ◌&&◌, if◌then◌else◌}
 use Rattle.std.specs.Option.{ok_or}
 use Rattle.text_parts.specs.Lines.{is_empty}
 use Rattle.rv_insn.specs.declared.Insn.TheVariants as insn

@@ -3,7 +3,9 @@ ghost use Rattle.std.specs.Prelude.{◌≡◌, ◌<◌, ◌^◌, ◌≤ℤ◌, �
 ghost use Rattle.rv_insn.specs.Encoding.{IsEncodable, IsEven, IsRegister, IsShift, IsSigned, IsUpper};
 ghost use Rattle.rv_asm.specs.Instructions.{register_insn, number_insn, shift_insn, load_insn, store_insn, branch_insn, upper_insn, upper_immediate, bare_insn, low_part, first_half, second_half};
 
-use crate::form::{BareInsn, BranchInsn, LoadInsn, NumberInsn, RegisterInsn, ShiftInsn, StoreInsn, UpperInsn};
+use crate::form::{
+    BareInsn, BranchInsn, LoadInsn, NumberInsn, RegisterInsn, ShiftInsn, StoreInsn, UpperInsn,
+};
 use rv_insn::{Insn, encode};
 
 pub fn register_insn(insn: RegisterInsn, rd: u8, rs1: u8, rs2: u8) -> Insn
@@ -35,12 +37,36 @@ pub fn number_insn(insn: NumberInsn, rd: u8, rs1: u8, number: i32) -> Insn
     ensures encodable { IsEncodable result }
 {
     match insn {
-        NumberInsn::Addi => Insn::Addi { rd, rs1, imm: number },
-        NumberInsn::Slti => Insn::Slti { rd, rs1, imm: number },
-        NumberInsn::Sltiu => Insn::Sltiu { rd, rs1, imm: number },
-        NumberInsn::Xori => Insn::Xori { rd, rs1, imm: number },
-        NumberInsn::Ori => Insn::Ori { rd, rs1, imm: number },
-        NumberInsn::Andi => Insn::Andi { rd, rs1, imm: number },
+        NumberInsn::Addi => Insn::Addi {
+            rd,
+            rs1,
+            imm: number,
+        },
+        NumberInsn::Slti => Insn::Slti {
+            rd,
+            rs1,
+            imm: number,
+        },
+        NumberInsn::Sltiu => Insn::Sltiu {
+            rd,
+            rs1,
+            imm: number,
+        },
+        NumberInsn::Xori => Insn::Xori {
+            rd,
+            rs1,
+            imm: number,
+        },
+        NumberInsn::Ori => Insn::Ori {
+            rd,
+            rs1,
+            imm: number,
+        },
+        NumberInsn::Andi => Insn::Andi {
+            rd,
+            rs1,
+            imm: number,
+        },
     }
 }
 
@@ -52,9 +78,21 @@ pub fn shift_insn(insn: ShiftInsn, rd: u8, rs1: u8, shift: i32) -> Insn
     ensures encodable { IsEncodable result }
 {
     match insn {
-        ShiftInsn::Slli => Insn::Slli { rd, rs1, imm: shift },
-        ShiftInsn::Srli => Insn::Srli { rd, rs1, imm: shift },
-        ShiftInsn::Srai => Insn::Srai { rd, rs1, imm: shift },
+        ShiftInsn::Slli => Insn::Slli {
+            rd,
+            rs1,
+            imm: shift,
+        },
+        ShiftInsn::Srli => Insn::Srli {
+            rd,
+            rs1,
+            imm: shift,
+        },
+        ShiftInsn::Srai => Insn::Srai {
+            rd,
+            rs1,
+            imm: shift,
+        },
     }
 }
 
@@ -66,12 +104,36 @@ pub fn load_insn(insn: LoadInsn, rd: u8, rs1: u8, number: i32) -> Insn
     ensures encodable { IsEncodable result }
 {
     match insn {
-        LoadInsn::Lb => Insn::Lb { rd, rs1, imm: number },
-        LoadInsn::Lh => Insn::Lh { rd, rs1, imm: number },
-        LoadInsn::Lw => Insn::Lw { rd, rs1, imm: number },
-        LoadInsn::Lbu => Insn::Lbu { rd, rs1, imm: number },
-        LoadInsn::Lhu => Insn::Lhu { rd, rs1, imm: number },
-        LoadInsn::Jalr => Insn::Jalr { rd, rs1, imm: number },
+        LoadInsn::Lb => Insn::Lb {
+            rd,
+            rs1,
+            imm: number,
+        },
+        LoadInsn::Lh => Insn::Lh {
+            rd,
+            rs1,
+            imm: number,
+        },
+        LoadInsn::Lw => Insn::Lw {
+            rd,
+            rs1,
+            imm: number,
+        },
+        LoadInsn::Lbu => Insn::Lbu {
+            rd,
+            rs1,
+            imm: number,
+        },
+        LoadInsn::Lhu => Insn::Lhu {
+            rd,
+            rs1,
+            imm: number,
+        },
+        LoadInsn::Jalr => Insn::Jalr {
+            rd,
+            rs1,
+            imm: number,
+        },
     }
 }
 
@@ -83,9 +145,21 @@ pub fn store_insn(insn: StoreInsn, rs1: u8, rs2: u8, number: i32) -> Insn
     ensures encodable { IsEncodable result }
 {
     match insn {
-        StoreInsn::Sb => Insn::Sb { rs1, rs2, imm: number },
-        StoreInsn::Sh => Insn::Sh { rs1, rs2, imm: number },
-        StoreInsn::Sw => Insn::Sw { rs1, rs2, imm: number },
+        StoreInsn::Sb => Insn::Sb {
+            rs1,
+            rs2,
+            imm: number,
+        },
+        StoreInsn::Sh => Insn::Sh {
+            rs1,
+            rs2,
+            imm: number,
+        },
+        StoreInsn::Sw => Insn::Sw {
+            rs1,
+            rs2,
+            imm: number,
+        },
     }
 }
 
@@ -97,12 +171,36 @@ pub fn branch_insn(insn: BranchInsn, rs1: u8, rs2: u8, distance: i32) -> Insn
     ensures encodable { IsEncodable result }
 {
     match insn {
-        BranchInsn::Beq => Insn::Beq { rs1, rs2, imm: distance },
-        BranchInsn::Bne => Insn::Bne { rs1, rs2, imm: distance },
-        BranchInsn::Blt => Insn::Blt { rs1, rs2, imm: distance },
-        BranchInsn::Bge => Insn::Bge { rs1, rs2, imm: distance },
-        BranchInsn::Bltu => Insn::Bltu { rs1, rs2, imm: distance },
-        BranchInsn::Bgeu => Insn::Bgeu { rs1, rs2, imm: distance },
+        BranchInsn::Beq => Insn::Beq {
+            rs1,
+            rs2,
+            imm: distance,
+        },
+        BranchInsn::Bne => Insn::Bne {
+            rs1,
+            rs2,
+            imm: distance,
+        },
+        BranchInsn::Blt => Insn::Blt {
+            rs1,
+            rs2,
+            imm: distance,
+        },
+        BranchInsn::Bge => Insn::Bge {
+            rs1,
+            rs2,
+            imm: distance,
+        },
+        BranchInsn::Bltu => Insn::Bltu {
+            rs1,
+            rs2,
+            imm: distance,
+        },
+        BranchInsn::Bgeu => Insn::Bgeu {
+            rs1,
+            rs2,
+            imm: distance,
+        },
     }
 }
 

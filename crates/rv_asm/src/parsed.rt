@@ -11,7 +11,6 @@ use crate::quoted::text_len;
 use crate::refusal::Rule;
 use crate::statement::{Statement, read_statement};
 
-
 /// What stands in a line.
 #[derive(Clone, Copy)]
 pub struct Parsed<'a> {

@@ -8,8 +8,7 @@ ghost use Rattle.rv_asm.specs.Program.{address_after, is_near, reaches as reache
 
 use crate::labels::Labels;
 use crate::parsed::{
-    Parsed, breaks_rule, defined, is_bad_label, size_of_statement,
-    statement_or_nothing, target,
+    Parsed, breaks_rule, defined, is_bad_label, size_of_statement, statement_or_nothing, target,
 };
 use crate::refusal::Rule;
 use crate::statement::Statement;
@@ -64,12 +63,7 @@ fn reaches(statement: Statement<'_>, here: u64, there: u64) -> bool
 }
 
 /// Is the label too far from the statement?
-fn is_too_far(
-    labels: &Labels<'_>,
-    statement: Statement<'_>,
-    here: u64,
-    name: Option<&[u8]>,
-) -> bool
+fn is_too_far(labels: &Labels<'_>, statement: Statement<'_>, here: u64, name: Option<&[u8]>) -> bool
     ensures { result ≡ is_too_far labels.now (seen statement.entry) (address_after here) (option_copied name.entry) }
 {
     match name {

@@ -11,8 +11,8 @@ ghost use Rattle.rv_asm.specs.Operands.{at_one};
 ghost use Rattle.rv_asm.specs.View.{seen, seen_result, FieldsFit as StatementFits};
 
 use crate::form::{
-    BareInsn, BranchInsn, Form, LoadInsn, NumberInsn, RegisterInsn, ShiftInsn, StoreInsn, UpperInsn,
-    form_named,
+    BareInsn, BranchInsn, Form, LoadInsn, NumberInsn, RegisterInsn, ShiftInsn, StoreInsn,
+    UpperInsn, form_named,
 };
 use crate::instruction::{
     bare_insn, first_half, load_insn, number_insn, register_insn, second_half, shift_insn,

@@ -1,5 +1,4 @@
-use Rattle.std.proofs.Common.{◌≡◌, ◌++◌, rules}
-use Rattle.rv_asm.specs.Printing.{line_of, words_text_of}
+use Rattle.rv_asm.specs.Printing.{words_text_of}
 use Rattle.rv_asm.proofs.WordLines.{line_more}
 use Rattle.rv_asm.proofs.printing.words_text.Goals as goal
 

@@ -1,4 +1,4 @@
-use Rattle.std.proofs.Common.{◌≡◌, ◌+◌, ◌++◌, ◌≤◌, length}
+use Rattle.std.proofs.Common.{◌+◌, ◌++◌, ◌≤◌, length}
 use Rattle.text_parts.specs.Lines.{lines_of}
 use Rattle.rv_asm.specs.Labels.{AreLabels, labels_from, labels_of}
 use Rattle.rv_asm.proofs.program.label_table.Given as goal

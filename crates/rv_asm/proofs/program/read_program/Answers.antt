@@ -21,7 +21,7 @@ loop-rest-preserved c =
     let same = c.in_ok-labels.ensures.labels in
     let none : broken_by labels number (length words) line ≡ None = sym (broken_same c.in_ok-labels.labels labels same number (length words) line) ∙ c.in_ok-assemble_line.ensures.answer in
     let added : c.assemble_line.new.words ≡ words ++ words_at labels (address_after (length words)) (line_code line) =
-        c.in_ok-assemble_line.ensures.words ∙ ap (λ (t : _). words ++ t) (words_same c.in_ok-labels.labels labels same (address_after (length words)) (line_code line)) in
+    c.in_ok-assemble_line.ensures.words ∙ ap (λ (t : _). words ++ t) (words_same c.in_ok-labels.labels labels same (address_after (length words)) (line_code line)) in
     record {
       reads = line_step labels (reading_of c.args.text.now) words c.assemble_line.new.words number line (lines_of c.loop-rest.rest.now) (lines_of c.first_line.result.1.now) c.first_line.ensures.lines c.loop-rest.invariant.reads none added;
       number = omega (arith, c.first_line.ensures.shorter, c.loop-rest.invariant.number);
