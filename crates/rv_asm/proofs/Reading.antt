@@ -12,7 +12,7 @@ use Rattle.rv_asm.specs.declared.refusal.AsmRefused.{AsmRefused}
 use Rattle.rv_asm.specs.declared.refusal.AsmRefused.TheVariants as refusals
 use Rattle.rv_asm.specs.Statement.{Code, Nothing, One, Two, BranchTo, JumpTo, AddressOf, Bytes}
 use Rattle.rv_asm.specs.Labels.{size_of, line_code, line_size, labels_of}
-use Rattle.rv_asm.specs.Program.{words_of_bytes, breaks, broken_by, words_at, address_after, with_front, line_then, reading_from, reading_of}
+use Rattle.rv_asm.specs.Program.{words_of_bytes, breaks, broken_by, words_at, address_after, with_front, line_then, reading_from, reading_of, reading_of_lines}
 use Rattle.rv_asm.specs.Answers.{Refuses, RefusesLine}
 
 -- ---- how many words
@@ -104,7 +104,7 @@ module _ (labels : List (List ℕ × Place)) where
   all_read total words n reads = sym reads.same ∙ ap Ok (append-nil words)
 
 pub reads_none : (text : List ℕ) → ReadsOn (labels_of text) (reading_of text) [] 1 (lines_of text)
-unfolding reading_of
+unfolding reading_of_lines
 reads_none text = record { same = front-nil (reading_from (labels_of text) 1 0 (lines_of text)); room = omega arith }
   where
     front-nil : (r : Result (List ℕ) (ℕ × Rule)) → with_front [] r ≡ r

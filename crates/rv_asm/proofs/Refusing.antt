@@ -11,7 +11,7 @@ use Rattle.rv_asm.specs.declared.refusal.AsmRefused.{AsmRefused}
 use Rattle.rv_asm.specs.declared.refusal.AsmRefused.TheVariants as refusals
 use Rattle.rv_asm.specs.Refusal.{number_of_rule}
 use Rattle.rv_asm.specs.Labels.{line_code, line_size, labels_of}
-use Rattle.rv_asm.specs.Program.{breaks, rules, broken_by, words_at, address_after, with_front, reading_from, reading_of}
+use Rattle.rv_asm.specs.Program.{breaks, rules, broken_by, words_at, address_after, with_front, reading_from, reading_of, reading_of_lines}
 use Rattle.rv_asm.specs.RuleByRule.{breaks_among, IsRefused, words_from, AreWordsOf, HasCause}
 use Rattle.rv_asm.specs.Answers.{Answers}
 
@@ -177,13 +177,13 @@ module _ (labels : List (List ℕ × Place)) where
 -- ---- a text
 
 pub is_refused : (text : List ℕ) (line : ℕ) (rule : Rule) → reading_of text ≡ Err (line, rule) → IsRefused text line rule
-unfolding reading_of
+unfolding reading_of_lines
 is_refused text line rule e =
     let r = refused (labels_of text) 1 0 (lines_of text) line rule e in
     record { before = r.before; number = omega (arith, r.number); broken = r.broken; lowest = r.lowest; first = r.first }
 
 pub are_words_of : (text words : List ℕ) → reading_of text ≡ Ok words → AreWordsOf text words
-unfolding reading_of
+unfolding reading_of_lines
 are_words_of text words e =
     let k = kept_all (labels_of text) 1 0 (lines_of text) words e in
     record { kept = k.kept; words_are = k.are }

@@ -12,7 +12,7 @@ use Rattle.rv_asm.specs.Refusal.{same_rule}
 use Rattle.rv_asm.specs.Line.{label_of, is_label}
 use Rattle.rv_asm.specs.Statement.{Code, Nothing, One, Two, BranchTo, JumpTo, AddressOf, Bytes}
 use Rattle.rv_asm.specs.Instructions.{branch_insn, first_half, second_half}
-use Rattle.rv_asm.specs.Labels.{own_code, line_code, line_size, defined_in, labels_of}
+use Rattle.rv_asm.specs.Labels.{own_code, line_code, line_size, defined_in, labels_from}
 
 -- the address of the next word after n words: the first stands at 0x00010000
 abbrev pub address_after : ℕ → ℕ
@@ -139,6 +139,10 @@ abbrev pub reading_from : List (List ℕ × Place) → (n words : ℕ) → List 
 reading_from labels n words [] = Ok []
 reading_from labels n words (line ∷ lines) = line_then n (broken_by labels n words line) (words_at labels (address_after words) (line_code line)) (reading_from labels (n + 1) (words + line_size line) lines)
 
--- the words of a text, or the first line that breaks a rule and the lowest such rule
-unfoldable pub reading_of : List ℕ → Result (List ℕ) (ℕ × Rule)
-reading_of text = reading_from (labels_of text) 1 0 (lines_of text)
+-- the words of lines, or the first line that breaks a rule and the lowest such rule: the lines are counted from 1
+unfoldable pub reading_of_lines : List (List ℕ) → Result (List ℕ) (ℕ × Rule)
+reading_of_lines lines = reading_from (labels_from 1 0 lines) 1 0 lines
+
+-- the same of the lines of a text
+abbrev pub reading_of : List ℕ → Result (List ℕ) (ℕ × Rule)
+reading_of text = reading_of_lines (lines_of text)

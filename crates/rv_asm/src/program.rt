@@ -35,6 +35,7 @@ fn add_label<'a>(
         };
         labels.define(name, place)?;
     }
+    // No text that memory holds has so many words.
     words.checked_add(size).ok_or(AsmRefused::NoMemory)
 }
 

@@ -1,5 +1,4 @@
 //! The words of a statement, once the labels are known.
-
 ghost use Rattle.std.specs.Prelude.{◌≡◌, ◌+◌, ◌*◌, ◌++◌, ◌<◌, ◌%◌, ◌^◌, IsTrue, IsFalse, OnOk, Some, false, unwrap_or, length, []};
 ghost use Rattle.text_parts.specs.Table.{lookup as lookup_in};
 ghost use Rattle.rv_insn.specs.declared.Insn.TheVariants as insns;
