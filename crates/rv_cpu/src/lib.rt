@@ -1,14 +1,15 @@
-//! One instruction.
+//! The processor of a process: one instruction, and many.
 #![tactic(auto)]
 
 pub mod registers;
 
-ghost use Rattle.std.specs.Prelude.{◌≡◌, ◌*◌, ◌^◌, ◌<◌, ℕ, List, int_lt};
+ghost use Rattle.std.specs.Prelude.{◌≡◌, ◌*◌, ◌^◌, ◌<◌, ◌≤◌, ℕ, List, Some, None, int_lt};
 ghost use Rattle.std.specs.Int.{w32, cast_unsigned, cast_signed};
 ghost use Rattle.rv_insn.specs.Encoding.{IsEncodable};
 ghost use Rattle.rv_insn.specs.Word.{sign_extended};
 ghost use Rattle.rv_mem.specs.Memory.{IsWidth};
 ghost use Rattle.rv_cpu.specs.Exec.{Executed, branches, bytes_after, did_of, exec, exec_marks, executed, fetched, jumps, loads, marks_after, marks_stored, onward, plus, reg, regs_after, set_reg, signed, stores, widened, word};
+ghost use Rattle.rv_cpu.specs.Run.{machine_of, one, ran};
 
 use byteorder::{ByteOrder, LittleEndian};
 use rv_insn::{Insn, decode};
@@ -38,6 +39,22 @@ pub fn exec(regs: &mut Regs, ram: &mut Ram) -> Did
         None => Did::Trap(2),
         Some(insn) => execute(insn, regs, ram),
     }
+}
+
+/// Makes at most `most` instructions, and stops before the first one that is a system call or a trap,
+/// which then changed nothing. Answers how many it made. Takes no memory.
+pub fn run(regs: &mut Regs, ram: &mut Ram, most: u32) -> u32
+    ensures made { result ≤ most }
+    ensures ran { ran result (machine_of regs.old ram.old) ≡ Some (machine_of regs.new ram.new) }
+    ensures stops { result < most → one (machine_of regs.new ram.new) ≡ None }
+{
+    for made in 0..most {
+        match exec(regs, ram) {
+            Did::Stepped => {}
+            Did::Call | Did::Trap(_) => return made,
+        }
+    }
+    most
 }
 
 // The word at `pc`, if it lies in memory.

@@ -104,8 +104,16 @@ impl Model for Small {
     ghost Value = { SmallState };
 
     ghost view = { λ s. record {
-        pid = s.pid; regs = s.regs; ends = s.ends; handler = s.handler; frame = s.frame; left = s.left;
-        steps = s.steps; births = s.births; status = s.status; pages = s.pages;
+      pid = s.pid;
+      regs = s.regs;
+      ends = s.ends;
+      handler = s.handler;
+      frame = s.frame;
+      left = s.left;
+      steps = s.steps;
+      births = s.births;
+      status = s.status;
+      pages = s.pages;
     } };
 
     ghost invariant = { λ s. IsBounded s.steps s.left s.ends s.status };

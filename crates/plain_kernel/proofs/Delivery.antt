@@ -1,0 +1,125 @@
+-- One step of a process, and the delivery of its letter.
+use Rattle.std.proofs.Common.{◌≡◌, ℕ, ◌+◌, ◌*◌, ◌<◌, ◌≤◌, Bool, true, false, cond, List, [], ◌∷◌, map, refl, sym, ap, ◌∙◌, subst, arith, Option, Some, None, IsSome, is_some, Result, Ok, Err, option_map, option_and_then}
+use Rattle.std.specs.Prelude.{OnOk, OnErr}
+use Rattle.std.specs.Ordering.{nat_cmp}
+use Rattle.std.specs.Map.{lookup, set_value}
+use Rattle.std.specs.FinMap.{find, put}
+use Rattle.t32_base.specs.Small.{SmallState}
+use Rattle.t32_base.specs.declared.letter.Letter.{Letter}
+use Rattle.t32_base.specs.declared.process.End.{End}
+use Rattle.t32_base.specs.declared.streams.NoMemory.{NoMemory}
+use Rattle.proc_state.specs.declared.process.Process.{Process}
+use Rattle.proc_state.specs.State.{ProcState, state_of, delivered, has_ended}
+use Rattle.sys_calls.specs.declared.steps.Emission.TheVariants.{Mail, Exit}
+use Rattle.sys_calls.specs.declared.steps.Step.{Step}
+use Rattle.sys_calls.specs.declared.steps.Step.TheVariants.{Silent as WasSilent, Blocked as WasBlocked, Forks as WouldFork, Emit, Over as WasOver}
+use Rattle.sys_calls.specs.Calls.{Next, Silent, Blocked, Forks, Emits, Over}
+use Rattle.sys_calls.specs.Next.{next_step}
+use Rattle.plain_kernel.specs.Kernel.{Kernel, pid_cmp, deliver, letter_put, with_process, emitted}
+use Rattle.plain_kernel.specs.Apply.{after_step, one_step}
+use Rattle.plain_kernel.specs.Maps.{at_key, pid_of, processes_of, kernel_of, load, total_load, Changes, StepsAt, Restores, Advances, Alone, Receives}
+use Rattle.plain_kernel.proofs.Entries.{some_same, written_same, put_state, lookup_state, there_before, there_after, found_after, ordered_after, put_after, state_before, load_after, changes_again, changed_back, same_keys}
+
+-- ---- a letter to a process
+
+pub any_err : {A E : Type 0} (r : Result A E) (P : Type 0) → P → OnErr r P
+any_err (Ok x) P p = tt
+any_err (Err e) P p = p
+
+put_same : (old new : List (ℕ × Process)) (pid : ℕ) (was now : Process) → Changes old new pid was now → put pid_cmp (pid_of pid) (state_of was) (processes_of old) ≡ processes_of old
+put_same old new pid was now c = sym (put_state pid was old c.ordered (there_before old new pid was now c)) ∙ ap processes_of (written_same (at_key pid) old was c.found)
+
+pub received : (r : Result (Unit {0}) NoMemory) (letter : Letter) (old new : List (ℕ × Process)) (pid : ℕ) (was now : Process) → Changes old new pid was now → Receives r letter was now
+    → OnOk r (processes_of new ≡ letter_put letter (pid_of pid) (find pid_cmp (pid_of pid) (processes_of old)) (processes_of old))
+received (Ok done) letter old new pid was now c taken =
+    rw (state_before old new pid was now c) (put_after old new pid was now c ∙ ap (λ s. put pid_cmp (pid_of pid) s (processes_of old)) taken.0 ∙ by_status (has_ended (was.small).status))
+  where
+    by_status : (b : Bool) → put pid_cmp (pid_of pid) (cond b (state_of was) (delivered (state_of was) letter)) (processes_of old) ≡ cond b (processes_of old) (put pid_cmp (pid_of pid) (delivered (state_of was) letter) (processes_of old))
+    by_status true = put_same old new pid was now c
+    by_status false = refl
+received (Err e) letter old new pid was now c taken = tt
+
+pub received_load : (r : Result (Unit {0}) NoMemory) (letter : Letter) (old new : List (ℕ × Process)) (pid : ℕ) (was now : Process) → Changes old new pid was now → Receives r letter was now
+    → total_load new ≤ total_load old + 1
+received_load (Ok done) letter old new pid was now c taken = omega (arith, load_after old new pid was now c, taken.1)
+received_load (Err e) letter old new pid was now c taken = omega (arith, load_after old new pid was now c, ap load taken)
+
+pub not_received : (r : Result (Unit {0}) NoMemory) (letter : Letter) (old new : List (ℕ × Process)) (pid : ℕ) (was now : Process) → Changes old new pid was now → Receives r letter was now → OnErr r (new ≡ old)
+not_received (Ok done) letter old new pid was now c taken = tt
+not_received (Err e) letter old new pid was now c taken = changed_back old new pid was now c taken
+
+pub nobody : (letter : Letter) (old : List (ℕ × Process)) (pid : ℕ) → lookup (at_key pid) old ≡ None → processes_of old ≡ letter_put letter (pid_of pid) (find pid_cmp (pid_of pid) (processes_of old)) (processes_of old)
+nobody letter old pid none = rw (lookup_state pid old, none) refl
+
+-- ---- a step
+
+by_next : (ps qs : List (ℕ × Process)) (ts : List (ℕ × List ℕ)) (pid : ℕ) (was now : Process) (next : Next) → Changes ps qs pid was now → next_step (state_of was) ≡ next
+    → one_step (pid_of pid) (kernel_of ps ts) ≡ after_step (kernel_of ps ts) (pid_of pid) next
+unfolding one_step
+by_next ps qs ts pid was now next c is = rw (state_before ps qs pid was now c) (ap (after_step (kernel_of ps ts) (pid_of pid)) is)
+
+put_kernel : (ps qs : List (ℕ × Process)) (ts : List (ℕ × List ℕ)) (pid : ℕ) (was now : Process) → Changes ps qs pid was now → with_process (kernel_of ps ts) (pid_of pid) (state_of now) ≡ kernel_of qs ts
+put_kernel ps qs ts pid was now c = ap (λ l. record { processes = l; ttys = ts }) (sym (put_after ps qs pid was now c))
+
+keys_stay : (ps qs : List (ℕ × Process)) (pid : ℕ) (was now : Process) → Changes ps qs pid was now → map (λ (e : ℕ × Process). e.0) qs ≡ map (λ (e : ℕ × Process). e.0) ps
+keys_stay ps qs pid was now c = ap (map (λ (e : ℕ × Process). e.0)) c.entries ∙ same_keys (at_key pid) ps now
+
+pub stepped_silent : (ps qs : List (ℕ × Process)) (ts : List (ℕ × List ℕ)) (pid : ℕ) → StepsAt ps qs pid (Ok WasSilent) → Advances pid ps qs ts ts × Alone pid ps qs
+stepped_silent ps qs ts pid s =
+    (record {
+      one = by_next ps qs ts pid s.was s.now _ s.changes s.makes ∙ ap Some (put_kernel ps qs ts pid s.was s.now s.changes);
+      lighter = omega (arith, load_after ps qs pid s.was s.now s.changes, s.lighter);
+      keys = keys_stay ps qs pid s.was s.now s.changes;
+    }, record { was = s.was; now = s.now; changes = s.changes })
+
+pub stepped_exit : (ps qs : List (ℕ × Process)) (ts : List (ℕ × List ℕ)) (pid : ℕ) (end : End) → StepsAt ps qs pid (Ok (Emit (Exit end))) → Advances pid ps qs ts ts × Alone pid ps qs
+stepped_exit ps qs ts pid end s =
+    (record {
+      one = by_next ps qs ts pid s.was s.now _ s.changes s.makes ∙ ap Some (put_kernel ps qs ts pid s.was s.now s.changes);
+      lighter = omega (arith, load_after ps qs pid s.was s.now s.changes, s.lighter);
+      keys = keys_stay ps qs pid s.was s.now s.changes;
+    }, record { was = s.was; now = s.now; changes = s.changes })
+
+pub stepped_mail : (ps qs rs : List (ℕ × Process)) (ts us : List (ℕ × List ℕ)) (pid : ℕ) (letter : Letter) → StepsAt ps qs pid (Ok (Emit (Mail letter)))
+    → kernel_of rs us ≡ deliver (kernel_of qs ts) letter → total_load rs ≤ total_load qs + 1 → map (λ (e : ℕ × Process). e.0) rs ≡ map (λ (e : ℕ × Process). e.0) qs → Advances pid ps rs ts us
+stepped_mail ps qs rs ts us pid letter s sent more keys = record {
+  one = by_next ps qs ts pid s.was s.now _ s.changes s.makes ∙ ap (λ k. Some (deliver k letter)) (put_kernel ps qs ts pid s.was s.now s.changes) ∙ ap Some (sym sent);
+  lighter = omega (arith, load_after ps qs pid s.was s.now s.changes, s.lighter, more);
+  keys = keys ∙ keys_stay ps qs pid s.was s.now s.changes;
+}
+
+pub stepped_alone : (ps qs rs : List (ℕ × Process)) (pid : ℕ) (r : Result Step NoMemory) → StepsAt ps qs pid r → rs ≡ qs → Alone pid ps rs
+stepped_alone ps qs rs pid r s same = subst (Alone pid ps) (sym same) (record { was = s.was; now = s.now; changes = s.changes })
+
+pub less_to_send : (ps qs : List (ℕ × Process)) (pid : ℕ) (letter : Letter) → StepsAt ps qs pid (Ok (Emit (Mail letter))) → total_load qs + 2 ≤ total_load ps
+less_to_send ps qs pid letter s = omega (arith, load_after ps qs pid s.was s.now s.changes, s.lighter)
+
+pub there_stepped : (ps qs rs : List (ℕ × Process)) (pid : ℕ) (r : Result Step NoMemory) → StepsAt ps qs pid r → rs ≡ qs → IsSome (lookup (at_key pid) rs)
+there_stepped ps qs rs pid r s same = subst (λ es. IsSome (lookup (at_key pid) es)) (sym same) (there_after ps qs pid s.was s.now s.changes)
+
+-- the state before the step was put back, so all is as it was
+pub undone : (ps qs rs os : List (ℕ × Process)) (pid : ℕ) (letter : Letter) (before : SmallState) → StepsAt ps qs pid (Ok (Emit (Mail letter))) → option_map (λ (p : Process). p.small) (lookup (at_key pid) ps) ≡ Some before
+    → rs ≡ qs → Restores rs os pid before → os ≡ ps
+undone ps qs rs os pid letter before s saved same back =
+    let small : (s.was).small ≡ before = some_same _ before (ap (option_map (λ (p : Process). p.small)) (sym s.changes.found) ∙ saved) in
+    let again : Changes qs os pid back.was (record (back.was) { small = before }) = subst (λ es. Changes es os pid back.was (record (back.was) { small = before })) same back.changes in
+    let stood : back.was ≡ s.now = some_same _ _ (sym again.found ∙ found_after ps qs pid s.was s.now s.changes) in
+    let put_back : record (back.was) { small = before } ≡ s.was =
+      ap (λ (p : Process). record p { small = before }) (stood ∙ s.touches) ∙ ap (λ b. record (s.was) { small = b }) (sym small) in
+    changed_back ps os pid s.was _ (changes_again ps qs os pid s.was s.now _ s.changes back.was again) put_back
+
+stuck : (ps qs : List (ℕ × Process)) (ts : List (ℕ × List ℕ)) (pid : ℕ) (was now : Process) (next : Next) → Changes ps qs pid was now → next_step (state_of was) ≡ next → now ≡ was → after_step (kernel_of ps ts) (pid_of pid) next ≡ None
+    → (one_step (pid_of pid) (kernel_of ps ts) ≡ None) × (qs ≡ ps) × (ts ≡ ts)
+stuck ps qs ts pid was now next c is same none = (by_next ps qs ts pid was now next c is ∙ none, changed_back ps qs pid was now c same, refl)
+
+pub stuck_over : (ps qs : List (ℕ × Process)) (ts : List (ℕ × List ℕ)) (pid : ℕ) → StepsAt ps qs pid (Ok WasOver) → (one_step (pid_of pid) (kernel_of ps ts) ≡ None) × (qs ≡ ps) × (ts ≡ ts)
+stuck_over ps qs ts pid s = stuck ps qs ts pid s.was s.now Over s.changes s.makes.0 s.touches refl
+
+pub stuck_blocked : (ps qs : List (ℕ × Process)) (ts : List (ℕ × List ℕ)) (pid : ℕ) → StepsAt ps qs pid (Ok WasBlocked) → (one_step (pid_of pid) (kernel_of ps ts) ≡ None) × (qs ≡ ps) × (ts ≡ ts)
+stuck_blocked ps qs ts pid s = stuck ps qs ts pid s.was s.now Blocked s.changes s.makes.0 s.touches refl
+
+pub stuck_forks : (ps qs : List (ℕ × Process)) (ts : List (ℕ × List ℕ)) (pid : ℕ) → StepsAt ps qs pid (Ok WouldFork) → (one_step (pid_of pid) (kernel_of ps ts) ≡ None) × (qs ≡ ps) × (ts ≡ ts)
+stuck_forks ps qs ts pid s = stuck ps qs ts pid s.was s.now Forks s.changes s.makes.0 s.touches refl
+
+pub refused_back : (ps qs : List (ℕ × Process)) (pid : ℕ) (e : NoMemory) → StepsAt ps qs pid (Err e) → qs ≡ ps
+refused_back ps qs pid e s = changed_back ps qs pid s.was s.now s.changes s.touches

@@ -1,0 +1,163 @@
+-- A value that is changed in its place in an ordered map, seen as a finite map.
+use Rattle.std.proofs.Common.{◌≡◌, ℕ, zero, suc, ◌+◌, ◌*◌, ◌<◌, ◌≤◌, Bool, true, false, cond, List, [], ◌∷◌, map, find, refl, sym, ap, ◌∙◌, subst, arith, Option, Some, None, IsSome, is_some, unwrap_or, option_map}
+use Rattle.std.specs.List.{sum_by, AllByRecursion}
+use Rattle.std.specs.List.Sorted.{IsStrictlySortedBy}
+use Rattle.std.proofs.lemmas.List.Sums.{sum_by-cons}
+use Rattle.std.proofs.lemmas.Map.Entries.{sum_by-set_value}
+use Rattle.std.proofs.lemmas.Bool.Decides.{nat_tests}
+use Rattle.std.proofs.lemmas.Bool.{false≢true}
+use Rattle.std.specs.Ordering.{nat_cmp, is_eq}
+use Rattle.std.specs.declared.cmp.Ordering.{Ordering}
+use Rattle.std.specs.declared.cmp.Ordering.TheVariants.{Less, Equal, Greater}
+use Rattle.std.specs.Map.{lookup, set_value, values_of}
+use Rattle.std.specs.FinMap.{put}
+use Rattle.std.specs.FinMap as finmap
+use Rattle.std.proofs.lemmas.Cmp.{nat_cmp_total}
+use Rattle.std.specs.Cmp.{tied_itself}
+use Rattle.t32_base.specs.declared.process.Pid.{Pid}
+use Rattle.proc_state.specs.declared.process.Process.{Process}
+use Rattle.proc_state.specs.State.{ProcState, state_of}
+use Rattle.plain_kernel.specs.Kernel.{pid_cmp}
+use Rattle.plain_kernel.specs.Maps.{at_key, pid_of, processes_of, load, total_load, Changes}
+
+pub some_same : {X : Type 0} → (x y : X) → Some x ≡ Some y → x ≡ y
+some_same x y e = ap (λ o. unwrap_or o x) e
+
+pub tied : (n : ℕ) → nat_cmp n n ≡ Equal
+tied n = tied_itself nat_cmp_total n
+
+abbrev keys : {X : Type 0} → List (ℕ × X) → List ℕ
+keys es = map (λ e. e.0) es
+
+-- ---- keys in order
+
+below_not_equal : (k x y : ℕ) → nat_cmp k x ≡ Less → nat_cmp x y ≡ Less → at_key k y ≡ false
+below_not_equal k x y p q = grind (arith, nat_tests)
+
+pub later_no_key : (x y : ℕ) → nat_cmp x y ≡ Less → at_key y x ≡ false
+later_no_key x y h = grind (arith, nat_tests)
+
+pub later_above : (x y : ℕ) → nat_cmp x y ≡ Less → nat_cmp y x ≡ Greater
+later_above x y h = grind (arith, nat_tests)
+
+not_there : {X : Type 0} → (k x : ℕ) (es : List (ℕ × X)) → nat_cmp k x ≡ Less → AllByRecursion (λ y. nat_cmp x y ≡ Less) (keys es) → lookup (at_key k) es ≡ None
+not_there k x [] p h = refl
+not_there k x (e ∷ es) p h = rw (below_not_equal k x e.0 p h.0) (not_there k x es p h.1)
+
+none_is_no_some : {X : Type 0} → (o : Option X) → o ≡ None → IsSome o → ⊥
+none_is_no_some None e h = absurd (false≢true h)
+none_is_no_some (Some x) e h = cc
+
+-- a value written at a key that is there is put there
+pub put_here : {X : Type 0} → (k : ℕ) (w : X) (es : List (ℕ × X)) → IsStrictlySortedBy nat_cmp (keys es) → IsSome (lookup (at_key k) es) → set_value (at_key k) es w ≡ put nat_cmp k w es
+unfolding IsStrictlySortedBy
+put_here k w [] s h = absurd (false≢true h)
+put_here k w (e ∷ es) s h = by_order (nat_cmp k e.0) refl h (λ later. put_here k w es s.1 later)
+  where
+    by_order : (o : Ordering) → nat_cmp k e.0 ≡ o → IsSome (cond (is_eq o) (Some e.1) (lookup (at_key k) es)) → (IsSome (lookup (at_key k) es) → set_value (at_key k) es w ≡ put nat_cmp k w es)
+        → set_value (at_key k) (e ∷ es) w ≡ put nat_cmp k w (e ∷ es)
+    by_order Less o h ih = absurd (none_is_no_some _ (not_there k e.0 es o s.0) h)
+    by_order Equal o h ih = rw o refl
+    by_order Greater o h ih = rw o (ap (λ r. e ∷ r) (ih h))
+
+-- the same of processes, whose states are seen by pid; the state is any
+pub put_state : (k : ℕ) (w : Process) (es : List (ℕ × Process)) → IsStrictlySortedBy nat_cmp (keys es) → IsSome (lookup (at_key k) es)
+    → processes_of (set_value (at_key k) es w) ≡ put pid_cmp (pid_of k) (state_of w) (processes_of es)
+unfolding IsStrictlySortedBy
+put_state k w [] s h = absurd (false≢true h)
+put_state k w (e ∷ es) s h = by_order (nat_cmp k e.0) refl h (λ later. put_state k w es s.1 later)
+  where
+    by_order : (o : Ordering) → nat_cmp k e.0 ≡ o → IsSome (cond (is_eq o) (Some e.1) (lookup (at_key k) es))
+        → (IsSome (lookup (at_key k) es) → processes_of (set_value (at_key k) es w) ≡ put pid_cmp (pid_of k) (state_of w) (processes_of es))
+        → processes_of (set_value (at_key k) (e ∷ es) w) ≡ put pid_cmp (pid_of k) (state_of w) (processes_of (e ∷ es))
+    by_order Less o h ih = absurd (none_is_no_some _ (not_there k e.0 es o s.0) h)
+    by_order Equal o h ih = rw o refl
+    by_order Greater o h ih = rw o (ap (λ r. (pid_of e.0, state_of e.1) ∷ r) (ih h))
+
+-- the look-up of a map is that of the finite map
+pub lookup_find : {X : Type 0} → (k : ℕ) (es : List (ℕ × X)) → lookup (at_key k) es ≡ finmap.find nat_cmp k es
+lookup_find k [] = refl
+lookup_find k (e ∷ es) = ap (λ r. cond (at_key k e.0) (Some e.1) r) (lookup_find k es)
+
+pub lookup_state : (k : ℕ) (es : List (ℕ × Process)) → finmap.find pid_cmp (pid_of k) (processes_of es) ≡ option_map state_of (lookup (at_key k) es)
+lookup_state k [] = refl
+lookup_state k (e ∷ es) =
+    elim (at_key k e.0) as (λ b. cond b (Some (state_of e.1)) (finmap.find pid_cmp (pid_of k) (processes_of es)) ≡ option_map state_of (cond b (Some e.1) (lookup (at_key k) es))) [
+      | true ↦ refl
+      | false ↦ lookup_state k es
+    ]
+
+-- ---- a value that is written in its place
+
+pub written_again : {X : Type 0} → (t : ℕ → Bool) (es : List (ℕ × X)) (v w : X) → set_value t (set_value t es v) w ≡ set_value t es w
+written_again t [] v w = refl
+written_again t (e ∷ es) v w = by_test (t e.0) refl (written_again t es v w)
+  where
+    by_test : (b : Bool) → t e.0 ≡ b → set_value t (set_value t es v) w ≡ set_value t es w → set_value t (set_value t (e ∷ es) v) w ≡ set_value t (e ∷ es) w
+    by_test true is ih = rw (is, is) refl
+    by_test false is ih = rw (is, is) (ap (λ r. e ∷ r) ih)
+
+pub written_same : {X : Type 0} → (t : ℕ → Bool) (es : List (ℕ × X)) (v : X) → lookup t es ≡ Some v → set_value t es v ≡ es
+written_same t [] v h = refl
+written_same t (e ∷ es) v h = by_test (t e.0) refl h (λ later. written_same t es v later)
+  where
+    by_test : (b : Bool) → t e.0 ≡ b → cond b (Some e.1) (lookup t es) ≡ Some v → (lookup t es ≡ Some v → set_value t es v ≡ es) → set_value t (e ∷ es) v ≡ e ∷ es
+    by_test true is h ih = rw is (ap (λ x. (e.0, x) ∷ es) (sym (some_same e.1 v h)))
+    by_test false is h ih = rw is (ap (λ r. e ∷ r) (ih h))
+
+pub written_there : {X : Type 0} → (t : ℕ → Bool) (es : List (ℕ × X)) (v w : X) → lookup t es ≡ Some v → lookup t (set_value t es w) ≡ Some w
+written_there t [] v w h = cc
+written_there t (e ∷ es) v w h = by_test (t e.0) refl h (λ later. written_there t es v w later)
+  where
+    by_test : (b : Bool) → t e.0 ≡ b → cond b (Some e.1) (lookup t es) ≡ Some v → (lookup t es ≡ Some v → lookup t (set_value t es w) ≡ Some w) → lookup t (set_value t (e ∷ es) w) ≡ Some w
+    by_test true is h ih = rw (is, is) refl
+    by_test false is h ih = rw (is, is) (ih h)
+
+pub same_keys : {X : Type 0} → (t : ℕ → Bool) (es : List (ℕ × X)) (w : X) → keys (set_value t es w) ≡ keys es
+same_keys t [] w = refl
+same_keys t (e ∷ es) w = elim (t e.0) as (λ b. keys (cond b ((e.0, w) ∷ es) (e ∷ set_value t es w)) ≡ e.0 ∷ keys es) [ true ↦ refl | false ↦ ap (λ r. e.0 ∷ r) (same_keys t es w) ]
+
+-- ---- a number among those that a sum adds
+
+pub one_of_sum : {X : Type 0} → (f : X → ℕ) (test : ℕ → Bool) (es : List (ℕ × X)) (v : X) → lookup test es ≡ Some v → f v ≤ sum_by f (values_of es)
+one_of_sum f test [] v h = cc
+one_of_sum f test (e ∷ es) v h = by_test (test e.0) h (λ later. one_of_sum f test es v later)
+  where
+    by_test : (b : Bool) → cond b (Some e.1) (lookup test es) ≡ Some v → (lookup test es ≡ Some v → f v ≤ sum_by f (values_of es)) → f v ≤ sum_by f (values_of (e ∷ es))
+    by_test true h ih = let same : e.1 ≡ v = some_same e.1 v h in omega (arith, sum_by-cons f e.1 (values_of es), ap f same)
+    by_test false h ih = omega (arith, sum_by-cons f e.1 (values_of es), ih h)
+
+-- ---- what follows from a change
+
+pub there_before : (old new : List (ℕ × Process)) (pid : ℕ) (was now : Process) → Changes old new pid was now → IsSome (lookup (at_key pid) old)
+there_before old new pid was now c = ap is_some c.found
+
+pub found_after : (old new : List (ℕ × Process)) (pid : ℕ) (was now : Process) → Changes old new pid was now → lookup (at_key pid) new ≡ Some now
+found_after old new pid was now c = rw c.entries (written_there (at_key pid) old was now c.found)
+
+pub there_after : (old new : List (ℕ × Process)) (pid : ℕ) (was now : Process) → Changes old new pid was now → IsSome (lookup (at_key pid) new)
+there_after old new pid was now c = ap is_some (found_after old new pid was now c)
+
+pub ordered_after : (old new : List (ℕ × Process)) (pid : ℕ) (was now : Process) → Changes old new pid was now → IsStrictlySortedBy nat_cmp (keys new)
+ordered_after old new pid was now c = rw c.entries (rw (same_keys (at_key pid) old now) c.ordered)
+
+pub put_after : (old new : List (ℕ × Process)) (pid : ℕ) (was now : Process) → Changes old new pid was now → processes_of new ≡ put pid_cmp (pid_of pid) (state_of now) (processes_of old)
+put_after old new pid was now c = ap processes_of c.entries ∙ put_state pid now old c.ordered (there_before old new pid was now c)
+
+pub state_before : (old new : List (ℕ × Process)) (pid : ℕ) (was now : Process) → Changes old new pid was now → finmap.find pid_cmp (pid_of pid) (processes_of old) ≡ Some (state_of was)
+state_before old new pid was now c = lookup_state pid old ∙ ap (option_map state_of) c.found
+
+pub load_after : (old new : List (ℕ × Process)) (pid : ℕ) (was now : Process) → Changes old new pid was now → total_load new + load was ≡ total_load old + load now
+load_after old new pid was now c = ap (λ es. total_load es + load was) c.entries ∙ sum_by-set_value load (at_key pid) old was now c.found
+
+-- a second change of the same process is one change
+pub changes_again : (old mid new : List (ℕ × Process)) (pid : ℕ) (was then now : Process) → Changes old mid pid was then → (again : Process) → Changes mid new pid again now → Changes old new pid was now
+changes_again old mid new pid was then now c again d = record {
+  found = c.found;
+  entries = d.entries ∙ ap (λ es. set_value (at_key pid) es now) c.entries ∙ written_again (at_key pid) old then now;
+  ordered = c.ordered;
+}
+
+-- what was changed back is as it was
+pub changed_back : (old new : List (ℕ × Process)) (pid : ℕ) (was now : Process) → Changes old new pid was now → now ≡ was → new ≡ old
+changed_back old new pid was now c same = c.entries ∙ ap (set_value (at_key pid) old) same ∙ written_same (at_key pid) old was c.found

@@ -1,0 +1,5 @@
+mod Delivery
+mod Entries
+mod Laws
+mod Roots
+mod Turns

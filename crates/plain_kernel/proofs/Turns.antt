@@ -1,0 +1,318 @@
+-- The process that has the turn in the default schedule.
+use Rattle.std.proofs.lemmas.Bool.{false≢true}
+use Rattle.std.proofs.Common.{◌≡◌, ℕ, zero, suc, ◌+◌, ◌*◌, ◌<◌, ◌≤◌, Bool, true, false, cond, not, eqb, List, [], ◌∷◌, map, find, refl, sym, ap, ◌∙◌, subst, arith, Option, Some, None, IsSome, is_some, option_map, option_and_then, unwrap_or}
+use Rattle.std.specs.Prelude.{slice_get, nat_lt}
+use Rattle.std.specs.Ordering.{nat_cmp, is_eq}
+use Rattle.std.specs.declared.cmp.Ordering.{Ordering}
+use Rattle.std.specs.declared.cmp.Ordering.TheVariants.{Less, Equal, Greater}
+use Rattle.std.specs.List.{AllByRecursion}
+use Rattle.std.specs.List.Sorted.{IsStrictlySortedBy}
+use Rattle.std.specs.Map.{lookup, set_value}
+use Rattle.std.specs.FinMap.{put}
+use Rattle.t32_base.specs.declared.process.Pid.{Pid}
+use Rattle.t32_base.specs.declared.process.End.{End}
+use Rattle.t32_base.specs.declared.process.Status.{Status}
+use Rattle.t32_base.specs.declared.process.Status.TheVariants.{Live, Closing, Ended}
+use Rattle.t32_base.specs.declared.letter.To.{To}
+use Rattle.rv_mem.specs.Memory.{is_inside}
+use Rattle.rv_cpu.specs.Exec.{Executed, Steps, Calls, Traps, exec, reg}
+use Rattle.proc_state.specs.declared.process.Process.{Process}
+use Rattle.proc_state.specs.State.{ProcState, state_of, with_small}
+use Rattle.sys_calls.specs.Small.{spent, lowest_linked}
+use Rattle.sys_calls.specs.Calls.{Next, Silent, Blocked, Forks, Emits, Over, Call, ExitCall, Write, GetPid, Unknown, called, call_of, write_to, arg}
+use Rattle.sys_calls.specs.Next.{next_step, has_step, step_by, live_step, after_exec, closing_step, silently}
+use Rattle.plain_kernel.specs.Kernel.{Kernel, pid_cmp, with_process}
+use Rattle.plain_kernel.specs.declared.item.Item.TheVariants.{Run}
+use Rattle.plain_kernel.specs.Apply.{after_step, one_step, steps, apply}
+use Rattle.plain_kernel.specs.Still.{can_act, lowest, default_item, default_step, default_after, Reaches}
+use Rattle.plain_kernel.specs.Maps.{at_key, pid_of, processes_of, kernel_of, load, total_load, Changes, RunsAt, Advances, Alone, lowest_of, IsTurn, Turns}
+use Rattle.plain_kernel.proofs.Entries.{some_same, tied, later_no_key, later_above, lookup_state, put_state, written_same, there_before, found_after, ordered_after, put_after, state_before, load_after}
+use Rattle.plain_kernel.proofs.Laws.{steps_one, steps_joined, steps_more, one_silent, silent_steps, last_silent, no_silent, default_joined, default_one, default_none}
+
+abbrev keys : {X : Type 0} → List (ℕ × X) → List ℕ
+keys es = map (λ e. e.0) es
+
+-- ---- the first of the entries in order that passes a test
+
+found_above : {X : Type 0} → (p : ℕ × X → Bool) (x : ℕ) (es : List (ℕ × X)) (e : ℕ × X) → AllByRecursion (λ y. nat_cmp x y ≡ Less) (keys es) → find p es ≡ Some e → nat_cmp x e.0 ≡ Less
+found_above p x [] e a f = cc
+found_above p x (y ∷ es) e a f = by_test (p y) f (λ later. found_above p x es e a.1 later)
+  where
+    by_test : (b : Bool) → cond b (Some y) (find p es) ≡ Some e → (find p es ≡ Some e → nat_cmp x e.0 ≡ Less) → nat_cmp x e.0 ≡ Less
+    by_test true f ih = let same : y ≡ e = some_same y e f in ap (λ z. nat_cmp x z.0) (sym same) ∙ a.0
+    by_test false f ih = ih f
+
+-- it is the one at its key
+found_at : {X : Type 0} → (p : ℕ × X → Bool) (es : List (ℕ × X)) (e : ℕ × X) → IsStrictlySortedBy nat_cmp (keys es) → find p es ≡ Some e → lookup (at_key e.0) es ≡ Some e.1
+unfolding IsStrictlySortedBy
+found_at p [] e s f = cc
+found_at p (x ∷ es) e s f = by_test (p x) f (λ later. found_at p es e s.1 later)
+  where
+    by_test : (b : Bool) → cond b (Some x) (find p es) ≡ Some e → (find p es ≡ Some e → lookup (at_key e.0) es ≡ Some e.1) → cond (at_key e.0 x.0) (Some x.1) (lookup (at_key e.0) es) ≡ Some e.1
+    by_test true f ih = let same : x ≡ e = some_same x e f in subst (λ z. cond (at_key z.0 x.0) (Some x.1) (lookup (at_key z.0) es) ≡ Some z.1) same (rw (tied x.0) refl)
+    by_test false f ih = rw (later_no_key x.0 e.0 (found_above p x.0 es e s.0 f)) (ih f)
+
+-- another value at its key that passes is the first too
+found_stays : {X : Type 0} → (p : ℕ × X → Bool) (k : ℕ) (v w : X) (es : List (ℕ × X)) → IsStrictlySortedBy nat_cmp (keys es) → find p es ≡ Some (k, v) → p (k, w) ≡ true → find p (set_value (at_key k) es w) ≡ Some (k, w)
+unfolding IsStrictlySortedBy
+found_stays p k v w [] s f h = cc
+found_stays p k v w (x ∷ es) s f h = by_test (p x) refl f (λ later. found_stays p k v w es s.1 later h)
+  where
+    by_test : (b : Bool) → p x ≡ b → cond b (Some x) (find p es) ≡ Some (k, v) → (find p es ≡ Some (k, v) → find p (set_value (at_key k) es w) ≡ Some (k, w)) → find p (set_value (at_key k) (x ∷ es) w) ≡ Some (k, w)
+    by_test true is f ih = let same : x ≡ (k, v) = some_same x (k, v) f in subst (λ z. find p (cond (at_key k z.0) ((z.0, w) ∷ es) (x ∷ set_value (at_key k) es w)) ≡ Some (k, w)) (sym same) (rw (tied k) (ap (λ b. cond b (Some (k, w)) (find p es)) h))
+    by_test false is f ih = rw (later_no_key x.0 k (found_above p x.0 es (k, v) s.0 f)) (rw is (ih f))
+
+-- the same of the states, of which any may be put
+lowest_put : (k : ℕ) (v : Process) (t : ProcState) (es : List (ℕ × Process)) → IsStrictlySortedBy nat_cmp (keys es) → lowest_of es ≡ Some (k, v) → has_step (next_step t) ≡ true
+    → find can_act (put pid_cmp (pid_of k) t (processes_of es)) ≡ Some (pid_of k, t)
+unfolding IsStrictlySortedBy
+lowest_put k v t [] s f h = cc
+lowest_put k v t (x ∷ es) s f h = by_test (has_step (next_step (state_of x.1))) refl f (λ later. lowest_put k v t es s.1 later h)
+  where
+    by_test : (b : Bool) → has_step (next_step (state_of x.1)) ≡ b → cond b (Some x) (lowest_of es) ≡ Some (k, v) → (lowest_of es ≡ Some (k, v) → find can_act (put pid_cmp (pid_of k) t (processes_of es)) ≡ Some (pid_of k, t))
+        → find can_act (put pid_cmp (pid_of k) t (processes_of (x ∷ es))) ≡ Some (pid_of k, t)
+    by_test true is f ih =
+        let same : x.0 ≡ k = ap (λ (z : ℕ × Process). z.0) (some_same x (k, v) f) in
+        let here : nat_cmp k x.0 ≡ Equal = ap (nat_cmp k) same ∙ tied k in
+        rw here (rw h (ap (λ n. Some (pid_of n, t)) same))
+    by_test false is f ih = rw (later_above x.0 k (found_above _ x.0 es (k, v) s.0 f)) (rw is (ih f))
+
+-- the first of the entries is the first of the states
+lowest_states : (es : List (ℕ × Process)) → find can_act (processes_of es) ≡ option_map (λ (e : ℕ × Process). (pid_of e.0, state_of e.1)) (lowest_of es)
+lowest_states [] = refl
+lowest_states (x ∷ es) = elim (has_step (next_step (state_of x.1))) as (λ b. cond b (Some (pid_of x.0, state_of x.1)) (find can_act (processes_of es)) ≡ option_map (λ (e : ℕ × Process). (pid_of e.0, state_of e.1)) (cond b (Some x) (lowest_of es)))
+    [ true ↦ refl | false ↦ lowest_states es ]
+
+-- ---- the process that has the turn
+
+pub record HasTurn (pid : ℕ) (es : List (ℕ × Process)) : Type 0 where
+  pub process : Process
+  pub first : lowest_of es ≡ Some (pid, process)
+
+pub has_turn : (pid : ℕ) (es : List (ℕ × Process)) → IsTurn (Some pid) es → HasTurn pid es
+has_turn pid es e = by_case (lowest_of es) refl e
+  where
+    by_case : (o : Option (ℕ × Process)) → lowest_of es ≡ o → Some pid ≡ option_map (λ (e : ℕ × Process). e.0) o → HasTurn pid es
+    by_case None is f = cc
+    by_case (Some x) is f = record { process = x.1; first = is ∙ ap (λ n. Some (n, x.1)) (sym (some_same pid x.0 f)) }
+
+pub turn_there : (pid : ℕ) (es : List (ℕ × Process)) → IsStrictlySortedBy nat_cmp (keys es) → IsTurn (Some pid) es → IsSome (lookup (at_key pid) es)
+turn_there pid es s turn = let h = has_turn pid es turn in ap is_some (found_at _ es (pid, h.process) s h.first)
+
+first_able : {X : Type 0} → (p : X → Bool) (es : List X) (e : X) → find p es ≡ Some e → p e ≡ true
+first_able p [] e f = cc
+first_able p (x ∷ es) e f = by_test (p x) refl f (λ later. first_able p es e later)
+  where
+    by_test : (b : Bool) → p x ≡ b → cond b (Some x) (find p es) ≡ Some e → (find p es ≡ Some e → p e ≡ true) → p e ≡ true
+    by_test true is f ih = ap p (sym (some_same x e f)) ∙ is
+    by_test false is f ih = ih f
+
+-- where nothing has a step the default schedule is over
+pub over : (es : List (ℕ × Process)) (ts : List (ℕ × List ℕ)) → IsTurn None es → default_item (kernel_of es ts) ≡ None
+unfolding default_item
+over es ts e = by_case (lowest_of es) refl e
+  where
+    by_case : (o : Option (ℕ × Process)) → lowest_of es ≡ o → None ≡ option_map (λ (e : ℕ × Process). e.0) o → option_map (λ (e : Pid × ProcState). Run e.0 1) (find can_act (processes_of es)) ≡ None
+    by_case None is f = rw (lowest_states es, is) refl
+    by_case (Some x) is f = cc
+
+-- ---- a process with a step makes one; none forks yet
+
+abbrev is_fork : Next → Bool
+is_fork (Silent p) = false
+is_fork Blocked = false
+is_fork Forks = true
+is_fork (Emits e p) = false
+is_fork Over = false
+
+either : (b : Bool) (x y : Next) → is_fork x ≡ false → is_fork y ≡ false → is_fork (cond b x y) ≡ false
+either true x y p q = p
+either false x y p q = q
+
+write_no_fork : (p : ProcState) (e ptr len : ℕ) (o : Option To) → is_fork (write_to p e ptr len o) ≡ false
+write_no_fork p e ptr len None = refl
+write_no_fork p e ptr len (Some to) = either (nat_lt 256 len) _ _ refl (either (not (is_inside p.memory ptr len)) _ _ refl (either (eqb len 0) _ _ refl refl))
+
+call_no_fork : (c : Call) (p : ProcState) → is_fork (called c p) ≡ false
+call_no_fork ExitCall p = refl
+call_no_fork Write p = write_no_fork p (arg p 0) (arg p 1) (arg p 2) _
+call_no_fork GetPid p = refl
+call_no_fork Unknown p = refl
+
+exec_no_fork : (x : Executed) (p : ProcState) → is_fork (after_exec x p) ≡ false
+exec_no_fork (Steps regs bytes) p = refl
+exec_no_fork Calls p = call_no_fork (call_of (reg (p.small).regs 17)) p
+exec_no_fork (Traps code) p = refl
+
+live_no_fork : (b : Bool) (p : ProcState) → is_fork (live_step b p) ≡ false
+live_no_fork true p = refl
+live_no_fork false p = exec_no_fork (exec (p.small).regs p.memory) (with_small p (spent p.small))
+
+closing_no_fork : (o : Option (ℕ × To)) (end : End) (p : ProcState) → is_fork (closing_step o end p) ≡ false
+closing_no_fork None end p = refl
+closing_no_fork (Some found) end p = refl
+
+no_fork : (s : Status) (p : ProcState) → is_fork (step_by s p) ≡ false
+no_fork Live p = live_no_fork (eqb (p.small).left 0) p
+no_fork (Closing end) p = closing_no_fork (lowest_linked (p.small).ends) end p
+no_fork (Ended end) p = refl
+
+some_step : (k : Kernel) (p : Pid) (next : Next) → has_step next ≡ true → is_fork next ≡ false → after_step k p next ≡ None → ⊥
+some_step k p (Silent s) h f e = cc
+some_step k p Blocked h f e = cc
+some_step k p Forks h f e = cc
+some_step k p (Emits what s) h f e = cc
+some_step k p Over h f e = cc
+
+had_step : (k j : Kernel) (p : Pid) (next : Next) → after_step k p next ≡ Some j → has_step next ≡ true
+had_step k j p (Silent s) e = refl
+had_step k j p Blocked e = cc
+had_step k j p Forks e = cc
+had_step k j p (Emits what s) e = refl
+had_step k j p Over e = cc
+
+-- ---- the steps of the process that has the turn are items of the default schedule
+
+one_default : (k : Kernel) (p : Pid) (t : ProcState) → lowest k ≡ Some (p, t) → default_step k ≡ one_step p k
+unfolding default_step default_item
+one_default k p t e = rw e (steps_one p k)
+
+same_kernel : (es : List (ℕ × Process)) (ts : List (ℕ × List ℕ)) (pid : ℕ) (v : Process) → IsStrictlySortedBy nat_cmp (keys es) → lookup (at_key pid) es ≡ Some v → with_process (kernel_of es ts) (pid_of pid) (state_of v) ≡ kernel_of es ts
+same_kernel es ts pid v s found =
+    ap (λ ps. record { processes = ps; ttys = ts }) (sym (put_state pid v es s (ap is_some found)) ∙ ap processes_of (written_same (at_key pid) es v found))
+
+default_silent : (n pid : ℕ) (v : Process) (es : List (ℕ × Process)) (ts : List (ℕ × List ℕ)) (t : ProcState) → IsStrictlySortedBy nat_cmp (keys es) → lowest_of es ≡ Some (pid, v) → silently n (state_of v) ≡ Some t
+    → default_after n (kernel_of es ts) ≡ Some (with_process (kernel_of es ts) (pid_of pid) t)
+unfolding default_after
+default_silent zero pid v es ts t s first e =
+    ap Some (sym (same_kernel es ts pid v s (found_at _ es (pid, v) s first))) ∙ ap (λ q. Some (with_process (kernel_of es ts) (pid_of pid) q)) (no_silent (state_of v) t e)
+default_silent (suc n) pid v es ts t s first e =
+    let last = last_silent n (state_of v) t e in
+    ap (option_and_then default_step) (default_silent n pid v es ts last.before s first last.made)
+    ∙ one_default (with_process (kernel_of es ts) (pid_of pid) last.before) (pid_of pid) last.before (lowest_put pid v last.before es s first (ap has_step last.last))
+    ∙ one_silent (kernel_of es ts) (pid_of pid) last.before t last.last
+
+same_process : (ps qs : List (ℕ × Process)) (pid : ℕ) (was now : Process) (h : HasTurn pid ps) → Changes ps qs pid was now → h.process ≡ was
+same_process ps qs pid was now h c = some_same _ _ (sym (found_at _ ps (pid, h.process) c.ordered h.first) ∙ c.found)
+
+ran : (ps qs : List (ℕ × Process)) (ts : List (ℕ × List ℕ)) (pid n : ℕ) → IsTurn (Some pid) ps → RunsAt ps qs pid n → default_after n (kernel_of ps ts) ≡ Some (kernel_of qs ts)
+ran ps qs ts pid n turn r =
+    let h = has_turn pid ps turn in
+    let same = same_process ps qs pid r.was r.now h r.changes in
+    default_silent n pid h.process ps ts (state_of r.now) (r.changes).ordered h.first (ap (λ (p : Process). silently n (state_of p)) same ∙ r.silent)
+    ∙ ap (λ l. Some (record { processes = l; ttys = ts })) (sym (put_after ps qs pid r.was r.now r.changes))
+
+-- where it still has a step it has the turn
+keeps_turn : (ps qs : List (ℕ × Process)) (pid : ℕ) (was now : Process) → IsTurn (Some pid) ps → Changes ps qs pid was now → has_step (next_step (state_of now)) ≡ true → lowest_of qs ≡ Some (pid, now)
+keeps_turn ps qs pid was now turn c able =
+    let h = has_turn pid ps turn in
+    ap lowest_of c.entries ∙ found_stays (λ (e : ℕ × Process). has_step (next_step (state_of e.1))) pid h.process now ps c.ordered h.first able
+
+next_of : (ps qs : List (ℕ × Process)) (ts : List (ℕ × List ℕ)) (pid : ℕ) (was now : Process) → Changes ps qs pid was now → one_step (pid_of pid) (kernel_of qs ts) ≡ after_step (kernel_of qs ts) (pid_of pid) (next_step (state_of now))
+unfolding one_step
+next_of ps qs ts pid was now c = rw (lookup_state pid qs, found_after ps qs pid was now c) refl
+
+able : (ps qs rs : List (ℕ × Process)) (ts us : List (ℕ × List ℕ)) (pid n : ℕ) (r : RunsAt ps qs pid n) → Advances pid qs rs ts us → has_step (next_step (state_of r.now)) ≡ true
+able ps qs rs ts us pid n r a = had_step _ _ (pid_of pid) _ (sym (next_of ps qs ts pid r.was r.now r.changes) ∙ a.one)
+
+advanced : (ps qs rs : List (ℕ × Process)) (ts us : List (ℕ × List ℕ)) (pid n : ℕ) → IsTurn (Some pid) ps → RunsAt ps qs pid n → Advances pid qs rs ts us → default_after (n + 1) (kernel_of ps ts) ≡ Some (kernel_of rs us)
+advanced ps qs rs ts us pid n turn r a =
+    let first = keeps_turn ps qs pid r.was r.now turn r.changes (able ps qs rs ts us pid n r a) in
+    let lowest_is : lowest (kernel_of qs ts) ≡ Some (pid_of pid, state_of r.now) = lowest_states qs ∙ ap (option_map (λ (e : ℕ × Process). (pid_of e.0, state_of e.1))) first in
+    default_joined n 1 _ _ _ (ran ps qs ts pid n turn r) (default_one _ _ (one_default (kernel_of qs ts) (pid_of pid) (state_of r.now) lowest_is ∙ a.one))
+
+pub less : (ps qs : List (ℕ × Process)) (pid n : ℕ) → RunsAt ps qs pid n → total_load qs + 2 * n ≡ total_load ps
+less ps qs pid n r = omega (arith, load_after ps qs pid r.was r.now r.changes, r.lighter)
+
+-- a step was made, and the lowest process that has a step is next
+pub turns : (ps qs rs : List (ℕ × Process)) (ts us : List (ℕ × List ℕ)) (pid n : ℕ) (next : Option ℕ) → IsTurn (Some pid) ps → RunsAt ps qs pid n → Advances pid qs rs ts us → IsTurn next rs → Turns next ps rs ts us
+turns ps qs rs ts us pid n next turn r a then = record {
+  items = n + 1;
+  made = advanced ps qs rs ts us pid n turn r a;
+  lighter = omega (arith, less ps qs pid n r, a.lighter);
+  turn = then;
+}
+
+-- the process that made a step alone keeps the turn where it has another
+pub stays : (ps qs rs : List (ℕ × Process)) (ts us : List (ℕ × List ℕ)) (pid n : ℕ) → IsTurn (Some pid) ps → RunsAt ps qs pid n → Advances pid qs rs ts us → Alone pid qs rs
+    → (p : Process) → lookup (at_key pid) rs ≡ Some p → has_step (next_step (state_of p)) ≡ true → IsTurn (Some pid) rs
+stays ps qs rs ts us pid n turn r a alone p found more =
+    let first = keeps_turn ps qs pid r.was r.now turn r.changes (able ps qs rs ts us pid n r a) in
+    let turn_of_qs : IsTurn (Some pid) qs = ap (option_map (λ (e : ℕ × Process). e.0)) (sym first) in
+    let same : alone.now ≡ p = some_same _ _ (sym (found_after qs rs pid alone.was alone.now alone.changes) ∙ found) in
+    ap (option_map (λ (e : ℕ × Process). e.0)) (sym (keeps_turn qs rs pid alone.was alone.now turn_of_qs alone.changes (ap (λ (q : Process). has_step (next_step (state_of q))) same ∙ more)))
+
+-- a process that had the turn made a step at least before it was stuck
+stuck_later : (ps qs : List (ℕ × Process)) (ts : List (ℕ × List ℕ)) (pid n : ℕ) → IsTurn (Some pid) ps → RunsAt ps qs pid n → one_step (pid_of pid) (kernel_of qs ts) ≡ None → 1 ≤ n
+stuck_later ps qs ts pid zero turn r none =
+    let h = has_turn pid ps turn in
+    let was_able : has_step (next_step (state_of h.process)) ≡ true = first_able _ ps (pid, h.process) h.first in
+    let same : state_of h.process ≡ state_of r.now = ap state_of (same_process ps qs pid r.was r.now h r.changes) ∙ no_silent (state_of r.was) (state_of r.now) r.silent in
+    absurd (some_step (kernel_of qs ts) (pid_of pid) (next_step (state_of r.now)) (ap (λ s. has_step (next_step s)) (sym same) ∙ was_able) (no_fork ((r.now).small).status (state_of r.now)) (sym (next_of ps qs ts pid r.was r.now r.changes) ∙ none))
+stuck_later ps qs ts pid (suc n) turn r none = omega arith
+
+pub turns_stuck : (ps qs rs : List (ℕ × Process)) (ts us : List (ℕ × List ℕ)) (pid n : ℕ) (next : Option ℕ) → IsTurn (Some pid) ps → RunsAt ps qs pid n → one_step (pid_of pid) (kernel_of qs ts) ≡ None → rs ≡ qs → us ≡ ts
+    → IsTurn next rs → Turns next ps rs ts us
+turns_stuck ps qs rs ts us pid n next turn r none same same_ttys then = record {
+  items = n;
+  made = ran ps qs ts pid n turn r ∙ ap (λ es. Some (kernel_of es ts)) (sym same) ∙ ap (λ t. Some (kernel_of rs t)) (sym same_ttys);
+  lighter = omega (arith, less ps qs pid n r, stuck_later ps qs ts pid n turn r none, ap total_load same);
+  turn = then;
+}
+
+-- ---- a run to the end
+
+pub no_turns : (ps : List (ℕ × Process)) (ts : List (ℕ × List ℕ)) → default_after 0 (kernel_of ps ts) ≡ Some (kernel_of ps ts)
+no_turns ps ts = default_none (kernel_of ps ts)
+
+pub more_turns : (n m : ℕ) (k j i : Kernel) → default_after n k ≡ Some j → default_after m j ≡ Some i → default_after (n + m) k ≡ Some i
+more_turns = default_joined
+
+pub reached : (n : ℕ) (from : Kernel) (qs : List (ℕ × Process)) (us : List (ℕ × List ℕ)) → default_after n from ≡ Some (kernel_of qs us) → IsTurn None qs → Reaches from (kernel_of qs us)
+reached n from qs us made none = record { items = n; made = made; still = over qs us none }
+
+-- ---- a run of one process
+
+ran_steps : (ps qs : List (ℕ × Process)) (ts : List (ℕ × List ℕ)) (pid n : ℕ) → RunsAt ps qs pid n → steps n (pid_of pid) (kernel_of ps ts) ≡ Some (kernel_of qs ts)
+ran_steps ps qs ts pid n r =
+    silent_steps n (kernel_of ps ts) (pid_of pid) (state_of r.was) (state_of r.now) (same_kernel ps ts pid r.was (r.changes).ordered (r.changes).found) r.silent
+    ∙ ap (λ l. Some (record { processes = l; ttys = ts })) (sym (put_after ps qs pid r.was r.now r.changes))
+
+pub more_ran : (done : ℕ) (from : Kernel) (ps qs : List (ℕ × Process)) (ts : List (ℕ × List ℕ)) (pid n : ℕ) → steps done (pid_of pid) from ≡ Some (kernel_of ps ts) → RunsAt ps qs pid n
+    → steps (done + n) (pid_of pid) from ≡ Some (kernel_of qs ts)
+more_ran done from ps qs ts pid n made r = steps_joined done n (pid_of pid) from (kernel_of ps ts) (kernel_of qs ts) made (ran_steps ps qs ts pid n r)
+
+pub more_made : (done : ℕ) (from : Kernel) (ps qs rs : List (ℕ × Process)) (ts us : List (ℕ × List ℕ)) (pid n : ℕ) → steps done (pid_of pid) from ≡ Some (kernel_of ps ts) → RunsAt ps qs pid n → Advances pid qs rs ts us
+    → steps (done + n + 1) (pid_of pid) from ≡ Some (kernel_of rs us)
+more_made done from ps qs rs ts us pid n made r a = steps_more (done + n) (pid_of pid) from (kernel_of qs ts) (kernel_of rs us) (more_ran done from ps qs ts pid n made r) a.one
+
+-- the kernel stands where it was stuck
+pub stood : (n : ℕ) (p : Pid) (from : Kernel) (qs rs : List (ℕ × Process)) (ts us : List (ℕ × List ℕ)) → steps n p from ≡ Some (kernel_of qs ts) → rs ≡ qs → us ≡ ts → steps n p from ≡ Some (kernel_of rs us)
+stood n p from qs rs ts us made same same_ttys = made ∙ ap (λ es. Some (kernel_of es ts)) (sym same) ∙ ap (λ t. Some (kernel_of rs t)) (sym same_ttys)
+
+pub stuck_there : (p : Pid) (qs rs : List (ℕ × Process)) (ts us : List (ℕ × List ℕ)) → one_step p (kernel_of qs ts) ≡ None → rs ≡ qs → us ≡ ts → one_step p (kernel_of rs us) ≡ None
+stuck_there p qs rs ts us none same same_ttys = ap (λ es. one_step p (kernel_of es us)) same ∙ ap (λ t. one_step p (kernel_of qs t)) same_ttys ∙ none
+
+pub no_steps : (p : Pid) (k : Kernel) → steps 0 p k ≡ Some k
+unfolding steps
+no_steps p k = refl
+
+-- a process is there where its map has the same keys
+pub still_there : {X : Type 0} → (k : ℕ) (es fs : List (ℕ × X)) → keys fs ≡ keys es → IsSome (lookup (at_key k) es) → IsSome (lookup (at_key k) fs)
+still_there k [] [] same there = there
+still_there k [] (f ∷ fs) same there = absurd (false≢true there)
+still_there k (e ∷ es) [] same there = cc
+still_there k (e ∷ es) (f ∷ fs) same there =
+    let first : f.0 ≡ e.0 = ap (head f.0) same in
+    let rest : keys fs ≡ keys es = ap tail same in
+    by_test (at_key k e.0) refl first there (still_there k es fs rest)
+  where
+    head : ℕ → List ℕ → ℕ
+    head d [] = d
+    head d (n ∷ ns) = n
+    tail : List ℕ → List ℕ
+    tail [] = []
+    tail (n ∷ ns) = ns
+    by_test : (b : Bool) → at_key k e.0 ≡ b → f.0 ≡ e.0 → IsSome (cond b (Some e.1) (lookup (at_key k) es)) → (IsSome (lookup (at_key k) es) → IsSome (lookup (at_key k) fs)) → IsSome (lookup (at_key k) (f ∷ fs))
+    by_test true is first there ih = rw (first, is) refl
+    by_test false is first there ih = rw (first, is) (ih there)

@@ -1,0 +1,15 @@
+use Rattle.std.proofs.Common.{◌+◌, arith}
+use Rattle.plain_kernel.proofs.Turns.{no_turns, more_turns, reached}
+use Rattle.plain_kernel.proofs.running.run_to_end.Goals as goal
+
+pub turns-init : goal.turns-init
+turns-init c = record { items = 0; made = no_turns _ _; lighter = omega arith; turn = c.lowest-next.ensures }
+
+pub turns-preserved : goal.turns-preserved
+turns-preserved c =
+    let i = c.turns.invariant in
+    let t = c.in_ok-next-in-Some.ensures in
+    record { items = i.items + t.items; made = more_turns i.items t.items _ _ _ i.made t.made; lighter = omega (arith, i.lighter, t.lighter); turn = t.turn }
+
+pub returns-in-None-clause-reaches : goal.returns-in-None-clause-reaches
+returns-in-None-clause-reaches c = let i = c.turns.invariant in reached i.items _ _ _ i.made (rw c.in-None.is at i.turn)

@@ -1,0 +1,38 @@
+use Rattle.std.proofs.Common.{arith, refl}
+use Rattle.plain_kernel.proofs.Delivery.{stepped_silent, stepped_exit, stepped_mail, stepped_alone, less_to_send, there_stepped, undone, stuck_over, refused_back}
+use Rattle.plain_kernel.proofs.sending.make_step.Goals as goal
+
+pub send-requires : goal.send-requires
+send-requires c =
+    let s = rw (c.in-Ok-Emit-Mail.is, c.in-Ok-Emit-Mail.field-0-is, c.in-Ok-Emit-Mail.field-0-0-is) at c.step_at.ensures in
+    omega (arith, less_to_send _ _ c.args.pid c.in-Ok-Emit-Mail.letter s, c.requires.room)
+
+pub restore-requires : goal.restore-requires
+restore-requires c = there_stepped _ _ _ c.args.pid _ c.step_at.ensures c.in-Err-send.ensures.same_processes
+
+pub returns-in-Ok-Silent : goal.returns-in-Ok-Silent
+returns-in-Ok-Silent c = stepped_silent _ _ _ c.args.pid (rw (c.in-Ok-Silent.is, c.in-Ok-Silent.field-0-is) at c.step_at.ensures)
+
+pub returns-in-Ok-Emit-Exit : goal.returns-in-Ok-Emit-Exit
+returns-in-Ok-Emit-Exit c = stepped_exit _ _ _ c.args.pid _ (rw (c.in-Ok-Emit-Exit.is, c.in-Ok-Emit-Exit.field-0-is, c.in-Ok-Emit-Exit.field-0-0-is) at c.step_at.ensures)
+
+pub returns-in-Ok-true : goal.returns-in-Ok-true
+returns-in-Ok-true c =
+    let s = rw (c.in-Ok-Emit-Mail.is, c.in-Ok-Emit-Mail.field-0-is, c.in-Ok-Emit-Mail.field-0-0-is) at c.step_at.ensures in
+    stepped_mail _ _ _ _ _ c.args.pid _ s c.in-Ok-true.ensures.ok c.in-Ok-true.ensures.load c.in-Ok-true.ensures.keys
+
+pub returns-in-Ok-false : goal.returns-in-Ok-false
+returns-in-Ok-false c =
+    let s = rw (c.in-Ok-Emit-Mail.is, c.in-Ok-Emit-Mail.field-0-is, c.in-Ok-Emit-Mail.field-0-0-is) at c.step_at.ensures in
+    (stepped_mail _ _ _ _ _ c.args.pid _ s c.in-Ok-false.ensures.ok c.in-Ok-false.ensures.load c.in-Ok-false.ensures.keys, stepped_alone _ _ _ c.args.pid _ s (c.in-Ok-false.ensures.alone c.in-Ok-false.field-0-test))
+
+pub returns-in-Err-send : goal.returns-in-Err-send
+returns-in-Err-send c =
+    let s = rw (c.in-Ok-Emit-Mail.is, c.in-Ok-Emit-Mail.field-0-is, c.in-Ok-Emit-Mail.field-0-0-is) at c.step_at.ensures in
+    (undone _ _ _ _ c.args.pid _ _ s c.small_at-before.ensures c.in-Err-send.ensures.same_processes c.restore.ensures, c.in-Err-send.ensures.same_ttys)
+
+pub returns-in-Ok-Over : goal.returns-in-Ok-Over
+returns-in-Ok-Over c = stuck_over _ _ _ c.args.pid (rw (c.in-Ok-Over.is, c.in-Ok-Over.field-0-is) at c.step_at.ensures)
+
+pub returns-in-Err : goal.returns-in-Err
+returns-in-Err c = (refused_back _ _ c.args.pid _ (rw c.in-Err.is at c.step_at.ensures), refl)

@@ -1,0 +1,44 @@
+-- What the calls of the kernel answer.
+use Rattle.std.specs.Prelude.{ℕ, ◌≡◌, ◌<◌, ◌⊎◌, List, take, slice_get, Option, Some, None, option_and_then, Result, Ok, Err}
+use Rattle.t32_base.specs.declared.process.Pid.{Pid}
+use Rattle.sys_text.specs.declared.system.System.{System}
+use Rattle.plain_kernel.specs.declared.item.Item.{Item}
+use Rattle.plain_kernel.specs.declared.item.Item.TheVariants.{Run, Fork, Take}
+use Rattle.plain_kernel.specs.declared.item.NotApplied.{NotApplied}
+use Rattle.plain_kernel.specs.declared.item.NotApplied.TheVariants.{Disabled, NoMemory}
+use Rattle.plain_kernel.specs.declared.item.RunRefused.{RunRefused}
+use Rattle.plain_kernel.specs.declared.item.RunRefused.TheVariants.{BadItem, NoMemory as RunNoMemory}
+use Rattle.plain_kernel.specs.Kernel.{Kernel, boot}
+use Rattle.plain_kernel.specs.Apply.{one_step, steps, apply, apply_all}
+
+-- the process whose steps an item makes
+abbrev pub runs_pid : Item → Pid
+runs_pid (Run p n) = p
+runs_pid (Fork p c) = p
+runs_pid (Take p) = p
+
+-- the next step of an item cannot be made: it is a run of more steps, and the process makes none; no other item has steps, nor has a run of none
+abbrev pub StopsAt : Item → ℕ → Kernel → Type 0
+StopsAt (Run p n) done k = (n ≡ 0) ⊎ ((done < n) × (one_step p k ≡ None))
+StopsAt (Fork p c) done k = done ≡ 0
+StopsAt (Take p) done k = done ≡ 0
+
+-- An item was applied. Or it cannot be applied after so many of its steps, or memory was refused then, and the kernel stands after those.
+abbrev pub Applies : Item → Result (Unit {0}) NotApplied → Kernel → Kernel → Type 0
+Applies item (Ok all) old new = apply old item ≡ Some new
+Applies item (Err (Disabled done)) old new = (apply old item ≡ None) × (steps done (runs_pid item) old ≡ Some new) × StopsAt item done new
+Applies item (Err (NoMemory done)) old new = steps done (runs_pid item) old ≡ Some new
+
+-- the items before this one apply, and it does not
+pub record BadAt (system : System) (items : List Item) (index : ℕ) : Type 0 where
+  pub item : Item
+  pub kernel : Kernel
+  pub there : slice_get items index ≡ Some item
+  pub before : apply_all (take index items) (boot system) ≡ Some kernel
+  pub refused : apply kernel item ≡ None
+
+-- The items were applied from the system's start. Or the items before one apply and that one does not.
+abbrev pub Runs : System → List Item → Result Kernel RunRefused → Type 0
+Runs system items (Ok kernel) = apply_all items (boot system) ≡ Some kernel
+Runs system items (Err (BadItem index)) = BadAt system items index
+Runs system items (Err RunNoMemory) = Unit {0}

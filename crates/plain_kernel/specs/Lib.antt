@@ -1,0 +1,5 @@
+pub mod Kernel
+pub mod Apply
+pub mod Still
+pub mod Maps
+pub mod Answers

@@ -1,0 +1,155 @@
+-- The maps that hold a kernel, and what of it is still to come.
+use Rattle.std.specs.Prelude.{ℕ, ◌≡◌, ◌+◌, ◌*◌, ◌^◌, ◌≤◌, ◌<◌, Bool, if◌then◌else◌, List, [], fold, find, length, map, slice_get, option_map, Option, Some, None, Result, Ok, Err}
+use Rattle.std.specs.Ordering.{nat_cmp, is_eq}
+use Rattle.std.specs.List.Sorted.{IsStrictlySortedBy}
+use Rattle.std.specs.List.{sum_by}
+use Rattle.std.specs.Map.{values_of, lookup, set_value}
+use Rattle.t32_base.specs.declared.process.Pid.{Pid}
+use Rattle.proc_state.specs.declared.process.Process.{Process}
+use Rattle.t32_base.specs.declared.letter.Letter.{Letter}
+use Rattle.proc_state.specs.State.{ProcState, delivered, has_ended, state_of}
+use Rattle.t32_base.specs.declared.streams.NoMemory.{NoMemory}
+use Rattle.sys_calls.specs.declared.steps.Step.{Step}
+use Rattle.sys_calls.specs.declared.steps.Step.TheVariants.{Silent, Blocked, Forks, Emit, Over}
+use Rattle.sys_calls.specs.Small.{weight}
+use Rattle.sys_calls.specs.Next.{has_step, next_step, silently}
+use Rattle.sys_calls.specs.Steps.{Makes, Touches}
+use Rattle.t32_base.specs.Small.{SmallState}
+use Rattle.plain_kernel.specs.declared.sending.Made.{Made}
+use Rattle.plain_kernel.specs.declared.sending.Made.TheVariants.{Went, Sent, Stuck}
+use Rattle.std.specs.FinMap.{put}
+use Rattle.sys_text.specs.declared.system.System.{System}
+use Rattle.sys_text.specs.declared.system.Image.{Image}
+use Rattle.sys_text.specs.declared.system.Root.{Root}
+use Rattle.plain_kernel.specs.Kernel.{Kernel, pid_cmp, root_process}
+use Rattle.plain_kernel.specs.Apply.{one_step, steps}
+use Rattle.plain_kernel.specs.Still.{default_after}
+use Rattle.plain_kernel.specs.declared.item.NotApplied.{NotApplied}
+use Rattle.plain_kernel.specs.declared.item.NotApplied.TheVariants.{Disabled, NoMemory as NoStepMemory}
+
+abbrev pub pid_of : ℕ → Pid
+pid_of n = record { 0 = n }
+
+abbrev pub processes_of : List (ℕ × Process) → List (Pid × ProcState)
+processes_of es = map (λ (e : ℕ × Process). (pid_of e.0, state_of e.1)) es
+
+-- the kernel that two maps hold
+abbrev pub kernel_of : List (ℕ × Process) → List (ℕ × List ℕ) → Kernel
+kernel_of processes ttys = record { processes = processes_of processes; ttys = ttys }
+
+-- a step uses up two, and the letter that it sends adds one
+abbrev pub load : Process → ℕ
+load p = 2 * weight p.small + p.next
+
+-- so no process is ever sent more letters than a number holds, and each run ends
+abbrev pub total_load : List (ℕ × Process) → ℕ
+total_load es = sum_by load (values_of es)
+
+abbrev pub at_key : ℕ → ℕ → Bool
+at_key k q = is_eq (nat_cmp k q)
+
+-- the process with a pid was changed in its place
+pub record Changes (old new : List (ℕ × Process)) (pid : ℕ) (was now : Process) : Type 0 where
+  pub found : lookup (at_key pid) old ≡ Some was
+  pub entries : new ≡ set_value (at_key pid) old now
+  pub ordered : IsStrictlySortedBy nat_cmp (map (λ (e : ℕ × Process). e.0) old)
+
+-- it made so many silent steps
+pub record RunsAt (old new : List (ℕ × Process)) (pid n : ℕ) : Type 0 where
+  pub was : Process
+  pub now : Process
+  pub changes : Changes old new pid was now
+  pub silent : silently n (state_of was) ≡ Some (state_of now)
+  pub lighter : load now + 2 * n ≡ load was
+
+-- a step that was made leaves less to come
+abbrev pub Lighter : Result Step NoMemory → Process → Process → Type 0
+Lighter (Ok Silent) was now = load now + 2 ≤ load was
+Lighter (Ok (Emit e)) was now = load now + 2 ≤ load was
+Lighter (Ok Blocked) was now = Unit {0}
+Lighter (Ok Forks) was now = Unit {0}
+Lighter (Ok Over) was now = Unit {0}
+Lighter (Err e) was now = Unit {0}
+
+-- it made its next step
+pub record StepsAt (old new : List (ℕ × Process)) (pid : ℕ) (result : Result Step NoMemory) : Type 0 where
+  pub was : Process
+  pub now : Process
+  pub changes : Changes old new pid was now
+  pub makes : Makes (next_step (state_of was)) result (state_of was) (state_of now)
+  pub touches : Touches result was now
+  pub lighter : Lighter result was now
+
+-- the state of a process was put back
+pub record Restores (old new : List (ℕ × Process)) (pid : ℕ) (before : SmallState) : Type 0 where
+  pub was : Process
+  pub changes : Changes old new pid was (record was { small = before })
+
+-- a step of the kernel was made, which leaves less to come
+pub record Advances (pid : ℕ) (ps qs : List (ℕ × Process)) (ts us : List (ℕ × List ℕ)) : Type 0 where
+  pub one : one_step (pid_of pid) (kernel_of ps ts) ≡ Some (kernel_of qs us)
+  pub lighter : total_load qs + 1 ≤ total_load ps
+  pub keys : map (λ (e : ℕ × Process). e.0) qs ≡ map (λ (e : ℕ × Process). e.0) ps
+
+-- the process changed alone
+pub record Alone (pid : ℕ) (ps qs : List (ℕ × Process)) : Type 0 where
+  pub was : Process
+  pub now : Process
+  pub changes : Changes ps qs pid was now
+
+-- what one step of a process makes of a kernel: a step that changes no other process, one that may, or none
+abbrev pub Moves : Result Made NoMemory → ℕ → List (ℕ × Process) → List (ℕ × Process) → List (ℕ × List ℕ) → List (ℕ × List ℕ) → Type 0
+Moves (Ok Went) pid ps qs ts us = Advances pid ps qs ts us × Alone pid ps qs
+Moves (Ok Sent) pid ps qs ts us = Advances pid ps qs ts us
+Moves (Ok Stuck) pid ps qs ts us = (one_step (pid_of pid) (kernel_of ps ts) ≡ None) × (qs ≡ ps) × (us ≡ ts)
+Moves (Err e) pid ps qs ts us = (qs ≡ ps) × (us ≡ ts)
+
+-- A letter is last in the mailbox, unless the process has ended. After want of memory nothing is changed.
+abbrev pub Receives : Result (Unit {0}) NoMemory → Letter → Process → Process → Type 0
+Receives (Ok done) letter old new = (state_of new ≡ (if has_ended (old.small).status then state_of old else delivered (state_of old) letter)) × (load new ≤ load old + 1)
+Receives (Err e) letter old new = new ≡ old
+
+-- so many steps of a process were made, or the kernel stands after as many as could be made
+abbrev pub RunsSteps : Result (Unit {0}) NotApplied → ℕ → ℕ → List (ℕ × Process) → List (ℕ × Process) → List (ℕ × List ℕ) → List (ℕ × List ℕ) → Type 0
+RunsSteps (Ok all) pid most ps qs ts us = (steps most (pid_of pid) (kernel_of ps ts) ≡ Some (kernel_of qs us)) × (total_load qs ≤ total_load ps)
+RunsSteps (Err (Disabled done)) pid most ps qs ts us =
+    (steps done (pid_of pid) (kernel_of ps ts) ≡ Some (kernel_of qs us)) × (total_load qs ≤ total_load ps) × (done < most) × (one_step (pid_of pid) (kernel_of qs us) ≡ None)
+RunsSteps (Err (NoStepMemory done)) pid most ps qs ts us = (steps done (pid_of pid) (kernel_of ps ts) ≡ Some (kernel_of qs us)) × (total_load qs ≤ total_load ps)
+
+-- the process with the lowest pid that has a step, if one has
+abbrev pub lowest_of : List (ℕ × Process) → Option (ℕ × Process)
+lowest_of es = find (λ (e : ℕ × Process). has_step (next_step (state_of e.1))) es
+
+abbrev pub IsTurn : Option ℕ → List (ℕ × Process) → Type 0
+IsTurn next es = next ≡ option_map (λ (e : ℕ × Process). e.0) (lowest_of es)
+
+-- items of the default schedule were made, one at least, and another process has the turn
+pub record Turns (next : Option ℕ) (ps qs : List (ℕ × Process)) (ts us : List (ℕ × List ℕ)) : Type 0 where
+  pub items : ℕ
+  pub made : default_after items (kernel_of ps ts) ≡ Some (kernel_of qs us)
+  pub lighter : total_load qs + 1 ≤ total_load ps
+  pub turn : IsTurn next qs
+
+-- ---- boot, one map at a time
+
+-- the roots by pid
+abbrev pub booted_processes : System → List (Pid × Root) → List (Pid × ProcState)
+booted_processes system roots = fold (λ ps (r : Pid × Root). put pid_cmp r.0 (root_process system r.0 r.1) ps) [] roots
+
+-- the terminals that roots name
+abbrev pub booted_ttys : List Root → List (ℕ × List ℕ)
+booted_ttys roots = fold (λ ts (r : Root). put nat_cmp r.tty [] ts) [] roots
+
+-- the image of a root, which fits its pages
+pub record IsImageOf (system : System) (root : Root) (image : Image) : Type 0 where
+  pub at : slice_get system.images root.image ≡ Some image
+  pub least : 1 ≤ image.pages
+  pub pages : image.pages ≤ 256
+  pub fits : 4 * length image.words ≤ 256 * image.pages
+
+-- a root that a valid system has
+pub record CanBoot (system : System) (root : Root) : Type 0 where
+  pub image : Image
+  pub is_image : IsImageOf system root image
+  pub number : root.image < 2 ^ 64
+  pub limit : root.limit ≤ 100000

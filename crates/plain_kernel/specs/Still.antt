@@ -1,0 +1,44 @@
+-- When nothing can move, and the schedule that is taken where none is given.
+use Rattle.std.specs.Prelude.{ℕ, zero, suc, ◌≡◌, Bool, not, List, find, Option, Some, None, option_map, option_and_then}
+use Rattle.std.specs.List.{list_any}
+use Rattle.t32_base.specs.declared.process.Pid.{Pid}
+use Rattle.sys_text.specs.declared.system.System.{System}
+use Rattle.proc_state.specs.State.{ProcState}
+use Rattle.sys_calls.specs.Next.{next_step, has_step}
+use Rattle.plain_kernel.specs.declared.item.Item.{Item}
+use Rattle.plain_kernel.specs.declared.item.Item.TheVariants.{Run}
+use Rattle.plain_kernel.specs.Kernel.{Kernel, boot}
+use Rattle.plain_kernel.specs.Apply.{apply}
+
+abbrev pub can_act : Pid × ProcState → Bool
+can_act e = has_step (next_step e.1)
+
+-- every process is blocked or over
+abbrev pub is_still : Kernel → Bool
+is_still k = not (list_any can_act k.processes)
+
+-- the process with the lowest pid that has a step
+abbrev pub lowest : Kernel → Option (Pid × ProcState)
+lowest k = find can_act k.processes
+
+-- it makes one step
+unfoldable pub default_item : Kernel → Option Item
+default_item k = option_map (λ (e : Pid × ProcState). Run e.0 1) (lowest k)
+
+unfoldable pub default_step : Kernel → Option Kernel
+default_step k = option_and_then (apply k) (default_item k)
+
+-- so many items of the default schedule
+unfoldable pub default_after : ℕ → Kernel → Option Kernel
+default_after zero k = Some k
+default_after (suc n) k = option_and_then default_step (default_after n k)
+
+-- from one kernel the default schedule leads to another, at which nothing can move
+pub record Reaches (from to : Kernel) : Type 0 where
+  pub items : ℕ
+  pub made : default_after items from ≡ Some to
+  pub still : default_item to ≡ None
+
+-- the kernel that the default schedule reaches
+abbrev pub IsDefaultRun : System → Kernel → Type 0
+IsDefaultRun system k = Reaches (boot system) k

@@ -1,0 +1,9 @@
+//! The kernel without clusters, backups, counts or pages: what every run is compared with.
+#![tactic(auto)]
+
+mod booting;
+pub mod item;
+pub mod plain;
+mod processes;
+mod running;
+mod sending;

@@ -1,0 +1,159 @@
+//! The kernel without failures, and its schedules.
+ghost use Rattle.std.specs.Prelude.{◌≡◌, ◌^◌, ◌<◌, ◌≤◌, ◌+◌, [], IfOk, OnOk, map, not, option_map, true, length, Result};
+ghost use Rattle.std.specs.Option.{option_copied};
+ghost use Rattle.proc_state.specs.State.{state_of};
+ghost use Rattle.sys_text.specs.Valid.{is_system};
+ghost use Rattle.plain_kernel.specs.Kernel.{boot as boot_of, process_at, tty_at};
+ghost use Rattle.plain_kernel.specs.Still.{IsDefaultRun, is_still};
+ghost use Rattle.plain_kernel.specs.Answers.{Applies, Runs};
+
+use crate::booting::{ttys_of, processes_of};
+use crate::item::{Item, NotApplied, RunRefused};
+use crate::processes::lowest;
+use crate::running::{run_steps, run_to_end};
+use proc_state::process::Process;
+use std::alloc::Global;
+use std::collections::BTreeMap;
+use std::marker::Model;
+use sys_text::system::System;
+use t32_base::lists::{Bytes, List};
+use t32_base::process::Pid;
+use t32_base::streams::NoMemory;
+
+/// A kernel without failures: its processes by pid, and the bytes that each terminal was sent.
+#[derive(Drop)]
+pub struct Plain {
+    alloc: Global,
+    processes: BTreeMap<u32, Process>,
+    ttys: BTreeMap<u8, Bytes>,
+}
+
+impl Model for Plain {
+    ghost use Rattle.plain_kernel.specs.Kernel.{Kernel};
+
+    ghost Value = { Kernel };
+
+    ghost use Rattle.std.specs.Prelude.{◌^◌, ◌<◌};
+    ghost use Rattle.plain_kernel.specs.Maps.{kernel_of, total_load};
+
+    ghost view = { λ k. kernel_of k.processes.entries k.ttys.entries };
+
+    ghost invariant = { λ k. total_load k.processes.entries < 2 ^ 64 };
+}
+
+impl Plain {
+    /// The kernel of a system at its start: each root with its image, and the terminals that the roots
+    /// name, to which nothing was sent.
+    pub fn boot(alloc: Global, system: &System) -> Result<Plain, NoMemory>
+        requires valid { is_system system.now ≡ true }
+        requires unlinked { system.now.chans ≡ [] }
+        ensures { IfOk result (λ k. k ≡ boot_of system.now) }
+    {
+        let processes = processes_of(alloc, system)?;
+        let ttys = ttys_of(alloc, system.roots.as_slice())?;
+        Ok(Plain {
+            alloc,
+            processes,
+            ttys,
+        })
+    }
+
+    /// Applies an item. `Disabled { done }` comes exactly where the item cannot be applied after `done` of
+    /// its steps. After it, and after want of memory, the kernel stands after those steps.
+    pub fn apply(&mut self, item: &Item) -> Result<(), NotApplied>
+        ensures { Applies item.now result self.old self.new }
+    {
+        match item {
+            Item::Run(pid, most) => self.run_process(*pid, *most),
+            Item::Fork(_, _) => Err(NotApplied::Disabled { done: 0 }),
+            Item::Take(_) => Err(NotApplied::Disabled { done: 0 }),
+        }
+    }
+
+    // Makes so many steps of a process, one at least.
+    fn run_process(&mut self, pid: Pid, most: u64) -> Result<(), NotApplied>
+        ensures { Applies (Item.Run pid most) result self.old self.new }
+    {
+        if most == 0 || !self.processes.contains_key(&pid.0) {
+            return Err(NotApplied::Disabled { done: 0 });
+        }
+        run_steps(self.alloc, &mut self.processes, &mut self.ttys, pid.0, most)
+    }
+
+    /// Whether a process has a step. Takes no memory.
+    pub fn can_move(&self) -> bool
+        ensures { result ≡ not (is_still self.now) }
+    {
+        lowest(&self.processes).is_some()
+    }
+
+    /// Every pid, rising.
+    pub fn pids(&self) -> Result<List<Pid>, NoMemory>
+        ensures { IfOk result (λ pids. pids ≡ map (λ e. e.0) self.now.processes) }
+    {
+        let mut pids = List::new(self.alloc);
+        for pid in self.processes.keys() {
+            pids.push(Pid(*pid))?;
+        }
+        Ok(pids)
+    }
+
+    /// The process with a pid: None exactly where it is not there. Takes no memory.
+    pub fn process(&self, pid: Pid) -> Option<&Process>
+        ensures { option_map state_of (option_copied result) ≡ process_at self.now pid }
+    {
+        self.processes.get(&pid.0)
+    }
+
+    /// The bytes that a terminal was sent: None exactly where no root names it. Takes no memory.
+    pub fn tty(&self, tty: u8) -> Option<&[u8]>
+        ensures { option_copied result ≡ tty_at self.now tty }
+    {
+        match self.ttys.get(&tty) {
+            Some(text) => Some(text.as_slice()),
+            None => None,
+        }
+    }
+}
+
+/// Runs a schedule from the start of a system. `BadItem { index }` comes exactly where the items before
+/// that index apply and that one does not.
+pub fn run(alloc: Global, system: &System, items: &[Item]) -> Result<Plain, RunRefused>
+    requires valid { is_system system.now ≡ true }
+    requires unlinked { system.now.chans ≡ [] }
+    ensures { Runs system.now items.now result }
+{
+    let mut plain = match Plain::boot(alloc, system) {
+        Ok(plain) => plain,
+        Err(NoMemory) => return Err(RunRefused::NoMemory),
+    };
+    for (index, item) in items.iter().enumerate() {
+        match plain.apply(item) {
+            Ok(()) => {}
+            Err(NotApplied::Disabled { .. }) => {
+                return Err(RunRefused::BadItem {
+                    index: index as u64,
+                });
+            }
+            Err(NotApplied::NoMemory { .. }) => return Err(RunRefused::NoMemory),
+        }
+    }
+    Ok(plain)
+}
+
+/// Runs the default schedule from the start of a system: the lowest pid that has a step makes one, until
+/// none has.
+pub fn default_run(alloc: Global, system: &System) -> Result<Plain, NoMemory>
+    requires valid { is_system system.now ≡ true }
+    requires unlinked { system.now.chans ≡ [] }
+    ensures { IfOk result (λ k. IsDefaultRun system.now k) }
+{
+    let mut processes = processes_of(alloc, system)?;
+    let mut ttys = ttys_of(alloc, system.roots.as_slice())?;
+    run_to_end(alloc, &mut processes, &mut ttys)?;
+    Ok(Plain {
+        alloc,
+        processes,
+        ttys,
+    })
+}

@@ -1,0 +1,70 @@
+-- A process as the definitions see it: no marks of pages, no list of letters read and no point of last synchronisation.
+use Rattle.std.specs.Prelude.{ℕ, ◌≡◌, ◌+◌, ◌-◌, ◌*◌, Bool, true, false, List, [], ◌∷◌, ◌++◌, length, replicate, slice_set, None}
+use Rattle.t32_base.specs.declared.process.Pid.{Pid}
+use Rattle.t32_base.specs.declared.process.Status.{Status}
+use Rattle.t32_base.specs.declared.process.Status.TheVariants.{Live, Closing, Ended}
+use Rattle.t32_base.specs.declared.process.EndState.{EndState}
+use Rattle.t32_base.specs.declared.process.EndState.TheVariants.{Never, Tty}
+use Rattle.t32_base.specs.declared.letter.Arrived.{Arrived}
+use Rattle.t32_base.specs.declared.letter.Letter.{Letter}
+use Rattle.t32_base.specs.Registers.{Registers}
+use Rattle.t32_base.specs.Small.{SmallState}
+use Rattle.proc_state.specs.declared.process.Process.{Process}
+
+-- its state, the bytes of its memory, the letters that arrived and were not read in order of arrival, and how many have arrived
+pub record ProcState : Type 0 where
+  pub small : SmallState
+  pub memory : List ℕ
+  pub mail : List Arrived
+  pub next : ℕ
+
+-- what a process that a kernel runs is
+abbrev pub state_of : Process → ProcState
+state_of p = record { small = p.small; memory = (p.ram).bytes; mail = p.mail; next = p.next }
+
+abbrev pub with_small : ProcState → SmallState → ProcState
+with_small p s = record p { small = s }
+
+-- the memory, the letters read and the point of last synchronisation stay
+pub record SameRest (old new : Process) : Type 0 where
+  pub ram : new.ram ≡ old.ram
+  pub read : new.read ≡ old.read
+  pub since : new.since ≡ old.since
+
+abbrev pub has_ended : Status → Bool
+has_ended Live = false
+has_ended (Closing end) = false
+has_ended (Ended end) = true
+
+-- a letter arrives: last in the mailbox, with the next number
+abbrev pub delivered : ProcState → Letter → ProcState
+delivered p letter = record p { mail = p.mail ++ record { number = p.next; letter = letter } ∷ []; next = p.next + 1 }
+
+-- ---- a root at its start
+
+-- all 0 but x2, which is the address after the memory; the next instruction is the memory's first
+abbrev pub first_registers : ℕ → Registers
+first_registers pages = record { x = slice_set (replicate 32 0) 2 (0x10000 + 256 * pages); pc = 0x10000 }
+
+abbrev pub root_small : Pid → ℕ → ℕ → ℕ → ℕ → SmallState
+root_small pid pages limit births tty = record {
+  pid = pid;
+  regs = first_registers pages;
+  ends = slice_set (replicate 32 Never) 0 (Tty tty);
+  handler = 0;
+  frame = None;
+  left = limit;
+  steps = 0;
+  births = births;
+  status = Live;
+  pages = pages;
+}
+
+-- the memory is the image, followed by zero bytes
+abbrev pub root_state : Pid → ℕ → List ℕ → ℕ → ℕ → ℕ → ProcState
+root_state pid pages image limit births tty = record {
+  small = root_small pid pages limit births tty;
+  memory = image ++ replicate (256 * pages - length image) 0;
+  mail = [];
+  next = 0;
+}

@@ -1,0 +1,4 @@
+//! A process and its mailbox.
+#![tactic(auto)]
+
+pub mod process;

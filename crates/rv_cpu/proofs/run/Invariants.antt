@@ -1,0 +1,6 @@
+use Rattle.std.proofs.Common.{◌≡◌, Some}
+use Rattle.rv_cpu.specs.Run.{machine_of, ran}
+use Rattle.rv_cpu.proofs.run.Given as goal
+
+abbrev pub invariant-loop-made : goal.invariant-loop-made
+invariant-loop-made l = ran l.made (machine_of l.initial.regs l.initial.ram) ≡ Some (machine_of l.regs l.ram)

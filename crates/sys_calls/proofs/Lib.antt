@@ -1,0 +1,3 @@
+mod Calling
+pub mod Running
+mod Shutting

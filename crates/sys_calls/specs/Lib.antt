@@ -1,0 +1,4 @@
+pub mod Small
+pub mod Calls
+pub mod Next
+pub mod Steps

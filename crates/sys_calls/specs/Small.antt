@@ -1,0 +1,63 @@
+-- How the state of a process changes by a step, but for its memory and its mailbox.
+use Rattle.std.specs.Prelude.{ℕ, ◌+◌, ◌-◌, List, [], ◌∷◌, slice_set, Option, Some, None}
+use Rattle.t32_base.specs.declared.process.Status.{Status}
+use Rattle.t32_base.specs.declared.process.EndState.{EndState}
+use Rattle.t32_base.specs.declared.process.EndState.TheVariants.{Never, Tty, Linked, Shut}
+use Rattle.t32_base.specs.declared.letter.To.{To}
+use Rattle.t32_base.specs.declared.letter.To.TheVariants.{Proc}
+use Rattle.t32_base.specs.Registers.{Registers}
+use Rattle.t32_base.specs.Small.{SmallState, steps_left}
+use Rattle.rv_cpu.specs.Exec.{Executed, Steps, Calls, Traps, set_reg, onward}
+use Rattle.t32_base.specs.declared.process.End.TheVariants.{Trap}
+use Rattle.t32_base.specs.declared.process.Status.TheVariants.{Closing}
+
+-- a step is counted
+abbrev pub stepped : SmallState → SmallState
+stepped s = record s { steps = s.steps + 1 }
+
+-- an instruction is spent, by a step
+abbrev pub spent : SmallState → SmallState
+spent s = record s { left = s.left - 1; steps = s.steps + 1 }
+
+abbrev pub with_status : SmallState → Status → SmallState
+with_status s status = record s { status = status }
+
+abbrev pub with_regs : SmallState → Registers → SmallState
+with_regs s regs = record s { regs = regs }
+
+abbrev pub with_end : SmallState → ℕ → EndState → SmallState
+with_end s i end = record s { ends = slice_set s.ends i end }
+
+-- what an instruction leaves: it is spent, unless it is a system call, which is yet to be made
+abbrev pub small_after : Executed → SmallState → SmallState
+small_after (Steps regs bytes) s = with_regs (spent s) regs
+small_after (Traps code) s = with_status (spent s) (Closing (Trap code))
+small_after Calls s = s
+
+-- n instructions that step were spent, and left these registers
+abbrev pub after_instructions : ℕ → SmallState → Registers → SmallState
+after_instructions n s regs = record s { regs = regs; left = s.left - n; steps = s.steps + n }
+
+-- the answer of a call is in a0, and the pc goes on
+abbrev pub answered : SmallState → ℕ → SmallState
+answered s v = with_regs s (onward (set_reg s.regs 10 v))
+
+-- the lowest linked end from number i on, and where it leads
+abbrev pub linked_from : ℕ → List EndState → Option (ℕ × To)
+linked_from i [] = None
+linked_from i (Never ∷ ends) = linked_from (i + 1) ends
+linked_from i (Tty t ∷ ends) = linked_from (i + 1) ends
+linked_from i (Linked peer far finished ∷ ends) = Some (i, Proc peer far)
+linked_from i (Shut ∷ ends) = linked_from (i + 1) ends
+
+abbrev pub lowest_linked : List EndState → Option (ℕ × To)
+lowest_linked ends = linked_from 0 ends
+
+-- the lowest linked end is shut, by a step
+abbrev pub shut_at : Option (ℕ × To) → SmallState → SmallState
+shut_at None s = s
+shut_at (Some found) s = stepped (with_end s found.0 Shut)
+
+-- at most so many steps are left: instructions, end letters, and the changes of status
+abbrev pub weight : SmallState → ℕ
+weight s = steps_left s.left s.ends s.status

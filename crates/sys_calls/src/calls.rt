@@ -1,0 +1,129 @@
+//! The system calls.
+ghost use Rattle.std.specs.Prelude.{◌≡◌, ◌<◌, ◌-◌, ◌^◌, slice_get, option_and_then, IsSome, Ok};
+ghost use Rattle.rv_cpu.specs.Exec.{reg};
+ghost use Rattle.proc_state.specs.Ends.{leads_to};
+ghost use Rattle.proc_state.specs.State.{state_of, with_small};
+ghost use Rattle.sys_calls.specs.Small.{spent};
+ghost use Rattle.sys_calls.specs.Calls.{call_of, called, refused, write_call, ExitCall};
+ghost use Rattle.sys_calls.specs.Steps.{Makes, Marks, SameCount, Touches, Shorter};
+
+use crate::small::{answer, close, go_on};
+use crate::steps::{Emission, Step};
+use proc_state::process::Process;
+use rv_cpu::registers::read;
+use std::alloc::Global;
+use t32_base::letter::{Body, Letter, To};
+use t32_base::lists::Bytes;
+use t32_base::process::{End, EndState, Status};
+use t32_base::streams::NoMemory;
+
+// The numbers of the errors.
+const BAD_END: u32 = 9;
+const BAD_ADDRESS: u32 = 14;
+const BAD_ARGUMENT: u32 = 22;
+
+/// The most bytes of one letter.
+const MOST: u32 = 256;
+
+/// The process makes the call whose number is in a7.
+pub fn call(alloc: Global, p: &mut Process) -> Result<Step, NoMemory>
+    requires some { 0 < p.old.small.left }
+    requires live { p.old.small.status ≡ Status.Live }
+    ensures makes { Makes (called (call_of (reg p.old.small.regs 17)) (with_small (state_of p.old) (spent p.old.small))) result (state_of p.old) (state_of p.new) }
+    ensures marks { p.new.ram.dirty ≡ p.old.ram.dirty }
+    ensures count { SameCount p.old p.new }
+    ensures shorter { Shorter result p.old.small p.new.small }
+    ensures touches { Touches result p.old p.new }
+{
+    match read(&p.small.regs, 17) {
+        1 => Ok(exit(p)),
+        2 => write(alloc, p),
+        6 => {
+            let pid = p.small.pid.0;
+            answer(&mut p.small, pid);
+            Ok(Step::Silent)
+        }
+        _ => Ok(refuse(p, BAD_ARGUMENT)),
+    }
+}
+
+/// exit(s)
+fn exit(p: &mut Process) -> Step
+    requires some { 0 < p.old.small.left }
+    requires live { p.old.small.status ≡ Status.Live }
+    ensures makes { Makes (called ExitCall (with_small (state_of p.old) (spent p.old.small))) (Ok result) (state_of p.old) (state_of p.new) }
+    ensures marks { p.new.ram.dirty ≡ p.old.ram.dirty }
+    ensures count { SameCount p.old p.new }
+    ensures shorter { Shorter (Ok result) p.old.small p.new.small }
+    ensures touches { Touches (Ok result) p.old p.new }
+{
+    let status = read(&p.small.regs, 10) % 256;
+    close(&mut p.small, End::Exit(status as u8));
+    go_on(&mut p.small);
+    Step::Silent
+}
+
+// A check refuses the call: minus the error's number is the answer.
+fn refuse(p: &mut Process, error: u32) -> Step
+    requires some { 0 < p.old.small.left }
+    requires error { 0 < error }
+    ensures makes { Makes (refused (with_small (state_of p.old) (spent p.old.small)) error) (Ok result) (state_of p.old) (state_of p.new) }
+    ensures marks { p.new.ram.dirty ≡ p.old.ram.dirty }
+    ensures count { SameCount p.old p.new }
+    ensures shorter { Shorter (Ok result) p.old.small p.new.small }
+    ensures touches { Touches (Ok result) p.old p.new }
+{
+    answer(&mut p.small, u32::MAX - (error - 1));
+    Step::Silent
+}
+
+/// write(end, ptr, len)
+fn write(alloc: Global, p: &mut Process) -> Result<Step, NoMemory>
+    requires some { 0 < p.old.small.left }
+    ensures makes { Makes (write_call (with_small (state_of p.old) (spent p.old.small)) (reg p.old.small.regs 10) (reg p.old.small.regs 11) (reg p.old.small.regs 12)) result (state_of p.old) (state_of p.new) }
+    ensures marks { p.new.ram.dirty ≡ p.old.ram.dirty }
+    ensures count { SameCount p.old p.new }
+    ensures shorter { Shorter result p.old.small p.new.small }
+    ensures touches { Touches result p.old p.new }
+{
+    let end = read(&p.small.regs, 10);
+    let ptr = read(&p.small.regs, 11);
+    let len = read(&p.small.regs, 12);
+    let Some(to) = destination(&p.small.ends, end) else {
+        return Ok(refuse(p, BAD_END));
+    };
+    if len > MOST {
+        return Ok(refuse(p, BAD_ARGUMENT));
+    }
+    if !p.ram.inside(ptr, len) {
+        return Ok(refuse(p, BAD_ADDRESS));
+    }
+    if len == 0 {
+        answer(&mut p.small, 0);
+        return Ok(Step::Silent);
+    }
+    let said = Bytes::copy_of(alloc, p.ram.part(ptr, len))?;
+    let letter = Letter {
+        from: p.small.pid,
+        out: end as u8,
+        to,
+        body: Body::Said(said),
+    };
+    answer(&mut p.small, len);
+    Ok(Step::Emit(Emission::Mail(letter)))
+}
+
+// Where an open end leads. A number of 32 or more is no end.
+fn destination(ends: &[EndState; 32], end: u32) -> Option<To>
+    ensures leads { result ≡ option_and_then leads_to (slice_get ends.now end) }
+    ensures within { IsSome result → end < 32 }
+{
+    if end >= 32 {
+        return None;
+    }
+    match ends[end as usize] {
+        EndState::Tty(tty) => Some(To::Tty(tty)),
+        EndState::Linked { peer, far, .. } => Some(To::Proc(peer, far)),
+        EndState::Never | EndState::Shut => None,
+    }
+}

@@ -1,0 +1,7 @@
+//! One step of a process, with the system calls.
+#![tactic(auto)]
+
+pub mod calls;
+pub mod small;
+pub mod stepping;
+pub mod steps;

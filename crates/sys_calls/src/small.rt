@@ -1,0 +1,114 @@
+//! How the state of a process changes by a step, but for its memory and its mailbox.
+ghost use Rattle.std.specs.Prelude.{◌≡◌, ◌↔◌, IsTrue, min, ◌==◌, ◌<◌, ◌≤◌, ◌+◌, OnSome, IfSome, length, slice_index_or, true};
+ghost use Rattle.t32_base.specs.Small.{is_unshut};
+ghost use Rattle.sys_calls.specs.Small.{spent, stepped, with_status, with_regs, answered, lowest_linked as lowest_linked_of, shut_at, weight};
+ghost use Rattle.rv_cpu.specs.Exec.{onward};
+
+use rv_cpu::registers::{advance, write};
+use t32_base::letter::To;
+use t32_base::process::{End, EndState, Small, Status};
+
+/// Whether the process is live.
+pub fn is_live(small: &Small) -> bool
+    ensures { IsTrue result ↔ (small.now.status ≡ Status.Live) }
+{
+    matches!(small.status, Status::Live)
+}
+
+/// Whether no instruction is left.
+pub fn is_spent_up(small: &Small) -> bool
+    ensures { result ≡ (small.now.left == 0) }
+{
+    small.left == 0
+}
+
+/// The instructions that are left, but at most so many.
+pub fn at_most(small: &Small, most: u32) -> u32
+    ensures { result ≡ min most small.now.left }
+{
+    most.min(small.left)
+}
+
+/// An instruction is spent, by a step.
+pub fn spend(small: &mut Small)
+    requires { 0 < small.old.left }
+    ensures { small.new ≡ spent small.old }
+{
+    small.left -= 1;
+    small.steps += 1;
+}
+
+/// The answer of a call, for which an instruction is spent: it is in a0, and the pc goes on.
+pub fn answer(small: &mut Small, value: u32)
+    requires { 0 < small.old.left }
+    ensures { small.new ≡ answered (spent small.old) value }
+{
+    spend(small);
+    write(&mut small.regs, 10, value);
+    advance(&mut small.regs);
+}
+
+/// A live process closes by an instruction, which is spent.
+pub fn close(small: &mut Small, end: End)
+    requires some { 0 < small.old.left }
+    requires live { small.old.status ≡ Status.Live }
+    ensures { small.new ≡ with_status (spent small.old) (Status.Closing end) }
+{
+    small.left -= 1;
+    small.steps += 1;
+    small.status = Status::Closing(end);
+}
+
+/// The pc goes on.
+pub fn go_on(small: &mut Small)
+    ensures { small.new ≡ with_regs small.old (onward small.old.regs) }
+{
+    advance(&mut small.regs);
+}
+
+/// A live process with no instruction left closes, by a step.
+pub fn run_out(small: &mut Small)
+    requires live { small.old.status ≡ Status.Live }
+    ensures { small.new ≡ stepped (with_status small.old (Status.Closing End.Limit)) }
+{
+    small.steps += 1;
+    small.status = Status::Closing(End::Limit);
+}
+
+/// A closing process has ended, by a step.
+pub fn finish(small: &mut Small, end: End)
+    requires closing { small.old.status ≡ Status.Closing end }
+    ensures { small.new ≡ stepped (with_status small.old (Status.Ended end)) }
+{
+    small.steps += 1;
+    small.status = Status::Ended(end);
+}
+
+/// The lowest linked end is shut, by a step; answers its number and where it leads.
+pub fn shut_lowest(small: &mut Small) -> Option<(u8, To)>
+    ensures found { result ≡ lowest_linked_of small.old.ends }
+    ensures shut { small.new ≡ shut_at result small.old }
+    ensures shorter { OnSome result (weight small.new + 1 ≤ weight small.old) }
+{
+    let found = lowest_linked(&small.ends);
+    if let Some((end, _)) = found {
+        small.steps += 1;
+        small.ends[end as usize] = EndState::Shut;
+    }
+    found
+}
+
+// The lowest linked end, and where it leads.
+fn lowest_linked(ends: &[EndState; 32]) -> Option<(u8, To)>
+    ensures found { result ≡ lowest_linked_of ends.now }
+    ensures number { IfSome result (λ found. found.0 < 32) }
+    ensures within { IfSome result (λ found. found.0 < length ends.now) }
+    ensures unshut { IfSome result (λ found. is_unshut (slice_index_or ends.now found.0 EndState.Shut) ≡ true) }
+{
+    for number in 0..32u8 {
+        if let EndState::Linked { peer, far, .. } = ends[usize::from(number)] {
+            return Some((number, To::Proc(peer, far)));
+        }
+    }
+    None
+}

@@ -1,0 +1,6 @@
+pub mod Bounds
+mod Examples
+pub mod First
+mod Lines
+pub mod Reading
+mod Words

@@ -1,0 +1,4 @@
+pub mod Valid
+pub mod Text
+pub mod Fields
+pub mod Boot
