@@ -16,6 +16,7 @@ infix 20 ◌is◌
 abbrev ◌is◌ : List ℕ → Form → List ℕ × Form
 word is form = (word, form)
 
+-- each statement word, by what operands it takes
 abbrev pub forms : List (List ℕ × Form)
 forms =
     -- rd, rs1, rs2
@@ -40,5 +41,6 @@ forms =
     -- rd, number; rd, label; label; rd, rs1; number; a text in quotes
     ∷ (codes "li" is LoadNumber) ∷ (codes "la" is LoadAddress) ∷ (codes "j" is Jump) ∷ (codes "mv" is Move) ∷ (codes ".word" is Word) ∷ (codes ".ascii" is Ascii) ∷ []
 
+-- the form of the statement with this word
 abbrev pub form_of : List ℕ → Option Form
 form_of word = lookup forms word

@@ -21,6 +21,8 @@ use Rattle.rv_asm.specs.declared.form.UpperInsn.TheVariants.{Lui, Auipc}
 use Rattle.rv_asm.specs.declared.form.BareInsn.{BareInsn}
 use Rattle.rv_asm.specs.declared.form.BareInsn.TheVariants.{Fence, Ecall, Ebreak}
 
+-- ---- the instruction of each statement word that stands for one
+
 abbrev pub register_insn : RegisterInsn → (rd rs1 rs2 : ℕ) → Insn
 register_insn Add rd rs1 rs2 = insn.Add rd rs1 rs2
 register_insn Sub rd rs1 rs2 = insn.Sub rd rs1 rs2

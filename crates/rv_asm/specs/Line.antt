@@ -30,10 +30,11 @@ before_comment q (b ∷ bs) = if starts_comment q b then [] else b ∷ before_co
 abbrev pub code_of : List ℕ → List ℕ
 code_of line = trim_start (before_comment Outside line)
 
--- what ends a label: its colon, and a space, before which there was none
+-- where a label at the front of the code would end: a colon, and a space before any
 abbrev pub ends_label : ℕ → Bool
 ends_label b = is_space b || b == 58
 
+-- a colon stands here
 abbrev pub starts_with_colon : List ℕ → Bool
 starts_with_colon [] = false
 starts_with_colon (b ∷ bs) = b == 58
@@ -54,6 +55,7 @@ statement_of line = if has_label (code_of line) then trim_start (drop 1 (from en
 abbrev pub word_of : List ℕ → List ℕ
 word_of statement = before is_space statement
 
+-- the text of its operands
 abbrev pub operands_of : List ℕ → List ℕ
 operands_of statement = trim (from is_space statement)
 

@@ -90,6 +90,7 @@ breaks labels n words line NeverDefined = is_undefined labels (target_of (line_c
 breaks labels n words line TooFar = too_far labels (line_code line) (address_after words) (target_of (line_code line))
 breaks labels n words line TooLong = nat_lt 16384 (words + line_size line)
 
+-- from the lowest on
 abbrev pub rules : List Rule
 rules = ForeignByte ∷ UnknownWord ∷ BadForm ∷ NumberRange ∷ DefinedTwice ∷ NeverDefined ∷ TooFar ∷ TooLong ∷ []
 
@@ -126,10 +127,12 @@ words_at labels here (JumpTo rd target) = encoded (insn.Jal rd (distance here (a
 words_at labels here (AddressOf rd target) = first_half rd (address_of (lookup labels target) % 2 ^ 32) ∷ second_half rd (address_of (lookup labels target) % 2 ^ 32) ∷ []
 words_at labels here (Bytes bytes) = words_of_bytes bytes
 
+-- these words before the others
 abbrev pub with_front : List ℕ → Result (List ℕ) (ℕ × Rule) → Result (List ℕ) (ℕ × Rule)
 with_front front (Ok rest) = Ok (front ++ rest)
 with_front front (Err refused) = Err refused
 
+-- a line with this number: the rule that it breaks, or its words and those of the lines after it
 abbrev pub line_then : (n : ℕ) → Option Rule → List ℕ → Result (List ℕ) (ℕ × Rule) → Result (List ℕ) (ℕ × Rule)
 line_then n None front rest = with_front front rest
 line_then n (Some rule) front rest = Err (n, rule)

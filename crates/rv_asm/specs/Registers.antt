@@ -6,6 +6,7 @@ infix 20 ◌is◌
 abbrev ◌is◌ : List ℕ → ℕ → List ℕ × ℕ
 name is number = (name, number)
 
+-- x0 to x31, and their other names
 abbrev pub registers : List (List ℕ × ℕ)
 registers =
     (codes "x0" is 0) ∷ (codes "x1" is 1) ∷ (codes "x2" is 2) ∷ (codes "x3" is 3) ∷
@@ -26,5 +27,6 @@ registers =
     (codes "s11" is 27) ∷ (codes "t3" is 28) ∷ (codes "t4" is 29) ∷ (codes "t5" is 30) ∷
     (codes "t6" is 31) ∷ []
 
+-- the number of the register of this name
 abbrev pub register_of : List ℕ → Option ℕ
 register_of name = lookup registers name

@@ -8,6 +8,7 @@ use crate::form::{
 };
 use rv_insn::{Insn, encode};
 
+/// The instruction with these registers.
 pub fn register_insn(insn: RegisterInsn, rd: u8, rs1: u8, rs2: u8) -> Insn
     requires rd { IsRegister rd }
     requires rs1 { IsRegister rs1 }
@@ -29,6 +30,7 @@ pub fn register_insn(insn: RegisterInsn, rd: u8, rs1: u8, rs2: u8) -> Insn
     }
 }
 
+/// The instruction with these registers and this number.
 pub fn number_insn(insn: NumberInsn, rd: u8, rs1: u8, number: i32) -> Insn
     requires rd { IsRegister rd }
     requires rs1 { IsRegister rs1 }
@@ -70,6 +72,7 @@ pub fn number_insn(insn: NumberInsn, rd: u8, rs1: u8, number: i32) -> Insn
     }
 }
 
+/// The shift by so many bits.
 pub fn shift_insn(insn: ShiftInsn, rd: u8, rs1: u8, shift: i32) -> Insn
     requires rd { IsRegister rd }
     requires rs1 { IsRegister rs1 }
@@ -96,6 +99,7 @@ pub fn shift_insn(insn: ShiftInsn, rd: u8, rs1: u8, shift: i32) -> Insn
     }
 }
 
+/// The load or jump at this number from a register.
 pub fn load_insn(insn: LoadInsn, rd: u8, rs1: u8, number: i32) -> Insn
     requires rd { IsRegister rd }
     requires rs1 { IsRegister rs1 }
@@ -137,6 +141,7 @@ pub fn load_insn(insn: LoadInsn, rd: u8, rs1: u8, number: i32) -> Insn
     }
 }
 
+/// The store at this number from a register.
 pub fn store_insn(insn: StoreInsn, rs1: u8, rs2: u8, number: i32) -> Insn
     requires rs1 { IsRegister rs1 }
     requires rs2 { IsRegister rs2 }
@@ -163,6 +168,7 @@ pub fn store_insn(insn: StoreInsn, rs1: u8, rs2: u8, number: i32) -> Insn
     }
 }
 
+/// The branch over this distance.
 pub fn branch_insn(insn: BranchInsn, rs1: u8, rs2: u8, distance: i32) -> Insn
     requires rs1 { IsRegister rs1 }
     requires rs2 { IsRegister rs2 }
@@ -213,6 +219,7 @@ fn upper_immediate(upper: u32) -> i32
     (upper << 12).cast_signed()
 }
 
+/// The instruction with these upper bits.
 pub fn upper_insn(insn: UpperInsn, rd: u8, upper: u32) -> Insn
     requires rd { IsRegister rd }
     requires upper { upper < 2 ^ 20 }
@@ -226,6 +233,7 @@ pub fn upper_insn(insn: UpperInsn, rd: u8, upper: u32) -> Insn
     }
 }
 
+/// The instruction without fields.
 pub fn bare_insn(insn: BareInsn) -> Insn
     ensures insn { result ≡ bare_insn insn }
     ensures encodable { IsEncodable result }

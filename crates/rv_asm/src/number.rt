@@ -6,6 +6,7 @@ ghost use Rattle.std.specs.Option.{option_map, option_copied};
 use crate::refusal::Rule;
 use text_parts::numeral;
 
+/// The value as a number.
 fn positive(value: u64) -> i64
     requires { value < 2 ^ 63 }
     ensures { result ≡ pos value }
@@ -13,6 +14,7 @@ fn positive(value: u64) -> i64
     value as i64
 }
 
+/// The value as a negative number.
 fn negative(value: u64) -> i64
     requires { value < 2 ^ 63 }
     ensures { result ≡ negative value }
@@ -77,6 +79,7 @@ fn number(text: &[u8]) -> Option<i64>
     }
 }
 
+/// The value, where it is from `low` to `high`.
 fn within(value: i64, low: i64, high: i64) -> Result<i64, Rule>
     ensures number { result ≡ within low high value }
     ensures range { IfOk result (λ v. (low ≤ℤ v) × (v ≤ℤ high)) }

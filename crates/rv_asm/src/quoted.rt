@@ -41,12 +41,14 @@ fn spelled(escaped: bool, byte: u8) -> Option<Option<u8>>
     }
 }
 
+/// Does the byte end the text?
 fn is_quote(escaped: bool, byte: u8) -> bool
     ensures { result ≡ is_quote_in escaped byte }
 {
     !escaped && byte == b'"'
 }
 
+/// Is the byte after this one escaped?
 fn escapes(escaped: bool, byte: u8) -> bool
     ensures { result ≡ escapes_in escaped byte }
 {

@@ -44,6 +44,7 @@ pub enum Statement<'a> {
 
 // ---- operands
 
+/// A register.
 fn register_operand(name: &[u8]) -> Result<u8, Rule>
     ensures register { result ≡ register_in name.now }
     ensures fits { IfOk result IsRegister }
@@ -51,6 +52,7 @@ fn register_operand(name: &[u8]) -> Result<u8, Rule>
     register(name).ok_or(Rule::BadForm)
 }
 
+/// A label that the statement goes to or loads.
 fn target_operand(name: &[u8]) -> Result<&[u8], Rule>
     ensures { at_one result ≡ target_in name.now }
 {
