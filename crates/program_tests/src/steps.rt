@@ -105,9 +105,7 @@ fn each_call_answers(rt: HostRuntime) -> Result<(), Fail> {
 fn a_closing_process_shuts_its_ends_and_then_exits(rt: HostRuntime) -> Result<(), Fail> {
     let alloc = rt.alloc();
     let mut p = calling(alloc, 0, 0, 0, 1)?;
-    for end in [3u8, 31] {
-        link(&mut p.small, end);
-    }
+    p.small = linked(&p.small);
     assert!(rt; matches!(step(alloc, &mut p)?, Step::Silent));
     for end in [3u8, 31] {
         match step(alloc, &mut p)? {
@@ -126,12 +124,26 @@ fn a_closing_process_shuts_its_ends_and_then_exits(rt: HostRuntime) -> Result<()
     Ok(())
 }
 
-fn link(small: &mut Small, end: u8)
-    requires { end < 32 }
-{
-    small.ends[end as usize] = EndState::Linked {
+// Root 0 as it would be with ends 3 and 31 linked to another process.
+fn linked(small: &Small) -> Small {
+    let peer = EndState::Linked {
         peer: Pid(17),
         far: 5,
         finished: false,
     };
+    let mut ends = [EndState::Never; 32];
+    ends[3] = peer;
+    ends[31] = peer;
+    Small {
+        pid: Pid(16),
+        regs: small.regs.copy(),
+        ends,
+        handler: 0,
+        frame: None,
+        left: 1000,
+        steps: 0,
+        births: 0,
+        status: Status::Live,
+        pages: 1,
+    }
 }
