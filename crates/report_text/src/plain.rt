@@ -6,10 +6,10 @@ ghost use Rattle.sys_calls.specs.Next.{next_step, has_step};
 ghost use Rattle.plain_kernel.specs.Kernel.{process_at, tty_at};
 ghost use Rattle.report_text.specs.Report.{plain_report as plain_report_of, tty_part, pid_part, ttys_report, pids_report, status_text, end_text};
 
-use sys_calls::stepping::can_step;
 use plain_kernel::plain::Plain;
 use proc_state::process::Process;
 use std::alloc::{AllocError, Global};
+use sys_calls::stepping::can_step;
 use t32_base::lists::{Bytes, Text};
 use t32_base::process::{End, Pid, Status};
 use t32_base::streams::NoMemory;

@@ -6,14 +6,14 @@ use Rattle.rv_cpu.specs.declared.Did.TheVariants.{Stepped, Call, Trap}
 use Rattle.rv_mem.specs.Marks.{Memory}
 use Rattle.t32_base.specs.Registers.{Registers}
 use Rattle.t32_base.specs.Small.{SmallState}
-use Rattle.rv_cpu.specs.Exec.{Executed, Steps, Calls, Traps, did_of, bytes_after, exec, exec_marks, reg, fetched, exec_fetched, exec_decoded, executed, marks_fetched, marks_decoded, marks_after}
+use Rattle.rv_cpu.specs.Exec.{Executed, Steps, Calls, Traps, did_of, bytes_after, exec, exec_marks, reg, fetched, exec_fetched, exec_decoded, marks_fetched, marks_decoded, marks_after}
 use Rattle.t32_base.specs.declared.streams.NoMemory.{NoMemory}
 use Rattle.proc_state.specs.declared.process.Process.{Process}
 use Rattle.proc_state.specs.State.{ProcState, state_of, with_small}
 use Rattle.sys_calls.specs.declared.steps.Step.{Step}
 use Rattle.sys_calls.specs.Steps.{Makes, Marks, Touches}
 use Rattle.sys_calls.specs.Small.{spent, small_after}
-use Rattle.sys_calls.specs.Calls.{Next, Silent, called, call_of}
+use Rattle.sys_calls.specs.Calls.{Silent, called, call_of}
 use Rattle.sys_calls.specs.Next.{after_exec, live_step, marks_live}
 
 -- what a process is after an instruction that is no system call

@@ -1,15 +1,13 @@
 -- Instructions that step are silent steps.
-use Rattle.std.proofs.Common.{◌≡◌, ℕ, zero, suc, ◌+◌, ◌-◌, ◌<◌, ◌≤◌, Bool, false, List, Option, Some, None, refl, sym, ap, ◌∙◌, subst, eqb, arith, option_map, option_and_then, unwrap_or}
+use Rattle.std.proofs.Common.{◌≡◌, ℕ, zero, suc, ◌+◌, ◌-◌, ◌≤◌, Bool, false, List, Option, Some, None, refl, sym, ap, ◌∙◌, eqb, arith, option_map, option_and_then, unwrap_or}
 use Rattle.std.proofs.lemmas.Bool.Decides.{nat_tests}
 use Rattle.t32_base.specs.declared.process.Status.{Status}
 use Rattle.t32_base.specs.declared.process.Status.TheVariants.{Live}
 use Rattle.t32_base.specs.Registers.{Registers}
-use Rattle.t32_base.specs.Small.{SmallState}
 use Rattle.rv_cpu.specs.Exec.{Executed, Steps, Calls, Traps, exec, exec_marks}
 use Rattle.rv_cpu.specs.Run.{Machine, stepped, one, ran}
 use Rattle.proc_state.specs.State.{ProcState, with_small}
 use Rattle.sys_calls.specs.Small.{spent, after_instructions}
-use Rattle.sys_calls.specs.Calls.{Silent}
 use Rattle.sys_calls.specs.Next.{Marked, next_step, step_by, live_step, after_exec, silent_of, silent_step, silently, silently_marked, step_marks, marks_by, marks_live}
 
 some_same : {X : Type 0} → (x y : X) → Some x ≡ Some y → x ≡ y
@@ -53,6 +51,7 @@ one_more n p m m' live some steps =
   where
     after_status : Status → Option Marked
     after_status s = option_map (λ q. record { state = q; marks = marks_by s (moved n p m) m.dirty }) (silent_of (step_by s (moved n p m)))
+
     after_left : Bool → Option Marked
     after_left b = option_map (λ q. record { state = q; marks = marks_live b (moved n p m) m.dirty }) (silent_of (live_step b (moved n p m)))
 

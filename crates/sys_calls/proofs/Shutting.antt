@@ -1,5 +1,5 @@
 -- An end that is shut is one step less.
-use Rattle.std.proofs.Common.{◌≡◌, ℕ, ◌+◌, ◌<◌, ◌≤◌, ◌^◌, true, List, length, get_or, arith, ap, ◌∙◌, cond, add-zero, Option, Some}
+use Rattle.std.proofs.Common.{◌≡◌, ℕ, ◌+◌, ◌<◌, true, List, length, get_or, arith, ◌∙◌, cond, add-zero, Option, Some}
 use Rattle.std.specs.List.{count_by}
 use Rattle.std.specs.Prelude.{slice_set, IfSome}
 use Rattle.std.proofs.lemmas.List.Sums.{sum_by-set}

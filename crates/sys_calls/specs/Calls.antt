@@ -1,13 +1,11 @@
 -- The system calls that are built: their numbers, what each checks, in this order, and what each does.
-use Rattle.std.specs.Prelude.{ℕ, ◌+◌, ◌-◌, ◌%◌, ◌^◌, Bool, true, false, not, ◌==◌, nat_lt, if◌then◌else◌, List, slice_get, Option, Some, None, option_and_then}
-use Rattle.t32_base.specs.declared.process.Pid.{Pid}
+use Rattle.std.specs.Prelude.{ℕ, ◌+◌, ◌-◌, ◌%◌, ◌^◌, not, ◌==◌, nat_lt, if◌then◌else◌, slice_get, Option, Some, None, option_and_then}
 use Rattle.t32_base.specs.declared.process.End.TheVariants.{Exit}
 use Rattle.t32_base.specs.declared.process.Status.TheVariants.{Closing}
 use Rattle.t32_base.specs.declared.letter.Letter.{Letter}
 use Rattle.t32_base.specs.declared.letter.Body.{Body}
 use Rattle.t32_base.specs.declared.letter.Body.TheVariants.{Said}
 use Rattle.t32_base.specs.declared.letter.To.{To}
-use Rattle.t32_base.specs.Small.{SmallState}
 use Rattle.rv_mem.specs.Memory.{is_inside, bytes_at}
 use Rattle.rv_cpu.specs.Exec.{reg, onward}
 use Rattle.proc_state.specs.Ends.{leads_to}

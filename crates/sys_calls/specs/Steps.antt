@@ -1,10 +1,9 @@
 -- What the call `step` answers, by the next step of its process.
-use Rattle.std.specs.Prelude.{ℕ, ◌≡◌, ◌+◌, ◌≤◌, List, Bool, Result, Ok, Err}
+use Rattle.std.specs.Prelude.{◌≡◌, ◌+◌, ◌≤◌, List, Bool, Result, Ok, Err}
 use Rattle.t32_base.specs.Small.{SmallState}
 use Rattle.t32_base.specs.declared.streams.NoMemory.{NoMemory}
 use Rattle.proc_state.specs.declared.process.Process.{Process}
 use Rattle.proc_state.specs.State.{ProcState, state_of}
-use Rattle.sys_calls.specs.declared.steps.Emission.{Emission}
 use Rattle.sys_calls.specs.declared.steps.Step.{Step}
 use Rattle.sys_calls.specs.declared.steps.Step.TheVariants.{Silent as WasSilent, Blocked as WasBlocked, Forks as WouldFork, Emit, Over as WasOver}
 use Rattle.sys_calls.specs.Small.{weight}

@@ -19,7 +19,9 @@ use t32_base::streams::NoMemory;
 
 // The numbers of the errors.
 const BAD_END: u32 = 9;
+
 const BAD_ADDRESS: u32 = 14;
+
 const BAD_ARGUMENT: u32 = 22;
 
 /// The most bytes of one letter.

@@ -12,9 +12,9 @@ use crate::small::{at_most, close, finish, is_live, is_spent_up, run_out, shut_l
 use crate::steps::{Emission, Step};
 use proc_state::process::Process;
 use rv_cpu::{Did, exec, run};
+use rv_mem::Ram;
 use std::alloc::Global;
 use t32_base::letter::{Body, Letter};
-use rv_mem::Ram;
 use t32_base::process::{End, Small, Status};
 use t32_base::streams::NoMemory;
 

@@ -1,6 +1,5 @@
-use Rattle.std.proofs.Common.{◌≡◌, ◌++◌, map, take}
+use Rattle.std.proofs.Common.{◌≡◌, ◌++◌, take}
 use Rattle.report_text.specs.Report.{pids_report}
-use Rattle.plain_kernel.specs.Kernel.{Kernel}
 use Rattle.report_text.proofs.plain.put_pids.Given as goal
 
 abbrev pub invariant-loop-pid : goal.invariant-loop-pid
