@@ -1,9 +1,6 @@
 -- A fact of each element of a list, by its place.
-use Rattle.std.proofs.Common.{◌≡◌, ℕ, ◌<◌, true, List, [], ◌∷◌, ◌++◌, length, get_or, Result, Ok, Err, OnOk, is_ok, ap, sym, subst, ◌∙◌, arith, length-append}
-use Rattle.std.proofs.Math.ListN.{get_or-append}
+use Rattle.std.proofs.Common.{◌≡◌, ℕ, ◌<◌, true, List, [], ◌∷◌, ◌++◌, length, get_or, Result, Ok, Err, OnOk, is_ok, subst, arith, length-append}
 use Rattle.std.proofs.Math.Seq.{get_or-append_seam}
-use mathlib.Core.Logic.{dite}
-use native.Mathlib.Decide.{ℕ_discrete}
 
 -- Each element has the fact, with its place.
 abbrev pub Each : {A : Type 0} → (ℕ → A → Type 0) → List A → Type 0

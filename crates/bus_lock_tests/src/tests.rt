@@ -1,3 +1,4 @@
+//! Threads that really run: they lose no note, and wake each other.
 ghost use Rattle.std.specs.Prelude.{◌≡◌, ◌<◌, [], false, IfOk};
 ghost use Rattle.bus_lock.specs.Seats.{IsOf, added, has_entered, name, own, seen};
 
@@ -10,6 +11,7 @@ use std::test::Fail;
 use std::thread::{Threads, join};
 use t32_base::streams::NoMemory;
 
+// How many notes of this writer have the values 0, 1, 2 and so on, in order.
 fn values_of(notes: &Notes, by: u64) -> u64 {
     let mut next = 0;
     for note in &notes.notes {
@@ -38,23 +40,23 @@ fn two_threads_lose_nothing(rt: HostRuntime) -> Result<(), Fail> {
 
 #[test]
 fn many_threads_lose_nothing(rt: HostRuntime) -> Result<(), Fail> {
-    for threads in [1, 3, 5] {
-        let notes = append_all(&rt, rt.alloc(), threads, &[0, 1, 2, 3])
+    let mut values = Vec::new(rt.alloc());
+    for value in 0..250 {
+        values.push(value)?;
+    }
+    for threads in [1u32, 2, 4] {
+        let notes = append_each(&rt, rt.alloc(), threads, &values)
             .ok()
             .ok_or("memory")?;
-        assert_eq!(rt; notes.length(), threads as u64 * 4);
-        let others = append_each(&rt, rt.alloc(), threads, &[0, 1, 2, 3])
-            .ok()
-            .ok_or("memory")?;
-        assert_eq!(rt; others.length(), threads as u64 * 4);
+        assert_eq!(rt; notes.length(), threads as u64 * 250);
         for by in 0..threads {
-            assert_eq!(rt; values_of(&notes, by as u64), 4);
-            assert_eq!(rt; values_of(&others, by as u64), 4);
+            assert_eq!(rt; values_of(&notes, by as u64), 250);
         }
     }
     Ok(())
 }
 
+// What a waiter found, with its seat.
 fn watched<R: Wait>(
     rt: &R,
     lock: &LogLock<Notes>,

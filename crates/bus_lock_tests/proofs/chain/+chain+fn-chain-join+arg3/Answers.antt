@@ -1,6 +1,6 @@
-use Rattle.std.proofs.Common.{rules, ◌≡◌, ℕ, suc, ◌∷◌, [], length, map, ap, sym, ◌∙◌, vec_len}
+use Rattle.std.proofs.Common.{rules, ◌≡◌, ℕ, suc, ◌∷◌, [], length, map, ap, sym, subst, ◌∙◌, vec_len}
 use Rattle.bus_lock.specs.Seats.{own, added}
-use Rattle.bus_lock_tests.specs.Written.{note, written_by}
+use Rattle.bus_lock_tests.specs.Written.{HasAll, note, written_by}
 use Rattle.bus_lock_tests.proofs.Each.{on_ok}
 use Rattle.bus_lock_tests.proofs.Written.{written_all}
 use Rattle.bus_lock_tests.proofs.Joining.{first_one, one_more, last_fresh}
@@ -24,5 +24,6 @@ returns-clause-all g t c = λ h.
     let same : vec_len c.pop.new.self ≡ c.len.result = search rules in
     let next : suc (vec_len c.pop.new.self) ≡ vec_len c.args.seats = search rules in
     let done = on_ok c.join-seat.result.0.1 ((own c.join-seat.result.0.0 ≡ map (note c.len.result) c.args.values.now) × (added c.join-seat.result.0.0 ≡ length c.args.values.now)) (sym c.if-not-is_ok.ensures.value) a.3 in
-    one_more c.args.lock.now c.args.values.now _ c.len.result c.join-seat.result.1.0 c.join.new.seat c.join-seat.result.0.0 (b.2 h) (a.2 ∙ (last.alone ∙ ap (λ (k : ℕ). k ∷ []) here))
-        (a.4 ∙ (ap (written_by c.len.result) done.0 ∙ written_all c.len.result c.args.values.now)) done.1 (ap suc (sym same) ∙ next) c.join.ensures.of c.join.ensures.joined
+    let all = subst (λ (n : ℕ). HasAll c.args.lock.now c.args.values.now n c.join-seat.result.1.0) same (b.2 h) in
+    one_more c.args.lock.now c.args.values.now _ c.len.result c.join-seat.result.1.0 c.join.new.seat c.join-seat.result.0.0 all (a.2 ∙ (last.alone ∙ ap (λ (k : ℕ). k ∷ []) here))
+    (a.4 ∙ (ap (written_by c.len.result) done.0 ∙ written_all c.len.result c.args.values.now)) done.1 (ap suc (sym same) ∙ next) c.join.ensures.of c.join.ensures.joined
