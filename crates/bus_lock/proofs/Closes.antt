@@ -11,21 +11,21 @@ use Rattle.bus_lock.specs.Rule.{Fits, Free, Taken, Kept}
 use Rattle.bus_lock.proofs.Views.{all_one, not_true}
 use Rattle.bus_lock.proofs.Takes.{shown}
 
-module _ {Value Entry Origin : Type 0} (list_of : Value → List Entry) (origin_of : Value → Origin) (author : Entry → Option ℕ) (seats : ℕ) (o : Origin) where
+module _ {Value Entry Origin : Type 0} (list_of : Value → List Entry) (origin_of : Value → Origin) (author : Entry → Option ℕ) (seats : ℕ) (made_from : Origin) where
   abbrev Table : Type 0
   Table = State (Option Value) (View Entry Origin)
 
   abbrev Rule : State (Option Value) (View Entry Origin) → Type 0
-  Rule = Kept list_of origin_of author seats o
+  Rule = Kept list_of origin_of author seats made_from
 
   abbrev Fit : List Entry → View Entry Origin → Type 0
-  Fit = Fits list_of origin_of author seats o
+  Fit = Fits list_of origin_of author seats made_from
 
   abbrev IsFree : List Entry → State (Option Value) (View Entry Origin) → Type 0
-  IsFree = Free list_of origin_of author seats o
+  IsFree = Free list_of origin_of author seats made_from
 
   abbrev IsTaken : List Entry → State (Option Value) (View Entry Origin) → Type 0
-  IsTaken = Taken list_of origin_of author seats o
+  IsTaken = Taken list_of origin_of author seats made_from
 
   -- A seat with every number that is not inside finds the value at home.
   pub closes : (table : Table) (rule : Rule table) (id : ℕ) (view : View Entry Origin) → get_elem? table.views id ≡ some view → view.inside ≡ false → ((k : ℕ) → k < seats → Holds k view.numbers) → IsFree rule.log table
@@ -52,19 +52,19 @@ module _ {Value Entry Origin : Type 0} (list_of : Value → List Entry) (origin_
     pub known : (k : ℕ) → k < seats → entries_by author k (list_of value) ≡ entries_by author k view.seen
     pub all : length (list_of value) ≡ view.added
 
-  pub finds : (words : List ℕ) (xs : List (Option Value)) (p q : Seat (Option Value) (View Entry Origin)) (slot : Option Value) → p ≡ q → Final (Seen (Kept list_of origin_of author seats o) p.id p.me.0) words xs
+  pub finds : (words : List ℕ) (xs : List (Option Value)) (p q : Seat (Option Value) (View Entry Origin)) (slot : Option Value) → p ≡ q → Final (Seen (Kept list_of origin_of author seats made_from) p.id p.me.0) words xs
       → q.me.0.live ≡ true → q.me.0.inside ≡ false → ((k : ℕ) → k < seats → Holds k q.me.0.numbers) → get_elem? xs 0 ≡ some slot → Found q.me.0 slot
   finds words xs p q slot e f live out all at =
       let view : View Entry Origin = q.me.0 in
-      let g : Final (Seen (Kept list_of origin_of author seats o) q.id q.me.0) words xs = subst (λ (x : Seat (Option Value) (View Entry Origin)). Final (Seen (Kept list_of origin_of author seats o) x.id x.me.0) words xs) e f in
+      let g : Final (Seen (Kept list_of origin_of author seats made_from) q.id q.me.0) words xs = subst (λ (x : Seat (Option Value) (View Entry Origin)). Final (Seen (Kept list_of origin_of author seats made_from) x.id x.me.0) words xs) e f in
       let table = g.0 in
-      let rule : Kept list_of origin_of author seats o table = g.1.0 in
-      let free : Free list_of origin_of author seats o rule.log table = closes table rule q.id view g.1.1 out all in
-      let fit : Fits list_of origin_of author seats o rule.log view = rule.each q.id view g.1.1 live in
+      let rule : Kept list_of origin_of author seats made_from table = g.1.0 in
+      let free : Free list_of origin_of author seats made_from rule.log table = closes table rule q.id view g.1.1 out all in
+      let fit : Fits list_of origin_of author seats made_from rule.log view = rule.each q.id view g.1.1 live in
       record {
         value = free.value;
         is = some-injective slot (Some free.value) (sym at ∙ g.4 0 (Some free.value) free.home);
-        shows = shown list_of origin_of author seats o rule.log view free.value free.list free.origin fit;
+        shows = shown list_of origin_of author seats made_from rule.log view free.value free.list free.origin fit;
         known = λ k l. ap (entries_by author k) free.list ∙ fit.known k (all k l);
         all = ap length free.list ∙ added_all table rule q.id view g.1.1 all;
       }
@@ -75,7 +75,7 @@ module _ {Value Entry Origin : Type 0} (list_of : Value → List Entry) (origin_
     pub known : (k : ℕ) → k < seats → entries_by author k (list_of value) ≡ entries_by author k view.seen
     pub all : length (list_of value) ≡ view.added
 
-  pub finds_value : (words : List ℕ) (xs : List (Option Value)) (p q : Seat (Option Value) (View Entry Origin)) (slot : Option Value) (value : Value) → p ≡ q → Final (Seen (Kept list_of origin_of author seats o) p.id p.me.0) words xs
+  pub finds_value : (words : List ℕ) (xs : List (Option Value)) (p q : Seat (Option Value) (View Entry Origin)) (slot : Option Value) (value : Value) → p ≡ q → Final (Seen (Kept list_of origin_of author seats made_from) p.id p.me.0) words xs
       → q.me.0.live ≡ true → q.me.0.inside ≡ false → ((k : ℕ) → k < seats → Holds k q.me.0.numbers) → get_elem? xs 0 ≡ some slot → slot ≡ Some value → Shown q.me.0 value
   finds_value words xs p q slot value e f live out all at is =
       let found : Found q.me.0 slot = finds words xs p q slot e f live out all at in

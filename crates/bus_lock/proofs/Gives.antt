@@ -11,7 +11,7 @@ use Rattle.bus_lock.specs.Steps.{gives_turn}
 use Rattle.bus_lock.proofs.Views.{each_set, apart_set, all_same, spent_set, not_true}
 use Rattle.bus_lock.proofs.Turns.{turn_of}
 
-module _ {Value Entry Origin : Type 0} (list_of : Value → List Entry) (origin_of : Value → Origin) (author : Entry → Option ℕ) (seats : ℕ) (o : Origin) where
+module _ {Value Entry Origin : Type 0} (list_of : Value → List Entry) (origin_of : Value → Origin) (author : Entry → Option ℕ) (seats : ℕ) (made_from : Origin) where
   abbrev Table : Type 0
   Table = State (Option Value) (View Entry Origin)
 
@@ -19,10 +19,10 @@ module _ {Value Entry Origin : Type 0} (list_of : Value → List Entry) (origin_
   Place = Me (Option Value) (View Entry Origin)
 
   abbrev Rule : State (Option Value) (View Entry Origin) → Type 0
-  Rule = Kept list_of origin_of author seats o
+  Rule = Kept list_of origin_of author seats made_from
 
   abbrev Fit : List Entry → View Entry Origin → Type 0
-  Fit = Fits list_of origin_of author seats o
+  Fit = Fits list_of origin_of author seats made_from
 
   gone_fits : (log : List Entry) (view : View Entry Origin) → Fit log view → Fit log (gone view)
   gone_fits log view f = record {
@@ -41,7 +41,7 @@ module _ {Value Entry Origin : Type 0} (list_of : Value → List Entry) (origin_
   gave : (table : Table) (rule : Rule table) (id : ℕ) (view : View Entry Origin) (value : Value) → get_elem? table.views id ≡ some view → view.live ≡ true → view.inside ≡ true → list_of value ≡ view.seen → view.origin ≡ Some (origin_of value)
       → Rule record { words = set table.words 0 0; homes = set table.homes 0 (some (Some value)); views = set table.views id (gone view) }
   gave table rule id view value at live inside list origin =
-      let t = turn_of list_of origin_of author seats o table rule id view at inside in
+      let t = turn_of list_of origin_of author seats made_from table rule id view at inside in
       let w : View Entry Origin = gone view in
       let fit : Fit rule.log view = rule.each id view at live in
       let wide = rule.words in

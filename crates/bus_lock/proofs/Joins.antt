@@ -51,12 +51,12 @@ module _ {Entry Origin : Type 0} where
       j b ej nij hb)
       i a ei j b ej nij k ha hb
 
-module _ {Value Entry Origin : Type 0} (list_of : Value → List Entry) (origin_of : Value → Origin) (author : Entry → Option ℕ) (seats : ℕ) (o : Origin) where
+module _ {Value Entry Origin : Type 0} (list_of : Value → List Entry) (origin_of : Value → Origin) (author : Entry → Option ℕ) (seats : ℕ) (made_from : Origin) where
   abbrev Rule : State (Option Value) (View Entry Origin) → Type 0
-  Rule = Kept list_of origin_of author seats o
+  Rule = Kept list_of origin_of author seats made_from
 
   abbrev Fit : List Entry → View Entry Origin → Type 0
-  Fit = Fits list_of origin_of author seats o
+  Fit = Fits list_of origin_of author seats made_from
 
   -- What two views know together.
   both_fit : (log : List Entry) (view u : View Entry Origin) → Fit log view → Fit log u → Fit log (joined view u)
@@ -91,7 +91,7 @@ module _ {Value Entry Origin : Type 0} (list_of : Value → List Entry) (origin_
         words = rule.words;
         slots = rule.slots;
         count = rule.count;
-        turn = turn_apart list_of origin_of author seats o rule.log table.words table.homes views other u spent_view there out' refl (turn_apart list_of origin_of author seats o rule.log table.words table.homes table.views id view w at out out rule.turn);
+        turn = turn_apart list_of origin_of author seats made_from rule.log table.words table.homes views other u spent_view there out' refl (turn_apart list_of origin_of author seats made_from rule.log table.words table.homes table.views id view w at out out rule.turn);
         each = each_set (λ _ a. a.live ≡ true → Fit rule.log a) views other spent_view (λ l. absurd cc)
             (λ i a _ e. each_set (λ _ b. b.live ≡ true → Fit rule.log b) table.views id w (λ _. fits) (λ j b _ x. rule.each j b x) i a e);
         apart = apart_join table.views id other view u at at' ne rule.apart;

@@ -73,13 +73,13 @@ pub holds_either : (k : ℕ) (xs ys : List ℕ) → Holds k (xs ++ ys) → Holds
 holds_either k [] ys h = inr h
 holds_either k (x ∷ xs) ys h = ⊎_elim (λ t. inl (inl t)) (λ t. ⊎_elim (λ u. inl (inr u)) (λ u. inr u) (holds_either k xs ys t)) h
 
-pub counted_within : (k a n : ℕ) → Holds k (numbers_from a n) → (a ≤ k) × (k < a + n)
-counted_within k a zero h = absurd h
-counted_within k a (suc n) h = ⊎_elim (λ t. (omega arith, omega arith)) (λ t. let r = counted_within k (suc a) n t in (omega arith, omega arith)) h
+pub numbers_within : (k a n : ℕ) → Holds k (numbers_from a n) → (a ≤ k) × (k < a + n)
+numbers_within k a zero h = absurd h
+numbers_within k a (suc n) h = ⊎_elim (λ t. (omega arith, omega arith)) (λ t. let r = numbers_within k (suc a) n t in (omega arith, omega arith)) h
 
-pub counted_all : (k a n : ℕ) → a ≤ k → k < a + n → Holds k (numbers_from a n)
-counted_all k a zero low high = absurd (omega arith)
-counted_all k a (suc n) low high = dite (ℕ_discrete k a) (λ e. inl e) (λ not. inr (counted_all k (suc a) n (omega arith) (omega arith)))
+pub in_numbers : (k a n : ℕ) → a ≤ k → k < a + n → Holds k (numbers_from a n)
+in_numbers k a zero low high = absurd (omega arith)
+in_numbers k a (suc n) low high = dite (ℕ_discrete k a) (λ e. inl e) (λ not. inr (in_numbers k (suc a) n (omega arith) (omega arith)))
 
 module _ {Entry : Type 0} (author : Entry → Option ℕ) where
   other_number : (name k : ℕ) (e : Entry) → k ≢ name → MayAdd author name e → is_author k (author e) ≡ false

@@ -14,7 +14,7 @@ use Rattle.bus_lock.proofs.Lists.{prefix_shorter}
 use Rattle.bus_lock.proofs.Views.{each_set, apart_set, all_same, spent_set}
 use Rattle.bus_lock.proofs.Turns.{turn_stays}
 
-module _ {Value Entry Origin : Type 0} (list_of : Value → List Entry) (origin_of : Value → Origin) (author : Entry → Option ℕ) (seats : ℕ) (o : Origin) where
+module _ {Value Entry Origin : Type 0} (list_of : Value → List Entry) (origin_of : Value → Origin) (author : Entry → Option ℕ) (seats : ℕ) (made_from : Origin) where
   abbrev Table : Type 0
   Table = State (Option Value) (View Entry Origin)
 
@@ -22,10 +22,10 @@ module _ {Value Entry Origin : Type 0} (list_of : Value → List Entry) (origin_
   Place = Me (Option Value) (View Entry Origin)
 
   abbrev Rule : State (Option Value) (View Entry Origin) → Type 0
-  Rule = Kept list_of origin_of author seats o
+  Rule = Kept list_of origin_of author seats made_from
 
   abbrev Fit : List Entry → View Entry Origin → Type 0
-  Fit = Fits list_of origin_of author seats o
+  Fit = Fits list_of origin_of author seats made_from
 
   -- The rule after a step that changed one view and left the list.
   unmoved : (table : Table) (rule : Rule table) (id : ℕ) (view w : View Entry Origin) → get_elem? table.views id ≡ some view → w.inside ≡ view.inside → w.live ≡ view.live → w.seen ≡ view.seen → w.numbers ≡ view.numbers → w.added ≡ view.added → (w.live ≡ true → Fit rule.log w)
@@ -35,7 +35,7 @@ module _ {Value Entry Origin : Type 0} (list_of : Value → List Entry) (origin_
     words = rule.words;
     slots = rule.slots;
     count = rule.count;
-    turn = turn_stays list_of origin_of author seats o rule.log table id view w table.words at inside live seen refl rule.turn;
+    turn = turn_stays list_of origin_of author seats made_from rule.log table id view w table.words at inside live seen refl rule.turn;
     each = each_set (λ _ u. u.live ≡ true → Fit rule.log u) table.views id w fits (λ i u _ e. rule.each i u e);
     apart = apart_set table.views id view w at (λ k. subst (Holds k) numbers) rule.apart;
     total = all_same table.views id view w at added ∙ rule.total;

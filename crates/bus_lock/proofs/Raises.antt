@@ -14,15 +14,15 @@ use Rattle.bus_lock.proofs.Lists.{prefix_self, prefix_trans, prefix_length, pref
 use Rattle.bus_lock.proofs.Views.{each_set, at_length, apart_set, all_set, spent_set, nothing_past}
 use Rattle.bus_lock.proofs.Turns.{turn_of}
 
-module _ {Value Entry Origin : Type 0} (list_of : Value → List Entry) (origin_of : Value → Origin) (author : Entry → Option ℕ) (seats : ℕ) (o : Origin) where
+module _ {Value Entry Origin : Type 0} (list_of : Value → List Entry) (origin_of : Value → Origin) (author : Entry → Option ℕ) (seats : ℕ) (made_from : Origin) where
   abbrev Place : Type 0
   Place = Me (Option Value) (View Entry Origin)
 
   abbrev Rule : State (Option Value) (View Entry Origin) → Type 0
-  Rule = Kept list_of origin_of author seats o
+  Rule = Kept list_of origin_of author seats made_from
 
   abbrev Fit : List Entry → View Entry Origin → Type 0
-  Fit = Fits list_of origin_of author seats o
+  Fit = Fits list_of origin_of author seats made_from
 
   -- The list grows by what its author may add.
   grows : (view : View Entry Origin) (log log' : List Entry) → view.seen ≡ log → IsPrefix view.seen log' → Fit log view → Fit log' (grown view log')
@@ -81,7 +81,7 @@ module _ {Value Entry Origin : Type 0} (list_of : Value → List Entry) (origin_
       let view : View Entry Origin = me.0 in
       let log' : List Entry = list_of value in
       let w : View Entry Origin = grown view log' in
-      let t = turn_of list_of origin_of author seats o table rule id view at inside in
+      let t = turn_of list_of origin_of author seats made_from table rule id view at inside in
       let new : List Entry = drop (length view.seen) log' in
       let split : rule.log ++ new ≡ log' = subst (λ (l : List Entry). l ++ new ≡ log') t.2 (prefix_split view.seen log' pre) in
       let fit : Fit rule.log view = rule.each id view at live in

@@ -16,7 +16,7 @@ use Rattle.bus_lock.specs.Steps.{takes_turn}
 use Rattle.bus_lock.proofs.Lists.{prefix_self, within_prefix}
 use Rattle.bus_lock.proofs.Views.{each_set, at_length, apart_set, all_same, spent_set}
 
-module _ {Value Entry Origin : Type 0} (list_of : Value → List Entry) (origin_of : Value → Origin) (author : Entry → Option ℕ) (seats : ℕ) (o : Origin) where
+module _ {Value Entry Origin : Type 0} (list_of : Value → List Entry) (origin_of : Value → Origin) (author : Entry → Option ℕ) (seats : ℕ) (made_from : Origin) where
   abbrev Table : Type 0
   Table = State (Option Value) (View Entry Origin)
 
@@ -24,16 +24,16 @@ module _ {Value Entry Origin : Type 0} (list_of : Value → List Entry) (origin_
   Place = Me (Option Value) (View Entry Origin)
 
   abbrev Rule : State (Option Value) (View Entry Origin) → Type 0
-  Rule = Kept list_of origin_of author seats o
+  Rule = Kept list_of origin_of author seats made_from
 
   abbrev Fit : List Entry → View Entry Origin → Type 0
-  Fit = Fits list_of origin_of author seats o
+  Fit = Fits list_of origin_of author seats made_from
 
   abbrev IsFree : List Entry → State (Option Value) (View Entry Origin) → Type 0
-  IsFree = Free list_of origin_of author seats o
+  IsFree = Free list_of origin_of author seats made_from
 
   abbrev IsTaken : List Entry → State (Option Value) (View Entry Origin) → Type 0
-  IsTaken = Taken list_of origin_of author seats o
+  IsTaken = Taken list_of origin_of author seats made_from
 
   -- The turn is taken.
   sees_all : (log : List Entry) (view : View Entry Origin) → Fit log view → Fit log (entered view log)
@@ -50,7 +50,7 @@ module _ {Value Entry Origin : Type 0} (list_of : Value → List Entry) (origin_
     from = f.from;
   }
 
-  pub shown : (log : List Entry) (view : View Entry Origin) (value : Value) → list_of value ≡ log → origin_of value ≡ o → Fit log view → Shows list_of origin_of author view value
+  pub shown : (log : List Entry) (view : View Entry Origin) (value : Value) → list_of value ≡ log → origin_of value ≡ made_from → Fit log view → Shows list_of origin_of author view value
   shown log view value e is f = record {
     begins = subst (IsPrefix view.seen) (sym e) f.seen;
     told = subst (λ (l : List Entry). view.told ≤ length l) (sym e) f.told;

@@ -10,18 +10,18 @@ use Rattle.bus_lock.specs.declared.view.View.{View}
 use Rattle.bus_lock.specs.Rule.{Free, Taken, Kept}
 use Rattle.bus_lock.proofs.Views.{each_set, at_length, each_end, at_end}
 
-module _ {Value Entry Origin : Type 0} (list_of : Value → List Entry) (origin_of : Value → Origin) (author : Entry → Option ℕ) (seats : ℕ) (o : Origin) where
+module _ {Value Entry Origin : Type 0} (list_of : Value → List Entry) (origin_of : Value → Origin) (author : Entry → Option ℕ) (seats : ℕ) (made_from : Origin) where
   abbrev Table : Type 0
   Table = State (Option Value) (View Entry Origin)
 
   abbrev Rule : State (Option Value) (View Entry Origin) → Type 0
-  Rule = Kept list_of origin_of author seats o
+  Rule = Kept list_of origin_of author seats made_from
 
   abbrev IsFree : List Entry → State (Option Value) (View Entry Origin) → Type 0
-  IsFree = Free list_of origin_of author seats o
+  IsFree = Free list_of origin_of author seats made_from
 
   abbrev IsTaken : List Entry → State (Option Value) (View Entry Origin) → Type 0
-  IsTaken = Taken list_of origin_of author seats o
+  IsTaken = Taken list_of origin_of author seats made_from
 
   -- Whose turn it is, after a view changed that is inside as before and has seen the same.
   pub turn_stays : (log : List Entry) (table : Table) (id : ℕ) (view w : View Entry Origin) (words : List ℕ) → get_elem? table.views id ≡ some view → w.inside ≡ view.inside → w.live ≡ view.live → w.seen ≡ view.seen → get_or words 0 0 ≡ get_or table.words 0 0

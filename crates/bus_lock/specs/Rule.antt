@@ -20,7 +20,7 @@ pub record Stands {Entry : Type 0} (author : Entry → Option ℕ) (log : List E
   pub fewer : (number : ℕ) → Holds number past.numbers → Holds number numbers
   pub known : (number : ℕ) → Holds number past.numbers → entries_by author number log ≡ entries_by author number past.seen
 
-module _ {Value Entry Origin : Type 0} (list_of : Value → List Entry) (origin_of : Value → Origin) (author : Entry → Option ℕ) (seats : ℕ) (o : Origin) where
+module _ {Value Entry Origin : Type 0} (list_of : Value → List Entry) (origin_of : Value → Origin) (author : Entry → Option ℕ) (seats : ℕ) (made_from : Origin) where
   -- What a live view says of the list.
   pub record Fits (log : List Entry) (view : View Entry Origin) : Type 0 where
     pub seen : IsPrefix view.seen log
@@ -32,7 +32,7 @@ module _ {Value Entry Origin : Type 0} (list_of : Value → List Entry) (origin_
     pub known : (number : ℕ) → Holds number view.numbers → entries_by author number log ≡ entries_by author number view.seen
     pub mine : entries_by author view.name log ≡ entries_by author view.name view.own
     pub own : IsWithin view.own view.seen
-    pub from : view.origin ≡ Some o
+    pub from : view.origin ≡ Some made_from
 
   -- No seat has the turn, and the slot has a value that stands for the list.
   pub record Free (log : List Entry) (table : State (Option Value) (View Entry Origin)) : Type 0 where
@@ -40,7 +40,7 @@ module _ {Value Entry Origin : Type 0} (list_of : Value → List Entry) (origin_
     pub zero : slice_index table.words 0 ≡ 0
     pub home : get_elem? table.homes 0 ≡ some (some (Some value))
     pub list : list_of value ≡ log
-    pub origin : origin_of value ≡ o
+    pub origin : origin_of value ≡ made_from
     pub nobody : (place : ℕ) (view : View Entry Origin) → get_elem? table.views place ≡ some view → view.inside ≡ false
 
   -- One seat has the turn, and has seen the whole list.

@@ -9,7 +9,7 @@ mod value;
 mod view;
 
 pub use lock::LogLock;
-pub use rule::{OneList, Place, Terms};
+pub use rule::{OneList, Terms};
 pub use seat::LogSeat;
 pub use value::LogValue;
 pub use view::{Past, View};

@@ -8,7 +8,7 @@ use Rattle.bus_lock.specs.declared.seat.LogSeat.{LogSeat}
 use Rattle.bus_lock.specs.Lists.{Holds, numbers_from}
 use Rattle.bus_lock.specs.Views.{Joined}
 use Rattle.bus_lock.specs.Seats.{IsOf, IsFresh, AllFresh, view_of}
-use Rattle.bus_lock.proofs.Lists.{counted_all}
+use Rattle.bus_lock.proofs.Lists.{in_numbers}
 use Rattle.bus_lock_tests.specs.contracts.notes.NotesLogValue.TheImpl.{ghosts}
 use Rattle.bus_lock_tests.specs.declared.notes.Note.{Note}
 use Rattle.bus_lock_tests.specs.declared.notes.Notes.{Notes}
@@ -41,7 +41,7 @@ one_more lock values count writer all both seat has alone written added next of 
       numbers = numbers;
       written = λ k l. dite (ℕ_discrete k writer)
           (λ (e : k ≡ writer). subst (λ (x : ℕ). written_by x ((view_of both).seen) ≡ map (note x) values) (sym e) (j.second_known writer (subst (Holds writer) (sym alone) (inl refl)) ∙ written))
-          (λ ne. j.first_known k (subst (Holds k) (sym has.numbers) (counted_all k 0 writer (omega arith) (omega arith))) ∙ has.written k (omega arith));
+          (λ ne. j.first_known k (subst (Holds k) (sym has.numbers) (in_numbers k 0 writer (omega arith) (omega arith))) ∙ has.written k (omega arith));
       all = j.added ∙ ((λ i. has.all i + added i) ∙ (sym (suc-mul writer (length values)) ∙ ap (λ (x : ℕ). x * length values) next));
     }
 
