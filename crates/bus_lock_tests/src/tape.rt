@@ -45,7 +45,8 @@ impl Tape {
 
     /// The first digit, if there is one.
     pub fn first(&self) -> Option<u64>
-        ensures { IfSome result (λ x. (x < 10) × (slice_get self.now 0 ≡ Some x)) }
+        ensures value { result ≡ slice_get self.now 0 }
+        ensures digit { IfSome result (λ x. x < 10) }
     {
         if self.digits.is_empty() {
             None

@@ -10,7 +10,8 @@ use std::sync::Wait;
 pub fn first_digit<R: Wait>(rt: &R, lock: &LogLock<Tape>, seat: &mut LogSeat<Tape>) -> Option<u64>
     requires { IsOf lock.now seat.old × (has_entered seat.old ≡ false) }
     ensures seat { IsOf lock.now seat.new × (has_entered seat.new ≡ false) }
-    ensures digit { IfSome result (λ x. (x < 10) × (slice_get (seen seat.new) 0 ≡ Some x)) }
+    ensures value { result ≡ slice_get (seen seat.new) 0 }
+    ensures digit { IfSome result (λ x. x < 10) }
 {
     let tape = lock.enter(rt, seat);
     let first = tape.first();
