@@ -1,24 +1,23 @@
 -- One step of a process, and the delivery of its letter.
-use Rattle.std.proofs.Common.{◌≡◌, ℕ, ◌+◌, ◌*◌, ◌<◌, ◌≤◌, Bool, true, false, cond, List, [], ◌∷◌, map, refl, sym, ap, ◌∙◌, subst, arith, Option, Some, None, IsSome, is_some, Result, Ok, Err, option_map, option_and_then}
+use Rattle.std.proofs.Common.{◌≡◌, ℕ, ◌+◌, ◌≤◌, Bool, true, false, cond, List, map, refl, sym, ap, ◌∙◌, subst, arith, Some, None, IsSome, Result, Ok, Err, option_map}
 use Rattle.std.specs.Prelude.{OnOk, OnErr}
-use Rattle.std.specs.Ordering.{nat_cmp}
-use Rattle.std.specs.Map.{lookup, set_value}
+use Rattle.std.specs.Map.{lookup}
 use Rattle.std.specs.FinMap.{find, put}
 use Rattle.t32_base.specs.Small.{SmallState}
 use Rattle.t32_base.specs.declared.letter.Letter.{Letter}
 use Rattle.t32_base.specs.declared.process.End.{End}
 use Rattle.t32_base.specs.declared.streams.NoMemory.{NoMemory}
 use Rattle.proc_state.specs.declared.process.Process.{Process}
-use Rattle.proc_state.specs.State.{ProcState, state_of, delivered, has_ended}
+use Rattle.proc_state.specs.State.{state_of, delivered, has_ended}
 use Rattle.sys_calls.specs.declared.steps.Emission.TheVariants.{Mail, Exit}
 use Rattle.sys_calls.specs.declared.steps.Step.{Step}
 use Rattle.sys_calls.specs.declared.steps.Step.TheVariants.{Silent as WasSilent, Blocked as WasBlocked, Forks as WouldFork, Emit, Over as WasOver}
-use Rattle.sys_calls.specs.Calls.{Next, Silent, Blocked, Forks, Emits, Over}
+use Rattle.sys_calls.specs.Calls.{Next, Blocked, Forks, Over}
 use Rattle.sys_calls.specs.Next.{next_step}
-use Rattle.plain_kernel.specs.Kernel.{Kernel, pid_cmp, deliver, letter_put, with_process, emitted}
+use Rattle.plain_kernel.specs.Kernel.{pid_cmp, deliver, letter_put, with_process}
 use Rattle.plain_kernel.specs.Apply.{after_step, one_step}
 use Rattle.plain_kernel.specs.Maps.{at_key, pid_of, processes_of, kernel_of, load, total_load, Changes, StepsAt, Restores, Advances, Alone, Receives}
-use Rattle.plain_kernel.proofs.Entries.{some_same, written_same, put_state, lookup_state, there_before, there_after, found_after, ordered_after, put_after, state_before, load_after, changes_again, changed_back, same_keys}
+use Rattle.plain_kernel.proofs.Entries.{some_same, written_same, put_state, lookup_state, there_before, there_after, found_after, put_after, state_before, load_after, changes_again, changed_back, same_keys}
 
 -- ---- a letter to a process
 
@@ -65,20 +64,24 @@ keys_stay : (ps qs : List (ℕ × Process)) (pid : ℕ) (was now : Process) → 
 keys_stay ps qs pid was now c = ap (map (λ (e : ℕ × Process). e.0)) c.entries ∙ same_keys (at_key pid) ps now
 
 pub stepped_silent : (ps qs : List (ℕ × Process)) (ts : List (ℕ × List ℕ)) (pid : ℕ) → StepsAt ps qs pid (Ok WasSilent) → Advances pid ps qs ts ts × Alone pid ps qs
-stepped_silent ps qs ts pid s =
-    (record {
-      one = by_next ps qs ts pid s.was s.now _ s.changes s.makes ∙ ap Some (put_kernel ps qs ts pid s.was s.now s.changes);
-      lighter = omega (arith, load_after ps qs pid s.was s.now s.changes, s.lighter);
-      keys = keys_stay ps qs pid s.was s.now s.changes;
-    }, record { was = s.was; now = s.now; changes = s.changes })
+stepped_silent ps qs ts pid s = (
+  record {
+    one = by_next ps qs ts pid s.was s.now _ s.changes s.makes ∙ ap Some (put_kernel ps qs ts pid s.was s.now s.changes);
+    lighter = omega (arith, load_after ps qs pid s.was s.now s.changes, s.lighter);
+    keys = keys_stay ps qs pid s.was s.now s.changes;
+  },
+  record { was = s.was; now = s.now; changes = s.changes },
+)
 
 pub stepped_exit : (ps qs : List (ℕ × Process)) (ts : List (ℕ × List ℕ)) (pid : ℕ) (end : End) → StepsAt ps qs pid (Ok (Emit (Exit end))) → Advances pid ps qs ts ts × Alone pid ps qs
-stepped_exit ps qs ts pid end s =
-    (record {
-      one = by_next ps qs ts pid s.was s.now _ s.changes s.makes ∙ ap Some (put_kernel ps qs ts pid s.was s.now s.changes);
-      lighter = omega (arith, load_after ps qs pid s.was s.now s.changes, s.lighter);
-      keys = keys_stay ps qs pid s.was s.now s.changes;
-    }, record { was = s.was; now = s.now; changes = s.changes })
+stepped_exit ps qs ts pid end s = (
+  record {
+    one = by_next ps qs ts pid s.was s.now _ s.changes s.makes ∙ ap Some (put_kernel ps qs ts pid s.was s.now s.changes);
+    lighter = omega (arith, load_after ps qs pid s.was s.now s.changes, s.lighter);
+    keys = keys_stay ps qs pid s.was s.now s.changes;
+  },
+  record { was = s.was; now = s.now; changes = s.changes },
+)
 
 pub stepped_mail : (ps qs rs : List (ℕ × Process)) (ts us : List (ℕ × List ℕ)) (pid : ℕ) (letter : Letter) → StepsAt ps qs pid (Ok (Emit (Mail letter)))
     → kernel_of rs us ≡ deliver (kernel_of qs ts) letter → total_load rs ≤ total_load qs + 1 → map (λ (e : ℕ × Process). e.0) rs ≡ map (λ (e : ℕ × Process). e.0) qs → Advances pid ps rs ts us
@@ -105,7 +108,7 @@ undone ps qs rs os pid letter before s saved same back =
     let again : Changes qs os pid back.was (record (back.was) { small = before }) = subst (λ es. Changes es os pid back.was (record (back.was) { small = before })) same back.changes in
     let stood : back.was ≡ s.now = some_same _ _ (sym again.found ∙ found_after ps qs pid s.was s.now s.changes) in
     let put_back : record (back.was) { small = before } ≡ s.was =
-      ap (λ (p : Process). record p { small = before }) (stood ∙ s.touches) ∙ ap (λ b. record (s.was) { small = b }) (sym small) in
+    ap (λ (p : Process). record p { small = before }) (stood ∙ s.touches) ∙ ap (λ b. record (s.was) { small = b }) (sym small) in
     changed_back ps os pid s.was _ (changes_again ps qs os pid s.was s.now _ s.changes back.was again) put_back
 
 stuck : (ps qs : List (ℕ × Process)) (ts : List (ℕ × List ℕ)) (pid : ℕ) (was now : Process) (next : Next) → Changes ps qs pid was now → next_step (state_of was) ≡ next → now ≡ was → after_step (kernel_of ps ts) (pid_of pid) next ≡ None

@@ -1,11 +1,10 @@
 -- Laws of the kernel without failures.
-use Rattle.std.proofs.Common.{◌≡◌, ℕ, zero, suc, ◌+◌, refl, sym, ◌∙◌, ap, arith, List, [], ◌∷◌, ◌++◌, ◌-◌, ◌<◌, length, take, get_or, Bool, true, false, cond, Option, Some, None, add-suc, add-zero}
+use Rattle.std.proofs.Common.{◌≡◌, ℕ, zero, suc, ◌+◌, refl, sym, ◌∙◌, ap, arith, List, [], ◌∷◌, ◌++◌, ◌-◌, ◌<◌, length, take, get_or, cond, Option, Some, None, add-suc, add-zero}
 use Rattle.std.specs.Prelude.{option_and_then}
-use Rattle.std.specs.declared.cmp.Ordering.{Ordering}
 use Rattle.std.specs.declared.cmp.Ordering.TheVariants.{Less, Equal, Greater}
-use Rattle.std.specs.Ordering.{nat_cmp, eq_by_cmp}
+use Rattle.std.specs.Ordering.{eq_by_cmp}
 use Rattle.std.specs.Cmp.{IsTotalOrder, nat_cmp_total}
-use Rattle.std.specs.FinMap.{find, put}
+use Rattle.std.specs.FinMap.{put}
 use Rattle.std.proofs.lemmas.Cmp.{on_total, tied_itself}
 use Rattle.std.specs.FinMap.Entries.{by_order, find-put}
 use Rattle.t32_base.specs.declared.process.Pid.{Pid}

@@ -1,12 +1,10 @@
 -- The start of a kernel, root by root.
-use Rattle.std.proofs.Common.{◌≡◌, ℕ, zero, suc, ◌+◌, ◌*◌, ◌<◌, ◌≤◌, Bool, true, false, cond, eqb, List, [], ◌∷◌, ◌++◌, length, take, map, fold, get_or, refl, sym, ap, ◌∙◌, subst, arith, Option, Some, None, append_assoc, append-nil, unwrap_or, option_map}
+use Rattle.std.proofs.Common.{◌≡◌, ℕ, ◌+◌, ◌*◌, ◌<◌, ◌≤◌, Bool, true, eqb, List, [], ◌∷◌, ◌++◌, length, take, map, fold, get_or, refl, sym, ap, ◌∙◌, arith, Some, append_assoc, append-nil}
 use Rattle.std.specs.Prelude.{slice_get}
-use Rattle.std.specs.List.{count_by, sum_by}
-use Rattle.std.specs.Map.{values_of, lookup}
-use Rattle.std.specs.BTreeMap.{insert_entry, is_at}
+use Rattle.std.specs.List.{count_by}
+use Rattle.std.specs.BTreeMap.{insert_entry}
 use Rattle.std.specs.List.Sorted.{IsStrictlySortedBy}
-use Rattle.std.specs.Ordering.{nat_cmp, is_eq, match_ordering}
-use Rattle.std.specs.declared.cmp.Ordering.{Ordering}
+use Rattle.std.specs.Ordering.{nat_cmp, match_ordering}
 use Rattle.std.specs.declared.cmp.Ordering.TheVariants.{Less, Equal, Greater}
 use Rattle.std.specs.FinMap.{put}
 use Rattle.std.specs.FinMap.Entries.{by_order}
@@ -20,11 +18,10 @@ use Rattle.t32_base.specs.declared.process.Pid.{Pid}
 use Rattle.proc_state.specs.declared.process.Process.{Process}
 use Rattle.proc_state.specs.State.{ProcState, state_of}
 use Rattle.sys_text.specs.declared.system.System.{System}
-use Rattle.sys_text.specs.declared.system.Image.{Image}
 use Rattle.sys_text.specs.declared.system.Root.{Root}
 use Rattle.sys_text.specs.Valid.{is_system}
 use Rattle.sys_text.specs.Boot.{pid_of as pid_in, with_pids, roots_of}
-use Rattle.sys_text.proofs.Bounds.{RootBounds, HasImage, root_bounds, root_image, SystemBounds, system_bounds}
+use Rattle.sys_text.proofs.Bounds.{root_bounds, root_image, system_bounds}
 use Rattle.plain_kernel.specs.Kernel.{Kernel, pid_cmp, boot, with_root, empty, root_process}
 use Rattle.plain_kernel.specs.Maps.{pid_of, processes_of, load, total_load, booted_processes, booted_ttys, CanBoot}
 
@@ -43,7 +40,7 @@ insert_state : (k : ℕ) (v : Process) (es : List (ℕ × Process)) → processe
 insert_state k v [] = refl
 insert_state k v (e ∷ es) =
     elim (nat_cmp k e.0) as (λ o. processes_of (match_ordering o ((k, v) ∷ e ∷ es) ((e.0, v) ∷ es) (e ∷ insert_entry nat_cmp es k v))
-        ≡ by_order o ((pid_of k, state_of v) ∷ processes_of (e ∷ es)) ((pid_of e.0, state_of v) ∷ processes_of es) ((pid_of e.0, state_of e.1) ∷ put pid_cmp (pid_of k) (state_of v) (processes_of es))) [
+    ≡ by_order o ((pid_of k, state_of v) ∷ processes_of (e ∷ es)) ((pid_of e.0, state_of v) ∷ processes_of es) ((pid_of e.0, state_of e.1) ∷ put pid_cmp (pid_of k) (state_of v) (processes_of es))) [
       | Less ↦ refl
       | Equal ↦ refl
       | Greater ↦ ap (λ r. (pid_of e.0, state_of e.1) ∷ r) (insert_state k v es)
@@ -58,7 +55,7 @@ pids-snoc : (earlier roots : List Root) (r : Root) → with_pids earlier (roots 
 pids-snoc earlier [] r = rw (append-nil earlier) refl
 pids-snoc earlier (q ∷ roots) r =
     ap (λ rest. (pid_in (q.home).0 (1 + count_by (same_home q) earlier), q) ∷ rest)
-      (pids-snoc (earlier ++ q ∷ []) roots r ∙ ap (λ l. with_pids (earlier ++ q ∷ []) roots ++ (pid_in (r.home).0 (1 + count_by (same_home r) l), r) ∷ []) (append_assoc earlier (q ∷ []) roots))
+    (pids-snoc (earlier ++ q ∷ []) roots r ∙ ap (λ l. with_pids (earlier ++ q ∷ []) roots ++ (pid_in (r.home).0 (1 + count_by (same_home r) l), r) ∷ []) (append_assoc earlier (q ∷ []) roots))
 
 -- the processes of the roots so far
 pub booted_more : (system : System) (roots : List Root) (n : ℕ) (d root : Root) (v : Process) (es fs : List (ℕ × Process)) (pid : Pid) → n < length roots → root ≡ get_or roots n d
@@ -67,8 +64,8 @@ pub booted_more : (system : System) (roots : List Root) (n : ℕ) (d root : Root
 booted_more system roots n d root v es fs pid within is before insert pid_is state =
     let step : Pid × Root → List (Pid × ProcState) → List (Pid × ProcState) = λ r ps. put pid_cmp r.0 (root_process system r.0 r.1) ps in
     let pids : with_pids [] (take (n + 1) roots) ≡ with_pids [] (take n roots) ++ (pid, root) ∷ [] =
-      ap (with_pids []) (take_more roots n d within ∙ ap (λ r. take n roots ++ r ∷ []) (sym is)) ∙ pids-snoc [] (take n roots) root
-      ∙ ap (λ p. with_pids [] (take n roots) ++ (p, root) ∷ []) (sym pid_is) in
+    ap (with_pids []) (take_more roots n d within ∙ ap (λ r. take n roots ++ r ∷ []) (sym is)) ∙ pids-snoc [] (take n roots) root
+    ∙ ap (λ p. with_pids [] (take n roots) ++ (p, root) ∷ []) (sym pid_is) in
     ap processes_of insert ∙ insert_state pid.0 v es ∙ ap (λ s. put pid_cmp pid s (processes_of es)) state ∙ ap (λ ps. put pid_cmp pid (root_process system pid root) ps) before
     ∙ sym (ap (booted_processes system) pids ∙ fold-append _ [] (with_pids [] (take n roots)) ((pid, root) ∷ []))
 

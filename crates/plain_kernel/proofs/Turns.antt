@@ -1,10 +1,9 @@
 -- The process that has the turn in the default schedule.
 use Rattle.std.proofs.lemmas.Bool.{false≢true}
-use Rattle.std.proofs.Common.{◌≡◌, ℕ, zero, suc, ◌+◌, ◌*◌, ◌<◌, ◌≤◌, Bool, true, false, cond, not, ◌||◌, eqb, List, [], ◌∷◌, map, find, refl, sym, ap, ◌∙◌, subst, arith, Option, Some, None, Result, Ok, Err, inl, inr, IsSome, is_some, option_map, option_and_then, unwrap_or}
-use Rattle.std.specs.Prelude.{slice_get, nat_lt}
-use Rattle.std.specs.Ordering.{nat_cmp, is_eq}
-use Rattle.std.specs.declared.cmp.Ordering.{Ordering}
-use Rattle.std.specs.declared.cmp.Ordering.TheVariants.{Less, Equal, Greater}
+use Rattle.std.proofs.Common.{◌≡◌, ℕ, zero, suc, ◌+◌, ◌*◌, ◌<◌, ◌≤◌, Bool, true, false, cond, not, ◌||◌, eqb, List, [], ◌∷◌, map, find, refl, sym, ap, ◌∙◌, subst, arith, Option, Some, None, Result, Ok, Err, inl, inr, IsSome, is_some, option_map, option_and_then}
+use Rattle.std.specs.Prelude.{nat_lt}
+use Rattle.std.specs.Ordering.{nat_cmp}
+use Rattle.std.specs.declared.cmp.Ordering.TheVariants.{Less, Equal}
 use Rattle.std.specs.List.{AllByRecursion, list_any}
 use Rattle.std.specs.List.Sorted.{IsStrictlySortedBy}
 use Rattle.std.specs.Map.{lookup, set_value}
@@ -30,8 +29,8 @@ use Rattle.plain_kernel.specs.Answers.{Applies, StopsAt, runs_pid}
 use Rattle.std.proofs.lemmas.Bool.Decides.{nat_tests}
 use Rattle.plain_kernel.specs.Apply.{after_step, one_step, steps, apply}
 use Rattle.plain_kernel.specs.Still.{can_act, lowest, default_item, default_step, default_after, Reaches}
-use Rattle.plain_kernel.specs.Maps.{at_key, pid_of, processes_of, kernel_of, load, total_load, Changes, RunsAt, Advances, Alone, lowest_of, IsTurn, RunsSteps, Turns}
-use Rattle.plain_kernel.proofs.Entries.{some_same, tied, later_no_key, later_above, lookup_state, put_state, written_same, there_before, found_after, ordered_after, put_after, state_before, load_after}
+use Rattle.plain_kernel.specs.Maps.{at_key, pid_of, processes_of, kernel_of, total_load, Changes, RunsAt, Advances, Alone, lowest_of, IsTurn, RunsSteps, Turns}
+use Rattle.plain_kernel.proofs.Entries.{some_same, tied, later_no_key, later_above, lookup_state, put_state, written_same, found_after, put_after, load_after}
 use Rattle.plain_kernel.proofs.Laws.{steps_one, steps_joined, steps_more, steps_stuck, one_silent, silent_steps, last_silent, no_silent, default_joined, default_one, default_none}
 
 abbrev keys : {X : Type 0} → List (ℕ × X) → List ℕ
@@ -315,9 +314,11 @@ still_there k (e ∷ es) (f ∷ fs) same there =
     head : ℕ → List ℕ → ℕ
     head d [] = d
     head d (n ∷ ns) = n
+
     tail : List ℕ → List ℕ
     tail [] = []
     tail (n ∷ ns) = ns
+
     by_test : (b : Bool) → at_key k e.0 ≡ b → f.0 ≡ e.0 → IsSome (cond b (Some e.1) (lookup (at_key k) es)) → (IsSome (lookup (at_key k) es) → IsSome (lookup (at_key k) fs)) → IsSome (lookup (at_key k) (f ∷ fs))
     by_test true is first there ih = rw (first, is) refl
     by_test false is first there ih = rw (first, is) (ih there)

@@ -1,5 +1,5 @@
 -- When nothing can move, and the schedule that is taken where none is given.
-use Rattle.std.specs.Prelude.{ℕ, zero, suc, ◌≡◌, Bool, not, List, find, Option, Some, None, option_map, option_and_then}
+use Rattle.std.specs.Prelude.{ℕ, zero, suc, ◌≡◌, Bool, not, find, Option, Some, None, option_map, option_and_then}
 use Rattle.std.specs.List.{list_any}
 use Rattle.t32_base.specs.declared.process.Pid.{Pid}
 use Rattle.sys_text.specs.declared.system.System.{System}

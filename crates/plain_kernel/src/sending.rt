@@ -130,11 +130,7 @@ fn append(ttys: &mut BTreeMap<u8, Bytes>, tty: u8, bytes: &[u8]) -> Result<(), N
 }
 
 // Puts a letter last in the mailbox of a process, if it is there and has not ended.
-fn receive(
-    processes: &mut BTreeMap<u32, Process>,
-    pid: u32,
-    letter: Letter,
-) -> Result<(), NoMemory>
+fn receive(processes: &mut BTreeMap<u32, Process>, pid: u32, letter: Letter) -> Result<(), NoMemory>
     requires { total_load processes.old.entries < 2 ^ 64 - 1 }
     ensures ok { OnOk result (processes_of processes.new.entries ≡ letter_put letter (pid_of pid) (find pid_cmp (pid_of pid) (processes_of processes.old.entries)) (processes_of processes.old.entries)) }
     ensures load { total_load processes.new.entries ≤ total_load processes.old.entries + 1 }

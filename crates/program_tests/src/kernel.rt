@@ -5,8 +5,8 @@ use plain_kernel::plain::{Plain, default_run, run};
 use std::alloc::Global;
 use std::test::Fail;
 use sys_text::reader::read_first;
-use sys_text::valid::is_system;
 use sys_text::system::System;
+use sys_text::valid::is_system;
 use t32_base::process::{End, Pid, Status};
 
 #[test]

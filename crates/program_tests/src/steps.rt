@@ -1,4 +1,6 @@
 //! One step of a process at the edges of its calls.
+ghost use Rattle.std.specs.Prelude.{◌<◌};
+
 use proc_state::process::Process;
 use rv_cpu::registers::read;
 use std::alloc::Global;
@@ -8,7 +10,6 @@ use sys_calls::steps::{Emission, Step};
 use t32_base::letter::{Body, To};
 use t32_base::process::{End, EndState, Pid, Small, Status};
 use t32_base::streams::NoMemory;
-ghost use Rattle.std.specs.Prelude.{◌<◌};
 
 // The word of `ecall`.
 const ECALL: [u8; 4] = [0x73, 0, 0, 0];
@@ -117,7 +118,12 @@ fn a_closing_process_shuts_its_ends_and_then_exits(rt: HostRuntime) -> Result<()
             _ => assert!(rt; false, "an end letter"),
         }
     }
-    assert!(rt; matches!(step(alloc, &mut p)?, Step::Emit(Emission::Exit(End::Exit(0)))));
+    assert!(rt;
+        matches!(
+            step(alloc, &mut p)?,
+            Step::Emit(Emission::Exit(End::Exit(0)))
+        )
+    );
     assert_eq!(rt; status_of(&p.small), Status::Ended(End::Exit(0)));
     assert!(rt; matches!(step(alloc, &mut p)?, Step::Over));
     assert_eq!(rt; steps_of(&p.small), 4);

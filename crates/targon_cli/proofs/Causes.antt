@@ -1,5 +1,5 @@
 -- The cause of each status.
-use Rattle.std.proofs.Common.{◌≡◌, ℕ, ◌+◌, ◌<◌, ◌≤◌, Bool, true, false, List, [], ◌∷◌, ◌++◌, ◌⊎◌, inl, inr, length, take, refl, sym, ap, ◌∙◌, subst, arith, Option, Some, None, length-append}
+use Rattle.std.proofs.Common.{◌≡◌, ℕ, ◌≤◌, Bool, true, false, List, [], ◌∷◌, ◌⊎◌, inl, inr, length, refl, sym, ap, ◌∙◌, subst, arith, Option, Some, None, length-append}
 use Rattle.std.specs.Prelude.{codes}
 use Rattle.std.specs.Bool.{Decides}
 use Rattle.std.proofs.lemmas.Bool.{false≢true}
@@ -8,7 +8,7 @@ use Rattle.std.specs.Io.KnownBytes.{Consumes, Appends}
 use Rattle.t32_base.specs.Streams.{Rose}
 use Rattle.sys_text.specs.declared.system.System.{System}
 use Rattle.sys_text.specs.Text.{IsFirstForm}
-use Rattle.targon_cli.specs.Answer.{In, Out, Says, Wrote, WriteFault, IsAll, ReadsAll, ReadsTooMany, Answers, Reported, NotFirst, TooLong, ReadFault, OutOfMemory, IsNoFirstForm, IsReported, NoText, TooMany, IsStatus, input_limit, usage_line, IsPlain, Answered}
+use Rattle.targon_cli.specs.Answer.{In, Out, Says, Wrote, WriteFault, IsAll, Answers, Reported, NotFirst, TooLong, ReadFault, OutOfMemory, IsNoFirstForm, IsReported, NoText, TooMany, IsStatus, input_limit, usage_line, IsPlain, Answered}
 
 -- the status of what is said, and its cause
 told : (wanted : ℕ) (text : List ℕ) (status : ℕ) (old new : Out) → Says wanted text status old new → (status ≡ wanted) ⊎ ((status ≡ 5) × Rose old.faults new.faults)
@@ -105,7 +105,12 @@ written wanted text status before after n (WriteFault e r a) = absurd (n (sym e)
 
 pub status_0 : (status : ℕ) (old new : In) (ended : Bool) (before after : Out) → Answers status old new ended before after → status ≡ 0 → IsReported old new ended before after
 status_0 status old new ended before after (Reported bytes s k r f d says) z = record {
-  bytes = bytes; system = s; kernel = k; read = r; first = f; run = d;
+  bytes = bytes;
+  system = s;
+  kernel = k;
+  read = r;
+  first = f;
+  run = d;
   written = written 0 _ status before after (λ e. omega arith) says;
 }
 status_0 status old new ended before after (NotFirst bytes r n says) z = absurd (no_status_said 2 _ status 0 before after (λ e. omega arith) (λ e. omega arith) says z)

@@ -21,9 +21,13 @@ use t32_base::streams::{NoMemory, Sink, Source, TakeFault};
 
 // The statuses with which the program ends; that of a write fault is in `output`.
 const DONE: u8 = 0;
+
 const USAGE: u8 = 1;
+
 const REFUSED: u8 = 2;
+
 const READ_FAULT: u8 = 4;
+
 const NO_MEMORY: u8 = 6;
 
 /// What the program does with its words, its input and its output, and the status with which it ends: 0

@@ -48,15 +48,17 @@ steps-preserved c =
 pub returns-in-Ok-Stuck : goal.returns-in-Ok-Stuck
 returns-in-Ok-Stuck c =
     let r = c.run_at.ensures.runs in
-    let moves = rw (c.in-Ok-Stuck.is, c.in-Ok-Stuck.field-0-is) at c.make_step.ensures in
-    (stood _ _ _ _ _ _ _ (more_ran c.steps.done _ _ _ _ c.args.pid _ c.steps.invariant.made r) moves.1 moves.2,
+    let moves = rw (c.in-Ok-Stuck.is, c.in-Ok-Stuck.field-0-is) at c.make_step.ensures in (
+      stood _ _ _ _ _ _ _ (more_ran c.steps.done _ _ _ _ c.args.pid _ c.steps.invariant.made r) moves.1 moves.2,
       omega (arith, less _ _ c.args.pid _ r, ap total_load moves.1, c.steps.invariant.lighter),
       omega arith,
-      stuck_there _ _ _ _ _ moves.0 moves.1 moves.2)
+      stuck_there _ _ _ _ _ moves.0 moves.1 moves.2,
+    )
 
 pub returns-in-Err : goal.returns-in-Err
 returns-in-Err c =
     let r = c.run_at.ensures.runs in
-    let moves = rw c.in-Err.is at c.make_step.ensures in
-    (stood _ _ _ _ _ _ _ (more_ran c.steps.done _ _ _ _ c.args.pid _ c.steps.invariant.made r) moves.0 moves.1,
-      omega (arith, less _ _ c.args.pid _ r, ap total_load moves.0, c.steps.invariant.lighter))
+    let moves = rw c.in-Err.is at c.make_step.ensures in (
+      stood _ _ _ _ _ _ _ (more_ran c.steps.done _ _ _ _ c.args.pid _ c.steps.invariant.made r) moves.0 moves.1,
+      omega (arith, less _ _ c.args.pid _ r, ap total_load moves.0, c.steps.invariant.lighter),
+    )

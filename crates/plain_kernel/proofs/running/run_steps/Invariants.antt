@@ -1,4 +1,4 @@
-use Rattle.std.proofs.Common.{ℕ, ◌≡◌, ◌≤◌, ◌-◌, Some, IsSome}
+use Rattle.std.proofs.Common.{◌≡◌, ◌≤◌, ◌-◌, Some, IsSome}
 use Rattle.std.specs.BTreeMap.{get}
 use Rattle.std.specs.Ordering.{nat_cmp}
 use Rattle.plain_kernel.specs.Apply.{steps}

@@ -1,4 +1,4 @@
-use Rattle.std.proofs.Common.{◌≡◌, ap, sym, ◌∙◌, Some, is_some}
+use Rattle.std.proofs.Common.{ap, sym, ◌∙◌, Some, is_some}
 use Rattle.std.specs.Ordering.{nat_cmp}
 use Rattle.std.specs.FinMap.{put}
 use Rattle.plain_kernel.specs.Kernel.{text_put}

@@ -1,4 +1,4 @@
-use Rattle.std.proofs.Common.{ap, sym, ◌∙◌, is_some}
+use Rattle.std.proofs.Common.{ap, ◌∙◌, is_some}
 use Rattle.std.specs.Prelude.{not}
 use Rattle.plain_kernel.specs.Still.{is_still}
 use Rattle.plain_kernel.proofs.Turns.{any_able}

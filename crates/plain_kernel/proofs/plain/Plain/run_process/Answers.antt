@@ -1,10 +1,10 @@
-use Rattle.std.proofs.Common.{sym, ◌∙◌, ap, arith, subst, None}
+use Rattle.std.proofs.Common.{sym, ◌∙◌, ap, subst}
 use Rattle.plain_kernel.specs.declared.item.Item.TheVariants.{Run}
 use Rattle.plain_kernel.specs.Kernel.{Kernel}
 use Rattle.plain_kernel.specs.Apply.{one_step}
 use Rattle.plain_kernel.specs.Answers.{Applies}
 use Rattle.plain_kernel.specs.Maps.{kernel_of}
-use Rattle.plain_kernel.proofs.Turns.{applies_none, applies_nobody, applies_run, no_longer, nobody_there}
+use Rattle.plain_kernel.proofs.Turns.{applies_none, applies_nobody, applies_run, nobody_there}
 use Rattle.plain_kernel.proofs.plain.Plain.run_process.Goals as goal
 
 pub returns-then-most-eq0 : goal.returns-then-most-eq0

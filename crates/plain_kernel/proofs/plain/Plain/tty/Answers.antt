@@ -1,4 +1,4 @@
-use Rattle.std.proofs.Common.{ap, sym, ◌∙◌, Some}
+use Rattle.std.proofs.Common.{ap, ◌∙◌, Some}
 use Rattle.plain_kernel.specs.Kernel.{tty_at}
 use Rattle.plain_kernel.proofs.Entries.{lookup_find}
 use Rattle.plain_kernel.proofs.plain.Plain.tty.Goals as goal
