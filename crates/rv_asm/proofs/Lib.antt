@@ -1,0 +1,8 @@
+pub mod Rows
+pub mod Cuts
+pub mod LabelTables
+pub mod Signed
+pub mod QuotedTexts
+pub mod Reading
+pub mod WordLines
+pub mod Refusing

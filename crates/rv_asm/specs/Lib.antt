@@ -1,0 +1,16 @@
+pub mod Refusal
+pub mod Steps
+pub mod Registers
+pub mod Forms
+pub mod Line
+pub mod Number
+pub mod Instructions
+pub mod Quoted
+pub mod Statement
+pub mod Operands
+pub mod View
+pub mod Labels
+pub mod Program
+pub mod RuleByRule
+pub mod Answers
+pub mod Printing

@@ -1,0 +1,160 @@
+//! The statements by their words.
+ghost use Rattle.std.specs.Prelude.{◌≡◌};
+ghost use Rattle.rv_asm.specs.Forms.{form_of};
+
+use text_parts::lookup;
+
+/// The instructions with rd, rs1, rs2.
+#[derive(Clone, Copy, Debug, PartialEq, Eq)]
+pub enum RegisterInsn {
+    Add,
+    Sub,
+    Sll,
+    Slt,
+    Sltu,
+    Xor,
+    Srl,
+    Sra,
+    Or,
+    And,
+}
+
+/// The instructions with rd, rs1 and a number of twelve bits.
+#[derive(Clone, Copy, Debug, PartialEq, Eq)]
+pub enum NumberInsn {
+    Addi,
+    Slti,
+    Sltiu,
+    Xori,
+    Ori,
+    Andi,
+}
+
+/// The instructions with rd, rs1 and a number of bits.
+#[derive(Clone, Copy, Debug, PartialEq, Eq)]
+pub enum ShiftInsn {
+    Slli,
+    Srli,
+    Srai,
+}
+
+/// The instructions with rd and number(rs1).
+#[derive(Clone, Copy, Debug, PartialEq, Eq)]
+pub enum LoadInsn {
+    Lb,
+    Lh,
+    Lw,
+    Lbu,
+    Lhu,
+    Jalr,
+}
+
+/// The instructions with rs2 and number(rs1).
+#[derive(Clone, Copy, Debug, PartialEq, Eq)]
+pub enum StoreInsn {
+    Sb,
+    Sh,
+    Sw,
+}
+
+/// The instructions with rs1, rs2 and a label.
+#[derive(Clone, Copy, Debug, PartialEq, Eq)]
+pub enum BranchInsn {
+    Beq,
+    Bne,
+    Blt,
+    Bge,
+    Bltu,
+    Bgeu,
+}
+
+/// The instructions with rd and a number of twenty bits.
+#[derive(Clone, Copy, Debug, PartialEq, Eq)]
+pub enum UpperInsn {
+    Lui,
+    Auipc,
+}
+
+/// The instructions with no operands.
+#[derive(Clone, Copy, Debug, PartialEq, Eq)]
+pub enum BareInsn {
+    Fence,
+    Ecall,
+    Ebreak,
+}
+
+/// What operands a statement takes, and which instruction it is where several take the same.
+#[derive(Clone, Copy, Debug, PartialEq, Eq)]
+pub enum Form {
+    Registers(RegisterInsn),
+    Number(NumberInsn),
+    Shift(ShiftInsn),
+    Load(LoadInsn),
+    Store(StoreInsn),
+    Branch(BranchInsn),
+    Upper(UpperInsn),
+    Bare(BareInsn),
+    JumpAndLink,
+    LoadNumber,
+    LoadAddress,
+    Jump,
+    Move,
+    Word,
+    Ascii,
+}
+
+const FORMS: [(&[u8], Form); 46] = [
+    (b"add", Form::Registers(RegisterInsn::Add)),
+    (b"sub", Form::Registers(RegisterInsn::Sub)),
+    (b"sll", Form::Registers(RegisterInsn::Sll)),
+    (b"slt", Form::Registers(RegisterInsn::Slt)),
+    (b"sltu", Form::Registers(RegisterInsn::Sltu)),
+    (b"xor", Form::Registers(RegisterInsn::Xor)),
+    (b"srl", Form::Registers(RegisterInsn::Srl)),
+    (b"sra", Form::Registers(RegisterInsn::Sra)),
+    (b"or", Form::Registers(RegisterInsn::Or)),
+    (b"and", Form::Registers(RegisterInsn::And)),
+    (b"addi", Form::Number(NumberInsn::Addi)),
+    (b"slti", Form::Number(NumberInsn::Slti)),
+    (b"sltiu", Form::Number(NumberInsn::Sltiu)),
+    (b"xori", Form::Number(NumberInsn::Xori)),
+    (b"ori", Form::Number(NumberInsn::Ori)),
+    (b"andi", Form::Number(NumberInsn::Andi)),
+    (b"slli", Form::Shift(ShiftInsn::Slli)),
+    (b"srli", Form::Shift(ShiftInsn::Srli)),
+    (b"srai", Form::Shift(ShiftInsn::Srai)),
+    (b"lb", Form::Load(LoadInsn::Lb)),
+    (b"lh", Form::Load(LoadInsn::Lh)),
+    (b"lw", Form::Load(LoadInsn::Lw)),
+    (b"lbu", Form::Load(LoadInsn::Lbu)),
+    (b"lhu", Form::Load(LoadInsn::Lhu)),
+    (b"jalr", Form::Load(LoadInsn::Jalr)),
+    (b"sb", Form::Store(StoreInsn::Sb)),
+    (b"sh", Form::Store(StoreInsn::Sh)),
+    (b"sw", Form::Store(StoreInsn::Sw)),
+    (b"beq", Form::Branch(BranchInsn::Beq)),
+    (b"bne", Form::Branch(BranchInsn::Bne)),
+    (b"blt", Form::Branch(BranchInsn::Blt)),
+    (b"bge", Form::Branch(BranchInsn::Bge)),
+    (b"bltu", Form::Branch(BranchInsn::Bltu)),
+    (b"bgeu", Form::Branch(BranchInsn::Bgeu)),
+    (b"lui", Form::Upper(UpperInsn::Lui)),
+    (b"auipc", Form::Upper(UpperInsn::Auipc)),
+    (b"jal", Form::JumpAndLink),
+    (b"fence", Form::Bare(BareInsn::Fence)),
+    (b"ecall", Form::Bare(BareInsn::Ecall)),
+    (b"ebreak", Form::Bare(BareInsn::Ebreak)),
+    (b"li", Form::LoadNumber),
+    (b"la", Form::LoadAddress),
+    (b"j", Form::Jump),
+    (b"mv", Form::Move),
+    (b".word", Form::Word),
+    (b".ascii", Form::Ascii),
+];
+
+/// The form of the statement with this word.
+pub fn form_named(word: &[u8]) -> Option<Form>
+    ensures { result ≡ form_of word.now }
+{
+    lookup(&FORMS, word)
+}

@@ -1,0 +1,102 @@
+//! A line by itself.
+ghost use Rattle.std.specs.Prelude.{◌≡◌, IfOk};
+ghost use Rattle.std.specs.Option.{option_copied};
+ghost use Rattle.rv_asm.specs.Line.{label_of};
+ghost use Rattle.rv_asm.specs.View.{seen, seen_result, FieldsFit};
+ghost use Rattle.rv_asm.specs.Labels.{own_code, code_or_nothing, if_label, size_of};
+ghost use Rattle.rv_asm.specs.Program.{bad_label, is_rule, target_of};
+
+use crate::line::{cut_line, is_label};
+use crate::quoted::text_len;
+use crate::refusal::Rule;
+use crate::statement::{Statement, read_statement};
+
+/// What stands in a line.
+#[derive(Clone, Copy)]
+pub struct Parsed<'a> {
+    /// What stands before the colon.
+    pub label: Option<&'a [u8]>,
+    /// The statement, or which of the rules on its form it breaks.
+    pub statement: Result<Statement<'a>, Rule>,
+}
+
+/// The parts of a line, each looked at by itself.
+pub fn parse_line(line: &[u8]) -> Parsed<'_>
+    ensures label { option_copied result.label ≡ label_of line.now }
+    ensures statement { seen_result result.statement ≡ own_code line.now }
+    ensures fits { IfOk result.statement FieldsFit }
+{
+    let parts = cut_line(line);
+    Parsed {
+        label: parts.label,
+        statement: read_statement(parts.statement),
+    }
+}
+
+/// The statement; nothing where it breaks a rule.
+pub fn statement_or_nothing(statement: Result<Statement<'_>, Rule>) -> Statement<'_>
+    ensures statement { seen result ≡ code_or_nothing (seen_result statement.entry) }
+    ensures fits { IfOk statement.entry FieldsFit → FieldsFit result }
+{
+    match statement {
+        Ok(statement) => statement,
+        Err(_) => Statement::Nothing,
+    }
+}
+
+/// Does the statement break this rule?
+pub fn breaks_rule(statement: Result<Statement<'_>, Rule>, rule: Rule) -> bool
+    ensures { result ≡ is_rule rule (seen_result statement.entry) }
+{
+    match statement {
+        Ok(_) => false,
+        Err(broken) => rule.number() == broken.number(),
+    }
+}
+
+/// The label, if it is well formed.
+pub fn defined(label: Option<&[u8]>) -> Option<&[u8]>
+    ensures { option_copied result ≡ if_label (option_copied label.entry) }
+{
+    match label {
+        Some(name) if is_label(name) => Some(name),
+        _ => None,
+    }
+}
+
+/// Is the label malformed?
+pub fn is_bad_label(label: Option<&[u8]>) -> bool
+    ensures { result ≡ bad_label (option_copied label.entry) }
+{
+    match label {
+        Some(name) => !is_label(name),
+        None => false,
+    }
+}
+
+/// How many words the statement has.
+pub fn size_of_statement(statement: Statement<'_>) -> usize
+    ensures { result ≡ size_of (seen statement.entry) }
+{
+    match statement {
+        Statement::Nothing => 0,
+        Statement::One(_) => 1,
+        Statement::Two(_, _) => 2,
+        Statement::BranchTo(_, _, _, _) => 1,
+        Statement::JumpTo(_, _) => 1,
+        Statement::AddressOf(_, _) => 2,
+        Statement::Bytes(text) => text_len(text).unwrap_or(0).div_ceil(4),
+    }
+}
+
+/// The label that the statement names.
+pub fn target(statement: Statement<'_>) -> Option<&[u8]>
+    ensures { option_copied result ≡ target_of (seen statement.entry) }
+{
+    match statement {
+        Statement::BranchTo(_, _, _, target) => Some(target),
+        Statement::JumpTo(_, target) => Some(target),
+        Statement::AddressOf(_, target) => Some(target),
+        _ => None,
+    }
+}

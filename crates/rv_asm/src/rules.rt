@@ -1,0 +1,111 @@
+//! The rules that a line may break.
+ghost use Rattle.std.specs.Prelude.{◌≡◌, ◌+◌, ◌<◌, ◌≤◌, ◌^◌, IsTrue, IsFalse};
+ghost use Rattle.std.specs.Option.{option_copied};
+ghost use Rattle.rv_asm.specs.Line.{label_of};
+ghost use Rattle.rv_asm.specs.Labels.{own_code};
+ghost use Rattle.rv_asm.specs.View.{seen, seen_result};
+ghost use Rattle.rv_asm.specs.Program.{address_after, is_near, reaches as reaches_in, defined_before as is_defined_before, is_undefined as is_undefined_in, is_far as is_far_in, too_far as is_too_far, broken_by};
+
+use crate::labels::Labels;
+use crate::parsed::{
+    Parsed, breaks_rule, defined, is_bad_label, size_of_statement, statement_or_nothing, target,
+};
+use crate::refusal::Rule;
+use crate::statement::Statement;
+use text_parts::are_printable;
+
+/// Is the label defined before this line?
+fn defined_before(labels: &Labels<'_>, number: u64, name: Option<&[u8]>) -> bool
+    ensures { result ≡ is_defined_before labels.now number (option_copied name.entry) }
+{
+    match name {
+        Some(name) => match labels.place(name) {
+            Some(place) => place.line < number,
+            None => false,
+        },
+        None => false,
+    }
+}
+
+/// Is it a label that no line defines?
+fn is_undefined(labels: &Labels<'_>, name: Option<&[u8]>) -> bool
+    ensures { result ≡ is_undefined_in labels.now (option_copied name.entry) }
+{
+    match name {
+        Some(name) => labels.place(name).is_none(),
+        None => false,
+    }
+}
+
+/// Can a branch go from after so many words to after so many?
+fn branch_reaches(here: u64, there: u64) -> bool
+    ensures { result ≡ is_near 4096 4094 (address_after here) (address_after there) }
+{
+    here.saturating_sub(there) <= 1024 && there.saturating_sub(here) < 1024
+}
+
+/// Can a jump go from after so many words to after so many?
+fn jump_reaches(here: u64, there: u64) -> bool
+    ensures { result ≡ is_near 1048576 1048574 (address_after here) (address_after there) }
+{
+    here.saturating_sub(there) <= 0x4_0000 && there.saturating_sub(here) < 0x4_0000
+}
+
+/// Can the statement, after so many words, go to after so many?
+fn reaches(statement: Statement<'_>, here: u64, there: u64) -> bool
+    ensures { result ≡ reaches_in (seen statement.entry) (address_after here) (address_after there) }
+{
+    match statement {
+        Statement::BranchTo(_, _, _, _) => branch_reaches(here, there),
+        Statement::JumpTo(_, _) => jump_reaches(here, there),
+        _ => true,
+    }
+}
+
+/// Is the label too far from the statement?
+fn is_too_far(labels: &Labels<'_>, statement: Statement<'_>, here: u64, name: Option<&[u8]>) -> bool
+    ensures { result ≡ is_too_far labels.now (seen statement.entry) (address_after here) (option_copied name.entry) }
+{
+    match name {
+        Some(name) => match labels.place(name) {
+            Some(place) => !reaches(statement, here, place.words),
+            None => false,
+        },
+        None => false,
+    }
+}
+
+/// The lowest rule that a line breaks.
+pub fn broken_rule(
+    labels: &Labels<'_>,
+    number: u64,
+    words: u64,
+    line: &[u8],
+    parsed: Parsed<'_>,
+) -> Option<Rule>
+    requires room { words ≤ 16384 }
+    requires label { option_copied parsed.label ≡ label_of line.now }
+    requires statement { seen_result parsed.statement ≡ own_code line.now }
+    ensures { result ≡ broken_by labels.now number words line.now }
+{
+    let statement = statement_or_nothing(parsed.statement);
+    if !are_printable(line) {
+        Some(Rule::ForeignByte)
+    } else if breaks_rule(parsed.statement, Rule::UnknownWord) {
+        Some(Rule::UnknownWord)
+    } else if is_bad_label(parsed.label) || breaks_rule(parsed.statement, Rule::BadForm) {
+        Some(Rule::BadForm)
+    } else if breaks_rule(parsed.statement, Rule::NumberRange) {
+        Some(Rule::NumberRange)
+    } else if defined_before(labels, number, defined(parsed.label)) {
+        Some(Rule::DefinedTwice)
+    } else if is_undefined(labels, target(statement)) {
+        Some(Rule::NeverDefined)
+    } else if is_too_far(labels, statement, words, target(statement)) {
+        Some(Rule::TooFar)
+    } else if size_of_statement(statement) as u64 > 16384 - words {
+        Some(Rule::TooLong)
+    } else {
+        None
+    }
+}

@@ -1,0 +1,133 @@
+use super::*;
+use std::alloc::Global;
+use std::process::Abort;
+use std::test::Fail;
+use t32_base::lists::Text;
+
+const HI: &str =
+    "li a7, 2\nli a0, 0\nla a1, m\nli a2, 3\necall\nli a7, 1\nli a0, 0\necall\nm: .ascii \"hi\\n\"\n";
+
+const TWO: &str =
+    "li a7, 2\nli a0, 0\nla a1, m\nli a2, 2\necall\naddi a1, a1, 2\nli a0, 0\necall\nli a7, 1\nli a0, 0\necall\nm: .ascii \"a\\nb\\n\"";
+
+const WAIT: &str = "li a7, 3\nli a0, 1\nlui a1, 16\nli a2, 1\necall\n";
+
+const WRITER: &str =
+    "li a7, 2\nli a0, 1\nla a1, m\nli a2, 2\necall\nli a7, 1\nli a0, 0\necall\nm: .ascii \"x\\n\"\n";
+
+const READER: &str =
+    "li a7, 3\nli a0, 1\nla a1, m\nli a2, 2\necall\nmv a2, a0\nli a7, 2\nli a0, 0\necall\nli a7, 1\nli a0, 0\necall\nm: .word 0\n";
+
+const FORKER: &str =
+    "li a7, 5\necall\nbeq a0, x0, kid\nli a7, 1\nli a0, 0\necall\nkid: li a7, 2\nli a0, 0\nla a1, m\nli a2, 2\necall\nli a7, 1\nli a0, 0\necall\nm: .ascii \"c\\n\"\n";
+
+const EARLY: &str =
+    "li a0, 32\nli a1, 9\nli a7, 8\necall\nli a7, 5\necall\nli a7, 1\nli a0, 0\necall\n";
+
+const SIG: &str =
+    "la a0, h\nli a7, 7\necall\nli a7, 6\necall\nli a1, 10\nli a7, 8\necall\nli a7, 1\nli a0, 0\necall\nh: li a7, 2\nli a0, 0\nla a1, m\nli a2, 2\necall\nli a7, 9\necall\nm: .ascii \"s\\n\"\n";
+
+/// What is printed for a program.
+fn printed(alloc: Global, text: &str) -> Result<Text, AsmRefused> {
+    let words = assemble(alloc, text.as_bytes())?;
+    Ok(words_text(alloc, words.as_slice())?)
+}
+
+fn assert_printed(rt: &(impl Abort + AllocGlobal), text: &str, wanted: &str) -> Result<(), Fail> {
+    let printed = printed(rt.alloc(), text)?;
+    assert_eq!(rt; printed.as_slice(), wanted.as_bytes(), "{text}");
+    Ok(())
+}
+
+#[test]
+fn programs_assemble(rt: HostRuntime) -> Result<(), Fail> {
+    assert_printed(
+        &rt,
+        HI,
+        "words 00200893 00000513 000105b7 02458593 00300613 00000073 00100893 00000513\nwords 00000073 000a6968\n",
+    )?;
+    assert_printed(
+        &rt,
+        WAIT,
+        "words 00300893 00100513 000105b7 00100613 00000073\n",
+    )?;
+    for (text, count) in [
+        (TWO, 13),
+        (WRITER, 10),
+        (READER, 14),
+        (FORKER, 16),
+        (EARLY, 9),
+        (SIG, 21),
+    ] {
+        let words = assemble(rt.alloc(), text.as_bytes())?;
+        assert_eq!(&rt; words.len(), count, "{text}");
+    }
+    Ok(())
+}
+
+fn assert_refused(rt: &(impl Abort + AllocGlobal), text: &str, line: u64, rule: u8) {
+    let refused = assemble(rt.alloc(), text.as_bytes());
+    assert_eq!(rt;
+        refused.err(),
+        Some(AsmRefused::Line { line, rule }),
+        "{text}"
+    );
+}
+
+#[test]
+fn the_first_broken_line_is_named(rt: HostRuntime) {
+    for (text, line, rule) in [
+        ("addd a0, a0, a0", 1, 2),
+        ("ecall\r\n", 1, 1),
+        ("ecall\n\tecall", 2, 1),
+        ("li a0, 0xFFFFFFFFF", 1, 3),
+        ("li a0, 99999999999", 1, 4),
+        ("a:\na: ecall", 2, 5),
+        ("ecall\nj nowhere", 2, 6),
+        ("9x: ecall", 1, 3),
+        (".ascii \"ab # c", 1, 3),
+        ("end", 1, 2),
+    ] {
+        assert_refused(&rt, text, line, rule);
+    }
+}
+
+/// A text that begins with `first` and goes on with `line` so many times.
+fn repeated(alloc: Global, first: &str, line: &str, count: u32) -> Result<String, Fail> {
+    let mut text = String::from_str(alloc, first)?;
+    for _ in 0..count {
+        text.push_str(line)?;
+    }
+    Ok(text)
+}
+
+#[test]
+fn far_labels_and_long_programs_are_refused(rt: HostRuntime) -> Result<(), Fail> {
+    let mut text = repeated(rt.alloc(), "beq a0, a1, far\n", "ecall\n", 1023)?;
+    text.push_str("far: ecall\n")?;
+    assert_refused(&rt, text.as_str(), 1, 7);
+    let text = repeated(rt.alloc(), "", "ecall\n", 16385)?;
+    assert_refused(&rt, text.as_str(), 16385, 8);
+    Ok(())
+}
+
+#[test]
+fn many_labels_assemble(rt: HostRuntime) -> Result<(), Fail> {
+    let alloc = rt.alloc();
+    let mut text = String::from_str(alloc, "j a99999\n")?;
+    for n in 0..100_000u32 {
+        text.push_str(format!(in alloc; "a{n}:\n")?.as_str())?;
+    }
+    assert_printed(&rt, text.as_str(), "words 0040006f\n")
+}
+
+#[test]
+fn a_refusal_says_line_and_rule(rt: HostRuntime) -> Result<(), Fail> {
+    let refused = AsmRefused::Line { line: 3, rule: 6 };
+    let message = format!(in rt.alloc(); "{refused}")?;
+    assert_eq!(&rt;
+        message.as_str(),
+        "line 3 breaks rule 6: no line defines the label that it names"
+    );
+    Ok(())
+}

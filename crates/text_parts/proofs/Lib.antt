@@ -1,0 +1,4 @@
+pub mod Splitting
+pub mod Numerals
+pub mod Tables
+pub mod Parting

@@ -1,0 +1,15 @@
+//! The parts of a text: its lines, their fields, the numbers in them, and tables of names.
+#![tactic(auto)]
+
+mod lines;
+mod numbers;
+mod table;
+#[cfg(test)]
+mod tests;
+
+pub use lines::{
+    are_printable, cut_at, first_field, first_line, is_printable, split_lines, trim, trim_end,
+    trim_start,
+};
+pub use numbers::{MOST, number, numbers_read_back, numeral, word};
+pub use table::lookup;

@@ -1,0 +1,30 @@
+use super::*;
+
+#[test]
+fn lines_and_fields_are_cut_off(rt: HostRuntime) {
+    let (line, rest) = first_line(b" chan 1  2 \n\nlast");
+    assert_eq!(&rt; line, b" chan 1  2 ".as_slice());
+    assert_eq!(&rt; rest, b"\nlast".as_slice());
+    assert_eq!(&rt;
+        first_field(line),
+        Some((b"chan".as_slice(), b" 1  2 ".as_slice()))
+    );
+    assert_eq!(&rt; first_field(b"  "), None);
+    assert_eq!(&rt; first_line(b"last").1, b"".as_slice());
+}
+
+#[test]
+fn numbers_and_words_are_read(rt: HostRuntime) {
+    for (text, value) in [
+        (b"0000000007".as_slice(), Some(7)),
+        (b"9999999999", Some(9_999_999_999)),
+        (b"00000000007", None),
+        (b"", None),
+        (b"1a", None),
+        (b"+1", None),
+    ] {
+        assert_eq!(&rt; number(text), value);
+    }
+    assert_eq!(&rt; word(b"dEAdbeef"), Some(0xdead_beef));
+    assert_eq!(&rt; word(b"0xdeadbe"), None);
+}
