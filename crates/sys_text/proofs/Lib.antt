@@ -1,6 +1,7 @@
 pub mod Bounds
 mod Examples
 pub mod First
+pub mod FirstReading
+mod Limits
 mod Lines
-pub mod Reading
 mod Words

@@ -1,9 +1,15 @@
-//! The text of a system: its rules, its canonical form, and a reader of that form.
+//! The text of a system: its rules, its canonical form, and its reader.
 #![tactic(auto)]
 
+mod adding;
 mod fields;
+mod kinds;
 pub mod printer;
 pub mod reader;
+pub mod refusal;
+mod rules;
+mod stage;
+mod state;
 pub mod system;
 #[cfg(test)]
 mod tests;
