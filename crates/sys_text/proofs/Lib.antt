@@ -1,7 +1,11 @@
+mod Blocks
 pub mod Bounds
 mod Examples
 pub mod First
 pub mod FirstReading
+mod Keeping
 mod Limits
 mod Lines
+mod Stepping
+mod Taking
 mod Words

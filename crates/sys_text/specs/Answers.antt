@@ -1,5 +1,5 @@
 -- What the reader answers.
-use Rattle.std.specs.Prelude.{◌≡◌, ℕ, ◌+◌, ◌-◌, ◌==◌, if◌then◌else◌, Bool, true, false, List, [], Result, Ok, Err}
+use Rattle.std.specs.Prelude.{◌≡◌, ◌<◌, ℕ, ◌+◌, ◌^◌, ◌==◌, Bool, true, false, if◌then◌else◌, List, [], Result, Ok, Err}
 use Rattle.sys_text.specs.declared.refusal.Rule.{Rule}
 use Rattle.sys_text.specs.Refusal.{number_of_rule}
 use Rattle.rv_asm.specs.declared.refusal.AsmRefused.{AsmRefused}
@@ -32,15 +32,21 @@ RefusesStep refusals.NoMemory step = Unit {0}
 -- line n was kept outside blocks, opened a block, or was refused
 abbrev pub TakesLine : Result Bool SystemRefused → State → ℕ → Step → Type 0
 TakesLine (Ok false) state n step = step ≡ Goes (Outside state)
-TakesLine (Ok true) state n step = step ≡ Goes (InBlock state (n + 1) [])
+TakesLine (Ok true) state n step = step ≡ Goes (InBlock state n [])
 TakesLine (Err refused) state n step = RefusesStep refused step
 
--- what the assembler refuses in a block whose first line has this number
-abbrev pub RefusesBlock : SystemRefused → ℕ → AsmRefused → Type 0
-RefusesBlock refusals.NoMemory first refused = Unit {0}
-RefusesBlock (refusals.BadLine line rule) first (asm_refusals.Line asm_line asm_rule) = (line ≡ first + asm_line - 1) × (rule ≡ (if asm_rule == 1 then 1 else 9))
-RefusesBlock (refusals.BadLine line rule) first asm_refusals.NoMemory = ⊥
+-- a line that the assembler refuses, in the numbers of the whole text and by its rules
+abbrev pub RefusesBlock : SystemRefused → (header : ℕ) → AsmRefused → Type 0
+RefusesBlock refusals.NoMemory header refused = Unit {0}
+RefusesBlock (refusals.BadLine line rule) header (asm_refusals.Line asm_line asm_rule) = (line ≡ header + asm_line) × (rule ≡ (if asm_rule == 1 then 1 else 9))
+RefusesBlock (refusals.BadLine line rule) header asm_refusals.NoMemory = ⊥
 
+-- the number of that line has 64 bits
+abbrev pub IsCounted : (header : ℕ) → AsmRefused → Type 0
+IsCounted header (asm_refusals.Line line rule) = header + line < 2 ^ 64
+IsCounted header asm_refusals.NoMemory = Unit {0}
+
+-- the end of a block was taken, or a line of it was refused
 abbrev pub ClosesBlock : Result (Unit {0}) SystemRefused → State → Step → Type 0
 ClosesBlock (Ok done) state step = step ≡ Goes (Outside state)
 ClosesBlock (Err refused) state step = RefusesStep refused step

@@ -1,5 +1,7 @@
 -- The numbers of a line that breaks no rule fit the types of a system.
-use Rattle.std.specs.Prelude.{ℕ, ◌≤◌, List}
+use Rattle.std.specs.Prelude.{◌≡◌, ℕ, ◌≤◌, false, List, Some}
+use Rattle.sys_text.specs.declared.state.State.{State}
+use Rattle.sys_text.specs.Rules.{keyword_in, first_of, rest_of, is_skipped}
 use Rattle.sys_text.specs.declared.stage.Keyword.{Keyword}
 use Rattle.sys_text.specs.declared.stage.Keyword.TheVariants as keywords
 use Rattle.sys_text.specs.Kinds.{field_at, number}
@@ -25,3 +27,7 @@ NumbersFit keywords.Words fields = Unit {0}
 NumbersFit keywords.End fields = Unit {0}
 NumbersFit keywords.Root fields = RootNumbers fields
 NumbersFit keywords.Chan fields = (number_at 0 fields ≤ 255) × (number_at 1 fields ≤ 255)
+
+-- the same of a line that may be skipped
+abbrev pub LineFits : State → List (List ℕ) → Type 0
+LineFits state fields = (keyword : Keyword) → is_skipped fields ≡ false → keyword_in state.stage (first_of fields) ≡ Some keyword → NumbersFit keyword (rest_of fields)

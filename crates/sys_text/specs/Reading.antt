@@ -1,5 +1,5 @@
 -- A system text, line by line.
-use Rattle.std.specs.Prelude.{ℕ, ◌==◌, ◌+◌, ◌-◌, Bool, true, false, List, [], ◌∷◌, ◌++◌, length, Option, Some, None, Result, Ok, Err, codes, if◌then◌else◌}
+use Rattle.std.specs.Prelude.{ℕ, ◌==◌, ◌+◌, Bool, true, false, List, [], ◌∷◌, ◌++◌, length, Option, Some, None, Result, Ok, Err, codes, if◌then◌else◌}
 use Rattle.std.specs.Option.{option_map}
 use Rattle.std.specs.Str.{bytes_eq}
 use Rattle.text_parts.specs.Lines.{are_printable, lines_of, fields_of}
@@ -49,27 +49,27 @@ may_end stage = false
 abbrev pub ended : Stage → System → ℕ → Answer
 ended stage system n = if may_end stage then Ok system else Err (last_line n, Ended)
 
--- the text ends inside a block whose first line has this number
+-- the text ends inside a block, after these lines that follow n others
 abbrev pub ended_in_block : ℕ → List (List ℕ) → Answer
-ended_in_block first [] = Err (first - 1, Ended)
-ended_in_block first (line ∷ lines) = if are_printable line then ended_in_block (first + 1) lines else Err (first, ForeignByte)
+ended_in_block n [] = Err (n, Ended)
+ended_in_block n (line ∷ lines) = if are_printable line then ended_in_block (n + 1) lines else Err (n + 1, ForeignByte)
 
 -- ---- a line
 
--- where the reading stands: outside assembler blocks, or in one with the number of its first line and its lines so far
+-- where the reading stands: outside assembler blocks, or in one with the number of its line `asm` and its lines so far
 pub data Place : Type 0 where
   Outside : (state : State) → Place
-  InBlock : (state : State) (first : ℕ) (block : List (List ℕ)) → Place
+  InBlock : (state : State) (header : ℕ) (block : List (List ℕ)) → Place
 
 -- what a line leads to
 pub data Step : Type 0 where
   Goes : (place : Place) → Step
   Refuses : (line : ℕ) (rule : Rule) → Step
 
--- line n ends a block, of which the assembler gives the words or refuses a line, counted from 1
-abbrev pub close_block : State → (first n : ℕ) → Result (List ℕ) (ℕ × AsmRule) → Step
-close_block state first n (Err refused) = Refuses (first + refused.0 - 1) (rule_in_block refused.1)
-close_block state first n (Ok words) = if fit_pages (length words) state.open_image.pages then Goes (Outside (closed state words)) else Refuses n Room
+-- line n ends a block, of which the assembler gives the words or refuses a line, counted from 1 behind the header
+abbrev pub close_block : State → (header n : ℕ) → Result (List ℕ) (ℕ × AsmRule) → Step
+close_block state header n (Err refused) = Refuses (header + refused.0) (rule_in_block refused.1)
+close_block state header n (Ok words) = if fit_pages (length words) state.open_image.pages then Goes (Outside (closed state words)) else Refuses n Room
 
 abbrev pub is_asm : Keyword → Bool
 is_asm keywords.Asm = true
@@ -84,7 +84,7 @@ abbrev pub kept : State → List (List ℕ) → State × Bool
 kept state fields = if is_skipped fields then (state, false) else kept_with state (rest_of fields) (keyword_in state.stage (first_of fields))
 
 abbrev pub kept_line : (n : ℕ) → State × Bool → Step
-kept_line n after = if after.1 then Goes (InBlock after.0 (n + 1) []) else Goes (Outside after.0)
+kept_line n after = if after.1 then Goes (InBlock after.0 n []) else Goes (Outside after.0)
 
 abbrev pub line_or_rule : State → (n : ℕ) → List ℕ → Option Rule → Step
 line_or_rule state n line None = kept_line n (kept state (fields_of line))
@@ -97,14 +97,14 @@ step_outside state n line = line_or_rule state n line (broken_by state line)
 -- line n
 abbrev pub step : Place → ℕ → List ℕ → Step
 step (Outside state) n line = step_outside state n line
-step (InBlock state first block) n line = if is_end (fields_of line) then close_block state first n (reading_of_lines block) else Goes (InBlock state first (block ++ line ∷ []))
+step (InBlock state header block) n line = if is_end (fields_of line) then close_block state header n (reading_of_lines block) else Goes (InBlock state header (block ++ line ∷ []))
 
 -- ---- a text
 
 -- the text ends after n lines
 abbrev pub at_end : Place → ℕ → Answer
 at_end (Outside state) n = ended state.stage state.system n
-at_end (InBlock state first block) n = ended_in_block first block
+at_end (InBlock state header block) n = ended_in_block header block
 
 abbrev pub goes_on : Step → (Place → Answer) → Answer
 goes_on (Goes next) rest = rest next

@@ -200,6 +200,7 @@ add state keywords.Chan fields = at Chans state (record state.system { chans = s
 -- ---- what the rules have kept so far
 
 pub record HasRoom (state : State) : Type 0 where
+  pub clusters : state.system.clusters ≤ 16
   pub places : length state.system.roots + births_of state.system.roots ≤ 32
   pub pages : state.open_image.pages ≤ 256
   pub words : length state.open_image.words ≤ 64 * state.open_image.pages

@@ -2,10 +2,12 @@
 #![tactic(auto)]
 
 mod adding;
+mod block;
 mod fields;
 mod kinds;
 pub mod printer;
 pub mod reader;
+mod reading;
 pub mod refusal;
 mod rules;
 mod stage;
@@ -14,3 +16,5 @@ pub mod system;
 #[cfg(test)]
 mod tests;
 pub mod valid;
+
+pub use reading::read_system;
