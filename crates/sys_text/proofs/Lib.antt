@@ -6,6 +6,7 @@ pub mod FirstReading
 mod Keeping
 mod Limits
 mod Lines
+mod Rows
 mod Stepping
 mod Taking
 mod Words
