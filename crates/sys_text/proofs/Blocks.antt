@@ -1,10 +1,10 @@
 -- The lines of an assembler block, and its end.
-use Rattle.std.proofs.Common.{◌≡◌, ℕ, suc, ◌+◌, ◌*◌, ◌<◌, ◌≤◌, ◌^◌, Bool, true, false, cond, eqb, leb, List, [], ◌∷◌, ◌++◌, length, take, drop, Option, Some, None, Result, Ok, Err, refl, sym, ap, ◌∙◌, arith, append_assoc, append-nil, length-append}
+use Rattle.std.proofs.Common.{◌≡◌, ℕ, suc, ◌+◌, ◌*◌, ◌<◌, ◌≤◌, ◌^◌, Bool, true, false, cond, eqb, List, [], ◌∷◌, ◌++◌, length, take, drop, Option, Some, None, Result, Ok, Err, refl, sym, ap, ◌∙◌, arith, append_assoc, append-nil, length-append}
 use Rattle.std.specs.List.{onto_first}
 use Rattle.std.specs.Option.{option_map}
-use Rattle.std.proofs.lemmas.Bool.{le-leb, lt-leb}
+use Rattle.std.proofs.lemmas.Bool.{lt-leb}
 use Rattle.std.proofs.lemmas.List.{length-drop, take-append-drop}
-use Rattle.text_parts.specs.Lines.{is_newline, are_printable, lines_of, fields_of}
+use Rattle.text_parts.specs.Lines.{is_newline, lines_of, fields_of}
 use Rattle.rv_asm.specs.declared.labels.Place.{Place as LabelPlace}
 use Rattle.rv_asm.specs.Labels.{labels_from, line_size, line_code}
 use Rattle.rv_asm.specs.Program.{reading_of_lines, reading_from as asm_reading_from, with_front, broken_by as asm_broken_by, words_at, address_after}
@@ -19,9 +19,8 @@ use Rattle.sys_text.specs.declared.refusal.SystemRefused.TheVariants as refusals
 use Rattle.sys_text.specs.declared.refusal.Rule.TheVariants.{Room}
 use Rattle.sys_text.specs.declared.state.State.{State}
 use Rattle.sys_text.specs.Refusal.{number_of_rule}
-use Rattle.sys_text.specs.Rules.{closed}
-use Rattle.sys_text.specs.Reading.{Answer, Place, Step, Goes, Refuses, Outside, InBlock, close_block, rule_in_block, is_end, lines_before_end, ended_in_block, reading_from, goes_on}
-use Rattle.sys_text.specs.Answers.{IsRefusal, RefusesStep, RefusesBlock, IsCounted, ClosesBlock}
+use Rattle.sys_text.specs.Reading.{Answer, Place, Step, Refuses, InBlock, close_block, rule_in_block, is_end, lines_before_end, ended_in_block, reading_from, goes_on}
+use Rattle.sys_text.specs.Answers.{IsRefusal, RefusesStep, RefusesBlock, IsCounted}
 
 -- ---- how many lines
 

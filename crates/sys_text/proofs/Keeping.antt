@@ -17,7 +17,7 @@ use Rattle.sys_text.specs.declared.system.Root.{Root}
 use Rattle.sys_text.specs.declared.state.State.{State}
 use Rattle.sys_text.specs.Valid.{births_of}
 use Rattle.sys_text.specs.Kinds.{count_fits, is_kind, keeps_limit, each, each_field, field_at, number, kinds_of}
-use Rattle.sys_text.specs.Rules.{breaks_with, breaks_same, breaks_name, breaks_room, fit_pages, places_with, words_in, root_in, lowest_with, add, HasRoom}
+use Rattle.sys_text.specs.Rules.{breaks_with, breaks_same, breaks_name, breaks_room, places_with, words_in, root_in, lowest_with, add, HasRoom}
 use Rattle.sys_text.specs.Numbers.{number_at, NumbersFit}
 use Rattle.sys_text.proofs.Bounds.{first_of_two, second_of_two}
 

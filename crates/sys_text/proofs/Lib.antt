@@ -3,9 +3,15 @@ pub mod Bounds
 mod Examples
 pub mod First
 pub mod FirstReading
+mod Headed
+mod Imaged
 mod Keeping
+mod Leading
 mod Limits
 mod Lines
+mod Printed
+mod ReadBack
+mod Rooted
 mod Rows
 mod Stepping
 mod Taking

@@ -8,7 +8,9 @@ mod kinds;
 pub mod printer;
 pub mod reader;
 mod reading;
-pub mod refusal;
+#[cfg(test)]
+mod reading_tests;
+mod refusal;
 mod rules;
 mod stage;
 mod state;
@@ -17,4 +19,5 @@ pub mod system;
 mod tests;
 pub mod valid;
 
-pub use reading::read_system;
+pub use reading::{read_system, systems_read_back};
+pub use refusal::{Rule, SystemRefused};

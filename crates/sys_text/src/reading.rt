@@ -1,10 +1,13 @@
 //! From a text to its system.
-ghost use Rattle.std.specs.Prelude.{◌≡◌, ◌+◌, ◌≤◌, ◌<◌, ◌^◌, OnOk, IfOk, length};
+ghost use Rattle.std.specs.Prelude.{◌≡◌, ◌+◌, ◌≤◌, ◌<◌, ◌^◌, true, Ok, OnOk, IfOk, length};
 ghost use Rattle.text_parts.specs.Lines.{lines_of};
 ghost use Rattle.sys_text.specs.Kinds.{texts};
 ghost use Rattle.sys_text.specs.Rules.{HasRoom};
 ghost use Rattle.sys_text.specs.Numbers.{LineFits};
 ghost use Rattle.sys_text.specs.Reading.{Outside, reading_from, reading_of, step_outside, is_asm, may_end, last_line, ended, nothing_yet, kept};
+ghost use Rattle.sys_text.specs.declared.system.System.{System as Described};
+ghost use Rattle.sys_text.specs.Valid.{is_system};
+ghost use Rattle.sys_text.specs.Text.{system_text};
 ghost use Rattle.sys_text.specs.Answers.{Answers, TakesLine, TakesLines};
 
 use crate::adding::{add_line, empty_image};
@@ -166,3 +169,9 @@ pub fn read_system(alloc: Global, text: &[u8]) -> Result<System, SystemRefused>
     }
     ended(state, number)
 }
+
+/// A law and no code: the canonical text of a system that keeps the rules is read as this system. So each such
+/// system is one that some text has.
+pub fn systems_read_back()
+    ensures { (s : Described) → is_system s ≡ true → reading_of (system_text s) ≡ Ok s }
+{}

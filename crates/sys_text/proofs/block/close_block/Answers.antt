@@ -1,4 +1,3 @@
-use Rattle.std.proofs.Common.{sym, ap, ◌∙◌}
 use Rattle.text_parts.specs.Lines.{lines_of}
 use Rattle.sys_text.proofs.Blocks.{refused_is_counted, refused_closes}
 use Rattle.sys_text.proofs.block.close_block.Goals as goal

@@ -1,6 +1,6 @@
-use Rattle.std.proofs.Common.{◌≡◌, ◌+◌, [], None, Some, arith, rules, sym, ap, ◌∙◌}
+use Rattle.std.proofs.Common.{◌≡◌, ◌+◌, [], None, arith, rules, sym, ap, ◌∙◌}
 use Rattle.text_parts.specs.Lines.{lines_of}
-use Rattle.sys_text.specs.Reading.{lines_before_end, InBlock, reading_from, goes_on}
+use Rattle.sys_text.specs.Reading.{lines_before_end, reading_from, goes_on}
 use Rattle.sys_text.proofs.Blocks.{no_end, rest_nonempty, count_within, block_read, lengths, refused_read}
 use Rattle.sys_text.proofs.block.take_block.Goals as goal
 
