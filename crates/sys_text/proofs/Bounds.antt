@@ -76,13 +76,13 @@ pub record ChanBounds (s : System) (chan : ℕ × ℕ) : Type 0 where
   pub apart : chan.0 ≡ chan.1 → ⊥
 
 -- the tests of the parts
-record Tests (s : System) : Type 0 where
-  header : is_header s ≡ true
-  images : are_images s.images ≡ true
-  roots : are_roots s.clusters (length s.images) s.roots ≡ true
-  chans : are_chans (length s.roots) s.chans ≡ true
+pub record Tests (s : System) : Type 0 where
+  pub header : is_header s ≡ true
+  pub images : are_images s.images ≡ true
+  pub roots : are_roots s.clusters (length s.images) s.roots ≡ true
+  pub chans : are_chans (length s.roots) s.chans ≡ true
 
-tests : (s : System) → is_system s ≡ true → Tests s
+pub tests : (s : System) → is_system s ≡ true → Tests s
 tests s h =
     let a = first_of_two _ (are_chans (length s.roots) s.chans) h in
     let b = first_of_two _ (are_roots s.clusters (length s.images) s.roots) a in
@@ -94,12 +94,12 @@ tests s h =
     }
 
 -- the tests of the roots: some, few, and each of them
-record RootTests (clusters images : ℕ) (roots : List Root) : Type 0 where
-  some : 1 ≤ length roots
-  few : length roots + births_of roots ≤ 32
-  each : list_all (is_root clusters images) roots ≡ true
+pub record RootTests (clusters images : ℕ) (roots : List Root) : Type 0 where
+  pub some : 1 ≤ length roots
+  pub few : length roots + births_of roots ≤ 32
+  pub each : list_all (is_root clusters images) roots ≡ true
 
-root_tests : (clusters images : ℕ) (roots : List Root) → are_roots clusters images roots ≡ true → RootTests clusters images roots
+pub root_tests : (clusters images : ℕ) (roots : List Root) → are_roots clusters images roots ≡ true → RootTests clusters images roots
 root_tests clusters images roots h =
     let a = first_of_two _ (list_all (is_root clusters images) roots) h in
     record {

@@ -1,6 +1,18 @@
+mod Blocks
 pub mod Bounds
 mod Examples
 pub mod First
+pub mod FirstReading
+mod Headed
+mod Imaged
+mod Keeping
+mod Leading
+mod Limits
 mod Lines
-pub mod Reading
+mod Printed
+mod ReadBack
+mod Rooted
+mod Rows
+mod Stepping
+mod Taking
 mod Words

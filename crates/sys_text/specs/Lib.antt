@@ -2,3 +2,9 @@ pub mod Valid
 pub mod Text
 pub mod Fields
 pub mod Boot
+pub mod Refusal
+pub mod Kinds
+pub mod Rules
+pub mod Reading
+pub mod Answers
+pub mod Numbers

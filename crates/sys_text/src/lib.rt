@@ -1,10 +1,23 @@
-//! The text of a system: its rules, its canonical form, and a reader of that form.
+//! The text of a system: its rules, its canonical form, and its reader.
 #![tactic(auto)]
 
+mod adding;
+mod block;
 mod fields;
+mod kinds;
 pub mod printer;
 pub mod reader;
+mod reading;
+#[cfg(test)]
+mod reading_tests;
+mod refusal;
+mod rules;
+mod stage;
+mod state;
 pub mod system;
 #[cfg(test)]
 mod tests;
 pub mod valid;
+
+pub use reading::{read_system, systems_read_back};
+pub use refusal::{Rule, SystemRefused};

@@ -105,7 +105,7 @@ fn fit(words: &[u32], pages: u16) -> bool
     words.len() <= 64 * usize::from(pages)
 }
 
-fn is_name(name: &[u8]) -> bool
+pub(crate) fn is_name(name: &[u8]) -> bool
     ensures { result ≡ is_name_of name.now }
 {
     let size = name.len();
@@ -169,7 +169,7 @@ fn are_few(roots: &[Root]) -> bool
     roots.len() <= 32 && roots.len() + births(roots) <= 32
 }
 
-fn births(roots: &[Root]) -> usize
+pub(crate) fn births(roots: &[Root]) -> usize
     requires { length roots.now ≤ 32 }
     ensures sum { result ≡ births_of roots.now }
     ensures few { result ≤ 256 * 32 }
@@ -208,7 +208,7 @@ fn are_linked(roots: &[Root], chans: &[(u8, u8)]) -> bool
     (1..roots.len() + 1).all(|root| links(chans, root) <= 31)
 }
 
-fn links(chans: &[(u8, u8)], root: usize) -> usize
+pub(crate) fn links(chans: &[(u8, u8)], root: usize) -> usize
     ensures { result ≡ links_of chans.now root }
 {
     let mut count = 0;

@@ -3,7 +3,7 @@ use Rattle.std.proofs.lemmas.Bool.{false≢true}
 use Rattle.sys_text.specs.Valid.{is_first}
 use Rattle.sys_text.specs.Fields.{candidate_of}
 use Rattle.sys_text.specs.Text.{system_text}
-use Rattle.sys_text.proofs.Reading.{read_is}
+use Rattle.sys_text.proofs.FirstReading.{read_is}
 use Rattle.sys_text.proofs.reader.read_first.Goals as goal
 
 pub returns-then-not-is_first-clause-only : goal.returns-then-not-is_first-clause-only

@@ -1,0 +1,9 @@
+use Rattle.std.proofs.Common.{◌*◌, ◌<◌, length, arith}
+use Rattle.sys_text.specs.declared.refusal.Rule.TheVariants.{Room}
+use Rattle.sys_text.proofs.Blocks.{words_too_many}
+use Rattle.sys_text.proofs.block.close_with.Goals as goal
+
+pub returns-then-len-from-clause-step : goal.returns-then-len-from-clause-step
+returns-then-len-from-clause-step c =
+    let many : 64 * c.args.state.now.open_image.pages < length c.args.words = omega (arith, c.if-len-from.true, c.len.ensures, c.from.ensures) in
+    (Room, words_too_many c.args.state.now c.args.header c.args.number c.args.words many, c.number.ensures)

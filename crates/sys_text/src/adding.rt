@@ -1,0 +1,195 @@
+//! What a line that breaks no rule adds.
+ghost use Rattle.std.specs.Prelude.{◌≡◌, ◌≤◌, ◌++◌, ◌∷◌, [], None, OnOk, IfOk};
+ghost use Rattle.sys_text.specs.declared.stage.Keyword.TheVariants.{Clusters, Pager, Syncreads, Syncsteps, Image as AnImage, Words, End, Root as ARoot, Chan};
+ghost use Rattle.sys_text.specs.Kinds.{texts, number as number_in, field_at};
+ghost use Rattle.sys_text.specs.Rules.{cluster_in, words_in, image_in, root_in, opened, closed, no_image, lowest_with, add, HasRoom};
+ghost use Rattle.sys_text.specs.Numbers.{NumbersFit};
+
+use crate::kinds::{field_at, mode_named, number_or_0};
+use crate::rules::place_of;
+use crate::stage::{Keyword, Stage};
+use crate::state::State;
+use crate::system::{Image, Root, System};
+use std::alloc::{AllocError, Global};
+use std::mem;
+use t32_base::lists::{Bytes, List};
+use t32_base::process::{ClusterNo, Mode};
+use t32_base::streams::NoMemory;
+use text_parts::word;
+
+/// An image of no name.
+pub fn empty_image(alloc: Global) -> Image
+    ensures { result ≡ no_image }
+{
+    Image {
+        name: Bytes::new(alloc),
+        pages: 0,
+        words: List::new(alloc),
+    }
+}
+
+/// A number of one byte.
+fn small(field: &[u8]) -> u8
+    requires { number_in field.now ≤ 255 }
+    ensures { result ≡ number_in field.now }
+{
+    number_or_0(field) as u8
+}
+
+/// A number of four bytes.
+fn large(field: &[u8]) -> u32
+    requires { number_in field.now ≤ 100000 }
+    ensures { result ≡ number_in field.now }
+{
+    number_or_0(field) as u32
+}
+
+fn cluster(field: &[u8]) -> ClusterNo
+    requires { number_in field.now ≤ 255 }
+    ensures { result ≡ cluster_in field.now }
+{
+    ClusterNo(small(field))
+}
+
+/// Puts the words that the fields stand for at the end.
+fn push_words(words: &mut List<u32>, fields: &[&[u8]]) -> Result<(), AllocError>
+    ensures { OnOk result (words.new ≡ words.old ++ words_in (texts fields.now)) }
+{
+    for field in fields {
+        if let Some(number) = word(field) {
+            words.push(number)?;
+        }
+    }
+    Ok(())
+}
+
+/// The image of a block that begins.
+fn image_of_header(alloc: Global, fields: &[&[u8]]) -> Result<Image, NoMemory>
+    requires { number_in (field_at 1 (texts fields.now)) ≤ 256 }
+    ensures { IfOk result (λ image. image ≡ image_in (texts fields.now)) }
+{
+    Ok(Image {
+        name: Bytes::copy_of(alloc, field_at(0, fields))?,
+        pages: number_or_0(field_at(1, fields)) as u16,
+        words: List::new(alloc),
+    })
+}
+
+fn root_of_line(system: &System, fields: &[&[u8]]) -> Root
+    requires home { number_in (field_at 0 (texts fields.now)) ≤ 255 }
+    requires backup { number_in (field_at 1 (texts fields.now)) ≤ 255 }
+    requires limit { number_in (field_at 4 (texts fields.now)) ≤ 100000 }
+    requires births { number_in (field_at 5 (texts fields.now)) ≤ 255 }
+    requires tty { number_in (field_at 6 (texts fields.now)) ≤ 255 }
+    ensures { result ≡ root_in system.now (texts fields.now) }
+{
+    Root {
+        home: cluster(field_at(0, fields)),
+        backup: cluster(field_at(1, fields)),
+        mode: mode_named(field_at(2, fields)).unwrap_or(Mode::Quarter),
+        image: place_of(system.images.as_slice(), field_at(3, fields)).unwrap_or(0) as u64,
+        limit: large(field_at(4, fields)),
+        births: small(field_at(5, fields)),
+        tty: small(field_at(6, fields)),
+    }
+}
+
+/// Closes the open block.
+pub fn close_image(alloc: Global, state: &mut State) -> Result<(), AllocError>
+    ensures { OnOk result (state.new ≡ closed state.old state.old.open_image.words) }
+{
+    let image = mem::replace(&mut state.open_image, empty_image(alloc));
+    state.system.images.push(image)?;
+    state.stage = Stage::Images;
+    Ok(())
+}
+
+fn add_clusters(state: &mut State, fields: &[&[u8]])
+    requires { number_in (field_at 0 (texts fields.now)) ≤ 255 }
+    ensures { state.new ≡ add state.old Clusters (texts fields.now) }
+{
+    state.system.clusters = small(field_at(0, fields));
+    state.stage = Stage::AfterClusters;
+}
+
+fn add_pager(state: &mut State, fields: &[&[u8]])
+    requires first { number_in (field_at 0 (texts fields.now)) ≤ 255 }
+    requires second { number_in (field_at 1 (texts fields.now)) ≤ 255 }
+    ensures { state.new ≡ add state.old Pager (texts fields.now) }
+{
+    let first = cluster(field_at(0, fields));
+    let second = cluster(field_at(1, fields));
+    state.system.pager = (first, second);
+    state.stage = Stage::AfterPager;
+}
+
+fn add_syncreads(state: &mut State, fields: &[&[u8]])
+    requires { number_in (field_at 0 (texts fields.now)) ≤ 100000 }
+    ensures { state.new ≡ add state.old Syncreads (texts fields.now) }
+{
+    state.system.syncreads = large(field_at(0, fields));
+    state.stage = Stage::AfterSyncreads;
+}
+
+fn add_syncsteps(state: &mut State, fields: &[&[u8]])
+    requires { number_in (field_at 0 (texts fields.now)) ≤ 100000 }
+    ensures { state.new ≡ add state.old Syncsteps (texts fields.now) }
+{
+    state.system.syncsteps = large(field_at(0, fields));
+    state.stage = Stage::Images;
+}
+
+fn open_image(alloc: Global, state: &mut State, fields: &[&[u8]]) -> Result<(), NoMemory>
+    requires { number_in (field_at 1 (texts fields.now)) ≤ 256 }
+    ensures { OnOk result (state.new ≡ opened state.old (texts fields.now)) }
+{
+    state.open_image = image_of_header(alloc, fields)?;
+    state.stage = Stage::InImage;
+    Ok(())
+}
+
+fn add_root(state: &mut State, fields: &[&[u8]]) -> Result<(), AllocError>
+    requires { NumbersFit ARoot (texts fields.now) }
+    ensures { OnOk result (state.new ≡ add state.old ARoot (texts fields.now)) }
+{
+    let root = root_of_line(&state.system, fields);
+    state.system.roots.push(root)?;
+    state.stage = Stage::Roots;
+    Ok(())
+}
+
+fn add_chan(state: &mut State, fields: &[&[u8]]) -> Result<(), AllocError>
+    requires first { number_in (field_at 0 (texts fields.now)) ≤ 255 }
+    requires second { number_in (field_at 1 (texts fields.now)) ≤ 255 }
+    ensures { OnOk result (state.new ≡ add state.old Chan (texts fields.now)) }
+{
+    let first = small(field_at(0, fields));
+    let second = small(field_at(1, fields));
+    state.system.chans.push((first, second))?;
+    state.stage = Stage::Chans;
+    Ok(())
+}
+
+/// Adds what a line says that breaks no rule.
+pub fn add_line(
+    alloc: Global,
+    state: &mut State,
+    keyword: Keyword,
+    fields: &[&[u8]],
+) -> Result<(), NoMemory>
+    requires { NumbersFit keyword (texts fields.now) }
+    ensures { OnOk result (state.new ≡ add state.old keyword (texts fields.now)) }
+{
+    match keyword {
+        Keyword::Clusters => add_clusters(state, fields),
+        Keyword::Pager => add_pager(state, fields),
+        Keyword::Syncreads => add_syncreads(state, fields),
+        Keyword::Syncsteps => add_syncsteps(state, fields),
+        Keyword::Image | Keyword::Asm => open_image(alloc, state, fields)?,
+        Keyword::Words => push_words(&mut state.open_image.words, fields)?,
+        Keyword::End => close_image(alloc, state)?,
+        Keyword::Root => add_root(state, fields)?,
+        Keyword::Chan => add_chan(state, fields)?,
+    }
+    Ok(())
+}

@@ -1,0 +1,160 @@
+//! The assembler blocks of a system text.
+ghost use Rattle.std.specs.Prelude.{◌≡◌, ◌+◌, ◌≤◌, ◌<◌, ◌^◌, [], Ok, OnOk, IfOk, IfSome, length, codes};
+ghost use Rattle.std.specs.Str.{bytes_eq};
+ghost use Rattle.text_parts.specs.Lines.{lines_of, fields_of};
+ghost use Rattle.rv_asm.specs.Program.{reading_of_lines};
+ghost use Rattle.sys_text.specs.Rules.{HasRoom};
+ghost use Rattle.sys_text.specs.Reading.{InBlock, reading_from, is_end, ended_in_block, close_block, lines_before_end};
+ghost use Rattle.sys_text.specs.Answers.{IsRefusal, RefusesBlock, IsCounted, ClosesBlock, TakesLines};
+
+use crate::adding::close_image;
+use crate::refusal::{Rule, SystemRefused};
+use crate::state::State;
+use rv_asm::{AsmRefused, assemble};
+use std::alloc::Global;
+use t32_base::lists::List;
+use text_parts::{are_printable, first_field, first_line, split_lines};
+
+fn is_end_field(field: &[u8]) -> bool
+    ensures { result ≡ bytes_eq field.now (codes "end") }
+{
+    field == b"end".as_slice()
+}
+
+/// Does the line end an assembler block?
+fn is_end(line: &[u8]) -> bool
+    ensures { result ≡ is_end (fields_of line.now) }
+{
+    let Some((field, rest)) = first_field(line) else {
+        return false;
+    };
+    match first_field(rest) {
+        Some(_) => false,
+        None => is_end_field(field),
+    }
+}
+
+/// How many lines stand before the end of a block, if it ends.
+fn lines_before_end(text: &[u8]) -> Option<u64>
+    ensures lines { result ≡ lines_before_end (lines_of text.now) }
+    ensures few { IfSome result (λ n. n < length text.now) }
+{
+    let mut rest = text;
+    let mut count = 0u64;
+    while !rest.is_empty() {
+        let (line, after) = first_line(rest);
+        if is_end(line) {
+            return Some(count);
+        }
+        count += 1;
+        rest = after;
+    }
+    None
+}
+
+/// The refusal of a text that ends inside a block, after these lines.
+fn ended_in_block(header: u64, block: &[u8]) -> SystemRefused
+    requires { header + length block.now < 2 ^ 64 }
+    ensures { IsRefusal result (ended_in_block header (lines_of block.now)) }
+{
+    let mut rest = block;
+    let mut number = header;
+    while !rest.is_empty() {
+        let (line, after) = first_line(rest);
+        number += 1;
+        if !are_printable(line) {
+            return SystemRefused::BadLine {
+                line: number,
+                rule: Rule::ForeignByte.number(),
+            };
+        }
+        rest = after;
+    }
+    SystemRefused::BadLine {
+        line: number,
+        rule: Rule::Ended.number(),
+    }
+}
+
+/// Gives the image of a block its words, if they fit its pages.
+fn close_with(
+    alloc: Global,
+    state: &mut State,
+    header: u64,
+    number: u64,
+    words: List<u32>,
+) -> Result<(), SystemRefused>
+    requires { HasRoom state.old }
+    ensures step { ClosesBlock result state.new (close_block state.old header number (Ok words)) }
+    ensures room { OnOk result (HasRoom state.new) }
+{
+    if words.len() > 64 * usize::from(state.open_image.pages) {
+        return Err(SystemRefused::BadLine {
+            line: number,
+            rule: Rule::Room.number(),
+        });
+    }
+    state.open_image.words = words;
+    close_image(alloc, state)?;
+    Ok(())
+}
+
+/// What the assembler says of a block, in the numbers of the whole text.
+fn block_refused(header: u64, refused: AsmRefused) -> SystemRefused
+    requires { IsCounted header refused }
+    ensures { RefusesBlock result header refused }
+{
+    match refused {
+        AsmRefused::NoMemory => SystemRefused::NoMemory,
+        AsmRefused::Line { line, rule } => SystemRefused::BadLine {
+            line: header + line,
+            rule: if rule == 1 { 1 } else { 9 },
+        },
+    }
+}
+
+/// Assembles a block that line `number` ends.
+fn close_block(
+    alloc: Global,
+    state: &mut State,
+    header: u64,
+    number: u64,
+    block: &[u8],
+) -> Result<(), SystemRefused>
+    requires room { HasRoom state.old }
+    requires few { header + length block.now < 2 ^ 64 }
+    ensures step { ClosesBlock result state.new (close_block state.old header number (reading_of_lines (lines_of block.now))) }
+    ensures room { OnOk result (HasRoom state.new) }
+{
+    match assemble(alloc, block) {
+        Err(refused) => Err(block_refused(header, refused)),
+        Ok(words) => close_with(alloc, state, header, number, words),
+    }
+}
+
+/// Takes the lines of the assembler block that line `header` opened, to its end. Gives the number of its
+/// last line, and the text after it.
+pub fn take_block<'a>(
+    alloc: Global,
+    state: &mut State,
+    header: u64,
+    text: &'a [u8],
+) -> Result<(u64, &'a [u8]), SystemRefused>
+    requires room { HasRoom state.old }
+    requires few { header + length text.now < 2 ^ 64 }
+    ensures read { TakesLines result state.new (reading_from (InBlock state.old header []) header (lines_of text.now)) }
+    ensures room { OnOk result (HasRoom state.new) }
+    ensures left { IfOk result (λ after. after.0 + length after.1.now ≤ header + length text.now) }
+    ensures shorter { IfOk result (λ after. length after.1.now < length text.now) }
+{
+    let Some(count) = lines_before_end(text) else {
+        return Err(ended_in_block(header, text));
+    };
+    let (block, rest) = split_lines(text, count);
+    let (_end, after) = first_line(rest);
+    let number = header + count + 1;
+    match close_block(alloc, state, header, number, block) {
+        Ok(()) => Ok((number, after)),
+        Err(refused) => Err(refused),
+    }
+}

@@ -1,0 +1,177 @@
+//! From a text to its system.
+ghost use Rattle.std.specs.Prelude.{◌≡◌, ◌+◌, ◌≤◌, ◌<◌, ◌^◌, true, Ok, OnOk, IfOk, length};
+ghost use Rattle.text_parts.specs.Lines.{lines_of};
+ghost use Rattle.sys_text.specs.Kinds.{texts};
+ghost use Rattle.sys_text.specs.Rules.{HasRoom};
+ghost use Rattle.sys_text.specs.Numbers.{LineFits};
+ghost use Rattle.sys_text.specs.Reading.{Outside, reading_from, reading_of, step_outside, is_asm, may_end, last_line, ended, nothing_yet, kept};
+ghost use Rattle.sys_text.specs.declared.system.System.{System as Described};
+ghost use Rattle.sys_text.specs.Valid.{is_system};
+ghost use Rattle.sys_text.specs.Text.{system_text};
+ghost use Rattle.sys_text.specs.Answers.{Answers, TakesLine, TakesLines};
+
+use crate::adding::{add_line, empty_image};
+use crate::block::take_block;
+use crate::kinds::fields;
+use crate::refusal::{Rule, SystemRefused};
+use crate::rules::{begins_comment, broken_rule, keyword_in_stage};
+use crate::stage::{Keyword, Stage};
+use crate::state::State;
+use crate::system::System;
+use std::alloc::Global;
+use t32_base::lists::List;
+use t32_base::process::ClusterNo;
+use t32_base::streams::NoMemory;
+use text_parts::first_line;
+
+/// Does the line open an assembler block?
+fn opens_block(keyword: Keyword) -> bool
+    ensures { result ≡ is_asm keyword }
+{
+    match keyword {
+        Keyword::Asm => true,
+        _ => false,
+    }
+}
+
+/// Adds what a line says that breaks no rule. Does it open an assembler block?
+fn keep_line(alloc: Global, state: &mut State, fields: &[&[u8]]) -> Result<bool, NoMemory>
+    requires { LineFits state.old (texts fields.now) }
+    ensures { IfOk result (λ opens. kept state.old (texts fields.now) ≡ (state.new, opens)) }
+{
+    match fields.split_first() {
+        None => Ok(false),
+        Some((first, others)) => {
+            if begins_comment(first) {
+                return Ok(false);
+            }
+            match keyword_in_stage(state.stage, first) {
+                None => Ok(false),
+                Some(keyword) => {
+                    add_line(alloc, state, keyword, others)?;
+                    Ok(opens_block(keyword))
+                }
+            }
+        }
+    }
+}
+
+/// Takes line `number`, outside assembler blocks. Does it open one?
+fn take_line(
+    alloc: Global,
+    state: &mut State,
+    number: u64,
+    line: &[u8],
+) -> Result<bool, SystemRefused>
+    requires { HasRoom state.old }
+    ensures step { TakesLine result state.new number (step_outside state.old number line.now) }
+    ensures room { OnOk result (HasRoom state.new) }
+{
+    let fields = fields(alloc, line)?;
+    match broken_rule(state, line, &fields) {
+        Some(rule) => Err(SystemRefused::BadLine {
+            line: number,
+            rule: rule.number(),
+        }),
+        None => {
+            let opens = keep_line(alloc, state, &fields)?;
+            Ok(opens)
+        }
+    }
+}
+
+/// Takes the next line, and the whole of a block that it opens.
+fn take_next<'a>(
+    alloc: Global,
+    state: &mut State,
+    number: u64,
+    text: &'a [u8],
+) -> Result<(u64, &'a [u8]), SystemRefused>
+    requires some { 0 < length text.now }
+    requires room { HasRoom state.old }
+    requires few { number + length text.now < 2 ^ 64 }
+    ensures read { TakesLines result state.new (reading_from (Outside state.old) number (lines_of text.now)) }
+    ensures room { OnOk result (HasRoom state.new) }
+    ensures left { IfOk result (λ after. after.0 + length after.1.now ≤ number + length text.now) }
+    ensures shorter { IfOk result (λ after. length after.1.now < length text.now) }
+{
+    let (line, after) = first_line(text);
+    let next = number + 1;
+    if take_line(alloc, state, next, line)? {
+        take_block(alloc, state, next, after)
+    } else {
+        Ok((next, after))
+    }
+}
+
+/// Nothing has been read.
+fn nothing_yet(alloc: Global) -> State
+    ensures state { result ≡ nothing_yet }
+    ensures room { HasRoom result }
+{
+    State {
+        stage: Stage::Start,
+        system: System {
+            clusters: 0,
+            pager: (ClusterNo(0), ClusterNo(0)),
+            syncreads: 0,
+            syncsteps: 0,
+            images: List::new(alloc),
+            roots: List::new(alloc),
+            chans: List::new(alloc),
+        },
+        open_image: empty_image(alloc),
+    }
+}
+
+/// May a text end here?
+fn may_end(stage: Stage) -> bool
+    ensures { result ≡ may_end stage }
+{
+    match stage {
+        Stage::Roots | Stage::Chans => true,
+        _ => false,
+    }
+}
+
+fn last_line(lines: u64) -> u64
+    ensures { result ≡ last_line lines }
+{
+    if lines == 0 { 1 } else { lines }
+}
+
+/// The system, where the text may end.
+fn ended(state: State, lines: u64) -> Result<System, SystemRefused>
+    ensures { Answers result (ended state.stage state.system lines) }
+{
+    if may_end(state.stage) {
+        Ok(state.system)
+    } else {
+        Err(SystemRefused::BadLine {
+            line: last_line(lines),
+            rule: Rule::Ended.number(),
+        })
+    }
+}
+
+/// The system of a text, or the first line that breaks a rule and the lowest rule that it breaks.
+#[tactic(auto, unfolding(crate::specs::Reading::system_of_lines))]
+pub fn read_system(alloc: Global, text: &[u8]) -> Result<System, SystemRefused>
+    ensures { Answers result (reading_of text.now) }
+{
+    let mut state = nothing_yet(alloc);
+    let mut rest = text;
+    let mut number = 0u64;
+    while !rest.is_empty() {
+        let (next, after) = take_next(alloc, &mut state, number, rest)?;
+        number = next;
+        rest = after;
+    }
+    ended(state, number)
+}
+
+/// A law and no code: the canonical text of a system that keeps the rules is read as this system. So each such
+/// system is one that some text has.
+pub fn systems_read_back()
+    ensures { (s : Described) → is_system s ≡ true → reading_of (system_text s) ≡ Ok s }
+{}

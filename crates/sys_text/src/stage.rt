@@ -1,0 +1,46 @@
+//! The lines of a system text, and where each may stand.
+
+/// The first field of a line.
+#[derive(Clone, Copy, Debug, PartialEq, Eq)]
+pub enum Keyword {
+    Clusters,
+    Pager,
+    Syncreads,
+    Syncsteps,
+    Image,
+    Asm,
+    Words,
+    End,
+    Root,
+    Chan,
+}
+
+/// What has been read, and so which lines may come next.
+#[derive(Clone, Copy, Debug, PartialEq, Eq)]
+pub enum Stage {
+    Start,
+    AfterClusters,
+    AfterPager,
+    AfterSyncreads,
+    /// Image blocks, and the first root.
+    Images,
+    /// In a block of words.
+    InImage,
+    /// More roots, and channels.
+    Roots,
+    Chans,
+}
+
+/// What a field is to be.
+#[derive(Clone, Copy, Debug, PartialEq, Eq)]
+pub enum Kind {
+    /// A number with its limits.
+    Number(u64, u64),
+    /// The number of a cluster.
+    Cluster,
+    /// Any number.
+    Any,
+    Name,
+    Word,
+    Mode,
+}
