@@ -1,12 +1,10 @@
 -- What the program answers: its status, what it wrote, and what it took of its input.
-use Rattle.std.specs.Prelude.{ℕ, ◌≡◌, ◌≤◌, ◌<◌, ◌⊎◌, Bool, true, List, [], ◌∷◌, length, take, codes, Option, Some, None}
+use Rattle.std.specs.Prelude.{ℕ, ◌≡◌, ◌≤◌, ◌<◌, ◌⊎◌, Bool, true, List, length, take, codes, Option, Some, None}
 use Rattle.std.specs.Io.KnownBytes.{Consumes, Keeps, Appends}
 use Rattle.t32_base.specs.Streams.{Rose}
-use Rattle.sys_text.specs.declared.system.System.{System}
-use Rattle.plain_kernel.specs.Kernel.{Kernel}
-use Rattle.plain_kernel.specs.Still.{IsDefaultRun}
-use Rattle.sys_text.specs.Text.{IsFirstForm}
-use Rattle.report_text.specs.Report.{plain_report}
+use Rattle.targon_cli.specs.declared.command.Command.{Command}
+use Rattle.targon_cli.specs.Command.{command_of}
+use Rattle.targon_cli.specs.Reply.{Makes}
 
 -- the most bytes that are read
 abbrev pub input_limit : ℕ
@@ -18,12 +16,8 @@ usage_line = codes "t32: usage\n"
 abbrev pub read_fault_line : List ℕ
 read_fault_line = codes "t32: read fault\n"
 
-abbrev pub not_yet_line : List ℕ
-not_yet_line = codes "t32: not yet\n"
-
--- the words are exactly `plain`
-abbrev pub IsPlain : List (List ℕ) → Type 0
-IsPlain words = words ≡ codes "plain" ∷ []
+abbrev pub too_long_line : List ℕ
+too_long_line = codes "t32: input too long\n"
 
 -- what a sink holds and how often it has failed; what a source has left and how often it has failed
 pub record Out : Type 0 where
@@ -59,64 +53,50 @@ pub record ReadsTooMany (old new : In) (bytes : List ℕ) : Type 0 where
   pub taken : Consumes old.left new.left bytes
   pub above : input_limit < length bytes
 
--- what the words `plain` answer, with the status and what was taken and written
-pub data Answers (status : ℕ) (old new : In) (ended : Bool) (before after : Out) : Type 0 where
-  -- the report of the default run of the system whose text was read
-  Reported : (bytes : List ℕ) (system : System) (kernel : Kernel) → ReadsAll old new ended bytes → IsFirstForm bytes system
-      → IsDefaultRun system kernel → Says 0 (plain_report kernel) status before after → Answers status old new ended before after
-  -- the bytes are no such text
-  NotFirst : (bytes : List ℕ) → ReadsAll old new ended bytes → ((system : System) → IsFirstForm bytes system → ⊥)
-      → Says 2 not_yet_line status before after → Answers status old new ended before after
-  TooLong : (bytes : List ℕ) → ReadsTooMany old new bytes → Says 2 not_yet_line status before after
-      → Answers status old new ended before after
-  ReadFault : Rose old.faults new.faults → Says 4 read_fault_line status before after → Answers status old new ended before after
-  OutOfMemory : status ≡ 6 → Keeps before.holds after.holds → Answers status old new ended before after
+-- what a command answers, with the status and what was taken and written
+pub data Answers (command : Command) (status : ℕ) (old new : In) (ended : Bool) (before after : Out) : Type 0 where
+  -- what it makes of the bytes that were read
+  Replied : (bytes : List ℕ) (wanted : ℕ) (text : List ℕ) → ReadsAll old new ended bytes → Makes command bytes wanted text
+      → Says wanted text status before after → Answers command status old new ended before after
+  TooLong : (bytes : List ℕ) → ReadsTooMany old new bytes → Says 8 too_long_line status before after
+      → Answers command status old new ended before after
+  ReadFault : Rose old.faults new.faults → Says 4 read_fault_line status before after → Answers command status old new ended before after
+  OutOfMemory : status ≡ 6 → Keeps before.holds after.holds → Answers command status old new ended before after
 
--- what is answered for bytes that were read to their end
-pub data AnswersBytes (bytes : List ℕ) (status : ℕ) (before after : Out) : Type 0 where
-  ReportedBytes : (system : System) (kernel : Kernel) → IsFirstForm bytes system → IsDefaultRun system kernel
-      → Says 0 (plain_report kernel) status before after → AnswersBytes bytes status before after
-  NotFirstBytes : ((system : System) → IsFirstForm bytes system → ⊥) → Says 2 not_yet_line status before after
-      → AnswersBytes bytes status before after
-  OutOfMemoryBytes : status ≡ 6 → Keeps before.holds after.holds → AnswersBytes bytes status before after
-
--- The bytes were read to their end and are no text of the first form, or more were taken than are read.
-pub data IsNoFirstForm (old new : In) (ended : Bool) : Type 0 where
-  NoText : (bytes : List ℕ) → ReadsAll old new ended bytes → ((system : System) → IsFirstForm bytes system → ⊥) → IsNoFirstForm old new ended
-  TooMany : (bytes : List ℕ) → ReadsTooMany old new bytes → IsNoFirstForm old new ended
-
--- What status 0 says: the bytes are the canonical text of a system, and the sink holds what it held followed by the report of the kernel that the default schedule reaches from it.
-pub record IsReported (old new : In) (ended : Bool) (before after : Out) : Type 0 where
+-- A command made this of all the bytes of the input, under its status, and the whole text was written.
+pub record IsReplied (words : List (List ℕ)) (status : ℕ) (old new : In) (ended : Bool) (before after : Out) : Type 0 where
+  pub command : Command
+  pub words_are : command_of words ≡ Some command
   pub bytes : List ℕ
-  pub system : System
-  pub kernel : Kernel
+  pub text : List ℕ
   pub read : ReadsAll old new ended bytes
-  pub first : IsFirstForm bytes system
-  pub run : IsDefaultRun system kernel
-  pub written : Appends before.holds after.holds (plain_report kernel)
+  pub made : Makes command bytes status text
+  pub written : Appends before.holds after.holds text
+
+-- what a command makes of known bytes was written, under its status
+pub record Completes (command : Command) (bytes : List ℕ) (status : ℕ) (before after : Out) : Type 0 where
+  pub text : List ℕ
+  pub made : Makes command bytes status text
+  pub written : Appends before.holds after.holds text
 
 -- the statuses of the program
 abbrev pub IsStatus : ℕ → Type 0
-IsStatus status = (status ≡ 0) ⊎ (status ≡ 1) ⊎ (status ≡ 2) ⊎ (status ≡ 4) ⊎ (status ≡ 5) ⊎ (status ≡ 6)
+IsStatus status = (status ≡ 0) ⊎ (status ≡ 1) ⊎ (status ≡ 2) ⊎ (status ≡ 4) ⊎ (status ≡ 5) ⊎ (status ≡ 6) ⊎ (status ≡ 8)
 
 -- What the top call answers. Want of memory, 6, is the one status without a cause.
 pub record Answered (words : List (List ℕ)) (status : ℕ) (old new : In) (ended : Bool) (before after : Out) : Type 0 where
   -- the words are no command
-  pub usage : (IsPlain words → ⊥) → Says 1 usage_line status before after
-  -- the word `plain`
-  pub plain : IsPlain words → Answers status old new ended before after
-  -- each status has its cause
-  pub status_0 : status ≡ 0 → IsReported old new ended before after
-  pub status_1 : status ≡ 1 → IsPlain words → ⊥
-  pub status_2 : status ≡ 2 → IsPlain words → IsNoFirstForm old new ended
+  pub usage : command_of words ≡ None → Says 1 usage_line status before after
+  -- the words are a command
+  pub command : (command : Command) → command_of words ≡ Some command → Answers command status old new ended before after
+  -- each status has its cause: 0 that a command was carried out, and 2 that it refuses its input
+  pub status_0 : status ≡ 0 → IsReplied words status old new ended before after
+  pub status_1 : status ≡ 1 → command_of words ≡ None
+  pub status_2 : status ≡ 2 → IsReplied words status old new ended before after
   pub status_4 : status ≡ 4 → Rose old.faults new.faults
   pub status_5 : status ≡ 5 → Rose before.faults after.faults
+  pub status_8 : status ≡ 8 → (bytes : List ℕ) × ReadsTooMany old new bytes
   pub no_other : IsStatus status
-  -- where neither side fails, a text of the first form is run, unless memory is refused
-  pub complete : IsPlain words → (Rose old.faults new.faults → ⊥) → (Rose before.faults after.faults → ⊥)
-      → (bytes : List ℕ) (system : System) → old.left ≡ Some bytes → length bytes ≤ input_limit → IsFirstForm bytes system
-      → (status ≡ 0) ⊎ (status ≡ 6)
-  -- and where the bytes are no such text, it is refused, unless memory is
-  pub refuses : IsPlain words → (Rose old.faults new.faults → ⊥) → (Rose before.faults after.faults → ⊥)
-      → (bytes : List ℕ) → old.left ≡ Some bytes → length bytes ≤ input_limit → ((system : System) → IsFirstForm bytes system → ⊥)
-      → (status ≡ 2) ⊎ (status ≡ 6)
+  -- where neither side fails, what a command makes of its input is written, unless memory is refused
+  pub complete : (command : Command) → command_of words ≡ Some command → (Rose old.faults new.faults → ⊥) → (Rose before.faults after.faults → ⊥)
+      → (bytes : List ℕ) → old.left ≡ Some bytes → length bytes ≤ input_limit → Completes command bytes status before after ⊎ (status ≡ 6)

@@ -1,2 +1,4 @@
 pub mod Answer
+pub mod Command
 pub mod Input
+pub mod Reply

@@ -1,6 +1,8 @@
 //! The program: its words, its input and what it answers.
 #![tactic(auto)]
 
+pub mod command;
 pub mod input;
 pub mod output;
+pub mod reply;
 pub mod top;

@@ -1,0 +1,58 @@
+-- What a command makes of the bytes of its input: the status, and the text that is written.
+use Rattle.std.specs.Prelude.{ℕ, ◌≡◌, Bool, true, false, ◌&&◌, ◌==◌, List, ◌++◌, length, codes, Result, Ok, Err}
+use Rattle.std.specs.Fmt.{decimal}
+use Rattle.targon_cli.specs.declared.command.Command.{Command}
+use Rattle.targon_cli.specs.declared.command.Command.TheVariants as commands
+use Rattle.sys_text.specs.declared.system.System.{System}
+use Rattle.sys_text.specs.Valid.{is_system}
+use Rattle.sys_text.specs.Text.{system_text}
+use Rattle.sys_text.specs.Reading.{Answer, reading_of as system_reading}
+use Rattle.sys_text.specs.Refusal.{number_of_rule as system_rule}
+use Rattle.rv_asm.specs.declared.refusal.Rule.{Rule as AsmRule}
+use Rattle.rv_asm.specs.Program.{reading_of as asm_reading}
+use Rattle.rv_asm.specs.Printing.{words_text_of}
+use Rattle.rv_asm.specs.Refusal.{number_of_rule as asm_rule}
+use Rattle.plain_kernel.specs.Kernel.{Kernel}
+use Rattle.plain_kernel.specs.Still.{IsDefaultRun}
+use Rattle.report_text.specs.Report.{plain_report}
+
+-- the line and the rule of a refused text
+abbrev pub refusal_text : (line rule : ℕ) → List ℕ
+refusal_text line rule = decimal line ++ codes " rule " ++ decimal rule ++ codes "\n"
+
+abbrev pub system_line : (line rule : ℕ) → List ℕ
+system_line line rule = codes "t32: system line " ++ refusal_text line rule
+
+abbrev pub asm_line : (line rule : ℕ) → List ℕ
+asm_line line rule = codes "t32: asm line " ++ refusal_text line rule
+
+abbrev pub not_yet_line : List ℕ
+not_yet_line = codes "t32: not yet\n"
+
+-- the systems that are run yet: those without channels
+abbrev pub is_run : System → Bool
+is_run system = is_system system && (length system.chans == 0)
+
+-- the default run of a system is reported
+abbrev pub Runs : System → Bool → (status : ℕ) → (text : List ℕ) → Type 0
+Runs system false status text = (status ≡ 2) × (text ≡ not_yet_line)
+Runs system true status text = (status ≡ 0) × ((kernel : Kernel) × IsDefaultRun system kernel × (text ≡ plain_report kernel))
+
+abbrev pub MakesPlain : Answer → (status : ℕ) → (text : List ℕ) → Type 0
+MakesPlain (Ok system) status text = Runs system (is_run system) status text
+MakesPlain (Err refused) status text = (status ≡ 2) × (text ≡ system_line refused.0 (system_rule refused.1))
+
+-- a system text is printed in canonical form
+abbrev pub MakesCheck : Answer → (status : ℕ) → (text : List ℕ) → Type 0
+MakesCheck (Ok system) status text = (status ≡ 0) × (text ≡ system_text system)
+MakesCheck (Err refused) status text = (status ≡ 2) × (text ≡ system_line refused.0 (system_rule refused.1))
+
+-- the words of an assembler text are printed
+abbrev pub MakesAsm : Result (List ℕ) (ℕ × AsmRule) → (status : ℕ) → (text : List ℕ) → Type 0
+MakesAsm (Ok words) status text = (status ≡ 0) × (text ≡ words_text_of words)
+MakesAsm (Err refused) status text = (status ≡ 2) × (text ≡ asm_line refused.0 (asm_rule refused.1))
+
+abbrev pub Makes : Command → (bytes : List ℕ) → (status : ℕ) → (text : List ℕ) → Type 0
+Makes commands.Plain bytes status text = MakesPlain (system_reading bytes) status text
+Makes commands.Check bytes status text = MakesCheck (system_reading bytes) status text
+Makes commands.Asm bytes status text = MakesAsm (asm_reading bytes) status text

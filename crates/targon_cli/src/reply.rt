@@ -1,0 +1,136 @@
+//! What a command makes of the bytes of its input.
+ghost use Rattle.std.specs.Prelude.{◌≡◌, ◌++◌, ◌^◌, ◌<◌, IfOk, string_bytes, codes, true};
+ghost use Rattle.std.specs.Fmt.{decimal};
+ghost use Rattle.plain_kernel.specs.Kernel.{Kernel};
+ghost use Rattle.plain_kernel.specs.Still.{IsDefaultRun};
+ghost use Rattle.report_text.specs.Report.{plain_report as plain_report_of};
+ghost use Rattle.rv_asm.specs.Program.{reading_of as asm_reading};
+ghost use Rattle.sys_text.specs.Reading.{reading_of as system_reading};
+ghost use Rattle.targon_cli.specs.Reply.{asm_line, is_run as is_run_of, Makes, MakesAsm, MakesCheck, MakesPlain, not_yet_line, system_line};
+
+use crate::command::Command;
+use plain_kernel::plain::default_run;
+use report_text::plain::plain_report;
+use rv_asm::{AsmRefused, assemble, words_text};
+use std::alloc::Global;
+use sys_text::printer::system_text;
+use sys_text::system::System;
+use sys_text::valid::is_system;
+use sys_text::{SystemRefused, read_system};
+use t32_base::lists::{Bytes, Text};
+use t32_base::streams::NoMemory;
+
+/// The status where all was done.
+pub const DONE: u8 = 0;
+
+/// The status where the input is refused.
+pub const REFUSED: u8 = 2;
+
+/// The status of a command, and the text that is to be written.
+#[derive(Drop)]
+pub struct Reply {
+    pub status: u8,
+    pub text: Text,
+}
+
+/// What a command makes of the bytes of its input.
+pub fn reply(alloc: Global, command: Command, bytes: &[u8]) -> Result<Reply, NoMemory>
+    ensures { IfOk result (λ r. Makes command bytes.now r.status r.text) }
+{
+    match command {
+        Command::Plain => plain(alloc, bytes),
+        Command::Check => check(alloc, bytes),
+        Command::Asm => asm(alloc, bytes),
+    }
+}
+
+// Runs a system, where it is one that is run yet.
+fn plain(alloc: Global, bytes: &[u8]) -> Result<Reply, NoMemory>
+    ensures { IfOk result (λ r. MakesPlain (system_reading bytes.now) r.status r.text) }
+{
+    match read_system(alloc, bytes) {
+        Ok(system) => {
+            if !is_run(&system) {
+                return not_yet(alloc);
+            }
+            let text = report_of(alloc, &system)?;
+            Ok(Reply { status: DONE, text })
+        }
+        Err(SystemRefused::BadLine { line, rule }) => refused_system(alloc, line, rule),
+        Err(SystemRefused::NoMemory) => Err(NoMemory),
+    }
+}
+
+// Whether a system is run yet.
+fn is_run(system: &System) -> bool
+    ensures { result ≡ is_run_of system.now }
+{
+    is_system(system) && system.chans.len() == 0
+}
+
+// The report of the default run.
+fn report_of(alloc: Global, system: &System) -> Result<Text, NoMemory>
+    requires { is_run_of system.now ≡ true }
+    ensures { IfOk result (λ text. (k : Kernel) × IsDefaultRun system.now k × (text ≡ plain_report_of k)) }
+{
+    let plain = default_run(alloc, system)?;
+    plain_report(alloc, &plain)
+}
+
+fn not_yet(alloc: Global) -> Result<Reply, NoMemory>
+    ensures { IfOk result (λ r. (r.status ≡ 2) × (r.text ≡ not_yet_line)) }
+{
+    let text = Bytes::copy_of(alloc, b"t32: not yet\n")?;
+    Ok(Reply {
+        status: REFUSED,
+        text,
+    })
+}
+
+// Prints a system in canonical form.
+fn check(alloc: Global, bytes: &[u8]) -> Result<Reply, NoMemory>
+    ensures { IfOk result (λ r. MakesCheck (system_reading bytes.now) r.status r.text) }
+{
+    match read_system(alloc, bytes) {
+        Ok(system) => {
+            let text = system_text(alloc, &system)?;
+            Ok(Reply { status: DONE, text })
+        }
+        Err(SystemRefused::BadLine { line, rule }) => refused_system(alloc, line, rule),
+        Err(SystemRefused::NoMemory) => Err(NoMemory),
+    }
+}
+
+// Assembles a text, and prints its words.
+fn asm(alloc: Global, bytes: &[u8]) -> Result<Reply, NoMemory>
+    ensures { IfOk result (λ r. MakesAsm (asm_reading bytes.now) r.status r.text) }
+{
+    match assemble(alloc, bytes) {
+        Ok(words) => {
+            let text = words_text(alloc, words.as_slice())?;
+            Ok(Reply { status: DONE, text })
+        }
+        Err(AsmRefused::Line { line, rule }) => refused_asm(alloc, line, rule),
+        Err(AsmRefused::NoMemory) => Err(NoMemory),
+    }
+}
+
+fn refused_system(alloc: Global, line: u64, rule: u8) -> Result<Reply, NoMemory>
+    ensures { IfOk result (λ r. (r.status ≡ 2) × (r.text ≡ system_line line rule)) }
+{
+    let text = format!(in alloc; "t32: system line {line} rule {rule}\n")?;
+    Ok(Reply {
+        status: REFUSED,
+        text: Bytes::copy_of(alloc, text.as_bytes())?,
+    })
+}
+
+fn refused_asm(alloc: Global, line: u64, rule: u8) -> Result<Reply, NoMemory>
+    ensures { IfOk result (λ r. (r.status ≡ 2) × (r.text ≡ asm_line line rule)) }
+{
+    let text = format!(in alloc; "t32: asm line {line} rule {rule}\n")?;
+    Ok(Reply {
+        status: REFUSED,
+        text: Bytes::copy_of(alloc, text.as_bytes())?,
+    })
+}
