@@ -5,6 +5,8 @@ use Rattle.std.specs.Io.KnownBytes.{Consumes, Appends}
 use Rattle.t32_base.specs.Streams.{Rose}
 use Rattle.targon_cli.specs.declared.command.Command.{Command}
 use Rattle.targon_cli.specs.declared.command.Command.TheVariants as commands
+use Rattle.sys_text.specs.Reading.{reading_of as system_reading}
+use Rattle.rv_asm.specs.Program.{reading_of as asm_reading}
 use Rattle.targon_cli.specs.Command.{command_of}
 use Rattle.targon_cli.specs.Reply.{Makes, MakesPlain, MakesCheck, MakesAsm, Runs, is_run}
 use Rattle.targon_cli.specs.Answer.{In, Out, Says, Wrote, WriteFault, IsAll, ReadsAll, ReadsTooMany, Answers, Replied, TooLong, ReadFault, OutOfMemory, IsReplied, Completes, IsStatus, input_limit, usage_line, Answered}
@@ -42,9 +44,9 @@ status_of_asm (Ok words) wanted text m = inl m.0
 status_of_asm (Err refused) wanted text m = inr m.0
 
 status_made : (command : Command) (bytes : List ℕ) (wanted : ℕ) (text : List ℕ) → Makes command bytes wanted text → (wanted ≡ 0) ⊎ (wanted ≡ 2)
-status_made commands.Plain bytes wanted text m = status_of_plain _ wanted text m
-status_made commands.Check bytes wanted text m = status_of_check _ wanted text m
-status_made commands.Asm bytes wanted text m = status_of_asm _ wanted text m
+status_made commands.Plain bytes wanted text m = status_of_plain (system_reading bytes) wanted text m
+status_made commands.Check bytes wanted text m = status_of_check (system_reading bytes) wanted text m
+status_made commands.Asm bytes wanted text m = status_of_asm (asm_reading bytes) wanted text m
 
 -- ---- what is answered, by its status
 

@@ -1,5 +1,5 @@
 -- What a command makes of the bytes of its input: the status, and the text that is written.
-use Rattle.std.specs.Prelude.{ℕ, ◌≡◌, Bool, true, false, ◌&&◌, ◌==◌, List, ◌++◌, length, codes, Result, Ok, Err}
+use Rattle.std.specs.Prelude.{ℕ, ◌≡◌, Bool, true, false, ◌&&◌, ◌==◌, List, [], ◌∷◌, ◌++◌, length, codes, Result, Ok, Err}
 use Rattle.std.specs.Fmt.{decimal}
 use Rattle.targon_cli.specs.declared.command.Command.{Command}
 use Rattle.targon_cli.specs.declared.command.Command.TheVariants as commands
@@ -16,15 +16,12 @@ use Rattle.plain_kernel.specs.Kernel.{Kernel}
 use Rattle.plain_kernel.specs.Still.{IsDefaultRun}
 use Rattle.report_text.specs.Report.{plain_report}
 
--- the line and the rule of a refused text
-abbrev pub refusal_text : (line rule : ℕ) → List ℕ
-refusal_text line rule = decimal line ++ codes " rule " ++ decimal rule ++ codes "\n"
-
+-- a refused text, with its line and its rule
 abbrev pub system_line : (line rule : ℕ) → List ℕ
-system_line line rule = codes "t32: system line " ++ refusal_text line rule
+system_line line rule = codes "t32: system line " ++ (decimal line ++ (codes " rule " ++ (decimal rule ++ 10 ∷ [])))
 
 abbrev pub asm_line : (line rule : ℕ) → List ℕ
-asm_line line rule = codes "t32: asm line " ++ refusal_text line rule
+asm_line line rule = codes "t32: asm line " ++ (decimal line ++ (codes " rule " ++ (decimal rule ++ 10 ∷ [])))
 
 abbrev pub not_yet_line : List ℕ
 not_yet_line = codes "t32: not yet\n"

@@ -34,7 +34,7 @@ pub struct Reply {
 }
 
 /// What a command makes of the bytes of its input.
-pub fn reply(alloc: Global, command: Command, bytes: &[u8]) -> Result<Reply, NoMemory>
+pub fn carry_out(alloc: Global, command: Command, bytes: &[u8]) -> Result<Reply, NoMemory>
     ensures { IfOk result (λ r. Makes command bytes.now r.status r.text) }
 {
     match command {

@@ -7,7 +7,7 @@ ghost use Rattle.targon_cli.specs.declared.command.Command.{Command as ACommand}
 use crate::command::{Command, command_of};
 use crate::input::{Input, read_input};
 use crate::output::say;
-use crate::reply::reply;
+use crate::reply::carry_out;
 use std::alloc::Global;
 use std::sync::Wait;
 use std::thread::Threads;
@@ -99,7 +99,7 @@ fn answer<S: Source, K: Sink>(
         (record { holds = K.holds output.new; faults = K.fault_count output.new }) }
 {
     match read_input(alloc, input) {
-        Ok(Input::Whole(bytes)) => match reply(alloc, command, bytes.as_slice()) {
+        Ok(Input::Whole(bytes)) => match carry_out(alloc, command, bytes.as_slice()) {
             Ok(reply) => say(output, reply.text.as_slice(), reply.status),
             Err(NoMemory) => NO_MEMORY,
         },
