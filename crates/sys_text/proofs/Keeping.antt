@@ -135,7 +135,7 @@ numbers_fit state keywords.Chan fields e r = root_small state.system (number_at 
 
 -- ---- the room
 
-words_in-le : (fields : List (List ℕ)) → length (words_in fields) ≤ length fields
+pub words_in-le : (fields : List (List ℕ)) → length (words_in fields) ≤ length fields
 words_in-le [] = omega arith
 words_in-le (field ∷ fields) = by_word (words_in-le fields) (word_of field) refl
   where
@@ -143,10 +143,10 @@ words_in-le (field ∷ fields) = by_word (words_in-le fields) (word_of field) re
     by_word next None e = rw e (omega (arith, next))
     by_word next (Some w) e = rw e (omega (arith, next))
 
-le_of : (a b : ℕ) → not (leb a b) ≡ false → a ≤ b
+pub le_of : (a b : ℕ) → not (leb a b) ≡ false → a ≤ b
 le_of a b h = grind (arith, nat_tests)
 
-births-root : (roots : List Root) (root : Root) → births_of (roots ++ root ∷ []) ≡ births_of roots + root.births
+pub births-root : (roots : List Root) (root : Root) → births_of (roots ++ root ∷ []) ≡ births_of roots + root.births
 births-root roots root = sum_by_push (λ (r : Root). r.births) roots root
 
 pub room_kept : (state : State) (keyword : Keyword) (fields : List (List ℕ)) → lowest_with state keyword fields ≡ None → HasRoom state → HasRoom (add state keyword fields)

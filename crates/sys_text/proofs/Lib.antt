@@ -11,8 +11,12 @@ mod Limits
 mod Lines
 mod Printed
 mod ReadBack
+mod Reached
 mod Rooted
 mod Rows
+mod Sound
+mod Sounding
+mod Standing
 mod Stepping
 mod Taking
 mod Words

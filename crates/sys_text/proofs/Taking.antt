@@ -15,7 +15,7 @@ own_rules state line e =
     let s1 = (none_passes (breaks state line) ForeignByte (Misplaced ∷ FieldCount ∷ FieldKind ∷ Limit ∷ Same ∷ Name ∷ Room ∷ []) e).1 in
     (none_passes (breaks state line) Misplaced (FieldCount ∷ FieldKind ∷ Limit ∷ Same ∷ Name ∷ Room ∷ []) s1).1
 
-lowest_none : (state : State) (line : List ℕ) (keyword : Keyword) → is_skipped (fields_of line) ≡ false → keyword_in state.stage (first_of (fields_of line)) ≡ Some keyword → broken_by state line ≡ None → lowest_with state keyword (rest_of (fields_of line)) ≡ None
+pub lowest_none : (state : State) (line : List ℕ) (keyword : Keyword) → is_skipped (fields_of line) ≡ false → keyword_in state.stage (first_of (fields_of line)) ≡ Some keyword → broken_by state line ≡ None → lowest_with state keyword (rest_of (fields_of line)) ≡ None
 lowest_none state line keyword skip key e = rw (skip, key) at (own_rules state line e)
 
 pub line_fits : (state : State) (line : List ℕ) → broken_by state line ≡ None → HasRoom state → LineFits state (fields_of line)

@@ -8,7 +8,7 @@ use Rattle.sys_text.specs.Valid.{is_word}
 word_fits : (w : ℕ) → w < 2 ^ 32 → is_word w ≡ true
 word_fits w p = grind (arith, nat_tests)
 
-are_words : (words : List ℕ) → ((i : ℕ) → get_or words i 0 < 2 ^ 32) → list_all is_word words ≡ true
+pub are_words : (words : List ℕ) → ((i : ℕ) → get_or words i 0 < 2 ^ 32) → list_all is_word words ≡ true
 are_words [] h = refl
 are_words (w ∷ ws) h = and_from _ _ (word_fits w (h 0)) (are_words ws (λ i. h (suc i)))
 

@@ -14,6 +14,7 @@ use Rattle.sys_text.specs.declared.stage.Kind.TheVariants.{Mode as AMode}
 use Rattle.sys_text.specs.Valid.{is_name, is_within}
 
 infix 20 ◌is◌
+-- a row of a table of names
 abbrev ◌is◌ : {V : Type 0} → List ℕ → V → List ℕ × V
 name is value = (name, value)
 
@@ -24,9 +25,11 @@ keywords_by_name =
     ∷ (codes "image" is keywords.Image) ∷ (codes "asm" is keywords.Asm) ∷ (codes "words" is keywords.Words) ∷ (codes "end" is keywords.End)
     ∷ (codes "root" is keywords.Root) ∷ (codes "chan" is keywords.Chan) ∷ []
 
+-- the modes by their names
 abbrev pub modes_by_name : List (List ℕ × Mode)
 modes_by_name = (codes "quarter" is modes.Quarter) ∷ (codes "half" is modes.Half) ∷ (codes "full" is modes.Full) ∷ []
 
+-- the mode that a field names
 abbrev pub mode_named : List ℕ → Option Mode
 mode_named field = lookup modes_by_name field
 
@@ -48,6 +51,7 @@ abbrev pub may_repeat : Keyword → Bool
 may_repeat keywords.Words = true
 may_repeat keyword = false
 
+-- the number of fields after the first is right
 abbrev pub count_fits : Keyword → List (List ℕ) → Bool
 count_fits keyword fields = if may_repeat keyword then nat_le 1 (length fields) else length fields == length (kinds_of keyword)
 
@@ -79,6 +83,7 @@ each test [] fields = true
 each test (kind ∷ kinds) [] = true
 each test (kind ∷ kinds) (field ∷ fields) = test kind field && each test kinds fields
 
+-- the test holds of each field after the first and its kind
 abbrev pub each_field : (Kind → List ℕ → Bool) → Keyword → List (List ℕ) → Bool
 each_field test keyword fields = if may_repeat keyword then list_all (test Word) fields else each test (kinds_of keyword) fields
 

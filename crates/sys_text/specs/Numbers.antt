@@ -6,9 +6,11 @@ use Rattle.sys_text.specs.declared.stage.Keyword.{Keyword}
 use Rattle.sys_text.specs.declared.stage.Keyword.TheVariants as keywords
 use Rattle.sys_text.specs.Kinds.{field_at, number}
 
+-- the number of a field after the first
 abbrev pub number_at : ℕ → List (List ℕ) → ℕ
 number_at n fields = number (field_at n fields)
 
+-- the numbers of a root fit one byte, and its limit four
 pub record RootNumbers (fields : List (List ℕ)) : Type 0 where
   pub home : number_at 0 fields ≤ 255
   pub backup : number_at 1 fields ≤ 255
@@ -16,6 +18,7 @@ pub record RootNumbers (fields : List (List ℕ)) : Type 0 where
   pub births : number_at 5 fields ≤ 255
   pub tty : number_at 6 fields ≤ 255
 
+-- the numbers of a line fit one, two or four bytes
 abbrev pub NumbersFit : Keyword → List (List ℕ) → Type 0
 NumbersFit keywords.Clusters fields = number_at 0 fields ≤ 255
 NumbersFit keywords.Pager fields = (number_at 0 fields ≤ 255) × (number_at 1 fields ≤ 255)

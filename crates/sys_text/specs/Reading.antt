@@ -20,6 +20,7 @@ use Rattle.sys_text.specs.Rules.{keyword_in, first_of, rest_of, is_skipped, brok
 abbrev pub Answer : Type 0
 Answer = Result System (ℕ × Rule)
 
+-- before the first line
 abbrev pub nothing_yet : State
 nothing_yet = record { stage = Start; system = record { clusters = 0; pager = (record { 0 = 0 }, record { 0 = 0 }); syncreads = 0; syncsteps = 0; images = []; roots = []; chans = [] }; open_image = no_image }
 
@@ -46,6 +47,7 @@ may_end Roots = true
 may_end Chans = true
 may_end stage = false
 
+-- the system of a text of n lines that ends outside blocks, or rule 10
 abbrev pub ended : Stage → System → ℕ → Answer
 ended stage system n = if may_end stage then Ok system else Err (last_line n, Ended)
 
@@ -71,6 +73,7 @@ abbrev pub close_block : State → (header n : ℕ) → Result (List ℕ) (ℕ �
 close_block state header n (Err refused) = Refuses (header + refused.0) (rule_in_block refused.1)
 close_block state header n (Ok words) = if fit_pages (length words) state.open_image.pages then Goes (Outside (closed state words)) else Refuses n Room
 
+-- the line opens an assembler block
 abbrev pub is_asm : Keyword → Bool
 is_asm keywords.Asm = true
 is_asm keyword = false
@@ -80,12 +83,15 @@ abbrev pub kept_with : State → List (List ℕ) → Option Keyword → State ×
 kept_with state fields None = (state, false)
 kept_with state fields (Some keyword) = (add state keyword fields, is_asm keyword)
 
+-- the same of any line that breaks no rule: one that is skipped adds nothing
 abbrev pub kept : State → List (List ℕ) → State × Bool
 kept state fields = if is_skipped fields then (state, false) else kept_with state (rest_of fields) (keyword_in state.stage (first_of fields))
 
+-- line n, which breaks no rule, leads to this place
 abbrev pub kept_line : (n : ℕ) → State × Bool → Step
 kept_line n after = if after.1 then Goes (InBlock after.0 n []) else Goes (Outside after.0)
 
+-- line n is refused by the rule, or kept
 abbrev pub line_or_rule : State → (n : ℕ) → List ℕ → Option Rule → Step
 line_or_rule state n line None = kept_line n (kept state (fields_of line))
 line_or_rule state n line (Some rule) = Refuses n rule
@@ -106,6 +112,7 @@ abbrev pub at_end : Place → ℕ → Answer
 at_end (Outside state) n = ended state.stage state.system n
 at_end (InBlock state header block) n = ended_in_block header block
 
+-- the answer of a step and what follows it
 abbrev pub goes_on : Step → (Place → Answer) → Answer
 goes_on (Goes next) rest = rest next
 goes_on (Refuses line rule) rest = Err (line, rule)
@@ -125,6 +132,7 @@ reading_of text = system_of_lines (lines_of text)
 
 -- ---- how many lines an assembler block has, if it ends
 
+-- None where no line is the end
 abbrev pub lines_before_end : List (List ℕ) → Option ℕ
 lines_before_end [] = None
 lines_before_end (line ∷ lines) = if is_end (fields_of line) then Some 0 else option_map (λ n. n + 1) (lines_before_end lines)

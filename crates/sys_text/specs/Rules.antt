@@ -39,6 +39,7 @@ may_stand Roots keywords.Chan = true
 may_stand Chans keywords.Chan = true
 may_stand stage keyword = false
 
+-- the keyword, where it may stand here
 abbrev pub allowed : Stage → Option Keyword → Option Keyword
 allowed stage None = None
 allowed stage (Some keyword) = if may_stand stage keyword then Some keyword else None
@@ -49,14 +50,17 @@ keyword_in stage field = allowed stage (lookup keywords_by_name field)
 
 -- ---- the parts of a line
 
+-- the first field; no bytes where there is none
 abbrev pub first_of : List (List ℕ) → List ℕ
 first_of [] = []
 first_of (field ∷ fields) = field
 
+-- the fields after the first
 abbrev pub rest_of : List (List ℕ) → List (List ℕ)
 rest_of [] = []
 rest_of (field ∷ fields) = fields
 
+-- the first byte is '#'
 abbrev pub begins_comment : List ℕ → Bool
 begins_comment [] = false
 begins_comment (b ∷ bs) = b == 35
@@ -73,6 +77,7 @@ abbrev pub place_of : List Image → List ℕ → Option ℕ
 place_of [] name = None
 place_of (image ∷ images) name = if bytes_eq image.name name then Some 0 else option_map (λ n. n + 1) (place_of images name)
 
+-- the place of the image of a system with this name
 abbrev pub image_named : System → List ℕ → Option ℕ
 image_named system name = place_of system.images name
 
@@ -116,6 +121,7 @@ breaks_room state keywords.Root fields = nat_lt 32 (places_with state.system (nu
 breaks_room state keywords.Chan fields = is_full state.system (number (field_at 0 fields)) || is_full state.system (number (field_at 1 fields))
 breaks_room state keyword fields = false
 
+-- the rules 3 to 8, each by its number
 abbrev pub breaks_with : State → Keyword → List (List ℕ) → Rule → Bool
 breaks_with state keyword fields FieldCount = not (count_fits keyword fields)
 breaks_with state keyword fields FieldKind = not (each_field is_kind keyword fields)
@@ -150,9 +156,11 @@ lowest_with state keyword fields = find (breaks_with state keyword fields) (Fiel
 
 -- ---- what a line that breaks no rule adds
 
+-- the cluster that a field stands for
 abbrev pub cluster_in : List ℕ → ClusterNo
 cluster_in field = record { 0 = number field }
 
+-- the root of a line, of which the image is named by the fourth field
 abbrev pub root_in : System → List (List ℕ) → Root
 root_in system fields = record {
   home = cluster_in (field_at 0 fields);
@@ -164,12 +172,15 @@ root_in system fields = record {
   tty = number (field_at 6 fields);
 }
 
+-- the image that is open where none is
 abbrev pub no_image : Image
 no_image = record { name = []; pages = 0; words = [] }
 
+-- the image of a block that begins, which has no words yet
 abbrev pub image_in : List (List ℕ) → Image
 image_in fields = record { name = field_at 0 fields; pages = number (field_at 1 fields); words = [] }
 
+-- the words that fields stand for
 abbrev pub words_in : List (List ℕ) → List ℕ
 words_in fields = filter_map word_of fields
 
@@ -185,6 +196,7 @@ opened state fields = record { stage = InImage; system = state.system; open_imag
 abbrev pub closed : State → List ℕ → State
 closed state words = record { stage = Images; system = record state.system { images = state.system.images ++ record state.open_image { words = words } ∷ [] }; open_image = no_image }
 
+-- the state after a line with this keyword and these fields after it
 abbrev pub add : State → Keyword → List (List ℕ) → State
 add state keywords.Clusters fields = at AfterClusters state (record state.system { clusters = number (field_at 0 fields) })
 add state keywords.Pager fields = at AfterPager state (record state.system { pager = (cluster_in (field_at 0 fields), cluster_in (field_at 1 fields)) })
@@ -199,6 +211,7 @@ add state keywords.Chan fields = at Chans state (record state.system { chans = s
 
 -- ---- what the rules have kept so far
 
+-- 16 clusters at most, 32 processes with all births, and words that fit the pages of the open image
 pub record HasRoom (state : State) : Type 0 where
   pub clusters : state.system.clusters ≤ 16
   pub places : length state.system.roots + births_of state.system.roots ≤ 32

@@ -17,6 +17,7 @@ mod state;
 pub mod system;
 #[cfg(test)]
 mod tests;
+mod types;
 pub mod valid;
 
 pub use reading::{read_system, systems_read_back};

@@ -18,6 +18,7 @@ use crate::rules::{begins_comment, broken_rule, keyword_in_stage};
 use crate::stage::{Keyword, Stage};
 use crate::state::State;
 use crate::system::System;
+use crate::types::{all_numbers_fit, all_words_fit};
 use std::alloc::Global;
 use t32_base::lists::List;
 use t32_base::process::ClusterNo;
@@ -154,9 +155,9 @@ fn ended(state: State, lines: u64) -> Result<System, SystemRefused>
     }
 }
 
-/// The system of a text, or the first line that breaks a rule and the lowest rule that it breaks.
+/// The lines one after the other.
 #[tactic(auto, unfolding(crate::specs::Reading::system_of_lines))]
-pub fn read_system(alloc: Global, text: &[u8]) -> Result<System, SystemRefused>
+fn read_lines(alloc: Global, text: &[u8]) -> Result<System, SystemRefused>
     ensures { Answers result (reading_of text.now) }
 {
     let mut state = nothing_yet(alloc);
@@ -168,6 +169,23 @@ pub fn read_system(alloc: Global, text: &[u8]) -> Result<System, SystemRefused>
         rest = after;
     }
     ended(state, number)
+}
+
+/// The system of a text, or the first line that breaks a rule and the lowest rule that it breaks.
+pub fn read_system(alloc: Global, text: &[u8]) -> Result<System, SystemRefused>
+    // Which of the two it is.
+    ensures exact { Answers result (reading_of text.now) }
+    // The system keeps the rules.
+    ensures valid { IfOk result (λ system. is_system system ≡ true) }
+{
+    match read_lines(alloc, text) {
+        Ok(system) => {
+            all_words_fit(system.images.as_slice());
+            all_numbers_fit(system.roots.as_slice());
+            Ok(system)
+        }
+        Err(refused) => Err(refused),
+    }
 }
 
 /// A law and no code: the canonical text of a system that keeps the rules is read as this system. So each such

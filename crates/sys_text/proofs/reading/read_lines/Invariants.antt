@@ -2,7 +2,7 @@ use Rattle.std.proofs.Common.{◌≡◌, ◌+◌, ◌≤◌, length}
 use Rattle.text_parts.specs.Lines.{lines_of}
 use Rattle.sys_text.specs.Reading.{Outside, reading_from, reading_of}
 use Rattle.sys_text.specs.Rules.{HasRoom}
-use Rattle.sys_text.proofs.reading.read_system.Given as goal
+use Rattle.sys_text.proofs.reading.read_lines.Given as goal
 
 abbrev pub invariant-loop-rest : goal.invariant-loop-rest
 invariant-loop-rest l = record {
