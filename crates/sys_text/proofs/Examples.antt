@@ -7,7 +7,7 @@ use Rattle.t32_base.specs.declared.process.Mode.TheVariants.{Half}
 use Rattle.sys_text.specs.declared.system.System.{System}
 use Rattle.sys_text.specs.declared.system.Image.{Image}
 use Rattle.sys_text.specs.declared.system.Root.{Root}
-use Rattle.sys_text.specs.Valid.{is_system, is_first, is_name}
+use Rattle.sys_text.specs.Valid.{is_system, is_name}
 use Rattle.sys_text.specs.Text.{system_text, system_lines, words_lines, word_text}
 use Rattle.std.specs.Fmt.{digits}
 use Rattle.sys_text.specs.Boot.{roots_of, bytes_of_words}
@@ -55,14 +55,11 @@ first = system (hi ∷ []) (one ∷ []) []
 abbrev three : System
 three = system (hi ∷ []) (one ∷ other ∷ one ∷ []) ((1, 2) ∷ (3, 1) ∷ [])
 
-first_kept : is_first first ≡ true
+first_kept : is_system first ≡ true
 first_kept = refl
 
 three_kept : is_system three ≡ true
 three_kept = refl
-
-three_is_not_first : is_first three ≡ false
-three_is_not_first = refl
 
 three_text : system_text three ≡ codes "clusters 3\npager 0 1\nsyncreads 32\nsyncsteps 4096\nimage hi 1\nwords 00800c93 00000073\nend\nroot 0 1 half hi 1000 0 0\nroot 1 2 half hi 1000 2 0\nroot 0 1 half hi 1000 0 0\nchan 1 2\nchan 3 1\n"
 unfolding system_lines words_lines word_text digits

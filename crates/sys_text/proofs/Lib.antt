@@ -1,8 +1,6 @@
 mod Blocks
 pub mod Bounds
 mod Examples
-pub mod First
-pub mod FirstReading
 mod Headed
 mod Imaged
 mod Keeping

@@ -1,6 +1,5 @@
 pub mod Valid
 pub mod Text
-pub mod Fields
 pub mod Boot
 pub mod Refusal
 pub mod Kinds

@@ -7,7 +7,6 @@ use Rattle.t32_base.specs.declared.process.Mode.TheVariants.{Quarter, Half, Full
 use Rattle.sys_text.specs.declared.system.System.{System}
 use Rattle.sys_text.specs.declared.system.Image.{Image}
 use Rattle.sys_text.specs.declared.system.Root.{Root}
-use Rattle.sys_text.specs.Valid.{is_first}
 
 -- one space between the fields of a line, which a line feed ends
 abbrev pub line_text : List (List ℕ) → List ℕ
@@ -76,8 +75,3 @@ lines_text ls = flat_map line_text ls
 
 abbrev pub system_text : System → List ℕ
 system_text s = lines_text (system_lines s)
-
--- a text is the canonical text of a system of the first form
-pub record IsFirstForm (text : List ℕ) (s : System) : Type 0 where
-  pub valid : is_first s ≡ true
-  pub text_is : text ≡ system_text s

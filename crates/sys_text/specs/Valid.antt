@@ -86,26 +86,3 @@ are_chans roots chans = list_all (is_chan roots) chans && list_all (λ root. nat
 abbrev pub is_system : System → Bool
 is_system s =
     is_header s && are_images s.images && are_roots s.clusters (length s.images) s.roots && are_chans (length s.roots) s.chans
-
--- no root may fork
-abbrev pub are_childless : List Root → Bool
-are_childless roots = list_all (λ (root : Root). root.births == 0) roots
-
--- a system of the first form: one image, one root that may not fork, and no channel
-abbrev pub is_first : System → Bool
-is_first s = is_system s && (length s.images == 1) && (length s.roots == 1) && are_childless s.roots && (length s.chans == 0)
-
--- the only image of a system, which fits its pages
-pub record IsOnlyImage (s : System) (image : Image) : Type 0 where
-  pub alone : s.images ≡ image ∷ []
-  pub least : 1 ≤ image.pages
-  pub pages : image.pages ≤ 256
-  pub fits : 4 * length image.words ≤ 256 * image.pages
-
--- the only root of a system, which has its only image
-pub record IsOnlyRoot (s : System) (root : Root) : Type 0 where
-  pub alone : s.roots ≡ root ∷ []
-  pub image : root.image ≡ 0
-  pub limit : root.limit ≤ 100000
-  pub births : root.births ≡ 0
-  pub tty : root.tty ≤ 15

@@ -3,10 +3,8 @@
 
 mod adding;
 mod block;
-mod fields;
 mod kinds;
 pub mod printer;
-pub mod reader;
 mod reading;
 #[cfg(test)]
 mod reading_tests;

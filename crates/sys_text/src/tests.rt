@@ -1,16 +1,12 @@
 //! What the clauses leave to a reader: that a text looks as the format says, and which texts are read.
 use crate::printer::system_text;
-use crate::reader::{NotRead, read_first};
 use crate::system::{Image, Root, System};
-use crate::valid::{is_first, is_system};
+use crate::valid::is_system;
 use std::alloc::Global;
 use std::test::Fail;
 use t32_base::lists::{Bytes, List};
 use t32_base::process::{ClusterNo, Mode};
 use t32_base::streams::NoMemory;
-
-const HI: &str =
-    "clusters 2\npager 0 1\nsyncreads 32\nsyncsteps 4096\nimage hi 1\nwords 00200893 00000513 000105b7 02458593 00300613 00000073 00100893 00000513\nwords 00000073 000a6968\nend\nroot 0 1 quarter hi 1000 0 0\n";
 
 const PAIR: &str =
     "clusters 4\npager 2 3\nsyncreads 1\nsyncsteps 64\nimage ping 1\nwords 00000000 ffffffff 0000006f deadbeef 00000001 0000000a 00100073 00000010\nwords 0abcdef1\nend\nimage b2 256\nend\nroot 0 1 quarter ping 100000 0 15\nroot 1 0 half b2 1 2 0\nroot 3 2 full ping 10 0 1\nchan 1 2\nchan 3 1\n";
@@ -66,89 +62,7 @@ fn a_system_is_printed_in_its_canonical_form(rt: HostRuntime) -> Result<(), Fail
     let alloc = rt.alloc();
     let system = pair(alloc)?;
     assert!(rt; is_system(&system));
-    assert!(rt; !is_first(&system));
     let text = system_text(alloc, &system)?;
     assert_eq!(rt; text.as_slice(), PAIR.as_bytes());
-    Ok(())
-}
-
-#[test]
-fn a_system_of_the_first_form_is_read(rt: HostRuntime) -> Result<(), Fail> {
-    let system = read_first(rt.alloc(), HI.as_bytes())?;
-    assert_eq!(rt; system.clusters, 2);
-    assert_eq!(rt; system.pager, (ClusterNo(0), ClusterNo(1)));
-    assert_eq!(rt; system.syncreads, 32);
-    assert_eq!(rt; system.syncsteps, 4096);
-    let image = &system.images.as_slice()[0];
-    assert_eq!(rt; image.name.as_slice(), b"hi".as_slice());
-    assert_eq!(rt; image.pages, 1);
-    assert_eq!(rt; image.words.len(), 10);
-    assert_eq!(rt; image.words.as_slice()[9], 0x000a6968);
-    assert!(rt; system.roots.as_slice()[0] == root(0, 1, Mode::Quarter, 0, (1000, 0, 0)));
-    Ok(())
-}
-
-const FRONT: &str = "clusters 2\npager 0 1\nsyncreads 32\nsyncsteps 4096\n";
-
-#[test]
-fn other_texts_are_refused(rt: HostRuntime) -> Result<(), Fail> {
-    let alloc = rt.alloc();
-    for (rest, what) in [
-        (
-            "image a 1\nwords 0000006f\nend\nroot 0 1 full a 10 0 01\n",
-            "a leading zero",
-        ),
-        (
-            "image a 1\nwords 0000006F\nend\nroot 0 1 full a 10 0 1\n",
-            "a word in upper case",
-        ),
-        (
-            "image a 1\nwords 0000006f\nend\nroot 0 1 full a 10 0 1",
-            "no last line feed",
-        ),
-        (
-            "image a 1\nend\nroot 0 1 full a 10 0 1\nroot 0 1 full a 10 0 1\n",
-            "two roots",
-        ),
-        ("image a 1\nend\nroot 0 1 full a 10 1 1\n", "a birth"),
-        (
-            "image a 1\nend\nroot 0 1 full a 10 0 1\nchan 1 1\n",
-            "a channel",
-        ),
-        (
-            "asm a 1\necall\nend\nroot 0 1 full a 10 0 1\n",
-            "an assembler block",
-        ),
-        ("image a 0\nend\nroot 0 1 full a 10 0 1\n", "no page"),
-        (
-            "image a 1\nend\nroot 0 1 full a 100001 0 1\n",
-            "a limit too large",
-        ),
-        (
-            "image a 1\nend\nroot 0 1 full a 10 0 16\n",
-            "no such terminal",
-        ),
-        (
-            "image a 1\nend\nroot 1 1 full a 10 0 1\n",
-            "one cluster twice",
-        ),
-        ("image a 1\nend\nroot 0 1 full b 10 0 1\n", "no such image"),
-        (
-            "image a 1\nwords 0 0 0\nend\nroot 0 1 full a 10 0 1\n",
-            "short words",
-        ),
-        (
-            "image a 1\nwords 00000000 00000000 00000000 00000000 00000000 00000000 00000000 00000000 00000000\nend\nroot 0 1 full a 10 0 1\n",
-            "nine words in a line",
-        ),
-        ("", "no root"),
-    ] {
-        let text = format!(in alloc; "{FRONT}{rest}")?;
-        let refused = matches!(read_first(alloc, text.as_bytes()), Err(NotRead::NotFirst));
-        assert!(rt; refused, "{what}");
-    }
-    assert!(rt; matches!(read_first(alloc, b""), Err(NotRead::NotFirst)));
-    let text = format!(in alloc; "{FRONT}image a 1\nend\nroot 0 1 full a 10 0 1\n")?;
-    assert!(rt; read_first(alloc, text.as_bytes()).is_ok());
     Ok(())
 }

@@ -1,7 +1,7 @@
 //! Whether a system keeps the rules.
 ghost use Rattle.std.specs.Prelude.{◌≡◌, ◌≤◌, ◌+◌, ◌*◌, ◌&&◌, nat_le, length, take};
 ghost use Rattle.std.specs.List.{list_all, range_with_len};
-ghost use Rattle.sys_text.specs.Valid.{is_system as is_system_of, is_first as is_first_of, is_header as is_header_of, is_pair as is_pair_of, is_image as is_image_of, are_images as are_images_of, is_named_once as is_named_once_of, is_word, is_name as is_name_of, is_name_byte as is_name_byte_of, is_letter as is_letter_of, is_root as is_root_of, are_roots as are_roots_of, births_of, are_chans as are_chans_of, is_chan as is_chan_of, links as links_of, are_childless as are_childless_of};
+ghost use Rattle.sys_text.specs.Valid.{is_system as is_system_of, is_header as is_header_of, is_pair as is_pair_of, is_image as is_image_of, are_images as are_images_of, is_named_once as is_named_once_of, is_word, is_name as is_name_of, is_name_byte as is_name_byte_of, is_letter as is_letter_of, is_root as is_root_of, are_roots as are_roots_of, births_of, are_chans as are_chans_of, is_chan as is_chan_of, links as links_of};
 
 use crate::system::{Image, Root, System};
 use t32_base::process::ClusterNo;
@@ -17,25 +17,6 @@ pub fn is_system(system: &System) -> bool
         && are_images(images)
         && are_roots(system.clusters, images, roots)
         && are_chans(roots, chans)
-}
-
-/// Whether a system keeps the rules and is of the first form: one image, one root that may not fork, and
-/// no channel. Takes no memory.
-pub fn is_first(system: &System) -> bool
-    ensures { result ≡ is_first_of system.now }
-{
-    let roots = system.roots.as_slice();
-    is_system(system)
-        && system.images.len() == 1
-        && roots.len() == 1
-        && are_childless(roots)
-        && system.chans.len() == 0
-}
-
-fn are_childless(roots: &[Root]) -> bool
-    ensures { result ≡ are_childless_of roots.now }
-{
-    roots.iter().all(|root| root.births == 0)
 }
 
 fn is_header(system: &System) -> bool

@@ -1,10 +1,9 @@
 -- What a command makes of the bytes of its input: the status, and the text that is written.
-use Rattle.std.specs.Prelude.{ℕ, ◌≡◌, Bool, true, false, ◌&&◌, ◌==◌, List, [], ◌∷◌, ◌++◌, length, codes, Result, Ok, Err}
+use Rattle.std.specs.Prelude.{ℕ, ◌≡◌, Bool, true, false, ◌==◌, List, [], ◌∷◌, ◌++◌, length, codes, Result, Ok, Err}
 use Rattle.std.specs.Fmt.{decimal}
 use Rattle.targon_cli.specs.declared.command.Command.{Command}
 use Rattle.targon_cli.specs.declared.command.Command.TheVariants as commands
 use Rattle.sys_text.specs.declared.system.System.{System}
-use Rattle.sys_text.specs.Valid.{is_system}
 use Rattle.sys_text.specs.Text.{system_text}
 use Rattle.sys_text.specs.Reading.{Answer, reading_of as system_reading}
 use Rattle.sys_text.specs.Refusal.{number_of_rule as system_rule}
@@ -28,7 +27,7 @@ not_yet_line = codes "t32: not yet\n"
 
 -- the systems that are run yet: those without channels
 abbrev pub is_run : System → Bool
-is_run system = is_system system && (length system.chans == 0)
+is_run system = length system.chans == 0
 
 -- the default run of a system is reported
 abbrev pub Runs : System → Bool → (status : ℕ) → (text : List ℕ) → Type 0

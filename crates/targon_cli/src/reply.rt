@@ -6,6 +6,7 @@ ghost use Rattle.plain_kernel.specs.Still.{IsDefaultRun};
 ghost use Rattle.report_text.specs.Report.{plain_report as plain_report_of};
 ghost use Rattle.rv_asm.specs.Program.{reading_of as asm_reading};
 ghost use Rattle.sys_text.specs.Reading.{reading_of as system_reading};
+ghost use Rattle.sys_text.specs.Valid.{is_system};
 ghost use Rattle.targon_cli.specs.Reply.{asm_line, is_run as is_run_of, Makes, MakesAsm, MakesCheck, MakesPlain, not_yet_line, system_line};
 
 use crate::command::Command;
@@ -15,7 +16,6 @@ use rv_asm::{AsmRefused, assemble, words_text};
 use std::alloc::Global;
 use sys_text::printer::system_text;
 use sys_text::system::System;
-use sys_text::valid::is_system;
 use sys_text::{SystemRefused, read_system};
 use t32_base::lists::{Bytes, Text};
 use t32_base::streams::NoMemory;
@@ -65,12 +65,13 @@ fn plain(alloc: Global, bytes: &[u8]) -> Result<Reply, NoMemory>
 fn is_run(system: &System) -> bool
     ensures { result ≡ is_run_of system.now }
 {
-    is_system(system) && system.chans.len() == 0
+    system.chans.len() == 0
 }
 
 // The report of the default run.
 fn report_of(alloc: Global, system: &System) -> Result<Text, NoMemory>
-    requires { is_run_of system.now ≡ true }
+    requires valid { is_system system.now ≡ true }
+    requires run { is_run_of system.now ≡ true }
     ensures { IfOk result (λ text. (k : Kernel) × IsDefaultRun system.now k × (text ≡ plain_report_of k)) }
 {
     let plain = default_run(alloc, system)?;
