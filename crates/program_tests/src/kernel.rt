@@ -4,16 +4,14 @@ use plain_kernel::item::{Item, NotApplied, RunRefused};
 use plain_kernel::plain::{Plain, default_run, run};
 use std::alloc::Global;
 use std::test::Fail;
-use sys_text::reader::read_first;
+use sys_text::read_system;
 use sys_text::system::System;
-use sys_text::valid::is_system;
 use t32_base::process::{End, Pid, Status};
 
 #[test]
 fn a_schedule_is_applied_item_by_item(rt: HostRuntime) -> Result<(), Fail> {
     let alloc = rt.alloc();
-    let system = read_first(alloc, HI.as_bytes())?;
-    assert!(rt; is_system(&system));
+    let system = read_system(alloc, HI.as_bytes())?;
     let mut plain = Plain::boot(alloc, &system)?;
     assert!(rt; plain.can_move());
     assert_eq!(rt; plain.pids()?.as_slice(), [Pid(16)].as_slice());
@@ -48,7 +46,7 @@ fn a_schedule_is_applied_item_by_item(rt: HostRuntime) -> Result<(), Fail> {
 #[test]
 fn a_schedule_runs_whole_or_names_its_first_bad_item(rt: HostRuntime) -> Result<(), Fail> {
     let alloc = rt.alloc();
-    let system = read_first(alloc, HI.as_bytes())?;
+    let system = read_system(alloc, HI.as_bytes())?;
     let whole = [Item::Run(Pid(16), 6), Item::Run(Pid(16), 4)];
     let plain = run(alloc, &system, &whole)?;
     assert!(rt; !plain.can_move());

@@ -1,7 +1,10 @@
 //! The program by its words, its input and its output.
-use crate::systems::{BAD, HI, SPIN};
+use crate::systems::{BAD, COMMENTED, CUT, HI, HI_PROGRAM, HI_WORDS, LINKED, PAIR, SAME, SPIN};
 use std::alloc::Global;
+use std::process::Abort;
+use std::sync::Wait;
 use std::test::Fail;
+use std::thread::Threads;
 use t32_base::gate::OpenGate;
 use t32_base::lists::{Bytes, List, Text};
 use t32_base::memory::{MemSink, MemSource};
@@ -27,49 +30,94 @@ fn sink(alloc: Global) -> Result<MemSink, NoMemory> {
     MemSink::new(alloc, 1000, List::new(alloc), 7)
 }
 
+// What the program answers to these words and this input: the status, where it wrote just this.
+fn answers<R: Abort + AllocGlobal + Threads + Wait + Sync>(
+    rt: &R,
+    word: &str,
+    text: &[u8],
+    written: &str,
+) -> Result<u8, Fail> {
+    let alloc = rt.alloc();
+    let mut input = source(alloc, text)?;
+    let mut output = sink(alloc)?;
+    let list = words(alloc, &[word])?;
+    let status = targon(rt, alloc, &list, &mut input, &mut output, &OpenGate);
+    assert_eq!(rt; output.bytes.as_slice(), written.as_bytes());
+    Ok(status)
+}
+
 #[test]
 fn the_default_run_is_reported(rt: HostRuntime) -> Result<(), Fail> {
-    let alloc = rt.alloc();
     for (text, report) in [
         (HI, "tty 0 3\nhi\n\npid 16 exit 0\n"),
+        (COMMENTED, "tty 0 3\nhi\n\npid 16 exit 0\n"),
         (BAD, "tty 0 0\n\npid 16 trap 2\n"),
         (SPIN, "tty 0 0\n\npid 16 limit\n"),
+        (PAIR, "tty 2 0\n\ntty 3 0\n\npid 16 trap 2\npid 17 trap 2\n"),
     ] {
-        let mut input = source(alloc, text.as_bytes())?;
-        let mut output = sink(alloc)?;
-        let list = words(alloc, &["plain"])?;
-        let status = targon(&rt, alloc, &list, &mut input, &mut output, &OpenGate);
-        assert_eq!(rt; output.bytes.as_slice(), report.as_bytes());
-        assert_eq!(rt; status, 0);
+        assert_eq!(rt; answers(&rt, "plain", text.as_bytes(), report)?, 0);
     }
     Ok(())
 }
 
 #[test]
-fn other_inputs_are_not_yet_read(rt: HostRuntime) -> Result<(), Fail> {
-    let alloc = rt.alloc();
-    for text in ["", "clusters 2\n", "clusters 02\n"] {
-        let mut input = source(alloc, text.as_bytes())?;
-        let mut output = sink(alloc)?;
-        let list = words(alloc, &["plain"])?;
-        let status = targon(&rt, alloc, &list, &mut input, &mut output, &OpenGate);
-        assert_eq!(rt; output.bytes.as_slice(), b"t32: not yet\n".as_slice());
-        assert_eq!(rt; status, 2);
+fn a_text_is_printed_in_canonical_form(rt: HostRuntime) -> Result<(), Fail> {
+    for (text, printed) in [
+        (HI, HI),
+        (COMMENTED, HI),
+        (PAIR, PAIR),
+        (LINKED, LINKED),
+    ] {
+        assert_eq!(rt; answers(&rt, "check", text.as_bytes(), printed)?, 0);
     }
-    let text = vec![in alloc; 32u8; LARGE]?;
-    let mut input = MemSource::new(Bytes::from_vec(text), List::new(alloc), 1000000);
-    let mut output = sink(alloc)?;
-    let list = words(alloc, &["plain"])?;
-    let status = targon(&rt, alloc, &list, &mut input, &mut output, &OpenGate);
-    assert_eq!(rt; output.bytes.as_slice(), b"t32: not yet\n".as_slice());
-    assert_eq!(rt; status, 2);
+    assert_eq!(rt; answers(&rt, "asm", HI_PROGRAM.as_bytes(), HI_WORDS)?, 0);
+    assert_eq!(rt; answers(&rt, "asm", b"", "")?, 0);
+    Ok(())
+}
+
+#[test]
+fn a_refusal_names_the_line_and_the_rule(rt: HostRuntime) -> Result<(), Fail> {
+    for (text, line) in [
+        (SAME, "t32: system line 9 rule 6\n"),
+        (CUT, "t32: system line 6 rule 10\n"),
+        ("", "t32: system line 1 rule 10\n"),
+    ] {
+        assert_eq!(rt; answers(&rt, "plain", text.as_bytes(), line)?, 2);
+        assert_eq!(rt; answers(&rt, "check", text.as_bytes(), line)?, 2);
+    }
+    let line = "t32: asm line 1 rule 2\n";
+    assert_eq!(rt; answers(&rt, "asm", b"addd a0, a0, a0", line)?, 2);
+    let line = "t32: not yet\n";
+    assert_eq!(rt; answers(&rt, "plain", LINKED.as_bytes(), line)?, 2);
+    Ok(())
+}
+
+#[test]
+fn a_long_input_is_refused(rt: HostRuntime) -> Result<(), Fail> {
+    let alloc = rt.alloc();
+    for word in ["plain", "check", "asm"] {
+        let text = vec![in alloc; 32u8; LARGE]?;
+        let mut input = MemSource::new(Bytes::from_vec(text), List::new(alloc), 1000000);
+        let mut output = sink(alloc)?;
+        let list = words(alloc, &[word])?;
+        let status = targon(&rt, alloc, &list, &mut input, &mut output, &OpenGate);
+        assert_eq!(rt; output.bytes.as_slice(), b"t32: input too long\n".as_slice());
+        assert_eq!(rt; status, 8);
+    }
     Ok(())
 }
 
 #[test]
 fn other_words_are_usage(rt: HostRuntime) -> Result<(), Fail> {
     let alloc = rt.alloc();
-    let lists: [&[&str]; 4] = [&["simulate"], &[], &["plain", "plain"], &["Plain"]];
+    let lists: [&[&str]; 6] = [
+        &["simulate"],
+        &[],
+        &["plain", "plain"],
+        &["Plain"],
+        &["sim", "--pick"],
+        &["check", "hi"],
+    ];
     for list in lists {
         let mut input = source(alloc, HI.as_bytes())?;
         let mut output = sink(alloc)?;

@@ -11,3 +11,29 @@ pub const BAD: &str =
 /// Jumps to itself, and may execute one instruction.
 pub const SPIN: &str =
     "clusters 2\npager 0 1\nsyncreads 32\nsyncsteps 4096\nimage spin 1\nwords 0000006f\nend\nroot 0 1 quarter spin 1 0 0\n";
+
+/// The first system as a person would write it, with its program in assembler.
+pub const COMMENTED: &str =
+    "# says hi\n\n  clusters 02\npager 0 1\nsyncreads 32\nsyncsteps 4096\nasm hi 1\n  li a7, 2   # write\n  li a0, 0\n  la a1, text\n  li a2, 3\n  ecall\n  li a7, 1   # exit\n  li a0, 0\n  ecall\ntext: .ascii \"hi\\n\"\nend\nroot 0 1 quarter hi 1000 0 0";
+
+/// Two roots of one image, each with a terminal of its own.
+pub const PAIR: &str =
+    "clusters 2\npager 0 1\nsyncreads 32\nsyncsteps 4096\nimage bad 1\nwords 00000000\nend\nroot 1 0 quarter bad 9 0 3\nroot 0 1 full bad 9 2 2\n";
+
+/// Two roots that a channel links.
+pub const LINKED: &str =
+    "clusters 2\npager 0 1\nsyncreads 32\nsyncsteps 4096\nimage bad 1\nwords 00000000\nend\nroot 0 1 quarter bad 9 0 0\nroot 0 1 quarter bad 9 0 0\nchan 1 2\n";
+
+/// The first system up to its sixth line.
+pub const CUT: &str =
+    "clusters 2\npager 0 1\nsyncreads 32\nsyncsteps 4096\nimage hi 1\nwords 00200893 00000513 000105b7 02458593 00300613 00000073 00100893 00000513\n";
+
+/// The first system with a root whose backup stands in its home.
+pub const SAME: &str =
+    "clusters 2\npager 0 1\nsyncreads 32\nsyncsteps 4096\nimage hi 1\nwords 00200893 00000513 000105b7 02458593 00300613 00000073 00100893 00000513\nwords 00000073 000a6968\nend\nroot 0 0 quarter hi 1000 0 0\n";
+
+/// The program of the first system, and its words.
+pub const HI_PROGRAM: &str =
+    "li a7, 2\nli a0, 0\nla a1, m\nli a2, 3\necall\nli a7, 1\nli a0, 0\necall\nm: .ascii \"hi\\n\"\n";
+pub const HI_WORDS: &str =
+    "words 00200893 00000513 000105b7 02458593 00300613 00000073 00100893 00000513\nwords 00000073 000a6968\n";
