@@ -62,12 +62,7 @@ fn the_default_run_is_reported(rt: HostRuntime) -> Result<(), Fail> {
 
 #[test]
 fn a_text_is_printed_in_canonical_form(rt: HostRuntime) -> Result<(), Fail> {
-    for (text, printed) in [
-        (HI, HI),
-        (COMMENTED, HI),
-        (PAIR, PAIR),
-        (LINKED, LINKED),
-    ] {
+    for (text, printed) in [(HI, HI), (COMMENTED, HI), (PAIR, PAIR), (LINKED, LINKED)] {
         assert_eq!(rt; answers(&rt, "check", text.as_bytes(), printed)?, 0);
     }
     assert_eq!(rt; answers(&rt, "asm", HI_PROGRAM.as_bytes(), HI_WORDS)?, 0);
@@ -101,7 +96,10 @@ fn a_long_input_is_refused(rt: HostRuntime) -> Result<(), Fail> {
         let mut output = sink(alloc)?;
         let list = words(alloc, &[word])?;
         let status = targon(&rt, alloc, &list, &mut input, &mut output, &OpenGate);
-        assert_eq!(rt; output.bytes.as_slice(), b"t32: input too long\n".as_slice());
+        assert_eq!(rt;
+            output.bytes.as_slice(),
+            b"t32: input too long\n".as_slice()
+        );
         assert_eq!(rt; status, 8);
     }
     Ok(())

@@ -35,5 +35,6 @@ pub const SAME: &str =
 /// The program of the first system, and its words.
 pub const HI_PROGRAM: &str =
     "li a7, 2\nli a0, 0\nla a1, m\nli a2, 3\necall\nli a7, 1\nli a0, 0\necall\nm: .ascii \"hi\\n\"\n";
+
 pub const HI_WORDS: &str =
     "words 00200893 00000513 000105b7 02458593 00300613 00000073 00100893 00000513\nwords 00000073 000a6968\n";

@@ -56,7 +56,7 @@ replied : (words : List (List ℕ)) (command : Command) (status : ℕ) (old new 
     → Answers command status old new ended before after → IsReplied words status old new ended before after
 replied words command status old new ended before after w n4 n5 n6 n8 (Replied bytes wanted text r m says) =
     elim (told wanted text status before after says) [
-        inl s ↦ record { command = command; words_are = w; bytes = bytes; text = text; read = r; made = subst (λ k. Makes command bytes k text) (sym s.0) m; written = s.1 }
+      | inl s ↦ record { command = command; words_are = w; bytes = bytes; text = text; read = r; made = subst (λ k. Makes command bytes k text) (sym s.0) m; written = s.1 }
       | inr f ↦ absurd (n5 (sym f.0))
     ]
 replied words command status old new ended before after w n4 n5 n6 n8 (TooLong bytes r says) = not_said 8 _ status status before after n8 n5 says refl
@@ -122,7 +122,7 @@ complete : (command : Command) (status : ℕ) (old new : In) (ended : Bool) (bef
 complete command status old new ended before after (Replied taken wanted text r m says) in_ok out_ok bytes e le =
     let same : Makes command bytes wanted text = subst (λ b. Makes command b wanted text) (sym (all_same bytes taken old.left e r.all)) m in
     elim (told wanted text status before after says) [
-        inl s ↦ inl (record { text = text; made = subst (λ k. Makes command bytes k text) (sym s.0) same; written = s.1 })
+      | inl s ↦ inl (record { text = text; made = subst (λ k. Makes command bytes k text) (sym s.0) same; written = s.1 })
       | inr f ↦ absurd (out_ok f.1)
     ]
 complete command status old new ended before after (TooLong taken r says) in_ok out_ok bytes e le =

@@ -17,8 +17,11 @@ use t32_base::streams::{NoMemory, Sink, Source, TakeFault};
 
 // The statuses with which the program ends, but for those of a reply and that of a write fault.
 const USAGE: u8 = 1;
+
 const READ_FAULT: u8 = 4;
+
 const NO_MEMORY: u8 = 6;
+
 const TOO_LONG: u8 = 8;
 
 /// What the program does with its words, its input and its output, and the status with which it ends: 0
@@ -86,12 +89,7 @@ fn answer_words<S: Source, K: Sink>(
 }
 
 // What a command answers.
-fn answer<S: Source, K: Sink>(
-    alloc: Global,
-    command: Command,
-    input: &mut S,
-    output: &mut K,
-) -> u8
+fn answer<S: Source, K: Sink>(alloc: Global, command: Command, input: &mut S, output: &mut K) -> u8
     ensures { Answers command result
         (record { left = S.left input.old; faults = S.fault_count input.old })
         (record { left = S.left input.new; faults = S.fault_count input.new }) (S.ended input.new)
