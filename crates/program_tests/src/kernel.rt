@@ -5,13 +5,13 @@ use plain_kernel::plain::{Plain, default_run, run};
 use std::alloc::Global;
 use std::test::Fail;
 use sys_text::read_system;
-use sys_text::system::System;
 use t32_base::process::{End, Pid, Status};
 
 #[test]
 fn a_schedule_is_applied_item_by_item(rt: HostRuntime) -> Result<(), Fail> {
     let alloc = rt.alloc();
     let system = read_system(alloc, HI.as_bytes())?;
+    assert!(rt; system.chans.is_empty());
     let mut plain = Plain::boot(alloc, &system)?;
     assert!(rt; plain.can_move());
     assert_eq!(rt; plain.pids()?.as_slice(), [Pid(16)].as_slice());
@@ -47,6 +47,7 @@ fn a_schedule_is_applied_item_by_item(rt: HostRuntime) -> Result<(), Fail> {
 fn a_schedule_runs_whole_or_names_its_first_bad_item(rt: HostRuntime) -> Result<(), Fail> {
     let alloc = rt.alloc();
     let system = read_system(alloc, HI.as_bytes())?;
+    assert!(rt; system.chans.is_empty());
     let whole = [Item::Run(Pid(16), 6), Item::Run(Pid(16), 4)];
     let plain = run(alloc, &system, &whole)?;
     assert!(rt; !plain.can_move());
