@@ -1,0 +1,3 @@
+pub mod CountLaws
+mod Examples
+pub mod Prefix
