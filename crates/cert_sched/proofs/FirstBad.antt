@@ -1,15 +1,15 @@
 -- What the reading says of a text: its items, or the first item that is bad.
-use Rattle.std.proofs.Common.{ltb, ◌≡◌, ℕ, zero, suc, ◌+◌, ◌<◌, Bool, true, false, cond, List, [], ◌∷◌, length, map, Option, Some, None, Result, Ok, Err, refl, sym, ap, ◌∙◌, arith, inl, inr}
+use Rattle.std.proofs.Common.{ltb, ◌≡◌, ℕ, zero, suc, ◌+◌, ◌<◌, true, false, List, [], ◌∷◌, length, map, Option, Some, None, Result, Ok, Err, refl, sym, ap, ◌∙◌, arith, inl, inr}
 use Rattle.std.specs.List.{slice_get}
 use Rattle.std.specs.Prelude.{IfOk, IfErr}
-use Rattle.std.specs.Option.{option_map, is_none, option_and_then}
+use Rattle.std.specs.Option.{option_map, option_and_then}
 use Rattle.std.proofs.lemmas.Bool.{cases_lt, lt-ltb, le-ltb}
 use Rattle.plain_kernel.specs.declared.item.Item.{Item}
 use Rattle.cert_sched.specs.declared.refusal.ItemsRefused.{ItemsRefused}
 use Rattle.cert_sched.specs.declared.refusal.ItemsRefused.TheVariants.{BadItem, NoMemory}
 use Rattle.cert_sched.specs.Lines.{kept_lines}
 use Rattle.cert_sched.specs.ItemLine.{item_of, count_of}
-use Rattle.cert_sched.specs.Reading.{HasItems, header_of, is_bad, is_bad_after, is_bad_item, IsFirstBad, HasCause, with_item, reading_from, reading_after, reading_of, Answers}
+use Rattle.cert_sched.specs.Reading.{HasItems, header_of, is_bad, is_bad_after, IsFirstBad, HasCause, with_item, reading_from, reading_after, reading_of, Answers}
 
 -- ---- the items
 

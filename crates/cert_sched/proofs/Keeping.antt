@@ -1,5 +1,5 @@
 -- The lines that are kept of a text, by its first line.
-use Rattle.std.proofs.Common.{◌≡◌, ℕ, true, false, not, List, [], ◌∷◌, map, refl, ap, ◌∙◌}
+use Rattle.std.proofs.Common.{◌≡◌, ℕ, true, false, not, List, ◌∷◌, map, refl, ap, ◌∙◌}
 use Rattle.std.specs.List.{filter}
 use Rattle.text_parts.specs.Lines.{lines_of, fields_of}
 use Rattle.cert_sched.specs.Lines.{is_skipped, kept_lines}

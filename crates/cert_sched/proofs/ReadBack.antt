@@ -1,15 +1,14 @@
 -- Items are read again as they are printed.
-use Rattle.std.proofs.Common.{ltb, eqb, ◌≡◌, ℕ, suc, ◌+◌, ◌^◌, ◌<◌, Bool, true, false, List, [], ◌∷◌, ◌++◌, length, map, codes, Some, Ok, refl, sym, ap, ◌∙◌, arith, append_assoc, All}
+use Rattle.std.proofs.Common.{eqb, ◌≡◌, ℕ, suc, ◌+◌, ◌^◌, ◌<◌, false, List, [], ◌∷◌, ◌++◌, length, map, codes, Some, Ok, refl, ap, ◌∙◌, arith, append_assoc, All}
 use Rattle.std.specs.Option.{option_and_then}
 use Rattle.std.specs.Fmt.{decimal}
 use Rattle.std.proofs.lemmas.Bool.{lt-ltb, eqb-true, false_from_ne_true}
 use Rattle.text_parts.specs.Lines.{is_newline, is_space, lines_of, fields_of}
-use Rattle.text_parts.specs.Numbers.{number_of}
 use Rattle.text_parts.proofs.Numerals.{number_of-decimal}
 use Rattle.plain_kernel.specs.declared.item.Item.{Item}
 use Rattle.plain_kernel.specs.declared.item.Item.TheVariants.{Run, Fork, Take}
 use Rattle.cert_sched.specs.Lines.{is_skipped, kept_lines}
-use Rattle.cert_sched.specs.ItemLine.{if_small, small_number, both, run_of, item_of, count_of}
+use Rattle.cert_sched.specs.ItemLine.{if_small, small_number, item_of, count_of}
 use Rattle.cert_sched.specs.Printing.{spaced, item_line, ended, item_lines, first_line_of, items_text_of, IsCarried}
 use Rattle.cert_sched.specs.Reading.{header_of, with_item, reading_from, reading_after, reading_of}
 use Rattle.cert_sched.proofs.Keeping.{kept_first}

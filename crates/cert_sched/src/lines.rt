@@ -1,5 +1,5 @@
 //! The lines of a schedule section that are not skipped.
-ghost use Rattle.std.specs.Prelude.{◌≡◌, ◌∷◌, ◌<◌, [], length, MatchOption, IfSome};
+ghost use Rattle.std.specs.Prelude.{◌≡◌, ◌∷◌, [], MatchOption};
 ghost use Rattle.text_parts.specs.Lines.{fields_of};
 ghost use Rattle.cert_sched.specs.Lines.{begins_comment, is_skipped, kept_lines};
 
@@ -27,7 +27,7 @@ fn is_skipped(line: &[u8]) -> bool
 
 /// The first line that is not skipped, and the text after it.
 pub fn next_line(text: &[u8]) -> Option<(&[u8], &[u8])>
-    ensures lines { MatchOption result (kept_lines text.now ≡ []) (λ x. kept_lines text.now ≡ fields_of x.0.now ∷ kept_lines x.1.now) }
+    ensures { MatchOption result (kept_lines text.now ≡ []) (λ x. kept_lines text.now ≡ fields_of x.0.now ∷ kept_lines x.1.now) }
 {
     let mut rest = text;
     while !rest.is_empty() {

@@ -1,5 +1,5 @@
 //! Items as a schedule section.
-ghost use Rattle.std.specs.Prelude.{◌≡◌, ◌++◌, OnOk, IfOk, codes};
+ghost use Rattle.std.specs.Prelude.{◌≡◌, ◌++◌, OnOk, IfOk};
 ghost use Rattle.cert_sched.specs.Printing.{spaced, item_line, ended, first_line_of, item_lines, items_text_of};
 
 use itoa::Buffer;

@@ -1,5 +1,5 @@
 //! The items of a schedule section, or the first of them that cannot be read.
-ghost use Rattle.std.specs.Prelude.{ℕ, ◌≡◌, ◌∷◌, ◌<◌, ◌^◌, [], List as Items, length, Some, None, Ok, All, MatchOption, IfOk, IfErr};
+ghost use Rattle.std.specs.Prelude.{◌≡◌, ◌<◌, ◌^◌, List as Items, length, Some, None, Ok, All, MatchOption, IfOk, IfErr};
 ghost use Rattle.plain_kernel.specs.declared.item.Item.{Item as AnItem};
 ghost use Rattle.cert_sched.specs.Lines.{kept_lines};
 ghost use Rattle.cert_sched.specs.Reading.{HasItems, HasCause, Answers, header_of, next_item, reading_of, reading_after};

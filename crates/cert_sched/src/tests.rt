@@ -6,11 +6,7 @@ use std::test::Fail;
 use t32_base::lists::List;
 use t32_base::process::Pid;
 
-fn assert_read(
-    rt: &(impl Abort + AllocGlobal),
-    text: &[u8],
-    wanted: &[Item],
-) -> Result<(), Fail> {
+fn assert_read(rt: &(impl Abort + AllocGlobal), text: &[u8], wanted: &[Item]) -> Result<(), Fail> {
     let items = read_items(rt.alloc(), text)?;
     assert_eq!(rt; items.as_slice(), wanted);
     Ok(())
