@@ -1,0 +1,4 @@
+pub mod Lines
+pub mod ItemLine
+pub mod Reading
+pub mod Printing

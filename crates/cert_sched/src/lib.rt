@@ -1,0 +1,14 @@
+//! The schedule section of a text: printed from items, and read back.
+#![tactic(auto)]
+
+mod item_line;
+mod lines;
+mod printing;
+mod reading;
+mod refusal;
+#[cfg(test)]
+mod tests;
+
+pub use printing::items_text;
+pub use reading::{items_read_back, read_items};
+pub use refusal::ItemsRefused;
