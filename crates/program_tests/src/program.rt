@@ -1,5 +1,8 @@
 //! The program by its words, its input and its output.
-use crate::systems::{BAD, COMMENTED, CUT, HI, HI_PROGRAM, HI_WORDS, LINKED, PAIR, SAME, SPIN};
+use crate::systems::{
+    BAD, COMMENTED, CUT, HI, HI_PROGRAM, HI_WORDS, LINKED, MISSING, NO_STEPS, PAIR, SAME, SPIN,
+    TOO_MANY_STEPS, WHOLE,
+};
 use std::alloc::Global;
 use std::process::Abort;
 use std::sync::Wait;
@@ -84,6 +87,26 @@ fn a_refusal_names_the_line_and_the_rule(rt: HostRuntime) -> Result<(), Fail> {
     assert_eq!(rt; answers(&rt, "asm", b"addd a0, a0, a0", line)?, 2);
     let line = "t32: not yet\n";
     assert_eq!(rt; answers(&rt, "plain", LINKED.as_bytes(), line)?, 2);
+    Ok(())
+}
+
+#[test]
+fn a_schedule_behind_the_text_is_followed(rt: HostRuntime) -> Result<(), Fail> {
+    let alloc = rt.alloc();
+    for (schedule, status, written) in [
+        (WHOLE, 0, "tty 0 3\nhi\n\npid 16 exit 0\n"),
+        ("schedule 1\nrun 16 6", 0, "tty 0 3\nhi\n\npid 16 running\n"),
+        ("schedule 0\n", 0, "tty 0 0\n\npid 16 running\n"),
+        (TOO_MANY_STEPS, 3, "t32: schedule item 1\n"),
+        (NO_STEPS, 3, "t32: schedule item 0\n"),
+        (MISSING, 3, "t32: schedule item 2\n"),
+        ("schedule\n", 3, "t32: schedule item 0\n"),
+    ] {
+        let text = format!(in alloc; "{HI}{schedule}")?;
+        assert_eq!(rt; answers(&rt, "plain", text.as_bytes(), written)?, status);
+        let line = "t32: system line 10 rule 2\n";
+        assert_eq!(rt; answers(&rt, "check", text.as_bytes(), line)?, 2);
+    }
     Ok(())
 }
 

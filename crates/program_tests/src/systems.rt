@@ -32,6 +32,16 @@ pub const CUT: &str =
 pub const SAME: &str =
     "clusters 2\npager 0 1\nsyncreads 32\nsyncsteps 4096\nimage hi 1\nwords 00200893 00000513 000105b7 02458593 00300613 00000073 00100893 00000513\nwords 00000073 000a6968\nend\nroot 0 0 quarter hi 1000 0 0\n";
 
+/// Schedules of the first system: whole, with an item that cannot be applied, with one that cannot be read,
+/// and with one that is missing.
+pub const WHOLE: &str = "schedule 2\nrun 16 6\n# the rest\nrun 16 4\n";
+
+pub const TOO_MANY_STEPS: &str = "schedule 2\nrun 16 6\nrun 16 5\n";
+
+pub const NO_STEPS: &str = "schedule 2\nrun 16 0\nrun 16 5\n";
+
+pub const MISSING: &str = "schedule 3\nrun 16 6\nrun 16 5\n";
+
 /// The program of the first system, and its words.
 pub const HI_PROGRAM: &str =
     "li a7, 2\nli a0, 0\nla a1, m\nli a2, 3\necall\nli a7, 1\nli a0, 0\necall\nm: .ascii \"hi\\n\"\n";

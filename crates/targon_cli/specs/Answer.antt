@@ -81,7 +81,7 @@ pub record Completes (command : Command) (bytes : List ℕ) (status : ℕ) (befo
 
 -- the statuses of the program
 abbrev pub IsStatus : ℕ → Type 0
-IsStatus status = (status ≡ 0) ⊎ (status ≡ 1) ⊎ (status ≡ 2) ⊎ (status ≡ 4) ⊎ (status ≡ 5) ⊎ (status ≡ 6) ⊎ (status ≡ 8)
+IsStatus status = (status ≡ 0) ⊎ (status ≡ 1) ⊎ (status ≡ 2) ⊎ (status ≡ 3) ⊎ (status ≡ 4) ⊎ (status ≡ 5) ⊎ (status ≡ 6) ⊎ (status ≡ 8)
 
 -- What the top call answers. Want of memory, 6, is the one status without a cause.
 pub record Answered (words : List (List ℕ)) (status : ℕ) (old new : In) (ended : Bool) (before after : Out) : Type 0 where
@@ -89,10 +89,11 @@ pub record Answered (words : List (List ℕ)) (status : ℕ) (old new : In) (end
   pub usage : command_of words ≡ None → Says 1 usage_line status before after
   -- the words are a command
   pub command : (command : Command) → command_of words ≡ Some command → Answers command status old new ended before after
-  -- each status has its cause: 0 that a command was carried out, and 2 that it refuses its input
+  -- each status has its cause: 0 that a command was carried out, and 2 and 3 that it refuses its input
   pub status_0 : status ≡ 0 → IsReplied words status old new ended before after
   pub status_1 : status ≡ 1 → command_of words ≡ None
   pub status_2 : status ≡ 2 → IsReplied words status old new ended before after
+  pub status_3 : status ≡ 3 → IsReplied words status old new ended before after
   pub status_4 : status ≡ 4 → Rose old.faults new.faults
   pub status_5 : status ≡ 5 → Rose before.faults after.faults
   pub status_8 : status ≡ 8 → (bytes : List ℕ) × ReadsTooMany old new bytes

@@ -1,11 +1,11 @@
 -- What a command makes of the bytes of its input: the status, and the text that is written.
-use Rattle.std.specs.Prelude.{ℕ, ◌≡◌, Bool, true, false, ◌==◌, List, [], ◌∷◌, ◌++◌, length, codes, Result, Ok, Err}
+use Rattle.std.specs.Prelude.{ℕ, ◌≡◌, Bool, true, false, ◌==◌, List, [], ◌∷◌, ◌++◌, length, codes, Some, Result, Ok, Err}
 use Rattle.std.specs.Fmt.{decimal}
 use Rattle.targon_cli.specs.declared.command.Command.{Command}
 use Rattle.targon_cli.specs.declared.command.Command.TheVariants as commands
 use Rattle.sys_text.specs.declared.system.System.{System}
 use Rattle.sys_text.specs.Text.{system_text}
-use Rattle.sys_text.specs.Reading.{Answer, reading_of as system_reading}
+use Rattle.sys_text.specs.Reading.{Answer, reading_of as system_reading, system_of_lines}
 use Rattle.sys_text.specs.Refusal.{number_of_rule as system_rule}
 use Rattle.rv_asm.specs.declared.refusal.Rule.{Rule as AsmRule}
 use Rattle.rv_asm.specs.Program.{reading_of as asm_reading}
@@ -13,6 +13,11 @@ use Rattle.rv_asm.specs.Printing.{words_text_of}
 use Rattle.rv_asm.specs.Refusal.{number_of_rule as asm_rule}
 use Rattle.plain_kernel.specs.Kernel.{Kernel}
 use Rattle.plain_kernel.specs.Still.{IsDefaultRun}
+use Rattle.plain_kernel.specs.declared.item.Item.{Item}
+use Rattle.plain_kernel.specs.Apply.{plain_run}
+use Rattle.plain_kernel.specs.Answers.{BadAt}
+use Rattle.text_parts.specs.Lines.{lines_of}
+use Rattle.targon_cli.specs.Sections.{system_part, section_part, items_of_lines}
 use Rattle.report_text.specs.Report.{plain_report}
 
 -- a refused text, with its line and its rule
@@ -29,14 +34,32 @@ not_yet_line = codes "t32: not yet\n"
 abbrev pub is_run : System → Bool
 is_run system = length system.chans == 0
 
--- the default run of a system is reported
-abbrev pub Runs : System → Bool → (status : ℕ) → (text : List ℕ) → Type 0
-Runs system false status text = (status ≡ 2) × (text ≡ not_yet_line)
-Runs system true status text = (status ≡ 0) × ((kernel : Kernel) × IsDefaultRun system kernel × (text ≡ plain_report kernel))
+abbrev pub schedule_line : (index : ℕ) → List ℕ
+schedule_line index = codes "t32: schedule item " ++ (decimal index ++ 10 ∷ [])
 
-abbrev pub MakesPlain : Answer → (status : ℕ) → (text : List ℕ) → Type 0
-MakesPlain (Ok system) status text = Runs system (is_run system) status text
-MakesPlain (Err refused) status text = (status ≡ 2) × (text ≡ system_line refused.0 (system_rule refused.1))
+-- Items of a schedule are reported where each can be applied. Or the first that cannot be is named, counted from 0.
+pub data Follows (system : System) (items : List Item) (status : ℕ) (text : List ℕ) : Type 0 where
+  Applied : (kernel : Kernel) → plain_run system items ≡ Some kernel → status ≡ 0 → text ≡ plain_report kernel → Follows system items status text
+  Refused : (index : ℕ) → BadAt system items index → status ≡ 3 → text ≡ schedule_line index → Follows system items status text
+
+-- the items of a section are followed, or the first that cannot be read is named
+abbrev pub FollowsSection : System → Result (List Item) ℕ → (status : ℕ) → (text : List ℕ) → Type 0
+FollowsSection system (Ok items) status text = Follows system items status text
+FollowsSection system (Err index) status text = (status ≡ 3) × (text ≡ schedule_line index)
+
+-- the schedule is the section's, or without one the default schedule
+abbrev pub RunsBy : System → (section : List (List ℕ)) → (status : ℕ) → (text : List ℕ) → Type 0
+RunsBy system [] status text = (status ≡ 0) × ((kernel : Kernel) × IsDefaultRun system kernel × (text ≡ plain_report kernel))
+RunsBy system (line ∷ lines) status text = FollowsSection system (items_of_lines (line ∷ lines)) status text
+
+-- a system that is run is reported
+abbrev pub Runs : System → (section : List (List ℕ)) → Bool → (status : ℕ) → (text : List ℕ) → Type 0
+Runs system section false status text = (status ≡ 2) × (text ≡ not_yet_line)
+Runs system section true status text = RunsBy system section status text
+
+abbrev pub MakesPlain : Answer → (section : List (List ℕ)) → (status : ℕ) → (text : List ℕ) → Type 0
+MakesPlain (Ok system) section status text = Runs system section (is_run system) status text
+MakesPlain (Err refused) section status text = (status ≡ 2) × (text ≡ system_line refused.0 (system_rule refused.1))
 
 -- a system text is printed in canonical form
 abbrev pub MakesCheck : Answer → (status : ℕ) → (text : List ℕ) → Type 0
@@ -49,6 +72,6 @@ MakesAsm (Ok words) status text = (status ≡ 0) × (text ≡ words_text_of word
 MakesAsm (Err refused) status text = (status ≡ 2) × (text ≡ asm_line refused.0 (asm_rule refused.1))
 
 abbrev pub Makes : Command → (bytes : List ℕ) → (status : ℕ) → (text : List ℕ) → Type 0
-Makes commands.Plain bytes status text = MakesPlain (system_reading bytes) status text
+Makes commands.Plain bytes status text = MakesPlain (system_of_lines (system_part (lines_of bytes))) (section_part (lines_of bytes)) status text
 Makes commands.Check bytes status text = MakesCheck (system_reading bytes) status text
 Makes commands.Asm bytes status text = MakesAsm (asm_reading bytes) status text

@@ -5,4 +5,5 @@ pub mod command;
 pub mod input;
 pub mod output;
 pub mod reply;
+mod sections;
 pub mod top;

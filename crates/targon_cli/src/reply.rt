@@ -5,12 +5,17 @@ ghost use Rattle.plain_kernel.specs.Kernel.{Kernel};
 ghost use Rattle.plain_kernel.specs.Still.{IsDefaultRun};
 ghost use Rattle.report_text.specs.Report.{plain_report as plain_report_of};
 ghost use Rattle.rv_asm.specs.Program.{reading_of as asm_reading};
-ghost use Rattle.sys_text.specs.Reading.{reading_of as system_reading};
+ghost use Rattle.sys_text.specs.Reading.{reading_of as system_reading, system_of_lines};
+ghost use Rattle.text_parts.specs.Lines.{lines_of};
+ghost use Rattle.targon_cli.specs.Sections.{section_part, system_part};
 ghost use Rattle.sys_text.specs.Valid.{is_system};
-ghost use Rattle.targon_cli.specs.Reply.{asm_line, is_run as is_run_of, Makes, MakesAsm, MakesCheck, MakesPlain, not_yet_line, system_line};
+ghost use Rattle.targon_cli.specs.Reply.{asm_line, Follows, is_run as is_run_of, Makes, MakesAsm, MakesCheck, MakesPlain, not_yet_line, RunsBy, schedule_line, system_line};
 
 use crate::command::Command;
-use plain_kernel::plain::default_run;
+use crate::sections::split_at_section;
+use cert_sched::{ItemsRefused, read_items};
+use plain_kernel::item::{Item, RunRefused};
+use plain_kernel::plain::{default_run, run};
 use report_text::plain::plain_report;
 use rv_asm::{AsmRefused, assemble, words_text};
 use std::alloc::Global;
@@ -25,6 +30,9 @@ pub const DONE: u8 = 0;
 
 /// The status where the input is refused.
 pub const REFUSED: u8 = 2;
+
+/// The status where an item of the schedule cannot be read or applied.
+pub const BAD_ITEM: u8 = 3;
 
 /// The status of a command, and the text that is to be written.
 #[derive(Drop)]
@@ -44,20 +52,53 @@ pub fn carry_out(alloc: Global, command: Command, bytes: &[u8]) -> Result<Reply,
     }
 }
 
-// Runs a system, where it is one that is run yet.
+// Runs a system, where it is one that is run yet, by the schedule that stands behind it.
 fn plain(alloc: Global, bytes: &[u8]) -> Result<Reply, NoMemory>
-    ensures { IfOk result (λ r. MakesPlain (system_reading bytes.now) r.status r.text) }
+    ensures { IfOk result (λ r. MakesPlain (system_of_lines (system_part (lines_of bytes.now))) (section_part (lines_of bytes.now)) r.status r.text) }
 {
-    match read_system(alloc, bytes) {
+    let (text, section) = split_at_section(bytes);
+    match read_system(alloc, text) {
         Ok(system) => {
             if !is_run(&system) {
                 return not_yet(alloc);
             }
-            let text = report_of(alloc, &system)?;
-            Ok(Reply { status: DONE, text })
+            run_by(alloc, &system, section)
         }
         Err(SystemRefused::BadLine { line, rule }) => refused_system(alloc, line, rule),
         Err(SystemRefused::NoMemory) => Err(NoMemory),
+    }
+}
+
+// Runs a system by a schedule section, or without one by the default schedule.
+fn run_by(alloc: Global, system: &System, section: &[u8]) -> Result<Reply, NoMemory>
+    requires valid { is_system system.now ≡ true }
+    requires run { is_run_of system.now ≡ true }
+    ensures { IfOk result (λ r. RunsBy system.now (lines_of section.now) r.status r.text) }
+{
+    if section.is_empty() {
+        let text = report_of(alloc, system)?;
+        return Ok(Reply { status: DONE, text });
+    }
+    match read_items(alloc, section) {
+        Ok(items) => Ok(follow(alloc, system, items.as_slice())?),
+        Err(ItemsRefused::BadItem { index }) => Ok(refused_item(alloc, index)?),
+        Err(ItemsRefused::NoMemory) => Err(NoMemory),
+    }
+}
+
+// Runs a system by the items of a schedule.
+fn follow(alloc: Global, system: &System, items: &[Item]) -> Result<Reply, NoMemory>
+    requires valid { is_system system.now ≡ true }
+    requires run { is_run_of system.now ≡ true }
+    ensures { IfOk result (λ r. Follows system.now items.now r.status r.text) }
+{
+    match run(alloc, system, items) {
+        Ok(plain) => {
+            let text = plain_report(alloc, &plain)?;
+            Ok(Reply { status: DONE, text })
+        }
+        Err(RunRefused::BadItem { index }) => Ok(refused_item(alloc, index)?),
+        Err(RunRefused::NoMemory) => Err(NoMemory),
     }
 }
 
@@ -132,6 +173,16 @@ fn refused_asm(alloc: Global, line: u64, rule: u8) -> Result<Reply, NoMemory>
     let text = format!(in alloc; "t32: asm line {line} rule {rule}\n")?;
     Ok(Reply {
         status: REFUSED,
+        text: Bytes::copy_of(alloc, text.as_bytes())?,
+    })
+}
+
+fn refused_item(alloc: Global, index: u64) -> Result<Reply, NoMemory>
+    ensures { IfOk result (λ r. (r.status ≡ 3) × (r.text ≡ schedule_line index)) }
+{
+    let text = format!(in alloc; "t32: schedule item {index}\n")?;
+    Ok(Reply {
+        status: BAD_ITEM,
         text: Bytes::copy_of(alloc, text.as_bytes())?,
     })
 }
