@@ -8,12 +8,12 @@ use Rattle.targon_cli.specs.declared.command.Command.TheVariants as commands
 use Rattle.sys_text.specs.Reading.{reading_of as system_reading, system_of_lines}
 use Rattle.rv_asm.specs.Program.{reading_of as asm_reading}
 use Rattle.targon_cli.specs.Command.{command_of}
-use Rattle.targon_cli.specs.Reply.{Makes, MakesPlain, MakesCheck, MakesAsm, Runs, RunsBy, FollowsSection, Follows, Applied, Refused, is_run}
+use Rattle.targon_cli.specs.Reply.{Makes, MakesPlain, MakesCheck, MakesAsm, Runs, FollowsSection, Follows, Applied, Refused, is_run}
 use Rattle.targon_cli.specs.Sections.{system_part, section_part, items_of_lines}
 use Rattle.plain_kernel.specs.declared.item.Item.{Item}
 use Rattle.sys_text.specs.declared.system.System.{System}
 use Rattle.text_parts.specs.Lines.{lines_of}
-use Rattle.targon_cli.specs.Answer.{In, Out, Says, Wrote, WriteFault, IsAll, ReadsAll, ReadsTooMany, Answers, Replied, TooLong, ReadFault, OutOfMemory, IsReplied, Completes, IsStatus, input_limit, usage_line, Answered}
+use Rattle.targon_cli.specs.Answer.{In, Out, Says, Wrote, WriteFault, IsAll, ReadsTooMany, Answers, Replied, TooLong, ReadFault, OutOfMemory, IsReplied, Completes, IsStatus, input_limit, usage_line, Answered}
 
 -- the status of what is said, and its cause
 told : (wanted : ℕ) (text : List ℕ) (status : ℕ) (old new : Out) → Says wanted text status old new → ((status ≡ wanted) × Appends old.holds new.holds text) ⊎ ((status ≡ 5) × Rose old.faults new.faults)

@@ -1,5 +1,5 @@
 -- The parts of an input.
-use Rattle.std.proofs.Common.{◌≡◌, ℕ, ◌+◌, ◌≤◌, ◌<◌, Bool, true, false, cond, List, [], ◌∷◌, length, refl, sym, ap, subst, arith}
+use Rattle.std.proofs.Common.{◌≡◌, ℕ, ◌≤◌, ◌<◌, Bool, true, false, List, [], ◌∷◌, length, refl, ap, arith}
 use Rattle.std.specs.List.{onto_first}
 use Rattle.text_parts.specs.Lines.{lines_of, is_newline}
 use Rattle.sys_text.specs.declared.system.System.{System}

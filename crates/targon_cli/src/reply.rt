@@ -1,6 +1,5 @@
 //! What a command makes of the bytes of its input.
-ghost use Rattle.std.specs.Prelude.{◌≡◌, ◌++◌, ◌^◌, ◌<◌, IfOk, string_bytes, codes, true};
-ghost use Rattle.std.specs.Fmt.{decimal};
+ghost use Rattle.std.specs.Prelude.{◌≡◌, IfOk, true};
 ghost use Rattle.plain_kernel.specs.Kernel.{Kernel};
 ghost use Rattle.plain_kernel.specs.Still.{IsDefaultRun};
 ghost use Rattle.report_text.specs.Report.{plain_report as plain_report_of};

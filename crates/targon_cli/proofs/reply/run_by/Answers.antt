@@ -1,4 +1,4 @@
-use Rattle.std.proofs.Common.{◌≡◌, ◌<◌, length, sym, subst, arith}
+use Rattle.std.proofs.Common.{◌<◌, length, sym, subst, arith}
 use Rattle.text_parts.specs.Lines.{lines_of}
 use Rattle.targon_cli.specs.Reply.{Follows, FollowsSection}
 use Rattle.targon_cli.proofs.Parts.{lines_some, runs_section}
