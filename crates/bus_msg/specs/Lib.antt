@@ -1,0 +1,4 @@
+pub mod Places
+pub mod PlacedAfter
+pub mod Route
+pub mod Text

@@ -1,0 +1,1 @@
+//! Copies of posts and entries.

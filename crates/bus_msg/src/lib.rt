@@ -1,0 +1,9 @@
+//! What stands on the bus: entries with their places and destinations, and the line of each in a printed log.
+#![tactic(auto)]
+
+pub mod copying;
+pub mod entry;
+pub mod placed;
+#[cfg(test)]
+mod tests;
+pub mod text;
