@@ -43,6 +43,9 @@ is_cluster (Some j) k = same_cluster j k
 abbrev pub lives_in : Places → ClusterNo → Bool
 lives_in places k = option_map_or (λ (c : ClusterPlace). c.lives) (slice_get places.clusters k.0) false
 
+abbrev pub is_lost_in : Places → ClusterNo → Bool
+is_lost_in places k = option_map_or (λ (c : ClusterPlace). not c.lives) (slice_get places.clusters k.0) false
+
 abbrev pub next_serial_in : Places → ClusterNo → ℕ
 next_serial_in places k = option_map_or (λ (c : ClusterPlace). c.next_serial) (slice_get places.clusters k.0) 0
 

@@ -3,4 +3,8 @@ pub mod Parted
 pub mod ReadBack
 pub mod Counting
 pub mod FirstBad
+pub mod ListLaws
+pub mod LogLaws
+pub mod RecordLaws
 mod Rows
+pub mod Systems
