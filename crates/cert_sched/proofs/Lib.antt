@@ -8,3 +8,5 @@ pub mod LogLaws
 pub mod RecordLaws
 mod Rows
 pub mod Systems
+mod WorkedLogs
+mod Refused
