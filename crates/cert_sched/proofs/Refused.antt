@@ -6,6 +6,7 @@ use Rattle.sys_calls.specs.Next.{silently}
 use Rattle.plain_kernel.specs.Kernel.{boot}
 use Rattle.plain_kernel.specs.Apply.{one_step, steps}
 use Rattle.bus_msg.specs.declared.entry.What.TheVariants.{Exit, Page, PageIs, Sync, Fetch, Return, Rebackup, Done, Stop}
+use Rattle.bus_msg.specs.declared.entry.Dests.{Dests}
 use Rattle.bus_msg.specs.declared.entry.By.TheVariants.{Cluster, Bus}
 use Rattle.cert_sched.specs.Schedule.{plain_after, placement, schedule_of}
 use Rattle.cert_sched.specs.Told.{told}
@@ -20,6 +21,9 @@ use Rattle.cert_sched.proofs.WorkedLogs.{pid, entry, by_cluster, writes, process
 -- two large lists are told apart by one byte
 zero_is_not_one : ◌≡◌ {A = Option ℕ} (Some 0) (Some 1) → ⊥
 zero_is_not_one e = cc
+
+zero_is_not_two : ◌≡◌ {A = ℕ} 0 2 → ⊥
+zero_is_not_two e = cc
 
 -- the third byte of the word at 0x10040, which the program stores there
 abbrev byte_of_page : Option (List ℕ) → ℕ
@@ -49,7 +53,7 @@ wrong_place h = let e = h.stands.placed.0 in cc
 -- a letter that leaves out the backup of its sender
 not_to_the_backup : MayFollow two_system ([]) (entry 0 (by_cluster 0) 0 (Some 0) (writes 6 (97 ∷ 10 ∷ []))) → ⊥
 unfolding boot one_step steps silently plain_after schedule_of placement told is_over silent_upto emission_at before_fork_at backup_record account_after
-not_to_the_backup h = let e = h.stands.placed.1 in cc
+not_to_the_backup h = zero_is_not_two (ap (λ (d : Dests). d.clusters) h.stands.placed.1)
 
 -- an entry after the end
 after_the_end : MayFollow hi_system (hi_0 ∷ hi_1 ∷ hi_2 ∷ []) (entry 3 Bus 3 None Stop) → ⊥
