@@ -87,7 +87,10 @@ fn said(alloc: Global, what: &What) -> Result<String, AllocError>
             format!(in alloc; "page {pid} at {at} {index}")
         }
         What::Sync {
-            pid, small, took, ..
+            pid,
+            small,
+            took,
+            ..
         } => {
             let Pid(pid) = *pid;
             let at = small.steps;
