@@ -2,13 +2,13 @@
 ghost use Rattle.std.specs.Prelude.{◌≡◌, ◌++◌, IfOk, OnOk, OnErr, Some, string_bytes};
 ghost use Rattle.std.specs.Option.{option_map_or};
 ghost use Rattle.t32_base.specs.Small.{SmallState};
-ghost use Rattle.bus_msg.specs.Text.{end_text, body_text, bytes_said as bytes_said_by, letter_text, cause_text, took_text, spaced, pids_text, first_steps as first_steps_of, rebackup_text, what_text, by_text, line_of};
+ghost use Rattle.bus_msg.specs.Text.{end_text, body_text, bytes_said as bytes_said_by, letter_text, cause_text, took_text, spaced, pids_text, first_steps as first_steps_of, what_text, by_text, line_of};
 
 use crate::entry::{By, Cause, Entry, What};
 use std::alloc::{AllocError, Global};
 use t32_base::letter::{BackRec, Body, Letter, To};
 use t32_base::lists::{Bytes, Text};
-use t32_base::process::{End, Pid};
+use t32_base::process::{ClusterNo, End, Pid};
 use t32_base::streams::NoMemory;
 
 /// The line of an entry, without the end of the line.
@@ -114,7 +114,7 @@ fn said(alloc: Global, what: &What) -> Result<String, AllocError>
             let cluster = k.0;
             format!(in alloc; "return {cluster}")
         }
-        What::Rebackup { to, fresh, recs } => new_backup(alloc, to.0, *fresh, recs.as_slice()),
+        What::Rebackup { to, fresh, recs } => new_backup(alloc, *to, *fresh, recs.as_slice()),
         What::Done { .. } => String::from_str(alloc, "done"),
         What::Stop => String::from_str(alloc, "stop"),
     }
@@ -184,9 +184,15 @@ fn cause_of_loss(alloc: Global, cause: Cause) -> Result<String, AllocError>
     }
 }
 
-fn new_backup(alloc: Global, to: u8, fresh: bool, recs: &[BackRec]) -> Result<String, AllocError>
-    ensures { IfOk result (λ text. string_bytes text ≡ what_text (What.Rebackup (record { 0 = to }) fresh recs.now)) }
+fn new_backup(
+    alloc: Global,
+    to: ClusterNo,
+    fresh: bool,
+    recs: &[BackRec],
+) -> Result<String, AllocError>
+    ensures { IfOk result (λ text. string_bytes text ≡ what_text (What.Rebackup to fresh recs.now)) }
 {
+    let ClusterNo(to) = to;
     let pids = pids_of(alloc, recs)?;
     if fresh {
         let at = first_steps(recs);
