@@ -1,5 +1,5 @@
 -- The placement: which clusters live, and where each process has its home and its backup.
-use Rattle.std.specs.Prelude.{ℕ, zero, suc, ◌+◌, Bool, true, false, not, ◌&&◌, ◌||◌, ◌==◌, List, [], ◌∷◌, map, filter, find, count_by, slice_get, length, Option, Some, None, is_some}
+use Rattle.std.specs.Prelude.{ℕ, ◌+◌, Bool, true, false, not, ◌&&◌, ◌||◌, ◌==◌, List, [], ◌∷◌, map, filter, find, count_by, slice_get, length, Option, Some, None, is_some}
 use Rattle.std.specs.List.{list_any, list_all, range_with_len}
 use Rattle.std.specs.Option.{option_map_or}
 use Rattle.t32_base.specs.declared.process.Pid.{Pid}

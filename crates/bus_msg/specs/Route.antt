@@ -1,10 +1,9 @@
 -- Where an entry goes: to all of these clusters or to none, in one order (Borg et al., Fault Tolerance Under UNIX, ACM TOCS 7(1), 1989: three-way message delivery).
-use Rattle.std.specs.Prelude.{ℕ, ◌+◌, ◌^◌, Bool, not, ◌&&◌, if◌then◌else◌, List, [], ◌∷◌, ◌++◌, Option, Some, None}
+use Rattle.std.specs.Prelude.{ℕ, ◌+◌, ◌^◌, not, ◌&&◌, if◌then◌else◌, List, [], ◌∷◌, ◌++◌, Option, Some, None}
 use Rattle.std.specs.List.{list_any}
 use Rattle.std.specs.Option.{option_map_or}
 use Rattle.t32_base.specs.declared.process.Pid.{Pid}
 use Rattle.t32_base.specs.declared.process.ClusterNo.{ClusterNo}
-use Rattle.t32_base.specs.declared.letter.Letter.{Letter}
 use Rattle.t32_base.specs.declared.letter.To.{To}
 use Rattle.t32_base.specs.declared.letter.To.TheVariants.{Proc, Tty}
 use Rattle.bus_msg.specs.declared.entry.What.{What}
