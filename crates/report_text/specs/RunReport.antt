@@ -29,12 +29,15 @@ abbrev pub is_crash : What → Bool
 is_crash (Crash k cause) = true
 is_crash _ = false
 
+abbrev pub no_crash : List ℕ
+no_crash = codes "crash none" ++ newline
+
 -- the crashes and returns, in the order of the log; or that there was no crash
 abbrev pub losses_part : List Entry → List ℕ
 losses_part log =
     if list_any (λ (e : Entry). is_crash (what e)) log
     then flat_map (λ (e : Entry). loss_part e.place (what e)) log
-    else codes "crash none\n"
+    else no_crash
 
 -- the crash that ended the run, where one did
 abbrev pub lost_part : Ended → List ℕ

@@ -1,10 +1,10 @@
 //! What is printed of a run.
-ghost use Rattle.std.specs.Prelude.{◌≡◌, ◌++◌, OnOk, IfOk, count_by, string_bytes};
+ghost use Rattle.std.specs.Prelude.{◌≡◌, ◌++◌, OnOk, IfOk, count_by, length, string_bytes};
 ghost use Rattle.std.specs.List.{flat_map, list_any};
 ghost use Rattle.bus_msg.specs.PlacedAfter.{what as says};
 ghost use Rattle.bus_msg.specs.Text.{line_of};
 ghost use Rattle.report_text.specs.Report.{newline};
-ghost use Rattle.report_text.specs.RunReport.{at_place, loss_part, is_crash as is_crash_of, losses_part, lost_part, is_sync as is_sync_of, bus_part, report_of, log_lines, log_text_of};
+ghost use Rattle.report_text.specs.RunReport.{at_place, loss_part, is_crash as is_crash_of, losses_part, lost_part, no_crash, is_sync as is_sync_of, bus_part, report_of, log_lines, log_text_of};
 
 use crate::plain::plain_report;
 use crate::run::{Ended, Run};
@@ -64,6 +64,12 @@ fn is_crash(entry: &Entry) -> bool
     matches!(entry.post.what, What::Crash { .. })
 }
 
+fn has_crash(log: &[Entry]) -> bool
+    ensures { result ≡ list_any (λ e. is_crash_of (says e)) log.now }
+{
+    log.iter().any(|entry| is_crash(entry))
+}
+
 fn is_sync(entry: &Entry) -> bool
     ensures { result ≡ is_sync_of (says entry.now) }
 {
@@ -73,11 +79,18 @@ fn is_sync(entry: &Entry) -> bool
 fn put_losses(alloc: Global, text: &mut Text, log: &[Entry]) -> Result<(), NoMemory>
     ensures { OnOk result (text.new ≡ text.old ++ losses_part log.now) }
 {
-    if log.iter().any(is_crash) {
+    if has_crash(log) {
         put_each_loss(alloc, text, log)
     } else {
-        text.extend(b"crash none\n")
+        put_no_crash(text)
     }
+}
+
+fn put_no_crash(text: &mut Text) -> Result<(), NoMemory>
+    ensures { OnOk result (text.new ≡ text.old ++ no_crash) }
+{
+    text.extend(b"crash none")?;
+    text.extend(b"\n")
 }
 
 fn put_each_loss(alloc: Global, text: &mut Text, log: &[Entry]) -> Result<(), NoMemory>
