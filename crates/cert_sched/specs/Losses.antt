@@ -1,5 +1,5 @@
 -- The words of a script that name a kernel step or a disk call of a cluster, and how many of these a cluster has made at least.
-use Rattle.std.specs.Prelude.{ℕ, ◌+◌, Bool, true, false, not, ◌&&◌, ◌||◌, ◌==◌, nat_le, nat_lt, if◌then◌else◌, List, [], ◌∷◌, length, count_by, Option, Some, None}
+use Rattle.std.specs.Prelude.{ℕ, ◌+◌, ◌-◌, ◌^◌, min, Bool, true, false, not, ◌&&◌, ◌||◌, ◌==◌, nat_le, nat_lt, if◌then◌else◌, List, [], ◌∷◌, length, count_by, Option, Some, None}
 use Rattle.std.specs.List.{list_any, sum_by}
 use Rattle.std.specs.Option.{option_map_or}
 use Rattle.t32_base.specs.declared.process.Pid.{Pid}
@@ -90,6 +90,10 @@ least_steps heard sent k = length heard + count_by (is_by_cluster k) sent
 abbrev pub least_calls : System → List Entry → List Entry → ClusterNo → ℕ
 least_calls system heard sent k =
     root_pages system + count_by (λ (e : Entry). is_page_entry (what e)) heard + count_by (λ (e : Entry). is_page_is_entry (what e) && is_by_cluster k e) sent
+
+-- a count stands still at the greatest 64-bit number
+abbrev pub capped : ℕ → ℕ
+capped n = min n (2 ^ 64 - 1)
 
 -- ---- losses at a step or a disk call
 

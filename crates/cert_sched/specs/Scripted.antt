@@ -15,7 +15,7 @@ use Rattle.cert_sched.specs.declared.script.ScriptWord.TheVariants.{CrashAt, Cra
 use Rattle.cert_sched.specs.Parts.{last_of, before_end}
 use Rattle.cert_sched.specs.Told.{Told, told}
 use Rattle.cert_sched.specs.Looked.{Looked}
-use Rattle.cert_sched.specs.Losses.{is_by_cluster, is_step_crash, was_lost_in, least_steps, least_calls, is_scripted_loss}
+use Rattle.cert_sched.specs.Losses.{is_by_cluster, is_step_crash, was_lost_in, least_steps, least_calls, capped, is_scripted_loss}
 
 abbrev pub is_done : What → Bool
 is_done (Done rests) = true
@@ -39,8 +39,8 @@ is_server system k = same_cluster k (system.pager).0 || same_cluster k (system.p
 abbrev pub has_counted : System → List Entry → List ℕ → List ℕ → ClusterNo → Bool
 has_counted system log steps calls k =
     was_lost_in log k
-    || (nat_le (least_steps (before_end log) log k) (slice_index steps k.0)
-        && (not (is_server system k) || nat_le (least_calls system log log k) (slice_index calls k.0)))
+    || (nat_le (capped (least_steps (before_end log) log k)) (slice_index steps k.0)
+        && (not (is_server system k) || nat_le (capped (least_calls system log log k)) (slice_index calls k.0)))
 
 -- the crashes and returns of the log are those that the script gives
 pub record IsScripted (system : System) (log : List Entry) (script : List ScriptWord) (steps calls : List ℕ) : Type 0 where

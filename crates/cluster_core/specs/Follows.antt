@@ -1,5 +1,5 @@
 -- When a cluster follows a log: it holds what the log says, and nothing else.
-use Rattle.std.specs.Prelude.{◌≡◌, false, List, Option, Some, option_map}
+use Rattle.std.specs.Prelude.{◌≡◌, true, false, List, Option, Some, option_map}
 use Rattle.sys_text.specs.declared.system.System.{System}
 use Rattle.bus_msg.specs.declared.entry.Entry.{Entry}
 use Rattle.cert_sched.specs.Legal.{IsLegalBy, MayFollow}
@@ -30,4 +30,5 @@ pub record StandsBetween (Follow : System → List Entry → ClusterView → Typ
   pub before : ClusterView
   pub followed : Follow system log before
   pub head : option_map (entry_of system log) (head_of before.queue) ≡ Some e
+  pub tried : before.tried ≡ true
   pub sent : c ≡ after_sent before before.queue

@@ -24,7 +24,7 @@ use Rattle.cert_sched.specs.Moved.{moved_with_state, any_since_moved, is_fetch, 
 use Rattle.cert_sched.specs.Rolling.{replayed, refilled}
 use Rattle.cert_sched.specs.Steps.{numbers_read, saved_of, start_steps, page_count}
 use Rattle.cert_sched.specs.Rules.{has_its_pages}
-use Rattle.cert_sched.specs.Losses.{was_lost_in, least_steps, least_calls}
+use Rattle.cert_sched.specs.Losses.{was_lost_in, least_steps, least_calls, capped}
 use Rattle.cert_sched.specs.Scripted.{is_server}
 use Rattle.cluster_core.specs.View.{ClusterView, Held, Runs, Rolls, Waits, PageWait, held_at, record_at, account_at, page_wait}
 use Rattle.cluster_core.specs.Queue.{with_queue, IsQueueLegal, state_now}
@@ -60,7 +60,7 @@ pub record HoldsProcesses (May : System → List Entry → Entry → Type 0) (sy
   pub held : (p : Pid) (h : Held) → held_at c p ≡ Some h → IsHeldAs system log c.queue p h
   pub each_once : rising (map (λ (e : Pid × Held). (e.0).0) c.here) ≡ rising (home_pids system log c.number)
   pub queue : IsQueueLegal May system log c.queue
-  pub counted : was_lost_in log c.number ≡ false → least_steps log log c.number + (if c.tried then 1 else 0) ≤ c.steps
+  pub counted : was_lost_in log c.number ≡ false → capped (least_steps log log c.number + (if c.tried then 1 else 0)) ≤ c.steps
 
 -- ---- the pages of processes that were moved
 
@@ -128,4 +128,4 @@ is_serving system log k = list_any (same_cluster k) (servers_in (placement syste
 pub record HoldsAccounts (system : System) (log : List Entry) (c : ClusterView) : Type 0 where
   pub accounts : is_serving system log c.number ≡ true → (p : Pid) → is_some (unended_at (placement system log) p) ≡ true → account_at c p ≡ Some (account_after system log p)
   pub waits : is_serving system log c.number ≡ true → c.waits ≡ waiting_fetches system log
-  pub calls : was_lost_in log c.number ≡ false → is_server system c.number ≡ true → least_calls system log (with_queue system log c.queue) c.number ≤ c.disk_calls
+  pub calls : was_lost_in log c.number ≡ false → is_server system c.number ≡ true → capped (least_calls system log (with_queue system log c.queue) c.number) ≤ c.disk_calls

@@ -4,6 +4,7 @@ use Rattle.t32_base.specs.declared.process.Pid.{Pid}
 use Rattle.t32_base.specs.declared.process.ClusterNo.{ClusterNo}
 use Rattle.t32_base.specs.declared.process.Counts.{Counts}
 use Rattle.t32_base.specs.declared.letter.BackRec.{BackRec}
+use Rattle.sys_text.specs.declared.system.System.{System}
 use Rattle.proc_state.specs.declared.process.Process.{Process}
 use Rattle.bus_msg.specs.declared.entry.Post.{Post}
 use Rattle.bus_msg.specs.declared.entry.What.{What}
@@ -24,10 +25,11 @@ pub record PageWait : Type 0 where
   pub asked : Bool
   pub page : Option (List ℕ)
 
--- its number, the length of the log that it has taken in, and the placement then; the processes at home here and their pages; the records of
+-- its system and number, the length of the log that it has taken in, and the placement then; the processes at home here and their pages; the records of
 -- processes whose backup is here; the accounts and the waiting fetches of a page server; the posts that are still to be sent, and whether the
 -- first was tried; its kernel steps, its disk calls, and the call that failed
 pub record ClusterView : Type 0 where
+  pub system : System
   pub number : ClusterNo
   pub cursor : ℕ
   pub places : Places
