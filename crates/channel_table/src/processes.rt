@@ -1,11 +1,14 @@
 //! The processes of a placement, in the order of their births.
-ghost use Rattle.std.specs.Prelude.{◌≡◌, [], ◌∷◌, ◌++◌, map, find, length, slice_get, None, OnOk, OnErr, IfOk};
+ghost use Rattle.std.specs.Prelude.{◌≡◌, ◌&&◌, not, [], ◌∷◌, ◌++◌, map, find, length, slice_get, None, OnOk, OnErr, IfOk};
+ghost use Rattle.std.specs.Map.Iter.{ShowsInOrder};
+ghost use Rattle.bus_msg.specs.declared.placed.Placed.{Placed};
 ghost use Rattle.bus_msg.specs.Places.{same_pid};
 ghost use Rattle.bus_msg.specs.PlacedAfter.{after_loss, after_exit, after_sync};
-ghost use Rattle.channel_table.specs.Changes.{with_backup};
+ghost use Rattle.channel_table.specs.Changes.{with_backup, HaveDifferentPids};
 
 use bus_msg::placed::Placed;
 use indexmap::IndexMap;
+use indexmap::map::Values;
 use std::alloc::Global;
 use std::marker::Model;
 use t32_base::process::{ClusterNo, Pid};
@@ -22,13 +25,13 @@ impl Model for Processes {
     ghost use Rattle.std.specs.Coded.{coded_list};
     ghost use Rattle.indexmap.specs.IndexMap.{values};
     ghost use Rattle.bus_msg.specs.declared.placed.Placed.{Placed};
-    ghost use Rattle.channel_table.specs.Keys.{IsKeyed};
+    ghost use Rattle.channel_table.specs.Keys.{IsTable};
 
     ghost Value = { List Placed };
 
     ghost view = { λ p. values p.map };
 
-    ghost invariant = { λ p. IsKeyed p.map.entries };
+    ghost invariant = { λ p. IsTable p.map.entries };
 }
 
 impl Processes {
@@ -41,11 +44,41 @@ impl Processes {
         }
     }
 
+    /// These processes, in this order.
+    pub fn copy_of(alloc: Global, placed: &[Placed]) -> Result<Self, NoMemory>
+        requires { HaveDifferentPids placed.now }
+        ensures { IfOk result (λ p. p ≡ placed.now) }
+    {
+        let mut processes = Processes::new(alloc);
+        for one in placed {
+            processes.push(*one)?;
+        }
+        Ok(processes)
+    }
+
     /// Where a process is placed.
     pub fn get(&self, pid: Pid) -> Option<Placed>
         ensures { result ≡ find (λ q. same_pid q.pid pid) self.now }
     {
         self.map.get(&pid.0).copied()
+    }
+
+    /// Where a process is placed that has not ended.
+    pub fn unended(&self, pid: Pid) -> Option<Placed>
+        ensures { result ≡ find (λ q. same_pid q.pid pid && not q.ended) self.now }
+    {
+        match self.map.get(&pid.0) {
+            Some(placed) if !placed.ended => Some(*placed),
+            _ => None,
+        }
+    }
+
+    /// The processes in the order of their births.
+    pub fn iter(&self) -> Values<'_, u32, Placed>
+        ensures rest { result ≡ self.now }
+        ensures runs { ShowsInOrder (deref {X = Placed}) }
+    {
+        self.map.values()
     }
 
     pub fn len(&self) -> usize
