@@ -1,14 +1,17 @@
 -- Laws of a list of entries whose keys are the numbers of their processes.
-use Rattle.std.proofs.Common.{◌≡◌, ℕ, suc, ◌+◌, ◌<◌, Bool, true, false, cond, List, [], ◌∷◌, ◌++◌, map, find, length, Option, None, Some, refl, sym, ◌∙◌, ap, arith, nat_eq, eqb}
+use Rattle.std.proofs.Common.{◌≡◌, ◌≢◌, ℕ, zero, suc, ◌+◌, ◌<◌, Bool, true, false, not, ◌&&◌, cond, List, [], ◌∷◌, ◌++◌, map, find, take, length, slice_get, get_or, Option, None, Some, refl, sym, ◌∙◌, ap, subst, arith, nat_eq, eqb}
 use Rattle.std.specs.Map.{keys_of, values_of, lookup, set_value}
 use Rattle.std.specs.List.{IsDistinct}
 use Rattle.std.specs.Cmp.{nat_eq_equiv}
 use Rattle.std.proofs.lemmas.Bool.Decides.{nat_tests}
+use Rattle.std.proofs.lemmas.List.{map-append}
 use Rattle.std.proofs.lemmas.Map.{lookup-none, keys-set_value}
 use Rattle.std.proofs.lemmas.Map.Keys.{IsDistinct-tail}
 use Rattle.std.proofs.lemmas.Map.Entries.{none_past_head}
 use Rattle.bus_msg.specs.declared.placed.Placed.{Placed}
-use Rattle.channel_table.specs.Keys.{number_of, IsKeyed}
+use Rattle.indexmap.specs.IndexMap.{set_value_at}
+use Rattle.channel_table.specs.Keys.{number_of, IsKeyed, IsTable}
+use Rattle.channel_table.specs.Changes.{HaveDifferentPids}
 
 flips : (m n : ℕ) → eqb m n ≡ eqb n m
 flips m n = grind (arith, nat_tests)
@@ -100,11 +103,119 @@ module _ (n : ℕ) (g : Placed → Placed) (keeps : KeepsNumbers g) (es : List (
       ap (λ w. values_of (set_value (nat_eq n) es w)) (sym (ap (λ b. cond b (g v) v) (lookup-number n es v keyed found)))
       ∙ map-present n (at_number n g) (leaves n g) es v keyed distinct found
 
-  pub changed-keyed : (v : Placed) → IsDistinct nat_eq (keys_of es) → lookup (nat_eq n) es ≡ Some v → IsKeyed (set_value (nat_eq n) es (g v))
-  changed-keyed v distinct found =
+  pub changed-table : (v : Placed) → IsDistinct nat_eq (keys_of es) → lookup (nat_eq n) es ≡ Some v → IsTable (set_value (nat_eq n) es (g v))
+  changed-table v distinct found = record {
+    keyed =
       keys-set_value (nat_eq n) es (g v) ∙ keyed
       ∙ sym (numbers-map (at_number n g) (λ q. keeps_by (eqb (number_of q) n) q (g q) (keeps q)) (values_of es))
-      ∙ ap (map number_of) (sym (changed-values v distinct found))
+      ∙ ap (map number_of) (sym (changed-values v distinct found));
+    distinct = subst (IsDistinct nat_eq) (sym (keys-set_value (nat_eq n) es (g v))) distinct
+  }
 
   pub unchanged-values : lookup (nat_eq n) es ≡ None → values_of es ≡ map (at_number n g) (values_of es)
   unchanged-values none = sym (map-absent n (at_number n g) (leaves n g) es keyed none)
+
+-- ---- one more process
+
+pub values-push : (es : List (ℕ × Placed)) (e : ℕ × Placed) → values_of (es ++ e ∷ []) ≡ values_of es ++ e.1 ∷ []
+values-push es e = map-append (λ (x : ℕ × Placed). x.1) es (e ∷ [])
+
+pub keyed-push : (es : List (ℕ × Placed)) (q : Placed) → IsKeyed es → IsKeyed (es ++ (number_of q, q) ∷ [])
+keyed-push es q keyed =
+    map-append (λ (x : ℕ × Placed). x.0) es ((number_of q, q) ∷ [])
+    ∙ ap (λ ks. ks ++ number_of q ∷ []) keyed
+    ∙ sym (map-append number_of (values_of es) (q ∷ []))
+    ∙ ap (map number_of) (sym (values-push es (number_of q, q)))
+
+-- ---- a process that has not ended
+
+abbrev pub has : ℕ → Placed → Bool
+has n q = eqb (number_of q) n && not q.ended
+
+-- nothing where it has ended
+abbrev pub if_unended : Option Placed → Option Placed
+if_unended None = None
+if_unended (Some q) = cond q.ended None (Some q)
+
+find-absent : (n : ℕ) (es : List (ℕ × Placed)) → IsKeyed es → lookup (nat_eq n) es ≡ None → find (has n) (values_of es) ≡ None
+find-absent n [] keyed none = refl
+find-absent n (e ∷ es) keyed none = by (nat_eq n e.0) refl (λ later. find-absent n es (keyed_tail e es keyed) later)
+  where
+    by : (b : Bool) → nat_eq n e.0 ≡ b → (lookup (nat_eq n) es ≡ None → find (has n) (values_of es) ≡ None) → find (has n) (values_of (e ∷ es)) ≡ None
+    by true is more = let found : Some e.1 ≡ None = ap (λ b. cond b (Some e.1) (lookup (nat_eq n) es)) (sym is) ∙ none in cc
+    by false is more =
+        let test : eqb (number_of e.1) n ≡ false = ap (λ k. eqb k n) (sym (keyed_head e es keyed)) ∙ flips e.0 n ∙ is in
+        ap (λ b. cond (b && not (e.1).ended) (Some e.1) (find (has n) (values_of es))) test ∙ more (ap (λ b. cond b (Some e.1) (lookup (nat_eq n) es)) (sym is) ∙ none)
+
+-- the first process with this number that has not ended is the one that a look-up finds, where no two have one number
+pub find-unended : (n : ℕ) (es : List (ℕ × Placed)) → IsKeyed es → IsDistinct nat_eq (keys_of es) → find (has n) (values_of es) ≡ if_unended (lookup (nat_eq n) es)
+find-unended n [] keyed distinct = refl
+find-unended n (e ∷ es) keyed distinct = by (nat_eq n e.0) refl (find-unended n es (keyed_tail e es keyed) (IsDistinct-tail nat_eq e.0 (keys_of es) distinct))
+  where
+    at_head : (b : Bool) → (e.1).ended ≡ b → find (has n) (values_of es) ≡ None → cond (not b) (Some e.1) (find (has n) (values_of es)) ≡ cond b None (Some e.1)
+    at_head true is none = none
+    at_head false is none = refl
+    by : (b : Bool) → nat_eq n e.0 ≡ b → find (has n) (values_of es) ≡ if_unended (lookup (nat_eq n) es) → find (has n) (values_of (e ∷ es)) ≡ if_unended (lookup (nat_eq n) (e ∷ es))
+    by true is more =
+        let test : eqb (number_of e.1) n ≡ true = ap (λ k. eqb k n) (sym (keyed_head e es keyed)) ∙ flips e.0 n ∙ is in
+        ap (λ b. cond (b && not (e.1).ended) (Some e.1) (find (has n) (values_of es))) test
+        ∙ at_head (e.1).ended refl (find-absent n es (keyed_tail e es keyed) (lookup-none (nat_eq n) es (none_past_head nat_eq_equiv n e es distinct is)))
+        ∙ ap (λ b. if_unended (cond b (Some e.1) (lookup (nat_eq n) es))) (sym is)
+    by false is more =
+        let test : eqb (number_of e.1) n ≡ false = ap (λ k. eqb k n) (sym (keyed_head e es keyed)) ∙ flips e.0 n ∙ is in
+        ap (λ b. cond (b && not (e.1).ended) (Some e.1) (find (has n) (values_of es))) test ∙ more
+        ∙ ap (λ b. if_unended (cond b (Some e.1) (lookup (nat_eq n) es))) (sym is)
+
+-- ---- a change of every process, from the first on
+
+-- f for the first processes, as many as the number says
+abbrev pub changed_first : (Placed → Placed) → ℕ → List (ℕ × Placed) → List (ℕ × Placed)
+changed_first f i [] = []
+changed_first f zero (e ∷ es) = e ∷ es
+changed_first f (suc i) (e ∷ es) = (e.0, f e.1) ∷ changed_first f i es
+
+pub changed_first-zero : (f : Placed → Placed) (es : List (ℕ × Placed)) → changed_first f 0 es ≡ es
+changed_first-zero f [] = refl
+changed_first-zero f (e ∷ es) = refl
+
+pub length-changed_first : (f : Placed → Placed) (i : ℕ) (es : List (ℕ × Placed)) → length (changed_first f i es) ≡ length es
+length-changed_first f i [] = refl
+length-changed_first f zero (e ∷ es) = refl
+length-changed_first f (suc i) (e ∷ es) = ap suc (length-changed_first f i es)
+
+-- one more is changed by a write in its place
+pub changed_first-suc : (f : Placed → Placed) (i : ℕ) (es : List (ℕ × Placed)) (v : Placed) → slice_get (values_of (changed_first f i es)) i ≡ Some v
+    → set_value_at (changed_first f i es) i (f v) ≡ changed_first f (suc i) es
+changed_first-suc f i [] v at = refl
+changed_first-suc f zero (e ∷ es) v at =
+    let here : Some e.1 ≡ Some v = at in
+    let same : v ≡ e.1 = cc in
+    λ i. (e.0, f (same i)) ∷ sym (changed_first-zero f es) i
+changed_first-suc f (suc i) (e ∷ es) v at = ap (λ l. (e.0, f e.1) ∷ l) (changed_first-suc f i es v at)
+
+pub keys-changed_first : (f : Placed → Placed) (i : ℕ) (es : List (ℕ × Placed)) → keys_of (changed_first f i es) ≡ keys_of es
+keys-changed_first f i [] = refl
+keys-changed_first f zero (e ∷ es) = refl
+keys-changed_first f (suc i) (e ∷ es) = ap (λ l. e.0 ∷ l) (keys-changed_first f i es)
+
+-- in the end all are changed
+pub values-changed_all : (f : Placed → Placed) (es : List (ℕ × Placed)) → values_of (changed_first f (length es) es) ≡ map f (values_of es)
+values-changed_all f [] = refl
+values-changed_all f (e ∷ es) = ap (λ l. f e.1 ∷ l) (values-changed_all f es)
+
+pub changed_all-table : (f : Placed → Placed) → KeepsNumbers f → (es : List (ℕ × Placed)) → IsTable es → IsTable (changed_first f (length es) es)
+changed_all-table f keeps es table = record {
+  keyed = keys-changed_first f (length es) es ∙ table.keyed ∙ sym (numbers-map f keeps (values_of es)) ∙ ap (map number_of) (sym (values-changed_all f es));
+  distinct = subst (IsDistinct nat_eq) (sym (keys-changed_first f (length es) es)) table.distinct
+}
+
+-- ---- different processes
+
+pub find-different : (i : ℕ) (qs : List Placed) (d : Placed) → HaveDifferentPids qs → i < length qs → find (λ q. eqb (number_of q) (number_of (get_or qs i d))) (take i qs) ≡ None
+find-different i [] d different within = absurd (omega arith)
+find-different zero (q ∷ qs) d different within = refl
+find-different (suc i) (q ∷ qs) d different within =
+    let other : number_of q ≢ number_of (get_or qs i d) = different 0 (suc i) d (omega arith) within in
+    let apart : eqb (number_of q) (number_of (get_or qs i d)) ≡ false = grind (arith, nat_tests) in
+    ap (λ b. cond b (Some q) (find (λ p. eqb (number_of p) (number_of (get_or qs i d))) (take i qs))) apart
+    ∙ find-different i qs d (λ j k e below inside. different (suc j) (suc k) e (omega arith) (omega arith)) (omega arith)

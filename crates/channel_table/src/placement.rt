@@ -126,7 +126,13 @@ impl Placement {
     pub fn covered(&self, k: ClusterNo) -> bool
         ensures { result ≡ is_covered self.now k }
     {
-        self.processes.iter().all(|placed| self.survives(k, placed)) && self.has_server_beside(k)
+        self.processes_survive(k) && self.has_server_beside(k)
+    }
+
+    fn processes_survive(&self, k: ClusterNo) -> bool
+        ensures { result ≡ list_all (λ q. not (is_at_home k q) || option_map_or (lives_in self.now) q.backup false) self.now.placed }
+    {
+        self.processes.iter().all(|placed| self.survives(k, placed))
     }
 
     // Whether a process is not at home in `k`, or has a backup that lives.

@@ -1,6 +1,6 @@
 //! The processes of a placement, in the order of their births.
 ghost use Rattle.std.specs.Prelude.{◌≡◌, ◌&&◌, not, [], ◌∷◌, ◌++◌, map, find, length, slice_get, None, OnOk, OnErr, IfOk};
-ghost use Rattle.std.specs.Map.Iter.{ShowsInOrder};
+ghost use Rattle.std.specs.Map.Iter.{ShowsInOrder, deref};
 ghost use Rattle.bus_msg.specs.declared.placed.Placed.{Placed};
 ghost use Rattle.bus_msg.specs.Places.{same_pid};
 ghost use Rattle.bus_msg.specs.PlacedAfter.{after_loss, after_exit, after_sync};
