@@ -290,7 +290,7 @@ impl Placement {
             What::PageIs { pid, .. } => {
                 to_clusters(self.home_onto(self.unended(*pid), self.servers_onto(0)))
             }
-            What::Return { k } => to_clusters(bit_of(*k) | self.living_bits()),
+            What::Return { k } => to_clusters(self.bits_after_return(*k)),
             What::Birth { .. }
             | What::Exit { .. }
             | What::Crash { .. }
@@ -366,6 +366,15 @@ impl Placement {
         }
     }
 
+    // One bit for each cluster that lives, and for the cluster `k`, which returns.
+    fn bits_after_return(&self, k: ClusterNo) -> u16
+        requires { k.0 < length self.now.clusters }
+        ensures { result ≡ bit_or (2 ^ k.0) (bits_of self.now (all_clusters self.now)) }
+    {
+        let _ = &self.clusters;
+        bit_of(k) | self.living_bits()
+    }
+
     // One bit for each cluster that lives.
     fn living_bits(&self) -> u16
         ensures { result ≡ bits_of self.now (all_clusters self.now) }
@@ -428,7 +437,8 @@ fn count_birth(clusters: &mut [Cluster], home: ClusterNo)
 
 fn clusters_at_boot(alloc: Global, clusters: u8, roots: &[Placed]) -> Result<Vec<Cluster>, NoMemory>
     requires { length roots.now < 2 ^ 32 - 1 }
-    ensures { IfOk result (λ v. v.items ≡ map (boot_cluster roots.now) (range_with_len 0 clusters)) }
+    ensures clusters { IfOk result (λ v. v.items ≡ map (boot_cluster roots.now) (range_with_len 0 clusters)) }
+    ensures number { IfOk result (λ v. length v.items ≡ clusters) }
 {
     let mut placed = Vec::new(alloc);
     for k in 0..clusters {
