@@ -1,7 +1,7 @@
 -- Laws of a list of entries whose keys are the numbers of their processes.
-use Rattle.std.proofs.Common.{◌≡◌, ◌≢◌, ℕ, zero, suc, ◌+◌, ◌<◌, Bool, true, false, not, ◌&&◌, cond, List, [], ◌∷◌, ◌++◌, map, find, take, length, slice_get, get_or, Option, None, Some, refl, sym, ◌∙◌, ap, subst, arith, nat_eq, eqb}
+use Rattle.std.proofs.Common.{◌≡◌, ℕ, zero, suc, ◌+◌, ◌<◌, Bool, true, false, not, ◌&&◌, ◌||◌, cond, List, [], ◌∷◌, ◌++◌, map, find, take, length, slice_get, get_or, Option, None, Some, refl, sym, ◌∙◌, ap, subst, arith, nat_eq, eqb}
 use Rattle.std.specs.Map.{keys_of, values_of, lookup, set_value}
-use Rattle.std.specs.List.{IsDistinct}
+use Rattle.std.specs.List.{IsDistinct, list_any}
 use Rattle.std.specs.Cmp.{nat_eq_equiv}
 use Rattle.std.proofs.lemmas.Bool.Decides.{nat_tests}
 use Rattle.std.proofs.lemmas.List.{map-append}
@@ -11,7 +11,7 @@ use Rattle.std.proofs.lemmas.Map.Entries.{none_past_head}
 use Rattle.bus_msg.specs.declared.placed.Placed.{Placed}
 use Rattle.indexmap.specs.IndexMap.{set_value_at}
 use Rattle.channel_table.specs.Keys.{number_of, IsKeyed, IsTable}
-use Rattle.channel_table.specs.Changes.{HaveDifferentPids}
+use Rattle.channel_table.specs.Changes.{pids_differ}
 
 flips : (m n : ℕ) → eqb m n ≡ eqb n m
 flips m n = grind (arith, nat_tests)
@@ -211,11 +211,50 @@ changed_all-table f keeps es table = record {
 
 -- ---- different processes
 
-pub find-different : (i : ℕ) (qs : List Placed) (d : Placed) → HaveDifferentPids qs → i < length qs → find (λ q. eqb (number_of q) (number_of (get_or qs i d))) (take i qs) ≡ None
+any-at : (test : Placed → Bool) (qs : List Placed) (i : ℕ) (d : Placed) → list_any test qs ≡ false → i < length qs → test (get_or qs i d) ≡ false
+any-at test [] i d none within = absurd (omega arith)
+any-at test (q ∷ qs) zero d none within = by (test q) none
+  where
+    by : (b : Bool) → (b || list_any test qs) ≡ false → b ≡ false
+    by true h = h
+    by false h = refl
+any-at test (q ∷ qs) (suc i) d none within = by (test q) none (λ rest. any-at test qs i d rest (omega arith))
+  where
+    by : (b : Bool) → (b || list_any test qs) ≡ false → (list_any test qs ≡ false → test (get_or qs i d) ≡ false) → test (get_or qs i d) ≡ false
+    by true h more = cc
+    by false h more = more h
+
+both : (a b : Bool) → (not a && b) ≡ true → (a ≡ false) × (b ≡ true)
+both true b h = cc
+both false b h = (refl, h)
+
+-- the processes before one have other numbers
+pub find-different : (i : ℕ) (qs : List Placed) (d : Placed) → pids_differ qs ≡ true → i < length qs → find (λ q. eqb (number_of q) (number_of (get_or qs i d))) (take i qs) ≡ None
 find-different i [] d different within = absurd (omega arith)
 find-different zero (q ∷ qs) d different within = refl
 find-different (suc i) (q ∷ qs) d different within =
-    let other : number_of q ≢ number_of (get_or qs i d) = different 0 (suc i) d (omega arith) within in
-    let apart : eqb (number_of q) (number_of (get_or qs i d)) ≡ false = grind (arith, nat_tests) in
+    let parts = both (list_any (λ p. eqb (number_of p) (number_of q)) qs) (pids_differ qs) different in
+    let apart : eqb (number_of q) (number_of (get_or qs i d)) ≡ false =
+        flips (number_of q) (number_of (get_or qs i d)) ∙ any-at (λ p. eqb (number_of p) (number_of q)) qs i d parts.0 (omega arith) in
     ap (λ b. cond b (Some q) (find (λ p. eqb (number_of p) (number_of (get_or qs i d))) (take i qs))) apart
-    ∙ find-different i qs d (λ j k e below inside. different (suc j) (suc k) e (omega arith) (omega arith)) (omega arith)
+    ∙ find-different i qs d parts.1 (omega arith)
+
+none-any : (test : Placed → Bool) (qs : List Placed) → find test qs ≡ None → list_any test qs ≡ false
+none-any test [] none = refl
+none-any test (q ∷ qs) none = by (test q) none (λ rest. none-any test qs rest)
+  where
+    by : (b : Bool) → cond b (Some q) (find test qs) ≡ None → (find test qs ≡ None → list_any test qs ≡ false) → (b || list_any test qs) ≡ false
+    by true h more = cc
+    by false h more = more h
+
+-- where no two keys are equal, no two processes have one number
+pub pids_differ-table : (es : List (ℕ × Placed)) → IsKeyed es → IsDistinct nat_eq (keys_of es) → pids_differ (values_of es) ≡ true
+pids_differ-table [] keyed distinct = refl
+pids_differ-table (e ∷ es) keyed distinct =
+    let own : eqb e.0 e.0 ≡ true = grind (arith, nat_tests) in
+    let none : lookup (nat_eq e.0) es ≡ None = lookup-none (nat_eq e.0) es (none_past_head nat_eq_equiv e.0 e es distinct own) in
+    let others : list_any (λ p. eqb (number_of p) (number_of e.1)) (values_of es) ≡ false =
+        ap (λ n. list_any (λ p. eqb (number_of p) n) (values_of es)) (sym (keyed_head e es keyed))
+        ∙ none-any (λ p. eqb (number_of p) e.0) (values_of es) (sym (lookup-keyed e.0 es (keyed_tail e es keyed)) ∙ none) in
+    let rest = pids_differ-table es (keyed_tail e es keyed) (IsDistinct-tail nat_eq e.0 (keys_of es) distinct) in
+    λ i. not (others i) && rest i

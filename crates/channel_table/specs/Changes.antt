@@ -1,7 +1,7 @@
 -- What changes a placement, when it may, and the bits of a route.
-use Rattle.std.specs.Prelude.{◌≡◌, ◌≢◌, ℕ, ◌-◌, ◌^◌, ◌<◌, bit_or, Bool, ◌||◌, if◌then◌else◌, List, [], ◌∷◌, length, Option, Some, None}
+use Rattle.std.specs.Prelude.{◌≡◌, ℕ, ◌-◌, ◌^◌, ◌<◌, bit_or, Bool, true, not, ◌&&◌, ◌||◌, if◌then◌else◌, List, [], ◌∷◌, length, Option, Some, None}
 use Rattle.std.specs.Option.{IfSome, option_map_or}
-use Rattle.std.specs.List.{AllPairs}
+use Rattle.std.specs.List.{list_any}
 use Rattle.t32_base.specs.declared.process.Pid.{Pid}
 use Rattle.t32_base.specs.declared.process.ClusterNo.{ClusterNo}
 use Rattle.bus_msg.specs.declared.entry.What.{What}
@@ -9,7 +9,6 @@ use Rattle.bus_msg.specs.declared.entry.What.TheVariants.{Mail, Birth, Exit, Pag
 use Rattle.bus_msg.specs.declared.placed.Placed.{Placed}
 use Rattle.bus_msg.specs.Places.{Places, same_pid, placed_at, next_serial_in, lives_in}
 use Rattle.bus_msg.specs.Route.{to_list}
-use Rattle.channel_table.specs.Keys.{number_of}
 
 -- one process with its backup in a cluster; a fresh backup counts as a synchronisation
 abbrev pub with_backup : ClusterNo → Bool → Pid → Placed → Placed
@@ -20,8 +19,9 @@ abbrev pub given_backup : ClusterNo → Pid → Placed → Placed
 given_backup to pid q = if same_pid q.pid pid then record q { backup = Some to } else q
 
 -- no two processes have one number
-abbrev pub HaveDifferentPids : List Placed → Type 0
-HaveDifferentPids qs = AllPairs (λ p q. number_of p ≢ number_of q) qs
+abbrev pub pids_differ : List Placed → Bool
+pids_differ [] = true
+pids_differ (q ∷ qs) = not (list_any (λ (p : Placed). same_pid p.pid q.pid) qs) && pids_differ qs
 
 -- a child may be born: it is not placed yet, and the serials of its parent's home are not used up
 abbrev pub CanBeBorn : Places → Pid → Pid → Type 0

@@ -1,11 +1,11 @@
 //! The table of the placement.
-ghost use Rattle.std.specs.Prelude.{◌≡◌, ◌+◌, ◌-◌, ◌^◌, ◌<◌, ◌≤◌, ◌==◌, ◌&&◌, ◌||◌, not, false, if◌then◌else◌, bit_or, [], ◌∷◌, None, map, count_by, length, slice_get, IsTrue, OnOk, OnErr, IfOk};
+ghost use Rattle.std.specs.Prelude.{◌≡◌, ◌+◌, ◌-◌, ◌^◌, ◌<◌, ◌≤◌, ◌==◌, ◌&&◌, ◌||◌, not, true, false, if◌then◌else◌, bit_or, [], ◌∷◌, None, map, count_by, length, slice_get, IsTrue, OnOk, OnErr, IfOk};
 ghost use Rattle.std.specs.List.{list_all, list_any, range_with_len};
 ghost use Rattle.std.specs.Option.{option_map, option_map_or};
 ghost use Rattle.bus_msg.specs.Places.{ClusterPlace, boot_cluster, boot_places, same_cluster, lives_in, never_lost, next_serial_in, servers_in, all_clusters, placed_at, unended_at, is_at_home, is_covered};
 ghost use Rattle.bus_msg.specs.PlacedAfter.{changed_at, with_cluster, with_each, with_birth, raised_serial, lost_cluster, returned_cluster, after_loss, after_rebackup, placed_after, what};
 ghost use Rattle.bus_msg.specs.Route.{bits_of, letter_dests, route};
-ghost use Rattle.channel_table.specs.Changes.{with_backup, given_backup, CanBeBorn, CanBeAbsorbed, IsRoutable, home_list, backup_list, bits_onto, HaveDifferentPids};
+ghost use Rattle.channel_table.specs.Changes.{with_backup, given_backup, CanBeBorn, CanBeAbsorbed, IsRoutable, home_list, backup_list, bits_onto, pids_differ};
 
 use crate::cluster::Cluster;
 use crate::processes::Processes;
@@ -47,7 +47,7 @@ impl Placement {
     ) -> Result<Placement, NoMemory>
         requires clusters { clusters ≤ 16 }
         requires serials { length roots.now < 2 ^ 32 - 1 }
-        requires pids { HaveDifferentPids roots.now }
+        requires pids { pids_differ roots.now ≡ true }
         ensures { IfOk result (λ places. places ≡ boot_places clusters pager roots.now) }
     {
         Ok(Placement {
@@ -122,6 +122,14 @@ impl Placement {
         }
     }
 
+    /// Whether the cluster `k` serves pages: it is one of the two, and was never lost.
+    pub fn is_server(&self, k: ClusterNo) -> bool
+        ensures { result ≡ list_any (λ s. same_cluster s k) (servers_in self.now) }
+    {
+        let (first, second) = self.pager;
+        (self.was_never_lost(first) && first == k) || (self.was_never_lost(second) && second == k)
+    }
+
     /// Whether the loss of the cluster `k` would lose no process and not the last page server.
     pub fn covered(&self, k: ClusterNo) -> bool
         ensures { result ≡ is_covered self.now k }
@@ -157,9 +165,10 @@ impl Placement {
 
     // ---- the processes
 
-    /// The number of processes that were ever placed.
+    /// The number of processes that were ever placed. No two of them have one pid.
     pub fn len(&self) -> usize
-        ensures { result ≡ length self.now.placed }
+        ensures number { result ≡ length self.now.placed }
+        ensures different { pids_differ self.now.placed ≡ true }
     {
         self.processes.len()
     }

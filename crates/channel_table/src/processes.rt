@@ -1,10 +1,10 @@
 //! The processes of a placement, in the order of their births.
-ghost use Rattle.std.specs.Prelude.{◌≡◌, ◌&&◌, not, [], ◌∷◌, ◌++◌, map, find, length, slice_get, None, OnOk, OnErr, IfOk};
+ghost use Rattle.std.specs.Prelude.{◌≡◌, true, ◌&&◌, not, [], ◌∷◌, ◌++◌, map, find, length, slice_get, None, OnOk, OnErr, IfOk};
 ghost use Rattle.std.specs.Map.Iter.{ShowsInOrder, deref};
 ghost use Rattle.bus_msg.specs.declared.placed.Placed.{Placed};
 ghost use Rattle.bus_msg.specs.Places.{same_pid};
 ghost use Rattle.bus_msg.specs.PlacedAfter.{after_loss, after_exit, after_sync};
-ghost use Rattle.channel_table.specs.Changes.{with_backup, HaveDifferentPids};
+ghost use Rattle.channel_table.specs.Changes.{with_backup, pids_differ};
 
 use bus_msg::placed::Placed;
 use indexmap::IndexMap;
@@ -46,7 +46,7 @@ impl Processes {
 
     /// These processes, in this order.
     pub fn copy_of(alloc: Global, placed: &[Placed]) -> Result<Self, NoMemory>
-        requires { HaveDifferentPids placed.now }
+        requires { pids_differ placed.now ≡ true }
         ensures { IfOk result (λ p. p ≡ placed.now) }
     {
         let mut processes = Processes::new(alloc);
@@ -88,7 +88,8 @@ impl Processes {
     }
 
     pub fn len(&self) -> usize
-        ensures { result ≡ length self.now }
+        ensures number { result ≡ length self.now }
+        ensures different { pids_differ self.now ≡ true }
     {
         self.map.len()
     }
