@@ -106,10 +106,10 @@ module _ (n : ℕ) (g : Placed → Placed) (keeps : KeepsNumbers g) (es : List (
   pub changed-table : (v : Placed) → IsDistinct nat_eq (keys_of es) → lookup (nat_eq n) es ≡ Some v → IsTable (set_value (nat_eq n) es (g v))
   changed-table v distinct found = record {
     keyed =
-      keys-set_value (nat_eq n) es (g v) ∙ keyed
-      ∙ sym (numbers-map (at_number n g) (λ q. keeps_by (eqb (number_of q) n) q (g q) (keeps q)) (values_of es))
-      ∙ ap (map number_of) (sym (changed-values v distinct found));
-    distinct = subst (IsDistinct nat_eq) (sym (keys-set_value (nat_eq n) es (g v))) distinct
+        keys-set_value (nat_eq n) es (g v) ∙ keyed
+        ∙ sym (numbers-map (at_number n g) (λ q. keeps_by (eqb (number_of q) n) q (g q) (keeps q)) (values_of es))
+        ∙ ap (map number_of) (sym (changed-values v distinct found));
+    distinct = subst (IsDistinct nat_eq) (sym (keys-set_value (nat_eq n) es (g v))) distinct;
   }
 
   pub unchanged-values : lookup (nat_eq n) es ≡ None → values_of es ≡ map (at_number n g) (values_of es)
@@ -155,6 +155,7 @@ find-unended n (e ∷ es) keyed distinct = by (nat_eq n e.0) refl (find-unended 
     at_head : (b : Bool) → (e.1).ended ≡ b → find (has n) (values_of es) ≡ None → cond (not b) (Some e.1) (find (has n) (values_of es)) ≡ cond b None (Some e.1)
     at_head true is none = none
     at_head false is none = refl
+
     by : (b : Bool) → nat_eq n e.0 ≡ b → find (has n) (values_of es) ≡ if_unended (lookup (nat_eq n) es) → find (has n) (values_of (e ∷ es)) ≡ if_unended (lookup (nat_eq n) (e ∷ es))
     by true is more =
         let test : eqb (number_of e.1) n ≡ true = ap (λ k. eqb k n) (sym (keyed_head e es keyed)) ∙ flips e.0 n ∙ is in
@@ -206,7 +207,7 @@ values-changed_all f (e ∷ es) = ap (λ l. f e.1 ∷ l) (values-changed_all f e
 pub changed_all-table : (f : Placed → Placed) → KeepsNumbers f → (es : List (ℕ × Placed)) → IsTable es → IsTable (changed_first f (length es) es)
 changed_all-table f keeps es table = record {
   keyed = keys-changed_first f (length es) es ∙ table.keyed ∙ sym (numbers-map f keeps (values_of es)) ∙ ap (map number_of) (sym (values-changed_all f es));
-  distinct = subst (IsDistinct nat_eq) (sym (keys-changed_first f (length es) es)) table.distinct
+  distinct = subst (IsDistinct nat_eq) (sym (keys-changed_first f (length es) es)) table.distinct;
 }
 
 -- ---- different processes
@@ -235,7 +236,7 @@ find-different zero (q ∷ qs) d different within = refl
 find-different (suc i) (q ∷ qs) d different within =
     let parts = both (list_any (λ p. eqb (number_of p) (number_of q)) qs) (pids_differ qs) different in
     let apart : eqb (number_of q) (number_of (get_or qs i d)) ≡ false =
-        flips (number_of q) (number_of (get_or qs i d)) ∙ any-at (λ p. eqb (number_of p) (number_of q)) qs i d parts.0 (omega arith) in
+    flips (number_of q) (number_of (get_or qs i d)) ∙ any-at (λ p. eqb (number_of p) (number_of q)) qs i d parts.0 (omega arith) in
     ap (λ b. cond b (Some q) (find (λ p. eqb (number_of p) (number_of (get_or qs i d))) (take i qs))) apart
     ∙ find-different i qs d parts.1 (omega arith)
 
@@ -254,7 +255,7 @@ pids_differ-table (e ∷ es) keyed distinct =
     let own : eqb e.0 e.0 ≡ true = grind (arith, nat_tests) in
     let none : lookup (nat_eq e.0) es ≡ None = lookup-none (nat_eq e.0) es (none_past_head nat_eq_equiv e.0 e es distinct own) in
     let others : list_any (λ p. eqb (number_of p) (number_of e.1)) (values_of es) ≡ false =
-        ap (λ n. list_any (λ p. eqb (number_of p) n) (values_of es)) (sym (keyed_head e es keyed))
-        ∙ none-any (λ p. eqb (number_of p) e.0) (values_of es) (sym (lookup-keyed e.0 es (keyed_tail e es keyed)) ∙ none) in
+    ap (λ n. list_any (λ p. eqb (number_of p) n) (values_of es)) (sym (keyed_head e es keyed))
+    ∙ none-any (λ p. eqb (number_of p) e.0) (values_of es) (sym (lookup-keyed e.0 es (keyed_tail e es keyed)) ∙ none) in
     let rest = pids_differ-table es (keyed_tail e es keyed) (IsDistinct-tail nat_eq e.0 (keys_of es) distinct) in
     λ i. not (others i) && rest i

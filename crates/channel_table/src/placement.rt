@@ -350,10 +350,12 @@ impl Placement {
         ensures { result ≡ bits_onto self.now (backup_list placed) bits }
     {
         match placed {
-            Some(Placed {
-                backup: Some(backup),
-                ..
-            }) => self.onto(backup, bits),
+            Some(
+                Placed {
+                    backup: Some(backup),
+                    ..
+                },
+            ) => self.onto(backup, bits),
             _ => bits,
         }
     }

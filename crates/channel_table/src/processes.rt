@@ -68,13 +68,7 @@ impl Processes {
         ensures { result ≡ find (λ q. same_pid q.pid pid && not q.ended) self.now }
     {
         match self.map.get(&pid.0) {
-            Some(placed) => {
-                if placed.ended {
-                    None
-                } else {
-                    Some(*placed)
-                }
-            }
+            Some(placed) => { if placed.ended { None } else { Some(*placed) } }
             None => None,
         }
     }

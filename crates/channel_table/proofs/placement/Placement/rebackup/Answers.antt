@@ -18,7 +18,7 @@ loop-rec-preserved c =
     let before = c.loop-rec.invariant in
     let more : take (i + 1) recs ≡ take i recs ++ r ∷ [] = take_more recs i r c.loop-rec-test.true ∙ ap (λ x. take i recs ++ x ∷ []) (sym c.rec-item.is) in
     let changed =
-        c.set_backup.ensures ∙ ap (λ s. map (with_backup to fresh r.pid) s.processes) before
-        ∙ map-then (after_rebackup to fresh (take i recs)) (with_backup to fresh r.pid) (after_rebackup to fresh (take i recs ++ r ∷ [])) (after_rebackup-push to fresh (take i recs) r) c.self.inside.processes
-        ∙ ap (λ rs. map (after_rebackup to fresh rs) c.self.inside.processes) (sym more) in
+    c.set_backup.ensures ∙ ap (λ s. map (with_backup to fresh r.pid) s.processes) before
+    ∙ map-then (after_rebackup to fresh (take i recs)) (with_backup to fresh r.pid) (after_rebackup to fresh (take i recs ++ r ∷ [])) (after_rebackup-push to fresh (take i recs) r) c.self.inside.processes
+    ∙ ap (λ rs. map (after_rebackup to fresh rs) c.self.inside.processes) (sym more) in
     λ j. record { clusters = (before j).clusters; pager = (before j).pager; processes = changed j }

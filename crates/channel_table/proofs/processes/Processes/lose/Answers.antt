@@ -20,7 +20,7 @@ invariant_of-self c =
 pub index_mut-placed-requires : goal.index_mut-placed-requires
 index_mut-placed-requires c =
     let same : length c.loop-index.self-inside.map.entries ≡ length c.self.inside.map.entries =
-        ap length c.loop-index.invariant.entries ∙ length-changed_first (after_loss c.args.k) c.loop-index.index c.self.inside.map.entries in
+    ap length c.loop-index.invariant.entries ∙ length-changed_first (after_loss c.args.k) c.loop-index.index c.self.inside.map.entries in
     omega arith
 
 pub loop-index-preserved : goal.loop-index-preserved
@@ -33,8 +33,8 @@ loop-index-preserved c =
     let at : slice_get (values_of (changed_first f i es)) i ≡ Some v = ap (λ l. slice_get (values_of l) i) (sym before) ∙ c.index_mut-placed.ensures.value in
     record {
       entries =
-        (λ j. set_value_at (before j) i (c.moved_by_loss.ensures j)) ∙ changed_first-suc f i es v at ∙ ap (λ n. changed_first f n es) (sym (add-one i));
-      all = c.loop-index.invariant.all
+          (λ j. set_value_at (before j) i (c.moved_by_loss.ensures j)) ∙ changed_first-suc f i es v at ∙ ap (λ n. changed_first f n es) (sym (add-one i));
+      all = c.loop-index.invariant.all;
     }
 
 pub returns : goal.returns

@@ -10,16 +10,16 @@ pub invariant_of-self-2 : goal.invariant_of-self-2
 invariant_of-self-2 c =
     let es = c.self.inside.map.entries in
     let none : lookup (nat_eq c.args.placed.pid.0) es ≡ None =
-        lookup-keyed c.args.placed.pid.0 es c.self.invariant.keyed ∙ ap (find (λ q. same_pid q.pid c.args.placed.pid)) c.self.view_is ∙ c.requires in
+    lookup-keyed c.args.placed.pid.0 es c.self.invariant.keyed ∙ ap (find (λ q. same_pid q.pid c.args.placed.pid)) c.self.view_is ∙ c.requires in
     let new : c.insert.new.self.entries ≡ es ++ (number_of c.args.placed, c.args.placed) ∷ [] =
-        c.in_ok-insert.ensures.entries ∙ insert_entry-new nat_eq c.self.inside.map c.args.placed.pid.0 c.args.placed none in
+    c.in_ok-insert.ensures.entries ∙ insert_entry-new nat_eq c.self.inside.map c.args.placed.pid.0 c.args.placed none in
     record { keyed = subst IsKeyed (sym new) (keyed-push es c.args.placed c.self.invariant.keyed); distinct = c.in_ok-insert.ensures.unique }
 
 pub returns-clause-ok : goal.returns-clause-ok
 returns-clause-ok c =
     let es = c.self.inside.map.entries in
     let none : lookup (nat_eq c.args.placed.pid.0) es ≡ None =
-        lookup-keyed c.args.placed.pid.0 es c.self.invariant.keyed ∙ ap (find (λ q. same_pid q.pid c.args.placed.pid)) c.self.view_is ∙ c.requires in
+    lookup-keyed c.args.placed.pid.0 es c.self.invariant.keyed ∙ ap (find (λ q. same_pid q.pid c.args.placed.pid)) c.self.view_is ∙ c.requires in
     let new : c.insert.new.self.entries ≡ es ++ (number_of c.args.placed, c.args.placed) ∷ [] =
-        c.in_ok-insert.ensures.entries ∙ insert_entry-new nat_eq c.self.inside.map c.args.placed.pid.0 c.args.placed none in
+    c.in_ok-insert.ensures.entries ∙ insert_entry-new nat_eq c.self.inside.map c.args.placed.pid.0 c.args.placed none in
     ap values_of new ∙ values-push es (number_of c.args.placed, c.args.placed) ∙ ap (λ qs. qs ++ c.args.placed ∷ []) c.self.view_is
