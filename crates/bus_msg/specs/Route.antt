@@ -1,6 +1,5 @@
 -- Where an entry goes: to all of these clusters or to none, in one order (Borg et al., Fault Tolerance Under UNIX, ACM TOCS 7(1), 1989: three-way message delivery).
-use Rattle.std.specs.Prelude.{ℕ, ◌+◌, ◌^◌, not, ◌&&◌, if◌then◌else◌, List, [], ◌∷◌, ◌++◌, Option, Some, None}
-use Rattle.std.specs.List.{list_any}
+use Rattle.std.specs.Prelude.{ℕ, ◌^◌, bit_or, Bool, if◌then◌else◌, List, [], ◌∷◌, ◌++◌, Option, Some, None}
 use Rattle.std.specs.Option.{option_map_or}
 use Rattle.t32_base.specs.declared.process.Pid.{Pid}
 use Rattle.t32_base.specs.declared.process.ClusterNo.{ClusterNo}
@@ -10,12 +9,12 @@ use Rattle.bus_msg.specs.declared.entry.What.{What}
 use Rattle.bus_msg.specs.declared.entry.What.TheVariants.{Mail, Birth, Exit, Page, Sync, Fetch, PageIs, Crash, Return, Rebackup, Done, Stop}
 use Rattle.bus_msg.specs.declared.entry.Dests.{Dests}
 use Rattle.bus_msg.specs.declared.placed.Placed.{Placed}
-use Rattle.bus_msg.specs.Places.{Places, same_cluster, lives_in, unended_at, servers_in, all_clusters}
+use Rattle.bus_msg.specs.Places.{Places, lives_in, unended_at, servers_in, all_clusters}
 
 -- one bit for each cluster of a list that lives
 abbrev pub bits_of : Places → List ClusterNo → ℕ
 bits_of places [] = 0
-bits_of places (k ∷ ks) = if lives_in places k && not (list_any (same_cluster k) ks) then 2 ^ k.0 + bits_of places ks else bits_of places ks
+bits_of places (k ∷ ks) = if lives_in places k then bit_or (2 ^ k.0) (bits_of places ks) else bits_of places ks
 
 abbrev pub to_clusters : Places → List ClusterNo → Dests
 to_clusters places ks = record { clusters = bits_of places ks; tty = None }
@@ -42,7 +41,7 @@ letter_dests places from (Tty t) = record { clusters = bits_of places (backup_of
 
 -- all clusters that live, and the one that returns
 abbrev pub return_dests : Places → ClusterNo → Dests
-return_dests places k = let all = to_all places in record all { clusters = all.clusters + (if lives_in places k then 0 else 2 ^ k.0) }
+return_dests places k = let all = to_all places in record all { clusters = bit_or (2 ^ k.0) all.clusters }
 
 -- where an entry that says this goes
 abbrev pub route : Places → What → Dests

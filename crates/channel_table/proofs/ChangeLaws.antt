@@ -1,0 +1,87 @@
+-- Laws of what changes a placement.
+use Rattle.std.proofs.Common.{◌≡◌, ◌<◌, ◌-◌, ◌^◌, ℕ, Bool, true, false, ◌||◌, cond, List, [], ◌∷◌, ◌++◌, map, Option, None, Some, refl, sym, ◌∙◌, ap, subst, arith, eqb, slice_get}
+use Rattle.std.specs.List.{list_any}
+use Rattle.std.specs.Option.{IfSome}
+use Rattle.std.proofs.lemmas.Bool.Decides.{nat_tests}
+use Rattle.std.proofs.lemmas.List.Folds.{list_any-append}
+use Rattle.t32_base.specs.declared.process.Pid.{Pid}
+use Rattle.t32_base.specs.declared.process.ClusterNo.{ClusterNo}
+use Rattle.t32_base.specs.declared.letter.BackRec.{BackRec}
+use Rattle.bus_msg.specs.declared.placed.Placed.{Placed}
+use Rattle.bus_msg.specs.Places.{ClusterPlace, Places, same_pid, same_cluster, is_cluster, placed_at, next_serial_in}
+use Rattle.bus_msg.specs.PlacedAfter.{is_named, after_rebackup, after_loss, moved_to, changed_at, raised_serial, child_of, with_birth}
+use Rattle.channel_table.specs.Keys.{number_of}
+use Rattle.channel_table.specs.Changes.{with_backup, CanBeBorn}
+
+-- two changes of every process are one
+pub map-then : (f h g : Placed → Placed) → ((q : Placed) → h (f q) ≡ g q) → (qs : List Placed) → map h (map f qs) ≡ map g qs
+map-then f h g then [] = refl
+map-then f h g then (q ∷ qs) = let rest = map-then f h g then qs in λ i. then q i ∷ rest i
+
+pub map-same : (f : Placed → Placed) → ((q : Placed) → f q ≡ q) → (qs : List Placed) → qs ≡ map f qs
+map-same f same [] = refl
+map-same f same (q ∷ qs) = let rest = map-same f same qs in λ i. sym (same q) i ∷ rest i
+
+same_flips : (p q : Pid) → same_pid p q ≡ same_pid q p
+same_flips p q = grind (arith, nat_tests)
+
+again : (b c : Bool) → ((b || c) || c) ≡ (b || c)
+again true c = refl
+again false true = refl
+again false false = refl
+
+-- one more record, at the two tests
+rebackup_by : (to : ClusterNo) (fresh : Bool) (q : Placed) (b c : Bool)
+    → cond (b || c) (record q { backup = Some to; synced = q.synced || fresh }) q
+    ≡ cond c (record (cond b (record q { backup = Some to; synced = q.synced || fresh }) q) { backup = Some to; synced = (cond b (record q { backup = Some to; synced = q.synced || fresh }) q).synced || fresh })
+    (cond b (record q { backup = Some to; synced = q.synced || fresh }) q)
+rebackup_by to fresh q true true = λ i. record q { backup = Some to; synced = sym (again q.synced fresh) i }
+rebackup_by to fresh q true false = refl
+rebackup_by to fresh q false true = refl
+rebackup_by to fresh q false false = refl
+
+pid_by : (to : ClusterNo) (fresh : Bool) (q : Placed) (b : Bool) → (cond b (record q { backup = Some to; synced = q.synced || fresh }) q).pid ≡ q.pid
+pid_by to fresh q true = refl
+pid_by to fresh q false = refl
+
+-- the records of a new backup, and one more
+pub after_rebackup-push : (to : ClusterNo) (fresh : Bool) (recs : List BackRec) (r : BackRec) (q : Placed)
+    → with_backup to fresh r.pid (after_rebackup to fresh recs q) ≡ after_rebackup to fresh (recs ++ r ∷ []) q
+after_rebackup-push to fresh recs r q =
+    let is : BackRec → Bool = λ x. same_pid x.pid q.pid in
+    let changed : Placed = record q { backup = Some to; synced = q.synced || fresh } in
+    let now : Placed = after_rebackup to fresh recs q in
+    let test : same_pid now.pid r.pid ≡ same_pid r.pid q.pid = ap (λ p. same_pid p r.pid) (pid_by to fresh q (is_named recs q)) ∙ same_flips q.pid r.pid in
+    let named : is_named (recs ++ r ∷ []) q ≡ (is_named recs q || same_pid r.pid q.pid) = list_any-append is recs (r ∷ []) ∙ ap (λ b. is_named recs q || b) (last (same_pid r.pid q.pid)) in
+    ap (λ b. cond b (record now { backup = Some to; synced = now.synced || fresh }) now) test
+    ∙ sym (rebackup_by to fresh q (is_named recs q) (same_pid r.pid q.pid))
+    ∙ ap (λ b. cond b changed q) (sym named)
+  where
+    last : (b : Bool) → (b || false) ≡ b
+    last true = refl
+    last false = refl
+
+-- no change moves a process to another number
+loss_by : (k : ClusterNo) (q : Placed) (b c d : Bool) (backup : Option ClusterNo)
+    → number_of (cond b q (cond c (moved_to q k backup) (cond d (record q { backup = None; lost = Some k }) q))) ≡ number_of q
+loss_by k q true c d backup = refl
+loss_by k q false true d None = refl
+loss_by k q false true d (Some b) = refl
+loss_by k q false false true backup = refl
+loss_by k q false false false backup = refl
+
+pub number_of-after_loss : (k : ClusterNo) (q : Placed) → number_of (after_loss k q) ≡ number_of q
+number_of-after_loss k q = loss_by k q q.ended (same_cluster q.home k) (is_cluster q.backup k) q.backup
+
+-- ---- births
+
+-- a placed parent's home has a serial left
+pub room_at_home : (places : Places) (parent child : Pid) (q : Placed) → CanBeBorn places parent child → Some q ≡ placed_at places parent → next_serial_in places q.home < 2 ^ 32 - 1
+room_at_home places parent child q can found = subst (λ o. IfSome o (λ (r : Placed). next_serial_in places r.home < 2 ^ 32 - 1)) (sym found) can.1
+
+-- the parts of the placement after a birth
+pub born : (places : Places) (parent child : Pid) (q : Placed) (clusters : List ClusterPlace) (placed : List Placed) → Some q ≡ placed_at places parent
+    → clusters ≡ changed_at (q.home).0 raised_serial (slice_get places.clusters (q.home).0) places.clusters → placed ≡ places.placed ++ child_of q child ∷ []
+    → record places { clusters = clusters; placed = placed } ≡ with_birth places child (placed_at places parent)
+born places parent child q clusters placed found changed more =
+    (λ i. record places { clusters = changed i; placed = more i }) ∙ ap (with_birth places child) found

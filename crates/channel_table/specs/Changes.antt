@@ -1,0 +1,72 @@
+-- What changes a placement, when it may, and the bits of a route.
+use Rattle.std.specs.Prelude.{◌≡◌, ℕ, ◌-◌, ◌^◌, ◌<◌, bit_or, Bool, true, not, ◌&&◌, ◌||◌, if◌then◌else◌, List, [], ◌∷◌, length, Option, Some, None}
+use Rattle.std.specs.Option.{IfSome, option_map_or}
+use Rattle.std.specs.List.{list_any}
+use Rattle.t32_base.specs.declared.process.Pid.{Pid}
+use Rattle.t32_base.specs.declared.process.ClusterNo.{ClusterNo}
+use Rattle.bus_msg.specs.declared.entry.What.{What}
+use Rattle.bus_msg.specs.declared.entry.What.TheVariants.{Mail, Birth, Exit, Page, Sync, Fetch, PageIs, Crash, Return, Rebackup, Done, Stop}
+use Rattle.bus_msg.specs.declared.placed.Placed.{Placed}
+use Rattle.bus_msg.specs.Places.{Places, same_pid, placed_at, next_serial_in, lives_in}
+use Rattle.bus_msg.specs.Route.{to_list}
+
+-- one process with its backup in a cluster; a fresh backup counts as a synchronisation
+abbrev pub with_backup : ClusterNo → Bool → Pid → Placed → Placed
+with_backup to fresh pid q = if same_pid q.pid pid then record q { backup = Some to; synced = q.synced || fresh } else q
+
+-- one process with its backup in a cluster
+abbrev pub given_backup : ClusterNo → Pid → Placed → Placed
+given_backup to pid q = if same_pid q.pid pid then record q { backup = Some to } else q
+
+-- no two processes have one number
+abbrev pub pids_differ : List Placed → Bool
+pids_differ [] = true
+pids_differ (q ∷ qs) = not (list_any (λ (p : Placed). same_pid p.pid q.pid) qs) && pids_differ qs
+
+-- a child may be born: it is not placed yet, and the serials of its parent's home are not used up
+abbrev pub CanBeBorn : Places → Pid → Pid → Type 0
+CanBeBorn places parent child = (placed_at places child ≡ None) × IfSome (placed_at places parent) (λ (q : Placed). next_serial_in places q.home < 2 ^ 32 - 1)
+
+-- an entry may be taken in: its child, where it tells of one, may be born
+abbrev pub CanBeAbsorbed : Places → What → Type 0
+CanBeAbsorbed places (Birth parent at child end) = CanBeBorn places parent child
+CanBeAbsorbed places (Mail at letter) = Unit {0}
+CanBeAbsorbed places (Exit pid at end) = Unit {0}
+CanBeAbsorbed places (Page pid at index bytes) = Unit {0}
+CanBeAbsorbed places (Sync pid small read took) = Unit {0}
+CanBeAbsorbed places (Fetch pid index) = Unit {0}
+CanBeAbsorbed places (PageIs pid index bytes) = Unit {0}
+CanBeAbsorbed places (Crash k cause) = Unit {0}
+CanBeAbsorbed places (Return k) = Unit {0}
+CanBeAbsorbed places (Rebackup to fresh recs) = Unit {0}
+CanBeAbsorbed places (Done rests) = Unit {0}
+CanBeAbsorbed places Stop = Unit {0}
+
+-- an entry that says this has a route: a cluster that returns is one of the clusters
+abbrev pub IsRoutable : Places → What → Type 0
+IsRoutable places (Return k) = k.0 < length places.clusters
+IsRoutable places (Mail at letter) = Unit {0}
+IsRoutable places (Birth parent at child end) = Unit {0}
+IsRoutable places (Exit pid at end) = Unit {0}
+IsRoutable places (Page pid at index bytes) = Unit {0}
+IsRoutable places (Sync pid small read took) = Unit {0}
+IsRoutable places (Fetch pid index) = Unit {0}
+IsRoutable places (PageIs pid index bytes) = Unit {0}
+IsRoutable places (Crash k cause) = Unit {0}
+IsRoutable places (Rebackup to fresh recs) = Unit {0}
+IsRoutable places (Done rests) = Unit {0}
+IsRoutable places Stop = Unit {0}
+
+-- ---- the bits of a route
+
+-- the home of a process, and its backup
+abbrev pub home_list : Option Placed → List ClusterNo
+home_list placed = option_map_or (λ (q : Placed). q.home ∷ []) placed []
+
+abbrev pub backup_list : Option Placed → List ClusterNo
+backup_list placed = option_map_or (λ (q : Placed). to_list q.backup) placed []
+
+-- these bits, with one for each cluster of a list that lives
+abbrev pub bits_onto : Places → List ClusterNo → ℕ → ℕ
+bits_onto places [] bits = bits
+bits_onto places (k ∷ ks) bits = if lives_in places k then bit_or (2 ^ k.0) (bits_onto places ks bits) else bits_onto places ks bits

@@ -1,0 +1,78 @@
+//! One cluster of a placement.
+ghost use Rattle.std.specs.Prelude.{◌≡◌, ◌+◌, ◌-◌, ◌^◌, ◌<◌, true, false, not};
+ghost use Rattle.bus_msg.specs.Places.{ClusterPlace};
+ghost use Rattle.bus_msg.specs.PlacedAfter.{raised_serial, lost_cluster, returned_cluster};
+
+use std::marker::Model;
+
+/// Whether a cluster lives, whether it was lost once, and the serial that its next forked child gets.
+#[derive(Clone, Copy)]
+pub struct Cluster {
+    lives: bool,
+    was_lost: bool,
+    next_serial: u32,
+}
+
+impl Model for Cluster {
+    ghost use Rattle.bus_msg.specs.Places.{ClusterPlace};
+
+    ghost Value = { ClusterPlace };
+
+    ghost view = { λ c. record { lives = c.lives; was_lost = c.was_lost; next_serial = c.next_serial } };
+
+    ghost inverse = { λ p. record { lives = p.lives; was_lost = p.was_lost; next_serial = p.next_serial } };
+}
+
+impl Cluster {
+    /// A cluster that lives and was never lost.
+    pub fn new(next_serial: u32) -> Self
+        ensures { result ≡ record { lives = true; was_lost = false; next_serial = next_serial } }
+    {
+        Cluster {
+            lives: true,
+            was_lost: false,
+            next_serial,
+        }
+    }
+
+    pub fn lives(&self) -> bool
+        ensures { result ≡ self.now.lives }
+    {
+        self.lives
+    }
+
+    pub fn was_never_lost(&self) -> bool
+        ensures { result ≡ not self.now.was_lost }
+    {
+        !self.was_lost
+    }
+
+    pub fn next_serial(&self) -> u32
+        ensures { result ≡ self.now.next_serial }
+    {
+        self.next_serial
+    }
+
+    /// The cluster is lost.
+    pub fn lose(&mut self)
+        ensures { self.new ≡ lost_cluster self.old }
+    {
+        self.lives = false;
+        self.was_lost = true;
+    }
+
+    /// The cluster lives again.
+    pub fn come_back(&mut self)
+        ensures { self.new ≡ returned_cluster self.old }
+    {
+        self.lives = true;
+    }
+
+    /// A child was forked here.
+    pub fn count_birth(&mut self)
+        requires { self.old.next_serial < 2 ^ 32 - 1 }
+        ensures { self.new ≡ raised_serial self.old }
+    {
+        self.next_serial += 1;
+    }
+}
