@@ -1,0 +1,3 @@
+pub mod AccountLaws
+pub mod Marks
+pub mod Owners

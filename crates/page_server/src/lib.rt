@@ -1,0 +1,9 @@
+//! The page server: an uncommitted and a committed account of pages for each process, kept on a page disk.
+#![tactic(auto)]
+
+pub mod disk;
+pub mod mem_disk;
+pub mod pager;
+pub mod pages;
+pub mod processes;
+pub mod table;
