@@ -1,3 +1,4 @@
 pub mod AccountLaws
 pub mod Marks
 pub mod Owners
+pub mod PagerLaws

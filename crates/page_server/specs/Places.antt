@@ -1,5 +1,5 @@
 -- The processes that a page server knows, and the place of each, which says where on the disk its pages lie.
-use Rattle.std.specs.Prelude.{ℕ, ◌≡◌, ◌≤◌, List, [], map, length, get_or, Bool, cond, Option, None, Some, IsSome, option_map, Result, Ok, Err}
+use Rattle.std.specs.Prelude.{ℕ, ◌≡◌, ◌≤◌, List, [], map, length, get_or, ◌⊎◌, Bool, cond, Option, None, Some, IsSome, option_map, Result, Ok, Err}
 use Rattle.std.specs.BTreeMap.{BTreeMap, get, is_at}
 use Rattle.std.specs.Ordering.{nat_cmp}
 use Rattle.t32_base.specs.declared.process.Pid.{Pid}
@@ -54,6 +54,10 @@ pub record Enters (old new : Processes) (pid : ℕ) : Type 0 where
   pub pages : Pages
   pub empty : pages.table ≡ []
   pub becomes : Becomes old new pid (Some pages)
+
+-- no process changed, but one that was not there may have come without pages
+abbrev pub Admits : Processes → Processes → Type 0
+Admits old new = (q : ℕ) → (get nat_cmp new q ≡ get nat_cmp old q) ⊎ ((get nat_cmp old q ≡ None) × ((pages : Pages) × (get nat_cmp new q ≡ Some pages) × (pages.table ≡ [])))
 
 abbrev pub SameProcesses : Processes → Processes → Type 0
 SameProcesses old new = (q : ℕ) → get nat_cmp new q ≡ get nat_cmp old q

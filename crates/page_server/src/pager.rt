@@ -5,7 +5,7 @@ ghost use Rattle.page_server.specs.Account.{account, page_in, committed, reverte
 
 use crate::disk::{DiskFault, DiskRefused, PageDisk};
 use crate::pages::Pages;
-use crate::processes::{commit_at, enter, kept_at, leave, put_at, revert_at};
+use crate::processes::{admit, commit_at, kept_at, leave, put_at, revert_at};
 use std::alloc::Global;
 use std::collections::BTreeMap;
 use std::marker::Model;
@@ -63,11 +63,8 @@ impl<D: PageDisk> Pager<D> {
         ensures fetches { self.new.fetches ≡ self.old.fetches }
         ensures counts { CountsAfterPut self.old.counts self.new.counts result }
     {
-        if !self.processes.contains_key(&pid.0) {
-            match enter(self.alloc, &mut self.processes, &mut self.owners, pid.0) {
-                Ok(()) => {}
-                Err(NoMemory) => return Err(DiskRefused::NoMemory),
-            }
+        if admit(self.alloc, &mut self.processes, &mut self.owners, pid.0).is_err() {
+            return Err(DiskRefused::NoMemory);
         }
         put_at(&mut self.processes, &mut self.disk, pid.0, i, page)
     }

@@ -4,7 +4,7 @@ ghost use Rattle.std.specs.BTreeMap.{get};
 ghost use Rattle.std.specs.Ordering.{nat_cmp};
 ghost use Rattle.page_server.specs.Disk.{CountsAfterPut};
 ghost use Rattle.page_server.specs.Slots.{settled, restored};
-ghost use Rattle.page_server.specs.Places.{Owned, Becomes, Enters, SameProcesses, Puts, ChangesRows, kept_slot};
+ghost use Rattle.page_server.specs.Places.{Owned, Becomes, Admits, Enters, SameProcesses, Puts, ChangesRows, kept_slot};
 ghost use Rattle.page_server.specs.declared.pages.Pages.{Pages};
 
 use crate::disk::{DiskRefused, PageDisk};
@@ -14,8 +14,26 @@ use std::alloc::{AllocError, Global};
 use std::collections::BTreeMap;
 use t32_base::streams::NoMemory;
 
-/// Takes in a process that has no pages, and gives it a place of its own.
-pub fn enter(
+/// Takes in a process, if it is not there.
+pub fn admit(
+    alloc: Global,
+    processes: &mut BTreeMap<u32, Pages>,
+    owners: &mut Vec<Option<u32>>,
+    pid: u32,
+) -> Result<(), NoMemory>
+    requires { Owned processes.old owners.old.items }
+    ensures owned { Owned processes.new owners.new.items }
+    ensures there { OnOk result (IsSome (get nat_cmp processes.new pid)) }
+    ensures admits { Admits processes.old processes.new }
+{
+    if processes.contains_key(&pid) {
+        return Ok(());
+    }
+    enter(alloc, processes, owners, pid)
+}
+
+// Takes in a process that is not there, and gives it a place of its own.
+fn enter(
     alloc: Global,
     processes: &mut BTreeMap<u32, Pages>,
     owners: &mut Vec<Option<u32>>,
