@@ -6,9 +6,11 @@ use Rattle.std.specs.declared.cmp.Ordering.{Ordering}
 use Rattle.std.specs.declared.cmp.Ordering.TheVariants.{Less, Equal, Greater}
 use Rattle.std.specs.FinMap.{find, put}
 use Rattle.page_server.specs.declared.table.Held.{Held}
+use Rattle.page_server.specs.declared.table.Which.{Which}
+use Rattle.page_server.specs.declared.table.Which.TheVariants.{First, Second, Third, Fourth}
 use Rattle.page_server.specs.Disk.{Slots, written}
 use Rattle.page_server.specs.Account.{Account, page_in, with_page, committed, reverted}
-use Rattle.page_server.specs.Slots.{slot, absent, spare, content, numbered, pages_from, account_at, grown, put_in, settled, restored}
+use Rattle.page_server.specs.Slots.{slot, number_of, absent, spare, content, numbered, pages_from, account_at, grown, put_in, settled, restored}
 
 -- ---- numbers
 
@@ -29,29 +31,30 @@ same n = grind (arith, nat_tests)
 
 -- ---- slots
 
-bit : Bool → ℕ
-bit b = cond b 1 0
+small : (w : Which) → number_of w ≤ 3
+small First = omega arith
+small Second = omega arith
+small Third = omega arith
+small Fourth = omega arith
 
-bit_small : (b : Bool) → cond b 1 0 ≤ 1
-bit_small true = omega arith
-bit_small false = omega arith
-
-numbers_apart : (p i x q j y : ℕ) → p < 32768 → q < 32768 → x ≤ 1 → y ≤ 1 → (i * 32768 + p) * 2 + x ≡ (j * 32768 + q) * 2 + y → i ≡ j
+numbers_apart : (p i x q j y : ℕ) → p < 4194304 → q < 4194304 → x ≤ 3 → y ≤ 3 → (i * 4194304 + p) * 4 + x ≡ (j * 4194304 + q) * 4 + y → i ≡ j
 numbers_apart p i x q j y hp hq hx hy e = omega arith
 
-places_apart : (p i x q j y : ℕ) → p < 32768 → q < 32768 → x ≤ 1 → y ≤ 1 → (i * 32768 + p) * 2 + x ≡ (j * 32768 + q) * 2 + y → p ≡ q
+places_apart : (p i x q j y : ℕ) → p < 4194304 → q < 4194304 → x ≤ 3 → y ≤ 3 → (i * 4194304 + p) * 4 + x ≡ (j * 4194304 + q) * 4 + y → p ≡ q
 places_apart p i x q j y hp hq hx hy e = omega arith
 
 -- pages of other numbers, and of other places, have other slots
-other_number : (p i : ℕ) (b : Bool) (q j : ℕ) (c : Bool) → p < 32768 → q < 32768 → (i ≡ j → ⊥) → slot p i b ≡ slot q j c → ⊥
-other_number p i b q j c hp hq other e = other (numbers_apart p i (cond b 1 0) q j (cond c 1 0) hp hq (bit_small b) (bit_small c) e)
+other_number : (p i : ℕ) (b : Which) (q j : ℕ) (c : Which) → p < 4194304 → q < 4194304 → (i ≡ j → ⊥) → slot p i b ≡ slot q j c → ⊥
+other_number p i b q j c hp hq other e = other (numbers_apart p i (number_of b) q j (number_of c) hp hq (small b) (small c) e)
 
-other_place : (p i : ℕ) (b : Bool) (q j : ℕ) (c : Bool) → p < 32768 → q < 32768 → (p ≡ q → ⊥) → slot p i b ≡ slot q j c → ⊥
-other_place p i b q j c hp hq other e = other (places_apart p i (cond b 1 0) q j (cond c 1 0) hp hq (bit_small b) (bit_small c) e)
+other_place : (p i : ℕ) (b : Which) (q j : ℕ) (c : Which) → p < 4194304 → q < 4194304 → (p ≡ q → ⊥) → slot p i b ≡ slot q j c → ⊥
+other_place p i b q j c hp hq other e = other (places_apart p i (number_of b) q j (number_of c) hp hq (small b) (small c) e)
 
-other_half : (p i : ℕ) (b : Bool) → slot p i b ≡ slot p i (not b) → ⊥
-other_half p i true e = omega arith
-other_half p i false e = omega arith
+other_slot : (p i : ℕ) (b : Which) → slot p i b ≡ slot p i (spare (Some b)) → ⊥
+other_slot p i First e = omega arith
+other_slot p i Second e = omega arith
+other_slot p i Third e = omega arith
+other_slot p i Fourth e = omega arith
 
 -- ---- what was written
 
@@ -69,20 +72,20 @@ still_some false page o h = h
 pub still_there : (slots : Slots) (at : ℕ) (page : List ℕ) (s : ℕ) → IsSome (slots s) → IsSome (written slots at page s)
 still_there slots at page s h = still_some (eqb s at) page (slots s) h
 
-elsewhere : (slots : Slots) (q i : ℕ) (b : Bool) (page : List ℕ) (p j : ℕ) (which : Option Bool) → p < 32768 → q < 32768 → ((p ≡ q → ⊥) ⊎ (j ≡ i → ⊥))
+elsewhere : (slots : Slots) (q i : ℕ) (b : Which) (page : List ℕ) (p j : ℕ) (which : Option Which) → p < 4194304 → q < 4194304 → ((p ≡ q → ⊥) ⊎ (j ≡ i → ⊥))
     → content (written slots (slot q i b) page) p j which ≡ content slots p j which
 elsewhere slots q i b page p j None hp hq other = refl
 elsewhere slots q i b page p j (Some c) hp hq (inl other) = not_written slots (slot q i b) page (slot p j c) (other_place p j c q i b hp hq other)
 elsewhere slots q i b page p j (Some c) hp hq (inr other) = not_written slots (slot q i b) page (slot p j c) (other_number p j c q i b hp hq other)
 
-kept_stays : (slots : Slots) (p i : ℕ) (page : List ℕ) (kept : Option Bool) → content (written slots (slot p i (spare kept)) page) p i kept ≡ content slots p i kept
+kept_stays : (slots : Slots) (p i : ℕ) (page : List ℕ) (kept : Option Which) → content (written slots (slot p i (spare kept)) page) p i kept ≡ content slots p i kept
 kept_stays slots p i page None = refl
-kept_stays slots p i page (Some b) = not_written slots (slot p i (not b)) page (slot p i b) (other_half p i b)
+kept_stays slots p i page (Some b) = not_written slots (slot p i (spare (Some b))) page (slot p i b) (other_slot p i b)
 
 -- ---- lists of pages
 
 -- a page written at another place, or at a lower number, is none of these
-pub pages_elsewhere : (slots : Slots) (q i : ℕ) (b : Bool) (page : List ℕ) (p : ℕ) (which : Held → Option Bool) (j : ℕ) (table : List Held) → p < 32768 → q < 32768 → ((p ≡ q → ⊥) ⊎ (i < j))
+pub pages_elsewhere : (slots : Slots) (q i : ℕ) (b : Which) (page : List ℕ) (p : ℕ) (which : Held → Option Which) (j : ℕ) (table : List Held) → p < 4194304 → q < 4194304 → ((p ≡ q → ⊥) ⊎ (i < j))
     → pages_from (written slots (slot q i b) page) p which j table ≡ pages_from slots p which j table
 pages_elsewhere slots q i b page p which j [] hp hq other = refl
 pages_elsewhere slots q i b page p which j (held ∷ rest) hp hq other =
@@ -91,11 +94,12 @@ pages_elsewhere slots q i b page p which j (held ∷ rest) hp hq other =
     here : ((p ≡ q → ⊥) ⊎ (i < j)) → (p ≡ q → ⊥) ⊎ (j ≡ i → ⊥)
     here (inl o) = inl o
     here (inr h) = inr (λ e. omega arith)
+
     later : ((p ≡ q → ⊥) ⊎ (i < j)) → (p ≡ q → ⊥) ⊎ (i < j + 1)
     later (inl o) = inl o
     later (inr h) = inr (omega arith)
 
-put_first : (slots : Slots) (p : ℕ) (which : Held → Option Bool) (k : ℕ) (page : List ℕ) (j : ℕ) (table : List Held) → k < j
+put_first : (slots : Slots) (p : ℕ) (which : Held → Option Which) (k : ℕ) (page : List ℕ) (j : ℕ) (table : List Held) → k < j
     → put nat_cmp k page (pages_from slots p which j table) ≡ (k, page) ∷ pages_from slots p which j table
 put_first slots p which k page j [] h = refl
 put_first slots p which k page j (held ∷ rest) h = by_content (put_first slots p which k page (j + 1) rest (omega arith)) (content slots p j (which held))
@@ -113,13 +117,13 @@ put_later k i page None pages h = refl
 put_later k i page (Some other) pages h = rw (above k i h) refl
 
 -- the uncommitted account after a put
-pub now_after : (slots : Slots) (p : ℕ) (page : List ℕ) (k i n : ℕ) (table : List Held) → p < 32768 → n ≡ k + i → i < length table
+pub now_after : (slots : Slots) (p : ℕ) (page : List ℕ) (k i n : ℕ) (table : List Held) → p < 4194304 → n ≡ k + i → i < length table
     → pages_from (written slots (slot p n (spare (get_or table i absent).kept)) page) p (λ (h : Held). h.now) k (set table i (put_in (get_or table i absent)))
     ≡ put nat_cmp n page (pages_from slots p (λ (h : Held). h.now) k table)
 now_after slots p page k i n [] hp e h = absurd (omega arith)
 now_after slots p page k zero n (held ∷ rest) hp e h =
     let at : n ≡ k = omega arith in
-    let b : Bool = spare held.kept in
+    let b : Which = spare held.kept in
     let tail : pages_from (written slots (slot p k b) page) p (λ (x : Held). x.now) (k + 1) rest ≡ pages_from slots p (λ (x : Held). x.now) (k + 1) rest =
     pages_elsewhere slots p k b page p (λ (x : Held). x.now) (k + 1) rest hp hp (inr (omega arith)) in
     let goal : ℕ → Type 0 = λ m. pages_from (written slots (slot p m b) page) p (λ (x : Held). x.now) k (put_in held ∷ rest) ≡ put nat_cmp m page (pages_from slots p (λ (x : Held). x.now) k (held ∷ rest)) in
@@ -127,34 +131,34 @@ now_after slots p page k zero n (held ∷ rest) hp e h =
     ∙ sym (put_head k page (content slots p k held.now) (pages_from slots p (λ (x : Held). x.now) (k + 1) rest) (put_first slots p (λ (x : Held). x.now) k page (k + 1) rest (omega arith))) in
     subst goal (sym at) at_k
 now_after slots p page k (suc i) n (held ∷ rest) hp e h =
-    let b : Bool = spare (get_or rest i absent).kept in
+    let b : Which = spare (get_or rest i absent).kept in
     let head : content (written slots (slot p n b) page) p k held.now ≡ content slots p k held.now = elsewhere slots p n b page p k held.now hp hp (inr (λ d. omega arith)) in
     let tail : _ ≡ _ = now_after slots p page (k + 1) i n rest hp (omega arith) (omega arith) in
     (λ j. numbered k (head j) (tail j)) ∙ sym (put_later k n page (content slots p k held.now) (pages_from slots p (λ (x : Held). x.now) (k + 1) rest) (omega arith))
 
 -- the committed account after a put
-pub kept_after : (slots : Slots) (p : ℕ) (page : List ℕ) (k i n : ℕ) (table : List Held) → p < 32768 → n ≡ k + i → i < length table
+pub kept_after : (slots : Slots) (p : ℕ) (page : List ℕ) (k i n : ℕ) (table : List Held) → p < 4194304 → n ≡ k + i → i < length table
     → pages_from (written slots (slot p n (spare (get_or table i absent).kept)) page) p (λ (h : Held). h.kept) k (set table i (put_in (get_or table i absent)))
     ≡ pages_from slots p (λ (h : Held). h.kept) k table
 kept_after slots p page k i n [] hp e h = refl
 kept_after slots p page k zero n (held ∷ rest) hp e h =
     let at : n ≡ k = omega arith in
-    let b : Bool = spare held.kept in
+    let b : Which = spare held.kept in
     let goal : ℕ → Type 0 = λ m. pages_from (written slots (slot p m b) page) p (λ (x : Held). x.kept) k (put_in held ∷ rest) ≡ pages_from slots p (λ (x : Held). x.kept) k (held ∷ rest) in
     let at_k : goal k = λ j. numbered k (kept_stays slots p k page held.kept j) (pages_elsewhere slots p k b page p (λ (x : Held). x.kept) (k + 1) rest hp hp (inr (omega arith)) j) in
     subst goal (sym at) at_k
 kept_after slots p page k (suc i) n (held ∷ rest) hp e h =
-    let b : Bool = spare (get_or rest i absent).kept in
+    let b : Which = spare (get_or rest i absent).kept in
     let head : content (written slots (slot p n b) page) p k held.kept ≡ content slots p k held.kept = elsewhere slots p n b page p k held.kept hp hp (inr (λ d. omega arith)) in
     λ j. numbered k (head j) (kept_after slots p page (k + 1) i n rest hp (omega arith) (omega arith) j)
 
 -- ---- rows without pages
 
-no_more : (slots : Slots) (p : ℕ) (which : Held → Option Bool) (k n : ℕ) → which absent ≡ None → pages_from slots p which k (replicate n absent) ≡ []
+no_more : (slots : Slots) (p : ℕ) (which : Held → Option Which) (k n : ℕ) → which absent ≡ None → pages_from slots p which k (replicate n absent) ≡ []
 no_more slots p which k zero e = refl
 no_more slots p which k (suc n) e = (λ j. numbered k (content slots p k (e j)) (pages_from slots p which (k + 1) (replicate n absent))) ∙ no_more slots p which (k + 1) n e
 
-pages_grown : (slots : Slots) (p : ℕ) (which : Held → Option Bool) (k n : ℕ) (table : List Held) → which absent ≡ None → pages_from slots p which k (table ++ replicate n absent) ≡ pages_from slots p which k table
+pages_grown : (slots : Slots) (p : ℕ) (which : Held → Option Which) (k n : ℕ) (table : List Held) → which absent ≡ None → pages_from slots p which k (table ++ replicate n absent) ≡ pages_from slots p which k table
 pages_grown slots p which k n [] e = no_more slots p which k n e
 pages_grown slots p which k n (held ∷ rest) e = ap (numbered k (content slots p k (which held))) (pages_grown slots p which (k + 1) n rest e)
 
@@ -188,7 +192,7 @@ has_row table i = omega (arith, length_more table (i + 1 - length table))
 -- ---- the whole account
 
 -- a page was put
-pub account_put : (slots : Slots) (p i : ℕ) (page : List ℕ) (table : List Held) → p < 32768
+pub account_put : (slots : Slots) (p i : ℕ) (page : List ℕ) (table : List Held) → p < 4194304
     → account_at (written slots (slot p i (spare (get_or table i absent).kept)) page) p (set (grown table i) i (put_in (get_or table i absent))) ≡ with_page i page (account_at slots p table)
 account_put slots p i page table hp =
     let row : get_or (grown table i) i absent ≡ get_or table i absent = row_grown table i i in
@@ -202,7 +206,7 @@ account_put slots p i page table hp =
     subst family row at_grown
 
 -- a page of another process was put
-pub account_elsewhere : (slots : Slots) (q i : ℕ) (b : Bool) (page : List ℕ) (p : ℕ) (table : List Held) → p < 32768 → q < 32768 → (p ≡ q → ⊥)
+pub account_elsewhere : (slots : Slots) (q i : ℕ) (b : Which) (page : List ℕ) (p : ℕ) (table : List Held) → p < 4194304 → q < 4194304 → (p ≡ q → ⊥)
     → account_at (written slots (slot q i b) page) p table ≡ account_at slots p table
 account_elsewhere slots q i b page p table hp hq other = λ j. record {
   now = pages_elsewhere slots q i b page p (λ (h : Held). h.now) 0 table hp hq (inl other) j;
@@ -233,7 +237,7 @@ account_restored slots p table = λ j. record { now = now_restored slots p 0 tab
 
 -- ---- look-ups
 
-find_first : (slots : Slots) (p : ℕ) (which : Held → Option Bool) (k j : ℕ) (table : List Held) → k < j → find nat_cmp k (pages_from slots p which j table) ≡ None
+find_first : (slots : Slots) (p : ℕ) (which : Held → Option Which) (k j : ℕ) (table : List Held) → k < j → find nat_cmp k (pages_from slots p which j table) ≡ None
 find_first slots p which k j [] h = refl
 find_first slots p which k j (held ∷ rest) h = by_content (find_first slots p which k (j + 1) rest (omega arith)) (content slots p j (which held))
   where
@@ -242,7 +246,7 @@ find_first slots p which k j (held ∷ rest) h = by_content (find_first slots p 
     by_content more (Some page) = rw (below k j h) more
 
 -- the page with a number is what lies in the slot that the account holds
-pub find_page : (slots : Slots) (p : ℕ) (which : Held → Option Bool) (k i n : ℕ) (table : List Held) → which absent ≡ None → n ≡ k + i
+pub find_page : (slots : Slots) (p : ℕ) (which : Held → Option Which) (k i n : ℕ) (table : List Held) → which absent ≡ None → n ≡ k + i
     → find nat_cmp n (pages_from slots p which k table) ≡ content slots p n (which (get_or table i absent))
 find_page slots p which k i n [] none e = ap (content slots p n) (sym none)
 find_page slots p which k zero n (held ∷ rest) none e =

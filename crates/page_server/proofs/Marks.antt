@@ -1,7 +1,7 @@
 -- To change the rows that are marked is to change them all, where a row whose accounts agree stays.
 use Rattle.std.proofs.Common.{◌≡◌, ◌≢◌, ℕ, zero, suc, ◌+◌, ◌<◌, ◌≤◌, Bool, List, [], ◌∷◌, map, length, get_or, set, fold, refl, sym, ap, ◌∙◌, subst, arith, ◌⊎◌, inl, inr, Option, Some, None, Contains, take}
 use Rattle.std.proofs.lemmas.List.Sums.{fold_more}
-use Rattle.std.proofs.lemmas.List.{take_all}
+use Rattle.std.proofs.lemmas.List.{take_all, length-map}
 use Rattle.std.proofs.lemmas.Grind.{common_steps}
 use Rattle.page_server.specs.declared.table.Held.{Held}
 use Rattle.page_server.specs.Slots.{absent, change_at, settled, restored, IsMarked}
@@ -82,3 +82,7 @@ agree_after f l (held ∷ rest) (suc k) = agree_after f l rest k
 -- where all rows were changed, none needs a mark
 pub needs_no_mark : (f : Held → Held) → Levels f → (old new : List Held) (marks : List ℕ) → new ≡ map f old → IsMarked new marks
 needs_no_mark f l old new marks e = λ k. inl (subst (λ table. Agree (get_or table k absent)) (sym e) (agree_after f l old k))
+
+-- as many rows as before
+pub as_many : (f : Held → Held) (old new : List Held) (n : ℕ) → new ≡ map f old → length old ≤ n → length new ≤ n
+as_many f old new n e h = omega (arith, ap length e, length-map old f)

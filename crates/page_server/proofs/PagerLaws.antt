@@ -10,6 +10,7 @@ use Rattle.t32_base.specs.declared.process.Pid.{Pid}
 use Rattle.page_server.specs.declared.disk.DiskRefused.{DiskRefused}
 use Rattle.page_server.specs.declared.pages.Pages.{Pages}
 use Rattle.page_server.specs.declared.table.Held.{Held}
+use Rattle.page_server.specs.declared.table.Which.{Which}
 use Rattle.page_server.specs.Disk.{Slots, written, SlotsAfterPut}
 use Rattle.std.proofs.lemmas.Bool.{false≢true}
 use Rattle.page_server.specs.Account.{Account, no_pages, page_in, with_page, committed, reverted, pid_cmp, PagerState, AccountsAfterPut}
@@ -138,9 +139,11 @@ rows_there slots m n pid change moves b there q pages found = by_test (same_or_n
   where
     moved : (was : Pages) → AllThere slots was.place was.table → AllThere slots was.place (map change was.table)
     moved was all i =
-        let row : get_or (map change was.table) i absent ≡ change (get_or was.table i absent) = row_changed change moves.none was.table i in
-        (subst (λ (h : Held). IsThere slots was.place i h.now) (sym row) (moves.now slots was.place i (get_or was.table i absent) (all i).0 (all i).1),
-         subst (λ (h : Held). IsThere slots was.place i h.kept) (sym row) (moves.kept slots was.place i (get_or was.table i absent) (all i).0 (all i).1))
+        let row : get_or (map change was.table) i absent ≡ change (get_or was.table i absent) = row_changed change moves.none was.table i in (
+          subst (λ (h : Held). IsThere slots was.place i h.now) (sym row) (moves.now slots was.place i (get_or was.table i absent) (all i).0 (all i).1),
+          subst (λ (h : Held). IsThere slots was.place i h.kept) (sym row) (moves.kept slots was.place i (get_or was.table i absent) (all i).0 (all i).1),
+        )
+
     by_test : ((q ≡ pid) ⊎ (q ≡ pid → ⊥)) → AllThere slots pages.place pages.table
     by_test (inl e) =
         let w = was_there change (get nat_cmp m pid) pages (sym (became m n pid _ b q e) ∙ found) in
@@ -179,10 +182,10 @@ admitted_there slots m n a there q pages found = by_case (a q)
 
 -- ---- a page that is put
 
-pub place_few : (m : Processes) (owners : List (Option ℕ)) → Owned m owners → (pid : ℕ) (pages : Pages) → get nat_cmp m pid ≡ Some pages → pages.place < 32768
+pub place_few : (m : Processes) (owners : List (Option ℕ)) → Owned m owners → (pid : ℕ) (pages : Pages) → get nat_cmp m pid ≡ Some pages → pages.place < 4194304
 place_few m owners own pid pages found =
     let within : pages.place < length owners = in_owners owners pages.place pid (own.owned pid pages found) in
-    let few : length owners ≤ 32768 = own.few in
+    let few : length owners ≤ 4194304 = own.few in
     omega arith
 
 some_pid : (a b : ℕ) → Some a ≡ Some b → a ≡ b
@@ -206,22 +209,26 @@ put_owned m n owners before after pid i page r u own = record { few = own.few; o
 pub put_changes : (m n : Processes) (owners : List (Option ℕ)) (before after : Slots) (pid i : ℕ) (page : List ℕ) (d : Unit {0}) → Owned m owners → Puts m n before after pid i page (Ok d) → ChangesIn before after m n pid (with_page i page)
 put_changes m n owners before after pid i page d own u q = by_pid q pid (with_page i page) (account_in before (get nat_cmp m q)) (account_in after (get nat_cmp n q)) here there
   where
-    few : u.was.place < 32768
+    few : u.was.place < 4194304
     few = place_few m owners own pid u.was u.found
+
     at : ℕ
     at = slot u.was.place i (spare (get_or u.was.table i absent).kept)
+
     here : q ≡ pid → account_in after (get nat_cmp n q) ≡ with_page i page (account_in before (get nat_cmp m q))
     here e =
         ap (account_in after) (became m n pid (Some u.now) u.becomes q e)
         ∙ (λ j. account_at (u.slots j) (u.place j) (u.table j))
         ∙ account_put before u.was.place i page u.was.table few
         ∙ ap (λ o. with_page i page (account_in before o)) (sym (ap (get nat_cmp m) e ∙ u.found))
+
     other_one : (q ≡ pid → ⊥) → (o : Option Pages) → get nat_cmp m q ≡ o → account_in after o ≡ account_in before o
     other_one other None found = refl
     other_one other (Some pages) found =
         ap (λ s. account_at s pages.place pages.table) u.slots
         ∙ account_elsewhere before u.was.place i (spare (get_or u.was.table i absent).kept) page pages.place pages.table (place_few m owners own q pages found) few
         (places_differ m owners own q pid pages u.was found u.found other)
+
     there : (q ≡ pid → ⊥) → account_in after (get nat_cmp n q) ≡ account_in before (get nat_cmp m q)
     there other = ap (account_in after) (stayed m n pid (Some u.now) u.becomes q other) ∙ other_one other (get nat_cmp m q) refl
 
@@ -233,6 +240,7 @@ put_refused m n before after pid i page refused u q = by_test (same_or_not q pid
     by_table : (u.now.table ≡ u.was.table) ⊎ (u.now.table ≡ grown u.was.table i) → account_at before u.was.place u.now.table ≡ account_at before u.was.place u.was.table
     by_table (inl e) = ap (account_at before u.was.place) e
     by_table (inr e) = ap (account_at before u.was.place) e ∙ account_grown before u.was.place u.was.table i
+
     by_test : ((q ≡ pid) ⊎ (q ≡ pid → ⊥)) → account_in after (get nat_cmp n q) ≡ account_in before (get nat_cmp m q)
     by_test (inl e) =
         ap (account_in after) (became m n pid (Some u.now) u.becomes q e)
@@ -250,7 +258,7 @@ other_row table i k other = get_or-set_other (grown table i) i k (put_in (get_or
 is_some_of : (o : Option (List ℕ)) (page : List ℕ) → o ≡ Some page → IsSome o
 is_some_of o page e = ap is_some e
 
-there_after : (slots : Slots) (at : ℕ) (page : List ℕ) (place i : ℕ) (which : Option Bool) → IsThere slots place i which → IsThere (written slots at page) place i which
+there_after : (slots : Slots) (at : ℕ) (page : List ℕ) (place i : ℕ) (which : Option Which) → IsThere slots place i which → IsThere (written slots at page) place i which
 there_after slots at page place i None h = tt
 there_after slots at page place i (Some b) h = still_there slots at page (slot place i b) h
 
@@ -260,12 +268,16 @@ table_there slots place i page table all k = by_row (same_or_not k i)
   where
     at : ℕ
     at = slot place i (spare (get_or table i absent).kept)
+
     after : List Held
     after = set (grown table i) i (put_in (get_or table i absent))
+
     fact : ℕ → Held → Type 0
     fact n h = IsThere (written slots at page) place n h.now × IsThere (written slots at page) place n h.kept
+
     here : fact i (put_in (get_or table i absent))
     here = (is_some_of (written slots at page at) page (was_written slots at page), there_after slots at page place i (get_or table i absent).kept (all i).1)
+
     by_row : ((k ≡ i) ⊎ (k ≡ i → ⊥)) → fact k (get_or after k absent)
     by_row (inl e) = subst (fact k) (sym (put_row table i k e)) (subst (λ n. fact n (put_in (get_or table i absent))) (sym e) here)
     by_row (inr other) = subst (fact k) (sym (other_row table i k other)) (there_after slots at page place k (get_or table k absent).now (all k).0, there_after slots at page place k (get_or table k absent).kept (all k).1)
@@ -283,6 +295,7 @@ put_there m n before after pid i page (Ok d) u there q pages found = by_test (sa
   where
     at : ℕ
     at = slot u.was.place i (spare (get_or u.was.table i absent).kept)
+
     by_test : ((q ≡ pid) ⊎ (q ≡ pid → ⊥)) → AllThere after pages.place pages.table
     by_test (inl e) =
         let same : u.now ≡ pages = some_same u.now pages (sym (became m n pid (Some u.now) u.becomes q e) ∙ found) in
@@ -299,6 +312,7 @@ put_there m n before after pid i page (Err refused) u there q pages found = subs
     by_table : (u.now.table ≡ u.was.table) ⊎ (u.now.table ≡ grown u.was.table i) → AllThere before u.was.place u.now.table
     by_table (inl e) = subst (AllThere before u.was.place) (sym e) (there pid u.was u.found)
     by_table (inr e) = subst (AllThere before u.was.place) (sym e) (grown_there before u.was.place i u.was.table (there pid u.was u.found))
+
     by_test : ((q ≡ pid) ⊎ (q ≡ pid → ⊥)) → AllThere before pages.place pages.table
     by_test (inl e) =
         let same : u.now ≡ pages = some_same u.now pages (sym (became m n pid (Some u.now) u.becomes q e) ∙ found) in
@@ -312,7 +326,7 @@ abbrev pub at_slot : Slots → Option ℕ → Option (List ℕ)
 at_slot slots None = None
 at_slot slots (Some s) = slots s
 
-slot_content : (slots : Slots) (place i : ℕ) (which : Option Bool) → content slots place i which ≡ at_slot slots (slot_held place i which)
+slot_content : (slots : Slots) (place i : ℕ) (which : Option Which) → content slots place i which ≡ at_slot slots (slot_held place i which)
 slot_content slots place i None = refl
 slot_content slots place i (Some b) = refl
 
@@ -326,7 +340,7 @@ pub committed_page : (slots : Slots) (m : Processes) (accounts : List (Pid × Ac
     → page_in (unwrap_or (find pid_cmp p accounts) no_pages).kept i ≡ at_slot slots (kept_slot (get nat_cmp m p.0) i)
 committed_page slots m accounts e p i = ap (λ (a : Account). page_in a.kept i) (account_from slots m accounts e p) ∙ kept_page slots (get nat_cmp m p.0) i
 
-there_is : (slots : Slots) (place i : ℕ) (which : Option Bool) → IsThere slots place i which → is_some (at_slot slots (slot_held place i which)) ≡ is_some (slot_held place i which)
+there_is : (slots : Slots) (place i : ℕ) (which : Option Which) → IsThere slots place i which → is_some (at_slot slots (slot_held place i which)) ≡ is_some (slot_held place i which)
 there_is slots place i None h = refl
 there_is slots place i (Some b) h = h
 

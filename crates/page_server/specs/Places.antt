@@ -5,6 +5,7 @@ use Rattle.std.specs.Ordering.{nat_cmp}
 use Rattle.t32_base.specs.declared.process.Pid.{Pid}
 use Rattle.page_server.specs.declared.pages.Pages.{Pages}
 use Rattle.page_server.specs.declared.table.Held.{Held}
+use Rattle.page_server.specs.declared.table.Which.{Which}
 use Rattle.page_server.specs.declared.disk.DiskRefused.{DiskRefused}
 use Rattle.page_server.specs.Disk.{Slots, SlotsAfterPut}
 use Rattle.page_server.specs.Account.{Account, no_pages}
@@ -29,13 +30,13 @@ account_in slots (Some pages) = account_of slots pages
 
 -- each process has a place that is its own
 pub record Owned (processes : Processes) (owners : List (Option ℕ)) : Type 0 where
-  pub few : length owners ≤ 32768
+  pub few : length owners ≤ 4194304
   pub owned : (pid : ℕ) (pages : Pages) → get nat_cmp processes pid ≡ Some pages → get_or owners pages.place None ≡ Some pid
 
 -- the slot that an account holds has a page
-abbrev pub IsThere : Slots → ℕ → ℕ → Option Bool → Type 0
+abbrev pub IsThere : Slots → ℕ → ℕ → Option Which → Type 0
 IsThere slots place i None = Unit {0}
-IsThere slots place i (Some second) = IsSome (slots (slot place i second))
+IsThere slots place i (Some which) = IsSome (slots (slot place i which))
 
 abbrev pub AllThere : Slots → ℕ → List Held → Type 0
 AllThere slots place table = (i : ℕ) → IsThere slots place i (get_or table i absent).now × IsThere slots place i (get_or table i absent).kept
@@ -80,9 +81,9 @@ abbrev pub ChangesRows : Processes → Processes → ℕ → (Held → Held) →
 ChangesRows old new pid change = Becomes old new pid (option_map (with_rows change) (get nat_cmp old pid))
 
 -- the slot that the committed account of a process holds for a page
-abbrev pub slot_held : ℕ → ℕ → Option Bool → Option ℕ
+abbrev pub slot_held : ℕ → ℕ → Option Which → Option ℕ
 slot_held place i None = None
-slot_held place i (Some second) = Some (slot place i second)
+slot_held place i (Some which) = Some (slot place i which)
 
 abbrev pub kept_slot : Option Pages → ℕ → Option ℕ
 kept_slot None i = None

@@ -1,36 +1,47 @@
--- Where the pages of a process lie on the disk: each page of it has two slots, of which each of its accounts holds one or none.
+-- Where the pages of a process lie on the disk: each page number of it has four slots, of which each of its accounts holds one or none.
 use Rattle.std.specs.Prelude.{ℕ, ◌≡◌, ◌+◌, ◌-◌, ◌*◌, ◌++◌, Bool, false, not, ◌⊎◌, if◌then◌else◌, List, [], ◌∷◌, length, get_or, set, replicate, fold, Contains, Option, None, Some, IsSome, Result, Ok, Err}
 use Rattle.page_server.specs.declared.table.Held.{Held}
+use Rattle.page_server.specs.declared.table.Which.{Which}
+use Rattle.page_server.specs.declared.table.Which.TheVariants.{First, Second, Third, Fourth}
 use Rattle.page_server.specs.declared.disk.DiskRefused.{DiskRefused}
 use Rattle.page_server.specs.Disk.{Slots}
 use Rattle.page_server.specs.Account.{Account}
 
--- one of the two slots of a page, of the process at a place
-abbrev pub slot : ℕ → ℕ → Bool → ℕ
-slot place i second = (i * 32768 + place) * 2 + (if second then 1 else 0)
+abbrev pub number_of : Which → ℕ
+number_of First = 0
+number_of Second = 1
+number_of Third = 2
+number_of Fourth = 3
+
+-- one of the four slots of a page, of the process at a place
+abbrev pub slot : ℕ → ℕ → Which → ℕ
+slot place i which = (i * 4194304 + place) * 4 + number_of which
 
 -- neither account has the page
 abbrev pub absent : Held
 absent = record { now = None; kept = None }
 
--- the slot of the two that the committed account does not hold
-abbrev pub spare : Option Bool → Bool
-spare None = false
-spare (Some second) = not second
+-- a slot that the committed account does not hold
+abbrev pub spare : Option Which → Which
+spare None = First
+spare (Some First) = Second
+spare (Some Second) = First
+spare (Some Third) = First
+spare (Some Fourth) = First
 
 -- what lies in the slot that an account holds
-abbrev pub content : Slots → ℕ → ℕ → Option Bool → Option (List ℕ)
+abbrev pub content : Slots → ℕ → ℕ → Option Which → Option (List ℕ)
 content slots place i None = None
-content slots place i (Some second) = slots (slot place i second)
+content slots place i (Some which) = slots (slot place i which)
 
 abbrev pub numbered : ℕ → Option (List ℕ) → List (ℕ × List ℕ) → List (ℕ × List ℕ)
 numbered i None pages = pages
 numbered i (Some page) pages = (i, page) ∷ pages
 
 -- the pages of an account from the number i on
-abbrev pub pages_from : Slots → ℕ → (Held → Option Bool) → ℕ → List Held → List (ℕ × List ℕ)
-pages_from slots place which i [] = []
-pages_from slots place which i (held ∷ rest) = numbered i (content slots place i (which held)) (pages_from slots place which (i + 1) rest)
+abbrev pub pages_from : Slots → ℕ → (Held → Option Which) → ℕ → List Held → List (ℕ × List ℕ)
+pages_from slots place side i [] = []
+pages_from slots place side i (held ∷ rest) = numbered i (content slots place i (side held)) (pages_from slots place side (i + 1) rest)
 
 -- the accounts that a table stands for
 abbrev pub account_at : Slots → ℕ → List Held → Account

@@ -4,6 +4,8 @@
 pub mod disk;
 pub mod mem_disk;
 pub mod pager;
-pub mod pages;
-pub mod processes;
-pub mod table;
+mod pages;
+mod processes;
+mod table;
+#[cfg(test)]
+mod tests;

@@ -4,6 +4,6 @@ use crate::table::PageTable;
 /// The pages of a process, and its place, which says where on the disk they lie.
 #[derive(Drop)]
 pub struct Pages {
-    pub place: u16,
+    pub place: u32,
     pub table: PageTable,
 }

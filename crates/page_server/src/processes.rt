@@ -48,27 +48,27 @@ fn enter(
     let place = free_place(owners)?;
     let table = PageTable::new(alloc);
     processes.insert(pid, Pages { place, table })?;
-    owners[usize::from(place)] = Some(pid);
+    owners[place as usize] = Some(pid);
     Ok(())
 }
 
 // A place that no process has.
-fn free_place(owners: &mut Vec<Option<u32>>) -> Result<u16, NoMemory>
-    requires { length owners.old.items ≤ 32768 }
-    ensures few { length owners.new.items ≤ 32768 }
+fn free_place(owners: &mut Vec<Option<u32>>) -> Result<u32, NoMemory>
+    requires { length owners.old.items ≤ 4194304 }
+    ensures few { length owners.new.items ≤ 4194304 }
     ensures within { IfOk result (λ place. place < length owners.new.items) }
     ensures free { IfOk result (λ place. get_or owners.new.items place None ≡ None) }
     ensures same { (k : ℕ) → get_or owners.new.items k None ≡ get_or owners.old.items k None }
 {
     match owners.iter().position(|owner| owner.is_none()) {
-        Some(place) => Ok(place as u16),
+        Some(place) => Ok(place as u32),
         None => add_place(owners),
     }
 }
 
-fn add_place(owners: &mut Vec<Option<u32>>) -> Result<u16, NoMemory>
-    requires { length owners.old.items ≤ 32768 }
-    ensures few { length owners.new.items ≤ 32768 }
+fn add_place(owners: &mut Vec<Option<u32>>) -> Result<u32, NoMemory>
+    requires { length owners.old.items ≤ 4194304 }
+    ensures few { length owners.new.items ≤ 4194304 }
     ensures within { IfOk result (λ place. place < length owners.new.items) }
     ensures free { IfOk result (λ place. get_or owners.new.items place None ≡ None) }
     ensures same { (k : ℕ) → get_or owners.new.items k None ≡ get_or owners.old.items k None }
@@ -78,7 +78,7 @@ fn add_place(owners: &mut Vec<Option<u32>>) -> Result<u16, NoMemory>
         return Err(NoMemory);
     }
     owners.push(None)?;
-    Ok(place as u16)
+    Ok(place as u32)
 }
 
 /// Lets a process go, with its place.
@@ -88,7 +88,7 @@ pub fn leave(processes: &mut BTreeMap<u32, Pages>, owners: &mut Vec<Option<u32>>
     ensures gone { Becomes processes.old processes.new pid None }
 {
     if let Some(pages) = processes.remove(&pid) {
-        owners[usize::from(pages.place)] = None;
+        owners[pages.place as usize] = None;
     }
 }
 
@@ -100,7 +100,7 @@ pub fn put_at<D: PageDisk>(
     i: u16,
     page: &[u8; 256],
 ) -> Result<(), DiskRefused>
-    requires few { (pages : Pages) → get nat_cmp processes.old pid ≡ Some pages → pages.place < 32768 }
+    requires few { (pages : Pages) → get nat_cmp processes.old pid ≡ Some pages → pages.place < 4194304 }
     requires there { IsSome (get nat_cmp processes.old pid) }
     ensures puts { Puts processes.old processes.new (D.slots disk.old) (D.slots disk.new) pid i page.now result }
     ensures counts { CountsAfterPut (D.counts disk.old) (D.counts disk.new) result }
@@ -131,12 +131,12 @@ pub fn revert_at(processes: &mut BTreeMap<u32, Pages>, pid: u32)
 
 /// The slot of a page that the committed account of a process has.
 pub fn kept_at(processes: &BTreeMap<u32, Pages>, pid: u32, i: u16) -> Option<u32>
-    requires { (pages : Pages) → get nat_cmp processes.now pid ≡ Some pages → pages.place < 32768 }
+    requires { (pages : Pages) → get nat_cmp processes.now pid ≡ Some pages → pages.place < 4194304 }
     ensures { result ≡ kept_slot (get nat_cmp processes.now pid) i }
 {
     match processes.get(&pid) {
         Some(pages) => match pages.table.kept(i) {
-            Some(second) => Some(slot_of(pages.place, i, second)),
+            Some(which) => Some(slot_of(pages.place, i, which)),
             None => None,
         },
         None => None,

@@ -1,17 +1,27 @@
 //! The pages of one process: which of the two slots of each page its accounts hold.
-ghost use Rattle.std.specs.Prelude.{◌≡◌, ◌<◌, ◌+◌, ◌++◌, ◌∷◌, [], map, length, get_or, OnOk, OnErr, IfOk, is_some, Some, Contains};
+ghost use Rattle.std.specs.Prelude.{◌≡◌, ◌<◌, ◌+◌, ◌++◌, ◌∷◌, [], map, length, get_or, OnOk, OnErr, IfOk, ◌≤◌, is_some, Some, IfSome, Contains};
 ghost use Rattle.page_server.specs.Disk.{SlotsAfterPut, CountsAfterPut};
-ghost use Rattle.page_server.specs.Slots.{slot, absent, spare, grown, change_at, settled, restored, TableAfterPut, IsMarked};
+ghost use Rattle.page_server.specs.Slots.{slot, number_of, absent, spare, grown, change_at, settled, restored, TableAfterPut, IsMarked};
 
 use crate::disk::{DiskRefused, PageDisk};
 use std::alloc::{AllocError, Global};
 use std::marker::Model;
 
-/// Which of the two slots of a page each account holds: the second one where it says true.
+/// One of the four slots of a page. A put needs no more than two of them; with four, both accounts of a page
+/// can be written anew before either lets its old slot go.
+#[derive(Clone, Copy, PartialEq, Eq, Debug)]
+pub enum Which {
+    First,
+    Second,
+    Third,
+    Fourth,
+}
+
+/// The slots that the accounts hold of a page.
 #[derive(Clone, Copy, PartialEq, Eq, Debug)]
 pub struct Held {
-    pub now: Option<bool>,
-    pub kept: Option<bool>,
+    pub now: Option<Which>,
+    pub kept: Option<Which>,
 }
 
 // Neither account has the page.
@@ -20,16 +30,31 @@ const ABSENT: Held = Held {
     kept: None,
 };
 
-/// How many processes there can be at once, each at a place below this number.
-pub const PLACES: usize = 32768;
+/// How many page numbers there are.
+pub const PAGE_NUMBERS: u16 = 256;
 
-/// One of the two slots of a page of the process at a place.
-pub fn slot_of(place: u16, i: u16, second: bool) -> u32
-    requires { place < 32768 }
-    ensures { result ≡ slot place i second }
+/// How many places there are for processes.
+pub const PLACES: usize = 4194304;
+
+/// One of the slots of a page of the process at a place. Each has one number of a u32.
+pub fn slot_of(place: u32, i: u16, which: Which) -> u32
+    requires place { place < 4194304 }
+    requires number { i < 256 }
+    ensures { result ≡ slot place i which }
 {
-    let pair = u32::from(i) * 32768 + u32::from(place);
-    pair * 2 + u32::from(second)
+    let page = u32::from(i) * 4194304 + place;
+    page * 4 + number_of(which)
+}
+
+fn number_of(which: Which) -> u32
+    ensures { result ≡ number_of which }
+{
+    match which {
+        Which::First => 0,
+        Which::Second => 1,
+        Which::Third => 2,
+        Which::Fourth => 3,
+    }
 }
 
 /// The slots that a process's accounts hold, by page number. The numbers of the pages in which the accounts
@@ -41,7 +66,7 @@ pub struct PageTable {
 }
 
 impl Model for PageTable {
-    ghost use Rattle.std.specs.Prelude.{List};
+    ghost use Rattle.std.specs.Prelude.{List, ◌≤◌, length};
     ghost use Rattle.page_server.specs.declared.table.Held.{Held};
 
     ghost Value = { List Held };
@@ -50,7 +75,7 @@ impl Model for PageTable {
 
     ghost view = { λ t. t.rows.items };
 
-    ghost invariant = { λ t. IsMarked t.rows.items t.changed.items };
+    ghost invariant = { λ t. IsMarked t.rows.items t.changed.items × (length t.rows.items ≤ 256) };
 }
 
 impl PageTable {
@@ -65,30 +90,31 @@ impl PageTable {
     }
 
     /// Puts a page on the disk, in a slot that the committed account does not hold, and into the
-    /// uncommitted account. After a refusal both accounts are as they were.
+    /// uncommitted account. After a refusal both accounts are as they were. A page number from 256 on has no
+    /// slot, which is want of memory.
     pub fn put<D: PageDisk>(
         &mut self,
         disk: &mut D,
-        place: u16,
+        place: u32,
         i: u16,
         page: &[u8; 256],
     ) -> Result<(), DiskRefused>
-        requires { place < 32768 }
+        requires { place < 4194304 }
         ensures table { TableAfterPut self.old self.new i result }
         ensures slots { SlotsAfterPut (D.slots disk.old) (D.slots disk.new) (slot place i (spare (get_or self.old i absent).kept)) page.now result }
         ensures counts { CountsAfterPut (D.counts disk.old) (D.counts disk.new) result }
     {
-        if grow(&mut self.rows, i).is_err() {
+        if i >= PAGE_NUMBERS || grow(&mut self.rows, i).is_err() {
             return Err(DiskRefused::NoMemory);
         }
         if mark(&self.rows, &mut self.changed, i).is_err() {
             return Err(DiskRefused::NoMemory);
         }
-        let second = spare_of(self.rows[usize::from(i)].kept);
-        match disk.put(slot_of(place, i, second), page) {
+        let which = spare_of(self.rows[usize::from(i)].kept);
+        match disk.put(slot_of(place, i, which), page) {
             Ok(()) => {
                 let held = &mut self.rows[usize::from(i)];
-                held.now = Some(second);
+                held.now = Some(which);
                 Ok(())
             }
             Err(refused) => Err(refused),
@@ -112,8 +138,9 @@ impl PageTable {
     }
 
     /// The slot that the committed account holds of a page.
-    pub fn kept(&self, i: u16) -> Option<bool>
-        ensures { result ≡ (get_or self.now i absent).kept }
+    pub fn kept(&self, i: u16) -> Option<Which>
+        ensures slot { result ≡ (get_or self.now i absent).kept }
+        ensures number { IfSome result (λ _. i < 256) }
     {
         match self.rows.get(usize::from(i)) {
             Some(held) => held.kept,
@@ -122,20 +149,23 @@ impl PageTable {
     }
 }
 
-// The slot of the two that the committed account does not hold.
-fn spare_of(kept: Option<bool>) -> bool
+// A slot that the committed account does not hold.
+fn spare_of(kept: Option<Which>) -> Which
     ensures { result ≡ spare kept }
 {
     match kept {
-        Some(second) => !second,
-        None => false,
+        Some(Which::First) => Which::Second,
+        _ => Which::First,
     }
 }
 
 // Gives a page its row.
 fn grow(rows: &mut Vec<Held>, i: u16) -> Result<(), AllocError>
+    requires number { i < 256 }
+    requires length { length rows.old.items ≤ 256 }
     ensures ok { OnOk result (rows.new.items ≡ grown rows.old.items i) }
     ensures within { OnOk result (i < length rows.new.items) }
+    ensures number { length rows.new.items ≤ 256 }
     ensures err { OnErr result (rows.new.items ≡ rows.old.items) }
 {
     let wanted = usize::from(i) + 1;

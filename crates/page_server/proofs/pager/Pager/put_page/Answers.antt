@@ -16,10 +16,11 @@ put_at-requires-clause-few g c = place_few c.admit.new.processes c.admit.new.own
 pub invariant_of-self-2 : goal.invariant_of-self-2
 invariant_of-self-2 g c =
     let before = g.D.PageDisk.slots c.self.inside.disk in
-    let after = g.D.PageDisk.slots c.put_at.new.disk in
-    (put_owned c.admit.new.processes c.put_at.new.processes c.admit.new.owners.items before after c.args.pid.0 c.args.i c.args.page.now c.put_at.result c.put_at.ensures.puts c.admit.ensures.owned,
-     put_there c.admit.new.processes c.put_at.new.processes before after c.args.pid.0 c.args.i c.args.page.now c.put_at.result c.put_at.ensures.puts
-     (admitted_there before c.self.inside.processes c.admit.new.processes c.admit.ensures.admits c.self.invariant.1))
+    let after = g.D.PageDisk.slots c.put_at.new.disk in (
+      put_owned c.admit.new.processes c.put_at.new.processes c.admit.new.owners.items before after c.args.pid.0 c.args.i c.args.page.now c.put_at.result c.put_at.ensures.puts c.admit.ensures.owned,
+      put_there c.admit.new.processes c.put_at.new.processes before after c.args.pid.0 c.args.i c.args.page.now c.put_at.result c.put_at.ensures.puts
+          (admitted_there before c.self.inside.processes c.admit.new.processes c.admit.ensures.admits c.self.invariant.1),
+    )
 
 pub returns-clause-accounts : goal.returns-clause-accounts
 returns-clause-accounts g c =
