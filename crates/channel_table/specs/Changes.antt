@@ -1,5 +1,5 @@
 -- What changes a placement, when it may, and the bits of a route.
-use Rattle.std.specs.Prelude.{◌≡◌, ℕ, ◌-◌, ◌^◌, ◌<◌, bit_or, Bool, true, not, ◌&&◌, ◌||◌, if◌then◌else◌, List, [], ◌∷◌, length, Option, Some, None}
+use Rattle.std.specs.Prelude.{◌≡◌, ℕ, ◌-◌, ◌^◌, ◌<◌, bit_or, Bool, true, false, not, ◌&&◌, ◌||◌, if◌then◌else◌, List, [], ◌∷◌, length, Option, Some, None}
 use Rattle.std.specs.Option.{IfSome, option_map_or}
 use Rattle.std.specs.List.{list_any}
 use Rattle.t32_base.specs.declared.process.Pid.{Pid}
@@ -31,6 +31,10 @@ CanBeBorn places parent child = (placed_at places child ≡ None) × IfSome (pla
 abbrev pub CanBeAbsorbed : Places → What → Type 0
 CanBeAbsorbed places (Birth parent at child end) = CanBeBorn places parent child
 CanBeAbsorbed places _ = Unit {0}
+
+abbrev pub is_birth : What → Bool
+is_birth (Birth parent at child end) = true
+is_birth _ = false
 
 -- an entry that says this has a route: a cluster that returns is one of the clusters
 abbrev pub IsRoutable : Places → What → Type 0
