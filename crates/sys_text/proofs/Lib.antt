@@ -11,6 +11,7 @@ mod Lines
 mod Printed
 mod ReadBack
 mod Reached
+mod RefusalExamples
 mod Refusing
 mod Rooted
 mod Rows
