@@ -2,7 +2,7 @@
 use Rattle.std.proofs.Common.{◌≡◌, ℕ, zero, suc, ◌+◌, ◌<◌, ◌≤◌, Bool, true, false, not, ◌&&◌, cond, eqb, List, [], ◌∷◌, ◌++◌, length, Option, Some, None, Result, Ok, Err, refl, sym, ap, ◌∙◌, arith, inl, inr, ◌⊎◌, append_assoc, append-nil, length-append, subst}
 use Rattle.std.specs.List.{find}
 use Rattle.std.specs.Option.{option_map}
-use Rattle.std.specs.Prelude.{IfErr}
+use Rattle.std.specs.Prelude.{IfOk, IfErr}
 use Rattle.std.proofs.lemmas.Bool.{cases_eq, eq-eqb}
 use Rattle.std.proofs.lemmas.Bool.Decides.{nat_tests}
 use Rattle.text_parts.specs.Lines.{are_printable, lines_of, fields_of}
@@ -18,7 +18,7 @@ use Rattle.sys_text.specs.declared.refusal.SystemRefused.TheVariants as refusals
 use Rattle.sys_text.specs.Refusal.{number_of_rule}
 use Rattle.sys_text.specs.Rules.{breaks, rules, broken_by, closed, fit_pages}
 use Rattle.sys_text.specs.Reading.{Answer, Place, Outside, InBlock, Step, Goes, Refuses, nothing_yet, rule_in_block, is_end, last_line, may_end, ended, ended_in_block, close_block, kept, kept_line, step, step_outside, line_or_rule, goes_on, at_end, reading_from, reading_of, system_of_lines}
-use Rattle.sys_text.specs.RuleByRule.{place_with, place_after, breaks_outside, lacks_room, overflows, before_end, refuses_line, refuses_in, fails_to_assemble, may_end_at, ends_early, breaks_line, breaks_among, one_or_more, IsFirstBroken, HasCause}
+use Rattle.sys_text.specs.RuleByRule.{place_with, place_after, breaks_outside, lacks_room, overflows, before_end, refuses_line, refuses_in, fails_to_assemble, may_end_at, ends_early, breaks_line, breaks_among, one_or_more, place_behind, system_at, IsSystemOf, IsFirstBroken, HasCause}
 use Rattle.sys_text.specs.Answers.{Answers}
 use Rattle.sys_text.proofs.BlockLines.{end_printable, is_foreign, PrintsTo, prints_from, AllPrint, refused_prints, words_print}
 
@@ -300,12 +300,14 @@ module _ (state : State) (header : ℕ) where
       → Keeps (InBlock state header done) n line after
   keeps_inside done n line after printable e assembler = record { foreign = printable; fields = λ rule le. refl; room = no_room_asked done line e; assembler = assembler }
 
+  none_inside : (done : List (List ℕ)) (n : ℕ) (line : List ℕ) (lines : List (List ℕ)) → 0 < length lines → Keeps (InBlock state header done) (n + 1) line lines → (rule : Rule) → breaks_line (InBlock state header done) (n + 1) line lines rule ≡ false
+  none_inside done n line lines some k = none_at_all (InBlock state header done) (n + 1) line lines k (more_follow (place_after (InBlock state header done) (n + 1) line) lines some)
+
   -- one line of the block further
   later_inside : (done : List (List ℕ)) (n : ℕ) (line : List ℕ) (lines : List (List ℕ)) (m : ℕ) (rule : Rule) → 0 < length lines → is_end (fields_of line) ≡ false → Keeps (InBlock state header done) (n + 1) line lines
       → FirstAmong (InBlock state header (done ++ line ∷ [])) (n + 1) lines m rule → FirstAmong (InBlock state header done) n (line ∷ lines) m rule
   later_inside done n line lines m rule some e k r =
-      later (InBlock state header done) n line lines m rule
-      (none_at_all (InBlock state header done) (n + 1) line lines k (more_follow (place_after (InBlock state header done) (n + 1) line) lines some))
+      later (InBlock state header done) n line lines m rule (none_inside done n line lines some k)
       (subst (λ (p : Place). FirstAmong p (n + 1) lines m rule) (sym (same_place done (n + 1) line e)) r)
 
   -- ---- a block without an end
@@ -363,17 +365,29 @@ module _ (state : State) (header : ℕ) where
           (refused_block (done ++ line ∷ []) (n + 1) (j + 1) whole lines end after k rule (is ∙ sym (append_assoc done (line ∷ []) lines)) e o.1 ends (omega (arith, at)) further.1)
       ]
 
-  words_block : (done : List (List ℕ)) (n : ℕ) (whole lines : List (List ℕ)) (words : List ℕ) (end : List ℕ) (after : List (List ℕ)) (m : ℕ) (rule : Rule) → whole ≡ done ++ lines → reading_of_lines whole ≡ Ok words → IsOpen lines → is_end (fields_of end) ≡ true → AllPrint lines
-      → FirstAmong (InBlock state header whole) (n + length lines) (end ∷ after) m rule → FirstAmong (InBlock state header done) n (lines ++ end ∷ after) m rule
-  words_block done n whole [] words end after m rule is e o ends p r =
+  -- what goes back over a line that breaks no rule goes back over a block of which the assembler gives the words
+  words_block : (Q : Place → ℕ → List (List ℕ) → Type 0) → ((place : Place) (n : ℕ) (line : List ℕ) (lines : List (List ℕ)) → ((other : Rule) → breaks_line place (n + 1) line lines other ≡ false) → Q (place_after place (n + 1) line) (n + 1) lines → Q place n (line ∷ lines))
+      → (done : List (List ℕ)) (n : ℕ) (whole lines : List (List ℕ)) (words : List ℕ) (end : List ℕ) (after : List (List ℕ)) → whole ≡ done ++ lines → reading_of_lines whole ≡ Ok words → IsOpen lines → is_end (fields_of end) ≡ true → AllPrint lines
+      → Q (InBlock state header whole) (n + length lines) (end ∷ after) → Q (InBlock state header done) n (lines ++ end ∷ after)
+  words_block Q step done n whole [] words end after is e o ends p r =
       let same : whole ≡ done = is ∙ append-nil done in
       let number : n + length {A = List ℕ} [] ≡ n = omega arith in
-      subst (λ (w : List (List ℕ)). FirstAmong (InBlock state header w) n (end ∷ after) m rule) same (subst (λ (i : ℕ). FirstAmong (InBlock state header whole) i (end ∷ after) m rule) number r)
-  words_block done n whole (line ∷ lines) words end after m rule is e o ends p r =
+      subst (λ (w : List (List ℕ)). Q (InBlock state header w) n (end ∷ after)) same (subst (λ (i : ℕ). Q (InBlock state header whole) i (end ∷ after)) number r)
+  words_block Q step done n whole (line ∷ lines) words end after is e o ends p r =
       let kept = keeps_inside done (n + 1) line (lines ++ end ∷ after) p.0 o.0 (assembled done (n + 1) whole (line ∷ lines) end after (Ok words) is e o ends) in
       let number : n + suc (length lines) ≡ (n + 1) + length lines = omega arith in
-      later_inside done n line (lines ++ end ∷ after) m rule (some_after lines end after) o.0 kept
-      (words_block (done ++ line ∷ []) (n + 1) whole lines words end after m rule (is ∙ sym (append_assoc done (line ∷ []) lines)) e o.1 ends p.1 (subst (λ (i : ℕ). FirstAmong (InBlock state header whole) i (end ∷ after) m rule) number r))
+      let rest = words_block Q step (done ++ line ∷ []) (n + 1) whole lines words end after (is ∙ sym (append_assoc done (line ∷ []) lines)) e o.1 ends p.1 (subst (λ (i : ℕ). Q (InBlock state header whole) i (end ∷ after)) number r) in
+      step (InBlock state header done) n line (lines ++ end ∷ after) (none_inside done n line (lines ++ end ∷ after) (some_after lines end after) kept)
+      (subst (λ (p : Place). Q p (n + 1) (lines ++ end ∷ after)) (sym (same_place done (n + 1) line o.0)) rest)
+
+  -- the end of a block whose words fit
+  keeps_end : (done : List (List ℕ)) (n : ℕ) (line : List ℕ) (after : List (List ℕ)) (words : List ℕ) → reading_of_lines done ≡ Ok words → is_end (fields_of line) ≡ true → fit_pages (length words) state.open_image.pages ≡ true → Keeps (InBlock state header done) n line after
+  keeps_end done n line after words asm ends fits = record {
+    foreign = ap not (end_printable line ends);
+    fields = λ rule le. refl;
+    room = rw (ends, asm, fits) refl;
+    assembler = assembled done n done [] line after (Ok words) (sym (append-nil done)) asm tt ends;
+  }
 
   -- the end of a block of which the assembler gives the words
   end_line : (done : List (List ℕ)) (n : ℕ) (line : List ℕ) (after : List (List ℕ)) (words : List ℕ) (m : ℕ) (rule : Rule) → reading_of_lines done ≡ Ok words → is_end (fields_of line) ≡ true → goes_on (close_block state header (n + 1) (Ok words)) (λ next. reading_from next (n + 1) after) ≡ Err (m, rule)
@@ -389,13 +403,7 @@ module _ (state : State) (header : ℕ) where
       by_fit : (b : Bool) → fit_pages (length words) state.open_image.pages ≡ b → FirstAmong (InBlock state header done) n (line ∷ after) m rule
       by_fit true h =
           let f = rw h at e in
-          let kept : Keeps (InBlock state header done) (n + 1) line after = record {
-            foreign = printable;
-            fields = λ rule le. refl;
-            room = asked ∙ ap not h;
-            assembler = assembled done (n + 1) done [] line after (Ok words) (sym (append-nil done)) asm tt ends;
-          } in
-          behind (InBlock state header done) (Outside (closed state words)) n line after m rule kept (rw (ends, asm) refl) (next f)
+          behind (InBlock state header done) (Outside (closed state words)) n line after m rule (keeps_end done (n + 1) line after words asm ends h) (rw (ends, asm) refl) (next f)
       by_fit false h =
           let f = rw h at e in
           renamed (InBlock state header done) n (line ∷ after) (n + 1, Room) (m, rule) f (now (InBlock state header done) n line after Room (asked ∙ ap not h) (λ lower lt. below_room done (n + 1) line after printable lower lt))
@@ -463,7 +471,7 @@ line_inside state header done n line lines m rule next e at o = by_end (is_end (
         renamed (InBlock state header []) header (done ++ line ∷ lines) (header + refused.0, rule_in_block refused.1) (m, rule) f
         (refused_block state header [] header 1 done done line lines refused.0 refused.1 refl asm o h refl (refused_prints done refused.0 refused.1 asm))
     by_words h (Ok words) asm f =
-        words_block state header [] header done done words line lines m rule refl asm o h (words_print done words asm)
+        words_block state header (λ place n lines. FirstAmong place n lines m rule) (λ place n line lines. later place n line lines m rule) [] header done done words line lines refl asm o h (words_print done words asm)
         (subst (λ (i : ℕ). FirstAmong (InBlock state header done) i (line ∷ lines) m rule) at (end_line state header done n line lines words m rule asm h f (λ g. next (Outside (closed state words)) g)))
 
     by_end : (b : Bool) → is_end (fields_of line) ≡ b → Found (InBlock state header []) header (done ++ line ∷ lines) m rule
@@ -479,6 +487,97 @@ first_from (Outside state) n (line ∷ lines) m rule e = line_outside state n li
 first_from (InBlock state header done) n [] m rule e = λ at o. subst (λ (ls : List (List ℕ)). Found (InBlock state header []) header ls m rule) (sym (append-nil done)) (ended_inside state header done m rule o e)
 first_from (InBlock state header done) n (line ∷ lines) m rule e = λ at o. line_inside state header done n line lines m rule (λ next f. first_from next (n + 1) lines m rule f) e at o
 
+-- ---- lines of which none breaks a rule
+
+record AllKept (place : Place) (n : ℕ) (lines : List (List ℕ)) (system : System) : Type 0 where
+  goes : ends_early place lines ≡ false
+  kept : (i : ℕ) (rule : Rule) → breaks_among place n lines i rule ≡ false
+  ends : system_at (place_behind place n lines) ≡ Some system
+
+kept_later : (place : Place) (n : ℕ) (line : List ℕ) (lines : List (List ℕ)) (system : System) → ((other : Rule) → breaks_line place (n + 1) line lines other ≡ false) → AllKept (place_after place (n + 1) line) (n + 1) lines system → AllKept place n (line ∷ lines) system
+kept_later place n line lines system none a = record { goes = refl; kept = kept_of; ends = a.ends }
+  where
+    kept_of : (i : ℕ) (rule : Rule) → breaks_among place n (line ∷ lines) i rule ≡ false
+    kept_of zero rule = none rule
+    kept_of (suc i) rule = a.kept i rule
+
+kept_behind : (place next : Place) (n : ℕ) (line : List ℕ) (lines : List (List ℕ)) (system : System) → Keeps place (n + 1) line lines → place_after place (n + 1) line ≡ next → AllKept next (n + 1) lines system → AllKept place n (line ∷ lines) system
+kept_behind place next n line lines system k is a =
+    let rest = subst (λ (p : Place). AllKept p (n + 1) lines system) (sym is) a in
+    kept_later place n line lines system (none_at_all place (n + 1) line lines k rest.goes) rest
+
+-- the same from a place on, in a block from its first line on
+abbrev KeptFrom : Place → ℕ → List (List ℕ) → System → Type 0
+KeptFrom (Outside state) n lines system = AllKept (Outside state) n lines system
+KeptFrom (InBlock state header done) n lines system = n ≡ header + length done → IsOpen done → AllKept (InBlock state header []) header (done ++ lines) system
+
+kept_at_end : (state : State) (n : ℕ) (system : System) → ended state.stage state.system n ≡ Ok system → AllKept (Outside state) n [] system
+kept_at_end state n system e = by_end (may_end state.stage) refl
+  where
+    by_end : (b : Bool) → may_end state.stage ≡ b → AllKept (Outside state) n [] system
+    by_end true h = let f = rw h at e in let same : state.system ≡ system = cc in record { goes = ap not h; kept = λ i rule. refl; ends = ap Some same }
+    by_end false h = let f = rw h at e in absurd cc
+
+never_ended : (n : ℕ) (lines : List (List ℕ)) (system : System) → ended_in_block n lines ≡ Ok system → ⊥
+never_ended n [] system e = cc
+never_ended n (line ∷ lines) system e = by_byte (λ f. never_ended (n + 1) lines system f) (are_printable line) refl
+  where
+    by_byte : (ended_in_block (n + 1) lines ≡ Ok system → ⊥) → (b : Bool) → are_printable line ≡ b → ⊥
+    by_byte next true h = next (rw h at e)
+    by_byte next false h = let f = rw h at e in cc
+
+kept_outside : (state : State) (n : ℕ) (line : List ℕ) (lines : List (List ℕ)) (system : System) → ((next : Place) → reading_from next (n + 1) lines ≡ Ok system → KeptFrom next (n + 1) lines system)
+    → goes_on (step_outside state (n + 1) line) (λ next. reading_from next (n + 1) lines) ≡ Ok system → AllKept (Outside state) n (line ∷ lines) system
+kept_outside state n line lines system next e = by_rule (broken_by state line) refl
+  where
+    by_kept : (after : State × Bool) → Keeps (Outside state) (n + 1) line lines → place_after (Outside state) (n + 1) line ≡ place_with (n + 1) after → goes_on (kept_line (n + 1) after) (λ next. reading_from next (n + 1) lines) ≡ Ok system → AllKept (Outside state) n (line ∷ lines) system
+    by_kept after k is e = by_opens after.1 refl
+      where
+        by_opens : (b : Bool) → after.1 ≡ b → AllKept (Outside state) n (line ∷ lines) system
+        by_opens true h =
+            let f = rw h at e in
+            kept_behind (Outside state) (InBlock after.0 (n + 1) []) n line lines system k (is ∙ rw h refl) (next (InBlock after.0 (n + 1) []) f (omega arith) tt)
+        by_opens false h =
+            let f = rw h at e in
+            kept_behind (Outside state) (Outside after.0) n line lines system k (is ∙ rw h refl) (next (Outside after.0) f)
+
+    by_rule : (o : Option Rule) → broken_by state line ≡ o → AllKept (Outside state) n (line ∷ lines) system
+    by_rule (Some r) h = let f = rw h at e in absurd cc
+    by_rule None h =
+        let f = rw h at e in
+        by_kept (kept state (fields_of line)) (keeps_outside state (n + 1) line lines h) refl f
+
+kept_inside : (state : State) (header : ℕ) (done : List (List ℕ)) (n : ℕ) (line : List ℕ) (lines : List (List ℕ)) (system : System) → ((next : Place) → reading_from next (n + 1) lines ≡ Ok system → KeptFrom next (n + 1) lines system)
+    → reading_from (InBlock state header done) n (line ∷ lines) ≡ Ok system → n ≡ header + length done → IsOpen done → AllKept (InBlock state header []) header (done ++ line ∷ lines) system
+kept_inside state header done n line lines system next e at o = by_end (is_end (fields_of line)) refl
+  where
+    at_end_line : (words : List ℕ) → is_end (fields_of line) ≡ true → reading_of_lines done ≡ Ok words → (b : Bool) → fit_pages (length words) state.open_image.pages ≡ b → goes_on (close_block state header (n + 1) (Ok words)) (λ next. reading_from next (n + 1) lines) ≡ Ok system
+        → AllKept (InBlock state header done) n (line ∷ lines) system
+    at_end_line words h asm true fits f =
+        let g = rw fits at f in
+        kept_behind (InBlock state header done) (Outside (closed state words)) n line lines system (keeps_end state header done (n + 1) line lines words asm h fits) (rw (h, asm) refl) (next (Outside (closed state words)) g)
+    at_end_line words h asm false fits f = let g = rw fits at f in absurd cc
+
+    by_words : is_end (fields_of line) ≡ true → (reading : Result (List ℕ) (ℕ × AsmRule)) → reading_of_lines done ≡ reading → goes_on (close_block state header (n + 1) reading) (λ next. reading_from next (n + 1) lines) ≡ Ok system
+        → AllKept (InBlock state header []) header (done ++ line ∷ lines) system
+    by_words h (Err refused) asm f = absurd cc
+    by_words h (Ok words) asm f =
+        words_block state header (λ place n lines. AllKept place n lines system) (λ place n line lines. kept_later place n line lines system) [] header done done words line lines refl asm o h (words_print done words asm)
+        (subst (λ (i : ℕ). AllKept (InBlock state header done) i (line ∷ lines) system) at (at_end_line words h asm (fit_pages (length words) state.open_image.pages) refl f))
+
+    by_end : (b : Bool) → is_end (fields_of line) ≡ b → AllKept (InBlock state header []) header (done ++ line ∷ lines) system
+    by_end true h = let f = rw h at e in by_words h (reading_of_lines done) refl f
+    by_end false h =
+        let f = rw h at e in
+        let number : n + 1 ≡ header + length (done ++ line ∷ []) = omega (arith, at, length-append done (line ∷ [])) in
+        subst (λ (ls : List (List ℕ)). AllKept (InBlock state header []) header ls system) (append_assoc done (line ∷ []) lines) (next (InBlock state header (done ++ line ∷ [])) f number (open_more done line o h))
+
+kept_from : (place : Place) (n : ℕ) (lines : List (List ℕ)) (system : System) → reading_from place n lines ≡ Ok system → KeptFrom place n lines system
+kept_from (Outside state) n [] system e = kept_at_end state n system e
+kept_from (Outside state) n (line ∷ lines) system e = kept_outside state n line lines system (λ next f. kept_from next (n + 1) lines system f) e
+kept_from (InBlock state header done) n [] system e = λ at o. absurd (never_ended header done system e)
+kept_from (InBlock state header done) n (line ∷ lines) system e = λ at o. kept_inside state header done n line lines system (λ next f. kept_from next (n + 1) lines system f) e at o
+
 -- ---- a text
 
 first_of_lines : (lines : List (List ℕ)) (m : ℕ) (rule : Rule) → system_of_lines lines ≡ Err (m, rule) → FirstAmong (Outside nothing_yet) 0 (one_or_more lines) m rule
@@ -490,6 +589,18 @@ is_first_broken : (text : List ℕ) (line : ℕ) (rule : Rule) → reading_of te
 is_first_broken text line rule e =
     let r = first_of_lines (lines_of text) line rule e in
     record { before = r.before; number = omega (arith, r.number); broken = r.broken; lowest = r.lowest; first = r.first }
+
+system_of_kept : (lines : List (List ℕ)) (system : System) → system_of_lines lines ≡ Ok system → ((i : ℕ) (rule : Rule) → breaks_among (Outside nothing_yet) 0 (one_or_more lines) i rule ≡ false) × (system_at (place_behind (Outside nothing_yet) 0 lines) ≡ Some system)
+unfolding system_of_lines
+system_of_kept [] system e = absurd cc
+system_of_kept (line ∷ lines) system e = let a = kept_from (Outside nothing_yet) 0 (line ∷ lines) system e in (a.kept, a.ends)
+
+is_system_of : (text : List ℕ) (system : System) → reading_of text ≡ Ok system → IsSystemOf text system
+is_system_of text system e = let a = system_of_kept (lines_of text) system e in record { kept = a.0; system_is = a.1 }
+
+pub system_from_answer : (text : List ℕ) (answer : Result System SystemRefused) → Answers answer (reading_of text) → IfOk answer (IsSystemOf text)
+system_from_answer text (Ok system) a = is_system_of text system a
+system_from_answer text (Err refused) a = tt
 
 pub cause_from_answer : (text : List ℕ) (answer : Result System SystemRefused) → Answers answer (reading_of text) → IfErr answer (HasCause text)
 cause_from_answer text (Ok system) a = tt

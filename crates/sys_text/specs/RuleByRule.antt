@@ -5,6 +5,7 @@ use Rattle.text_parts.specs.Lines.{are_printable, lines_of, fields_of}
 use Rattle.rv_asm.specs.Program.{reading_of_lines}
 use Rattle.rv_asm.specs.declared.refusal.Rule.{Rule as AsmRule}
 use Rattle.sys_text.specs.declared.state.State.{State}
+use Rattle.sys_text.specs.declared.system.System.{System}
 use Rattle.sys_text.specs.declared.refusal.Rule.{Rule}
 use Rattle.sys_text.specs.declared.refusal.Rule.TheVariants.{ForeignByte, Room, Assembler, Ended}
 use Rattle.sys_text.specs.declared.refusal.SystemRefused.{SystemRefused}
@@ -112,6 +113,21 @@ pub record IsFirstBroken (text : List ℕ) (line : ℕ) (rule : Rule) : Type 0 w
   pub broken : line_breaks text before rule ≡ true
   pub lowest : (lower : Rule) → number_of_rule lower < number_of_rule rule → line_breaks text before lower ≡ false
   pub first : (i : ℕ) (other : Rule) → i < before → line_breaks text i other ≡ false
+
+-- where the line behind these lines stands, of which the first stands at this place and follows n others
+abbrev pub place_behind : Place → (n : ℕ) → List (List ℕ) → Place
+place_behind place n [] = place
+place_behind place n (line ∷ lines) = place_behind (place_after place (n + 1) line) (n + 1) lines
+
+-- the system as far as it was read, outside assembler blocks
+abbrev pub system_at : Place → Option System
+system_at (Outside state) = Some state.system
+system_at (InBlock state header block) = None
+
+-- no line breaks a rule, and the system is what the lines say together
+pub record IsSystemOf (text : List ℕ) (system : System) : Type 0 where
+  pub kept : (i : ℕ) (rule : Rule) → line_breaks text i rule ≡ false
+  pub system_is : system_at (place_behind (Outside nothing_yet) 0 (lines_of text)) ≡ Some system
 
 -- what is refused is a line that breaks a rule
 abbrev pub HasCause : List ℕ → SystemRefused → Type 0
