@@ -1,7 +1,6 @@
 -- Which lines of an assembler block have only printable bytes.
-use Rattle.std.proofs.Common.{◌≡◌, ℕ, suc, ◌+◌, ◌≤◌, Bool, true, false, not, ◌&&◌, List, [], ◌∷◌, Option, Some, None, Result, Ok, Err, refl, sym, ap, ◌∙◌, arith, inl, inr, ◌⊎◌}
+use Rattle.std.proofs.Common.{◌≡◌, ℕ, ◌+◌, ◌≤◌, Bool, true, false, not, ◌&&◌, List, [], ◌∷◌, Option, Some, None, Result, Ok, Err, refl, sym, ap, ◌∙◌, arith, inl, inr, ◌⊎◌}
 use Rattle.std.specs.List.{list_all, filter, slice_split, onto_first, find}
-use Rattle.std.specs.Str.{bytes_eq}
 use Rattle.std.specs.Prelude.{codes}
 use Rattle.std.proofs.lemmas.Bool.Decides.{nat_tests}
 use Rattle.std.proofs.lemmas.Slice.Eq.{bytes_eq-Decides}
@@ -10,7 +9,7 @@ use Rattle.rv_asm.specs.declared.labels.Place.{Place as LabelPlace}
 use Rattle.rv_asm.specs.declared.refusal.Rule.{Rule as AsmRule}
 use Rattle.rv_asm.specs.declared.refusal.Rule.TheVariants as asm_rules
 use Rattle.rv_asm.specs.Labels.{labels_from, line_size, line_code}
-use Rattle.rv_asm.specs.Program.{breaks as asm_breaks, rules, broken_by as asm_broken_by, words_at, address_after, with_front, reading_from as asm_reading_from, reading_of_lines}
+use Rattle.rv_asm.specs.Program.{breaks as asm_breaks, broken_by as asm_broken_by, words_at, address_after, with_front, reading_from as asm_reading_from, reading_of_lines}
 use Rattle.sys_text.specs.Reading.{is_end}
 use Rattle.sys_text.proofs.Bounds.{first_of_two, second_of_two}
 use Rattle.sys_text.proofs.Printed.{both}

@@ -2,7 +2,7 @@
 use Rattle.std.proofs.Common.{◌≡◌, ℕ, true, false, List, [], ◌++◌, Err, refl}
 use Rattle.std.specs.Prelude.{codes}
 use Rattle.rv_asm.specs.Program.{reading_of_lines}
-use Rattle.sys_text.specs.declared.refusal.Rule.TheVariants.{Misplaced, FieldKind, Limit, Same, Name, Room, Assembler, Ended}
+use Rattle.sys_text.specs.declared.refusal.Rule.TheVariants.{FieldKind, Limit, Same, Name, Assembler, Ended}
 use Rattle.sys_text.specs.Reading.{reading_of, system_of_lines}
 use Rattle.sys_text.specs.RuleByRule.{line_breaks}
 

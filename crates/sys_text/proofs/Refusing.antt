@@ -1,5 +1,5 @@
 -- What reading line by line names is the first line that breaks a rule, and the lowest rule that it breaks.
-use Rattle.std.proofs.Common.{◌≡◌, ℕ, zero, suc, ◌+◌, ◌<◌, ◌≤◌, Bool, true, false, not, ◌&&◌, cond, eqb, List, [], ◌∷◌, ◌++◌, length, Option, Some, None, Result, Ok, Err, refl, sym, ap, ◌∙◌, arith, inl, inr, ◌⊎◌, append_assoc, append-nil, length-append, subst}
+use Rattle.std.proofs.Common.{◌≡◌, ℕ, zero, suc, ◌+◌, ◌<◌, ◌≤◌, Bool, true, false, not, cond, eqb, List, [], ◌∷◌, ◌++◌, length, Option, Some, None, Result, Ok, Err, refl, sym, ap, ◌∙◌, arith, inl, inr, ◌⊎◌, append_assoc, append-nil, length-append, subst}
 use Rattle.std.specs.List.{find}
 use Rattle.std.specs.Option.{option_map}
 use Rattle.std.specs.Prelude.{IfOk, IfErr}
@@ -17,8 +17,8 @@ use Rattle.sys_text.specs.declared.refusal.SystemRefused.{SystemRefused}
 use Rattle.sys_text.specs.declared.refusal.SystemRefused.TheVariants as refusals
 use Rattle.sys_text.specs.Refusal.{number_of_rule}
 use Rattle.sys_text.specs.Rules.{breaks, rules, broken_by, closed, fit_pages}
-use Rattle.sys_text.specs.Reading.{Answer, Place, Outside, InBlock, Step, Goes, Refuses, nothing_yet, rule_in_block, is_end, last_line, may_end, ended, ended_in_block, close_block, kept, kept_line, step, step_outside, line_or_rule, goes_on, at_end, reading_from, reading_of, system_of_lines}
-use Rattle.sys_text.specs.RuleByRule.{place_with, place_after, breaks_outside, lacks_room, overflows, before_end, refuses_line, refuses_in, fails_to_assemble, may_end_at, ends_early, breaks_line, breaks_among, one_or_more, place_behind, system_at, IsSystemOf, IsFirstBroken, HasCause}
+use Rattle.sys_text.specs.Reading.{Answer, Place, Outside, InBlock, nothing_yet, rule_in_block, is_end, last_line, may_end, ended, ended_in_block, close_block, kept, kept_line, step_outside, goes_on, reading_from, reading_of, system_of_lines}
+use Rattle.sys_text.specs.RuleByRule.{place_with, place_after, breaks_outside, lacks_room, before_end, refuses_line, refuses_in, fails_to_assemble, may_end_at, ends_early, breaks_line, breaks_among, one_or_more, place_behind, system_at, IsSystemOf, IsFirstBroken, HasCause}
 use Rattle.sys_text.specs.Answers.{Answers}
 use Rattle.sys_text.proofs.BlockLines.{end_printable, is_foreign, PrintsTo, prints_from, AllPrint, refused_prints, words_print}
 
@@ -354,15 +354,15 @@ module _ (state : State) (header : ℕ) where
   refused_block done n j whole (line ∷ lines) end after k rule is e o ends at p =
       elim p [
         | inl here ↦
-          let number : header + k ≡ n + 1 = omega (arith, at, here.0) in
-          let fails = assembled done (n + 1) whole (line ∷ lines) end after (Err (k, rule)) is e o ends ∙ eq-eqb (header + k) (n + 1) number in
-          subst (λ (i : ℕ). FirstAmong (InBlock state header done) n (line ∷ (lines ++ end ∷ after)) i (rule_in_block rule)) (sym number) (refused_here done n line (lines ++ end ∷ after) rule o.0 here.1 fails)
+            let number : header + k ≡ n + 1 = omega (arith, at, here.0) in
+            let fails = assembled done (n + 1) whole (line ∷ lines) end after (Err (k, rule)) is e o ends ∙ eq-eqb (header + k) (n + 1) number in
+            subst (λ (i : ℕ). FirstAmong (InBlock state header done) n (line ∷ (lines ++ end ∷ after)) i (rule_in_block rule)) (sym number) (refused_here done n line (lines ++ end ∷ after) rule o.0 here.1 fails)
         | inr further ↦
-          let above : n + 1 < header + k = omega (arith, at, prints_from (j + 1) lines k rule further.1) in
-          let passes = assembled done (n + 1) whole (line ∷ lines) end after (Err (k, rule)) is e o ends ∙ eqb-above (header + k) (n + 1) above in
-          let kept = keeps_inside done (n + 1) line (lines ++ end ∷ after) further.0 o.0 passes in
-          later_inside done n line (lines ++ end ∷ after) (header + k) (rule_in_block rule) (some_after lines end after) o.0 kept
-          (refused_block (done ++ line ∷ []) (n + 1) (j + 1) whole lines end after k rule (is ∙ sym (append_assoc done (line ∷ []) lines)) e o.1 ends (omega (arith, at)) further.1)
+            let above : n + 1 < header + k = omega (arith, at, prints_from (j + 1) lines k rule further.1) in
+            let passes = assembled done (n + 1) whole (line ∷ lines) end after (Err (k, rule)) is e o ends ∙ eqb-above (header + k) (n + 1) above in
+            let kept = keeps_inside done (n + 1) line (lines ++ end ∷ after) further.0 o.0 passes in
+            later_inside done n line (lines ++ end ∷ after) (header + k) (rule_in_block rule) (some_after lines end after) o.0 kept
+            (refused_block (done ++ line ∷ []) (n + 1) (j + 1) whole lines end after k rule (is ∙ sym (append_assoc done (line ∷ []) lines)) e o.1 ends (omega (arith, at)) further.1)
       ]
 
   -- what goes back over a line that breaks no rule goes back over a block of which the assembler gives the words
