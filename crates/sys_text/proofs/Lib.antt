@@ -1,3 +1,4 @@
+mod BlockLines
 mod Blocks
 pub mod Bounds
 mod Examples
@@ -10,6 +11,8 @@ mod Lines
 mod Printed
 mod ReadBack
 mod Reached
+mod RefusalExamples
+mod Refusing
 mod Rooted
 mod Rows
 mod Sound

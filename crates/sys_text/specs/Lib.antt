@@ -8,3 +8,4 @@ pub mod Reading
 pub mod Answers
 pub mod Numbers
 pub mod Types
+pub mod RuleByRule

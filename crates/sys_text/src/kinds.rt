@@ -11,11 +11,14 @@ use std::alloc::{AllocError, Global};
 use t32_base::process::Mode;
 use text_parts::{first_field, lookup, number, word};
 
+/// A canonical line has no more fields.
+const USUAL_FIELDS: usize = 9;
+
 /// The fields of a line.
 pub fn fields(alloc: Global, line: &[u8]) -> Result<Vec<&[u8]>, AllocError>
     ensures { IfOk result (λ fields. texts fields.items ≡ fields_of line.now) }
 {
-    let mut fields = Vec::new(alloc);
+    let mut fields = Vec::with_capacity(alloc, USUAL_FIELDS)?;
     let mut rest = line;
     while let Some((field, after)) = first_field(rest) {
         fields.push(field)?;

@@ -1,5 +1,5 @@
 //! From a text to its system.
-ghost use Rattle.std.specs.Prelude.{◌≡◌, ◌+◌, ◌≤◌, ◌<◌, ◌^◌, true, Ok, OnOk, IfOk, length};
+ghost use Rattle.std.specs.Prelude.{◌≡◌, ◌+◌, ◌≤◌, ◌<◌, ◌^◌, true, Ok, OnOk, IfOk, IfErr, length};
 ghost use Rattle.text_parts.specs.Lines.{lines_of};
 ghost use Rattle.sys_text.specs.Kinds.{texts};
 ghost use Rattle.sys_text.specs.Rules.{HasRoom};
@@ -9,6 +9,7 @@ ghost use Rattle.sys_text.specs.declared.system.System.{System as Described};
 ghost use Rattle.sys_text.specs.Valid.{is_system};
 ghost use Rattle.sys_text.specs.Text.{system_text};
 ghost use Rattle.sys_text.specs.Answers.{Answers, TakesLine, TakesLines};
+ghost use Rattle.sys_text.specs.RuleByRule.{IsSystemOf, HasCause};
 
 use crate::adding::{add_line, empty_image};
 use crate::block::take_block;
@@ -175,6 +176,10 @@ fn read_lines(alloc: Global, text: &[u8]) -> Result<System, SystemRefused>
 pub fn read_system(alloc: Global, text: &[u8]) -> Result<System, SystemRefused>
     // Which of the two it is.
     ensures exact { Answers result (reading_of text.now) }
+    // No line breaks a rule, and the system is what the lines say together.
+    ensures system { IfOk result (IsSystemOf text.now) }
+    // The line is the first that breaks a rule, and the rule the lowest that it breaks.
+    ensures refused { IfErr result (HasCause text.now) }
     // The system keeps the rules.
     ensures valid { IfOk result (λ system. is_system system ≡ true) }
 {
