@@ -1,5 +1,5 @@
 -- The placement: which clusters live, and where each process has its home and its backup.
-use Rattle.std.specs.Prelude.{ℕ, zero, suc, ◌+◌, Bool, true, false, not, ◌&&◌, ◌||◌, ◌==◌, List, [], ◌∷◌, map, filter, find, count_by, slice_get, length, Option, Some, None, is_some}
+use Rattle.std.specs.Prelude.{ℕ, ◌+◌, Bool, true, false, not, ◌&&◌, ◌||◌, ◌==◌, List, [], ◌∷◌, map, filter, find, count_by, slice_get, length, Option, Some, None, is_some}
 use Rattle.std.specs.List.{list_any, list_all, range_with_len}
 use Rattle.std.specs.Option.{option_map_or}
 use Rattle.t32_base.specs.declared.process.Pid.{Pid}
@@ -42,6 +42,9 @@ is_cluster (Some j) k = same_cluster j k
 
 abbrev pub lives_in : Places → ClusterNo → Bool
 lives_in places k = option_map_or (λ (c : ClusterPlace). c.lives) (slice_get places.clusters k.0) false
+
+abbrev pub is_lost_in : Places → ClusterNo → Bool
+is_lost_in places k = option_map_or (λ (c : ClusterPlace). not c.lives) (slice_get places.clusters k.0) false
 
 abbrev pub next_serial_in : Places → ClusterNo → ℕ
 next_serial_in places k = option_map_or (λ (c : ClusterPlace). c.next_serial) (slice_get places.clusters k.0) 0

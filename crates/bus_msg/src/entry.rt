@@ -16,7 +16,10 @@ pub enum Cause {
 #[derive(Drop)]
 pub enum What {
     /// A process sent a letter by its step `at`.
-    Mail { at: u64, letter: Letter },
+    Mail {
+        at: u64,
+        letter: Letter,
+    },
     /// A process forked by its step `at`; `end` of it is linked to end 1 of the child.
     Birth {
         parent: Pid,
@@ -25,7 +28,11 @@ pub enum What {
         end: u8,
     },
     /// A process ended by its step `at`.
-    Exit { pid: Pid, at: u64, end: End },
+    Exit {
+        pid: Pid,
+        at: u64,
+        end: End,
+    },
     /// A page of a process that was changed since its last synchronisation, as it is at the step `at`.
     Page {
         pid: Pid,
@@ -42,7 +49,10 @@ pub enum What {
         took: Option<u8>,
     },
     /// A process that was moved asks for a page.
-    Fetch { pid: Pid, index: u16 },
+    Fetch {
+        pid: Pid,
+        index: u16,
+    },
     /// A page server answers with the page of the last synchronisation.
     PageIs {
         pid: Pid,
@@ -50,9 +60,14 @@ pub enum What {
         bytes: [u8; 256],
     },
     /// A cluster is lost.
-    Crash { k: ClusterNo, cause: Cause },
+    Crash {
+        k: ClusterNo,
+        cause: Cause,
+    },
     /// A lost cluster lives again, and is empty.
-    Return { k: ClusterNo },
+    Return {
+        k: ClusterNo,
+    },
     /// Processes get a new backup in the cluster `to`, which takes their records: a process that has run
     /// (`fresh`), or one that was moved and has not run, with its family.
     Rebackup {
@@ -61,7 +76,9 @@ pub enum What {
         recs: List<BackRec>,
     },
     /// Nothing can move any more. For each process that has not ended, its count of steps.
-    Done { rests: List<(Pid, u64)> },
+    Done {
+        rests: List<(Pid, u64)>,
+    },
     /// A cluster could not go on for want of memory.
     Stop,
 }

@@ -3,4 +3,11 @@ pub mod Parted
 pub mod ReadBack
 pub mod Counting
 pub mod FirstBad
+pub mod ListLaws
+pub mod LogLaws
+pub mod RecordLaws
+pub mod BuiltLaws
 mod Rows
+pub mod Systems
+mod WorkedLogs
+mod Refused

@@ -1,4 +1,5 @@
-//! The schedule section of a text: printed from items, and read back.
+//! The schedule of a log, and what a log has to be; and the schedule section of a text, printed from items and
+//! read back.
 #![tactic(auto)]
 
 mod item_line;
@@ -6,6 +7,7 @@ mod lines;
 mod printing;
 mod reading;
 mod refusal;
+pub mod script;
 #[cfg(test)]
 mod tests;
 

@@ -1,5 +1,5 @@
 -- What changes a placement, when it may, and the bits of a route.
-use Rattle.std.specs.Prelude.{◌≡◌, ℕ, ◌-◌, ◌^◌, ◌<◌, bit_or, Bool, true, not, ◌&&◌, ◌||◌, if◌then◌else◌, List, [], ◌∷◌, length, Option, Some, None}
+use Rattle.std.specs.Prelude.{◌≡◌, ℕ, ◌-◌, ◌^◌, ◌<◌, bit_or, Bool, true, false, not, ◌&&◌, ◌||◌, if◌then◌else◌, List, [], ◌∷◌, length, Option, Some, None}
 use Rattle.std.specs.Option.{IfSome, option_map_or}
 use Rattle.std.specs.List.{list_any}
 use Rattle.t32_base.specs.declared.process.Pid.{Pid}
@@ -30,32 +30,16 @@ CanBeBorn places parent child = (placed_at places child ≡ None) × IfSome (pla
 -- an entry may be taken in: its child, where it tells of one, may be born
 abbrev pub CanBeAbsorbed : Places → What → Type 0
 CanBeAbsorbed places (Birth parent at child end) = CanBeBorn places parent child
-CanBeAbsorbed places (Mail at letter) = Unit {0}
-CanBeAbsorbed places (Exit pid at end) = Unit {0}
-CanBeAbsorbed places (Page pid at index bytes) = Unit {0}
-CanBeAbsorbed places (Sync pid small read took) = Unit {0}
-CanBeAbsorbed places (Fetch pid index) = Unit {0}
-CanBeAbsorbed places (PageIs pid index bytes) = Unit {0}
-CanBeAbsorbed places (Crash k cause) = Unit {0}
-CanBeAbsorbed places (Return k) = Unit {0}
-CanBeAbsorbed places (Rebackup to fresh recs) = Unit {0}
-CanBeAbsorbed places (Done rests) = Unit {0}
-CanBeAbsorbed places Stop = Unit {0}
+CanBeAbsorbed places _ = Unit {0}
+
+abbrev pub is_birth : What → Bool
+is_birth (Birth parent at child end) = true
+is_birth _ = false
 
 -- an entry that says this has a route: a cluster that returns is one of the clusters
 abbrev pub IsRoutable : Places → What → Type 0
 IsRoutable places (Return k) = k.0 < length places.clusters
-IsRoutable places (Mail at letter) = Unit {0}
-IsRoutable places (Birth parent at child end) = Unit {0}
-IsRoutable places (Exit pid at end) = Unit {0}
-IsRoutable places (Page pid at index bytes) = Unit {0}
-IsRoutable places (Sync pid small read took) = Unit {0}
-IsRoutable places (Fetch pid index) = Unit {0}
-IsRoutable places (PageIs pid index bytes) = Unit {0}
-IsRoutable places (Crash k cause) = Unit {0}
-IsRoutable places (Rebackup to fresh recs) = Unit {0}
-IsRoutable places (Done rests) = Unit {0}
-IsRoutable places Stop = Unit {0}
+IsRoutable places _ = Unit {0}
 
 -- ---- the bits of a route
 

@@ -5,7 +5,7 @@ ghost use Rattle.std.specs.Option.{option_map, option_map_or};
 ghost use Rattle.bus_msg.specs.Places.{ClusterPlace, boot_cluster, boot_places, same_cluster, lives_in, never_lost, next_serial_in, servers_in, all_clusters, placed_at, unended_at, is_at_home, is_covered};
 ghost use Rattle.bus_msg.specs.PlacedAfter.{changed_at, with_cluster, with_each, with_birth, raised_serial, lost_cluster, returned_cluster, after_loss, after_rebackup, placed_after, what};
 ghost use Rattle.bus_msg.specs.Route.{bits_of, letter_dests, route};
-ghost use Rattle.channel_table.specs.Changes.{with_backup, given_backup, CanBeBorn, CanBeAbsorbed, IsRoutable, home_list, backup_list, bits_onto, pids_differ};
+ghost use Rattle.channel_table.specs.Changes.{with_backup, given_backup, CanBeBorn, CanBeAbsorbed, is_birth, IsRoutable, home_list, backup_list, bits_onto, pids_differ};
 
 use crate::cluster::Cluster;
 use crate::processes::Processes;
@@ -267,20 +267,33 @@ impl Placement {
         ensures err { OnErr result (self.new ≡ self.old) }
     {
         match &entry.post.what {
-            What::Birth { parent, child, .. } => return self.add_birth(*parent, *child),
+            What::Birth { parent, child, .. } => self.add_birth(*parent, *child),
+            _ => {
+                self.note(entry);
+                Ok(())
+            }
+        }
+    }
+
+    /// Takes in an entry of the log that is no birth. Takes no memory.
+    pub fn note(&mut self, entry: &Entry)
+        requires { is_birth (what entry.now) ≡ false }
+        ensures { self.new ≡ placed_after self.old (what entry.now) }
+    {
+        match &entry.post.what {
             What::Exit { pid, .. } => self.processes.end(*pid),
             What::Sync { pid, .. } => self.processes.sync(*pid),
             What::Crash { k, .. } => self.move_after_crash(*k),
             What::Return { k } => self.come_back(*k),
             What::Rebackup { to, fresh, recs } => self.rebackup(*to, *fresh, recs.as_slice()),
-            What::Mail { .. }
+            What::Birth { .. }
+            | What::Mail { .. }
             | What::Page { .. }
             | What::Fetch { .. }
             | What::PageIs { .. }
             | What::Done { .. }
             | What::Stop => {}
         }
-        Ok(())
     }
 
     // ---- where an entry goes

@@ -5,6 +5,12 @@ use Rattle.t32_base.specs.declared.process.EndState.TheVariants.{Never, Tty, Lin
 use Rattle.t32_base.specs.declared.letter.To.{To}
 use Rattle.t32_base.specs.declared.letter.To.TheVariants.{Proc, Tty as ToTty}
 
+abbrev pub is_never : EndState → Bool
+is_never Never = true
+is_never (Tty t) = false
+is_never (Linked peer far finished) = false
+is_never Shut = false
+
 abbrev pub is_linked : EndState → Bool
 is_linked Never = false
 is_linked (Tty t) = false

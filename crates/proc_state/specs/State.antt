@@ -1,5 +1,5 @@
 -- A process as the definitions see it: no marks of pages, no list of letters read and no point of last synchronisation.
-use Rattle.std.specs.Prelude.{ℕ, ◌≡◌, ◌+◌, ◌-◌, ◌*◌, Bool, true, false, List, [], ◌∷◌, ◌++◌, length, replicate, slice_set, None}
+use Rattle.std.specs.Prelude.{ℕ, ◌≡◌, ◌+◌, ◌-◌, ◌*◌, Bool, true, false, List, [], ◌∷◌, ◌++◌, length, replicate, slice_set, ◌&&◌, None, is_some, is_none}
 use Rattle.t32_base.specs.declared.process.Pid.{Pid}
 use Rattle.t32_base.specs.declared.process.Status.{Status}
 use Rattle.t32_base.specs.declared.process.Status.TheVariants.{Live, Closing, Ended}
@@ -9,6 +9,7 @@ use Rattle.t32_base.specs.declared.letter.Letter.{Letter}
 use Rattle.t32_base.specs.Registers.{Registers}
 use Rattle.t32_base.specs.Small.{SmallState}
 use Rattle.proc_state.specs.declared.process.Process.{Process}
+use Rattle.proc_state.specs.Mail.{first_signal}
 
 -- its state, the bytes of its memory, the letters that arrived and were not read in order of arrival, and how many have arrived
 pub record ProcState : Type 0 where
@@ -30,6 +31,11 @@ pub record SameRest (old new : Process) : Type 0 where
   pub read : new.read ≡ old.read
   pub since : new.since ≡ old.since
 
+abbrev pub is_live : Status → Bool
+is_live Live = true
+is_live (Closing end) = false
+is_live (Ended end) = false
+
 abbrev pub has_ended : Status → Bool
 has_ended Live = false
 has_ended (Closing end) = false
@@ -38,6 +44,10 @@ has_ended (Ended end) = true
 -- a letter arrives: last in the mailbox, with the next number
 abbrev pub delivered : ProcState → Letter → ProcState
 delivered p letter = record p { mail = p.mail ++ record { number = p.next; letter = letter } ∷ []; next = p.next + 1 }
+
+-- a signal can be taken: the process is live, no handler of it runs, and a signal waits
+abbrev pub can_take : ProcState → Bool
+can_take p = is_live (p.small).status && is_none (p.small).frame && is_some (first_signal p.mail)
 
 -- ---- a root at its start
 

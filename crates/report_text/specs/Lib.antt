@@ -1,1 +1,3 @@
 pub mod Report
+pub mod RunReport
+pub mod Good

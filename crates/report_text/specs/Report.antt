@@ -3,13 +3,12 @@ use Rattle.std.specs.Prelude.{ℕ, Bool, true, false, List, [], ◌∷◌, ◌++
 use Rattle.std.specs.List.{flat_map, range_with_len}
 use Rattle.std.specs.Fmt.{decimal}
 use Rattle.t32_base.specs.declared.process.Pid.{Pid}
-use Rattle.t32_base.specs.declared.process.End.{End}
-use Rattle.t32_base.specs.declared.process.End.TheVariants.{Exit, Trap, Killed, Limit}
 use Rattle.t32_base.specs.declared.process.Status.{Status}
 use Rattle.t32_base.specs.declared.process.Status.TheVariants.{Live, Closing, Ended}
 use Rattle.proc_state.specs.State.{ProcState}
 use Rattle.sys_calls.specs.Next.{next_step, has_step}
 use Rattle.plain_kernel.specs.Kernel.{Kernel, process_at, tty_at}
+use Rattle.bus_msg.specs.Text.{end_text}
 
 -- a line feed
 abbrev pub newline : List ℕ
@@ -19,12 +18,6 @@ newline = 10 ∷ []
 abbrev pub tty_part : ℕ → Option (List ℕ) → List ℕ
 tty_part t None = []
 tty_part t (Some bytes) = codes "tty " ++ decimal t ++ codes " " ++ decimal (length bytes) ++ newline ++ bytes ++ newline
-
-abbrev pub end_text : End → List ℕ
-end_text (Exit s) = codes "exit " ++ decimal s
-end_text (Trap c) = codes "trap " ++ decimal c
-end_text (Killed g) = codes "killed " ++ decimal g
-end_text Limit = codes "limit"
 
 -- an unended process has a step, or waits
 abbrev pub moves_text : Bool → List ℕ

@@ -1,4 +1,6 @@
-//! The texts that the program prints of a kernel.
+//! The texts that the program prints of a kernel and of a run.
 #![tactic(auto)]
 
 pub mod plain;
+pub mod run;
+pub mod whole;

@@ -4,14 +4,15 @@ ghost use Rattle.std.specs.List.{range_with_len};
 ghost use Rattle.proc_state.specs.State.{state_of};
 ghost use Rattle.sys_calls.specs.Next.{next_step, has_step};
 ghost use Rattle.plain_kernel.specs.Kernel.{process_at, tty_at};
-ghost use Rattle.report_text.specs.Report.{plain_report as plain_report_of, tty_part, pid_part, ttys_report, pids_report, status_text, end_text};
+ghost use Rattle.report_text.specs.Report.{plain_report as plain_report_of, tty_part, pid_part, ttys_report, pids_report, status_text};
 
+use bus_msg::text::end_line;
 use plain_kernel::plain::Plain;
 use proc_state::process::Process;
 use std::alloc::{AllocError, Global};
 use sys_calls::stepping::can_step;
 use t32_base::lists::{Bytes, Text};
-use t32_base::process::{End, Pid, Status};
+use t32_base::process::{Pid, Status};
 use t32_base::streams::NoMemory;
 
 /// The bytes of each terminal, and how each process stands.
@@ -85,7 +86,7 @@ fn standing(alloc: Global, process: &Process) -> Result<String, AllocError>
     ensures { IfOk result (λ text. string_bytes text ≡ status_text process.now.small.status (has_step (next_step (state_of process.now)))) }
 {
     match process.small.status {
-        Status::Ended(end) => ending(alloc, end),
+        Status::Ended(end) => end_line(alloc, end),
         _ => {
             if can_step(process) {
                 String::from_str(alloc, "running")
@@ -93,16 +94,5 @@ fn standing(alloc: Global, process: &Process) -> Result<String, AllocError>
                 String::from_str(alloc, "waiting")
             }
         }
-    }
-}
-
-fn ending(alloc: Global, end: End) -> Result<String, AllocError>
-    ensures { IfOk result (λ text. string_bytes text ≡ end_text end) }
-{
-    match end {
-        End::Exit(status) => format!(in alloc; "exit {status}"),
-        End::Trap(code) => format!(in alloc; "trap {code}"),
-        End::Killed(signal) => format!(in alloc; "killed {signal}"),
-        End::Limit => String::from_str(alloc, "limit"),
     }
 }

@@ -2,3 +2,5 @@ pub mod Small
 pub mod Calls
 pub mod Next
 pub mod Steps
+pub mod Fork
+pub mod Take

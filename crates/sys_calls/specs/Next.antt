@@ -9,6 +9,7 @@ use Rattle.t32_base.specs.declared.letter.To.{To}
 use Rattle.rv_cpu.specs.Exec.{Executed, Steps, Calls, Traps, exec, exec_marks, reg}
 use Rattle.proc_state.specs.State.{ProcState, with_small}
 use Rattle.sys_calls.specs.Small.{stepped, spent, with_status, with_regs, lowest_linked, shut_at}
+use Rattle.sys_calls.specs.declared.steps.Emission.{Emission}
 use Rattle.sys_calls.specs.declared.steps.Emission.TheVariants.{Mail, Exit}
 use Rattle.sys_calls.specs.Calls.{Next, Silent, Blocked, Forks, Emits, Over, called, call_of, letter_to}
 
@@ -73,6 +74,19 @@ silent_of Over = None
 unfoldable pub silently : ℕ → ProcState → Option ProcState
 silently zero p = Some p
 silently (suc n) p = option_and_then (λ q. silent_of (next_step q)) (silently n p)
+
+-- what a step sends, and the process after it
+abbrev pub emission_of : Next → Option (Emission × ProcState)
+emission_of (Silent p) = None
+emission_of Blocked = None
+emission_of Forks = None
+emission_of (Emits e p) = Some (e, p)
+emission_of Over = None
+
+-- what the last of n steps sends, where all before it are silent
+abbrev pub last_emission : ℕ → ProcState → Option (Emission × ProcState)
+last_emission zero p = None
+last_emission (suc n) p = option_and_then (λ q. emission_of (next_step q)) (silently n p)
 
 -- a process with the marks of its pages
 pub record Marked : Type 0 where

@@ -1,0 +1,27 @@
+-- The part of the rules that is built so far. It goes away when every kind of entry is built.
+use Rattle.std.specs.Prelude.{◌≡◌, Bool, true, false, List}
+use Rattle.t32_base.specs.declared.letter.Letter.{Letter}
+use Rattle.t32_base.specs.declared.letter.To.{To}
+use Rattle.t32_base.specs.declared.letter.To.TheVariants.{Proc, Tty}
+use Rattle.sys_text.specs.declared.system.System.{System}
+use Rattle.bus_msg.specs.declared.entry.What.{What}
+use Rattle.bus_msg.specs.declared.entry.What.TheVariants.{Mail, Birth, Exit, Page, Sync, Fetch, PageIs, Crash, Return, Rebackup, Done, Stop}
+use Rattle.bus_msg.specs.declared.entry.Entry.{Entry}
+use Rattle.bus_msg.specs.PlacedAfter.{what}
+use Rattle.cert_sched.specs.Legal.{Stands}
+
+abbrev pub is_to_terminal : To → Bool
+is_to_terminal (Proc p e) = false
+is_to_terminal (Tty t) = true
+
+-- the kinds of entries that are sent so far: letters to terminals, exits and the end
+abbrev pub is_built : What → Bool
+is_built (Mail at letter) = is_to_terminal letter.to
+is_built (Exit pid at end) = true
+is_built (Done rests) = true
+is_built _ = false
+
+-- An entry of such a kind may stand next. No process is cut yet, so the limits between two cuts are not kept.
+pub record BuiltMayFollow (system : System) (log : List Entry) (e : Entry) : Type 0 where
+  pub stands : Stands system log e
+  pub built : is_built (what e) ≡ true

@@ -1,0 +1,34 @@
+-- When a cluster follows a log: it holds what the log says, and nothing else.
+use Rattle.std.specs.Prelude.{◌≡◌, true, false, List, Option, Some, option_map}
+use Rattle.sys_text.specs.declared.system.System.{System}
+use Rattle.bus_msg.specs.declared.entry.Entry.{Entry}
+use Rattle.cert_sched.specs.Legal.{IsLegalBy, MayFollow}
+use Rattle.cert_sched.specs.Rules.{is_over}
+use Rattle.cert_sched.specs.Built.{BuiltMayFollow}
+use Rattle.cluster_core.specs.View.{ClusterView, head_of, after_sent}
+use Rattle.cluster_core.specs.Queue.{entry_of}
+use Rattle.cluster_core.specs.Holds.{HoldsProcesses, HoldsPages, HoldsMarks, HoldsRecords, HoldsAccounts}
+
+-- all that a cluster holds
+pub record Follows (system : System) (log : List Entry) (c : ClusterView) : Type 0 where
+  pub processes : HoldsProcesses MayFollow system log c
+  pub pages : HoldsPages system log c
+  pub marks : HoldsMarks system log c
+  pub records : HoldsRecords system log c
+  pub accounts : HoldsAccounts system log c
+
+-- the lines that are built so far, for logs of the entries that are built so far
+abbrev pub FollowsBuilt : System → List Entry → ClusterView → Type 0
+FollowsBuilt system log c = HoldsProcesses BuiltMayFollow system log c
+
+-- a log that goes on, by a rule
+abbrev pub IsOpen : (System → List Entry → Entry → Type 0) → System → List Entry → Type 0
+IsOpen May system log = IsLegalBy May system log × (is_over system log ≡ false)
+
+-- The cluster is what is left of one that follows the log when its head was sent, which is the entry e: the next entry that it takes in.
+pub record StandsBetween (Follow : System → List Entry → ClusterView → Type 0) (system : System) (log : List Entry) (e : Entry) (c : ClusterView) : Type 0 where
+  pub before : ClusterView
+  pub followed : Follow system log before
+  pub head : option_map (entry_of system log) (head_of before.queue) ≡ Some e
+  pub tried : before.tried ≡ true
+  pub sent : c ≡ after_sent before before.queue

@@ -1,0 +1,63 @@
+-- The posts that a cluster has still to send, as the entries that they are to become.
+use Rattle.std.specs.Prelude.{ℕ, Bool, true, false, if◌then◌else◌, List, [], ◌∷◌, ◌++◌, length, find, Option, Some, None, option_map, ⊤}
+use Rattle.std.specs.Option.{option_map_or}
+use Rattle.t32_base.specs.declared.process.Pid.{Pid}
+use Rattle.sys_text.specs.declared.system.System.{System}
+use Rattle.proc_state.specs.State.{ProcState}
+use Rattle.bus_msg.specs.declared.entry.What.{What}
+use Rattle.bus_msg.specs.declared.entry.What.TheVariants.{Mail, Birth, Exit, Page, Sync, Fetch, PageIs, Crash, Return, Rebackup, Done, Stop}
+use Rattle.bus_msg.specs.declared.entry.Post.{Post}
+use Rattle.bus_msg.specs.declared.entry.Entry.{Entry}
+use Rattle.bus_msg.specs.Places.{same_pid}
+use Rattle.bus_msg.specs.Route.{route}
+use Rattle.cert_sched.specs.Schedule.{placement}
+use Rattle.cert_sched.specs.Steps.{process_of, silent_upto, after_items}
+use Rattle.cert_sched.specs.Kinds.{after_take}
+
+-- the entry that a post becomes
+abbrev pub entry_of : System → List Entry → Post → Entry
+entry_of system log post = record { place = length log; post = post; dests = route (placement system log) post.what }
+
+abbrev pub is_rebackup : What → Bool
+is_rebackup (Rebackup to fresh recs) = true
+is_rebackup _ = false
+
+-- the log with the posts of a queue other than a new backup
+abbrev pub with_queue : System → List Entry → List Post → List Entry
+with_queue system log [] = log
+with_queue system log (post ∷ rest) = if is_rebackup post.what then with_queue system log rest else with_queue system (log ++ entry_of system log post ∷ []) rest
+
+-- each post may follow, by a rule, after the log and the posts before it
+abbrev pub IsQueueLegal : (System → List Entry → Entry → Type 0) → System → List Entry → List Post → Type 0
+IsQueueLegal May system log [] = ⊤
+IsQueueLegal May system log (post ∷ rest) = May system log (entry_of system log post) × IsQueueLegal May system (log ++ entry_of system log post ∷ []) rest
+
+-- ---- a process that has moved ahead of the log
+
+-- an entry that tells of steps, a fork or a take
+abbrev pub tells_steps : What → Bool
+tells_steps (Mail at letter) = true
+tells_steps (Birth parent at child end) = true
+tells_steps (Exit pid at end) = true
+tells_steps (Sync pid small read took) = true
+tells_steps (Rebackup to fresh recs) = fresh
+tells_steps _ = false
+
+abbrev pub is_move_of : Pid → Post → Bool
+is_move_of p post = if tells_steps post.what then option_map_or (λ q. same_pid q p) (process_of post.what) false else false
+
+-- the post of a queue that tells of a process's steps
+abbrev pub move_of : Pid → List Post → Option What
+move_of p queue = option_map (λ (post : Post). post.what) (find (is_move_of p) queue)
+
+abbrev pub taken_by : What → ProcState → ProcState
+taken_by (Sync pid small read took) s = after_take took s
+taken_by _ s = s
+
+-- the process in the kernel after the log: after silent steps up to its own step count, or after the move of it that stands in the queue
+abbrev pub state_by : System → List Entry → Pid → ℕ → Option What → Option ProcState
+state_by system log p steps None = silent_upto system log p steps
+state_by system log p steps (Some w) = option_map (taken_by w) (after_items system log w)
+
+abbrev pub state_now : System → List Entry → List Post → Pid → ℕ → Option ProcState
+state_now system log queue p steps = state_by system log p steps (move_of p queue)

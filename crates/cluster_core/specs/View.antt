@@ -1,0 +1,86 @@
+-- What a cluster holds, as contracts see it.
+use Rattle.std.specs.Prelude.{ℕ, Bool, true, false, ◌==◌, ◌&&◌, if◌then◌else◌, List, [], ◌∷◌, map, find, replicate, length, Option, Some, None, option_map}
+use Rattle.t32_base.specs.declared.process.Pid.{Pid}
+use Rattle.t32_base.specs.declared.process.ClusterNo.{ClusterNo}
+use Rattle.t32_base.specs.declared.process.Counts.{Counts}
+use Rattle.t32_base.specs.declared.letter.BackRec.{BackRec}
+use Rattle.sys_text.specs.declared.system.System.{System}
+use Rattle.proc_state.specs.declared.process.Process.{Process}
+use Rattle.bus_msg.specs.declared.entry.Post.{Post}
+use Rattle.bus_msg.specs.declared.entry.What.{What}
+use Rattle.bus_msg.specs.declared.entry.What.TheVariants.{Mail, Birth, Exit, Page, Sync, Fetch, PageIs, Crash, Return, Rebackup, Done, Stop}
+use Rattle.bus_msg.specs.Places.{Places, same_pid}
+use Rattle.cert_sched.specs.Account.{Account}
+
+-- a process at home here runs; or it rolls forward, with what is left to withhold; or it waits as its record for its backup, its pages or its parent's fork
+pub data Held : Type 0 where
+  Runs : (process : Process) → Held
+  Rolls : (process : Process) (counts : Counts) (births : List Pid) → Held
+  Waits : (kept : BackRec) → Held
+
+-- a page of a process that was moved: whether it was asked for, and the page where it has come
+pub record PageWait : Type 0 where
+  pub pid : Pid
+  pub index : ℕ
+  pub asked : Bool
+  pub page : Option (List ℕ)
+
+-- its system and number, the length of the log that it has taken in, and the placement then; the processes at home here and their pages; the records of
+-- processes whose backup is here; the accounts and the waiting fetches of a page server; the posts that are still to be sent, and whether the
+-- first was tried; its kernel steps, its disk calls, and the call that failed
+pub record ClusterView : Type 0 where
+  pub system : System
+  pub number : ClusterNo
+  pub cursor : ℕ
+  pub places : Places
+  pub here : List (Pid × Held)
+  pub pages : List PageWait
+  pub records : List BackRec
+  pub accounts : List (Pid × Account)
+  pub waits : List (Pid × ℕ)
+  pub queue : List Post
+  pub tried : Bool
+  pub steps : ℕ
+  pub disk_calls : ℕ
+  pub failed : Option ℕ
+
+-- ---- questions
+
+abbrev pub held_at : ClusterView → Pid → Option Held
+held_at c p = option_map (λ (e : Pid × Held). e.1) (find (λ (e : Pid × Held). same_pid e.0 p) c.here)
+
+abbrev pub record_at : ClusterView → Pid → Option BackRec
+record_at c p = find (λ (r : BackRec). same_pid r.pid p) c.records
+
+abbrev pub account_at : ClusterView → Pid → Option Account
+account_at c p = option_map (λ (e : Pid × Account). e.1) (find (λ (e : Pid × Account). same_pid e.0 p) c.accounts)
+
+abbrev pub page_wait : ClusterView → Pid → ℕ → Option PageWait
+page_wait c p i = find (λ (w : PageWait). same_pid w.pid p && w.index == i) c.pages
+
+abbrev pub head_of : List Post → Option Post
+head_of [] = None
+head_of (post ∷ rest) = Some post
+
+-- ---- the head was sent
+
+-- a process that has just synchronised: no page is marked, no letter was read since, and its steps count from now
+abbrev pub synced : Process → Process
+synced p = record p { ram = record (p.ram) { dirty = replicate (length (p.ram).dirty) false }; read = []; since = (p.small).steps }
+
+abbrev pub synced_held : Held → Held
+synced_held (Runs p) = Runs (synced p)
+synced_held (Rolls p counts births) = Rolls p counts births
+synced_held (Waits r) = Waits r
+
+abbrev pub with_synced : Pid → List (Pid × Held) → List (Pid × Held)
+with_synced p here = map (λ (e : Pid × Held). if same_pid e.0 p then (e.0, synced_held e.1) else e) here
+
+-- where the head was a new backup for a process that has run, the process has synchronised by it
+abbrev pub after_head : ClusterView → What → ClusterView
+after_head c (Rebackup to true (r ∷ rs)) = record c { here = with_synced r.pid c.here }
+after_head c _ = c
+
+abbrev pub after_sent : ClusterView → List Post → ClusterView
+after_sent c [] = c
+after_sent c (head ∷ rest) = record (after_head c head.what) { queue = rest; tried = false }

@@ -1,0 +1,126 @@
+-- The clusters that did the work of a run: each followed the log for as long as it lived.
+use Rattle.std.specs.Prelude.{position, ℕ, zero, suc, ◌+◌, ◌-◌, ◌≤◌, ◌<◌, ◌≡◌, ◌⊎◌, Bool, true, false, not, ◌&&◌, ◌||◌, ◌==◌, if◌then◌else◌, List, [], ◌∷◌, length, take, drop, slice_get, Option, Some, None, option_and_then, ⊤}
+use Rattle.std.specs.List.{list_any}
+use Rattle.std.specs.Option.{option_map_or}
+use Rattle.t32_base.specs.declared.process.ClusterNo.{ClusterNo}
+use Rattle.sys_text.specs.declared.system.System.{System}
+use Rattle.bus_msg.specs.declared.entry.What.{What}
+use Rattle.bus_msg.specs.declared.entry.What.TheVariants.{Mail, Birth, Exit, Page, Sync, Fetch, PageIs, Crash, Return, Rebackup, Done, Stop}
+use Rattle.bus_msg.specs.declared.entry.Cause.{Cause}
+use Rattle.bus_msg.specs.declared.entry.Cause.TheVariants.{Place, Step, Disk}
+use Rattle.bus_msg.specs.declared.entry.Entry.{Entry}
+use Rattle.bus_msg.specs.Places.{same_cluster}
+use Rattle.bus_msg.specs.PlacedAfter.{what}
+use Rattle.cert_sched.specs.declared.script.ScriptWord.{ScriptWord}
+use Rattle.cert_sched.specs.Losses.{is_by_cluster, is_crash_of, is_disk_word}
+use Rattle.cert_sched.specs.Scripted.{is_done}
+use Rattle.cluster_core.specs.View.{ClusterView}
+use Rattle.cluster_core.specs.Follows.{Follows, StandsBetween}
+
+-- a cluster with the life that it stands for: of which cluster, from which place, and how far it followed the log
+pub record LifeView : Type 0 where
+  pub cluster : ClusterNo
+  pub from : ℕ
+  pub upto : ℕ
+  pub value : ClusterView
+
+-- ---- lives
+
+abbrev pub is_return_of : ClusterNo → What → Bool
+is_return_of k (Return j) = same_cluster j k
+is_return_of k _ = false
+
+-- a life of k begins at the boot, or directly after a return of k
+abbrev pub begins_at : List Entry → ClusterNo → ℕ → Bool
+begins_at log k zero = true
+begins_at log k (suc n) = option_map_or (λ (e : Entry). is_return_of k (what e)) (slice_get log n) false
+
+-- it ends at the next crash of k, or else at the last entry
+abbrev pub end_of_life : List Entry → ClusterNo → ℕ → ℕ
+end_of_life log k from = option_map_or (λ i. from + i) (position (λ (e : Entry). is_crash_of k (what e)) (drop from log)) (length log - 1)
+
+abbrev pub last_entry : List Entry → ClusterNo → ℕ → Option Entry
+last_entry log k from = slice_get log (end_of_life log k from)
+
+-- k sent an entry at a place from `from` on and below `upto`
+abbrev pub has_sent : List Entry → ClusterNo → ℕ → ℕ → Bool
+has_sent log k from upto = list_any (is_by_cluster k) (take (upto - from) (drop from log))
+
+abbrev pub ends_at_done : List Entry → ClusterNo → ℕ → Bool
+ends_at_done log k from = option_map_or (λ (e : Entry). is_done (what e)) (last_entry log k from) false
+
+-- the cause of the crash of k that ends a life, where one does
+abbrev pub cause_in : ClusterNo → What → Option Cause
+cause_in k (Crash j cause) = if same_cluster j k then Some cause else None
+cause_in k _ = None
+
+abbrev pub end_cause : List Entry → ClusterNo → ℕ → Option Cause
+end_cause log k from = option_and_then (λ (e : Entry). cause_in k (what e)) (last_entry log k from)
+
+-- ---- what holds of each
+
+-- a cluster that was lost at a kernel step has made that many; one that was lost by its disk has failed at that call
+abbrev pub EndsBy : Option Cause → ClusterView → Type 0
+EndsBy None c = ⊤
+EndsBy (Some Place) c = ⊤
+EndsBy (Some (Step n)) c = (c.failed ≡ None) × (c.steps ≡ n)
+EndsBy (Some (Disk n)) c = c.failed ≡ Some n
+
+-- it followed the log up to a place, and sent nothing later
+pub record FollowedUpto (Follow : System → List Entry → ClusterView → Type 0) (system : System) (log : List Entry) (l : LifeView) : Type 0 where
+  pub follows : Follow system (take l.upto log) l.value
+  pub sent_before : has_sent log l.cluster l.upto (end_of_life log l.cluster l.from + 1) ≡ false
+
+-- it stands between the log up to a place and the entry there, its last one; this life does not end with the run
+pub record LeftBetween (Follow : System → List Entry → ClusterView → Type 0) (system : System) (log : List Entry) (l : LifeView) : Type 0 where
+  pub entry : Entry
+  pub there : slice_get log l.upto ≡ Some entry
+  pub lost : ends_at_done log l.cluster l.from ≡ false
+  pub between : StandsBetween Follow system (take l.upto log) entry l.value
+  pub sent_before : has_sent log l.cluster (l.upto + 1) (end_of_life log l.cluster l.from + 1) ≡ false
+
+-- Where it has not failed it followed the log, to the end where the life ends with the run. Only a word of the script makes it fail.
+pub record LifeHolds (Follow : System → List Entry → ClusterView → Type 0) (system : System) (script : List ScriptWord) (log : List Entry) (l : LifeView) : Type 0 where
+  pub begins : begins_at log l.cluster l.from ≡ true
+  pub number : (l.value).number ≡ l.cluster
+  pub within : l.upto ≤ end_of_life log l.cluster l.from
+  pub followed : (l.value).failed ≡ None → FollowedUpto Follow system log l ⊎ LeftBetween Follow system log l
+  pub to_the_end : ends_at_done log l.cluster l.from ≡ true → (l.value).failed ≡ None → l.upto ≡ end_of_life log l.cluster l.from
+  pub lost_by : EndsBy (end_cause log l.cluster l.from) l.value
+  pub failed_by : (n : ℕ) → (l.value).failed ≡ Some n → list_any (is_disk_word l.cluster n) script ≡ true
+
+abbrev pub AllLives : (System → List Entry → ClusterView → Type 0) → System → List ScriptWord → List Entry → List LifeView → Type 0
+AllLives Follow system script log [] = ⊤
+AllLives Follow system script log (l ∷ ls) = LifeHolds Follow system script log l × AllLives Follow system script log ls
+
+-- ---- which lives are there
+
+abbrev pub is_life : ClusterNo → ℕ → LifeView → Bool
+is_life k from l = same_cluster l.cluster k && l.from == from
+
+-- no two stand for the same life
+abbrev pub are_distinct : List LifeView → Bool
+are_distinct [] = true
+are_distinct (l ∷ ls) = not (list_any (is_life l.cluster l.from) ls) && are_distinct ls
+
+abbrev pub is_at_step_or_disk : Option Cause → Bool
+is_at_step_or_disk None = false
+is_at_step_or_disk (Some Place) = false
+is_at_step_or_disk (Some (Step n)) = true
+is_at_step_or_disk (Some (Disk n)) = true
+
+-- nothing was sent in this life, and it ends neither with the run nor at a step or a disk call
+abbrev pub may_be_left_out : List Entry → ClusterNo → ℕ → Bool
+may_be_left_out log k from =
+    not (has_sent log k from (end_of_life log k from + 1)) && not (ends_at_done log k from) && not (is_at_step_or_disk (end_cause log k from))
+
+-- each life is there once, as far as it may not be left out, and each that is there followed the log, by a relation
+pub record LivedBy (Follow : System → List Entry → ClusterView → Type 0) (system : System) (script : List ScriptWord) (log : List Entry) (lives : List LifeView) : Type 0 where
+  pub each : AllLives Follow system script log lives
+  pub distinct : are_distinct lives ≡ true
+  pub all_there : (k : ClusterNo) (from : ℕ) → k.0 < system.clusters → from ≤ length log → begins_at log k from ≡ true →
+      (list_any (is_life k from) lives || may_be_left_out log k from) ≡ true
+
+-- the clusters of a run did its work
+abbrev pub Lived : System → List ScriptWord → List Entry → List LifeView → Type 0
+Lived system script log lives = LivedBy Follows system script log lives

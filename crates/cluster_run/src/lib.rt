@@ -1,0 +1,2 @@
+//! Runs of clusters over a bus.
+#![tactic(auto)]

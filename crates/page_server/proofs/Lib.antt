@@ -1,0 +1,5 @@
+pub mod AccountLaws
+mod Examples
+pub mod Marks
+pub mod Owners
+pub mod PagerLaws

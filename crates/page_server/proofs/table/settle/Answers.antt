@@ -1,0 +1,12 @@
+use Rattle.std.proofs.Common.{◌≡◌, ◌∙◌, ap, sym}
+use Rattle.page_server.specs.Slots.{settled, change_at}
+use Rattle.page_server.proofs.Marks.{one_more_mark, all_marks, settled-levels}
+use Rattle.page_server.proofs.table.settle.Goals as goal
+
+pub loop-i-preserved : goal.loop-i-preserved
+loop-i-preserved c =
+    let more = one_more_mark settled c.args.rows.now.items c.args.changed.now c.loop-i.i-index c.loop-i-test.true in
+    c.settle_row.ensures ∙ (λ j. change_at settled (c.loop-i.invariant j) (c.from.ensures j)) ∙ more
+
+pub returns : goal.returns
+returns c = c.loop-i.invariant ∙ all_marks settled settled-levels c.args.rows.now.items c.args.changed.now c.loop-i.i-index c.loop-i-test.false c.requires

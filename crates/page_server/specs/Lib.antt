@@ -1,0 +1,4 @@
+pub mod Account
+pub mod Disk
+pub mod Places
+pub mod Slots

@@ -1,0 +1,29 @@
+-- A mailbox: the letters that have arrived and were not read, in order of arrival.
+use Rattle.std.specs.Prelude.{ℕ, Bool, true, false, if◌then◌else◌, List, [], ◌∷◌, find, Option, Some, None, option_and_then}
+use Rattle.t32_base.specs.declared.letter.Arrived.{Arrived}
+use Rattle.t32_base.specs.declared.letter.Letter.{Letter}
+use Rattle.t32_base.specs.declared.letter.Body.{Body}
+use Rattle.t32_base.specs.declared.letter.Body.TheVariants.{Said, EndOf, Signal}
+
+-- the number of the signal that a letter carries
+abbrev pub signal_of : Body → Option ℕ
+signal_of (Said bytes) = None
+signal_of EndOf = None
+signal_of (Signal g) = Some g
+
+abbrev pub carries_signal : Body → Bool
+carries_signal (Said bytes) = false
+carries_signal EndOf = false
+carries_signal (Signal g) = true
+
+abbrev pub is_signal : Arrived → Bool
+is_signal a = carries_signal (a.letter).body
+
+-- a list without its first element that passes
+abbrev pub without_first : {X : Type 0} → (X → Bool) → List X → List X
+without_first test [] = []
+without_first test (x ∷ xs) = if test x then xs else x ∷ without_first test xs
+
+-- the first signal that waits
+abbrev pub first_signal : List Arrived → Option ℕ
+first_signal mail = option_and_then (λ (a : Arrived). signal_of (a.letter).body) (find is_signal mail)

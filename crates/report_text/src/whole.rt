@@ -1,0 +1,141 @@
+//! What is printed of a run.
+ghost use Rattle.std.specs.Prelude.{◌≡◌, ◌++◌, OnOk, IfOk, count_by, length, string_bytes};
+ghost use Rattle.std.specs.List.{flat_map, list_any};
+ghost use Rattle.bus_msg.specs.PlacedAfter.{what as says};
+ghost use Rattle.bus_msg.specs.Text.{line_of};
+ghost use Rattle.report_text.specs.Report.{newline};
+ghost use Rattle.report_text.specs.RunReport.{at_place, loss_part, is_crash as is_crash_of, losses_part, lost_part, no_crash, is_sync as is_sync_of, bus_part, report_of, log_lines, log_text_of};
+
+use crate::plain::plain_report;
+use crate::run::{Ended, Run};
+use bus_msg::entry::{Entry, What};
+use bus_msg::text::put_entry;
+use cert_sched::items_text;
+use plain_kernel::plain::Plain;
+use std::alloc::Global;
+use t32_base::lists::{Bytes, Text};
+use t32_base::process::ClusterNo;
+use t32_base::streams::NoMemory;
+
+/// The report of a run, where `plain` is the kernel after the run's schedule: the terminals and the
+/// processes, the crashes and returns, how many entries of which kind the log has, and the schedule.
+pub fn report(alloc: Global, plain: &Plain, run: &Run) -> Result<Text, NoMemory>
+    ensures { IfOk result (λ text. text ≡ report_of plain.now run.now) }
+{
+    let mut text = plain_report(alloc, plain)?;
+    put_losses(alloc, &mut text, run.log.as_slice())?;
+    put_lost(alloc, &mut text, run.ended)?;
+    put_bus(alloc, &mut text, run)?;
+    let items = items_text(alloc, run.items.as_slice())?;
+    text.extend(items.as_slice())?;
+    Ok(text)
+}
+
+/// A log as a text: the number of its entries, and a line for each.
+pub fn log_text(alloc: Global, log: &[Entry]) -> Result<Text, NoMemory>
+    ensures { IfOk result (λ text. text ≡ log_text_of log.now) }
+{
+    let count = log.len();
+    let head = format!(in alloc; "log {count}\n")?;
+    let mut text = Bytes::copy_of(alloc, head.as_bytes())?;
+    put_entries(alloc, &mut text, log)?;
+    Ok(text)
+}
+
+fn put_entries(alloc: Global, text: &mut Text, log: &[Entry]) -> Result<(), NoMemory>
+    ensures { OnOk result (text.new ≡ text.old ++ log_lines log.now) }
+{
+    for entry in log {
+        put_line(alloc, text, entry)?;
+    }
+    Ok(())
+}
+
+fn put_line(alloc: Global, text: &mut Text, entry: &Entry) -> Result<(), NoMemory>
+    ensures { OnOk result (text.new ≡ text.old ++ (line_of entry.now ++ newline)) }
+{
+    put_entry(alloc, text, entry)?;
+    text.extend(b"\n")
+}
+
+fn is_crash(entry: &Entry) -> bool
+    ensures { result ≡ is_crash_of (says entry.now) }
+{
+    matches!(entry.post.what, What::Crash { .. })
+}
+
+fn has_crash(log: &[Entry]) -> bool
+    ensures { result ≡ list_any (λ e. is_crash_of (says e)) log.now }
+{
+    log.iter().any(|entry| is_crash(entry))
+}
+
+fn is_sync(entry: &Entry) -> bool
+    ensures { result ≡ is_sync_of (says entry.now) }
+{
+    matches!(entry.post.what, What::Sync { .. })
+}
+
+fn put_losses(alloc: Global, text: &mut Text, log: &[Entry]) -> Result<(), NoMemory>
+    ensures { OnOk result (text.new ≡ text.old ++ losses_part log.now) }
+{
+    if has_crash(log) {
+        put_each_loss(alloc, text, log)
+    } else {
+        put_no_crash(text)
+    }
+}
+
+fn put_no_crash(text: &mut Text) -> Result<(), NoMemory>
+    ensures { OnOk result (text.new ≡ text.old ++ no_crash) }
+{
+    text.extend(b"crash none")?;
+    text.extend(b"\n")
+}
+
+fn put_each_loss(alloc: Global, text: &mut Text, log: &[Entry]) -> Result<(), NoMemory>
+    ensures { OnOk result (text.new ≡ text.old ++ flat_map (λ e. loss_part e.place (says e)) log.now) }
+{
+    for entry in log {
+        put_loss(alloc, text, entry)?;
+    }
+    Ok(())
+}
+
+fn put_loss(alloc: Global, text: &mut Text, entry: &Entry) -> Result<(), NoMemory>
+    ensures { OnOk result (text.new ≡ text.old ++ loss_part entry.now.place (says entry.now)) }
+{
+    match &entry.post.what {
+        What::Crash { k, .. } => put_place(alloc, text, "crash ", *k, entry.place),
+        What::Return { k } => put_place(alloc, text, "return ", *k, entry.place),
+        _ => Ok(()),
+    }
+}
+
+fn put_lost(alloc: Global, text: &mut Text, ended: Ended) -> Result<(), NoMemory>
+    ensures { OnOk result (text.new ≡ text.old ++ lost_part ended) }
+{
+    match ended {
+        Ended::Finished => Ok(()),
+        Ended::Lost { cluster, at } => put_place(alloc, text, "lost ", cluster, at),
+    }
+}
+
+fn put_place(alloc: Global, text: &mut Text, word: &str, cluster: ClusterNo, place: u64) -> Result<(), NoMemory>
+    ensures { OnOk result (text.new ≡ text.old ++ at_place word.now cluster place) }
+{
+    let number = cluster.0;
+    let line = format!(in alloc; "{number} at {place}\n")?;
+    text.extend(word.as_bytes())?;
+    text.extend(line.as_bytes())
+}
+
+fn put_bus(alloc: Global, text: &mut Text, run: &Run) -> Result<(), NoMemory>
+    ensures { OnOk result (text.new ≡ text.old ++ bus_part (length run.now.log) (count_by (λ e. is_sync_of (says e)) run.now.log) run.now.withheld) }
+{
+    let entries = run.log.len();
+    let syncs = run.log.as_slice().iter().filter(|entry| is_sync(entry)).count();
+    let withheld = run.withheld;
+    let line = format!(in alloc; "bus {entries} syncs {syncs} withheld {withheld}\n")?;
+    text.extend(line.as_bytes())
+}
