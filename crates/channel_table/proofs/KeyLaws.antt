@@ -1,5 +1,5 @@
 -- Laws of a list of entries whose keys are the numbers of their processes.
-use Rattle.std.proofs.Common.{◌≡◌, ℕ, zero, suc, ◌+◌, ◌<◌, Bool, true, false, not, ◌&&◌, ◌||◌, cond, List, [], ◌∷◌, ◌++◌, map, find, take, length, slice_get, get_or, Option, None, Some, refl, sym, ◌∙◌, ap, subst, arith, nat_eq, eqb}
+use Rattle.std.proofs.Common.{◌≡◌, ℕ, zero, suc, ◌<◌, Bool, true, false, not, ◌&&◌, ◌||◌, cond, List, [], ◌∷◌, ◌++◌, map, find, take, length, slice_get, get_or, Option, None, Some, refl, sym, ◌∙◌, ap, subst, arith, nat_eq, eqb}
 use Rattle.std.specs.Map.{keys_of, values_of, lookup, set_value}
 use Rattle.std.specs.List.{IsDistinct, list_any}
 use Rattle.std.specs.Cmp.{nat_eq_equiv}

@@ -32,6 +32,7 @@ abbrev pub CanBeAbsorbed : Places → What → Type 0
 CanBeAbsorbed places (Birth parent at child end) = CanBeBorn places parent child
 CanBeAbsorbed places _ = Unit {0}
 
+-- it tells of a birth
 abbrev pub is_birth : What → Bool
 is_birth (Birth parent at child end) = true
 is_birth _ = false

@@ -1,5 +1,4 @@
-use Rattle.std.proofs.Common.{◌≡◌, ◌+◌, true, false, length, ◌∙◌, sym, ap, refl, ◌++◌, ◌∷◌, [], map, arith}
-use Rattle.std.specs.List.{range_with_len}
+use Rattle.std.proofs.Common.{◌≡◌, true, false, length, ◌∙◌, sym, ap, ◌++◌, ◌∷◌, [], arith}
 use Rattle.std.proofs.lemmas.List.FromFn.{map-range_with_len_more, length-map-range_with_len}
 use Rattle.bus_msg.specs.Places.{boot_cluster}
 use Rattle.channel_table.proofs.placement.clusters_at_boot.Goals as goal

@@ -1,4 +1,4 @@
-use Rattle.std.proofs.Common.{◌≡◌, ◌≤◌, ◌-◌, ℕ, map, length}
+use Rattle.std.proofs.Common.{◌≡◌, ◌-◌, map, length}
 use Rattle.std.specs.List.{range_with_len}
 use Rattle.bus_msg.specs.Places.{cluster_no}
 use Rattle.bus_msg.specs.Route.{bits_of}

@@ -1,4 +1,4 @@
-use Rattle.std.proofs.Common.{◌≡◌, ◌∙◌, sym, ap, true}
+use Rattle.std.proofs.Common.{◌∙◌, sym, ap}
 use Rattle.channel_table.specs.Changes.{pids_differ}
 use Rattle.channel_table.proofs.KeyLaws.{pids_differ-table}
 use Rattle.channel_table.proofs.processes.Processes.len.Goals as goal

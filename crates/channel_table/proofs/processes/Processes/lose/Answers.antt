@@ -1,4 +1,4 @@
-use Rattle.std.proofs.Common.{◌≡◌, ◌<◌, suc, ◌+◌, ◌∙◌, sym, ap, refl, subst, length, map, Some, slice_get, add-one, arith}
+use Rattle.std.proofs.Common.{◌≡◌, ◌∙◌, sym, ap, subst, length, map, Some, slice_get, add-one, arith}
 use Rattle.std.specs.Map.{values_of}
 use Rattle.indexmap.specs.IndexMap.{set_value_at}
 use Rattle.bus_msg.specs.PlacedAfter.{after_loss}

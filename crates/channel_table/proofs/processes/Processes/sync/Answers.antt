@@ -1,5 +1,5 @@
-use Rattle.std.proofs.Common.{◌≡◌, ◌∙◌, sym, subst, ap, map, refl, true, ◌||◌, Some, None, List, nat_eq}
-use Rattle.std.specs.Map.{lookup, values_of}
+use Rattle.std.proofs.Common.{◌∙◌, sym, subst, ap, map, refl, true}
+use Rattle.std.specs.Map.{values_of}
 use Rattle.bus_msg.specs.declared.placed.Placed.{Placed}
 use Rattle.channel_table.specs.Keys.{IsTable}
 use Rattle.bus_msg.specs.PlacedAfter.{after_sync}

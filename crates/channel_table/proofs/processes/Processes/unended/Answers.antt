@@ -1,5 +1,4 @@
-use Rattle.std.proofs.Common.{◌≡◌, ◌∙◌, sym, ap, find, cond, None, Some, not, ◌&&◌, Option}
-use Rattle.bus_msg.specs.declared.placed.Placed.{Placed}
+use Rattle.std.proofs.Common.{◌∙◌, sym, ap, find, cond, None, Some, not, ◌&&◌}
 use Rattle.bus_msg.specs.Places.{same_pid}
 use Rattle.channel_table.proofs.KeyLaws.{find-unended, if_unended}
 use Rattle.channel_table.proofs.processes.Processes.unended.Goals as goal
