@@ -3,3 +3,4 @@ mod Entries
 mod Laws
 mod Roots
 mod Turns
+pub mod Others
