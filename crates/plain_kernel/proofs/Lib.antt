@@ -1,6 +1,6 @@
 mod Delivery
 mod Entries
-mod Laws
+pub mod Laws
 mod Roots
 mod Turns
 pub mod Others
