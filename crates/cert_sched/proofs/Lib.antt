@@ -6,6 +6,7 @@ pub mod FirstBad
 pub mod ListLaws
 pub mod LogLaws
 pub mod RecordLaws
+pub mod StepLaws
 mod Rows
 pub mod Systems
 mod WorkedLogs

@@ -1,6 +1,6 @@
 mod Delivery
-mod Entries
+pub mod Entries
 pub mod Laws
-mod Roots
+pub mod Roots
 mod Turns
 pub mod Others
