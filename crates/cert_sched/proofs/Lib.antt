@@ -7,6 +7,7 @@ pub mod ListLaws
 pub mod LogLaws
 pub mod RecordLaws
 pub mod StepLaws
+pub mod CertLaws
 mod Rows
 pub mod Systems
 mod WorkedLogs

@@ -1,13 +1,8 @@
 -- What one more entry does to the count of each process, and what a step that sends something leaves.
-use Rattle.std.proofs.Common.{◌≡◌, ℕ, zero, suc, ◌+◌, ◌-◌, refl, sym, ◌∙◌, ap, subst, arith, List, [], ◌∷◌, ◌++◌, Bool, true, false, cond, eqb, Option, Some, None, IsSome, is_some, unwrap_or, true≢false, append-nil, ne_eqb, eqb-true, eq-eqb}
-use Rattle.std.specs.Prelude.{max, ◌≢◌, option_and_then, option_map}
+use Rattle.std.proofs.Common.{◌≡◌, ℕ, ◌+◌, ◌-◌, refl, sym, ◌∙◌, ap, subst, arith, List, [], ◌∷◌, ◌++◌, Bool, true, false, cond, eqb, Option, Some, None, is_some, true≢false, append-nil, ne_eqb, eqb-true, eq-eqb}
+use Rattle.std.specs.Prelude.{max, ◌≢◌, fold, IfSome, option_and_then, option_map}
 use Rattle.std.specs.Option.{option_map_or}
 use Rattle.t32_base.specs.declared.process.Pid.{Pid}
-use Rattle.t32_base.specs.declared.process.End.{End}
-use Rattle.t32_base.specs.declared.letter.Letter.{Letter}
-use Rattle.t32_base.specs.declared.letter.BackRec.{BackRec}
-use Rattle.t32_base.specs.declared.letter.To.{To}
-use Rattle.t32_base.specs.declared.letter.To.TheVariants.{Proc, Tty}
 use Rattle.t32_base.specs.Small.{SmallState}
 use Rattle.sys_text.specs.declared.system.System.{System}
 use Rattle.proc_state.specs.State.{ProcState}
@@ -17,17 +12,17 @@ use Rattle.sys_calls.specs.Next.{last_emission}
 use Rattle.plain_kernel.specs.declared.item.Item.{Item}
 use Rattle.plain_kernel.specs.declared.item.Item.TheVariants.{Run, Fork, Take}
 use Rattle.plain_kernel.specs.Kernel.{Kernel, boot, process_at, with_process, emitted}
-use Rattle.plain_kernel.specs.Apply.{steps, apply, apply_all}
+use Rattle.plain_kernel.specs.Apply.{steps, apply_all}
 use Rattle.plain_kernel.proofs.Entries.{some_same}
 use Rattle.plain_kernel.proofs.Laws.{process_at-same}
-use Rattle.plain_kernel.proofs.Others.{steps_at, small_at, steps-here, steps-other, steps-small, steps-sent, is_outward, process_at-outward, process_at-other, HasPids, pids_in, boot-pids, boot-steps, apply_all-pids}
+use Rattle.plain_kernel.proofs.Others.{small_at, steps-here, steps-other, steps-small, steps-sent, is_outward, process_at-outward, process_at-other, HasPids, pids_in, boot-pids, boot-steps, apply_all-pids}
 use Rattle.bus_msg.specs.declared.entry.What.{What}
 use Rattle.bus_msg.specs.declared.entry.What.TheVariants.{Mail, Birth, Exit, Page, Sync, Fetch, PageIs, Crash, Return, Rebackup, Done, Stop}
 use Rattle.bus_msg.specs.declared.entry.Entry.{Entry}
 use Rattle.bus_msg.specs.Places.{same_pid}
 use Rattle.bus_msg.specs.PlacedAfter.{what}
-use Rattle.cert_sched.specs.Schedule.{done, run_of, run_upto, take_of, steps_in, items_of, after_entry, plain_after, process_after, done_after}
-use Rattle.cert_sched.specs.Steps.{first_record, emission_at}
+use Rattle.cert_sched.specs.Schedule.{done, run_of, run_upto, steps_in, items_of, after_entry, plain_after, process_after, done_after}
+use Rattle.cert_sched.specs.Steps.{emission_at}
 use Rattle.cert_sched.specs.Kinds.{IsSent}
 use Rattle.cert_sched.specs.Scripted.{is_done}
 use Rattle.cert_sched.specs.CertAfter.{count_in, raised_at}
@@ -94,7 +89,8 @@ applied system log e can = by_old (plain_after system log) refl (ap is_some (sym
     by_old None old there = absurd (true≢false (sym there))
     by_old (Some k) old there = by_new k (apply_all (items_of k (what e)) k) old refl there
 
-done_kernel : (system : System) (log : List Entry) (k : Kernel) (p : Pid) → plain_after system log ≡ Some k → done_after system log p ≡ done k p
+-- the counts are those of the kernel
+pub done_kernel : (system : System) (log : List Entry) (k : Kernel) (p : Pid) → plain_after system log ≡ Some k → done_after system log p ≡ done k p
 done_kernel system log k p is = ap (λ o. option_map_or (λ k. done k p) o 0) is
 
 -- no process forks and none is sent a signal yet, so such an item is not applied
@@ -178,10 +174,22 @@ pub done_after-none : (system : System) (p : Pid) → done_after system [] p ≡
 unfolding plain_after
 done_after-none system p = boot-steps system p
 
--- after an entry the pids are those before it, so they are those of the start
-pub plain_pids : (system : System) (log : List Entry) (e : Entry) (k : Kernel) (pids : List Pid) → plain_after system log ≡ Some k → HasPids pids k → (j : Kernel) → plain_after system (log ++ e ∷ []) ≡ Some j → HasPids pids j
-plain_pids system log e k pids before has j after =
-    apply_all-pids pids (items_of k (what e)) k j has (sym (plain_after-snoc system log e ∙ ap (λ o. after_entry o e) before) ∙ after)
+pids_more : (pids : List Pid) (o : Option Kernel) (e : Entry) → IfSome o (HasPids pids) → IfSome (after_entry o e) (HasPids pids)
+pids_more pids None e has = tt
+pids_more pids (Some k) e has = by_case (apply_all (items_of k (what e)) k) refl
+  where
+    by_case : (r : Option Kernel) → apply_all (items_of k (what e)) k ≡ r → IfSome r (HasPids pids)
+    by_case None is = tt
+    by_case (Some j) is = apply_all-pids pids (items_of k (what e)) k j has is
+
+pids_from : (pids : List Pid) (o : Option Kernel) (log : List Entry) → IfSome o (HasPids pids) → IfSome (fold after_entry o log) (HasPids pids)
+pids_from pids o [] has = has
+pids_from pids o (e ∷ log) has = pids_from pids (after_entry o e) log (pids_more pids o e has)
+
+-- after a log the processes rise, and have the pids of the start
+pub plain_after-pids : (system : System) (log : List Entry) (k : Kernel) → plain_after system log ≡ Some k → HasPids (pids_in (boot system)) k
+unfolding plain_after
+plain_after-pids system log k is = subst (λ o. IfSome o (HasPids (pids_in (boot system)))) is (pids_from (pids_in (boot system)) (Some (boot system)) log (boot-pids system))
 
 -- ---- a step that sends something
 
