@@ -7,6 +7,8 @@ pub mod ListLaws
 pub mod LogLaws
 pub mod RecordLaws
 pub mod BuiltLaws
+pub mod StepLaws
+pub mod CertLaws
 mod Rows
 pub mod Systems
 mod WorkedLogs

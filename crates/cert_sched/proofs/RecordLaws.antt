@@ -1,6 +1,6 @@
 -- What one more entry does to the record of a process.
-use Rattle.std.proofs.Common.{◌≡◌, ℕ, suc, ◌+◌, refl, sym, ◌∙◌, ap, List, [], ◌∷◌, ◌++◌, length, append_assoc, append-nil, length-append, arith, Bool, true, false, cond, ◌||◌, Option, Some, None, add-zero, zero-add}
-use Rattle.std.specs.Prelude.{fold, option_and_then, option_map, flat_map}
+use Rattle.std.proofs.Common.{◌≡◌, ℕ, suc, ◌+◌, refl, sym, ◌∙◌, ap, List, [], ◌∷◌, ◌++◌, length, append_assoc, append-nil, length-append, arith, Bool, true, false, cond, ◌||◌, add-zero}
+use Rattle.std.specs.Prelude.{option_map, flat_map}
 use Rattle.std.specs.List.{list_any}
 use Rattle.std.proofs.lemmas.Grind.{flat_map-append}
 use Rattle.std.proofs.lemmas.List.Folds.{list_any-append}
@@ -10,7 +10,7 @@ use Rattle.t32_base.specs.declared.letter.Arrived.{Arrived}
 use Rattle.sys_text.specs.declared.system.System.{System}
 use Rattle.proc_state.specs.State.{ProcState}
 use Rattle.bus_msg.specs.declared.entry.Entry.{Entry}
-use Rattle.cert_sched.specs.Parts.{upto_last, after_last}
+use Rattle.cert_sched.specs.Parts.{after_last}
 use Rattle.bus_msg.specs.PlacedAfter.{what}
 use Rattle.cert_sched.specs.Schedule.{process_after}
 use Rattle.cert_sched.specs.Deeds.{starts, is_cut, is_birth_of, start_of, Deed, deeds_in, since, letter_for, letters_to, numbered, arrived_count, saved_letters}

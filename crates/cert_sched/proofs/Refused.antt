@@ -1,5 +1,5 @@
 -- Entries that may not follow, each refused by one rule, by computation.
-use Rattle.std.proofs.Common.{◌≡◌, ℕ, ap, slice_index, List, [], ◌∷◌, Option, Some, None, true, false}
+use Rattle.std.proofs.Common.{◌≡◌, ℕ, ap, slice_index, List, [], ◌∷◌, Option, Some, None, false}
 use Rattle.std.specs.Prelude.{option_map}
 use Rattle.t32_base.specs.declared.process.End.TheVariants.{Exit as Exited, Limit}
 use Rattle.sys_calls.specs.Next.{silently}
@@ -7,7 +7,7 @@ use Rattle.plain_kernel.specs.Kernel.{boot}
 use Rattle.plain_kernel.specs.Apply.{one_step, steps}
 use Rattle.bus_msg.specs.declared.entry.What.TheVariants.{Exit, Page, PageIs, Sync, Fetch, Return, Rebackup, Done, Stop}
 use Rattle.bus_msg.specs.declared.entry.Dests.{Dests}
-use Rattle.bus_msg.specs.declared.entry.By.TheVariants.{Cluster, Bus}
+use Rattle.bus_msg.specs.declared.entry.By.TheVariants.{Bus}
 use Rattle.cert_sched.specs.Schedule.{plain_after, placement, schedule_of}
 use Rattle.cert_sched.specs.Told.{told}
 use Rattle.cert_sched.specs.Record.{backup_record}
@@ -15,7 +15,7 @@ use Rattle.cert_sched.specs.Account.{account_after, page_in}
 use Rattle.cert_sched.specs.Steps.{silent_upto, emission_at, before_fork_at}
 use Rattle.cert_sched.specs.Rules.{is_over}
 use Rattle.cert_sched.specs.Legal.{MayFollow}
-use Rattle.cert_sched.proofs.Systems.{cluster, two_words, store_words, hi_system, two_system, store_system, full_system, half_system}
+use Rattle.cert_sched.proofs.Systems.{cluster, two_words, hi_system, two_system, store_system, full_system, half_system}
 use Rattle.cert_sched.proofs.WorkedLogs.{pid, entry, by_cluster, writes, process_upto, page_upto, image_page, to_list, hi_0, hi_1, hi_2, two_0, later_0, later_1, later_2, later_3, store_0, halfway_0, halfway_1, halfway_2, full_0, full_1, half_0, half_1}
 
 -- two large lists are told apart by one byte

@@ -1,7 +1,6 @@
 -- Which logs are legal.
 use Rattle.std.specs.Prelude.{◌≡◌, true, List, [], ◌∷◌, ◌++◌, is_some, ⊤}
 use Rattle.sys_text.specs.declared.system.System.{System}
-use Rattle.bus_msg.specs.declared.entry.Post.{Post}
 use Rattle.bus_msg.specs.declared.entry.Entry.{Entry}
 use Rattle.bus_msg.specs.PlacedAfter.{what}
 use Rattle.cert_sched.specs.Schedule.{plain_after, placement}

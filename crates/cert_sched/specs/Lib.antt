@@ -16,6 +16,7 @@ pub mod Steps
 pub mod Rules
 pub mod Kinds
 pub mod Legal
+pub mod CertAfter
 pub mod Built
 pub mod Looked
 pub mod Losses

@@ -1,5 +1,5 @@
 -- The words of a script that name a kernel step or a disk call of a cluster, and how many of these a cluster has made at least.
-use Rattle.std.specs.Prelude.{ℕ, ◌+◌, ◌-◌, ◌^◌, min, Bool, true, false, not, ◌&&◌, ◌||◌, ◌==◌, nat_le, nat_lt, if◌then◌else◌, List, [], ◌∷◌, length, count_by, Option, Some, None}
+use Rattle.std.specs.Prelude.{ℕ, ◌+◌, ◌-◌, ◌^◌, min, Bool, true, false, not, ◌&&◌, ◌||◌, ◌==◌, nat_le, nat_lt, if◌then◌else◌, List, [], ◌∷◌, length, count_by}
 use Rattle.std.specs.List.{list_any, sum_by}
 use Rattle.std.specs.Option.{option_map_or}
 use Rattle.t32_base.specs.declared.process.Pid.{Pid}
@@ -9,7 +9,7 @@ use Rattle.sys_text.specs.declared.system.Root.{Root}
 use Rattle.sys_text.specs.Boot.{roots_of}
 use Rattle.plain_kernel.specs.Kernel.{root_process}
 use Rattle.bus_msg.specs.declared.entry.What.{What}
-use Rattle.bus_msg.specs.declared.entry.What.TheVariants.{Mail, Birth, Exit, Page, Sync, Fetch, PageIs, Crash, Return, Rebackup, Done, Stop}
+use Rattle.bus_msg.specs.declared.entry.What.TheVariants.{Page, PageIs, Crash}
 use Rattle.bus_msg.specs.declared.entry.Cause.{Cause}
 use Rattle.bus_msg.specs.declared.entry.Cause.TheVariants.{Place, Step, Disk}
 use Rattle.bus_msg.specs.declared.entry.By.{By}
@@ -19,7 +19,7 @@ use Rattle.bus_msg.specs.Places.{same_cluster}
 use Rattle.bus_msg.specs.PlacedAfter.{what}
 use Rattle.cert_sched.specs.declared.script.ScriptWord.{ScriptWord}
 use Rattle.cert_sched.specs.declared.script.ScriptWord.TheVariants.{CrashAt, CrashStep, DiskAt, ReturnAt}
-use Rattle.cert_sched.specs.Told.{Told, cluster_lost}
+use Rattle.cert_sched.specs.Told.{cluster_lost}
 
 -- ---- entries and words
 

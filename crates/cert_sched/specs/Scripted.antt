@@ -1,12 +1,12 @@
 -- Whether the crashes and returns of a log are those of a script, for clusters that made so many kernel steps and disk calls.
-use Rattle.std.specs.Prelude.{ℕ, ◌≡◌, Bool, true, false, not, ◌&&◌, ◌||◌, nat_le, List, [], ◌∷◌, slice_index}
+use Rattle.std.specs.Prelude.{ℕ, ◌≡◌, Bool, true, false, not, ◌&&◌, ◌||◌, nat_le, List, slice_index}
 use Rattle.std.specs.List.{list_any, list_all, range_with_len}
 use Rattle.std.specs.Option.{option_map_or}
 use Rattle.t32_base.specs.declared.process.ClusterNo.{ClusterNo}
 use Rattle.sys_text.specs.declared.system.System.{System}
 use Rattle.sys_text.specs.declared.system.Root.{Root}
 use Rattle.bus_msg.specs.declared.entry.What.{What}
-use Rattle.bus_msg.specs.declared.entry.What.TheVariants.{Mail, Birth, Exit, Page, Sync, Fetch, PageIs, Crash, Return, Rebackup, Done, Stop}
+use Rattle.bus_msg.specs.declared.entry.What.TheVariants.{Done}
 use Rattle.bus_msg.specs.declared.entry.Entry.{Entry}
 use Rattle.bus_msg.specs.Places.{same_cluster, cluster_no}
 use Rattle.bus_msg.specs.PlacedAfter.{what}
@@ -15,7 +15,7 @@ use Rattle.cert_sched.specs.declared.script.ScriptWord.TheVariants.{CrashAt, Cra
 use Rattle.cert_sched.specs.Parts.{last_of, before_end}
 use Rattle.cert_sched.specs.Told.{Told, told}
 use Rattle.cert_sched.specs.Looked.{Looked}
-use Rattle.cert_sched.specs.Losses.{is_by_cluster, is_step_crash, was_lost_in, least_steps, least_calls, capped, is_scripted_loss}
+use Rattle.cert_sched.specs.Losses.{is_step_crash, was_lost_in, least_steps, least_calls, capped, is_scripted_loss}
 
 abbrev pub is_done : What → Bool
 is_done (Done rests) = true

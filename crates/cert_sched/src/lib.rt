@@ -2,6 +2,7 @@
 //! read back.
 #![tactic(auto)]
 
+pub mod cert;
 mod item_line;
 mod lines;
 mod printing;

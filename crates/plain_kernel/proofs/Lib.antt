@@ -1,5 +1,6 @@
 mod Delivery
-mod Entries
-mod Laws
-mod Roots
+pub mod Entries
+pub mod Laws
+pub mod Roots
 mod Turns
+pub mod Others

@@ -1,3 +1,4 @@
 mod Calling
 pub mod Running
 mod Shutting
+pub mod Counting

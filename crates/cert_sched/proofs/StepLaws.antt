@@ -1,0 +1,277 @@
+-- What one more entry does to the count of each process, and what a step that sends something leaves.
+use Rattle.std.proofs.Common.{◌≡◌, ℕ, ◌+◌, ◌-◌, refl, sym, ◌∙◌, ap, subst, arith, List, [], ◌∷◌, ◌++◌, Bool, true, false, cond, eqb, Option, Some, None, is_some, true≢false, append-nil, ne_eqb, eqb-true, eq-eqb}
+use Rattle.std.specs.Prelude.{max, ◌≢◌, fold, IfSome, option_and_then, option_map}
+use Rattle.std.specs.Option.{option_map_or}
+use Rattle.t32_base.specs.declared.process.Pid.{Pid}
+use Rattle.t32_base.specs.Small.{SmallState}
+use Rattle.sys_text.specs.declared.system.System.{System}
+use Rattle.proc_state.specs.State.{ProcState}
+use Rattle.sys_calls.specs.declared.steps.Emission.{Emission}
+use Rattle.sys_calls.specs.declared.steps.Emission.TheVariants.{Mail as Sent, Exit as Ended}
+use Rattle.sys_calls.specs.Next.{last_emission}
+use Rattle.plain_kernel.specs.declared.item.Item.{Item}
+use Rattle.plain_kernel.specs.declared.item.Item.TheVariants.{Run, Fork, Take}
+use Rattle.plain_kernel.specs.Kernel.{Kernel, boot, process_at, with_process, emitted}
+use Rattle.plain_kernel.specs.Apply.{steps, apply_all}
+use Rattle.plain_kernel.proofs.Entries.{some_same}
+use Rattle.plain_kernel.proofs.Laws.{process_at-same}
+use Rattle.plain_kernel.proofs.Others.{small_at, steps-here, steps-other, steps-small, steps-sent, is_outward, process_at-outward, process_at-other, HasPids, pids_in, boot-pids, boot-steps, apply_all-pids}
+use Rattle.bus_msg.specs.declared.entry.What.{What}
+use Rattle.bus_msg.specs.declared.entry.What.TheVariants.{Mail, Birth, Exit, Page, Sync, Fetch, PageIs, Crash, Return, Rebackup, Done, Stop}
+use Rattle.bus_msg.specs.declared.entry.Entry.{Entry}
+use Rattle.bus_msg.specs.Places.{same_pid}
+use Rattle.bus_msg.specs.PlacedAfter.{what}
+use Rattle.cert_sched.specs.Schedule.{done, run_of, run_upto, steps_in, items_of, after_entry, plain_after, process_after, done_after}
+use Rattle.cert_sched.specs.Steps.{emission_at}
+use Rattle.cert_sched.specs.Kinds.{IsSent}
+use Rattle.cert_sched.specs.Scripted.{is_done}
+use Rattle.cert_sched.specs.CertAfter.{count_in, raised_at}
+use Rattle.cert_sched.proofs.LogLaws.{plain_after-snoc, apply_all-append}
+
+-- ---- the run of one process
+
+-- a run is so many steps, none where it is no item
+pub apply_run : (p : Pid) (n : ℕ) (k : Kernel) → apply_all (run_of p n) k ≡ steps n p k
+unfolding steps
+apply_run p n k = by_test (eqb n 0) refl
+  where
+    whole : (o : Option Kernel) → option_and_then (λ j. Some j) o ≡ o
+    whole None = refl
+    whole (Some j) = refl
+
+    by_test : (b : Bool) → eqb n 0 ≡ b → apply_all (cond b [] (Run p n ∷ [])) k ≡ steps n p k
+    by_test true is = ap (λ m. steps m p k) (sym (eqb-true n 0 is))
+    by_test false is = ap (λ b. option_and_then (λ j. Some j) (cond b None (steps n p k))) is ∙ whole (steps n p k)
+
+run_made : (p : Pid) (at : ℕ) (k j : Kernel) → apply_all (run_upto k p at) k ≡ Some j → steps (at - done k p) p k ≡ Some j
+run_made p at k j made = sym (apply_run p (at - done k p) k) ∙ made
+
+-- after the run of a process up to a step count it has that count, or the greater one that it had
+pub run_upto-here : (p : Pid) (at : ℕ) (k j : Kernel) → apply_all (run_upto k p at) k ≡ Some j → done j p ≡ max at (done k p)
+run_upto-here p at k j made = let more : done j p ≡ done k p + (at - done k p) = steps-here (at - done k p) p k j (run_made p at k j made) in omega (arith, more)
+
+-- every other process has its count, and is the same but for its mailbox
+pub run_upto-other : (p : Pid) (at : ℕ) (k j : Kernel) (q : Pid) → apply_all (run_upto k p at) k ≡ Some j → q.0 ≢ p.0 → done j q ≡ done k q
+run_upto-other p at k j q made apart = steps-other (at - done k p) p k j q (run_made p at k j made) apart
+
+pub run_upto-small : (p : Pid) (at : ℕ) (k j : Kernel) (q : Pid) → apply_all (run_upto k p at) k ≡ Some j → q.0 ≢ p.0 → small_at j q ≡ small_at k q
+run_upto-small p at k j q made apart = steps-small (at - done k p) p k j q (run_made p at k j made) apart
+
+-- the counts after such a run
+run_upto-counts : (p : Pid) (at : ℕ) (k j : Kernel) (q : Pid) → apply_all (run_upto k p at) k ≡ Some j → done j q ≡ raised_at (Some (p, at)) (done k) q
+run_upto-counts p at k j q made = by_pid (same_pid q p) refl
+  where
+    same : q.0 ≡ p.0 → q ≡ p
+    same e i = record { 0 = e i }
+
+    by_pid : (b : Bool) → same_pid q p ≡ b → done j q ≡ cond b (max at (done k p)) (done k q)
+    by_pid true is = ap (done j) (same (eqb-true q.0 p.0 is)) ∙ run_upto-here p at k j made
+    by_pid false is = run_upto-other p at k j q made (λ e. true≢false (sym (eq-eqb q.0 p.0 e) ∙ is))
+
+-- ---- one more entry
+
+-- an entry whose items can be applied, with the kernels before and after it
+pub record Applied (system : System) (log : List Entry) (e : Entry) : Type 0 where
+  pub old : Kernel
+  pub new : Kernel
+  pub before : plain_after system log ≡ Some old
+  pub after : plain_after system (log ++ e ∷ []) ≡ Some new
+  pub made : apply_all (items_of old (what e)) old ≡ Some new
+
+pub applied : (system : System) (log : List Entry) (e : Entry) → is_some (plain_after system (log ++ e ∷ [])) ≡ true → Applied system log e
+applied system log e can = by_old (plain_after system log) refl (ap is_some (sym (plain_after-snoc system log e)) ∙ can)
+  where
+    by_new : (k : Kernel) (o : Option Kernel) → plain_after system log ≡ Some k → apply_all (items_of k (what e)) k ≡ o → is_some o ≡ true → Applied system log e
+    by_new k None old new there = absurd (true≢false (sym there))
+    by_new k (Some j) old new there = record { old = k; new = j; before = old; after = plain_after-snoc system log e ∙ ap (λ o. after_entry o e) old ∙ new; made = new }
+
+    by_old : (o : Option Kernel) → plain_after system log ≡ o → is_some (after_entry o e) ≡ true → Applied system log e
+    by_old None old there = absurd (true≢false (sym there))
+    by_old (Some k) old there = by_new k (apply_all (items_of k (what e)) k) old refl there
+
+-- the counts are those of the kernel
+pub done_kernel : (system : System) (log : List Entry) (k : Kernel) (p : Pid) → plain_after system log ≡ Some k → done_after system log p ≡ done k p
+done_kernel system log k p is = ap (λ o. option_map_or (λ k. done k p) o 0) is
+
+-- no process forks and none is sent a signal yet, so such an item is not applied
+no_fork : (run : List Item) (p c : Pid) (k j : Kernel) → apply_all (run ++ Fork p c ∷ []) k ≡ Some j → ⊥
+no_fork run p c k j made = by_case (apply_all run k) (sym (apply_all-append run (Fork p c ∷ []) k) ∙ made)
+  where
+    by_case : (o : Option Kernel) → option_and_then (apply_all (Fork p c ∷ [])) o ≡ Some j → ⊥
+    by_case None e = true≢false (sym (ap is_some e))
+    by_case (Some i) e = true≢false (sym (ap is_some e))
+
+no_take : (run : List Item) (p : Pid) (k j : Kernel) → apply_all (run ++ Take p ∷ []) k ≡ Some j → ⊥
+no_take run p k j made = by_case (apply_all run k) (sym (apply_all-append run (Take p ∷ []) k) ∙ made)
+  where
+    by_case : (o : Option Kernel) → option_and_then (apply_all (Take p ∷ [])) o ≡ Some j → ⊥
+    by_case None e = true≢false (sym (ap is_some e))
+    by_case (Some i) e = true≢false (sym (ap is_some e))
+
+-- the counts after the items of an entry, of every kind but Done
+counts_after : (w : What) (k j : Kernel) (q : Pid) → is_done w ≡ false → apply_all (items_of k w) k ≡ Some j → done j q ≡ raised_at (count_in w) (done k) q
+counts_after (Mail at letter) k j q other made = run_upto-counts letter.from at k j q made
+counts_after (Birth parent at child end) k j q other made = absurd (no_fork (run_upto k parent (at - 1)) parent child k j made)
+counts_after (Exit pid at end) k j q other made = run_upto-counts pid at k j q made
+counts_after (Page pid at index bytes) k j q other made = ap (λ i. done i q) (sym (some_same k j made))
+counts_after (Sync pid small read None) k j q other made = run_upto-counts pid small.steps k j q (ap (λ is. apply_all is k) (sym (append-nil (run_upto k pid small.steps))) ∙ made)
+counts_after (Sync pid small read (Some g)) k j q other made = absurd (no_take (run_upto k pid small.steps) pid k j made)
+counts_after (Fetch pid index) k j q other made = ap (λ i. done i q) (sym (some_same k j made))
+counts_after (PageIs pid index bytes) k j q other made = ap (λ i. done i q) (sym (some_same k j made))
+counts_after (Crash c cause) k j q other made = ap (λ i. done i q) (sym (some_same k j made))
+counts_after (Return c) k j q other made = ap (λ i. done i q) (sym (some_same k j made))
+counts_after (Rebackup to true []) k j q other made = ap (λ i. done i q) (sym (some_same k j made))
+counts_after (Rebackup to true (r ∷ rs)) k j q other made = run_upto-counts r.pid (steps_in r.state) k j q made
+counts_after (Rebackup to false recs) k j q other made = ap (λ i. done i q) (sym (some_same k j made))
+counts_after (Done rests) k j q other made = absurd (true≢false other)
+counts_after Stop k j q other made = ap (λ i. done i q) (sym (some_same k j made))
+
+raised_same : (o : Option (Pid × ℕ)) (f g : Pid → ℕ) (q : Pid) → ((p : Pid) → f p ≡ g p) → raised_at o f q ≡ raised_at o g q
+raised_same o f g q same = ap (λ h. raised_at o h q) (λ i p. same p i)
+
+-- the count of a process after an entry of every kind but Done: the process that the entry tells of has the greater of that count and its old one, and every other its old one
+pub done_after-snoc : (system : System) (log : List Entry) (e : Entry) (q : Pid) → is_done (what e) ≡ false → is_some (plain_after system (log ++ e ∷ [])) ≡ true
+    → done_after system (log ++ e ∷ []) q ≡ raised_at (count_in (what e)) (done_after system log) q
+done_after-snoc system log e q other can =
+    let a = applied system log e can in
+    done_kernel system (log ++ e ∷ []) a.new q a.after ∙ counts_after (what e) a.old a.new q other a.made
+    ∙ raised_same (count_in (what e)) (done a.old) (done_after system log) q (λ p. sym (done_kernel system log a.old p a.before))
+
+same_here : (p : Pid) (x y : ℕ) → cond (same_pid p p) x y ≡ x
+same_here p x y = ap (λ b. cond b x y) (eq-eqb p.0 p.0 refl)
+
+other_there : (p q : Pid) (x y : ℕ) → q.0 ≢ p.0 → cond (same_pid q p) x y ≡ y
+other_there p q x y apart = ap (λ b. cond b x y) (ne_eqb q.0 p.0 apart)
+
+-- the same, for an entry that raises the count of p, and for each other process
+pub done_after-here : (system : System) (log : List Entry) (e : Entry) (p : Pid) (at : ℕ) → is_done (what e) ≡ false → is_some (plain_after system (log ++ e ∷ [])) ≡ true → count_in (what e) ≡ Some (p, at)
+    → done_after system (log ++ e ∷ []) p ≡ max at (done_after system log p)
+done_after-here system log e p at other can is = done_after-snoc system log e p other can ∙ ap (λ o. raised_at o (done_after system log) p) is ∙ same_here p (max at (done_after system log p)) (done_after system log p)
+
+pub done_after-other : (system : System) (log : List Entry) (e : Entry) (p q : Pid) (at : ℕ) → is_done (what e) ≡ false → is_some (plain_after system (log ++ e ∷ [])) ≡ true → count_in (what e) ≡ Some (p, at)
+    → q.0 ≢ p.0 → done_after system (log ++ e ∷ []) q ≡ done_after system log q
+done_after-other system log e p q at other can is apart = done_after-snoc system log e q other can ∙ ap (λ o. raised_at o (done_after system log) q) is ∙ other_there p q (max at (done_after system log p)) (done_after system log q) apart
+
+-- and for one that raises none
+pub done_after-quiet : (system : System) (log : List Entry) (e : Entry) (q : Pid) → is_done (what e) ≡ false → is_some (plain_after system (log ++ e ∷ [])) ≡ true → count_in (what e) ≡ None → done_after system (log ++ e ∷ []) q ≡ done_after system log q
+done_after-quiet system log e q other can is = done_after-snoc system log e q other can ∙ ap (λ o. raised_at o (done_after system log) q) is
+
+-- no birth and no signal that is taken can be applied yet
+pub no_birth : (system : System) (log : List Entry) (e : Entry) (parent : Pid) (at : ℕ) (child : Pid) (end : ℕ) → what e ≡ Birth parent at child end → is_some (plain_after system (log ++ e ∷ [])) ≡ true → ⊥
+no_birth system log e parent at child end is can =
+    let a = applied system log e can in
+    no_fork (run_upto a.old parent (at - 1)) parent child a.old a.new (ap (λ w. apply_all (items_of a.old w) a.old) (sym is) ∙ a.made)
+
+pub no_signal_taken : (system : System) (log : List Entry) (e : Entry) (p : Pid) (small : SmallState) (read : List ℕ) (g : ℕ) → what e ≡ Sync p small read (Some g) → is_some (plain_after system (log ++ e ∷ [])) ≡ true → ⊥
+no_signal_taken system log e p small read g is can =
+    let a = applied system log e can in
+    no_take (run_upto a.old p small.steps) p a.old a.new (ap (λ w. apply_all (items_of a.old w) a.old) (sym is) ∙ a.made)
+
+-- ---- the start, and the pids
+
+-- no process has made a step before the first entry
+pub done_after-none : (system : System) (p : Pid) → done_after system [] p ≡ 0
+unfolding plain_after
+done_after-none system p = boot-steps system p
+
+pids_more : (pids : List Pid) (o : Option Kernel) (e : Entry) → IfSome o (HasPids pids) → IfSome (after_entry o e) (HasPids pids)
+pids_more pids None e has = tt
+pids_more pids (Some k) e has = by_case (apply_all (items_of k (what e)) k) refl
+  where
+    by_case : (r : Option Kernel) → apply_all (items_of k (what e)) k ≡ r → IfSome r (HasPids pids)
+    by_case None is = tt
+    by_case (Some j) is = apply_all-pids pids (items_of k (what e)) k j has is
+
+pids_from : (pids : List Pid) (o : Option Kernel) (log : List Entry) → IfSome o (HasPids pids) → IfSome (fold after_entry o log) (HasPids pids)
+pids_from pids o [] has = has
+pids_from pids o (e ∷ log) has = pids_from pids (after_entry o e) log (pids_more pids o e has)
+
+-- after a log the processes rise, and have the pids of the start
+pub plain_after-pids : (system : System) (log : List Entry) (k : Kernel) → plain_after system log ≡ Some k → HasPids (pids_in (boot system)) k
+unfolding plain_after
+plain_after-pids system log k is = subst (λ o. IfSome o (HasPids (pids_in (boot system)))) is (pids_from (pids_in (boot system)) (Some (boot system)) log (boot-pids system))
+
+-- ---- a step that sends something
+
+-- what is sent, with the process before it and its kernel
+pub record SentFrom (system : System) (log : List Entry) (p : Pid) (at : ℕ) (e : Emission) (t : ProcState) : Type 0 where
+  pub kernel : Kernel
+  pub was : ProcState
+  pub before : plain_after system log ≡ Some kernel
+  pub there : process_at kernel p ≡ Some was
+  pub sends : last_emission (at - done kernel p) was ≡ Some (e, t)
+
+pub sent_from : (system : System) (log : List Entry) (p : Pid) (at : ℕ) (e : Emission) (t : ProcState) → emission_at system log p at ≡ Some (e, t) → SentFrom system log p at e t
+unfolding emission_at
+sent_from system log p at e t is = by_kernel (plain_after system log) refl is
+  where
+    by_process : (k : Kernel) (o : Option ProcState) → plain_after system log ≡ Some k → process_at k p ≡ o → option_and_then (last_emission (at - done k p)) o ≡ Some (e, t) → SentFrom system log p at e t
+    by_process k None before there sends = cc
+    by_process k (Some s) before there sends = record { kernel = k; was = s; before = before; there = there; sends = sends }
+
+    by_kernel : (o : Option Kernel) → plain_after system log ≡ o → option_and_then (last_emission (at - option_map_or (λ k. done k p) o 0)) (option_and_then (λ k. process_at k p) o) ≡ Some (e, t) → SentFrom system log p at e t
+    by_kernel None before sends = cc
+    by_kernel (Some k) before sends = by_process k (process_at k p) before refl sends
+
+-- the run up to that step puts the process, and what it sent is delivered
+pub run_upto-sent : (system : System) (log : List Entry) (p : Pid) (at : ℕ) (e : Emission) (t : ProcState) (k : Kernel) → plain_after system log ≡ Some k → emission_at system log p at ≡ Some (e, t)
+    → apply_all (run_upto k p at) k ≡ Some (emitted (with_process k p t) e)
+run_upto-sent system log p at e t k before is =
+    let s = sent_from system log p at e t is in
+    let same : s.kernel ≡ k = some_same s.kernel k (sym s.before ∙ before) in
+    ap (λ k. apply_all (run_upto k p at) k) (sym same)
+    ∙ apply_run p (at - done s.kernel p) s.kernel
+    ∙ steps-sent (at - done s.kernel p) s.kernel p s.was t e s.there s.sends
+    ∙ ap (λ k. Some (emitted (with_process k p t) e)) same
+
+-- the entry that tells of what is sent: a letter of the process, or its exit
+abbrev pub Tells : Pid → ℕ → Emission → What → Type 0
+Tells p at (Sent letter) w = (letter.from ≡ p) × (w ≡ Mail at letter)
+Tells p at (Ended end) w = w ≡ Exit p at end
+
+items_told : (k : Kernel) (p : Pid) (at : ℕ) (e : Emission) (w : What) → Tells p at e w → items_of k w ≡ run_upto k p at
+items_told k p at (Sent letter) w tells = ap (items_of k) tells.1 ∙ ap (λ q. run_upto k q at) tells.0
+items_told k p at (Ended end) w tells = ap (items_of k) tells
+
+-- the kernel after such an entry is that with the process put and what it sent delivered
+pub plain_after-sent : (system : System) (log : List Entry) (entry : Entry) (p : Pid) (at : ℕ) (e : Emission) (t : ProcState) (k : Kernel) → plain_after system log ≡ Some k → emission_at system log p at ≡ Some (e, t)
+    → Tells p at e (what entry) → plain_after system (log ++ entry ∷ []) ≡ Some (emitted (with_process k p t) e)
+plain_after-sent system log entry p at e t k before is tells =
+    plain_after-snoc system log entry ∙ ap (λ o. after_entry o entry) before ∙ ap (λ items. apply_all items k) (items_told k p at e (what entry) tells)
+    ∙ run_upto-sent system log p at e t k before is
+
+-- so its items can be applied
+pub sent_applies : (system : System) (log : List Entry) (entry : Entry) (p : Pid) (at : ℕ) (e : Emission) (t : ProcState) → emission_at system log p at ≡ Some (e, t) → Tells p at e (what entry)
+    → is_some (plain_after system (log ++ entry ∷ [])) ≡ true
+sent_applies system log entry p at e t is tells =
+    let s = sent_from system log p at e t is in
+    ap is_some (plain_after-sent system log entry p at e t s.kernel s.before is tells)
+
+-- where it is sent to no process, the process is as the step left it
+pub process_after-sent : (system : System) (log : List Entry) (entry : Entry) (p : Pid) (at : ℕ) (e : Emission) (t : ProcState) → emission_at system log p at ≡ Some (e, t) → Tells p at e (what entry) → is_outward e ≡ true
+    → process_after system (log ++ entry ∷ []) p ≡ Some t
+process_after-sent system log entry p at e t is tells out =
+    let s = sent_from system log p at e t is in
+    ap (option_and_then (λ k. process_at k p)) (plain_after-sent system log entry p at e t s.kernel s.before is tells)
+    ∙ process_at-outward (with_process s.kernel p t) e p out ∙ process_at-same s.kernel p t
+
+-- and every other process is unchanged
+pub process_after-others : (system : System) (log : List Entry) (entry : Entry) (p : Pid) (at : ℕ) (e : Emission) (t : ProcState) (q : Pid) → emission_at system log p at ≡ Some (e, t) → Tells p at e (what entry) → is_outward e ≡ true
+    → q.0 ≢ p.0 → process_after system (log ++ entry ∷ []) q ≡ process_after system log q
+process_after-others system log entry p at e t q is tells out apart =
+    let s = sent_from system log p at e t is in
+    ap (option_and_then (λ k. process_at k q)) (plain_after-sent system log entry p at e t s.kernel s.before is tells)
+    ∙ process_at-outward (with_process s.kernel p t) e q out ∙ process_at-other s.kernel p t q apart
+    ∙ sym (ap (option_and_then (λ k. process_at k q)) s.before)
+
+-- what an entry tells of is what its process sends, with the process after it
+pub record SentTo (system : System) (log : List Entry) (p : Pid) (at : ℕ) (e : Emission) : Type 0 where
+  pub after : ProcState
+  pub is : emission_at system log p at ≡ Some (e, after)
+
+pub is_sent : (system : System) (log : List Entry) (p : Pid) (at : ℕ) (e : Emission) → IsSent system log p at e → SentTo system log p at e
+is_sent system log p at e h = by_case (emission_at system log p at) refl h
+  where
+    by_case : (o : Option (Emission × ProcState)) → emission_at system log p at ≡ o → option_map (λ (r : Emission × ProcState). r.0) o ≡ Some e → SentTo system log p at e
+    by_case None is f = cc
+    by_case (Some r) is f = let same : r.0 ≡ e = some_same r.0 e f in record { after = r.1; is = is ∙ ap (λ x. Some (x, r.1)) same }

@@ -1,0 +1,281 @@
+//! The schedule of a log, kept entry by entry.
+ghost use Rattle.std.specs.Prelude.{◌≡◌, ◌∷◌, ◌++◌, [], OnOk, OnErr, take, length, option_map, Some};
+ghost use Rattle.cert_sched.specs.Schedule.{run_of, take_of, steps_in};
+ghost use Rattle.bus_msg.specs.PlacedAfter.{what};
+ghost use Rattle.cert_sched.specs.Steps.{first_record};
+ghost use Rattle.cert_sched.specs.CertAfter.{StartsSchedule, KeepsSchedule, steps_of, run_to, run_to_record, runs_to, added, count_in, raised, cert_after};
+
+use bus_msg::entry::{Entry, What};
+use plain_kernel::item::Item;
+use std::alloc::Global;
+use std::collections::BTreeMap;
+use std::marker::Model;
+use t32_base::letter::BackRec;
+use t32_base::process::{Pid, Small};
+use t32_base::streams::NoMemory;
+
+/// The schedule of a log so far, and the steps in it of each process that has some.
+#[derive(Drop)]
+pub struct Cert {
+    items: Vec<Item>,
+    done: BTreeMap<u32, u64>,
+}
+
+impl Model for Cert {
+    ghost use Rattle.cert_sched.specs.CertAfter.{CertView};
+
+    ghost Value = { CertView };
+
+    ghost view = { λ c. record { items = c.items.items; done = c.done.entries } };
+}
+
+impl Cert {
+    /// The schedule of a log without entries. Takes no memory.
+    pub fn none(alloc: Global) -> Cert
+        ensures empty { result ≡ record { items = []; done = [] } }
+        ensures starts { StartsSchedule result }
+    {
+        Cert {
+            items: Vec::new(alloc),
+            done: BTreeMap::new(alloc),
+        }
+    }
+
+    /// Adds the items of the next entry of the log: the steps that its process made since its last one, or
+    /// those of every process at the end. After want of memory the schedule is as it was.
+    pub fn add(&mut self, entry: &Entry) -> Result<(), NoMemory>
+        ensures after { OnOk result (self.new ≡ cert_after self.old (what entry.now)) }
+        ensures keeps { OnOk result (KeepsSchedule self.old self.new entry.now) }
+        ensures err { OnErr result (self.new ≡ self.old) }
+    {
+        add_entry(&mut self.items, &mut self.done, &entry.post.what)
+    }
+
+    /// The items so far.
+    pub fn items(&self) -> &[Item]
+        ensures { result.now ≡ self.now.items }
+    {
+        self.items.as_slice()
+    }
+}
+
+// ---- one entry
+
+// Adds the items and the count of an entry. After want of memory both are as they were.
+fn add_entry(
+    items: &mut Vec<Item>,
+    done: &mut BTreeMap<u32, u64>,
+    what: &What,
+) -> Result<(), NoMemory>
+    ensures items { OnOk result (items.new.items ≡ items.old.items ++ added (steps_of done.old.entries) what.now) }
+    ensures done { OnOk result (done.new.entries ≡ raised (count_in what.now) done.old.entries) }
+    ensures items_stay { OnErr result (items.new.items ≡ items.old.items) }
+    ensures done_stay { OnErr result (done.new.entries ≡ done.old.entries) }
+{
+    let before = items.len();
+    let outcome = try_entry(items, done, what);
+    if outcome.is_err() {
+        items.truncate(before);
+    }
+    outcome
+}
+
+// The same, but for items at the end that may be left after want of memory.
+fn try_entry(
+    items: &mut Vec<Item>,
+    done: &mut BTreeMap<u32, u64>,
+    what: &What,
+) -> Result<(), NoMemory>
+    ensures items { OnOk result (items.new.items ≡ items.old.items ++ added (steps_of done.old.entries) what.now) }
+    ensures done { OnOk result (done.new.entries ≡ raised (count_in what.now) done.old.entries) }
+    ensures items_stay { OnErr result (take (length items.old.items) items.new.items ≡ items.old.items) }
+    ensures done_stay { OnErr result (done.new.entries ≡ done.old.entries) }
+{
+    push_items(items, done, what)?;
+    match count_of(what) {
+        Some((pid, at)) => raise(done, pid, at),
+        None => Ok(()),
+    }
+}
+
+// Puts the items of an entry at the end. After want of memory some of them may be there.
+fn push_items(
+    items: &mut Vec<Item>,
+    done: &BTreeMap<u32, u64>,
+    what: &What,
+) -> Result<(), NoMemory>
+    ensures ok { OnOk result (items.new.items ≡ items.old.items ++ added (steps_of done.now.entries) what.now) }
+    ensures err { OnErr result (take (length items.old.items) items.new.items ≡ items.old.items) }
+{
+    match what {
+        What::Mail { at, letter } => push_run(items, done, letter.from, *at),
+        What::Exit { pid, at, .. } => push_run(items, done, *pid, *at),
+        What::Birth {
+            parent, at, child, ..
+        } => {
+            push_run(items, done, *parent, at.saturating_sub(1))?;
+            push(items, Item::Fork(*parent, *child))
+        }
+        What::Sync {
+            pid, small, took, ..
+        } => {
+            push_run(items, done, *pid, steps_made(small))?;
+            push_take(items, *pid, *took)
+        }
+        What::Rebackup { fresh, recs, .. } => {
+            if *fresh {
+                push_first(items, done, recs.as_slice())
+            } else {
+                Ok(())
+            }
+        }
+        What::Done { rests } => push_rests(items, done, rests.as_slice()),
+        What::Page { .. }
+        | What::Fetch { .. }
+        | What::PageIs { .. }
+        | What::Crash { .. }
+        | What::Return { .. }
+        | What::Stop => Ok(()),
+    }
+}
+
+// The process whose count an entry raises, and to what.
+fn count_of(what: &What) -> Option<(Pid, u64)>
+    ensures { result ≡ count_in what.now }
+{
+    match what {
+        What::Mail { at, letter } => Some((letter.from, *at)),
+        What::Birth { parent, at, .. } => Some((*parent, *at)),
+        What::Exit { pid, at, .. } => Some((*pid, *at)),
+        What::Sync { pid, small, .. } => Some((*pid, steps_made(small))),
+        What::Rebackup { fresh, recs, .. } => {
+            if *fresh {
+                count_in_first(recs.as_slice())
+            } else {
+                None
+            }
+        }
+        What::Page { .. }
+        | What::Fetch { .. }
+        | What::PageIs { .. }
+        | What::Crash { .. }
+        | What::Return { .. }
+        | What::Done { .. }
+        | What::Stop => None,
+    }
+}
+
+// ---- the parts of an entry
+
+fn steps_made(small: &Small) -> u64
+    ensures { result ≡ small.now.steps }
+{
+    small.steps
+}
+
+fn steps_recorded(record: &BackRec) -> u64
+    ensures { result ≡ steps_in record.now.state }
+{
+    match &record.state {
+        Some(small) => steps_made(small),
+        None => 0,
+    }
+}
+
+fn count_in_first(recs: &[BackRec]) -> Option<(Pid, u64)>
+    ensures { result ≡ option_map (λ r. (r.pid, steps_in r.state)) (first_record recs.now) }
+{
+    match recs.first() {
+        Some(record) => Some((record.pid, steps_recorded(record))),
+        None => None,
+    }
+}
+
+// ---- the counts
+
+// The steps of a process so far.
+fn steps_so_far(done: &BTreeMap<u32, u64>, pid: Pid) -> u64
+    ensures { result ≡ steps_of done.now.entries pid }
+{
+    match done.get(&pid.0) {
+        Some(steps) => *steps,
+        None => 0,
+    }
+}
+
+// A process has at least so many steps now. After want of memory the counts are as they were.
+fn raise(done: &mut BTreeMap<u32, u64>, pid: Pid, at: u64) -> Result<(), NoMemory>
+    ensures ok { OnOk result (done.new.entries ≡ raised (Some (pid, at)) done.old.entries) }
+    ensures err { OnErr result (done.new.entries ≡ done.old.entries) }
+{
+    let steps = at.max(steps_so_far(done, pid));
+    done.insert(pid.0, steps)?;
+    Ok(())
+}
+
+// ---- the items
+
+fn push(items: &mut Vec<Item>, item: Item) -> Result<(), NoMemory>
+    ensures ok { OnOk result (items.new.items ≡ items.old.items ++ item ∷ []) }
+    ensures err { OnErr result (items.new.items ≡ items.old.items) }
+{
+    items.push(item)?;
+    Ok(())
+}
+
+// Puts the run of a process up to a step count at the end, where it has any steps.
+fn push_run(
+    items: &mut Vec<Item>,
+    done: &BTreeMap<u32, u64>,
+    pid: Pid,
+    at: u64,
+) -> Result<(), NoMemory>
+    ensures ok { OnOk result (items.new.items ≡ items.old.items ++ run_to (steps_of done.now.entries) pid at) }
+    ensures err { OnErr result (items.new.items ≡ items.old.items) }
+{
+    let steps = at.saturating_sub(steps_so_far(done, pid));
+    if steps == 0 {
+        return Ok(());
+    }
+    push(items, Item::Run(pid, steps))
+}
+
+fn push_take(items: &mut Vec<Item>, pid: Pid, took: Option<u8>) -> Result<(), NoMemory>
+    ensures ok { OnOk result (items.new.items ≡ items.old.items ++ take_of pid took) }
+    ensures err { OnErr result (items.new.items ≡ items.old.items) }
+{
+    match took {
+        Some(_) => push(items, Item::Take(pid)),
+        None => Ok(()),
+    }
+}
+
+// Puts the run of the first record at the end.
+fn push_first(
+    items: &mut Vec<Item>,
+    done: &BTreeMap<u32, u64>,
+    recs: &[BackRec],
+) -> Result<(), NoMemory>
+    ensures ok { OnOk result (items.new.items ≡ items.old.items ++ run_to_record (steps_of done.now.entries) (first_record recs.now)) }
+    ensures err { OnErr result (items.new.items ≡ items.old.items) }
+{
+    match recs.first() {
+        Some(record) => push_run(items, done, record.pid, steps_recorded(record)),
+        None => Ok(()),
+    }
+}
+
+// Puts the last run of each process at the end. After want of memory some of them may be there.
+fn push_rests(
+    items: &mut Vec<Item>,
+    done: &BTreeMap<u32, u64>,
+    rests: &[(Pid, u64)],
+) -> Result<(), NoMemory>
+    ensures ok { OnOk result (items.new.items ≡ items.old.items ++ runs_to (steps_of done.now.entries) rests.now) }
+    ensures err { OnErr result (take (length items.old.items) items.new.items ≡ items.old.items) }
+{
+    for (pid, at) in rests {
+        push_run(items, done, *pid, *at)?;
+    }
+    Ok(())
+}
