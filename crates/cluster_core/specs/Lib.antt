@@ -1,4 +1,7 @@
 pub mod View
+pub mod Parts
 pub mod Queue
 pub mod Holds
 pub mod Follows
+pub mod Calls
+pub mod Quantum

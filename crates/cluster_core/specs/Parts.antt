@@ -20,6 +20,6 @@ posts_of (Some post) = post ∷ []
 
 -- the system is valid and has the cluster, which sends only what is built
 pub record IsSound (system : System) (number : ClusterNo) (queue : List Post) : Type 0 where
-  pub system : is_system system ≡ true
-  pub number : number.0 < system.clusters
+  pub valid : is_system system ≡ true
+  pub has : number.0 < system.clusters
   pub built : list_all (λ (post : Post). is_built post.what) queue ≡ true

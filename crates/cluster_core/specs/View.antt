@@ -1,5 +1,5 @@
 -- What a cluster holds, as contracts see it.
-use Rattle.std.specs.Prelude.{ℕ, Bool, true, false, ◌==◌, ◌&&◌, if◌then◌else◌, List, [], ◌∷◌, map, find, replicate, length, Option, Some, None, option_map}
+use Rattle.std.specs.Prelude.{ℕ, ◌+◌, ◌-◌, ◌^◌, min, Bool, true, false, ◌==◌, ◌&&◌, if◌then◌else◌, List, [], ◌∷◌, map, find, replicate, length, Option, Some, None, option_map}
 use Rattle.t32_base.specs.declared.process.Pid.{Pid}
 use Rattle.t32_base.specs.declared.process.ClusterNo.{ClusterNo}
 use Rattle.t32_base.specs.declared.process.Counts.{Counts}
@@ -84,3 +84,16 @@ after_head c _ = c
 abbrev pub after_sent : ClusterView → List Post → ClusterView
 after_sent c [] = c
 after_sent c (head ∷ rest) = record (after_head c head.what) { queue = rest; tried = false }
+
+-- ---- kernel steps
+
+abbrev pub next_count : ℕ → ℕ
+next_count n = min (n + 1) (2 ^ 64 - 1)
+
+-- one kernel step more
+abbrev pub counted_once : ClusterView → ClusterView
+counted_once c = record c { steps = next_count c.steps }
+
+-- the head was tried, by a kernel step
+abbrev pub tried_once : ClusterView → ClusterView
+tried_once c = record c { tried = true; steps = next_count c.steps }

@@ -56,7 +56,7 @@ impl<'s> Model for Cluster<'s> {
       failed = None;
     } };
 
-    ghost invariant = { λ c. IsSound c.system.now c.number (posts_of c.queue) };
+    ghost invariant = { λ c. IsSound c.system.now c.number c.here (posts_of c.queue) };
 }
 
 impl<'s> Cluster<'s> {
@@ -74,7 +74,8 @@ impl<'s> Cluster<'s> {
         self.cursor
     }
 
-    /// How many kernel steps it has made. The count stays at the greatest u64 once it is there.
+    /// How many kernel steps it has made: entries taken in, works, and heads that were tried. The count stays
+    /// at the greatest u64 once it is there.
     pub fn steps(&self) -> u64
         ensures { result ≡ self.now.steps }
     {
@@ -88,21 +89,72 @@ impl<'s> Cluster<'s> {
         self.number
     }
 
-    /// The head of the queue is about to be transmitted: one kernel step. Takes no memory.
+    /// The head of the queue is about to be transmitted. Takes no memory.
     pub fn tried(&mut self)
         requires { is_some (head_of self.old.queue) ≡ true }
         ensures { self.new ≡ tried_once self.old }
     {
         self.tried = true;
-        self.steps = self.steps.saturating_add(1);
+        self.count_step();
     }
 
     /// The head of the queue, which was tried, was sent: it stands there no more. Takes no memory.
     pub fn sent(&mut self)
-        requires { self.old.tried ≡ true }
+        requires head { is_some (head_of self.old.queue) ≡ true }
+        requires tried { self.old.tried ≡ true }
         ensures { self.new ≡ after_sent self.old self.old.queue }
     {
         self.queue = None;
         self.tried = false;
+    }
+
+    /// Takes in the next entry of the log. Takes no memory.
+    pub fn absorb(&mut self, entry: &Entry)
+        requires room { self.old.cursor < 2 ^ 64 - 1 }
+        requires ready { ReadyFor entry.now self.old }
+        ensures absorbed { self.new ≡ absorbed self.old entry.now }
+        ensures follows { Absorbs entry.now self.old self.new }
+    {
+        self.cursor += 1;
+        self.places.note(entry);
+        if let What::Exit { pid, .. } = entry.post.what {
+            self.let_go(pid);
+        }
+        self.count_step();
+    }
+
+    /// Does the next thing that is to be done here: its process runs, up to something that it sends, or
+    /// nothing can move. After want of memory nothing is said of the cluster but that it can be dropped.
+    pub fn work(&mut self) -> Result<Worked, NoMemory>
+        requires empty { self.old.queue ≡ [] }
+        requires follows { FollowsSome self.old }
+        ensures follows { OnOk result (GoesOn self.old self.new) }
+        ensures work { IfOk result (λ worked. WorkIs self.old worked self.new) }
+        ensures place { OnOk result (KeepsPlace self.old self.new) }
+    {
+        let worked = match self.run_here()? {
+            Quantum::Moved => Worked::Moved,
+            Quantum::Sent(emission) => {
+                self.queue = self.post_of(emission);
+                Worked::Queued
+            }
+            Quantum::Stuck => Worked::Rests,
+        };
+        self.count_step();
+        Ok(worked)
+    }
+
+    /// Each process here with its steps: None exactly where something here can move.
+    pub fn rests(&self) -> Result<Option<List<(Pid, u64)>>, NoMemory>
+        ensures { IfOk result (λ rests. rests ≡ (if is_resting self.now then Some (rests_of self.now) else None)) }
+    {
+        let mut rests = List::new(self.alloc);
+        if let Some(resident) = &self.here {
+            if can_step(&resident.process) {
+                return Ok(None);
+            }
+            rests.push((resident.pid, steps_of(&resident.process)))?;
+        }
+        Ok(Some(rests))
     }
 }

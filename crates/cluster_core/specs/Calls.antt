@@ -1,0 +1,112 @@
+-- What the calls on a cluster ask and promise. What a call asks holds of some log; what it promises, of every log that the cluster follows.
+use Rattle.std.specs.Prelude.{ℕ, ◌+◌, ◌≤◌, ◌≡◌, ◌⊎◌, Bool, true, false, not, ◌&&◌, ◌||◌, if◌then◌else◌, List, [], ◌∷◌, ◌++◌, map, filter, Option, Some, None, is_some}
+use Rattle.std.specs.List.{list_all}
+use Rattle.t32_base.specs.declared.process.Pid.{Pid}
+use Rattle.sys_text.specs.declared.system.System.{System}
+use Rattle.proc_state.specs.declared.process.Process.{Process}
+use Rattle.proc_state.specs.State.{ProcState, state_of, can_take}
+use Rattle.sys_calls.specs.Next.{next_step, has_step, silently}
+use Rattle.bus_msg.specs.declared.entry.What.{What}
+use Rattle.bus_msg.specs.declared.entry.What.TheVariants.{Mail, Birth, Exit, Page, Sync, Fetch, PageIs, Crash, Return, Rebackup, Done, Stop}
+use Rattle.bus_msg.specs.declared.entry.Entry.{Entry}
+use Rattle.bus_msg.specs.Places.{same_pid}
+use Rattle.bus_msg.specs.PlacedAfter.{what, placed_after}
+use Rattle.cert_sched.specs.Built.{BuiltMayFollow}
+use Rattle.cert_sched.specs.Losses.{is_by_cluster, is_crash_of}
+use Rattle.cluster_core.specs.declared.worked.Worked.{Worked}
+use Rattle.cluster_core.specs.declared.worked.Worked.TheVariants.{Moved, Queued, Waits as IsWaiting, Rests}
+use Rattle.cluster_core.specs.View.{ClusterView, Held, Runs, Rolls, Waits, held_at, head_of, next_count, counted_once}
+use Rattle.cluster_core.specs.Follows.{FollowsBuilt, IsOpen, StandsBetween}
+
+-- ---- following
+
+-- the cluster follows some log that goes on
+pub record FollowsSome (c : ClusterView) : Type 0 where
+  pub log : List Entry
+  pub open_log : IsOpen BuiltMayFollow c.system log
+  pub follows : FollowsBuilt c.system log c
+
+-- every log that the cluster followed it follows still
+abbrev pub GoesOn : ClusterView → ClusterView → Type 0
+GoesOn old new = (log : List Entry) → IsOpen BuiltMayFollow old.system log → FollowsBuilt old.system log old → FollowsBuilt old.system log new
+
+-- the cluster follows the log, and the entry is not its own; or it has sent the entry and follows it next
+abbrev pub IsReady : List Entry → Entry → ClusterView → Type 0
+IsReady log e c =
+    (FollowsBuilt c.system log c × (is_by_cluster c.number e ≡ false) × (is_crash_of c.number (what e) ≡ false))
+    ⊎ StandsBetween FollowsBuilt c.system log e c
+
+-- the entry is the next one of some log, for which the cluster is ready
+pub record ReadyFor (e : Entry) (c : ClusterView) : Type 0 where
+  pub log : List Entry
+  pub open_log : IsOpen BuiltMayFollow c.system log
+  pub open_next : IsOpen BuiltMayFollow c.system (log ++ e ∷ [])
+  pub ready : IsReady log e c
+
+-- after the entry the cluster follows the log with it, whichever log it was
+abbrev pub Absorbs : Entry → ClusterView → ClusterView → Type 0
+Absorbs e old new =
+    (log : List Entry) → IsOpen BuiltMayFollow old.system log → IsOpen BuiltMayFollow old.system (log ++ e ∷ []) → IsReady log e old →
+    FollowsBuilt old.system (log ++ e ∷ []) new
+
+-- a process whose end was taken in is here no more
+abbrev pub without_ended : What → List (Pid × Held) → List (Pid × Held)
+without_ended (Exit pid at end) here = filter (λ (e : Pid × Held). not (same_pid e.0 pid)) here
+without_ended w here = here
+
+-- the cluster with one more entry of the log taken in, by one kernel step
+abbrev pub absorbed : ClusterView → Entry → ClusterView
+absorbed c e = record c {
+  cursor = c.cursor + 1;
+  places = placed_after c.places (what e);
+  here = without_ended (what e) c.here;
+  steps = next_count c.steps;
+}
+
+-- ---- working
+
+-- a process here runs, and has neither a step nor a take
+abbrev pub is_at_rest : Held → Bool
+is_at_rest (Runs p) = not (has_step (next_step (state_of p)) || can_take (state_of p))
+is_at_rest (Rolls p counts births) = false
+is_at_rest (Waits kept) = false
+
+-- nothing here can move
+abbrev pub is_resting : ClusterView → Bool
+is_resting c = list_all (λ (e : Pid × Held). is_at_rest e.1) c.here
+
+abbrev pub steps_of_held : Held → ℕ
+steps_of_held (Runs p) = (p.small).steps
+steps_of_held (Rolls p counts births) = (p.small).steps
+steps_of_held (Waits kept) = 0
+
+-- each process here with its steps
+abbrev pub rests_of : ClusterView → List (Pid × ℕ)
+rests_of c = map (λ (e : Pid × Held). (e.0, steps_of_held e.1)) c.here
+
+-- one process made 1 to 64 silent steps, and nothing else changed
+pub record MovedOne (old new : ClusterView) : Type 0 where
+  pub pid : Pid
+  pub was : Process
+  pub now : Process
+  pub steps : ℕ
+  pub some : 1 ≤ steps
+  pub few : steps ≤ 64
+  pub there : held_at old pid ≡ Some (Runs was)
+  pub silent : silently steps (state_of was) ≡ Some (state_of now)
+  pub rest : new ≡ record old { here = map (λ (e : Pid × Held). if same_pid e.0 pid then (pid, Runs now) else e) old.here; steps = next_count old.steps }
+
+-- what a work says that it did; nothing here waits for a page yet
+abbrev pub WorkIs : ClusterView → Worked → ClusterView → Type 0
+WorkIs old Moved new = (is_resting old ≡ false) × MovedOne old new
+WorkIs old Queued new = (is_resting old ≡ false) × (is_some (head_of new.queue) ≡ true)
+WorkIs old IsWaiting new = ⊥
+WorkIs old Rests new = (is_resting old ≡ true) × (new ≡ counted_once old)
+
+-- a work changes neither the system nor the number, the cursor or the placement, and is one kernel step
+pub record KeepsPlace (old new : ClusterView) : Type 0 where
+  pub system : new.system ≡ old.system
+  pub number : new.number ≡ old.number
+  pub cursor : new.cursor ≡ old.cursor
+  pub places : new.places ≡ old.places
+  pub steps : new.steps ≡ next_count old.steps

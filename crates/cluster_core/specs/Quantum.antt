@@ -1,0 +1,32 @@
+-- A quantum of a process: silent steps, and at most one emission at their end.
+use Rattle.std.specs.Prelude.{ℕ, ◌≤◌, ◌<◌, ◌≡◌, false, Option, Some, None, Result, Ok, Err}
+use Rattle.t32_base.specs.declared.streams.NoMemory.{NoMemory}
+use Rattle.proc_state.specs.declared.process.Process.{Process}
+use Rattle.proc_state.specs.State.{ProcState, state_of}
+use Rattle.sys_calls.specs.declared.steps.Emission.{Emission}
+use Rattle.sys_calls.specs.Calls.{Next, Silent, Blocked, Forks, Emits, Over}
+use Rattle.sys_calls.specs.Next.{next_step, has_step, silently}
+use Rattle.cluster_core.specs.declared.quantum.Quantum.{Quantum}
+use Rattle.cluster_core.specs.declared.quantum.Quantum.TheVariants.{Moved, Sent, Stuck}
+
+-- so many silent steps, one at least
+pub record RunsSome (most : ℕ) (old new : ProcState) : Type 0 where
+  pub steps : ℕ
+  pub some : 1 ≤ steps
+  pub few : steps ≤ most
+  pub silent : silently steps old ≡ Some new
+
+-- silent steps, and then one that sends something
+pub record RunsAndSends (most : ℕ) (old : ProcState) (e : Emission) (new : ProcState) : Type 0 where
+  pub steps : ℕ
+  pub before : ProcState
+  pub few : steps < most
+  pub silent : silently steps old ≡ Some before
+  pub sends : next_step before ≡ Emits e new
+
+-- it moved, or sent something, or had no step; after want of memory nothing has changed
+abbrev pub RunsQuantum : ℕ → ProcState → Result Quantum NoMemory → ProcState → Type 0
+RunsQuantum most old (Ok Moved) new = RunsSome most old new
+RunsQuantum most old (Ok (Sent e)) new = RunsAndSends most old e new
+RunsQuantum most old (Ok Stuck) new = (has_step (next_step old) ≡ false) × (new ≡ old)
+RunsQuantum most old (Err fault) new = new ≡ old

@@ -1,0 +1,49 @@
+//! A quantum of a process.
+ghost use Rattle.std.specs.Prelude.{◌≡◌, ◌==◌, if◌then◌else◌};
+ghost use Rattle.proc_state.specs.State.{state_of};
+ghost use Rattle.cluster_core.specs.Quantum.{RunsQuantum};
+
+use proc_state::process::Process;
+use std::alloc::Global;
+use sys_calls::stepping::{run_instructions, step};
+use sys_calls::steps::{Emission, Step};
+use t32_base::streams::NoMemory;
+
+/// What a process did in a quantum: it made silent steps, its last step sent something, or it had no step.
+#[derive(Drop)]
+pub enum Quantum {
+    Moved,
+    Sent(Emission),
+    Stuck,
+}
+
+/// The most steps of a quantum.
+pub const MOST: u32 = 64;
+
+/// Makes at most 64 steps of a process, up to one that sends something. A later step for which memory is
+/// refused is not made; where it is the first, nothing has changed.
+pub fn run_quantum(alloc: Global, p: &mut Process) -> Result<Quantum, NoMemory>
+    ensures { RunsQuantum 64 (state_of p.old) result (state_of p.new) }
+{
+    let mut made = run_instructions(p, MOST);
+    'steps: while made < MOST {
+        match step(alloc, p) {
+            Ok(Step::Silent) => made += 1,
+            Ok(Step::Emit(emission)) => return Ok(Quantum::Sent(emission)),
+            Ok(Step::Blocked) | Ok(Step::Forks) | Ok(Step::Over) => return Ok(moved_or_stuck(made)),
+            Err(NoMemory) if made == 0 => return Err(NoMemory),
+            Err(NoMemory) => return Ok(Quantum::Moved),
+        }
+    }
+    Ok(Quantum::Moved)
+}
+
+fn moved_or_stuck(made: u32) -> Quantum
+    ensures { result ≡ (if made == 0 then Quantum.Stuck else Quantum.Moved) }
+{
+    if made == 0 {
+        Quantum::Stuck
+    } else {
+        Quantum::Moved
+    }
+}
