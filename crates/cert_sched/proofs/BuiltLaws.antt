@@ -74,7 +74,7 @@ pub built_clusters : (system : System) (log : List Entry) → IsLegalBy BuiltMay
 unfolding placement
 built_clusters system log legal =
     legal_induction BuiltMayFollow system (λ log. (placement system log).clusters ≡ (places_at_boot system).clusters) refl
-      (λ log e same may. ap (λ (p : Places). p.clusters) (placement-snoc system log e) ∙ same_clusters (what e) (placement system log) may.built ∙ same) log legal
+    (λ log e same may. ap (λ (p : Places). p.clusters) (placement-snoc system log e) ∙ same_clusters (what e) (placement system log) may.built ∙ same) log legal
 
 -- what of the place of a process its end leaves
 pub record Kept : Type 0 where
@@ -114,7 +114,7 @@ pub built_kept : (system : System) (log : List Entry) → IsLegalBy BuiltMayFoll
 unfolding placement
 built_kept system log legal =
     legal_induction BuiltMayFollow system (λ log. map kept (placement system log).placed ≡ map kept (places_at_boot system).placed) refl
-      (λ log e same may. ap (λ (p : Places). map kept p.placed) (placement-snoc system log e) ∙ same_kept (what e) (placement system log) may.built ∙ same) log legal
+    (λ log e same may. ap (λ (p : Places). map kept p.placed) (placement-snoc system log e) ∙ same_kept (what e) (placement system log) may.built ∙ same) log legal
 
 -- ---- births and losses
 
@@ -136,7 +136,7 @@ no_birth Stop h = refl
 pub built_births : (system : System) (log : List Entry) → IsLegalBy BuiltMayFollow system log → births_of log ≡ []
 built_births system log legal =
     legal_induction BuiltMayFollow system (λ log. births_of log ≡ []) refl
-      (λ log e none may. flat_map-append (λ (e : Entry). born (what e)) log (e ∷ []) ∙ rw (none, no_birth (what e) may.built) refl) log legal
+    (λ log e none may. flat_map-append (λ (e : Entry). born (what e)) log (e ∷ []) ∙ rw (none, no_birth (what e) may.built) refl) log legal
 
 no_loss : (w : What) → is_built w ≡ true → cluster_lost w ≡ None
 no_loss (Mail at letter) h = refl
@@ -156,17 +156,17 @@ no_loss Stop h = refl
 pub built_unlost : (system : System) (log : List Entry) (k : ClusterNo) → IsLegalBy BuiltMayFollow system log → was_lost_in log k ≡ false
 built_unlost system log k legal =
     legal_induction BuiltMayFollow system (λ log. was_lost_in log k ≡ false) refl
-      (λ log e none may. list_any-append (λ (e : Entry). is_crash_of k (what e)) log (e ∷ []) ∙ rw (none, no_loss (what e) may.built) refl) log legal
+    (λ log e none may. list_any-append (λ (e : Entry). is_crash_of k (what e)) log (e ∷ []) ∙ rw (none, no_loss (what e) may.built) refl) log legal
 
 -- so nothing is withheld
 pub built_counted : (system : System) (log : List Entry) → IsLegalBy BuiltMayFollow system log → counted system log ≡ 0
 unfolding told
 built_counted system log legal =
     legal_induction BuiltMayFollow system (λ log. counted system log ≡ 0) refl
-      (λ log e none may.
-        ap (λ ts. sum_by (λ (t : Told). option_map_or (counted_at system t) (cluster_lost (what t.entry)) 0) ts) (told-snoc system log e)
-        ∙ sum_by-append (λ (t : Told). option_map_or (counted_at system t) (cluster_lost (what t.entry)) 0) (told system log) (told_last system log e ∷ [])
-        ∙ rw (none, no_loss (what e) may.built) refl) log legal
+    (λ log e none may.
+    ap (λ ts. sum_by (λ (t : Told). option_map_or (counted_at system t) (cluster_lost (what t.entry)) 0) ts) (told-snoc system log e)
+    ∙ sum_by-append (λ (t : Told). option_map_or (counted_at system t) (cluster_lost (what t.entry)) 0) (told system log) (told_last system log e ∷ [])
+    ∙ rw (none, no_loss (what e) may.built) refl) log legal
 
 -- ---- the empty script
 
@@ -188,7 +188,7 @@ waits Stop h = cc
 pub built_looked : (system : System) (log : List Entry) → IsLegalBy BuiltMayFollow system log → Looked system [] log []
 built_looked system log legal =
     legal_induction BuiltMayFollow system (λ log. Looked system [] log []) at_start
-      (λ log e looked may. none_reached looked e (waits (what e) may.built) refl) log legal
+    (λ log e looked may. none_reached looked e (waits (what e) may.built) refl) log legal
 
 no_script : (w : What) (system : System) (log : List Entry) → is_built w ≡ true → is_scripted_loss system [] log w ≡ true
 no_script (Mail at letter) system log h = refl
@@ -209,7 +209,7 @@ pub built_losses : (system : System) (log : List Entry) → IsLegalBy BuiltMayFo
 unfolding told
 built_losses system log legal =
     legal_induction BuiltMayFollow system (λ log. list_all (λ (t : Told). is_scripted_loss system [] t.log (what t.entry)) (told system log) ≡ true) refl
-      (λ log e all may.
-        ap (λ ts. list_all (λ (t : Told). is_scripted_loss system [] t.log (what t.entry)) ts) (told-snoc system log e)
-        ∙ list_all-append (λ (t : Told). is_scripted_loss system [] t.log (what t.entry)) (told system log) (told_last system log e ∷ [])
-        ∙ rw (all, no_script (what e) system log may.built) refl) log legal
+    (λ log e all may.
+    ap (λ ts. list_all (λ (t : Told). is_scripted_loss system [] t.log (what t.entry)) ts) (told-snoc system log e)
+    ∙ list_all-append (λ (t : Told). is_scripted_loss system [] t.log (what t.entry)) (told system log) (told_last system log e ∷ [])
+    ∙ rw (all, no_script (what e) system log may.built) refl) log legal

@@ -104,9 +104,9 @@ backup_record-other system log e p no_cut no_birth no_deeds no_letters =
 pub backup_record-goes_on : (system : System) (log : List Entry) (e : Entry) (p : Pid) → is_cut p (what e) ≡ false → is_birth_of p (what e) ≡ false →
     backup_record system (log ++ e ∷ []) p
     ≡ option_map (λ s. record_with p (has_state system log p)
-        (saved_letters log p s ++ numbered (s.next + length (letters_to p (after_last (starts p) log))) (letter_for p (what e)))
-        (arrived_count log p + length (letter_for p (what e)))
-        (since log p ++ deeds_in p (what e)) s) (start_of system log p)
+    (saved_letters log p s ++ numbered (s.next + length (letters_to p (after_last (starts p) log))) (letter_for p (what e)))
+    (arrived_count log p + length (letter_for p (what e)))
+    (since log p ++ deeds_in p (what e)) s) (start_of system log p)
 unfolding backup_record
 backup_record-goes_on system log e p no_cut no_birth =
     let quiet : starts p e ≡ false = rw (no_cut, no_birth) refl in

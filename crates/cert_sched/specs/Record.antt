@@ -24,13 +24,13 @@ has_state system log p = is_root system p || list_any (λ e. is_cut p (what e)) 
 -- whether it has a state, the saved letters, how many letters came, and the counts and births of what the process did since
 abbrev pub record_with : Pid → Bool → List Arrived → ℕ → List Deed → ProcState → BackRec
 record_with p stated saved next deeds start = record {
-    pid = p;
-    state = if stated then Some start.small else None;
-    saved = saved;
-    next = next;
-    counts = counts_of (letters_in deeds);
-    births = births_in deeds;
-  }
+  pid = p;
+  state = if stated then Some start.small else None;
+  saved = saved;
+  next = next;
+  counts = counts_of (letters_in deeds);
+  births = births_in deeds;
+}
 
 abbrev pub record_from : System → List Entry → Pid → ProcState → BackRec
 record_from system log p start = record_with p (has_state system log p) (saved_letters log p start) (arrived_count log p) (since log p) start

@@ -40,7 +40,7 @@ abbrev pub has_counted : System → List Entry → List ℕ → List ℕ → Clu
 has_counted system log steps calls k =
     was_lost_in log k
     || (nat_le (capped (least_steps (before_end log) log k)) (slice_index steps k.0)
-        && (not (is_server system k) || nat_le (capped (least_calls system log log k)) (slice_index calls k.0)))
+    && (not (is_server system k) || nat_le (capped (least_calls system log log k)) (slice_index calls k.0)))
 
 -- the crashes and returns of the log are those that the script gives
 pub record IsScripted (system : System) (log : List Entry) (script : List ScriptWord) (steps calls : List ℕ) : Type 0 where

@@ -99,11 +99,7 @@ fn try_entry(
 }
 
 // Puts the items of an entry at the end. After want of memory some of them may be there.
-fn push_items(
-    items: &mut Vec<Item>,
-    done: &BTreeMap<u32, u64>,
-    what: &What,
-) -> Result<(), NoMemory>
+fn push_items(items: &mut Vec<Item>, done: &BTreeMap<u32, u64>, what: &What) -> Result<(), NoMemory>
     ensures ok { OnOk result (items.new.items ≡ items.old.items ++ added (steps_of done.now.entries) what.now) }
     ensures err { OnErr result (take (length items.old.items) items.new.items ≡ items.old.items) }
 {
@@ -111,13 +107,19 @@ fn push_items(
         What::Mail { at, letter } => push_run(items, done, letter.from, *at),
         What::Exit { pid, at, .. } => push_run(items, done, *pid, *at),
         What::Birth {
-            parent, at, child, ..
+            parent,
+            at,
+            child,
+            ..
         } => {
             push_run(items, done, *parent, at.saturating_sub(1))?;
             push(items, Item::Fork(*parent, *child))
         }
         What::Sync {
-            pid, small, took, ..
+            pid,
+            small,
+            took,
+            ..
         } => {
             push_run(items, done, *pid, steps_made(small))?;
             push_take(items, *pid, *took)
@@ -173,10 +175,10 @@ fn steps_made(small: &Small) -> u64
     small.steps
 }
 
-fn steps_recorded(record: &BackRec) -> u64
-    ensures { result ≡ steps_in record.now.state }
+fn steps_recorded(backup: &BackRec) -> u64
+    ensures { result ≡ steps_in backup.now.state }
 {
-    match &record.state {
+    match &backup.state {
         Some(small) => steps_made(small),
         None => 0,
     }
@@ -186,7 +188,7 @@ fn count_in_first(recs: &[BackRec]) -> Option<(Pid, u64)>
     ensures { result ≡ option_map (λ r. (r.pid, steps_in r.state)) (first_record recs.now) }
 {
     match recs.first() {
-        Some(record) => Some((record.pid, steps_recorded(record))),
+        Some(backup) => Some((backup.pid, steps_recorded(backup))),
         None => None,
     }
 }
@@ -260,7 +262,7 @@ fn push_first(
     ensures err { OnErr result (items.new.items ≡ items.old.items) }
 {
     match recs.first() {
-        Some(record) => push_run(items, done, record.pid, steps_recorded(record)),
+        Some(backup) => push_run(items, done, backup.pid, steps_recorded(backup)),
         None => Ok(()),
     }
 }

@@ -1,10 +1,14 @@
 use super::*;
+use crate::cert::Cert;
+use bus_msg::entry::{By, Cause, Dests, Entry, Post, What};
 use plain_kernel::item::Item;
 use std::alloc::{AllocError, Global};
 use std::process::Abort;
 use std::test::Fail;
-use t32_base::lists::List;
-use t32_base::process::Pid;
+use t32_base::letter::{BackRec, Body, Letter, To};
+use t32_base::lists::{Bytes, List};
+use t32_base::process::{ClusterNo, Counts, End, EndState, Pid, Regs, Small, Status};
+use t32_base::streams::NoMemory;
 
 fn assert_read(rt: &(impl Abort + AllocGlobal), text: &[u8], wanted: &[Item]) -> Result<(), Fail> {
     let items = read_items(rt.alloc(), text)?;
@@ -99,4 +103,225 @@ fn a_long_schedule_is_read_back(rt: HostRuntime) -> Result<(), Fail> {
     let text = items_text(rt.alloc(), items.as_slice())?;
     assert_eq!(&rt; text.len(), 1614832);
     assert_read(&rt, text.as_slice(), items.as_slice())
+}
+
+// ---- the schedule of a log
+
+/// A line that a process writes to terminal 0 by a step.
+fn mail(alloc: Global, pid: u32, at: u64) -> Result<What, NoMemory> {
+    Ok(What::Mail {
+        at,
+        letter: Letter {
+            from: Pid(pid),
+            out: 0,
+            to: To::Tty(0),
+            body: Body::Said(Bytes::copy_of(alloc, b"hi\n")?),
+        },
+    })
+}
+
+fn exit(pid: u32, at: u64) -> What {
+    What::Exit {
+        pid: Pid(pid),
+        at,
+        end: End::Exit(0),
+    }
+}
+
+fn birth(parent: u32, at: u64, child: u32) -> What {
+    What::Birth {
+        parent: Pid(parent),
+        at,
+        child: Pid(child),
+        end: 1,
+    }
+}
+
+/// A process that has made so many steps.
+fn small(pid: u32, steps: u32) -> Small {
+    Small {
+        pid: Pid(pid),
+        regs: Regs::new(0x10000),
+        ends: [EndState::Shut; 32],
+        handler: 0,
+        frame: None,
+        left: 1000,
+        steps: u64::from(steps),
+        births: 0,
+        status: Status::Live,
+        pages: 1,
+    }
+}
+
+fn sync(alloc: Global, pid: u32, steps: u32, took: Option<u8>) -> What {
+    What::Sync {
+        pid: Pid(pid),
+        small: small(pid, steps),
+        read: List::new(alloc),
+        took,
+    }
+}
+
+/// A new backup for a process, with its state after so many steps.
+fn rebackup(alloc: Global, fresh: bool, pid: u32, steps: u32) -> Result<What, NoMemory> {
+    let mut recs = List::new(alloc);
+    recs.push(BackRec {
+        pid: Pid(pid),
+        state: Some(small(pid, steps)),
+        saved: List::new(alloc),
+        next: 0,
+        counts: Counts {
+            ends: [0; 32],
+            signals: 0,
+        },
+        births: List::new(alloc),
+    })?;
+    Ok(What::Rebackup {
+        to: ClusterNo(1),
+        fresh,
+        recs,
+    })
+}
+
+fn crash() -> What {
+    What::Crash {
+        k: ClusterNo(0),
+        cause: Cause::Place,
+    }
+}
+
+/// The end, with the steps of each process that has not ended.
+fn done(alloc: Global, steps: &[(u32, u64)]) -> Result<What, NoMemory> {
+    let mut rests = List::new(alloc);
+    for (pid, at) in steps {
+        rests.push((Pid(*pid), *at))?;
+    }
+    Ok(What::Done { rests })
+}
+
+/// Adds an entry that says this.
+fn add(cert: &mut Cert, what: What) -> Result<(), NoMemory> {
+    cert.add(&Entry {
+        place: 0,
+        post: Post { by: By::Bus, what },
+        dests: Dests {
+            clusters: 3,
+            tty: None,
+        },
+    })
+}
+
+#[test]
+fn a_process_that_writes_and_exits_has_two_runs(rt: HostRuntime) -> Result<(), Fail> {
+    let alloc = rt.alloc();
+    let mut cert = Cert::none(alloc);
+    assert!(rt; cert.items().is_empty());
+    add(&mut cert, mail(alloc, 16, 6)?)?;
+    add(&mut cert, exit(16, 10))?;
+    add(&mut cert, done(alloc, &[])?)?;
+    assert_eq!(rt;
+        cert.items(),
+        [Item::Run(Pid(16), 6), Item::Run(Pid(16), 4)].as_slice()
+    );
+    Ok(())
+}
+
+#[test]
+fn a_synchronisation_is_a_run_and_a_crash_is_none(rt: HostRuntime) -> Result<(), Fail> {
+    let alloc = rt.alloc();
+    let mut cert = Cert::none(alloc);
+    add(&mut cert, sync(alloc, 16, 64, None))?;
+    add(&mut cert, crash())?;
+    add(&mut cert, exit(16, 102))?;
+    add(&mut cert, done(alloc, &[])?)?;
+    assert_eq!(rt;
+        cert.items(),
+        [Item::Run(Pid(16), 64), Item::Run(Pid(16), 38)].as_slice()
+    );
+    Ok(())
+}
+
+#[test]
+fn a_new_backup_is_a_run_where_its_process_has_run(rt: HostRuntime) -> Result<(), Fail> {
+    let alloc = rt.alloc();
+    let mut cert = Cert::none(alloc);
+    add(&mut cert, mail(alloc, 16, 6)?)?;
+    add(&mut cert, rebackup(alloc, false, 16, 20)?)?;
+    add(&mut cert, rebackup(alloc, true, 16, 9)?)?;
+    add(&mut cert, exit(16, 13))?;
+    assert_eq!(rt;
+        cert.items(),
+        [
+            Item::Run(Pid(16), 6),
+            Item::Run(Pid(16), 3),
+            Item::Run(Pid(16), 4)
+        ]
+        .as_slice()
+    );
+    Ok(())
+}
+
+#[test]
+fn the_end_is_the_run_of_each_process_that_is_further(rt: HostRuntime) -> Result<(), Fail> {
+    let alloc = rt.alloc();
+    let mut cert = Cert::none(alloc);
+    add(&mut cert, mail(alloc, 16, 5)?)?;
+    add(&mut cert, mail(alloc, 17, 4)?)?;
+    add(&mut cert, done(alloc, &[(16, 5), (17, 9)])?)?;
+    assert_eq!(rt;
+        cert.items(),
+        [
+            Item::Run(Pid(16), 5),
+            Item::Run(Pid(17), 4),
+            Item::Run(Pid(17), 5)
+        ]
+        .as_slice()
+    );
+    Ok(())
+}
+
+#[test]
+fn a_birth_is_a_run_and_a_fork(rt: HostRuntime) -> Result<(), Fail> {
+    let alloc = rt.alloc();
+    let mut cert = Cert::none(alloc);
+    add(&mut cert, birth(16, 2, 32))?;
+    add(&mut cert, mail(alloc, 32, 7)?)?;
+    add(&mut cert, mail(alloc, 16, 7)?)?;
+    add(&mut cert, mail(alloc, 32, 11)?)?;
+    add(&mut cert, exit(32, 12))?;
+    add(&mut cert, exit(16, 8))?;
+    assert_eq!(rt;
+        cert.items(),
+        [
+            Item::Run(Pid(16), 1),
+            Item::Fork(Pid(16), Pid(32)),
+            Item::Run(Pid(32), 7),
+            Item::Run(Pid(16), 5),
+            Item::Run(Pid(32), 4),
+            Item::Run(Pid(32), 1),
+            Item::Run(Pid(16), 1),
+        ]
+        .as_slice()
+    );
+    Ok(())
+}
+
+#[test]
+fn a_signal_that_was_taken_stands_after_the_run(rt: HostRuntime) -> Result<(), Fail> {
+    let alloc = rt.alloc();
+    let mut cert = Cert::none(alloc);
+    add(&mut cert, sync(alloc, 16, 9, Some(11)))?;
+    add(&mut cert, mail(alloc, 16, 15)?)?;
+    add(&mut cert, exit(16, 21))?;
+    assert_eq!(rt;
+        cert.items(),
+        [
+            Item::Run(Pid(16), 9),
+            Item::Take(Pid(16)),
+            Item::Run(Pid(16), 6),
+            Item::Run(Pid(16), 6),
+        ]
+        .as_slice()
+    );
+    Ok(())
 }

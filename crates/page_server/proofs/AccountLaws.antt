@@ -1,15 +1,14 @@
 -- What the accounts of a table have: after a page was put, and after a commit or a revert.
-use Rattle.std.proofs.Common.{◌≡◌, ◌≢◌, ℕ, zero, suc, ◌+◌, ◌-◌, ◌*◌, ◌<◌, ◌≤◌, Bool, true, false, cond, not, eqb, List, [], ◌∷◌, ◌++◌, map, length, get_or, set, replicate, refl, sym, ap, ◌∙◌, subst, arith, ◌⊎◌, inl, inr, Option, Some, None, IsSome, is_some}
+use Rattle.std.proofs.Common.{◌≡◌, ℕ, zero, suc, ◌+◌, ◌-◌, ◌*◌, ◌<◌, ◌≤◌, Bool, true, false, cond, eqb, List, [], ◌∷◌, ◌++◌, map, length, get_or, set, replicate, refl, sym, ap, ◌∙◌, subst, arith, ◌⊎◌, inl, inr, Option, Some, None, IsSome}
 use Rattle.std.proofs.lemmas.Bool.Decides.{nat_tests}
 use Rattle.std.specs.Ordering.{nat_cmp}
-use Rattle.std.specs.declared.cmp.Ordering.{Ordering}
 use Rattle.std.specs.declared.cmp.Ordering.TheVariants.{Less, Equal, Greater}
 use Rattle.std.specs.FinMap.{find, put}
 use Rattle.page_server.specs.declared.table.Held.{Held}
 use Rattle.page_server.specs.declared.table.Which.{Which}
 use Rattle.page_server.specs.declared.table.Which.TheVariants.{First, Second, Third, Fourth}
 use Rattle.page_server.specs.Disk.{Slots, written}
-use Rattle.page_server.specs.Account.{Account, page_in, with_page, committed, reverted}
+use Rattle.page_server.specs.Account.{Account, with_page, committed, reverted}
 use Rattle.page_server.specs.Slots.{slot, number_of, absent, spare, content, numbered, pages_from, account_at, grown, put_in, settled, restored}
 
 -- ---- numbers

@@ -1,8 +1,7 @@
 -- To change the rows that are marked is to change them all, where a row whose accounts agree stays.
-use Rattle.std.proofs.Common.{◌≡◌, ◌≢◌, ℕ, zero, suc, ◌+◌, ◌<◌, ◌≤◌, Bool, List, [], ◌∷◌, map, length, get_or, set, fold, refl, sym, ap, ◌∙◌, subst, arith, ◌⊎◌, inl, inr, Option, Some, None, Contains, take}
+use Rattle.std.proofs.Common.{◌≡◌, ℕ, zero, suc, ◌+◌, ◌<◌, ◌≤◌, List, [], ◌∷◌, map, length, get_or, fold, refl, sym, ap, ◌∙◌, subst, arith, ◌⊎◌, inl, inr, Contains, take}
 use Rattle.std.proofs.lemmas.List.Sums.{fold_more}
 use Rattle.std.proofs.lemmas.List.{take_all, length-map}
-use Rattle.std.proofs.lemmas.Grind.{common_steps}
 use Rattle.page_server.specs.declared.table.Held.{Held}
 use Rattle.page_server.specs.Slots.{absent, change_at, settled, restored, IsMarked}
 

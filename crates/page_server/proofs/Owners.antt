@@ -1,5 +1,5 @@
 -- A place that a process has stands in the list of places.
-use Rattle.std.proofs.Common.{◌≡◌, ℕ, zero, suc, ◌<◌, ◌≤◌, List, [], ◌∷◌, length, get_or, Option, None, Some, arith}
+use Rattle.std.proofs.Common.{◌≡◌, ℕ, zero, suc, ◌<◌, List, [], ◌∷◌, length, get_or, Option, None, Some, arith}
 
 some_is_not_none : (n : ℕ) → None ≡ Some n → ⊥
 some_is_not_none n e = cc

@@ -1,5 +1,5 @@
 -- What the accounts of all processes are after one of them changed.
-use Rattle.std.proofs.Common.{◌≡◌, ◌≢◌, ℕ, zero, suc, ◌+◌, ◌*◌, ◌<◌, ◌≤◌, Bool, true, false, cond, not, eqb, List, [], ◌∷◌, ◌++◌, map, length, get_or, set, refl, sym, ap, ◌∙◌, subst, arith, ◌⊎◌, inl, inr, Option, Some, None, IsSome, is_some, option_map, unwrap_or, Result, Ok, Err}
+use Rattle.std.proofs.Common.{◌≡◌, ℕ, zero, suc, ◌<◌, ◌≤◌, true, false, cond, eqb, List, [], ◌∷◌, map, length, get_or, set, refl, sym, ap, ◌∙◌, subst, arith, ◌⊎◌, inl, inr, Option, Some, None, IsSome, is_some, option_map, unwrap_or, Result, Ok, Err}
 use Rattle.std.proofs.lemmas.Bool.Decides.{nat_tests}
 use Rattle.std.proofs.lemmas.List.{get_or-set_same, get_or-set_other}
 use Rattle.std.specs.Ordering.{nat_cmp, is_eq}
@@ -11,12 +11,12 @@ use Rattle.page_server.specs.declared.disk.DiskRefused.{DiskRefused}
 use Rattle.page_server.specs.declared.pages.Pages.{Pages}
 use Rattle.page_server.specs.declared.table.Held.{Held}
 use Rattle.page_server.specs.declared.table.Which.{Which}
-use Rattle.page_server.specs.Disk.{Slots, written, SlotsAfterPut}
+use Rattle.page_server.specs.Disk.{Slots, written}
 use Rattle.std.proofs.lemmas.Bool.{false≢true}
-use Rattle.page_server.specs.Account.{Account, no_pages, page_in, with_page, committed, reverted, pid_cmp, PagerState, AccountsAfterPut}
-use Rattle.page_server.specs.Slots.{slot, absent, spare, content, account_at, grown, put_in, settled, restored, TableAfterPut}
+use Rattle.page_server.specs.Account.{Account, no_pages, page_in, with_page, pid_cmp, PagerState, AccountsAfterPut}
+use Rattle.page_server.specs.Slots.{slot, absent, spare, content, account_at, grown, put_in, settled, restored}
 use Rattle.page_server.specs.Places.{Processes, account_of, accounts_of, account_in, Owned, IsThere, AllThere, EachThere, Becomes, Admits, Puts, with_rows, ChangesRows, slot_held, kept_slot}
-use Rattle.page_server.proofs.AccountLaws.{was_written, still_there, account_put, account_grown, account_elsewhere, account_settled, account_restored, row_grown, has_row, find_page}
+use Rattle.page_server.proofs.AccountLaws.{was_written, still_there, account_put, account_grown, account_elsewhere, row_grown, has_row, find_page}
 use Rattle.page_server.proofs.Owners.{in_owners}
 
 -- ---- tests of pids

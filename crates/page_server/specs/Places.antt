@@ -1,5 +1,5 @@
 -- The processes that a page server knows, and the place of each, which says where on the disk its pages lie.
-use Rattle.std.specs.Prelude.{ℕ, ◌≡◌, ◌≤◌, List, [], map, length, get_or, ◌⊎◌, Bool, cond, Option, None, Some, IsSome, option_map, Result, Ok, Err}
+use Rattle.std.specs.Prelude.{ℕ, ◌≡◌, ◌≤◌, List, [], map, length, get_or, ◌⊎◌, cond, Option, None, Some, IsSome, option_map, Result}
 use Rattle.std.specs.BTreeMap.{BTreeMap, get, is_at}
 use Rattle.std.specs.Ordering.{nat_cmp}
 use Rattle.t32_base.specs.declared.process.Pid.{Pid}

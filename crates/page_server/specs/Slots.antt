@@ -1,5 +1,5 @@
 -- Where the pages of a process lie on the disk: each page number of it has four slots, of which each of its accounts holds one or none.
-use Rattle.std.specs.Prelude.{ℕ, ◌≡◌, ◌+◌, ◌-◌, ◌*◌, ◌++◌, Bool, false, not, ◌⊎◌, if◌then◌else◌, List, [], ◌∷◌, length, get_or, set, replicate, fold, Contains, Option, None, Some, IsSome, Result, Ok, Err}
+use Rattle.std.specs.Prelude.{ℕ, ◌≡◌, ◌+◌, ◌-◌, ◌*◌, ◌++◌, ◌⊎◌, List, [], ◌∷◌, length, get_or, set, replicate, Contains, Option, None, Some, Result, Ok, Err}
 use Rattle.page_server.specs.declared.table.Held.{Held}
 use Rattle.page_server.specs.declared.table.Which.{Which}
 use Rattle.page_server.specs.declared.table.Which.TheVariants.{First, Second, Third, Fourth}

@@ -57,7 +57,8 @@ impl<D: PageDisk> Pager<D> {
     }
 
     /// Puts a page into the uncommitted account of a process, by one call of the disk. Room for both
-    /// accounts is made here. After a fault or want of memory every account is as it was.
+    /// accounts is made here. After a fault or want of memory every account is as it was. There is room for
+    /// page numbers below 256, and for 4194304 processes that have pages at one time.
     pub fn put_page(&mut self, pid: Pid, i: u16, page: &[u8; 256]) -> Result<(), DiskRefused>
         ensures accounts { AccountsAfterPut self.old self.new pid i page.now result }
         ensures fetches { self.new.fetches ≡ self.old.fetches }

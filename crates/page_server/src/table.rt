@@ -1,4 +1,4 @@
-//! The pages of one process: which of the two slots of each page its accounts hold.
+//! The pages of one process: which of the four slots of each page its accounts hold.
 ghost use Rattle.std.specs.Prelude.{◌≡◌, ◌<◌, ◌+◌, ◌++◌, ◌∷◌, [], map, length, get_or, OnOk, OnErr, IfOk, ◌≤◌, is_some, Some, IfSome, Contains};
 ghost use Rattle.page_server.specs.Disk.{SlotsAfterPut, CountsAfterPut};
 ghost use Rattle.page_server.specs.Slots.{slot, number_of, absent, spare, grown, change_at, settled, restored, TableAfterPut, IsMarked};

@@ -43,8 +43,8 @@ pub fn ttys_of(alloc: Global, roots: &[Root]) -> Result<BTreeMap<u8, Bytes>, NoM
     Ok(ttys)
 }
 
-// The pid of a root after earlier ones: the serial is one more than those with its home.
-fn pid_after(earlier: &[Root], root: Root) -> Pid
+/// The pid of a root after earlier ones: the serial is one more than those with its home. Takes no memory.
+pub fn pid_after(earlier: &[Root], root: Root) -> Pid
     requires few { length earlier.now < 32 }
     requires home { root.home.0 < 16 }
     ensures { result ≡ pid_in root.home.0 (1 + count_by (λ q. q.home.0 == root.home.0) earlier.now) }
@@ -54,8 +54,8 @@ fn pid_after(earlier: &[Root], root: Root) -> Pid
     Pid(u32::from(home) + 16 * (1 + before as u32))
 }
 
-// A root at its start.
-fn root_of(alloc: Global, system: &System, pid: Pid, root: Root) -> Result<Process, NoMemory>
+/// A root at its start: its image, followed by zero bytes, and nothing read, sent or synchronised yet.
+pub fn root_of(alloc: Global, system: &System, pid: Pid, root: Root) -> Result<Process, NoMemory>
     requires { CanBoot system.now root }
     ensures state { IfOk result (λ p. state_of p ≡ root_process system.now pid root) }
     ensures load { IfOk result (λ p. load p ≡ 2 * (root.limit + 34)) }

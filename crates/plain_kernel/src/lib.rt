@@ -1,7 +1,7 @@
 //! The kernel without clusters, backups, counts or pages: what every run is compared with.
 #![tactic(auto)]
 
-mod booting;
+pub mod booting;
 pub mod item;
 pub mod plain;
 mod processes;

@@ -121,7 +121,13 @@ fn put_lost(alloc: Global, text: &mut Text, ended: Ended) -> Result<(), NoMemory
     }
 }
 
-fn put_place(alloc: Global, text: &mut Text, word: &str, cluster: ClusterNo, place: u64) -> Result<(), NoMemory>
+fn put_place(
+    alloc: Global,
+    text: &mut Text,
+    word: &str,
+    cluster: ClusterNo,
+    place: u64,
+) -> Result<(), NoMemory>
     ensures { OnOk result (text.new ≡ text.old ++ at_place word.now cluster place) }
 {
     let number = cluster.0;
@@ -134,7 +140,12 @@ fn put_bus(alloc: Global, text: &mut Text, run: &Run) -> Result<(), NoMemory>
     ensures { OnOk result (text.new ≡ text.old ++ bus_part (length run.now.log) (count_by (λ e. is_sync_of (says e)) run.now.log) run.now.withheld) }
 {
     let entries = run.log.len();
-    let syncs = run.log.as_slice().iter().filter(|entry| is_sync(entry)).count();
+    let syncs = run
+        .log
+        .as_slice()
+        .iter()
+        .filter(|entry| is_sync(entry))
+        .count();
     let withheld = run.withheld;
     let line = format!(in alloc; "bus {entries} syncs {syncs} withheld {withheld}\n")?;
     text.extend(line.as_bytes())

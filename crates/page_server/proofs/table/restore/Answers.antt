@@ -1,4 +1,4 @@
-use Rattle.std.proofs.Common.{◌≡◌, ◌∙◌, ap, sym}
+use Rattle.std.proofs.Common.{◌∙◌}
 use Rattle.page_server.specs.Slots.{restored, change_at}
 use Rattle.page_server.proofs.Marks.{one_more_mark, all_marks, restored-levels}
 use Rattle.page_server.proofs.table.restore.Goals as goal

@@ -1,4 +1,4 @@
-use Rattle.std.proofs.Common.{◌≡◌, ◌∙◌, ap, sym}
+use Rattle.std.proofs.Common.{◌∙◌}
 use Rattle.page_server.specs.Slots.{settled, change_at}
 use Rattle.page_server.proofs.Marks.{one_more_mark, all_marks, settled-levels}
 use Rattle.page_server.proofs.table.settle.Goals as goal

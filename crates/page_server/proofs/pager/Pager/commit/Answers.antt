@@ -1,4 +1,4 @@
-use Rattle.std.proofs.Common.{◌≡◌, sym, ap, refl}
+use Rattle.std.proofs.Common.{sym, ap, refl}
 use Rattle.page_server.specs.Account.{PagerState, committed}
 use Rattle.page_server.specs.Slots.{settled}
 use Rattle.page_server.proofs.AccountLaws.{account_settled}

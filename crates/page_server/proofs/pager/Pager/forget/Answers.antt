@@ -1,4 +1,4 @@
-use Rattle.std.proofs.Common.{◌≡◌, sym, ap}
+use Rattle.std.proofs.Common.{sym, ap}
 use Rattle.page_server.specs.Account.{PagerState, no_pages}
 use Rattle.page_server.proofs.PagerLaws.{changes, gone}
 use Rattle.page_server.proofs.pager.Pager.forget.Goals as goal

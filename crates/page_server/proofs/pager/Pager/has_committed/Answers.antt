@@ -1,4 +1,4 @@
-use Rattle.std.proofs.Common.{◌≡◌, ◌∙◌, sym, ap, is_some}
+use Rattle.std.proofs.Common.{◌∙◌, sym, ap, is_some}
 use Rattle.page_server.specs.Account.{PagerState}
 use Rattle.page_server.proofs.PagerLaws.{committed_page, slot_is_there, place_few}
 use Rattle.page_server.proofs.pager.Pager.has_committed.Goals as goal

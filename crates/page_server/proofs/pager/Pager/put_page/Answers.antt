@@ -1,4 +1,4 @@
-use Rattle.std.proofs.Common.{◌≡◌, sym, ap, refl}
+use Rattle.std.proofs.Common.{sym, ap, refl}
 use Rattle.page_server.specs.Account.{PagerState}
 use Rattle.page_server.specs.Places.{accounts_of}
 use Rattle.page_server.proofs.PagerLaws.{place_few, sames, admitted, admitted_there, put_owned, put_there, put_accounts}

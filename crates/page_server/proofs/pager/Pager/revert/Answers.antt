@@ -1,4 +1,4 @@
-use Rattle.std.proofs.Common.{◌≡◌, sym, ap, refl}
+use Rattle.std.proofs.Common.{sym, ap, refl}
 use Rattle.page_server.specs.Account.{PagerState, reverted}
 use Rattle.page_server.specs.Slots.{restored}
 use Rattle.page_server.proofs.AccountLaws.{account_restored}
