@@ -1,6 +1,6 @@
 -- What a cluster that follows a log holds, line by line.
 use Rattle.std.specs.Prelude.{ℕ, ◌+◌, ◌≡◌, ◌≤◌, ◌<◌, Bool, true, false, ◌&&◌, ◌||◌, if◌then◌else◌, List, [], ◌∷◌, ◌++◌, map, filter, length, slice_get, Option, Some, None, is_some, option_and_then, ⊤}
-use Rattle.std.specs.List.{list_any}
+use Rattle.std.specs.List.{list_any, list_all}
 use Rattle.std.specs.Option.{option_map_or}
 use Rattle.t32_base.specs.declared.process.Pid.{Pid}
 use Rattle.t32_base.specs.declared.process.ClusterNo.{ClusterNo}
@@ -24,7 +24,7 @@ use Rattle.cert_sched.specs.Moved.{moved_with_state, any_since_moved, is_fetch, 
 use Rattle.cert_sched.specs.Rolling.{replayed, refilled}
 use Rattle.cert_sched.specs.Steps.{numbers_read, saved_of, start_steps, page_count}
 use Rattle.cert_sched.specs.Rules.{has_its_pages}
-use Rattle.cert_sched.specs.Losses.{was_lost_in, least_steps, least_calls, capped}
+use Rattle.cert_sched.specs.Losses.{is_from, was_lost_in, least_steps, least_calls, capped}
 use Rattle.cert_sched.specs.Scripted.{is_server}
 use Rattle.cluster_core.specs.View.{ClusterView, Held, Runs, Rolls, Waits, PageWait, held_at, record_at, account_at, page_wait}
 use Rattle.cluster_core.specs.Queue.{with_queue, IsQueueLegal, state_now}
@@ -52,13 +52,14 @@ IsHeldAs system log queue p (Waits kept) = backup_record system log p ≡ Some k
 abbrev pub home_pids : System → List Entry → ClusterNo → List ℕ
 home_pids system log k = map (λ (q : Placed). (q.pid).0) (filter (is_at_home k) (placement system log).placed)
 
--- It has taken in the log. Each process at home here that has not ended stands here once, as the log says. Each post may follow, by a rule. Its kernel
+-- It has taken in the log. Each process at home here that has not ended stands here once, as the log says. Each post is its own and may follow, by a rule. Its kernel
 -- steps are at least one for each entry that it took in or sent, and one for a head that was tried.
 pub record HoldsProcesses (May : System → List Entry → Entry → Type 0) (system : System) (log : List Entry) (c : ClusterView) : Type 0 where
   pub cursor : c.cursor ≡ length log
   pub places : c.places ≡ placement system log
   pub held : (p : Pid) (h : Held) → held_at c p ≡ Some h → IsHeldAs system log c.queue p h
   pub each_once : rising (map (λ (e : Pid × Held). (e.0).0) c.here) ≡ rising (home_pids system log c.number)
+  pub own : list_all (λ (post : Post). is_from c.number post.by) c.queue ≡ true
   pub queue : IsQueueLegal May system log c.queue
   pub counted : was_lost_in log c.number ≡ false → capped (least_steps log log c.number + (if c.tried then 1 else 0)) ≤ c.steps
 

@@ -1,7 +1,7 @@
 //! A cluster with its process.
 ghost use Rattle.std.specs.Prelude.{◌≡◌, ◌<◌, ◌^◌, ◌+◌, ◌-◌, [], ◌∷◌, Some, None, OnOk, IfOk, OnErr, is_some, true, false, min, option_map};
 ghost use Rattle.std.specs.Option.{option_copied};
-ghost use Rattle.cluster_core.specs.View.{ClusterView, head_of, after_sent, tried_once};
+ghost use Rattle.cluster_core.specs.View.{ClusterView, head_of, after_sent, counted_once, tried_once};
 
 use bus_msg::entry::{Entry, Post};
 use channel_table::placement::Placement;
@@ -108,53 +108,9 @@ impl<'s> Cluster<'s> {
         self.tried = false;
     }
 
-    /// Takes in the next entry of the log. Takes no memory.
-    pub fn absorb(&mut self, entry: &Entry)
-        requires room { self.old.cursor < 2 ^ 64 - 1 }
-        requires ready { ReadyFor entry.now self.old }
-        ensures absorbed { self.new ≡ absorbed self.old entry.now }
-        ensures follows { Absorbs entry.now self.old self.new }
+    fn count_step(&mut self)
+        ensures { self.new ≡ counted_once self.old }
     {
-        self.cursor += 1;
-        self.places.note(entry);
-        if let What::Exit { pid, .. } = entry.post.what {
-            self.let_go(pid);
-        }
-        self.count_step();
-    }
-
-    /// Does the next thing that is to be done here: its process runs, up to something that it sends, or
-    /// nothing can move. After want of memory nothing is said of the cluster but that it can be dropped.
-    pub fn work(&mut self) -> Result<Worked, NoMemory>
-        requires empty { self.old.queue ≡ [] }
-        requires follows { FollowsSome self.old }
-        ensures follows { OnOk result (GoesOn self.old self.new) }
-        ensures work { IfOk result (λ worked. WorkIs self.old worked self.new) }
-        ensures place { OnOk result (KeepsPlace self.old self.new) }
-    {
-        let worked = match self.run_here()? {
-            Quantum::Moved => Worked::Moved,
-            Quantum::Sent(emission) => {
-                self.queue = self.post_of(emission);
-                Worked::Queued
-            }
-            Quantum::Stuck => Worked::Rests,
-        };
-        self.count_step();
-        Ok(worked)
-    }
-
-    /// Each process here with its steps: None exactly where something here can move.
-    pub fn rests(&self) -> Result<Option<List<(Pid, u64)>>, NoMemory>
-        ensures { IfOk result (λ rests. rests ≡ (if is_resting self.now then Some (rests_of self.now) else None)) }
-    {
-        let mut rests = List::new(self.alloc);
-        if let Some(resident) = &self.here {
-            if can_step(&resident.process) {
-                return Ok(None);
-            }
-            rests.push((resident.pid, steps_of(&resident.process)))?;
-        }
-        Ok(Some(rests))
+        self.steps = self.steps.saturating_add(1);
     }
 }
