@@ -1,10 +1,8 @@
 -- The parts of a cluster as its code keeps them.
-use Rattle.std.specs.Prelude.{◌≡◌, ◌<◌, true, not, List, [], ◌∷◌, Option, Some, None, ⊤}
+use Rattle.std.specs.Prelude.{◌≡◌, ◌<◌, true, List, [], ◌∷◌, Option, Some, None, ⊤}
 use Rattle.std.specs.List.{list_all}
 use Rattle.t32_base.specs.declared.process.Pid.{Pid}
 use Rattle.t32_base.specs.declared.process.ClusterNo.{ClusterNo}
-use Rattle.t32_base.specs.declared.process.EndState.{EndState}
-use Rattle.proc_state.specs.Ends.{is_linked}
 use Rattle.sys_text.specs.declared.system.System.{System}
 use Rattle.sys_text.specs.Valid.{is_system}
 use Rattle.bus_msg.specs.declared.entry.Post.{Post}
@@ -12,6 +10,7 @@ use Rattle.cert_sched.specs.Built.{is_built}
 use Rattle.cert_sched.specs.Losses.{is_from}
 use Rattle.cluster_core.specs.declared.cluster.Resident.{Resident}
 use Rattle.cluster_core.specs.View.{Held, Runs}
+use Rattle.cluster_core.specs.Quantum.{are_unlinked}
 
 abbrev pub held_here : Option Resident → List (Pid × Held)
 held_here None = []
@@ -24,7 +23,7 @@ posts_of (Some post) = post ∷ []
 -- a process that stands under its own pid, and none of whose ends is linked
 pub record IsOwn (r : Resident) : Type 0 where
   pub pid : ((r.process).small).pid ≡ r.pid
-  pub unlinked : list_all (λ (e : EndState). not (is_linked e)) ((r.process).small).ends ≡ true
+  pub unlinked : are_unlinked ((r.process).small).ends ≡ true
 
 abbrev pub OwnIfThere : Option Resident → Type 0
 OwnIfThere None = ⊤

@@ -1,5 +1,8 @@
 -- A quantum of a process: silent steps, and at most one emission at their end.
-use Rattle.std.specs.Prelude.{ℕ, ◌≤◌, ◌<◌, ◌≡◌, false, Option, Some, None, Result, Ok, Err}
+use Rattle.std.specs.Prelude.{ℕ, ◌≤◌, ◌<◌, ◌≡◌, Bool, false, not, List, Option, Some, None, Result, Ok, Err}
+use Rattle.std.specs.List.{list_all}
+use Rattle.t32_base.specs.declared.process.EndState.{EndState}
+use Rattle.proc_state.specs.Ends.{is_linked}
 use Rattle.t32_base.specs.declared.streams.NoMemory.{NoMemory}
 use Rattle.proc_state.specs.declared.process.Process.{Process}
 use Rattle.proc_state.specs.State.{ProcState, state_of}
@@ -8,6 +11,10 @@ use Rattle.sys_calls.specs.Calls.{Next, Silent, Blocked, Forks, Emits, Over}
 use Rattle.sys_calls.specs.Next.{next_step, has_step, silently}
 use Rattle.cluster_core.specs.declared.quantum.Quantum.{Quantum}
 use Rattle.cluster_core.specs.declared.quantum.Quantum.TheVariants.{Moved, Sent, Stuck}
+
+-- none of the ends of a process is linked
+abbrev pub are_unlinked : List EndState → Bool
+are_unlinked ends = list_all (λ (e : EndState). not (is_linked e)) ends
 
 -- so many silent steps, one at least
 pub record RunsSome (most : ℕ) (old new : ProcState) : Type 0 where
@@ -30,3 +37,8 @@ RunsQuantum most old (Ok Moved) new = RunsSome most old new
 RunsQuantum most old (Ok (Sent e)) new = RunsAndSends most old e new
 RunsQuantum most old (Ok Stuck) new = (has_step (next_step old) ≡ false) × (new ≡ old)
 RunsQuantum most old (Err fault) new = new ≡ old
+
+-- where memory is refused after some steps the process has moved, and otherwise that is told
+abbrev pub MovesOrTells : ℕ → Result Quantum NoMemory → Type 0
+MovesOrTells made (Ok q) = (1 ≤ made) × (q ≡ Moved)
+MovesOrTells made (Err fault) = made ≡ 0

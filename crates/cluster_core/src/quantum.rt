@@ -1,7 +1,7 @@
 //! A quantum of a process.
-ghost use Rattle.std.specs.Prelude.{◌≡◌, ◌==◌, if◌then◌else◌};
+ghost use Rattle.std.specs.Prelude.{◌≡◌, ◌==◌, if◌then◌else◌, true};
 ghost use Rattle.proc_state.specs.State.{state_of};
-ghost use Rattle.cluster_core.specs.Quantum.{RunsQuantum};
+ghost use Rattle.cluster_core.specs.Quantum.{MovesOrTells, RunsQuantum, are_unlinked};
 
 use proc_state::process::Process;
 use std::alloc::Global;
@@ -20,9 +20,10 @@ pub enum Quantum {
 /// The most steps of a quantum.
 pub const MOST: u32 = 64;
 
-/// Makes at most 64 steps of a process, up to one that sends something. A later step for which memory is
-/// refused is not made; where it is the first, nothing has changed.
+/// Makes at most 64 steps of a process that links no end, up to one that sends something. A later step for
+/// which memory is refused is not made; where it is the first, nothing has changed.
 pub fn run_quantum(alloc: Global, p: &mut Process) -> Result<Quantum, NoMemory>
+    requires { are_unlinked p.old.small.ends ≡ true }
     ensures { RunsQuantum 64 (state_of p.old) result (state_of p.new) }
 {
     let mut made = run_instructions(p, MOST);
@@ -30,9 +31,10 @@ pub fn run_quantum(alloc: Global, p: &mut Process) -> Result<Quantum, NoMemory>
         match step(alloc, p) {
             Ok(Step::Silent) => made += 1,
             Ok(Step::Emit(emission)) => return Ok(Quantum::Sent(emission)),
-            Ok(Step::Blocked) | Ok(Step::Forks) | Ok(Step::Over) => return Ok(moved_or_stuck(made)),
-            Err(NoMemory) if made == 0 => return Err(NoMemory),
-            Err(NoMemory) => return Ok(Quantum::Moved),
+            Ok(Step::Blocked) => return Ok(moved_or_stuck(made)),
+            Ok(Step::Over) => return Ok(moved_or_stuck(made)),
+            Ok(Step::Forks) => unreachable!(),
+            Err(NoMemory) => return moved_or_refused(made),
         }
     }
     Ok(Quantum::Moved)
@@ -45,5 +47,15 @@ fn moved_or_stuck(made: u32) -> Quantum
         Quantum::Stuck
     } else {
         Quantum::Moved
+    }
+}
+
+fn moved_or_refused(made: u32) -> Result<Quantum, NoMemory>
+    ensures { MovesOrTells made result }
+{
+    if made == 0 {
+        Err(NoMemory)
+    } else {
+        Ok(Quantum::Moved)
     }
 }

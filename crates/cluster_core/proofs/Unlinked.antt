@@ -1,0 +1,132 @@
+-- A process none of whose ends is linked sends to its terminal and to no process, and its ends stay so. No process forks yet.
+use Rattle.std.proofs.Common.{◌≡◌, ℕ, zero, suc, ◌+◌, refl, sym, ◌∙◌, ap, subst, List, [], ◌∷◌, Bool, true, false, cond, not, ◌&&◌, eqb, ltb, Option, Some, None, slice_get, true≢false}
+use Rattle.std.specs.Prelude.{option_and_then}
+use Rattle.std.specs.List.{list_all}
+use Rattle.t32_base.specs.declared.process.End.{End}
+use Rattle.t32_base.specs.declared.process.EndState.{EndState}
+use Rattle.t32_base.specs.declared.process.EndState.TheVariants.{Never, Tty as TtyEnd, Linked, Shut}
+use Rattle.t32_base.specs.declared.process.Status.{Status}
+use Rattle.t32_base.specs.declared.process.Status.TheVariants.{Live, Closing, Ended}
+use Rattle.t32_base.specs.declared.letter.Body.TheVariants.{Said}
+use Rattle.t32_base.specs.declared.letter.To.{To}
+use Rattle.t32_base.specs.declared.letter.To.TheVariants.{Proc, Tty}
+use Rattle.rv_mem.specs.Memory.{is_inside, bytes_at}
+use Rattle.rv_cpu.specs.Exec.{Executed, Steps, Calls, Traps, exec, reg}
+use Rattle.proc_state.specs.Ends.{is_linked, leads_to}
+use Rattle.proc_state.specs.State.{ProcState, with_small}
+use Rattle.sys_calls.specs.declared.steps.Emission.{Emission}
+use Rattle.sys_calls.specs.declared.steps.Emission.TheVariants.{Mail, Exit}
+use Rattle.sys_calls.specs.Small.{spent, lowest_linked, linked_from}
+use Rattle.sys_calls.specs.Calls.{Next, Silent, Blocked, Forks, Emits, Over, Call, ExitCall, Write, GetPid, Unknown, call_of, called, arg, answers, refused, letter_to, write_to}
+use Rattle.sys_calls.specs.Next.{next_step, step_by, live_step, closing_step, after_exec, silently, silent_of}
+use Rattle.cluster_core.specs.Quantum.{are_unlinked}
+use Rattle.plain_kernel.proofs.Others.{is_outward, is_outward_to}
+
+-- the ends stay, and what is sent goes to no process
+abbrev pub Stays : ProcState → Next → Type 0
+Stays s (Silent t) = (t.small).ends ≡ (s.small).ends
+Stays s Blocked = Unit {0}
+Stays s Forks = ⊥
+Stays s (Emits e t) = ((t.small).ends ≡ (s.small).ends) × (is_outward e ≡ true)
+Stays s Over = Unit {0}
+
+both : (a b : Bool) → (a && b) ≡ true → (a ≡ true) × (b ≡ true)
+both true true h = (refl, refl)
+both true false h = absurd (true≢false (sym h))
+both false b h = absurd (true≢false (sym h))
+
+none_linked : (i : ℕ) (ends : List EndState) → are_unlinked ends ≡ true → linked_from i ends ≡ None
+none_linked i [] h = refl
+none_linked i (Never ∷ ends) h = none_linked (i + 1) ends h
+none_linked i (TtyEnd t ∷ ends) h = none_linked (i + 1) ends h
+none_linked i (Linked peer far finished ∷ ends) h = absurd (true≢false (sym h))
+none_linked i (Shut ∷ ends) h = none_linked (i + 1) ends h
+
+-- an end leads to a terminal, or nowhere
+leads_outward : (e : EndState) (to : To) → not (is_linked e) ≡ true → leads_to e ≡ Some to → is_outward_to to ≡ true
+leads_outward Never to h is = cc
+leads_outward (TtyEnd t) to h is = let same : to ≡ Tty t = cc in ap is_outward_to same
+leads_outward (Linked peer far finished) to h is = absurd (true≢false (sym h))
+leads_outward Shut to h is = cc
+
+each_outward : (ends : List EndState) (i : ℕ) (to : To) → are_unlinked ends ≡ true → option_and_then leads_to (slice_get ends i) ≡ Some to → is_outward_to to ≡ true
+each_outward [] i to h is = cc
+each_outward (e ∷ ends) zero to h is = leads_outward e to (both (not (is_linked e)) (are_unlinked ends) h).0 is
+each_outward (e ∷ ends) (suc i) to h is = each_outward ends i to (both (not (is_linked e)) (are_unlinked ends) h).1 is
+
+module _ (s p : ProcState) (same : (p.small).ends ≡ (s.small).ends) (unlinked : are_unlinked (p.small).ends ≡ true) where
+  written_some : (e ptr len : ℕ) (to : To) (none : Bool) → is_outward_to to ≡ true
+      → Stays s (cond none (Silent (answers p 0)) (Emits (Mail (letter_to p e to (Said (bytes_at p.memory ptr len)))) (answers p len)))
+  written_some e ptr len to true out = same
+  written_some e ptr len to false out = (same, out)
+
+  written_inside : (e ptr len : ℕ) (to : To) (outside none : Bool) → is_outward_to to ≡ true
+      → Stays s (cond outside (refused p 14) (cond none (Silent (answers p 0)) (Emits (Mail (letter_to p e to (Said (bytes_at p.memory ptr len)))) (answers p len))))
+  written_inside e ptr len to true none out = same
+  written_inside e ptr len to false none out = written_some e ptr len to none out
+
+  written_short : (e ptr len : ℕ) (to : To) (long outside none : Bool) → is_outward_to to ≡ true
+      → Stays s (cond long (refused p 22) (cond outside (refused p 14) (cond none (Silent (answers p 0)) (Emits (Mail (letter_to p e to (Said (bytes_at p.memory ptr len)))) (answers p len)))))
+  written_short e ptr len to true outside none out = same
+  written_short e ptr len to false outside none out = written_inside e ptr len to outside none out
+
+  written : (e ptr len : ℕ) (to : Option To) → option_and_then leads_to (slice_get (p.small).ends e) ≡ to → Stays s (write_to p e ptr len to)
+  written e ptr len None is = same
+  written e ptr len (Some to) is = written_short e ptr len to (ltb 256 len) (not (is_inside p.memory ptr len)) (eqb len 0) (each_outward (p.small).ends e to unlinked is)
+
+  called_stays : (c : Call) → Stays s (called c p)
+  called_stays ExitCall = same
+  called_stays Write = written (arg p 0) (arg p 1) (arg p 2) (option_and_then leads_to (slice_get (p.small).ends (arg p 0))) refl
+  called_stays GetPid = same
+  called_stays Unknown = same
+
+executed : (s : ProcState) → are_unlinked (s.small).ends ≡ true → (x : Executed) → Stays s (after_exec x (with_small s (spent s.small)))
+executed s unlinked (Steps regs bytes) = refl
+executed s unlinked (Traps code) = refl
+executed s unlinked Calls = called_stays s (with_small s (spent s.small)) refl unlinked (call_of (reg (s.small).regs 17))
+
+lived : (s : ProcState) → are_unlinked (s.small).ends ≡ true → (b : Bool) → Stays s (live_step b s)
+lived s unlinked true = refl
+lived s unlinked false = executed s unlinked (exec (s.small).regs s.memory)
+
+closed : (s : ProcState) (end : End) (found : Option (ℕ × To)) → found ≡ None → Stays s (closing_step found end s)
+closed s end None is = (refl, refl)
+closed s end (Some f) is = cc
+
+by_status : (s : ProcState) → are_unlinked (s.small).ends ≡ true → (status : Status) → Stays s (step_by status s)
+by_status s unlinked Live = lived s unlinked (eqb (s.small).left 0)
+by_status s unlinked (Closing end) = closed s end (lowest_linked (s.small).ends) (none_linked 0 (s.small).ends unlinked)
+by_status s unlinked (Ended end) = tt
+
+-- the next step of such a process
+pub next_stays : (s : ProcState) → are_unlinked (s.small).ends ≡ true → Stays s (next_step s)
+next_stays s unlinked = by_status s unlinked (s.small).status
+
+-- ---- one step, and many
+
+pub silent_stays : (s t : ProcState) → are_unlinked (s.small).ends ≡ true → next_step s ≡ Silent t → are_unlinked (t.small).ends ≡ true
+silent_stays s t unlinked is = ap are_unlinked (subst (Stays s) is (next_stays s unlinked)) ∙ unlinked
+
+pub sent_stays : (s t : ProcState) (e : Emission) → are_unlinked (s.small).ends ≡ true → next_step s ≡ Emits e t → are_unlinked (t.small).ends ≡ true
+sent_stays s t e unlinked is = ap are_unlinked (subst (Stays s) is (next_stays s unlinked)).0 ∙ unlinked
+
+pub sent_outward : (s t : ProcState) (e : Emission) → are_unlinked (s.small).ends ≡ true → next_step s ≡ Emits e t → is_outward e ≡ true
+sent_outward s t e unlinked is = (subst (Stays s) is (next_stays s unlinked)).1
+
+pub no_fork : (s : ProcState) → are_unlinked (s.small).ends ≡ true → next_step s ≡ Forks → ⊥
+no_fork s unlinked is = subst (Stays s) is (next_stays s unlinked)
+
+pub silently_stays : (n : ℕ) (s t : ProcState) → are_unlinked (s.small).ends ≡ true → silently n s ≡ Some t → are_unlinked (t.small).ends ≡ true
+unfolding silently
+silently_stays zero s t unlinked is = let same : s ≡ t = cc in subst (λ (u : ProcState). are_unlinked (u.small).ends ≡ true) same unlinked
+silently_stays (suc n) s t unlinked is = by_case (silently n s) refl is (λ q. silently_stays n s q unlinked)
+  where
+    by_next : (q : ProcState) (next : Next) → next_step q ≡ next → silent_of next ≡ Some t → are_unlinked (q.small).ends ≡ true → are_unlinked (t.small).ends ≡ true
+    by_next q (Silent u) step is un = let same : u ≡ t = cc in silent_stays q t un (step ∙ ap Silent same)
+    by_next q Blocked step is un = cc
+    by_next q Forks step is un = cc
+    by_next q (Emits e u) step is un = cc
+    by_next q Over step is un = cc
+    by_case : (o : Option ProcState) → silently n s ≡ o → option_and_then (λ q. silent_of (next_step q)) o ≡ Some t → ((q : ProcState) → silently n s ≡ Some q → are_unlinked (q.small).ends ≡ true) → are_unlinked (t.small).ends ≡ true
+    by_case None there is before = cc
+    by_case (Some q) there is before = by_next q (next_step q) refl is (before q there)
