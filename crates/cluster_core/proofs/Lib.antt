@@ -1,3 +1,4 @@
 pub mod Telling
 pub mod Unlinked
 pub mod Quanta
+pub mod Homes
