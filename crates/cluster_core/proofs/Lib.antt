@@ -1,1 +1,2 @@
 pub mod RootPids
+pub mod Booted

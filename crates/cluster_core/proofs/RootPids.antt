@@ -112,7 +112,7 @@ pub starts : (system : System) (pid : Pid) (root : Root) (r : Resident) → r.pi
 starts system pid root r pid_is state = record {
   pid_is = pid_is;
   state = state;
-  own_pid = ap (λ (s : ProcState). (s.small).pid) state;
+  own_pid = ap (λ (s : ProcState). (s.small).pid) state ∙ sym pid_is;
   unlinked = ap (λ (s : ProcState). list_all (λ e. not (is_linked e)) (s.small).ends) state;
 }
 
@@ -158,10 +158,11 @@ only_from number earlier (r ∷ roots) zero root at is one =
     let here : has_home number.0 r ≡ true = ap (has_home number.0) same ∙ is in
     let count = sum_by-cons (λ (q : Root). cond (has_home number.0 q) 1 0) r roots in
     let none = none_home number (earlier ++ r ∷ []) roots (omega (arith, count, ap {B = ℕ} (λ b. cond b 1 0) here)) in
-    ap (λ b. cond b ((next_pid earlier r, r) ∷ filter (at_home number) (with_pids (earlier ++ r ∷ []) roots)) (filter (at_home number) (with_pids (earlier ++ r ∷ []) roots))) here
-    ∙ ap (λ l. (next_pid earlier r, r) ∷ l) none
-    ∙ ap (λ q. (next_pid earlier q, q) ∷ []) same
-    ∙ ap (λ l. (next_pid l root, root) ∷ []) (sym (append-nil earlier))
+    first (has_home number.0 r) (filter (at_home number) (with_pids (earlier ++ r ∷ []) roots)) here none same
+  where
+    first : (b : Bool) (rest : List (Pid × Root)) → b ≡ true → rest ≡ [] → r ≡ root → cond b ((next_pid earlier r, r) ∷ rest) rest ≡ (next_pid (earlier ++ []) root, root) ∷ []
+    first true rest is_home none same = (λ i. (next_pid earlier (same i), same i) ∷ none i) ∙ ap (λ l. (next_pid l root, root) ∷ []) (sym (append-nil earlier))
+    first false rest is_home none same = absurd (true≢false (sym is_home))
 only_from number earlier (r ∷ roots) (suc i) root at is one =
     by_home (has_home number.0 r) (sum_by-cons (λ (q : Root). cond (has_home number.0 q) 1 0) r roots) (only_from number (earlier ++ r ∷ []) roots i root at is)
   where

@@ -20,7 +20,7 @@ roots_in system number = filter (λ (r : Pid × Root). same_cluster (r.1).home n
 pub record IsRootProcess (system : System) (pid : Pid) (root : Root) (r : Resident) : Type 0 where
   pub pid_is : r.pid ≡ pid
   pub state : state_of r.process ≡ root_process system pid root
-  pub own_pid : ((r.process).small).pid ≡ pid
+  pub own_pid : ((r.process).small).pid ≡ r.pid
   pub unlinked : list_all (λ e. not (is_linked e)) ((r.process).small).ends ≡ true
 
 -- the process of the only root at home in a cluster, at its start

@@ -1,5 +1,5 @@
 //! The start of a cluster: the placement of the roots, and the root that is at home there.
-ghost use Rattle.std.specs.Prelude.{◌≡◌, ◌≤◌, ◌<◌, ◌==◌, true, count_by, map, length, take, position, IfOk, Some};
+ghost use Rattle.std.specs.Prelude.{◌≡◌, ◌≤◌, ◌<◌, ◌==◌, true, count_by, map, length, position, IfOk};
 ghost use Rattle.sys_text.specs.Valid.{is_system};
 ghost use Rattle.sys_text.specs.Boot.{roots_of};
 ghost use Rattle.cert_sched.specs.Schedule.{placed_root, places_at_boot};

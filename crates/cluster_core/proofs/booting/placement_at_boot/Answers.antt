@@ -1,8 +1,5 @@
-use Rattle.std.proofs.Common.{arith, refl, ap, sym, ◌∙◌, length, map, ◌≡◌, ◌≤◌, true, ℕ}
-use Rattle.std.proofs.lemmas.List.{length-map}
+use Rattle.std.proofs.Common.{arith, ap, ◌∙◌, length}
 use Rattle.plain_kernel.proofs.Roots.{few_roots}
-use Rattle.sys_text.specs.Boot.{roots_of}
-use Rattle.cert_sched.specs.Schedule.{placed_root}
 use Rattle.channel_table.specs.Changes.{pids_differ}
 use Rattle.cluster_core.proofs.RootPids.{root_pids_differ, roots_of-length}
 use Rattle.cluster_core.proofs.booting.placement_at_boot.Goals as goal

@@ -1,4 +1,4 @@
-use Rattle.std.proofs.Common.{ap, sym, ◌∙◌, eqb}
+use Rattle.std.proofs.Common.{ap, sym, ◌∙◌}
 use Rattle.std.specs.List.{position}
 use Rattle.cluster_core.proofs.RootPids.{only_root, no_root, has_home}
 use Rattle.cluster_core.proofs.booting.resident_at_boot.Goals as goal

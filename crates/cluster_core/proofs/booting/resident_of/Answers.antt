@@ -1,5 +1,4 @@
-use Rattle.std.proofs.Common.{arith, refl, ap, sym, ◌∙◌, length, get_or, Some}
-use Rattle.std.proofs.lemmas.Option.{slice_get-get_or}
+use Rattle.std.proofs.Common.{refl}
 use Rattle.plain_kernel.proofs.Roots.{can_boot}
 use Rattle.plain_kernel.proofs.Roots.{no_root as blank}
 use Rattle.cluster_core.proofs.RootPids.{root_number}
