@@ -1,15 +1,13 @@
 -- What a cluster has at boot is what it holds of the empty log.
-use Rattle.std.proofs.Common.{◌≡◌, ℕ, ◌+◌, ◌-◌, ◌<◌, ◌≤◌, Bool, true, false, not, ◌&&◌, ◌||◌, cond, eqb, List, [], ◌∷◌, ◌++◌, map, refl, sym, ap, subst, ◌∙◌, arith, Option, Some, None, eqb-true, eq-eqb, ne_eqb, true≢false}
-use Rattle.std.specs.Prelude.{filter, find, fold, ◌≢◌, count_by, option_and_then, option_map}
+use Rattle.std.proofs.Common.{◌≡◌, ◌-◌, Bool, true, false, not, ◌&&◌, ◌||◌, cond, List, [], ◌∷◌, map, refl, sym, ap, subst, ◌∙◌, arith, Option, Some, None, eqb-true, eq-eqb, true≢false}
+use Rattle.std.specs.Prelude.{filter, fold, ◌≢◌, option_and_then, option_map}
 use Rattle.std.specs.List.{list_any}
-use Rattle.std.specs.Option.{option_map_or}
 use Rattle.t32_base.specs.declared.process.Pid.{Pid}
 use Rattle.t32_base.specs.declared.process.ClusterNo.{ClusterNo}
 use Rattle.sys_text.specs.declared.system.System.{System}
 use Rattle.sys_text.specs.declared.system.Root.{Root}
 use Rattle.sys_text.specs.Valid.{is_system}
 use Rattle.sys_text.specs.Boot.{roots_of}
-use Rattle.proc_state.specs.declared.process.Process.{Process}
 use Rattle.proc_state.specs.State.{ProcState, state_of}
 use Rattle.sys_calls.specs.Next.{silently}
 use Rattle.plain_kernel.specs.Kernel.{Kernel, boot, empty, process_at, root_process, with_root}
@@ -17,19 +15,17 @@ use Rattle.plain_kernel.proofs.Entries.{some_same}
 use Rattle.plain_kernel.proofs.Laws.{process_at-same}
 use Rattle.plain_kernel.proofs.Others.{process_at-other}
 use Rattle.bus_msg.specs.declared.placed.Placed.{Placed}
-use Rattle.bus_msg.specs.Places.{same_pid, same_cluster, is_at_home}
+use Rattle.bus_msg.specs.Places.{same_pid, is_at_home}
 use Rattle.channel_table.specs.Changes.{pids_differ}
 use Rattle.cert_sched.specs.Schedule.{placed_root, places_at_boot, placement, plain_after, process_after, done_after}
 use Rattle.cert_sched.specs.Steps.{silent_upto}
 use Rattle.cert_sched.specs.Parts.{rising}
-use Rattle.cert_sched.specs.Built.{BuiltMayFollow}
 use Rattle.cluster_core.specs.declared.cluster.Resident.{Resident}
 use Rattle.cluster_core.specs.View.{ClusterView, Held, Runs, held_at}
 use Rattle.cluster_core.specs.Parts.{held_here}
-use Rattle.cluster_core.specs.Queue.{state_now}
-use Rattle.cluster_core.specs.Holds.{IsHeldAs, home_pids, HoldsProcesses}
+use Rattle.cluster_core.specs.Holds.{IsHeldAs, home_pids}
 use Rattle.cluster_core.specs.Follows.{FollowsBuilt}
-use Rattle.cluster_core.specs.Booting.{roots_in, IsRootProcess, IsOnlyRoot, IsResident}
+use Rattle.cluster_core.specs.Booting.{roots_in, IsOnlyRoot, IsResident}
 use Rattle.cluster_core.proofs.RootPids.{root_pids_differ, at_home}
 
 -- ---- the kernel at boot

@@ -1,5 +1,5 @@
 -- The pids of the roots of a system, no two of which are equal.
-use Rattle.std.proofs.Common.{◌≡◌, ℕ, zero, suc, ◌+◌, ◌*◌, ◌<◌, ◌≤◌, Bool, true, false, not, ◌&&◌, ◌||◌, cond, eqb, List, [], ◌∷◌, ◌++◌, length, take, map, get_or, refl, sym, ap, ◌∙◌, arith, Option, Some, None, append_assoc, append-nil, eqb-true, eq-eqb, ne_eqb, true≢false}
+use Rattle.std.proofs.Common.{◌≡◌, ℕ, zero, suc, ◌+◌, ◌*◌, ◌<◌, ◌≤◌, Bool, true, false, not, ◌&&◌, ◌||◌, cond, eqb, List, [], ◌∷◌, ◌++◌, length, take, map, get_or, refl, sym, ap, ◌∙◌, arith, Some, None, append_assoc, append-nil, eq-eqb, ne_eqb, true≢false}
 use Rattle.std.specs.Prelude.{slice_get, filter, ◌≢◌}
 use Rattle.std.specs.List.{count_by, list_any, list_all, position, position_from}
 use Rattle.std.proofs.lemmas.Iterator.Adapters.{position_from-zero}
@@ -23,7 +23,7 @@ use Rattle.bus_msg.specs.Places.{same_pid, same_cluster}
 use Rattle.channel_table.specs.Changes.{pids_differ}
 use Rattle.cert_sched.specs.Schedule.{placed_root}
 use Rattle.cluster_core.specs.declared.cluster.Resident.{Resident}
-use Rattle.cluster_core.specs.Booting.{next_pid, roots_in, IsRootProcess, IsRootNumber, IsOnlyRoot, IsResident}
+use Rattle.cluster_core.specs.Booting.{next_pid, roots_in, IsRootProcess, IsRootNumber, IsOnlyRoot}
 
 abbrev pub has_home : ℕ → Root → Bool
 has_home home q = eqb (q.home).0 home
