@@ -2,3 +2,5 @@ pub mod Telling
 pub mod Unlinked
 pub mod Quanta
 pub mod Homes
+pub mod RootPids
+pub mod Booted

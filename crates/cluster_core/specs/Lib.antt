@@ -5,3 +5,4 @@ pub mod Holds
 pub mod Follows
 pub mod Calls
 pub mod Quantum
+pub mod Booting
