@@ -153,6 +153,7 @@ boot_follows system number r valid is = record {
   places = placed_at_boot system;
   held = held_as system number r valid is;
   each_once = ap rising (once system number r is);
+  own = refl;
   queue = tt;
   counted = λ kept. omega arith;
 }

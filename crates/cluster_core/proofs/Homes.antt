@@ -129,7 +129,7 @@ home_here places k p differ h = let f = found_here k places.placed p differ h in
 abbrev home_one : ClusterNo → Bool → Placed → List ℕ → List ℕ
 home_one k b q rest = cond (is_at_home k (cond b (record q { ended = true }) q)) (((cond b (record q { ended = true }) q).pid).0 ∷ rest) rest
 
-abbrev without : ℕ → List ℕ → List ℕ
+abbrev pub without : ℕ → List ℕ → List ℕ
 without n ns = filter (λ m. not (eqb m n)) ns
 
 gone : (k : ClusterNo) (q : Placed) (rest : List ℕ) → home_one k true q rest ≡ rest

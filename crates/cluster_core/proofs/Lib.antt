@@ -4,3 +4,4 @@ pub mod Quanta
 pub mod Homes
 pub mod RootPids
 pub mod Booted
+pub mod Following
