@@ -5,3 +5,4 @@ pub mod Homes
 pub mod RootPids
 pub mod Booted
 pub mod Following
+pub mod Owning

@@ -1,6 +1,7 @@
 -- A process none of whose ends is linked sends to its terminal and to no process, and its ends stay so. No process forks yet.
 use Rattle.std.proofs.Common.{◌≡◌, ℕ, zero, suc, ◌+◌, refl, sym, ◌∙◌, ap, subst, List, [], ◌∷◌, Bool, true, false, cond, not, ◌&&◌, eqb, ltb, Option, Some, None, slice_get, true≢false}
-use Rattle.std.specs.Prelude.{option_and_then}
+use Rattle.std.specs.Prelude.{option_and_then, is_some, is_none}
+use Rattle.proc_state.specs.Mail.{first_signal}
 use Rattle.std.specs.List.{list_all}
 use Rattle.t32_base.specs.declared.process.End.{End}
 use Rattle.t32_base.specs.declared.process.EndState.{EndState}
@@ -13,22 +14,22 @@ use Rattle.t32_base.specs.declared.letter.To.TheVariants.{Proc, Tty}
 use Rattle.rv_mem.specs.Memory.{is_inside, bytes_at}
 use Rattle.rv_cpu.specs.Exec.{Executed, Steps, Calls, Traps, exec, reg}
 use Rattle.proc_state.specs.Ends.{is_linked, leads_to}
-use Rattle.proc_state.specs.State.{ProcState, with_small}
+use Rattle.proc_state.specs.State.{ProcState, with_small, is_live, can_take}
 use Rattle.sys_calls.specs.declared.steps.Emission.{Emission}
 use Rattle.sys_calls.specs.declared.steps.Emission.TheVariants.{Mail, Exit}
 use Rattle.sys_calls.specs.Small.{spent, lowest_linked, linked_from}
 use Rattle.sys_calls.specs.Calls.{Next, Silent, Blocked, Forks, Emits, Over, Call, ExitCall, Write, GetPid, Unknown, call_of, called, arg, answers, refused, letter_to, write_to}
-use Rattle.sys_calls.specs.Next.{next_step, step_by, live_step, closing_step, after_exec, silently, silent_of}
+use Rattle.sys_calls.specs.Next.{next_step, has_step, step_by, live_step, closing_step, after_exec, silently, silent_of}
 use Rattle.cluster_core.specs.Quantum.{are_unlinked}
 use Rattle.plain_kernel.proofs.Others.{is_outward, is_outward_to}
 
--- the ends stay, and what is sent goes to no process
+-- the ends stay, and what is sent goes to no process; only a process that has ended has no step
 abbrev pub Stays : ProcState → Next → Type 0
 Stays s (Silent t) = (t.small).ends ≡ (s.small).ends
-Stays s Blocked = Unit {0}
+Stays s Blocked = ⊥
 Stays s Forks = ⊥
 Stays s (Emits e t) = ((t.small).ends ≡ (s.small).ends) × (is_outward e ≡ true)
-Stays s Over = Unit {0}
+Stays s Over = is_live (s.small).status ≡ false
 
 both : (a b : Bool) → (a && b) ≡ true → (a ≡ true) × (b ≡ true)
 both true true h = (refl, refl)
@@ -93,14 +94,14 @@ closed : (s : ProcState) (end : End) (found : Option (ℕ × To)) → found ≡ 
 closed s end None is = (refl, refl)
 closed s end (Some f) is = cc
 
-by_status : (s : ProcState) → are_unlinked (s.small).ends ≡ true → (status : Status) → Stays s (step_by status s)
-by_status s unlinked Live = lived s unlinked (eqb (s.small).left 0)
-by_status s unlinked (Closing end) = closed s end (lowest_linked (s.small).ends) (none_linked 0 (s.small).ends unlinked)
-by_status s unlinked (Ended end) = tt
+by_status : (s : ProcState) → are_unlinked (s.small).ends ≡ true → (status : Status) → (s.small).status ≡ status → Stays s (step_by status s)
+by_status s unlinked Live is = lived s unlinked (eqb (s.small).left 0)
+by_status s unlinked (Closing end) is = closed s end (lowest_linked (s.small).ends) (none_linked 0 (s.small).ends unlinked)
+by_status s unlinked (Ended end) is = ap is_live is
 
 -- the next step of such a process
 pub next_stays : (s : ProcState) → are_unlinked (s.small).ends ≡ true → Stays s (next_step s)
-next_stays s unlinked = by_status s unlinked (s.small).status
+next_stays s unlinked = by_status s unlinked (s.small).status refl
 
 -- ---- one step, and many
 
@@ -130,3 +131,17 @@ silently_stays (suc n) s t unlinked is = by_case (silently n s) refl is (λ q. s
     by_case : (o : Option ProcState) → silently n s ≡ o → option_and_then (λ q. silent_of (next_step q)) o ≡ Some t → ((q : ProcState) → silently n s ≡ Some q → are_unlinked (q.small).ends ≡ true) → are_unlinked (t.small).ends ≡ true
     by_case None there is before = cc
     by_case (Some q) there is before = by_next q (next_step q) refl is (before q there)
+
+-- a process without a step has ended, so it takes no signal
+pub no_take : (s : ProcState) → are_unlinked (s.small).ends ≡ true → has_step (next_step s) ≡ false → can_take s ≡ false
+no_take s unlinked none = by_next (next_step s) (next_stays s unlinked) none
+  where
+    dead : (b c d : Bool) → b ≡ false → (b && c && d) ≡ false
+    dead true c d h = absurd (true≢false h)
+    dead false c d h = refl
+    by_next : (next : Next) → Stays s next → has_step next ≡ false → can_take s ≡ false
+    by_next (Silent t) stays none = absurd (true≢false none)
+    by_next Blocked stays none = absurd stays
+    by_next Forks stays none = absurd stays
+    by_next (Emits e t) stays none = absurd (true≢false none)
+    by_next Over stays none = dead (is_live (s.small).status) (is_none (s.small).frame) (is_some (first_signal s.mail)) stays

@@ -6,3 +6,4 @@ pub mod Follows
 pub mod Calls
 pub mod Quantum
 pub mod Booting
+pub mod Turn

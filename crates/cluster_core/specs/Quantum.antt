@@ -32,10 +32,10 @@ pub record RunsAndSends (most : ℕ) (old : ProcState) (e : Emission) (new : Pro
   pub sends : next_step before ≡ Emits e new
 
 -- it moved, or sent something, or had no step; after want of memory nothing has changed
-abbrev pub RunsQuantum : ℕ → ProcState → Result Quantum NoMemory → ProcState → Type 0
-RunsQuantum most old (Ok Moved) new = RunsSome most old new
-RunsQuantum most old (Ok (Sent e)) new = RunsAndSends most old e new
-RunsQuantum most old (Ok Stuck) new = (has_step (next_step old) ≡ false) × (new ≡ old)
+abbrev pub RunsQuantum : ℕ → Process → Result Quantum NoMemory → Process → Type 0
+RunsQuantum most old (Ok Moved) new = RunsSome most (state_of old) (state_of new)
+RunsQuantum most old (Ok (Sent e)) new = RunsAndSends most (state_of old) e (state_of new)
+RunsQuantum most old (Ok Stuck) new = (has_step (next_step (state_of old)) ≡ false) × (new ≡ old)
 RunsQuantum most old (Err fault) new = new ≡ old
 
 -- where memory is refused after some steps the process has moved, and otherwise that is told

@@ -4,4 +4,5 @@
 pub mod booting;
 pub mod cluster;
 pub mod quantum;
+pub mod turn;
 pub mod worked;

@@ -1,6 +1,5 @@
 //! A quantum of a process.
 ghost use Rattle.std.specs.Prelude.{◌≡◌, ◌==◌, if◌then◌else◌, true};
-ghost use Rattle.proc_state.specs.State.{state_of};
 ghost use Rattle.cluster_core.specs.Quantum.{MovesOrTells, RunsQuantum, are_unlinked};
 
 use proc_state::process::Process;
@@ -24,7 +23,7 @@ pub const MOST: u32 = 64;
 /// which memory is refused is not made; where it is the first, nothing has changed.
 pub fn run_quantum(alloc: Global, p: &mut Process) -> Result<Quantum, NoMemory>
     requires { are_unlinked p.old.small.ends ≡ true }
-    ensures { RunsQuantum 64 (state_of p.old) result (state_of p.new) }
+    ensures { RunsQuantum 64 p.old result p.new }
 {
     let mut made = run_instructions(p, MOST);
     'steps: while made < MOST {

@@ -1,10 +1,10 @@
 use Rattle.std.proofs.Common.{arith, refl, ap, sym, ◌∙◌, subst, Ok}
-use Rattle.sys_calls.specs.Next.{has_step}
+use Rattle.sys_calls.specs.Next.{has_step, silently_marked}
 use Rattle.sys_calls.proofs.Running.{silently-marked}
 use Rattle.sys_calls.specs.Steps.{marked}
 use Rattle.proc_state.specs.State.{state_of}
 use Rattle.cluster_core.specs.Quantum.{RunsQuantum}
-use Rattle.cluster_core.proofs.Quanta.{one_more_silent, none_left, refused_then}
+use Rattle.cluster_core.proofs.Quanta.{one_more_silent, none_left, refused_then, unmoved}
 use Rattle.cluster_core.proofs.Unlinked.{no_fork, silently_stays}
 use Rattle.cluster_core.proofs.quantum.run_quantum.Goals as goal
 
@@ -12,12 +12,14 @@ pub steps-init : goal.steps-init
 steps-init c = record {
   silent = silently-marked _ (marked c.args.p.now) (marked c.run_instructions-made.new.p) c.run_instructions-made.ensures.silent;
   few = c.run_instructions-made.ensures.made;
+  unmoved = λ none. unmoved c.args.p.now c.run_instructions-made.new.p (ap (λ m. silently_marked m (marked c.args.p.now)) (sym none) ∙ c.run_instructions-made.ensures.silent) c.run_instructions-made.ensures.count;
 }
 
 pub steps-preserved : goal.steps-preserved
 steps-preserved c = record {
   silent = one_more_silent c.steps.made (state_of c.args.p.now) (state_of c.steps.p) (state_of c.step.new.p) c.steps.invariant.silent (rw c.in-Ok-Silent.field-0-is at c.in-Ok-Silent.ensures.makes);
   few = omega (arith, c.steps-test.true);
+  unmoved = λ none. absurd (omega (arith, none));
 }
 
 pub returns-in-Ok-Emit : goal.returns-in-Ok-Emit
@@ -30,7 +32,7 @@ returns-in-Ok-Emit c = record {
 }
 
 pub returns-in-Err : goal.returns-in-Err
-returns-in-Err c = refused_then c.steps.made (state_of c.args.p.now) (state_of c.steps.p) (state_of c.step.new.p) c.moved_or_refused.result c.steps.invariant.silent c.steps.invariant.few c.in-Err.ensures.makes c.moved_or_refused.ensures
+returns-in-Err c = refused_then c.steps.made c.args.p.now c.steps.p c.step.new.p c.moved_or_refused.result c.steps.invariant.silent c.steps.invariant.few c.steps.invariant.unmoved c.in-Err.ensures.touches c.moved_or_refused.ensures
 
 pub returns : goal.returns
 returns c = record { steps = c.steps.made; some = omega (arith, c.steps-test.false); few = c.steps.invariant.few; silent = c.steps.invariant.silent }
@@ -38,5 +40,6 @@ returns c = record { steps = c.steps.made; some = omega (arith, c.steps-test.fal
 pub returns-in-Ok-Over : goal.returns-in-Ok-Over
 returns-in-Ok-Over c =
     let over = rw c.in-Ok-Over.field-0-is at c.in-Ok-Over.ensures.makes in
-    subst (λ q. RunsQuantum 64 (state_of c.args.p.now) (Ok q) (state_of c.step.new.p)) (sym c.moved_or_stuck-in-Ok-Over.ensures)
-      (none_left c.steps.made (state_of c.args.p.now) (state_of c.steps.p) (state_of c.step.new.p) c.steps.invariant.silent c.steps.invariant.few (ap has_step over.0) over.1)
+    let same = rw c.in-Ok-Over.field-0-is at c.in-Ok-Over.ensures.touches in
+    subst (λ q. RunsQuantum 64 c.args.p.now (Ok q) c.step.new.p) (sym c.moved_or_stuck-in-Ok-Over.ensures)
+      (none_left c.steps.made c.args.p.now c.steps.p c.step.new.p c.steps.invariant.silent c.steps.invariant.few c.steps.invariant.unmoved (ap has_step over.0) same)

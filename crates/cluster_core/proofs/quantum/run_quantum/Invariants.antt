@@ -7,6 +7,7 @@ abbrev pub invariant-steps : goal.invariant-steps
 invariant-steps l = record {
   silent : silently l.made (state_of l.fn.p) ≡ Some (state_of l.p);
   few : l.made ≤ 64;
+  unmoved : l.made ≡ 0 → l.p ≡ l.fn.p;
 }
 
 abbrev pub decreases-steps : goal.decreases-steps
