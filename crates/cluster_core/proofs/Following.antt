@@ -82,7 +82,7 @@ by_one k Bus b home at bt from = absurd (true≢false (sym at))
 by_home_of : (places : Places) (by : By) (p : Pid) → is_by_home places by (Some p) ≡ true → is_by by (home_at places p) ≡ true
 by_home_of places by p h = (both (is_living places by) (is_by by (home_at places p)) h).1
 
-pid_same : (p q : Pid) → p.0 ≡ q.0 → p ≡ q
+pub pid_same : (p q : Pid) → p.0 ≡ q.0 → p ≡ q
 pid_same p q h = λ i. record { 0 = h i }
 
 -- an entry by another cluster tells of another process than one that is at home here
@@ -173,7 +173,7 @@ held_none (Rebackup to fresh recs) p h is = cc
 held_none (Done rests) p h is = cc
 held_none Stop p h is = cc
 
-there : (c : ClusterView) (r : Resident) → c.here ≡ held_here (Some r) → held_at c r.pid ≡ Some (Runs r.process)
+pub there : (c : ClusterView) (r : Resident) → c.here ≡ held_here (Some r) → held_at c r.pid ≡ Some (Runs r.process)
 there c r is =
     ap (λ here. option_map (λ (e : Pid × Held). e.1) (find (λ (e : Pid × Held). same_pid e.0 r.pid) here)) is
     ∙ ap (λ b. option_map (λ (e : Pid × Held). e.1) (cond b (Some (r.pid, Runs r.process)) None)) (eq-eqb (r.pid).0 (r.pid).0 refl)
@@ -246,7 +246,7 @@ no_end k places by (Return j) from right = refl
 no_end k places by (Rebackup to fresh recs) from right = refl
 no_end k places by Stop from right = refl
 
-no_child : (system : System) (log : List Entry) (p : Pid) → births_of log ≡ [] → has_unsynced_child system log p ≡ false
+pub no_child : (system : System) (log : List Entry) (p : Pid) → births_of log ≡ [] → has_unsynced_child system log p ≡ false
 no_child system log p none = ap (λ bs. list_any (λ (b : Pid × Pid). same_pid b.0 p && is_unsynced (placement system log) b.1) bs) none
 
 -- what a post sends stays so after an entry of another process

@@ -6,3 +6,4 @@ pub mod RootPids
 pub mod Booted
 pub mod Following
 pub mod Owning
+pub mod Working

@@ -1,0 +1,335 @@
+-- A cluster that works goes on to follow each log that it followed.
+use Rattle.std.proofs.Common.{◌≡◌, ℕ, zero, suc, ◌+◌, ◌-◌, ◌^◌, ◌≤◌, ◌<◌, min, refl, sym, ◌∙◌, ap, subst, arith, List, [], ◌∷◌, ◌++◌, map, length, Bool, true, false, cond, not, ◌&&◌, ◌||◌, eqb, eqb-true, eq-eqb, add-zero, zero-add, Option, Some, None, is_some, slice_get, get_or, true≢false}
+use Rattle.std.specs.Prelude.{option_map, option_and_then, find}
+use Rattle.std.specs.List.{list_all, range_with_len}
+use Rattle.std.specs.Option.{option_map_or}
+use Rattle.std.proofs.lemmas.Option.{slice_get-map, slice_get-get_or}
+use Rattle.std.proofs.lemmas.List.FromFn.{get_or-range_with_len, length-range_with_len}
+use Rattle.t32_base.specs.declared.process.Pid.{Pid}
+use Rattle.t32_base.specs.declared.process.ClusterNo.{ClusterNo}
+use Rattle.t32_base.specs.declared.letter.Letter.{Letter}
+use Rattle.t32_base.specs.declared.letter.To.{To}
+use Rattle.t32_base.specs.declared.letter.To.TheVariants.{Proc, Tty}
+use Rattle.sys_text.specs.declared.system.System.{System}
+use Rattle.sys_text.specs.Boot.{roots_of}
+use Rattle.proc_state.specs.declared.process.Process.{Process}
+use Rattle.proc_state.specs.State.{ProcState, state_of, can_take}
+use Rattle.sys_calls.specs.declared.steps.Emission.{Emission}
+use Rattle.sys_calls.specs.declared.steps.Emission.TheVariants.{Mail as Sent, Exit as Ended}
+use Rattle.sys_calls.specs.Calls.{Next, Silent, Blocked, Forks, Emits, Over}
+use Rattle.sys_calls.specs.Next.{next_step, has_step, silently, silent_of, emission_of, last_emission}
+use Rattle.sys_calls.proofs.Counting.{silently_counts, emits_counts, letter_is_own}
+use Rattle.plain_kernel.proofs.Entries.{some_same}
+use Rattle.plain_kernel.proofs.Others.{is_outward, is_outward_to}
+use Rattle.bus_msg.specs.declared.entry.What.{What}
+use Rattle.bus_msg.specs.declared.entry.What.TheVariants.{Mail, Exit}
+use Rattle.bus_msg.specs.declared.entry.By.{By}
+use Rattle.bus_msg.specs.declared.entry.By.TheVariants.{Cluster, Bus}
+use Rattle.bus_msg.specs.declared.entry.Post.{Post}
+use Rattle.bus_msg.specs.declared.entry.Entry.{Entry}
+use Rattle.bus_msg.specs.declared.placed.Placed.{Placed}
+use Rattle.bus_msg.specs.Places.{Places, ClusterPlace, boot_cluster, same_pid, same_cluster, lives_in}
+use Rattle.channel_table.specs.Changes.{pids_differ}
+use Rattle.cert_sched.specs.Parts.{rising}
+use Rattle.cert_sched.specs.Schedule.{placed_root, places_at_boot, placement, process_after, done_after}
+use Rattle.cert_sched.specs.Steps.{process_of, silent_upto, emission_at, after_items}
+use Rattle.cert_sched.specs.Rules.{is_over, is_by, is_living, is_by_home, is_by_right, home_at}
+use Rattle.cert_sched.specs.Kinds.{IsSent, ChildrenSynced, KindHolds}
+use Rattle.cert_sched.specs.Legal.{IsLegalBy}
+use Rattle.cert_sched.specs.Built.{is_built, is_to_terminal, BuiltMayFollow}
+use Rattle.cert_sched.specs.Losses.{least_steps, capped, is_from}
+use Rattle.cert_sched.proofs.BuiltLaws.{built_births, built_clusters}
+use Rattle.cert_sched.proofs.StepLaws.{Tells, sent_applies}
+use Rattle.cluster_core.specs.declared.cluster.Resident.{Resident}
+use Rattle.cluster_core.specs.declared.worked.Worked.TheVariants.{Moved, Queued, Rests}
+use Rattle.cluster_core.specs.View.{ClusterView, Held, Runs, held_at, head_of, next_count, counted_once}
+use Rattle.cluster_core.specs.Parts.{held_here, posts_of, IsOwn}
+use Rattle.cluster_core.specs.Queue.{entry_of, IsQueueLegal, tells_steps, is_move_of, move_of, taken_by, state_by, state_now}
+use Rattle.cluster_core.specs.Holds.{HoldsProcesses, IsHeldAs, home_pids}
+use Rattle.cluster_core.specs.Follows.{FollowsBuilt, IsOpen}
+use Rattle.cluster_core.specs.Calls.{GoesOn, MovedOne, WorkIs, is_resting, is_at_rest}
+use Rattle.cluster_core.specs.Quantum.{RunsSome, RunsAndSends, are_unlinked}
+use Rattle.cluster_core.specs.Turn.{told_of, post_told}
+use Rattle.cluster_core.proofs.Telling.{done_is}
+use Rattle.cluster_core.proofs.Unlinked.{silently_stays, sent_outward, no_take}
+use Rattle.cluster_core.proofs.Quanta.{none_silent}
+use Rattle.cluster_core.proofs.Homes.{HomeHere, home_here, pids_home}
+use Rattle.cluster_core.proofs.Following.{exactly, pids_held, pid_same, no_child, there}
+
+-- ---- kernel steps
+
+-- one kernel step more is still enough
+more_counted : (n s : ℕ) → capped n ≤ s → capped n ≤ next_count s
+more_counted n s h = omega (arith, h)
+
+-- ---- silent steps in two parts
+
+silently-plus : (n m : ℕ) (s q t : ProcState) → silently n s ≡ Some q → silently m q ≡ Some t → silently (n + m) s ≡ Some t
+unfolding silently
+silently-plus n zero s q t first then = ap (λ k. silently k s) (add-zero n) ∙ first ∙ then
+silently-plus n (suc m) s q t first then = by_case (silently m q) refl then (λ u. silently-plus n m s q u first)
+  where
+    by_case : (o : Option ProcState) → silently m q ≡ o → option_and_then (λ q. silent_of (next_step q)) o ≡ Some t → ((u : ProcState) → silently m q ≡ Some u → silently (n + m) s ≡ Some u) → silently (n + suc m) s ≡ Some t
+    by_case None is last before = cc
+    by_case (Some u) is last before =
+        let count : n + suc m ≡ suc (n + m) = omega arith in
+        ap (λ k. silently k s) count ∙ ap (option_and_then (λ q. silent_of (next_step q))) (before u is) ∙ last
+
+-- a process that makes a silent step has a step
+silent_has : (n : ℕ) (s t : ProcState) → silently (suc n) s ≡ Some t → has_step (next_step s) ≡ true
+unfolding silently
+silent_has zero s t is = by_next (next_step s) is
+  where
+    by_next : (next : Next) → silent_of next ≡ Some t → has_step next ≡ true
+    by_next (Silent u) h = refl
+    by_next Blocked h = cc
+    by_next Forks h = cc
+    by_next (Emits e u) h = cc
+    by_next Over h = cc
+silent_has (suc n) s t is = by_case (silently (suc n) s) refl is (λ u. silent_has n s u)
+  where
+    by_case : (o : Option ProcState) → silently (suc n) s ≡ o → option_and_then (λ q. silent_of (next_step q)) o ≡ Some t → ((u : ProcState) → silently (suc n) s ≡ Some u → has_step (next_step s) ≡ true) → has_step (next_step s) ≡ true
+    by_case None is last more = cc
+    by_case (Some u) is last more = more u is
+
+-- ---- a process ahead of a log
+
+-- where it stands, counted from the log
+pub record Ahead (system : System) (log : List Entry) (p : Pid) (s : ProcState) : Type 0 where
+  pub base : ProcState
+  pub there : process_after system log p ≡ Some base
+  pub silent : silently ((s.small).steps - (base.small).steps) base ≡ Some s
+  pub counts : (s.small).steps ≡ (base.small).steps + ((s.small).steps - (base.small).steps)
+  pub done : done_after system log p ≡ (base.small).steps
+
+ahead : (system : System) (log : List Entry) (p : Pid) (s : ProcState) → silent_upto system log p (s.small).steps ≡ Some s → Ahead system log p s
+unfolding silent_upto
+ahead system log p s is = by_process (process_after system log p) refl is
+  where
+    by_process : (o : Option ProcState) → process_after system log p ≡ o → option_and_then (silently ((s.small).steps - done_after system log p)) o ≡ Some s → Ahead system log p s
+    by_process None at is = cc
+    by_process (Some b) at is =
+        let done : done_after system log p ≡ (b.small).steps = done_is system log p ∙ ap (λ o. option_map_or (λ (s : ProcState). (s.small).steps) o 0) at in
+        let silent : silently ((s.small).steps - (b.small).steps) b ≡ Some s = ap (λ n. silently ((s.small).steps - n) b) (sym done) ∙ is in
+        record { base = b; there = at; silent = silent; counts = (silently_counts ((s.small).steps - (b.small).steps) b s silent).steps; done = done }
+
+-- more silent steps
+ahead_moved : (system : System) (log : List Entry) (p : Pid) (s t : ProcState) (n : ℕ) → silent_upto system log p (s.small).steps ≡ Some s → silently n s ≡ Some t → silent_upto system log p (t.small).steps ≡ Some t
+unfolding silent_upto
+ahead_moved system log p s t n is silent =
+    let a = ahead system log p s is in
+    let grown : (t.small).steps ≡ (s.small).steps + n = (silently_counts n s t silent).steps in
+    let counts : (t.small).steps - done_after system log p ≡ ((s.small).steps - ((a.base).small).steps) + n = omega (arith, grown, a.done, a.counts) in
+    ap (option_and_then (silently ((t.small).steps - done_after system log p))) a.there ∙ ap (λ m. silently m a.base) counts
+    ∙ silently-plus ((s.small).steps - ((a.base).small).steps) n a.base s t a.silent silent
+
+-- a step that sends something, after silent ones
+ahead_sent : (system : System) (log : List Entry) (p : Pid) (s b t : ProcState) (n : ℕ) (e : Emission) → silent_upto system log p (s.small).steps ≡ Some s → silently n s ≡ Some b → next_step b ≡ Emits e t
+    → emission_at system log p (t.small).steps ≡ Some (e, t)
+unfolding emission_at
+ahead_sent system log p s b t n e is silent sends =
+    let a = ahead system log p s is in
+    let grown : (b.small).steps ≡ (s.small).steps + n = (silently_counts n s b silent).steps in
+    let one : (t.small).steps ≡ (b.small).steps + 1 = (emits_counts b t e sends).steps in
+    let counts : (t.small).steps - done_after system log p ≡ suc (((s.small).steps - ((a.base).small).steps) + n) = omega (arith, grown, one, a.done, a.counts) in
+    ap (option_and_then (last_emission ((t.small).steps - done_after system log p))) a.there ∙ ap (λ m. last_emission m a.base) counts
+    ∙ ap (option_and_then (λ q. emission_of (next_step q))) (silently-plus ((s.small).steps - ((a.base).small).steps) n a.base s b a.silent silent)
+    ∙ ap emission_of sends
+
+-- ---- one process here
+
+held_only : (p0 : Pid) (h0 : Held) (p : Pid) (h : Held) → option_map (λ (e : Pid × Held). e.1) (find (λ (e : Pid × Held). same_pid e.0 p) ((p0, h0) ∷ [])) ≡ Some h → (p0 ≡ p) × (h0 ≡ h)
+held_only p0 h0 p h is = by_test (same_pid p0 p) refl is
+  where
+    by_test : (b : Bool) → same_pid p0 p ≡ b → option_map (λ (e : Pid × Held). e.1) (cond b (Some (p0, h0)) None) ≡ Some h → (p0 ≡ p) × (h0 ≡ h)
+    by_test true at is = (pid_same p0 p (eqb-true p0.0 p.0 at), cc)
+    by_test false at is = cc
+
+-- the process that is held here, in the log
+held_before : (c : ClusterView) (log : List Entry) (r : Resident) → c.here ≡ held_here (Some r) → c.queue ≡ [] → FollowsBuilt c.system log c
+    → silent_upto c.system log r.pid ((r.process).small).steps ≡ Some (state_of r.process)
+held_before c log r here empty f = ap (λ ps. state_now c.system log ps r.pid ((r.process).small).steps) (sym empty) ∙ f.held r.pid (Runs r.process) (there c r here)
+
+-- ---- it rests
+
+pub rested_none : (c : ClusterView) → c.here ≡ [] → WorkIs c Rests (counted_once c)
+rested_none c here = (ap (λ hs. list_all (λ (e : Pid × Held). is_at_rest e.1) hs) here, refl)
+
+pub rested_some : (c : ClusterView) (r : Resident) → c.here ≡ held_here (Some r) → IsOwn r → has_step (next_step (state_of r.process)) ≡ false → WorkIs c Rests (counted_once c)
+rested_some c r here own none =
+    (ap (λ hs. list_all (λ (e : Pid × Held). is_at_rest e.1) hs) here
+      ∙ (λ i. not (none i || no_take (state_of r.process) own.unlinked none i) && true), refl)
+
+pub goes_on_rested : (c : ClusterView) → GoesOn c (counted_once c)
+goes_on_rested c log now f = record {
+  cursor = f.cursor;
+  places = f.places;
+  held = f.held;
+  each_once = f.each_once;
+  own = f.own;
+  queue = f.queue;
+  counted = λ kept. more_counted (least_steps log log c.number + cond c.tried 1 0) c.steps (f.counted kept);
+}
+
+-- ---- it moved
+
+abbrev pub moved_view : ClusterView → Resident → ClusterView
+moved_view c r = record c { here = held_here (Some r); steps = next_count c.steps }
+
+not_resting : (c : ClusterView) (r : Resident) → c.here ≡ held_here (Some r) → has_step (next_step (state_of r.process)) ≡ true → is_resting c ≡ false
+not_resting c r here some =
+    ap (λ hs. list_all (λ (e : Pid × Held). is_at_rest e.1) hs) here ∙ ap (λ b. not (b || can_take (state_of r.process)) && true) some
+
+some_has : (most : ℕ) (s t : ProcState) → RunsSome most s t → has_step (next_step s) ≡ true
+some_has most s t runs = by_steps runs.steps runs.some runs.silent
+  where
+    by_steps : (n : ℕ) → 1 ≤ n → silently n s ≡ Some t → has_step (next_step s) ≡ true
+    by_steps zero some silent = absurd (omega (arith, some))
+    by_steps (suc n) some silent = silent_has n s t silent
+
+replaced : (p : Pid) (was now : Process) → map (λ (e : Pid × Held). cond (same_pid e.0 p) (p, Runs now) e) ((p, Runs was) ∷ []) ≡ (p, Runs now) ∷ []
+replaced p was now = ap (λ b. cond b (p, Runs now) (p, Runs was) ∷ []) (eq-eqb p.0 p.0 refl)
+
+pub moved_work : (c : ClusterView) (old new : Resident) → c.here ≡ held_here (Some old) → RunsSome 64 (state_of old.process) (state_of new.process) → new.pid ≡ old.pid → WorkIs c Moved (moved_view c new)
+moved_work c old new here runs same =
+    (not_resting c old here (some_has 64 (state_of old.process) (state_of new.process) runs), record {
+      pid = old.pid;
+      was = old.process;
+      now = new.process;
+      steps = runs.steps;
+      some = runs.some;
+      few = runs.few;
+      there = there c old here;
+      silent = runs.silent;
+      rest = ap (λ hs. record c { here = hs; steps = next_count c.steps })
+        (ap (λ p. (p, Runs new.process) ∷ []) same ∙ sym (ap (map (λ (e : Pid × Held). cond (same_pid e.0 old.pid) (old.pid, Runs new.process) e)) here ∙ replaced old.pid old.process new.process));
+    })
+
+pub moved_goes_on : (c : ClusterView) (old new : Resident) → c.here ≡ held_here (Some old) → c.queue ≡ [] → RunsSome 64 (state_of old.process) (state_of new.process) → new.pid ≡ old.pid → GoesOn c (moved_view c new)
+moved_goes_on c old new here empty runs same log now f = record {
+  cursor = f.cursor;
+  places = f.places;
+  held = λ p h at.
+    let one = held_only new.pid (Runs new.process) p h at in
+    let ahead : silent_upto c.system log old.pid ((new.process).small).steps ≡ Some (state_of new.process) =
+          ahead_moved c.system log old.pid (state_of old.process) (state_of new.process) runs.steps (held_before c log old here empty f) runs.silent in
+    let held : IsHeldAs c.system log c.queue new.pid (Runs new.process) =
+          ap (λ ps. state_now c.system log ps new.pid ((new.process).small).steps) empty ∙ ap (λ q. silent_upto c.system log q ((new.process).small).steps) same ∙ ahead in
+    subst (λ q. IsHeldAs c.system log c.queue q h) one.0 (subst (λ h. IsHeldAs c.system log c.queue new.pid h) one.1 held);
+  each_once = ap (λ (p : Pid). rising (p.0 ∷ [])) same ∙ ap (λ hs. rising (pids_held hs)) (sym here) ∙ f.each_once;
+  own = f.own;
+  queue = f.queue;
+  counted = λ kept. more_counted (least_steps log log c.number + cond c.tried 1 0) c.steps (f.counted kept);
+}
+
+-- ---- it posted
+
+-- each cluster of a system lives in such a log
+pub lives_built : (system : System) (log : List Entry) (k : ClusterNo) → IsLegalBy BuiltMayFollow system log → k.0 < system.clusters → is_living (placement system log) (Cluster k) ≡ true
+lives_built system log k legal has =
+    let roots : List Placed = map placed_root (roots_of system) in
+    let size : k.0 < length (range_with_len 0 system.clusters) = omega (arith, length-range_with_len 0 system.clusters, has) in
+    let number : slice_get (range_with_len 0 system.clusters) k.0 ≡ Some k.0 = slice_get-get_or (range_with_len 0 system.clusters) k.0 0 size ∙ ap Some (get_or-range_with_len 0 system.clusters k.0 0 has ∙ zero-add k.0) in
+    let at : slice_get (map (boot_cluster roots) (range_with_len 0 system.clusters)) k.0 ≡ Some (boot_cluster roots k.0) = slice_get-map (boot_cluster roots) (range_with_len 0 system.clusters) k.0 ∙ ap (option_map (boot_cluster roots)) number in
+    ap (λ (cs : List ClusterPlace). option_map_or (λ (c : ClusterPlace). c.lives) (slice_get cs k.0) false) (built_clusters system log legal)
+    ∙ ap (λ (o : Option ClusterPlace). option_map_or (λ (c : ClusterPlace). c.lives) o false) at
+
+abbrev pub posted_view : ClusterView → Resident → Post → ClusterView
+posted_view c r post = record c { here = held_here (Some r); queue = post ∷ []; steps = next_count c.steps }
+
+terminal_of : (to : To) → is_outward_to to ≡ true → is_to_terminal to ≡ true
+terminal_of (Proc p e) h = absurd (true≢false (sym h))
+terminal_of (Tty t) h = refl
+
+built_of : (pid : Pid) (at : ℕ) (e : Emission) → is_outward e ≡ true → is_built (told_of pid at e) ≡ true
+built_of pid at (Sent letter) out = terminal_of letter.to out
+built_of pid at (Ended end) out = refl
+
+-- what is posted tells of the process
+tells_of : (s t : ProcState) (pid : Pid) (at : ℕ) (e : Emission) → next_step s ≡ Emits e t → (s.small).pid ≡ pid → Tells pid at e (told_of pid at e)
+tells_of s t pid at (Sent letter) sends own = (letter_is_own s t letter sends ∙ own, refl)
+tells_of s t pid at (Ended end) sends own = refl
+
+moves_of : (pid : Pid) (at : ℕ) (k : ClusterNo) (e : Emission) → Tells pid at e (told_of pid at e) → move_of pid (post_told k pid at e ∷ []) ≡ Some (told_of pid at e)
+moves_of pid at k (Sent letter) tells = ap (λ b. option_map (λ (post : Post). post.what) (cond b (Some (post_told k pid at (Sent letter))) None)) (eq-eqb (letter.from).0 pid.0 (ap (λ (p : Pid). p.0) tells.0))
+moves_of pid at k (Ended end) tells = ap (λ b. option_map (λ (post : Post). post.what) (cond b (Some (post_told k pid at (Ended end))) None)) (eq-eqb pid.0 pid.0 refl)
+
+items_of_post : (system : System) (log : List Entry) (pid : Pid) (at : ℕ) (e : Emission) (t : ProcState) → Tells pid at e (told_of pid at e) → emission_at system log pid at ≡ Some (e, t)
+    → option_map (taken_by (told_of pid at e)) (after_items system log (told_of pid at e)) ≡ Some t
+items_of_post system log pid at (Sent letter) t tells is =
+    ap (λ p. option_map (taken_by (Mail at letter)) (option_map (λ (r : Emission × ProcState). r.1) (emission_at system log p at))) tells.0 ∙ ap (λ o. option_map (taken_by (Mail at letter)) (option_map (λ (r : Emission × ProcState). r.1) o)) is
+items_of_post system log pid at (Ended end) t tells is = ap (λ o. option_map (taken_by (Exit pid at end)) (option_map (λ (r : Emission × ProcState). r.1) o)) is
+
+kind_of_post : (system : System) (log : List Entry) (k : ClusterNo) (pid : Pid) (at : ℕ) (e : Emission) (t : ProcState) → Tells pid at e (told_of pid at e) → emission_at system log pid at ≡ Some (e, t) → IsLegalBy BuiltMayFollow system log
+    → KindHolds system log (entry_of system log (post_told k pid at e)) (told_of pid at e)
+kind_of_post system log k pid at (Sent letter) t tells is legal = ap (λ p. option_map (λ (r : Emission × ProcState). r.0) (emission_at system log p at)) tells.0 ∙ ap (option_map (λ (r : Emission × ProcState). r.0)) is
+kind_of_post system log k pid at (Ended end) t tells is legal = (ap (option_map (λ (r : Emission × ProcState). r.0)) is, no_child system log pid (built_births system log legal))
+
+right_of_post : (places : Places) (k : ClusterNo) (pid : Pid) (at : ℕ) (e : Emission) → Tells pid at e (told_of pid at e) → is_by_home places (Cluster k) (Some pid) ≡ true → is_by_right places (Cluster k) (told_of pid at e) ≡ true
+right_of_post places k pid at (Sent letter) tells h = ap (λ p. is_by_home places (Cluster k) (Some p)) tells.0 ∙ h
+right_of_post places k pid at (Ended end) tells h = h
+
+home_by : (places : Places) (k : ClusterNo) (p : Pid) → is_living places (Cluster k) ≡ true → HomeHere places p k → is_by_home places (Cluster k) (Some p) ≡ true
+home_by places k p lives here =
+    let home : home_at places p ≡ Some (here.placed).home = ap (option_map (λ (q : Placed). q.home)) here.found in
+    let same : same_cluster k (here.placed).home ≡ true = eq-eqb k.0 ((here.placed).home).0 (sym (eqb-true ((here.placed).home).0 k.0 here.home)) in
+    (λ i. lives i && is_by (Cluster k) (home i)) ∙ same
+
+module _ (c : ClusterView) (old new : Resident) (post : Post) (e : Emission) (runs : RunsAndSends 64 (state_of old.process) e (state_of new.process))
+    (post_is : post ≡ post_told c.number old.pid ((new.process).small).steps e) (same : new.pid ≡ old.pid) (here : c.here ≡ held_here (Some old)) (empty : c.queue ≡ []) (own : IsOwn old) where
+
+  abbrev at : ℕ
+  at = ((new.process).small).steps
+
+  before_own : ((runs.before).small).pid ≡ old.pid
+  before_own = (silently_counts runs.steps (state_of old.process) runs.before runs.silent).pid ∙ own.pid
+
+  tells : Tells old.pid at e (told_of old.pid at e)
+  tells = tells_of runs.before (state_of new.process) old.pid at e runs.sends before_own
+
+  emission_is : (log : List Entry) → FollowsBuilt c.system log c → emission_at c.system log old.pid at ≡ Some (e, state_of new.process)
+  emission_is log f = ahead_sent c.system log old.pid (state_of old.process) runs.before (state_of new.process) runs.steps e (held_before c log old here empty f) runs.silent runs.sends
+
+  pub posted_built : is_built post.what ≡ true
+  posted_built = ap (λ (p : Post). is_built p.what) post_is
+      ∙ built_of old.pid at e (sent_outward runs.before (state_of new.process) e (silently_stays runs.steps (state_of old.process) runs.before own.unlinked runs.silent) runs.sends)
+
+  pub posted_own : is_from c.number post.by ≡ true
+  posted_own = ap (λ (p : Post). is_from c.number p.by) post_is ∙ eq-eqb (c.number).0 (c.number).0 refl
+
+  may_follow : (log : List Entry) → IsOpen BuiltMayFollow c.system log → FollowsBuilt c.system log c → pids_differ (c.places).placed ≡ true → (c.number).0 < (c.system).clusters → BuiltMayFollow c.system log (entry_of c.system log (post_told c.number old.pid at e))
+  may_follow log now f differ has =
+      let exact : home_pids c.system log c.number ≡ (old.pid).0 ∷ [] = exactly (Some old) (home_pids c.system log c.number) (ap (λ hs. rising (pids_held hs)) (sym here) ∙ f.each_once) in
+      let home = home_here (placement c.system log) c.number old.pid (ap (λ (p : Places). pids_differ p.placed) (sym f.places) ∙ differ) exact in
+      record {
+        stands = record {
+          placed = (refl, refl, now.1);
+          by_right = right_of_post (placement c.system log) c.number old.pid at e tells (home_by (placement c.system log) c.number old.pid (lives_built c.system log c.number now.0 has) home);
+          applies = sent_applies c.system log (entry_of c.system log (post_told c.number old.pid at e)) old.pid at e (state_of new.process) (emission_is log f) tells;
+          kind = kind_of_post c.system log c.number old.pid at e (state_of new.process) tells (emission_is log f) now.0;
+        };
+        built = built_of old.pid at e (sent_outward runs.before (state_of new.process) e (silently_stays runs.steps (state_of old.process) runs.before own.unlinked runs.silent) runs.sends);
+      }
+
+  pub posted_goes_on : pids_differ (c.places).placed ≡ true → (c.number).0 < (c.system).clusters → GoesOn c (posted_view c new post)
+  posted_goes_on differ has log now f = record {
+      cursor = f.cursor;
+      places = f.places;
+      held = λ p h there.
+        let one = held_only new.pid (Runs new.process) p h there in
+        let held : IsHeldAs c.system log (post ∷ []) old.pid (Runs new.process) =
+              ap (λ (q : Post). state_now c.system log (q ∷ []) old.pid at) post_is ∙ ap (state_by c.system log old.pid at) (moves_of old.pid at c.number e tells)
+              ∙ items_of_post c.system log old.pid at e (state_of new.process) tells (emission_is log f) in
+        subst (λ q. IsHeldAs c.system log (post ∷ []) q h) (sym same ∙ one.0) (subst (λ h. IsHeldAs c.system log (post ∷ []) old.pid h) one.1 held);
+      each_once = ap (λ (p : Pid). rising (p.0 ∷ [])) same ∙ ap (λ hs. rising (pids_held hs)) (sym here) ∙ f.each_once;
+      own = ap (λ b. b && true) posted_own;
+      queue = (subst (λ (q : Post). BuiltMayFollow c.system log (entry_of c.system log q)) (sym post_is) (may_follow log now f differ has), tt);
+      counted = λ kept. more_counted (least_steps log log c.number + cond c.tried 1 0) c.steps (f.counted kept);
+    }
+
+  sends_has : (n : ℕ) (s : ProcState) → silently n s ≡ Some runs.before → has_step (next_step s) ≡ true
+  sends_has zero s is = let at_once : s ≡ runs.before = none_silent s runs.before is in ap (λ s. has_step (next_step s)) at_once ∙ ap has_step runs.sends
+  sends_has (suc n) s is = silent_has n s runs.before is
+
+  pub posted_work : WorkIs c Queued (posted_view c new post)
+  posted_work = (not_resting c old here (sends_has runs.steps (state_of old.process) runs.silent), refl)
