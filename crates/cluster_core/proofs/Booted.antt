@@ -20,7 +20,7 @@ use Rattle.channel_table.specs.Changes.{pids_differ}
 use Rattle.cert_sched.specs.Schedule.{placed_root, places_at_boot, placement, plain_after, process_after, done_after}
 use Rattle.cert_sched.specs.Steps.{silent_upto}
 use Rattle.cert_sched.specs.Parts.{rising}
-use Rattle.cluster_core.specs.declared.cluster.Resident.{Resident}
+use Rattle.cluster_core.specs.declared.resident.Resident.{Resident}
 use Rattle.cluster_core.specs.View.{ClusterView, Held, Runs, held_at}
 use Rattle.cluster_core.specs.Parts.{held_here}
 use Rattle.cluster_core.specs.Holds.{IsHeldAs, home_pids}

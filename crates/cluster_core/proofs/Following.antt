@@ -39,7 +39,7 @@ use Rattle.cert_sched.proofs.BuiltLaws.{built_births, built_clusters, built_unlo
 use Rattle.plain_kernel.proofs.Entries.{some_same}
 use Rattle.std.proofs.lemmas.List.Sums.{sum_by-append}
 use Rattle.cert_sched.proofs.StepLaws.{Tells, sent_applies}
-use Rattle.cluster_core.specs.declared.cluster.Resident.{Resident}
+use Rattle.cluster_core.specs.declared.resident.Resident.{Resident}
 use Rattle.cluster_core.specs.View.{ClusterView, Held, Runs, held_at, head_of, after_head, after_sent, next_count}
 use Rattle.cluster_core.specs.Parts.{held_here, posts_of}
 use Rattle.cluster_core.specs.Queue.{entry_of, IsQueueLegal, tells_steps, is_move_of, move_of, taken_by, state_by, state_now}

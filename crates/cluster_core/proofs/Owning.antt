@@ -5,7 +5,7 @@ use Rattle.proc_state.specs.declared.process.Process.{Process}
 use Rattle.proc_state.specs.State.{ProcState, state_of}
 use Rattle.sys_calls.specs.declared.steps.Emission.{Emission}
 use Rattle.sys_calls.proofs.Counting.{silently_counts, emits_counts}
-use Rattle.cluster_core.specs.declared.cluster.Resident.{Resident}
+use Rattle.cluster_core.specs.declared.resident.Resident.{Resident}
 use Rattle.cluster_core.specs.Parts.{IsOwn}
 use Rattle.cluster_core.specs.Quantum.{RunsSome, RunsAndSends, are_unlinked}
 use Rattle.cluster_core.proofs.Unlinked.{silently_stays, sent_stays}

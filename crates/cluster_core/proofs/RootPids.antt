@@ -22,7 +22,7 @@ use Rattle.bus_msg.specs.declared.placed.Placed.{Placed}
 use Rattle.bus_msg.specs.Places.{same_pid, same_cluster}
 use Rattle.channel_table.specs.Changes.{pids_differ}
 use Rattle.cert_sched.specs.Schedule.{placed_root}
-use Rattle.cluster_core.specs.declared.cluster.Resident.{Resident}
+use Rattle.cluster_core.specs.declared.resident.Resident.{Resident}
 use Rattle.cluster_core.specs.Booting.{next_pid, roots_in, IsRootProcess, IsRootNumber, IsOnlyRoot}
 
 abbrev pub has_home : ℕ → Root → Bool

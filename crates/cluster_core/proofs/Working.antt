@@ -40,7 +40,7 @@ use Rattle.cert_sched.specs.Built.{is_built, is_to_terminal, BuiltMayFollow}
 use Rattle.cert_sched.specs.Losses.{least_steps, capped, is_from}
 use Rattle.cert_sched.proofs.BuiltLaws.{built_births, built_clusters}
 use Rattle.cert_sched.proofs.StepLaws.{Tells, sent_applies}
-use Rattle.cluster_core.specs.declared.cluster.Resident.{Resident}
+use Rattle.cluster_core.specs.declared.resident.Resident.{Resident}
 use Rattle.cluster_core.specs.declared.worked.Worked.TheVariants.{Moved, Queued, Rests}
 use Rattle.cluster_core.specs.View.{ClusterView, Held, Runs, held_at, head_of, next_count, counted_once}
 use Rattle.cluster_core.specs.Parts.{held_here, posts_of, IsOwn}

@@ -10,7 +10,7 @@ use Rattle.proc_state.specs.State.{state_of}
 use Rattle.proc_state.specs.Ends.{is_linked}
 use Rattle.plain_kernel.specs.Kernel.{root_process}
 use Rattle.bus_msg.specs.Places.{same_cluster}
-use Rattle.cluster_core.specs.declared.cluster.Resident.{Resident}
+use Rattle.cluster_core.specs.declared.resident.Resident.{Resident}
 
 -- the roots of a system that are at home in a cluster, each with its pid
 abbrev pub roots_in : System → ClusterNo → List (Pid × Root)

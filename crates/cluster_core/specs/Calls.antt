@@ -2,6 +2,7 @@
 use Rattle.std.specs.Prelude.{ℕ, ◌+◌, ◌≤◌, ◌≡◌, ◌⊎◌, Bool, true, false, not, ◌&&◌, ◌||◌, if◌then◌else◌, List, [], ◌∷◌, ◌++◌, map, filter, Option, Some, None, is_some}
 use Rattle.std.specs.List.{list_all}
 use Rattle.t32_base.specs.declared.process.Pid.{Pid}
+use Rattle.t32_base.specs.declared.process.ClusterNo.{ClusterNo}
 use Rattle.sys_text.specs.declared.system.System.{System}
 use Rattle.proc_state.specs.declared.process.Process.{Process}
 use Rattle.proc_state.specs.State.{ProcState, state_of, can_take}
@@ -17,6 +18,16 @@ use Rattle.cluster_core.specs.declared.worked.Worked.{Worked}
 use Rattle.cluster_core.specs.declared.worked.Worked.TheVariants.{Moved, Queued, Waits as IsWaiting, Rests}
 use Rattle.cluster_core.specs.View.{ClusterView, Held, Runs, Rolls, Waits, held_at, head_of, next_count, counted_once}
 use Rattle.cluster_core.specs.Follows.{FollowsBuilt, IsOpen, StandsBetween}
+
+-- ---- the start
+
+-- a cluster that has taken in no entry, sent nothing and made no kernel step
+pub record IsFirst (system : System) (number : ClusterNo) (c : ClusterView) : Type 0 where
+  pub system_is : c.system ≡ system
+  pub number_is : c.number ≡ number
+  pub queue : c.queue ≡ []
+  pub tried : c.tried ≡ false
+  pub steps : c.steps ≡ 0
 
 -- ---- following
 
@@ -71,18 +82,24 @@ is_at_rest (Runs p) = not (has_step (next_step (state_of p)) || can_take (state_
 is_at_rest (Rolls p counts births) = false
 is_at_rest (Waits kept) = false
 
+abbrev pub are_at_rest : List (Pid × Held) → Bool
+are_at_rest here = list_all (λ (e : Pid × Held). is_at_rest e.1) here
+
 -- nothing here can move
 abbrev pub is_resting : ClusterView → Bool
-is_resting c = list_all (λ (e : Pid × Held). is_at_rest e.1) c.here
+is_resting c = are_at_rest c.here
 
 abbrev pub steps_of_held : Held → ℕ
 steps_of_held (Runs p) = (p.small).steps
 steps_of_held (Rolls p counts births) = (p.small).steps
 steps_of_held (Waits kept) = 0
 
+abbrev pub rests_in : List (Pid × Held) → List (Pid × ℕ)
+rests_in here = map (λ (e : Pid × Held). (e.0, steps_of_held e.1)) here
+
 -- each process here with its steps
 abbrev pub rests_of : ClusterView → List (Pid × ℕ)
-rests_of c = map (λ (e : Pid × Held). (e.0, steps_of_held e.1)) c.here
+rests_of c = rests_in c.here
 
 -- one process made 1 to 64 silent steps, and nothing else changed
 pub record MovedOne (old new : ClusterView) : Type 0 where

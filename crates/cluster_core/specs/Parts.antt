@@ -8,7 +8,7 @@ use Rattle.sys_text.specs.Valid.{is_system}
 use Rattle.bus_msg.specs.declared.entry.Post.{Post}
 use Rattle.cert_sched.specs.Built.{is_built}
 use Rattle.cert_sched.specs.Losses.{is_from}
-use Rattle.cluster_core.specs.declared.cluster.Resident.{Resident}
+use Rattle.cluster_core.specs.declared.resident.Resident.{Resident}
 use Rattle.cluster_core.specs.View.{Held, Runs}
 use Rattle.cluster_core.specs.Quantum.{are_unlinked}
 

@@ -11,7 +11,7 @@ use Rattle.bus_msg.specs.declared.entry.What.{What}
 use Rattle.bus_msg.specs.declared.entry.What.TheVariants.{Mail, Exit}
 use Rattle.bus_msg.specs.declared.entry.By.TheVariants.{Cluster}
 use Rattle.bus_msg.specs.declared.entry.Post.{Post}
-use Rattle.cluster_core.specs.declared.cluster.Resident.{Resident}
+use Rattle.cluster_core.specs.declared.resident.Resident.{Resident}
 use Rattle.cluster_core.specs.declared.turn.Turn.{Turn}
 use Rattle.cluster_core.specs.declared.turn.Turn.TheVariants.{Moved, Posted, Rests}
 use Rattle.cluster_core.specs.Quantum.{RunsSome, RunsAndSends}

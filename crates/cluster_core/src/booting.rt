@@ -5,7 +5,7 @@ ghost use Rattle.sys_text.specs.Boot.{roots_of};
 ghost use Rattle.cert_sched.specs.Schedule.{placed_root, places_at_boot};
 ghost use Rattle.cluster_core.specs.Booting.{IsResident, IsRootNumber};
 
-use crate::cluster::Resident;
+use crate::resident::Resident;
 use bus_msg::placed::Placed;
 use channel_table::placement::Placement;
 use plain_kernel::booting::{pid_after, root_of};

@@ -1,22 +1,23 @@
 //! A cluster with its process.
-ghost use Rattle.std.specs.Prelude.{◌≡◌, ◌<◌, ◌^◌, ◌+◌, ◌-◌, [], ◌∷◌, Some, None, OnOk, IfOk, OnErr, is_some, true, false, min, option_map};
+ghost use Rattle.std.specs.Prelude.{◌≡◌, ◌<◌, ◌≤◌, ◌^◌, ◌-◌, ◌==◌, [], Some, None, OnOk, IfOk, is_some, true, count_by, if◌then◌else◌};
 ghost use Rattle.std.specs.Option.{option_copied};
-ghost use Rattle.cluster_core.specs.View.{ClusterView, head_of, after_sent, counted_once, tried_once};
+ghost use Rattle.sys_text.specs.Valid.{is_system};
+ghost use Rattle.cluster_core.specs.View.{head_of, after_sent, counted_once, tried_once};
+ghost use Rattle.cluster_core.specs.Follows.{FollowsBuilt};
+ghost use Rattle.cluster_core.specs.Calls.{Absorbs, absorbed, FollowsSome, GoesOn, is_resting, IsFirst, KeepsPlace, ReadyFor, rests_of, WorkIs};
 
+use crate::booting::{placement_at_boot, resident_at_boot};
+use crate::resident::{let_go, Resident, resting};
+use crate::turn::{take_turn, Turn};
+use crate::worked::Worked;
 use bus_msg::entry::{Entry, Post};
 use channel_table::placement::Placement;
-use proc_state::process::Process;
 use std::alloc::Global;
 use std::marker::Model;
 use sys_text::system::System;
+use t32_base::lists::List;
 use t32_base::process::{ClusterNo, Pid};
-
-/// A process at home in a cluster.
-#[derive(Drop)]
-pub struct Resident {
-    pub pid: Pid,
-    pub process: Process,
-}
+use t32_base::streams::NoMemory;
 
 /// A cluster of a system: the placement, its process, and the post that it has to send.
 #[derive(Drop)]
@@ -60,6 +61,33 @@ impl<'s> Model for Cluster<'s> {
 }
 
 impl<'s> Cluster<'s> {
+    /// A cluster at its start: the placement of the roots, and its root with its image. It has one at most.
+    pub fn boot(
+        alloc: Global,
+        system: &'s System,
+        number: ClusterNo,
+    ) -> Result<Cluster<'s>, NoMemory>
+        requires valid { is_system system.now ≡ true }
+        requires has { number.0 < system.now.clusters }
+        requires one { count_by (λ r. r.home.0 == number.0) system.now.roots ≤ 1 }
+        ensures follows { IfOk result (FollowsBuilt system.now []) }
+        ensures begins { IfOk result (IsFirst system.now number) }
+    {
+        let places = placement_at_boot(alloc, system)?;
+        let here = resident_at_boot(alloc, system, number)?;
+        Ok(Cluster {
+            alloc,
+            system,
+            number,
+            cursor: 0,
+            places,
+            here,
+            queue: None,
+            tried: false,
+            steps: 0,
+        })
+    }
+
     /// The head of the queue: none exactly where the queue is empty. Takes no memory.
     pub fn head(&self) -> Option<&Post>
         ensures { option_copied result ≡ head_of self.now.queue }
@@ -108,6 +136,51 @@ impl<'s> Cluster<'s> {
         self.tried = false;
     }
 
+    /// Takes in the next entry of the log. Takes no memory.
+    pub fn absorb(&mut self, entry: &Entry)
+        requires room { self.old.cursor < 2 ^ 64 - 1 }
+        requires ready { ReadyFor entry.now self.old }
+        ensures absorbed { self.new ≡ absorbed self.old entry.now }
+        ensures follows { Absorbs entry.now self.old self.new }
+    {
+        // A placement tells with its length that no two processes have one pid.
+        let _count = self.places.len();
+        self.cursor += 1;
+        self.places.note(entry);
+        let_go(&mut self.here, &entry.post.what);
+        self.count_step();
+    }
+
+    /// Does the next thing that is to be done here: its process runs, up to something that it sends, or
+    /// nothing can move. After want of memory nothing is said of the cluster but that it can be dropped.
+    pub fn work(&mut self) -> Result<Worked, NoMemory>
+        requires empty { self.old.queue ≡ [] }
+        requires follows { FollowsSome self.old }
+        ensures follows { OnOk result (GoesOn self.old self.new) }
+        ensures work { IfOk result (λ worked. WorkIs self.old worked self.new) }
+        ensures place { OnOk result (KeepsPlace self.old self.new) }
+    {
+        let _count = self.places.len();
+        let turn = take_turn(self.alloc, self.number, &mut self.here)?;
+        self.count_step();
+        match turn {
+            Turn::Moved => Ok(Worked::Moved),
+            Turn::Posted(post) => {
+                self.queue = Some(post);
+                Ok(Worked::Queued)
+            }
+            Turn::Rests => Ok(Worked::Rests),
+        }
+    }
+
+    /// Each process here with its steps: None exactly where something here can move.
+    pub fn rests(&self) -> Result<Option<List<(Pid, u64)>>, NoMemory>
+        ensures { IfOk result (λ rests. rests ≡ (if is_resting self.now then Some (rests_of self.now) else None)) }
+    {
+        resting(self.alloc, &self.here)
+    }
+
+    // One kernel step more.
     fn count_step(&mut self)
         ensures { self.new ≡ counted_once self.old }
     {

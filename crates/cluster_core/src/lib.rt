@@ -4,5 +4,6 @@
 pub mod booting;
 pub mod cluster;
 pub mod quantum;
+pub mod resident;
 pub mod turn;
 pub mod worked;

@@ -3,7 +3,7 @@ ghost use Rattle.std.specs.Prelude.{◌≡◌};
 ghost use Rattle.cluster_core.specs.Parts.{IsOwn, OwnIfThere};
 ghost use Rattle.cluster_core.specs.Turn.{post_told, ResidentTurn, TurnIs};
 
-use crate::cluster::Resident;
+use crate::resident::Resident;
 use crate::quantum::{Quantum, run_quantum};
 use bus_msg::entry::{By, Post, What};
 use proc_state::process::Process;
