@@ -1,15 +1,11 @@
 -- A cluster that takes in the next entry of a log that it follows goes on to follow it.
-use Rattle.std.proofs.Common.{◌≡◌, ℕ, zero, suc, ◌+◌, ◌-◌, ◌*◌, ◌^◌, ◌≤◌, ◌<◌, min, refl, sym, ◌∙◌, ap, subst, arith, List, [], ◌∷◌, ◌++◌, map, length, length-append, Bool, true, false, cond, not, ◌&&◌, ◌||◌, eqb, eqb-true, eq-eqb, ne_eqb, zero-add, add-zero, inl, inr, Option, Some, None, is_some, slice_get, true≢false}
-use Rattle.std.specs.Prelude.{filter, find, ◌≢◌, ◌⊎◌, option_map, option_and_then, count_by}
+use Rattle.std.proofs.Common.{◌≡◌, ℕ, ◌+◌, ◌-◌, ◌≤◌, refl, sym, ◌∙◌, ap, subst, arith, List, [], ◌∷◌, ◌++◌, map, length, length-append, Bool, true, false, cond, not, ◌&&◌, eqb-true, eq-eqb, zero-add, add-zero, inl, inr, Option, Some, None, slice_get, true≢false}
+use Rattle.std.specs.Prelude.{filter, find, ◌≢◌, option_map, option_and_then, count_by}
 use Rattle.std.specs.List.{list_all, list_any}
 use Rattle.std.specs.Option.{option_map_or}
 use Rattle.t32_base.specs.declared.process.Pid.{Pid}
-use Rattle.t32_base.specs.declared.process.End.{End}
 use Rattle.t32_base.specs.declared.process.ClusterNo.{ClusterNo}
-use Rattle.t32_base.specs.declared.letter.Letter.{Letter}
-use Rattle.t32_base.specs.declared.letter.BackRec.{BackRec}
 use Rattle.sys_text.specs.declared.system.System.{System}
-use Rattle.proc_state.specs.declared.process.Process.{Process}
 use Rattle.proc_state.specs.State.{ProcState, state_of}
 use Rattle.sys_calls.specs.declared.steps.Emission.{Emission}
 use Rattle.sys_calls.specs.declared.steps.Emission.TheVariants.{Mail as Sent, Exit as Ended}
@@ -21,18 +17,18 @@ use Rattle.bus_msg.specs.declared.entry.By.TheVariants.{Cluster, Bus}
 use Rattle.bus_msg.specs.declared.entry.Post.{Post}
 use Rattle.bus_msg.specs.declared.entry.Entry.{Entry}
 use Rattle.bus_msg.specs.declared.placed.Placed.{Placed}
-use Rattle.bus_msg.specs.Places.{Places, ClusterPlace, same_pid, same_cluster, is_at_home, unended_at, lives_in}
-use Rattle.bus_msg.specs.PlacedAfter.{what, placed_after, after_exit, with_each}
+use Rattle.bus_msg.specs.Places.{Places, ClusterPlace, same_pid, unended_at}
+use Rattle.bus_msg.specs.PlacedAfter.{what, placed_after}
 use Rattle.channel_table.specs.Changes.{pids_differ}
 use Rattle.cert_sched.specs.Parts.{rising}
 use Rattle.cert_sched.specs.Schedule.{placement, process_after, done_after}
 use Rattle.cert_sched.specs.Family.{has_unsynced_child, births_of, is_unsynced}
-use Rattle.cert_sched.specs.Steps.{process_of, silent_upto, emission_at, after_items}
-use Rattle.cert_sched.specs.Rules.{is_over, is_by, is_bus, is_living, home_at, is_by_home, is_by_right}
-use Rattle.cert_sched.specs.Kinds.{IsSent, ChildrenSynced, KindHolds}
-use Rattle.cert_sched.specs.Legal.{IsLegalBy, Stands}
+use Rattle.cert_sched.specs.Steps.{process_of, silent_upto, after_items}
+use Rattle.cert_sched.specs.Rules.{is_over, is_by, is_living, home_at, is_by_home, is_by_right}
+use Rattle.cert_sched.specs.Kinds.{IsSent, KindHolds}
+use Rattle.cert_sched.specs.Legal.{IsLegalBy}
 use Rattle.cert_sched.specs.Built.{is_built, BuiltMayFollow}
-use Rattle.cert_sched.specs.Losses.{is_from, is_by_cluster, is_crash_of, was_lost_in, least_steps, capped}
+use Rattle.cert_sched.specs.Losses.{is_from, is_by_cluster, least_steps, capped}
 use Rattle.cert_sched.specs.Scripted.{is_done}
 use Rattle.cert_sched.proofs.LogLaws.{placement-snoc, IsLegal-last}
 use Rattle.cert_sched.proofs.BuiltLaws.{built_births, built_clusters, built_unlost}
@@ -43,7 +39,7 @@ use Rattle.cluster_core.specs.declared.resident.Resident.{Resident}
 use Rattle.cluster_core.specs.View.{ClusterView, Held, Runs, held_at, head_of, after_head, after_sent, next_count}
 use Rattle.cluster_core.specs.Parts.{held_here, posts_of}
 use Rattle.cluster_core.specs.Queue.{entry_of, IsQueueLegal, tells_steps, is_move_of, move_of, taken_by, state_by, state_now}
-use Rattle.cluster_core.specs.Holds.{HoldsProcesses, IsHeldAs, home_pids}
+use Rattle.cluster_core.specs.Holds.{IsHeldAs, home_pids}
 use Rattle.cluster_core.specs.Follows.{FollowsBuilt, IsOpen, StandsBetween}
 use Rattle.cluster_core.specs.Calls.{IsReady, Absorbs, absorbed, without_ended}
 use Rattle.cluster_core.proofs.Telling.{Telling, telling, not_done, told_process, other_process, done_is, same_silent, same_emission, same_items}
@@ -120,9 +116,11 @@ moves_it p (post ∷ rest) w h = by_test (is_move_of p post) refl h (moves_it p 
     of_process : (o : Option Pid) → option_map_or (λ q. same_pid q p) o false ≡ true → o ≡ Some p
     of_process None h = absurd (true≢false (sym h))
     of_process (Some q) h = ap Some (pid_same q p (eqb-true q.0 p.0 h))
+
     of_post : (b : Bool) → cond b (option_map_or (λ q. same_pid q p) (process_of post.what) false) false ≡ true → process_of post.what ≡ Some p
     of_post true h = of_process (process_of post.what) h
     of_post false h = absurd (true≢false (sym h))
+
     by_test : (b : Bool) → is_move_of p post ≡ b → option_map (λ (post : Post). post.what) (cond b (Some post) (find (is_move_of p) rest)) ≡ Some w → (move_of p rest ≡ Some w → process_of w ≡ Some p) → process_of w ≡ Some p
     by_test true is h more = let same : post.what ≡ w = cc in ap process_of (sym same) ∙ of_post (tells_steps post.what) is
     by_test false is h more = more h
@@ -142,9 +140,11 @@ held_one w p0 h0 p h is = by_what w is
     one : (b : Bool) → same_pid p0 p ≡ b → option_map (λ (e : Pid × Held). e.1) (cond b (Some (p0, h0)) None) ≡ Some h → (p0 ≡ p) × (h0 ≡ h)
     one true at is = (pid_same p0 p (eqb-true p0.0 p.0 at), cc)
     one false at is = cc
+
     exits : (b : Bool) → option_map (λ (e : Pid × Held). e.1) (find (λ (e : Pid × Held). same_pid e.0 p) (cond b ((p0, h0) ∷ []) [])) ≡ Some h → (p0 ≡ p) × (h0 ≡ h)
     exits true is = one (same_pid p0 p) refl is
     exits false is = cc
+
     by_what : (w : What) → option_map (λ (e : Pid × Held). e.1) (find (λ (e : Pid × Held). same_pid e.0 p) (without_ended w ((p0, h0) ∷ []))) ≡ Some h → (p0 ≡ p) × (h0 ≡ h)
     by_what (Exit pid at end) is = exits (not (same_pid p0 pid)) is
     by_what (Mail at letter) is = one (same_pid p0 p) refl is
@@ -257,40 +257,50 @@ sent_stays system log more p at m same h = ap (option_map (λ (r : Emission × P
 post_stays : (system : System) (log : List Entry) (e : Entry) (n : Next system log e) (k : ClusterNo) (post : Post) → is_by_cluster k e ≡ false → is_from k post.by ≡ true → BuiltMayFollow system log (entry_of system log post)
     → BuiltMayFollow system (log ++ e ∷ []) (entry_of system (log ++ e ∷ []) post)
 post_stays system log e n k post foreign own may = record {
-    stands = record {
-      placed = (refl, refl, n.goes_on);
-      by_right = right;
-      applies = sent_applies system more (entry_of system more post) u.pid u.at u.emission u.after (same_emission system log more u.pid u.at same ∙ u.is) u.tells;
-      kind = kind_of u.emission u.tells;
-    };
-    built = may.built;
-  }
+  stands = record {
+    placed = (refl, refl, n.goes_on);
+    by_right = right;
+    applies = sent_applies system more (entry_of system more post) u.pid u.at u.emission u.after (same_emission system log more u.pid u.at same ∙ u.is) u.tells;
+    kind = kind_of u.emission u.tells;
+  };
+  built = may.built;
+}
   where
     more : List Entry
     more = log ++ e ∷ []
+
     u : Telling system log (entry_of system log post)
     u = telling system log (entry_of system log post) may (no_end k (placement system log) post.by post.what own (may.stands).by_right)
+
     other : (u.pid).0 ≢ ((n.told).pid).0
     other is =
         let by_u : is_by post.by (home_at (placement system log) u.pid) ≡ true = by_home_of (placement system log) post.by u.pid u.by_home in
         let by_e : is_by (e.post).by (home_at (placement system log) (n.told).pid) ≡ true = by_home_of (placement system log) (e.post).by (n.told).pid (n.told).by_home in
         true≢false (sym (by_one k post.by (e.post).by (home_at (placement system log) u.pid) by_u (subst (λ p. is_by (e.post).by (home_at (placement system log) p) ≡ true) (sym (pid_same u.pid (n.told).pid is)) by_e) own) ∙ foreign)
+
     same : process_after system more u.pid ≡ process_after system log u.pid
     same = other_process system log e n.told u.pid other
+
     found : home_at (placement system more) u.pid ≡ home_at (placement system log) u.pid
     found = ap (option_map (λ (q : Placed). q.home)) (found_stays system log e n.told u.pid other)
+
     at_home : is_by_home (placement system more) post.by (Some u.pid) ≡ true
     at_home = (λ i. living_stays system log e post.by n i && is_by post.by (found i)) ∙ u.by_home
+
     right_of : (m : Emission) → Tells u.pid u.at m post.what → is_by_right (placement system more) post.by post.what ≡ true
     right_of (Sent letter) tells = ap (is_by_right (placement system more) post.by) tells.1 ∙ ap (λ p. is_by_home (placement system more) post.by (Some p)) tells.0 ∙ at_home
     right_of (Ended end) tells = ap (is_by_right (placement system more) post.by) tells ∙ at_home
+
     right : is_by_right (placement system more) post.by post.what ≡ true
     right = right_of u.emission u.tells
+
     emits : (m : Emission) → u.emission ≡ m → IsSent system more u.pid u.at m
     emits m is = ap (option_map (λ (r : Emission × ProcState). r.0)) (same_emission system log more u.pid u.at same ∙ u.is) ∙ ap Some is
+
     kind_by : (m : Emission) → u.emission ≡ m → Tells u.pid u.at m post.what → KindHolds system more (entry_of system more post) post.what
     kind_by (Sent letter) is tells = subst (λ w. KindHolds system more (entry_of system more post) w) (sym tells.1) (subst (λ p. IsSent system more p u.at (Sent letter)) (sym tells.0) (emits (Sent letter) is))
     kind_by (Ended end) is tells = subst (λ w. KindHolds system more (entry_of system more post) w) (sym tells) (emits (Ended end) is, no_child system more u.pid (built_births system more n.more))
+
     kind_of : (m : Emission) → Tells u.pid u.at m post.what → KindHolds system more (entry_of system more post) post.what
     kind_of m tells = kind_by u.emission refl u.tells
 
@@ -307,7 +317,7 @@ held_foreign c log e n (Some r) is differ f foreign p h at =
     let other = apart c.system log e n.told c.number r.pid here foreign in
     let old : IsHeldAs c.system log c.queue r.pid (Runs r.process) = f.held r.pid (Runs r.process) (there c r is) in
     let new : IsHeldAs c.system (log ++ e ∷ []) c.queue r.pid (Runs r.process) =
-          now_stays c.system log (log ++ e ∷ []) c.queue r.pid ((r.process).small).steps (other_process c.system log e n.told r.pid other) ∙ old in
+    now_stays c.system log (log ++ e ∷ []) c.queue r.pid ((r.process).small).steps (other_process c.system log e n.told r.pid other) ∙ old in
     subst (λ q. IsHeldAs c.system (log ++ e ∷ []) c.queue q h) one.0 (subst (λ h. IsHeldAs c.system (log ++ e ∷ []) c.queue r.pid h) one.1 new)
 
 queue_foreign : (c : ClusterView) (log : List Entry) (e : Entry) (n : Next c.system log e) (q : Option Post) → is_by_cluster c.number e ≡ false → list_all (λ (post : Post). is_from c.number post.by) (posts_of q) ≡ true
@@ -331,7 +341,7 @@ follows_foreign c log e n r q here_is queue_is differ f foreign = record {
   each_once = ap rising (once_after c.system log e n.told c.number c.here (exactly r (home_pids c.system log c.number) (ap (λ here. rising (pids_held here)) (sym here_is) ∙ f.each_once) ∙ ap pids_held (sym here_is)));
   own = f.own;
   queue = subst (IsQueueLegal BuiltMayFollow c.system (log ++ e ∷ [])) (sym queue_is)
-    (queue_foreign c log e n q foreign (subst (λ ps. list_all (λ (post : Post). is_from c.number post.by) ps ≡ true) queue_is f.own) (subst (IsQueueLegal BuiltMayFollow c.system log) queue_is f.queue));
+      (queue_foreign c log e n q foreign (subst (λ ps. list_all (λ (post : Post). is_from c.number post.by) ps ≡ true) queue_is f.own) (subst (IsQueueLegal BuiltMayFollow c.system log) queue_is f.queue));
   counted = λ kept. counted_foreign c log e foreign (f.counted (built_unlost c.system log c.number n.legal));
 }
 
@@ -407,8 +417,10 @@ now_told system log e n p s was = by_pid (same_pid (n.told).pid p) refl
   where
     t : Telling system log e
     t = n.told
+
     more : List Entry
     more = log ++ e ∷ []
+
     move_is : (b : Bool) → same_pid t.pid p ≡ b → move_of p (e.post ∷ []) ≡ cond b (Some (what e)) None
     move_is b is =
         ap (λ c. option_map (λ (post : Post). post.what) (cond c (Some (e.post)) None)) (ap (λ d. cond d (option_map_or (λ q. same_pid q p) (process_of (what e)) false) false) (tells_same system log e t) ∙ ap (λ o. option_map_or (λ q. same_pid q p) o false) t.process ∙ is)
@@ -417,6 +429,7 @@ now_told system log e n p s was = by_pid (same_pid (n.told).pid p) refl
         by_bool : (b : Bool) → option_map (λ (post : Post). post.what) (cond b (Some (e.post)) None) ≡ cond b (Some (what e)) None
         by_bool true = refl
         by_bool false = refl
+
     by_pid : (b : Bool) → same_pid t.pid p ≡ b → state_now system more [] p (s.small).steps ≡ Some s
     by_pid true is =
         let me : t.pid ≡ p = pid_same t.pid p (eqb-true (t.pid).0 p.0 is) in
@@ -437,7 +450,7 @@ held_own c log e n l (Some r) is p h at =
     let here : (l.before).here ≡ held_here (Some r) = sym (ap (λ (d : ClusterView). d.here) l.same) ∙ is in
     let old : state_now c.system log (l.before).queue r.pid ((r.process).small).steps ≡ Some (state_of r.process) = (l.followed).held r.pid (Runs r.process) (there l.before r here) in
     let new : IsHeldAs c.system (log ++ e ∷ []) [] r.pid (Runs r.process) =
-          now_told c.system log e n r.pid (state_of r.process) (ap (λ ps. state_now c.system log ps r.pid ((r.process).small).steps) (sym l.posts) ∙ old) in
+    now_told c.system log e n r.pid (state_of r.process) (ap (λ ps. state_now c.system log ps r.pid ((r.process).small).steps) (sym l.posts) ∙ old) in
     subst (λ q. IsHeldAs c.system (log ++ e ∷ []) [] q h) one.0 (subst (λ h. IsHeldAs c.system (log ++ e ∷ []) [] r.pid h) one.1 new)
 
 counted_own : (system : System) (log : List Entry) (e : Entry) (k : ClusterNo) (tried : Bool) (steps : ℕ) → tried ≡ true → capped (least_steps log log k + cond tried 1 0) ≤ steps
@@ -462,12 +475,12 @@ follows_own c log e n l r here_is empty =
       own = ap (λ ps. list_all (λ (post : Post). is_from c.number post.by) ps) empty;
       queue = subst (IsQueueLegal BuiltMayFollow c.system (log ++ e ∷ [])) (sym empty) tt;
       counted = λ kept.
-        let steps : (l.before).steps ≡ c.steps = sym (ap (λ (d : ClusterView). d.steps) l.same) in
-        let untried : c.tried ≡ false = ap (λ (d : ClusterView). d.tried) l.same in
-        let before : capped (least_steps log log c.number + cond (l.before).tried 1 0) ≤ c.steps =
-              subst (λ s. capped (least_steps log log c.number + cond (l.before).tried 1 0) ≤ s) steps
-                (subst (λ k. capped (least_steps log log k + cond (l.before).tried 1 0) ≤ (l.before).steps) number (f.counted (built_unlost c.system log (l.before).number n.legal))) in
-        subst (λ b. capped (least_steps (log ++ e ∷ []) (log ++ e ∷ []) c.number + cond b 1 0) ≤ next_count c.steps) (sym untried) (counted_own c.system log e c.number (l.before).tried c.steps l.tried before);
+          let steps : (l.before).steps ≡ c.steps = sym (ap (λ (d : ClusterView). d.steps) l.same) in
+          let untried : c.tried ≡ false = ap (λ (d : ClusterView). d.tried) l.same in
+          let before : capped (least_steps log log c.number + cond (l.before).tried 1 0) ≤ c.steps =
+          subst (λ s. capped (least_steps log log c.number + cond (l.before).tried 1 0) ≤ s) steps
+          (subst (λ k. capped (least_steps log log k + cond (l.before).tried 1 0) ≤ (l.before).steps) number (f.counted (built_unlost c.system log (l.before).number n.legal))) in
+          subst (λ b. capped (least_steps (log ++ e ∷ []) (log ++ e ∷ []) c.number + cond b 1 0) ≤ next_count c.steps) (sym untried) (counted_own c.system log e c.number (l.before).tried c.steps l.tried before);
     }
 
 -- a cluster that takes in an entry for which it is ready

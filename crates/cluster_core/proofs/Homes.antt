@@ -1,5 +1,5 @@
 -- The processes at home in a cluster, where that is one at most.
-use Rattle.std.proofs.Common.{◌≡◌, ℕ, zero, suc, ◌+◌, ◌<◌, refl, sym, ◌∙◌, ap, subst, arith, List, [], ◌∷◌, ◌++◌, map, length, Bool, true, false, cond, not, ◌&&◌, ◌||◌, eqb, eqb-true, eq-eqb, ltb, Option, Some, None, true≢false}
+use Rattle.std.proofs.Common.{◌≡◌, ℕ, refl, sym, ◌∙◌, ap, List, [], ◌∷◌, map, Bool, true, false, cond, not, ◌&&◌, ◌||◌, eqb, eqb-true, eq-eqb, ltb, Option, Some, true≢false}
 use Rattle.std.specs.Prelude.{filter, find, ◌≢◌}
 use Rattle.std.specs.List.{list_any}
 use Rattle.t32_base.specs.declared.process.Pid.{Pid}
@@ -63,9 +63,11 @@ among k (q ∷ qs) p ps r h is = by_test (is_at_home k q) (sym (home_more k q qs
     here : (b : Bool) → b ≡ true → (b || list_any (λ (q : Placed). same_pid q.pid r) qs) ≡ true
     here true e = refl
     here false e = absurd (true≢false (sym e))
+
     later : (b : Bool) → list_any (λ (q : Placed). same_pid q.pid r) qs ≡ true → (b || list_any (λ (q : Placed). same_pid q.pid r) qs) ≡ true
     later true e = refl
     later false e = e
+
     by_test : (b : Bool) → cond b ((q.pid).0 ∷ pids_home k qs) (pids_home k qs) ≡ p ∷ ps → (pids_home k qs ≡ p ∷ ps → list_any (λ (q : Placed). same_pid q.pid r) qs ≡ true)
         → list_any (λ (q : Placed). same_pid q.pid r) (q ∷ qs) ≡ true
     by_test true e more = let same : (q.pid).0 ≡ p = cc in here (same_pid q.pid r) (eq-eqb (q.pid).0 r.0 (same ∙ sym is))
@@ -97,10 +99,12 @@ found_here k (q ∷ qs) p differ h = by_home (is_at_home k q) refl (sym (home_mo
     unlike : (b : Bool) → b ≡ false → (f : Option Placed) → cond (b && not q.ended) (Some q) f ≡ f
     unlike true e f = absurd (true≢false e)
     unlike false e f = refl
+
     alike : (b c : Bool) → b ≡ true → c ≡ true → (f : Option Placed) → cond (b && c) (Some q) f ≡ Some q
     alike true true e g f = refl
     alike true false e g f = absurd (true≢false (sym g))
     alike false c e g f = absurd (true≢false (sym e))
+
     by_home : (b : Bool) → is_at_home k q ≡ b → cond b ((q.pid).0 ∷ pids_home k qs) (pids_home k qs) ≡ p.0 ∷ [] → (pids_differ qs ≡ true → pids_home k qs ≡ p.0 ∷ [] → FoundAt qs p k) → FoundAt (q ∷ qs) p k
     by_home true at e more =
         let same : (q.pid).0 ≡ p.0 = cc in
@@ -168,9 +172,11 @@ unended_exit p r (q ∷ qs) apart = by_test (same_pid q.pid p) refl (unended_exi
     skipped : (b : Bool) → b ≡ false → (f : Option Placed) (x y : Placed) (c d : Bool) → cond (b && c) (Some x) f ≡ cond (b && d) (Some y) f
     skipped true is f x y c d = absurd (true≢false is)
     skipped false is f x y c d = refl
+
     unlike : (b : Bool) → same_pid q.pid r ≡ b → same_pid q.pid p ≡ true → b ≡ false
     unlike false is at = refl
     unlike true is at = absurd (apart (sym (eqb-true (q.pid).0 r.0 is) ∙ eqb-true (q.pid).0 p.0 at))
+
     by_test : (b : Bool) → same_pid q.pid p ≡ b →
         find (λ (q : Placed). same_pid q.pid r && not q.ended) (map (after_exit p) qs) ≡ find (λ (q : Placed). same_pid q.pid r && not q.ended) qs →
         cond (same_pid (cond b (record q { ended = true }) q).pid r && not (cond b (record q { ended = true }) q).ended) (Some (cond b (record q { ended = true }) q)) (find (λ (q : Placed). same_pid q.pid r && not q.ended) (map (after_exit p) qs))

@@ -7,3 +7,4 @@ pub mod Booted
 pub mod Following
 pub mod Owning
 pub mod Working
+pub mod Turning

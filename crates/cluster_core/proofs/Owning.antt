@@ -1,13 +1,12 @@
 -- A process that runs keeps its pid, and links no end.
-use Rattle.std.proofs.Common.{◌≡◌, ℕ, ◌∙◌, true}
+use Rattle.std.proofs.Common.{◌∙◌}
 use Rattle.t32_base.specs.declared.process.Pid.{Pid}
 use Rattle.proc_state.specs.declared.process.Process.{Process}
-use Rattle.proc_state.specs.State.{ProcState, state_of}
+use Rattle.proc_state.specs.State.{state_of}
 use Rattle.sys_calls.specs.declared.steps.Emission.{Emission}
 use Rattle.sys_calls.proofs.Counting.{silently_counts, emits_counts}
-use Rattle.cluster_core.specs.declared.resident.Resident.{Resident}
 use Rattle.cluster_core.specs.Parts.{IsOwn}
-use Rattle.cluster_core.specs.Quantum.{RunsSome, RunsAndSends, are_unlinked}
+use Rattle.cluster_core.specs.Quantum.{RunsSome, RunsAndSends}
 use Rattle.cluster_core.proofs.Unlinked.{silently_stays, sent_stays}
 
 pub own_moved : (pid : Pid) (was now : Process) → IsOwn (record { pid = pid; process = was }) → RunsSome 64 (state_of was) (state_of now) → IsOwn (record { pid = pid; process = now })

@@ -1,14 +1,14 @@
 -- Silent steps of a process, one more at a time.
-use Rattle.std.proofs.Common.{◌≡◌, ℕ, zero, suc, ◌+◌, ◌≤◌, ◌<◌, refl, sym, ◌∙◌, ap, subst, arith, Option, Some, None, Bool, true, false, cond, eqb, ne_eqb, Ok, Err}
+use Rattle.std.proofs.Common.{◌≡◌, ℕ, zero, suc, ◌+◌, ◌≤◌, refl, sym, ◌∙◌, ap, subst, arith, Some, false, cond, eqb, ne_eqb, Ok, Err}
 use Rattle.std.specs.Prelude.{option_and_then, Result}
 use Rattle.t32_base.specs.declared.streams.NoMemory.{NoMemory}
 use Rattle.proc_state.specs.declared.process.Process.{Process}
 use Rattle.proc_state.specs.State.{ProcState, state_of}
-use Rattle.sys_calls.specs.Calls.{Next, Silent}
+use Rattle.sys_calls.specs.Calls.{Silent}
 use Rattle.sys_calls.specs.Next.{next_step, has_step, silently, silent_of, silently_marked}
 use Rattle.sys_calls.specs.Steps.{marked, SameCount}
 use Rattle.cluster_core.specs.declared.quantum.Quantum.{Quantum}
-use Rattle.cluster_core.specs.declared.quantum.Quantum.TheVariants.{Moved, Sent, Stuck}
+use Rattle.cluster_core.specs.declared.quantum.Quantum.TheVariants.{Moved, Stuck}
 use Rattle.cluster_core.specs.Quantum.{RunsQuantum, MovesOrTells}
 
 pub one_more_silent : (n : ℕ) (s q t : ProcState) → silently n s ≡ Some q → next_step q ≡ Silent t → silently (n + 1) s ≡ Some t

@@ -1,5 +1,5 @@
 -- What one more entry of the kinds that are built does to each process.
-use Rattle.std.proofs.Common.{◌≡◌, ℕ, ◌+◌, ◌-◌, refl, sym, ◌∙◌, ap, subst, List, [], ◌∷◌, ◌++◌, Bool, true, false, ◌&&◌, ◌||◌, not, Option, Some, None, is_some, true≢false}
+use Rattle.std.proofs.Common.{◌≡◌, ℕ, ◌-◌, refl, sym, ◌∙◌, ap, subst, List, [], ◌∷◌, ◌++◌, true, false, Option, Some, None, true≢false}
 use Rattle.std.specs.Prelude.{◌≢◌, option_map, option_and_then}
 use Rattle.std.specs.Option.{option_map_or}
 use Rattle.t32_base.specs.declared.process.Pid.{Pid}
@@ -18,13 +18,11 @@ use Rattle.plain_kernel.specs.Kernel.{Kernel, process_at}
 use Rattle.plain_kernel.proofs.Others.{is_outward, is_outward_to}
 use Rattle.bus_msg.specs.declared.entry.What.{What}
 use Rattle.bus_msg.specs.declared.entry.What.TheVariants.{Mail, Birth, Exit, Page, Sync, Fetch, PageIs, Crash, Return, Rebackup, Done, Stop}
-use Rattle.bus_msg.specs.declared.entry.By.{By}
 use Rattle.bus_msg.specs.declared.entry.Entry.{Entry}
-use Rattle.bus_msg.specs.Places.{Places}
 use Rattle.bus_msg.specs.PlacedAfter.{what}
 use Rattle.cert_sched.specs.Schedule.{done, plain_after, process_after, done_after, placement}
 use Rattle.cert_sched.specs.Steps.{process_of, first_record, silent_upto, emission_at, before_fork_at, at_record, after_items}
-use Rattle.cert_sched.specs.Kinds.{IsSent, KindHolds}
+use Rattle.cert_sched.specs.Kinds.{KindHolds}
 use Rattle.cert_sched.specs.Rules.{is_by_home, is_by_right, is_over, ends_run}
 use Rattle.cert_sched.specs.Built.{BuiltMayFollow, is_built, is_to_terminal}
 use Rattle.cert_sched.specs.Scripted.{is_done}
@@ -155,9 +153,11 @@ same_items system log more w p of same = by_what w of
   where
     of_pid : (q : Pid) → Some q ≡ Some p → process_after system more q ≡ process_after system log q
     of_pid q is = let e : q ≡ p = cc in subst (λ (r : Pid). process_after system more r ≡ process_after system log r) (sym e) same
+
     by_records : (recs : List BackRec) → option_map (λ (r : BackRec). r.pid) (first_record recs) ≡ Some p → option_and_then (at_record system more) (first_record recs) ≡ option_and_then (at_record system log) (first_record recs)
     by_records [] is = refl
     by_records (r ∷ rs) is = same_silent system log more r.pid _ (of_pid r.pid is)
+
     by_what : (w : What) → process_of w ≡ Some p → after_items system more w ≡ after_items system log w
     by_what (Mail at letter) is = ap (option_map (λ (r : Emission × ProcState). r.1)) (same_emission system log more letter.from at (of_pid letter.from is))
     by_what (Exit pid at end) is = ap (option_map (λ (r : Emission × ProcState). r.1)) (same_emission system log more pid at (of_pid pid is))

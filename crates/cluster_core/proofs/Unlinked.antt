@@ -2,7 +2,6 @@
 use Rattle.std.proofs.Common.{◌≡◌, ℕ, zero, suc, ◌+◌, refl, sym, ◌∙◌, ap, subst, List, [], ◌∷◌, Bool, true, false, cond, not, ◌&&◌, eqb, ltb, Option, Some, None, slice_get, true≢false}
 use Rattle.std.specs.Prelude.{option_and_then, is_some, is_none}
 use Rattle.proc_state.specs.Mail.{first_signal}
-use Rattle.std.specs.List.{list_all}
 use Rattle.t32_base.specs.declared.process.End.{End}
 use Rattle.t32_base.specs.declared.process.EndState.{EndState}
 use Rattle.t32_base.specs.declared.process.EndState.TheVariants.{Never, Tty as TtyEnd, Linked, Shut}
@@ -10,13 +9,13 @@ use Rattle.t32_base.specs.declared.process.Status.{Status}
 use Rattle.t32_base.specs.declared.process.Status.TheVariants.{Live, Closing, Ended}
 use Rattle.t32_base.specs.declared.letter.Body.TheVariants.{Said}
 use Rattle.t32_base.specs.declared.letter.To.{To}
-use Rattle.t32_base.specs.declared.letter.To.TheVariants.{Proc, Tty}
+use Rattle.t32_base.specs.declared.letter.To.TheVariants.{Tty}
 use Rattle.rv_mem.specs.Memory.{is_inside, bytes_at}
 use Rattle.rv_cpu.specs.Exec.{Executed, Steps, Calls, Traps, exec, reg}
 use Rattle.proc_state.specs.Ends.{is_linked, leads_to}
 use Rattle.proc_state.specs.State.{ProcState, with_small, is_live, can_take}
 use Rattle.sys_calls.specs.declared.steps.Emission.{Emission}
-use Rattle.sys_calls.specs.declared.steps.Emission.TheVariants.{Mail, Exit}
+use Rattle.sys_calls.specs.declared.steps.Emission.TheVariants.{Mail}
 use Rattle.sys_calls.specs.Small.{spent, lowest_linked, linked_from}
 use Rattle.sys_calls.specs.Calls.{Next, Silent, Blocked, Forks, Emits, Over, Call, ExitCall, Write, GetPid, Unknown, call_of, called, arg, answers, refused, letter_to, write_to}
 use Rattle.sys_calls.specs.Next.{next_step, has_step, step_by, live_step, closing_step, after_exec, silently, silent_of}
@@ -128,6 +127,7 @@ silently_stays (suc n) s t unlinked is = by_case (silently n s) refl is (λ q. s
     by_next q Forks step is un = cc
     by_next q (Emits e u) step is un = cc
     by_next q Over step is un = cc
+
     by_case : (o : Option ProcState) → silently n s ≡ o → option_and_then (λ q. silent_of (next_step q)) o ≡ Some t → ((q : ProcState) → silently n s ≡ Some q → are_unlinked (q.small).ends ≡ true) → are_unlinked (t.small).ends ≡ true
     by_case None there is before = cc
     by_case (Some q) there is before = by_next q (next_step q) refl is (before q there)
@@ -139,6 +139,7 @@ no_take s unlinked none = by_next (next_step s) (next_stays s unlinked) none
     dead : (b c d : Bool) → b ≡ false → (b && c && d) ≡ false
     dead true c d h = absurd (true≢false h)
     dead false c d h = refl
+
     by_next : (next : Next) → Stays s next → has_step next ≡ false → can_take s ≡ false
     by_next (Silent t) stays none = absurd (true≢false none)
     by_next Blocked stays none = absurd stays

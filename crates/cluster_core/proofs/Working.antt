@@ -1,5 +1,5 @@
 -- A cluster that works goes on to follow each log that it followed.
-use Rattle.std.proofs.Common.{◌≡◌, ℕ, zero, suc, ◌+◌, ◌-◌, ◌^◌, ◌≤◌, ◌<◌, min, refl, sym, ◌∙◌, ap, subst, arith, List, [], ◌∷◌, ◌++◌, map, length, Bool, true, false, cond, not, ◌&&◌, ◌||◌, eqb, eqb-true, eq-eqb, add-zero, zero-add, Option, Some, None, is_some, slice_get, get_or, true≢false}
+use Rattle.std.proofs.Common.{◌≡◌, ℕ, zero, suc, ◌+◌, ◌-◌, ◌≤◌, ◌<◌, refl, sym, ◌∙◌, ap, subst, arith, List, [], ◌∷◌, map, length, Bool, true, false, cond, not, ◌&&◌, ◌||◌, eqb-true, eq-eqb, add-zero, zero-add, Option, Some, None, slice_get, true≢false}
 use Rattle.std.specs.Prelude.{option_map, option_and_then, find}
 use Rattle.std.specs.List.{list_all, range_with_len}
 use Rattle.std.specs.Option.{option_map_or}
@@ -7,7 +7,6 @@ use Rattle.std.proofs.lemmas.Option.{slice_get-map, slice_get-get_or}
 use Rattle.std.proofs.lemmas.List.FromFn.{get_or-range_with_len, length-range_with_len}
 use Rattle.t32_base.specs.declared.process.Pid.{Pid}
 use Rattle.t32_base.specs.declared.process.ClusterNo.{ClusterNo}
-use Rattle.t32_base.specs.declared.letter.Letter.{Letter}
 use Rattle.t32_base.specs.declared.letter.To.{To}
 use Rattle.t32_base.specs.declared.letter.To.TheVariants.{Proc, Tty}
 use Rattle.sys_text.specs.declared.system.System.{System}
@@ -19,22 +18,19 @@ use Rattle.sys_calls.specs.declared.steps.Emission.TheVariants.{Mail as Sent, Ex
 use Rattle.sys_calls.specs.Calls.{Next, Silent, Blocked, Forks, Emits, Over}
 use Rattle.sys_calls.specs.Next.{next_step, has_step, silently, silent_of, emission_of, last_emission}
 use Rattle.sys_calls.proofs.Counting.{silently_counts, emits_counts, letter_is_own}
-use Rattle.plain_kernel.proofs.Entries.{some_same}
 use Rattle.plain_kernel.proofs.Others.{is_outward, is_outward_to}
-use Rattle.bus_msg.specs.declared.entry.What.{What}
 use Rattle.bus_msg.specs.declared.entry.What.TheVariants.{Mail, Exit}
-use Rattle.bus_msg.specs.declared.entry.By.{By}
-use Rattle.bus_msg.specs.declared.entry.By.TheVariants.{Cluster, Bus}
+use Rattle.bus_msg.specs.declared.entry.By.TheVariants.{Cluster}
 use Rattle.bus_msg.specs.declared.entry.Post.{Post}
 use Rattle.bus_msg.specs.declared.entry.Entry.{Entry}
 use Rattle.bus_msg.specs.declared.placed.Placed.{Placed}
-use Rattle.bus_msg.specs.Places.{Places, ClusterPlace, boot_cluster, same_pid, same_cluster, lives_in}
+use Rattle.bus_msg.specs.Places.{Places, ClusterPlace, boot_cluster, same_pid, same_cluster}
 use Rattle.channel_table.specs.Changes.{pids_differ}
 use Rattle.cert_sched.specs.Parts.{rising}
-use Rattle.cert_sched.specs.Schedule.{placed_root, places_at_boot, placement, process_after, done_after}
-use Rattle.cert_sched.specs.Steps.{process_of, silent_upto, emission_at, after_items}
-use Rattle.cert_sched.specs.Rules.{is_over, is_by, is_living, is_by_home, is_by_right, home_at}
-use Rattle.cert_sched.specs.Kinds.{IsSent, ChildrenSynced, KindHolds}
+use Rattle.cert_sched.specs.Schedule.{placed_root, placement, process_after, done_after}
+use Rattle.cert_sched.specs.Steps.{silent_upto, emission_at, after_items}
+use Rattle.cert_sched.specs.Rules.{is_by, is_living, is_by_home, is_by_right, home_at}
+use Rattle.cert_sched.specs.Kinds.{KindHolds}
 use Rattle.cert_sched.specs.Legal.{IsLegalBy}
 use Rattle.cert_sched.specs.Built.{is_built, is_to_terminal, BuiltMayFollow}
 use Rattle.cert_sched.specs.Losses.{least_steps, capped, is_from}
@@ -42,18 +38,18 @@ use Rattle.cert_sched.proofs.BuiltLaws.{built_births, built_clusters}
 use Rattle.cert_sched.proofs.StepLaws.{Tells, sent_applies}
 use Rattle.cluster_core.specs.declared.resident.Resident.{Resident}
 use Rattle.cluster_core.specs.declared.worked.Worked.TheVariants.{Moved, Queued, Rests}
-use Rattle.cluster_core.specs.View.{ClusterView, Held, Runs, held_at, head_of, next_count, counted_once}
-use Rattle.cluster_core.specs.Parts.{held_here, posts_of, IsOwn}
-use Rattle.cluster_core.specs.Queue.{entry_of, IsQueueLegal, tells_steps, is_move_of, move_of, taken_by, state_by, state_now}
-use Rattle.cluster_core.specs.Holds.{HoldsProcesses, IsHeldAs, home_pids}
+use Rattle.cluster_core.specs.View.{ClusterView, Held, Runs, next_count, counted_once}
+use Rattle.cluster_core.specs.Parts.{held_here, IsOwn}
+use Rattle.cluster_core.specs.Queue.{entry_of, move_of, taken_by, state_by, state_now}
+use Rattle.cluster_core.specs.Holds.{IsHeldAs, home_pids}
 use Rattle.cluster_core.specs.Follows.{FollowsBuilt, IsOpen}
-use Rattle.cluster_core.specs.Calls.{GoesOn, MovedOne, WorkIs, is_resting, is_at_rest}
-use Rattle.cluster_core.specs.Quantum.{RunsSome, RunsAndSends, are_unlinked}
+use Rattle.cluster_core.specs.Calls.{GoesOn, WorkIs, is_resting, is_at_rest}
+use Rattle.cluster_core.specs.Quantum.{RunsSome, RunsAndSends}
 use Rattle.cluster_core.specs.Turn.{told_of, post_told}
 use Rattle.cluster_core.proofs.Telling.{done_is}
 use Rattle.cluster_core.proofs.Unlinked.{silently_stays, sent_outward, no_take}
 use Rattle.cluster_core.proofs.Quanta.{none_silent}
-use Rattle.cluster_core.proofs.Homes.{HomeHere, home_here, pids_home}
+use Rattle.cluster_core.proofs.Homes.{HomeHere, home_here}
 use Rattle.cluster_core.proofs.Following.{exactly, pids_held, pid_same, no_child, there}
 
 -- ---- kernel steps
@@ -156,9 +152,11 @@ pub rested_none : (c : ClusterView) → c.here ≡ [] → WorkIs c Rests (counte
 rested_none c here = (ap (λ hs. list_all (λ (e : Pid × Held). is_at_rest e.1) hs) here, refl)
 
 pub rested_some : (c : ClusterView) (r : Resident) → c.here ≡ held_here (Some r) → IsOwn r → has_step (next_step (state_of r.process)) ≡ false → WorkIs c Rests (counted_once c)
-rested_some c r here own none =
-    (ap (λ hs. list_all (λ (e : Pid × Held). is_at_rest e.1) hs) here
-      ∙ (λ i. not (none i || no_take (state_of r.process) own.unlinked none i) && true), refl)
+rested_some c r here own none = (
+  ap (λ hs. list_all (λ (e : Pid × Held). is_at_rest e.1) hs) here
+      ∙ (λ i. not (none i || no_take (state_of r.process) own.unlinked none i) && true),
+  refl,
+)
 
 pub goes_on_rested : (c : ClusterView) → GoesOn c (counted_once c)
 goes_on_rested c log now f = record {
@@ -191,31 +189,33 @@ replaced : (p : Pid) (was now : Process) → map (λ (e : Pid × Held). cond (sa
 replaced p was now = ap (λ b. cond b (p, Runs now) (p, Runs was) ∷ []) (eq-eqb p.0 p.0 refl)
 
 pub moved_work : (c : ClusterView) (old new : Resident) → c.here ≡ held_here (Some old) → RunsSome 64 (state_of old.process) (state_of new.process) → new.pid ≡ old.pid → WorkIs c Moved (moved_view c new)
-moved_work c old new here runs same =
-    (not_resting c old here (some_has 64 (state_of old.process) (state_of new.process) runs), record {
-      pid = old.pid;
-      was = old.process;
-      now = new.process;
-      steps = runs.steps;
-      some = runs.some;
-      few = runs.few;
-      there = there c old here;
-      silent = runs.silent;
-      rest = ap (λ hs. record c { here = hs; steps = next_count c.steps })
+moved_work c old new here runs same = (
+  not_resting c old here (some_has 64 (state_of old.process) (state_of new.process) runs),
+  record {
+    pid = old.pid;
+    was = old.process;
+    now = new.process;
+    steps = runs.steps;
+    some = runs.some;
+    few = runs.few;
+    there = there c old here;
+    silent = runs.silent;
+    rest = ap (λ hs. record c { here = hs; steps = next_count c.steps })
         (ap (λ p. (p, Runs new.process) ∷ []) same ∙ sym (ap (map (λ (e : Pid × Held). cond (same_pid e.0 old.pid) (old.pid, Runs new.process) e)) here ∙ replaced old.pid old.process new.process));
-    })
+  },
+)
 
 pub moved_goes_on : (c : ClusterView) (old new : Resident) → c.here ≡ held_here (Some old) → c.queue ≡ [] → RunsSome 64 (state_of old.process) (state_of new.process) → new.pid ≡ old.pid → GoesOn c (moved_view c new)
 moved_goes_on c old new here empty runs same log now f = record {
   cursor = f.cursor;
   places = f.places;
   held = λ p h at.
-    let one = held_only new.pid (Runs new.process) p h at in
-    let ahead : silent_upto c.system log old.pid ((new.process).small).steps ≡ Some (state_of new.process) =
-          ahead_moved c.system log old.pid (state_of old.process) (state_of new.process) runs.steps (held_before c log old here empty f) runs.silent in
-    let held : IsHeldAs c.system log c.queue new.pid (Runs new.process) =
-          ap (λ ps. state_now c.system log ps new.pid ((new.process).small).steps) empty ∙ ap (λ q. silent_upto c.system log q ((new.process).small).steps) same ∙ ahead in
-    subst (λ q. IsHeldAs c.system log c.queue q h) one.0 (subst (λ h. IsHeldAs c.system log c.queue new.pid h) one.1 held);
+      let one = held_only new.pid (Runs new.process) p h at in
+      let ahead : silent_upto c.system log old.pid ((new.process).small).steps ≡ Some (state_of new.process) =
+      ahead_moved c.system log old.pid (state_of old.process) (state_of new.process) runs.steps (held_before c log old here empty f) runs.silent in
+      let held : IsHeldAs c.system log c.queue new.pid (Runs new.process) =
+      ap (λ ps. state_now c.system log ps new.pid ((new.process).small).steps) empty ∙ ap (λ q. silent_upto c.system log q ((new.process).small).steps) same ∙ ahead in
+      subst (λ q. IsHeldAs c.system log c.queue q h) one.0 (subst (λ h. IsHeldAs c.system log c.queue new.pid h) one.1 held);
   each_once = ap (λ (p : Pid). rising (p.0 ∷ [])) same ∙ ap (λ hs. rising (pids_held hs)) (sym here) ∙ f.each_once;
   own = f.own;
   queue = f.queue;
@@ -277,7 +277,6 @@ home_by places k p lives here =
 
 module _ (c : ClusterView) (old new : Resident) (post : Post) (e : Emission) (runs : RunsAndSends 64 (state_of old.process) e (state_of new.process))
     (post_is : post ≡ post_told c.number old.pid ((new.process).small).steps e) (same : new.pid ≡ old.pid) (here : c.here ≡ held_here (Some old)) (empty : c.queue ≡ []) (own : IsOwn old) where
-
   abbrev at : ℕ
   at = ((new.process).small).steps
 
@@ -313,19 +312,19 @@ module _ (c : ClusterView) (old new : Resident) (post : Post) (e : Emission) (ru
 
   pub posted_goes_on : pids_differ (c.places).placed ≡ true → (c.number).0 < (c.system).clusters → GoesOn c (posted_view c new post)
   posted_goes_on differ has log now f = record {
-      cursor = f.cursor;
-      places = f.places;
-      held = λ p h there.
+    cursor = f.cursor;
+    places = f.places;
+    held = λ p h there.
         let one = held_only new.pid (Runs new.process) p h there in
         let held : IsHeldAs c.system log (post ∷ []) old.pid (Runs new.process) =
-              ap (λ (q : Post). state_now c.system log (q ∷ []) old.pid at) post_is ∙ ap (state_by c.system log old.pid at) (moves_of old.pid at c.number e tells)
-              ∙ items_of_post c.system log old.pid at e (state_of new.process) tells (emission_is log f) in
+        ap (λ (q : Post). state_now c.system log (q ∷ []) old.pid at) post_is ∙ ap (state_by c.system log old.pid at) (moves_of old.pid at c.number e tells)
+        ∙ items_of_post c.system log old.pid at e (state_of new.process) tells (emission_is log f) in
         subst (λ q. IsHeldAs c.system log (post ∷ []) q h) (sym same ∙ one.0) (subst (λ h. IsHeldAs c.system log (post ∷ []) old.pid h) one.1 held);
-      each_once = ap (λ (p : Pid). rising (p.0 ∷ [])) same ∙ ap (λ hs. rising (pids_held hs)) (sym here) ∙ f.each_once;
-      own = ap (λ b. b && true) posted_own;
-      queue = (subst (λ (q : Post). BuiltMayFollow c.system log (entry_of c.system log q)) (sym post_is) (may_follow log now f differ has), tt);
-      counted = λ kept. more_counted (least_steps log log c.number + cond c.tried 1 0) c.steps (f.counted kept);
-    }
+    each_once = ap (λ (p : Pid). rising (p.0 ∷ [])) same ∙ ap (λ hs. rising (pids_held hs)) (sym here) ∙ f.each_once;
+    own = ap (λ b. b && true) posted_own;
+    queue = (subst (λ (q : Post). BuiltMayFollow c.system log (entry_of c.system log q)) (sym post_is) (may_follow log now f differ has), tt);
+    counted = λ kept. more_counted (least_steps log log c.number + cond c.tried 1 0) c.steps (f.counted kept);
+  }
 
   sends_has : (n : ℕ) (s : ProcState) → silently n s ≡ Some runs.before → has_step (next_step s) ≡ true
   sends_has zero s is = let at_once : s ≡ runs.before = none_silent s runs.before is in ap (λ s. has_step (next_step s)) at_once ∙ ap has_step runs.sends

@@ -1,5 +1,5 @@
 -- When a cluster follows a log: it holds what the log says, and nothing else.
-use Rattle.std.specs.Prelude.{◌≡◌, true, false, List, Option, Some, option_map}
+use Rattle.std.specs.Prelude.{◌≡◌, true, false, List, Some, option_map}
 use Rattle.sys_text.specs.declared.system.System.{System}
 use Rattle.bus_msg.specs.declared.entry.Entry.{Entry}
 use Rattle.cert_sched.specs.Legal.{IsLegalBy, MayFollow}

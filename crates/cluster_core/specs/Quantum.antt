@@ -1,5 +1,5 @@
 -- A quantum of a process: silent steps, and at most one emission at their end.
-use Rattle.std.specs.Prelude.{ℕ, ◌≤◌, ◌<◌, ◌≡◌, Bool, false, not, List, Option, Some, None, Result, Ok, Err}
+use Rattle.std.specs.Prelude.{ℕ, ◌≤◌, ◌<◌, ◌≡◌, Bool, false, not, List, Some, Result, Ok, Err}
 use Rattle.std.specs.List.{list_all}
 use Rattle.t32_base.specs.declared.process.EndState.{EndState}
 use Rattle.proc_state.specs.Ends.{is_linked}
@@ -7,7 +7,7 @@ use Rattle.t32_base.specs.declared.streams.NoMemory.{NoMemory}
 use Rattle.proc_state.specs.declared.process.Process.{Process}
 use Rattle.proc_state.specs.State.{ProcState, state_of}
 use Rattle.sys_calls.specs.declared.steps.Emission.{Emission}
-use Rattle.sys_calls.specs.Calls.{Next, Silent, Blocked, Forks, Emits, Over}
+use Rattle.sys_calls.specs.Calls.{Emits}
 use Rattle.sys_calls.specs.Next.{next_step, has_step, silently}
 use Rattle.cluster_core.specs.declared.quantum.Quantum.{Quantum}
 use Rattle.cluster_core.specs.declared.quantum.Quantum.TheVariants.{Moved, Sent, Stuck}

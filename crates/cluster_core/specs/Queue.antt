@@ -5,7 +5,7 @@ use Rattle.t32_base.specs.declared.process.Pid.{Pid}
 use Rattle.sys_text.specs.declared.system.System.{System}
 use Rattle.proc_state.specs.State.{ProcState}
 use Rattle.bus_msg.specs.declared.entry.What.{What}
-use Rattle.bus_msg.specs.declared.entry.What.TheVariants.{Mail, Birth, Exit, Page, Sync, Fetch, PageIs, Crash, Return, Rebackup, Done, Stop}
+use Rattle.bus_msg.specs.declared.entry.What.TheVariants.{Mail, Birth, Exit, Sync, Rebackup}
 use Rattle.bus_msg.specs.declared.entry.Post.{Post}
 use Rattle.bus_msg.specs.declared.entry.Entry.{Entry}
 use Rattle.bus_msg.specs.Places.{same_pid}

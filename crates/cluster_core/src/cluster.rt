@@ -7,8 +7,8 @@ ghost use Rattle.cluster_core.specs.Follows.{FollowsBuilt};
 ghost use Rattle.cluster_core.specs.Calls.{Absorbs, absorbed, FollowsSome, GoesOn, is_resting, IsFirst, KeepsPlace, ReadyFor, rests_of, WorkIs};
 
 use crate::booting::{placement_at_boot, resident_at_boot};
-use crate::resident::{let_go, Resident, resting};
-use crate::turn::{take_turn, Turn};
+use crate::resident::{Resident, let_go, resting};
+use crate::turn::{Turn, take_turn};
 use crate::worked::Worked;
 use bus_msg::entry::{Entry, Post};
 use channel_table::placement::Placement;

@@ -3,8 +3,8 @@ ghost use Rattle.std.specs.Prelude.{◌≡◌};
 ghost use Rattle.cluster_core.specs.Parts.{IsOwn, OwnIfThere};
 ghost use Rattle.cluster_core.specs.Turn.{post_told, ResidentTurn, TurnIs};
 
-use crate::resident::Resident;
 use crate::quantum::{Quantum, run_quantum};
+use crate::resident::Resident;
 use bus_msg::entry::{By, Post, What};
 use proc_state::process::Process;
 use std::alloc::Global;

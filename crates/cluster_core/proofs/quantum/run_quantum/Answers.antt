@@ -1,11 +1,10 @@
-use Rattle.std.proofs.Common.{arith, refl, ap, sym, ◌∙◌, subst, Ok}
+use Rattle.std.proofs.Common.{arith, ap, sym, ◌∙◌, subst, Ok}
 use Rattle.sys_calls.specs.Next.{has_step, silently_marked}
 use Rattle.sys_calls.proofs.Running.{silently-marked}
 use Rattle.sys_calls.specs.Steps.{marked}
 use Rattle.proc_state.specs.State.{state_of}
 use Rattle.cluster_core.specs.Quantum.{RunsQuantum}
 use Rattle.cluster_core.proofs.Quanta.{one_more_silent, none_left, refused_then, unmoved}
-use Rattle.cluster_core.proofs.Unlinked.{no_fork, silently_stays}
 use Rattle.cluster_core.proofs.quantum.run_quantum.Goals as goal
 
 pub steps-init : goal.steps-init
@@ -42,4 +41,4 @@ returns-in-Ok-Over c =
     let over = rw c.in-Ok-Over.field-0-is at c.in-Ok-Over.ensures.makes in
     let same = rw c.in-Ok-Over.field-0-is at c.in-Ok-Over.ensures.touches in
     subst (λ q. RunsQuantum 64 c.args.p.now (Ok q) c.step.new.p) (sym c.moved_or_stuck-in-Ok-Over.ensures)
-      (none_left c.steps.made c.args.p.now c.steps.p c.step.new.p c.steps.invariant.silent c.steps.invariant.few c.steps.invariant.unmoved (ap has_step over.0) same)
+    (none_left c.steps.made c.args.p.now c.steps.p c.step.new.p c.steps.invariant.silent c.steps.invariant.few c.steps.invariant.unmoved (ap has_step over.0) same)
