@@ -9,6 +9,7 @@ pub mod RecordLaws
 pub mod BuiltLaws
 pub mod StepLaws
 pub mod CertLaws
+pub mod RootPids
 mod Rows
 pub mod Systems
 mod WorkedLogs

@@ -1,5 +1,5 @@
 -- The schedule of a log, and the kernel without failures and the placement after it.
-use Rattle.std.specs.Prelude.{ℕ, ◌-◌, true, false, ◌==◌, if◌then◌else◌, List, [], ◌∷◌, ◌++◌, map, fold, Option, Some, None, option_and_then}
+use Rattle.std.specs.Prelude.{ℕ, ◌+◌, ◌-◌, true, false, ◌==◌, if◌then◌else◌, List, [], ◌∷◌, ◌++◌, map, fold, count_by, Option, Some, None, option_and_then}
 use Rattle.std.specs.List.{flat_map}
 use Rattle.std.specs.Option.{option_map_or}
 use Rattle.t32_base.specs.declared.process.Pid.{Pid}
@@ -7,7 +7,7 @@ use Rattle.t32_base.specs.Small.{SmallState}
 use Rattle.t32_base.specs.declared.letter.BackRec.{BackRec}
 use Rattle.sys_text.specs.declared.system.System.{System}
 use Rattle.sys_text.specs.declared.system.Root.{Root}
-use Rattle.sys_text.specs.Boot.{roots_of}
+use Rattle.sys_text.specs.Boot.{pid_of, roots_of}
 use Rattle.proc_state.specs.State.{ProcState}
 use Rattle.plain_kernel.specs.declared.item.Item.{Item}
 use Rattle.plain_kernel.specs.declared.item.Item.TheVariants.{Run, Fork, Take}
@@ -96,6 +96,10 @@ abbrev pub done_after : System → List Entry → Pid → ℕ
 done_after system log p = option_map_or (λ k. done k p) (plain_after system log) 0
 
 -- ---- the placement of a log
+
+-- the pid of a root after earlier ones
+abbrev pub next_pid : List Root → Root → Pid
+next_pid earlier root = pid_of (root.home).0 (1 + count_by (λ (q : Root). (q.home).0 == (root.home).0) earlier)
 
 abbrev pub placed_root : Pid × Root → Placed
 placed_root r = record { pid = r.0; home = (r.1).home; backup = Some (r.1).backup; mode = (r.1).mode; lost = None; ended = false; synced = false }

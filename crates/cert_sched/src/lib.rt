@@ -9,6 +9,7 @@ mod printing;
 mod reading;
 mod refusal;
 pub mod script;
+pub mod start;
 #[cfg(test)]
 mod tests;
 

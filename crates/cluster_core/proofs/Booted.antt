@@ -26,7 +26,8 @@ use Rattle.cluster_core.specs.Parts.{held_here}
 use Rattle.cluster_core.specs.Holds.{IsHeldAs, home_pids}
 use Rattle.cluster_core.specs.Follows.{FollowsBuilt}
 use Rattle.cluster_core.specs.Booting.{roots_in, IsOnlyRoot, IsResident}
-use Rattle.cluster_core.proofs.RootPids.{root_pids_differ, at_home}
+use Rattle.cert_sched.proofs.RootPids.{root_pids_differ}
+use Rattle.cluster_core.proofs.RootHomes.{at_home}
 
 -- ---- the kernel at boot
 

@@ -2,7 +2,7 @@ pub mod Telling
 pub mod Unlinked
 pub mod Quanta
 pub mod Homes
-pub mod RootPids
+pub mod RootHomes
 pub mod Booted
 pub mod Following
 pub mod Owning

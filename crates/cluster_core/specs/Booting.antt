@@ -10,6 +10,7 @@ use Rattle.proc_state.specs.State.{state_of}
 use Rattle.proc_state.specs.Ends.{is_linked}
 use Rattle.plain_kernel.specs.Kernel.{root_process}
 use Rattle.bus_msg.specs.Places.{same_cluster}
+use Rattle.cert_sched.specs.Schedule.{next_pid}
 use Rattle.cluster_core.specs.declared.resident.Resident.{Resident}
 
 -- the roots of a system that are at home in a cluster, each with its pid
@@ -34,10 +35,6 @@ pub record IsOnlyRoot (system : System) (number : ClusterNo) (r : Resident) : Ty
 abbrev pub IsResident : System → ClusterNo → Option Resident → Type 0
 IsResident system number None = roots_in system number ≡ []
 IsResident system number (Some r) = IsOnlyRoot system number r
-
--- the pid of a root after earlier ones
-abbrev pub next_pid : List Root → Root → Pid
-next_pid earlier root = pid_of (root.home).0 (1 + count_by (λ (q : Root). (q.home).0 == (root.home).0) earlier)
 
 -- the process of the root with a number from 0, at its start
 pub record IsRootNumber (system : System) (number : ℕ) (r : Resident) : Type 0 where

@@ -1,56 +1,14 @@
-//! The start of a cluster: the placement of the roots, and the root that is at home there.
-ghost use Rattle.std.specs.Prelude.{◌≡◌, ◌≤◌, ◌<◌, ◌==◌, true, count_by, map, length, position, IfOk};
+//! The start of a cluster: the root that is at home there.
+ghost use Rattle.std.specs.Prelude.{◌≡◌, ◌≤◌, ◌<◌, ◌==◌, true, count_by, length, position, IfOk};
 ghost use Rattle.sys_text.specs.Valid.{is_system};
-ghost use Rattle.sys_text.specs.Boot.{roots_of};
-ghost use Rattle.cert_sched.specs.Schedule.{placed_root, places_at_boot};
 ghost use Rattle.cluster_core.specs.Booting.{IsResident, IsRootNumber};
 
 use crate::resident::Resident;
-use bus_msg::placed::Placed;
-use channel_table::placement::Placement;
 use plain_kernel::booting::{pid_after, root_of};
 use std::alloc::Global;
 use sys_text::system::{Root, System};
-use t32_base::process::{ClusterNo, Pid};
+use t32_base::process::ClusterNo;
 use t32_base::streams::NoMemory;
-
-/// The placement of the roots of a system, before any entry of the log.
-pub fn placement_at_boot(alloc: Global, system: &System) -> Result<Placement, NoMemory>
-    requires valid { is_system system.now ≡ true }
-    ensures { IfOk result (λ places. places ≡ places_at_boot system.now) }
-{
-    let placed = placed_roots(alloc, system)?;
-    Placement::boot(alloc, system.clusters, system.pager, &placed)
-}
-
-// The roots of a system, as they are placed at boot.
-fn placed_roots(alloc: Global, system: &System) -> Result<Vec<Placed>, NoMemory>
-    requires valid { is_system system.now ≡ true }
-    ensures { IfOk result (λ placed. placed.items ≡ map placed_root (roots_of system.now)) }
-{
-    let mut placed = Vec::new(alloc);
-    let roots = system.roots.as_slice();
-    for (number, root) in roots.iter().enumerate() {
-        let pid = pid_after(&roots[..number], *root);
-        placed.push(placed_at_start(pid, *root))?;
-    }
-    Ok(placed)
-}
-
-// A root as it is placed at boot.
-fn placed_at_start(pid: Pid, root: Root) -> Placed
-    ensures { result ≡ placed_root (pid, root) }
-{
-    Placed {
-        pid,
-        home: root.home,
-        backup: Some(root.backup),
-        mode: root.mode,
-        lost: None,
-        ended: false,
-        synced: false,
-    }
-}
 
 /// The process of the root that is at home in a cluster, at its start: None exactly where no root is. A
 /// cluster has one at most.

@@ -6,11 +6,12 @@ ghost use Rattle.cluster_core.specs.View.{head_of, after_sent, counted_once, tri
 ghost use Rattle.cluster_core.specs.Follows.{FollowsBuilt};
 ghost use Rattle.cluster_core.specs.Calls.{Absorbs, absorbed, FollowsSome, GoesOn, is_resting, IsFirst, KeepsPlace, ReadyFor, rests_of, WorkIs};
 
-use crate::booting::{placement_at_boot, resident_at_boot};
+use crate::booting::resident_at_boot;
 use crate::resident::{Resident, let_go, resting};
 use crate::turn::{Turn, take_turn};
 use crate::worked::Worked;
 use bus_msg::entry::{Entry, Post};
+use cert_sched::start::placement_at_boot;
 use channel_table::placement::Placement;
 use std::alloc::Global;
 use std::marker::Model;

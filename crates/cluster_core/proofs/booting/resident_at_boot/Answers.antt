@@ -1,6 +1,7 @@
 use Rattle.std.proofs.Common.{ap, sym, ◌∙◌}
 use Rattle.std.specs.List.{position}
-use Rattle.cluster_core.proofs.RootPids.{only_root, no_root, has_home}
+use Rattle.cluster_core.proofs.RootHomes.{only_root, no_root}
+use Rattle.cert_sched.proofs.RootPids.{has_home}
 use Rattle.cluster_core.proofs.booting.resident_at_boot.Goals as goal
 
 pub returns-in-None : goal.returns-in-None

@@ -1,7 +1,7 @@
 use Rattle.std.proofs.Common.{refl}
 use Rattle.plain_kernel.proofs.Roots.{can_boot}
 use Rattle.plain_kernel.proofs.Roots.{no_root as blank}
-use Rattle.cluster_core.proofs.RootPids.{root_number}
+use Rattle.cluster_core.proofs.RootHomes.{root_number}
 use Rattle.cluster_core.proofs.booting.resident_of.Goals as goal
 
 pub root_of-requires : goal.root_of-requires

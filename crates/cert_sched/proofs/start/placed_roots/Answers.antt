@@ -1,7 +1,7 @@
 use Rattle.std.proofs.Common.{arith, refl, ap, get_or, length}
 use Rattle.plain_kernel.proofs.Roots.{root_home, no_root}
-use Rattle.cluster_core.proofs.RootPids.{placed_more}
-use Rattle.cluster_core.proofs.booting.placed_roots.Goals as goal
+use Rattle.cert_sched.proofs.RootPids.{placed_more}
+use Rattle.cert_sched.proofs.start.placed_roots.Goals as goal
 
 pub pid_after-pid-requires-clause-home : goal.pid_after-pid-requires-clause-home
 pid_after-pid-requires-clause-home c =

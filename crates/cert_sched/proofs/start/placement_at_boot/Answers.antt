@@ -1,8 +1,8 @@
 use Rattle.std.proofs.Common.{arith, ap, ◌∙◌, length}
 use Rattle.plain_kernel.proofs.Roots.{few_roots}
 use Rattle.channel_table.specs.Changes.{pids_differ}
-use Rattle.cluster_core.proofs.RootPids.{root_pids_differ, roots_of-length}
-use Rattle.cluster_core.proofs.booting.placement_at_boot.Goals as goal
+use Rattle.cert_sched.proofs.RootPids.{root_pids_differ, roots_of-length}
+use Rattle.cert_sched.proofs.start.placement_at_boot.Goals as goal
 
 pub boot-requires-clause-serials : goal.boot-requires-clause-serials
 boot-requires-clause-serials c =
