@@ -1,5 +1,5 @@
 -- What the steps of one process leave of the others, and what each counts.
-use Rattle.std.proofs.Common.{◌≡◌, ℕ, zero, suc, ◌+◌, refl, sym, ap, subst, ◌∙◌, arith, Bool, true, false, ◌&&◌, eqb, cond, T, List, [], ◌∷◌, map, Option, Some, None, ne_eqb, true≢false, is_some, add-zero, add-suc}
+use Rattle.std.proofs.Common.{◌≡◌, ℕ, zero, suc, ◌+◌, refl, sym, ap, subst, ◌∙◌, arith, Bool, true, false, ◌&&◌, eqb, cond, T, List, [], ◌∷◌, map, Option, Some, None, ne_eqb, true≢false, is_some, add-zero}
 use Rattle.std.specs.Prelude.{◌≢◌, fold, option_and_then, option_map}
 use Rattle.std.specs.Option.{option_map_or}
 use Rattle.std.specs.declared.cmp.Ordering.{Ordering}
@@ -132,7 +132,10 @@ step_made p k j made = by_process (process_at k p) refl made
     by_next : (s : ProcState) (next : Next) → process_at k p ≡ Some s → next_step s ≡ next → after_step k p next ≡ Some j → StepMade p k j
     by_next s (Silent t) there is e = record { was = s; now = t; there = there; counts = silent_counts s t is; smalls_are = λ q. ap (λ i. small_at i q) (sym (some_same (with_process k p t) j e)) }
     by_next s (Emits what t) there is e = record {
-      was = s; now = t; there = there; counts = emits_counts s t what is;
+      was = s;
+      now = t;
+      there = there;
+      counts = emits_counts s t what is;
       smalls_are = λ q. ap (λ i. small_at i q) (sym (some_same (emitted (with_process k p t) what) j e)) ∙ small_at-emitted (with_process k p t) what q;
     }
     by_next s Blocked there is e = cc

@@ -1,5 +1,5 @@
 -- A fork: the parent after it, and the child.
-use Rattle.std.specs.Prelude.{position, ℕ, ◌+◌, ◌-◌, ◌/◌, false, List, [], ◌∷◌, replicate, slice_get, Option, Some, None, option_and_then, unwrap_or}
+use Rattle.std.specs.Prelude.{position, ℕ, ◌-◌, ◌/◌, false, [], ◌∷◌, replicate, slice_get, Option, Some, None, option_and_then, unwrap_or}
 use Rattle.t32_base.specs.declared.process.Pid.{Pid}
 use Rattle.t32_base.specs.declared.process.Status.TheVariants.{Live}
 use Rattle.t32_base.specs.declared.process.EndState.TheVariants.{Never, Linked, Shut}
@@ -27,9 +27,9 @@ fork_regs r a0 a1 = onward (set_reg (set_reg r 10 a0) 11 a1)
 -- the parent after its fork: its lowest free end is linked to end 1 of the child
 abbrev pub fork_parent : ProcState → Pid → ProcState
 fork_parent p child = with_small p (record (with_end (spent p.small) (next_end p) (Linked child 1 false)) {
-    regs = fork_regs (p.small).regs child.0 (next_end p);
-    births = (p.small).births - 1 - child_births (p.small).births;
-  })
+  regs = fork_regs (p.small).regs child.0 (next_end p);
+  births = (p.small).births - 1 - child_births (p.small).births;
+})
 
 abbrev pub child_small : ProcState → Pid → SmallState
 child_small p child = record {
