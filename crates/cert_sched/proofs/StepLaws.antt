@@ -3,26 +3,28 @@ use Rattle.std.proofs.Common.{◌≡◌, ℕ, ◌+◌, ◌-◌, refl, sym, ◌�
 use Rattle.std.specs.Prelude.{max, ◌≢◌, fold, IfSome, option_and_then, option_map}
 use Rattle.std.specs.Option.{option_map_or}
 use Rattle.t32_base.specs.declared.process.Pid.{Pid}
+use Rattle.t32_base.specs.declared.letter.Letter.{Letter}
 use Rattle.t32_base.specs.Small.{SmallState}
 use Rattle.sys_text.specs.declared.system.System.{System}
 use Rattle.proc_state.specs.State.{ProcState}
 use Rattle.sys_calls.specs.declared.steps.Emission.{Emission}
 use Rattle.sys_calls.specs.declared.steps.Emission.TheVariants.{Mail as Sent, Exit as Ended}
-use Rattle.sys_calls.specs.Next.{last_emission}
+use Rattle.sys_calls.specs.Next.{silently, last_emission}
+use Rattle.sys_calls.proofs.Counting.{last_letter_is_own}
 use Rattle.plain_kernel.specs.declared.item.Item.{Item}
 use Rattle.plain_kernel.specs.declared.item.Item.TheVariants.{Run, Fork, Take}
 use Rattle.plain_kernel.specs.Kernel.{Kernel, boot, process_at, with_process, emitted}
-use Rattle.plain_kernel.specs.Apply.{steps, apply_all}
+use Rattle.plain_kernel.specs.Apply.{one_step, steps, apply_all}
 use Rattle.plain_kernel.proofs.Entries.{some_same}
 use Rattle.plain_kernel.proofs.Laws.{process_at-same}
-use Rattle.plain_kernel.proofs.Others.{small_at, steps-here, steps-other, steps-small, steps-sent, is_outward, process_at-outward, process_at-other, HasPids, pids_in, boot-pids, boot-steps, apply_all-pids}
+use Rattle.plain_kernel.proofs.Others.{small_at, steps-here, steps-other, steps-small, steps-sent, is_outward, process_at-outward, process_at-other, HasPids, pids_in, boot-pids, boot-steps, one_step-pids, apply_all-keeps, HasOwnPids, one_step-own, boot-own, silently-made, silently-here, silently-other}
 use Rattle.bus_msg.specs.declared.entry.What.{What}
 use Rattle.bus_msg.specs.declared.entry.What.TheVariants.{Mail, Birth, Exit, Page, Sync, Fetch, PageIs, Crash, Return, Rebackup, Done, Stop}
 use Rattle.bus_msg.specs.declared.entry.Entry.{Entry}
 use Rattle.bus_msg.specs.Places.{same_pid}
 use Rattle.bus_msg.specs.PlacedAfter.{what}
 use Rattle.cert_sched.specs.Schedule.{done, run_of, run_upto, steps_in, items_of, after_entry, plain_after, process_after, done_after}
-use Rattle.cert_sched.specs.Steps.{emission_at}
+use Rattle.cert_sched.specs.Steps.{silent_upto, emission_at}
 use Rattle.cert_sched.specs.Kinds.{IsSent}
 use Rattle.cert_sched.specs.Scripted.{is_done}
 use Rattle.cert_sched.specs.CertAfter.{count_in, raised_at}
@@ -174,22 +176,34 @@ pub done_after-none : (system : System) (p : Pid) → done_after system [] p ≡
 unfolding plain_after
 done_after-none system p = boot-steps system p
 
-pids_more : (pids : List Pid) (o : Option Kernel) (e : Entry) → IfSome o (HasPids pids) → IfSome (after_entry o e) (HasPids pids)
-pids_more pids None e has = tt
-pids_more pids (Some k) e has = by_case (apply_all (items_of k (what e)) k) refl
+entry_keeps : (P : Kernel → Type 0) → ((p : Pid) (k j : Kernel) → P k → one_step p k ≡ Some j → P j) → (o : Option Kernel) (e : Entry) → IfSome o P → IfSome (after_entry o e) P
+entry_keeps P one None e has = tt
+entry_keeps P one (Some k) e has = by_case (apply_all (items_of k (what e)) k) refl
   where
-    by_case : (r : Option Kernel) → apply_all (items_of k (what e)) k ≡ r → IfSome r (HasPids pids)
+    by_case : (r : Option Kernel) → apply_all (items_of k (what e)) k ≡ r → IfSome r P
     by_case None is = tt
-    by_case (Some j) is = apply_all-pids pids (items_of k (what e)) k j has is
+    by_case (Some j) is = apply_all-keeps P one (items_of k (what e)) k j has is
 
-pids_from : (pids : List Pid) (o : Option Kernel) (log : List Entry) → IfSome o (HasPids pids) → IfSome (fold after_entry o log) (HasPids pids)
-pids_from pids o [] has = has
-pids_from pids o (e ∷ log) has = pids_from pids (after_entry o e) log (pids_more pids o e has)
+log_keeps : (P : Kernel → Type 0) → ((p : Pid) (k j : Kernel) → P k → one_step p k ≡ Some j → P j) → (o : Option Kernel) (log : List Entry) → IfSome o P → IfSome (fold after_entry o log) P
+log_keeps P one o [] has = has
+log_keeps P one o (e ∷ log) has = log_keeps P one (after_entry o e) log (entry_keeps P one o e has)
 
--- after a log the processes rise, and have the pids of the start
-pub plain_after-pids : (system : System) (log : List Entry) (k : Kernel) → plain_after system log ≡ Some k → HasPids (pids_in (boot system)) k
+-- what holds at the start and is kept by each step holds after a log
+pub plain_after-keeps : (P : Kernel → Type 0) → ((p : Pid) (k j : Kernel) → P k → one_step p k ≡ Some j → P j) → (system : System) (log : List Entry) (k : Kernel) → P (boot system) → plain_after system log ≡ Some k → P k
 unfolding plain_after
-plain_after-pids system log k is = subst (λ o. IfSome o (HasPids (pids_in (boot system)))) is (pids_from (pids_in (boot system)) (Some (boot system)) log (boot-pids system))
+plain_after-keeps P one system log k start is = subst (λ o. IfSome o P) is (log_keeps P one (Some (boot system)) log start)
+
+-- so the processes rise, and have the pids of the start
+pub plain_after-pids : (system : System) (log : List Entry) (k : Kernel) → plain_after system log ≡ Some k → HasPids (pids_in (boot system)) k
+plain_after-pids system log k is = plain_after-keeps (HasPids (pids_in (boot system))) (one_step-pids (pids_in (boot system))) system log k (boot-pids system) is
+
+-- and each has the pid under which it stands
+pub process_after-own : (system : System) (log : List Entry) (p : Pid) (s : ProcState) → process_after system log p ≡ Some s → (s.small).pid ≡ p
+process_after-own system log p s there = by_kernel (plain_after system log) refl there
+  where
+    by_kernel : (o : Option Kernel) → plain_after system log ≡ o → option_and_then (λ k. process_at k p) o ≡ Some s → (s.small).pid ≡ p
+    by_kernel None is e = cc
+    by_kernel (Some k) is e = plain_after-keeps HasOwnPids one_step-own system log k (boot-own system) is p s.small (ap (option_map (λ (s : ProcState). s.small)) e)
 
 -- ---- a step that sends something
 
@@ -275,3 +289,61 @@ is_sent system log p at e h = by_case (emission_at system log p at) refl h
     by_case : (o : Option (Emission × ProcState)) → emission_at system log p at ≡ o → option_map (λ (r : Emission × ProcState). r.0) o ≡ Some e → SentTo system log p at e
     by_case None is f = cc
     by_case (Some r) is f = let same : r.0 ≡ e = some_same r.0 e f in record { after = r.1; is = is ∙ ap (λ x. Some (x, r.1)) same }
+
+-- a letter that a process sends is from that process
+pub sent_is_own : (system : System) (log : List Entry) (p : Pid) (at : ℕ) (letter : Letter) (t : ProcState) → emission_at system log p at ≡ Some (Sent letter, t) → letter.from ≡ p
+sent_is_own system log p at letter t is =
+    let s = sent_from system log p at (Sent letter) t is in
+    last_letter_is_own (at - done s.kernel p) s.was letter t s.sends
+    ∙ process_after-own system log p s.was (ap (option_and_then (λ k. process_at k p)) s.before ∙ s.there)
+
+-- ---- silent steps
+
+-- a process that silent steps up to a count lead to, with the process and the kernel before
+pub record SilentFrom (system : System) (log : List Entry) (p : Pid) (at : ℕ) (t : ProcState) : Type 0 where
+  pub kernel : Kernel
+  pub was : ProcState
+  pub before : plain_after system log ≡ Some kernel
+  pub there : process_at kernel p ≡ Some was
+  pub silent : silently (at - done kernel p) was ≡ Some t
+
+pub silent_from : (system : System) (log : List Entry) (p : Pid) (at : ℕ) (t : ProcState) → silent_upto system log p at ≡ Some t → SilentFrom system log p at t
+unfolding silent_upto
+silent_from system log p at t is = by_kernel (plain_after system log) refl is
+  where
+    by_process : (k : Kernel) (o : Option ProcState) → plain_after system log ≡ Some k → process_at k p ≡ o → option_and_then (silently (at - done k p)) o ≡ Some t → SilentFrom system log p at t
+    by_process k None before there silent = cc
+    by_process k (Some s) before there silent = record { kernel = k; was = s; before = before; there = there; silent = silent }
+
+    by_kernel : (o : Option Kernel) → plain_after system log ≡ o → option_and_then (silently (at - option_map_or (λ k. done k p) o 0)) (option_and_then (λ k. process_at k p) o) ≡ Some t → SilentFrom system log p at t
+    by_kernel None before silent = cc
+    by_kernel (Some k) before silent = by_process k (process_at k p) before refl silent
+
+-- an entry whose items are the run of a process up to that count can be applied
+pub silent_applies : (system : System) (log : List Entry) (e : Entry) (p : Pid) (at : ℕ) (t : ProcState) → silent_upto system log p at ≡ Some t → ((k : Kernel) → items_of k (what e) ≡ run_upto k p at) → is_some (plain_after system (log ++ e ∷ [])) ≡ true
+silent_applies system log e p at t is items =
+    let s = silent_from system log p at t is in
+    ap is_some (plain_after-snoc system log e ∙ ap (λ o. after_entry o e) s.before ∙ ap (λ is. apply_all is s.kernel) (items s.kernel) ∙ apply_run p (at - done s.kernel p) s.kernel)
+    ∙ silently-made (at - done s.kernel p) s.kernel p s.was t s.there s.silent
+
+silent_made : (system : System) (log : List Entry) (e : Entry) (p : Pid) (at : ℕ) (t : ProcState) (s : SilentFrom system log p at t) (a : Applied system log e) → ((k : Kernel) → items_of k (what e) ≡ run_upto k p at) → steps (at - done s.kernel p) p s.kernel ≡ Some a.new
+silent_made system log e p at t s a items =
+    let same : a.old ≡ s.kernel = some_same a.old s.kernel (sym a.before ∙ s.before) in
+    run_made p at s.kernel a.new (sym (ap (λ is. apply_all is s.kernel) (items s.kernel)) ∙ ap (λ k. apply_all (items_of k (what e)) k) (sym same) ∙ a.made)
+
+-- after it the process is as those steps left it
+pub process_after-silent : (system : System) (log : List Entry) (e : Entry) (p : Pid) (at : ℕ) (t : ProcState) → silent_upto system log p at ≡ Some t → ((k : Kernel) → items_of k (what e) ≡ run_upto k p at) → process_after system (log ++ e ∷ []) p ≡ Some t
+process_after-silent system log e p at t is items =
+    let s = silent_from system log p at t is in
+    let a = applied system log e (silent_applies system log e p at t is items) in
+    ap (option_and_then (λ k. process_at k p)) a.after ∙ silently-here (at - done s.kernel p) s.kernel a.new p s.was t s.there s.silent (silent_made system log e p at t s a items)
+
+-- and every other process is unchanged
+pub process_after-beside : (system : System) (log : List Entry) (e : Entry) (p : Pid) (at : ℕ) (t : ProcState) (q : Pid) → silent_upto system log p at ≡ Some t → ((k : Kernel) → items_of k (what e) ≡ run_upto k p at) → q.0 ≢ p.0
+    → process_after system (log ++ e ∷ []) q ≡ process_after system log q
+process_after-beside system log e p at t q is items apart =
+    let s = silent_from system log p at t is in
+    let a = applied system log e (silent_applies system log e p at t is items) in
+    ap (option_and_then (λ k. process_at k q)) a.after
+    ∙ silently-other (at - done s.kernel p) s.kernel a.new p s.was t q s.there s.silent (silent_made system log e p at t s a items) apart
+    ∙ sym (ap (option_and_then (λ k. process_at k q)) s.before)

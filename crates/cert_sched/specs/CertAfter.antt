@@ -17,7 +17,7 @@ use Rattle.cert_sched.specs.Steps.{first_record}
 use Rattle.cert_sched.specs.Rules.{is_over}
 use Rattle.cert_sched.specs.Legal.{Stands}
 
--- the items so far, and the steps in them of each process that has some, by rising pid
+-- the items so far, and the steps in them of each process that an entry told of, by rising pid
 pub record CertView : Type 0 where
   pub items : List Item
   pub done : List (ℕ × ℕ)

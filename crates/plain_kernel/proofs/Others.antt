@@ -1,5 +1,5 @@
 -- What the steps of one process leave of the others, and what each counts.
-use Rattle.std.proofs.Common.{◌≡◌, ℕ, zero, suc, ◌+◌, refl, sym, ap, subst, ◌∙◌, arith, Bool, true, false, ◌&&◌, eqb, cond, T, List, [], ◌∷◌, map, Option, Some, None, ne_eqb, true≢false, is_some, add-zero, add-suc}
+use Rattle.std.proofs.Common.{◌≡◌, ℕ, zero, suc, ◌+◌, refl, sym, ap, subst, ◌∙◌, arith, Bool, true, false, ◌&&◌, eqb, cond, T, List, [], ◌∷◌, map, Option, Some, None, ne_eqb, true≢false, is_some, add-zero}
 use Rattle.std.specs.Prelude.{◌≢◌, fold, option_and_then, option_map}
 use Rattle.std.specs.Option.{option_map_or}
 use Rattle.std.specs.declared.cmp.Ordering.{Ordering}
@@ -7,7 +7,7 @@ use Rattle.std.specs.declared.cmp.Ordering.TheVariants.{Less, Equal, Greater}
 use Rattle.std.specs.Ordering.{nat_cmp, is_eq, is_lt, eq_by_cmp}
 use Rattle.std.specs.Cmp.{unsigned_tied}
 use Rattle.std.proofs.lemmas.Bool.Decides.{nat_tests}
-use Rattle.std.specs.FinMap.{find, put, is_sorted}
+use Rattle.std.specs.FinMap.{find, put, is_sorted, nat_cmp-IsAntisymmetric}
 use Rattle.std.specs.FinMap.Entries.{by_order, below_all, find-put, find_tied, is_sorted-put}
 use Rattle.t32_base.specs.declared.process.Pid.{Pid}
 use Rattle.t32_base.specs.declared.letter.Letter.{Letter}
@@ -357,28 +357,60 @@ one_step-pids pids p k j has made = by_process (process_at k p) refl made
     by_process None there e = cc
     by_process (Some s) there e = by_next s (next_step s) there e
 
--- and so do several
-pub steps-pids : (pids : List Pid) (n : ℕ) (p : Pid) (k j : Kernel) → HasPids pids k → steps n p k ≡ Some j → HasPids pids j
-steps-pids pids zero p k j has made = subst (HasPids pids) (no_step p k j made) has
-steps-pids pids (suc n) p k j has made = let l = last_step n p k j made in one_step-pids pids p l.before j (steps-pids pids n p k l.before has l.earlier) l.last
+-- ---- what each step keeps
 
--- items that are applied leave the pids: no process is forked yet
-item_pids : (pids : List Pid) (i : Item) (k j : Kernel) → HasPids pids k → apply k i ≡ Some j → HasPids pids j
-item_pids pids (Run p n) k j has made = by_count (eqb n 0) made
+-- what one step of any process keeps, several keep
+pub steps-keep : (P : Kernel → Type 0) → ((p : Pid) (k j : Kernel) → P k → one_step p k ≡ Some j → P j) → (n : ℕ) (p : Pid) (k j : Kernel) → P k → steps n p k ≡ Some j → P j
+steps-keep P one zero p k j has made = subst P (no_step p k j made) has
+steps-keep P one (suc n) p k j has made = let l = last_step n p k j made in one p l.before j (steps-keep P one n p k l.before has l.earlier) l.last
+
+item_keeps : (P : Kernel → Type 0) → ((p : Pid) (k j : Kernel) → P k → one_step p k ≡ Some j → P j) → (i : Item) (k j : Kernel) → P k → apply k i ≡ Some j → P j
+item_keeps P one (Run p n) k j has made = by_count (eqb n 0) made
   where
-    by_count : (b : Bool) → cond b None (steps n p k) ≡ Some j → HasPids pids j
+    by_count : (b : Bool) → cond b None (steps n p k) ≡ Some j → P j
     by_count true e = cc
-    by_count false e = steps-pids pids n p k j has e
-item_pids pids (Fork p c) k j has made = cc
-item_pids pids (Take p) k j has made = cc
+    by_count false e = steps-keep P one n p k j has e
+item_keeps P one (Fork p c) k j has made = cc
+item_keeps P one (Take p) k j has made = cc
+
+-- and so do items that are applied: no process forks yet, and none is sent a signal
+pub apply_all-keeps : (P : Kernel → Type 0) → ((p : Pid) (k j : Kernel) → P k → one_step p k ≡ Some j → P j) → (is : List Item) (k j : Kernel) → P k → apply_all is k ≡ Some j → P j
+apply_all-keeps P one [] k j has made = subst P (some_same k j made) has
+apply_all-keeps P one (i ∷ is) k j has made = by_case (apply k i) refl made (λ l. apply_all-keeps P one is l j)
+  where
+    by_case : (o : Option Kernel) → apply k i ≡ o → option_and_then (apply_all is) o ≡ Some j → ((l : Kernel) → P l → apply_all is l ≡ Some j → P j) → P j
+    by_case None is_o e ih = cc
+    by_case (Some l) is_o e ih = ih l (item_keeps P one i k l has is_o) e
+
+-- so the pids stay
+pub steps-pids : (pids : List Pid) (n : ℕ) (p : Pid) (k j : Kernel) → HasPids pids k → steps n p k ≡ Some j → HasPids pids j
+steps-pids pids n p k j has made = steps-keep (HasPids pids) (one_step-pids pids) n p k j has made
 
 pub apply_all-pids : (pids : List Pid) (is : List Item) (k j : Kernel) → HasPids pids k → apply_all is k ≡ Some j → HasPids pids j
-apply_all-pids pids [] k j has made = subst (HasPids pids) (some_same k j made) has
-apply_all-pids pids (i ∷ is) k j has made = by_case (apply k i) refl made (λ l. apply_all-pids pids is l j)
+apply_all-pids pids is k j has made = apply_all-keeps (HasPids pids) (one_step-pids pids) is k j has made
+
+-- ---- each process has the pid under which it stands
+
+abbrev pub HasOwnPids : Kernel → Type 0
+HasOwnPids k = (p : Pid) (s : SmallState) → small_at k p ≡ Some s → s.pid ≡ p
+
+tied_pids : (q p : Pid) → pid_cmp q p ≡ Equal → q ≡ p
+tied_pids q p tied = let same : q.0 ≡ p.0 = nat_cmp-IsAntisymmetric q.0 p.0 tied in λ i. record { 0 = same i }
+
+put_own : (k : Kernel) (p : Pid) (s : ProcState) → (s.small).pid ≡ p → HasOwnPids k → HasOwnPids (with_process k p s)
+put_own k p s is own q t there = by_order (pid_cmp q p) refl (sym (ap (option_map (λ (s : ProcState). s.small)) (process_at-with_process k p s q)) ∙ there)
   where
-    by_case : (o : Option Kernel) → apply k i ≡ o → option_and_then (apply_all is) o ≡ Some j → ((l : Kernel) → HasPids pids l → apply_all is l ≡ Some j → HasPids pids j) → HasPids pids j
-    by_case None is_o e ih = cc
-    by_case (Some l) is_o e ih = ih l (item_pids pids i k l has is_o) e
+    by_order : (o : Ordering) → pid_cmp q p ≡ o → option_map (λ (s : ProcState). s.small) (cond (is_eq o) (Some s) (process_at k q)) ≡ Some t → t.pid ≡ q
+    by_order Less tied e = own q t e
+    by_order Equal tied e = ap (λ (x : SmallState). x.pid) (sym (some_same s.small t e)) ∙ is ∙ sym (tied_pids q p tied)
+    by_order Greater tied e = own q t e
+
+-- a step keeps that
+pub one_step-own : (p : Pid) (k j : Kernel) → HasOwnPids k → one_step p k ≡ Some j → HasOwnPids j
+one_step-own p k j own made =
+    let m = step_made p k j made in
+    let was : ((m.was).small).pid ≡ p = own p (m.was).small (ap (option_map (λ (s : ProcState). s.small)) m.there) in
+    λ q t there. put_own k p m.now ((m.counts).pid ∙ was) own q t (sym (m.smalls_are q) ∙ there)
 
 -- ---- boot
 
@@ -418,3 +450,12 @@ none_from system k (r ∷ roots) none = none_from system (with_root system k r) 
 pub boot-steps : (system : System) (p : Pid) → steps_at (boot system) p ≡ 0
 unfolding boot none_made
 boot-steps system p = none_from system empty (roots_of system) (λ q. refl) p
+
+own_from : (system : System) (k : Kernel) (roots : List (Pid × Root)) → HasOwnPids k → HasOwnPids (fold (with_root system) k roots)
+own_from system k [] own = own
+own_from system k (r ∷ roots) own = own_from system (with_root system k r) roots (put_own k r.0 (root_process system r.0 r.1) refl own)
+
+-- and so it is at the start
+pub boot-own : (system : System) → HasOwnPids (boot system)
+unfolding boot
+boot-own system = own_from system empty (roots_of system) (λ q t there. cc)

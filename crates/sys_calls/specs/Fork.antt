@@ -1,5 +1,5 @@
 -- A fork: the parent after it, and the child.
-use Rattle.std.specs.Prelude.{position, ℕ, ◌+◌, ◌-◌, ◌/◌, false, List, [], ◌∷◌, replicate, slice_get, Option, Some, None, option_and_then, unwrap_or}
+use Rattle.std.specs.Prelude.{position, ℕ, ◌-◌, ◌/◌, false, [], ◌∷◌, replicate, slice_get, Option, Some, None, option_and_then, unwrap_or}
 use Rattle.t32_base.specs.declared.process.Pid.{Pid}
 use Rattle.t32_base.specs.declared.process.Status.TheVariants.{Live}
 use Rattle.t32_base.specs.declared.process.EndState.TheVariants.{Never, Linked, Shut}
