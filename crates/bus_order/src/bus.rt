@@ -1,0 +1,123 @@
+//! The bus.
+ghost use Rattle.std.specs.Prelude.{◌≡◌, [], IfOk, OnOk, OnErr, slice_get, length, true};
+ghost use Rattle.std.specs.Option.{option_copied};
+ghost use Rattle.sys_text.specs.Valid.{is_system};
+ghost use Rattle.cert_sched.specs.Schedule.{placement, schedule_of};
+ghost use Rattle.cert_sched.specs.Built.{BuiltMayFollow};
+ghost use Rattle.bus_order.specs.View.{entry_of, with_post, MayTransmit, Transmits};
+
+use crate::log::{append, has_ended};
+use crate::refused::Refused;
+use bus_msg::entry::{Entry, Post};
+use cert_sched::cert::Cert;
+use cert_sched::start::placement_at_boot;
+use channel_table::placement::Placement;
+use plain_kernel::item::Item;
+use std::alloc::Global;
+use std::marker::Model;
+use sys_text::system::System;
+use t32_base::process::ClusterNo;
+use t32_base::streams::NoMemory;
+
+/// The bus of a system: its log, with the placement and the schedule of that log.
+#[derive(Drop)]
+pub struct Bus<'s> {
+    alloc: Global,
+    system: &'s System,
+    log: Vec<Entry>,
+    places: Placement,
+    cert: Cert,
+}
+
+impl<'s> Model for Bus<'s> {
+    ghost use Rattle.bus_order.specs.View.{BusView, IsKept};
+
+    ghost Value = { BusView };
+
+    ghost view = { λ b. record { system = b.system.now; log = b.log.items } };
+
+    ghost invariant = { λ b. IsKept b.system.now b.log.items b.places b.cert };
+}
+
+impl<'s> Bus<'s> {
+    /// The bus of a system, with no entry.
+    pub fn boot(alloc: Global, system: &'s System) -> Result<Bus<'s>, NoMemory>
+        requires { is_system system.now ≡ true }
+        ensures { IfOk result (λ bus. bus ≡ record { system = system.now; log = [] }) }
+    {
+        let places = placement_at_boot(alloc, system)?;
+        Ok(Bus {
+            alloc,
+            system,
+            log: Vec::new(alloc),
+            places,
+            cert: Cert::none(alloc),
+        })
+    }
+
+    /// How many entries the log has. Takes no memory.
+    pub fn length(&self) -> u64
+        ensures { result ≡ length self.now.log }
+    {
+        self.log.len() as u64
+    }
+
+    /// The entry at a place: None exactly where the place is not below the length. Takes no memory.
+    pub fn entry(&self, place: u64) -> Option<&Entry>
+        ensures { option_copied result ≡ slice_get self.now.log place }
+    {
+        self.log.get(place as usize)
+    }
+
+    /// The schedule of the log. Takes no memory.
+    pub fn items(&self) -> &[Item]
+        ensures { result.now ≡ schedule_of self.now.system self.now.log }
+    {
+        self.cert.items()
+    }
+
+    /// The placement after the log. Takes no memory.
+    pub fn places(&self) -> &Placement
+        ensures { result.now ≡ placement self.now.system self.now.log }
+    {
+        &self.places
+    }
+
+    /// Adds an entry with a post of the cluster `by`, which has seen the log up to its cursor, and answers
+    /// its place. `Over { at }` comes exactly where the end stands last, at the place `at`;
+    /// `Behind { length }` exactly where the log goes on and the cursor is below its length. After a refusal
+    /// nothing has changed.
+    pub fn transmit(&mut self, by: ClusterNo, cursor: u64, post: &Post) -> Result<u64, Refused>
+        requires { MayTransmit self.old by cursor post.now }
+        ensures { Transmits self.old cursor post.now result self.new }
+    {
+        let length = self.length();
+        if has_ended(&self.log) {
+            return Err(Refused::Over { at: length - 1 });
+        }
+        if cursor < length {
+            return Err(Refused::Behind { length });
+        }
+        match self.add(post) {
+            Ok(at) => Ok(at),
+            Err(NoMemory) => Err(Refused::NoMemory),
+        }
+    }
+
+    // Adds an entry with a post that may follow. After want of memory nothing has changed.
+    fn add(&mut self, post: &Post) -> Result<u64, NoMemory>
+        requires { BuiltMayFollow self.old.system self.old.log (entry_of self.old.system self.old.log post.now) }
+        ensures place { IfOk result (λ at. at ≡ length self.old.log) }
+        ensures ok { OnOk result (self.new ≡ with_post self.old post.now) }
+        ensures err { OnErr result (self.new ≡ self.old) }
+    {
+        let place = self.log.len() as u64;
+        let entry = Entry {
+            place,
+            post: post.copy()?,
+            dests: self.places.route(post),
+        };
+        append(&mut self.log, &mut self.cert, &mut self.places, entry)?;
+        Ok(place)
+    }
+}
