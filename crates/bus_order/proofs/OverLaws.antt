@@ -9,6 +9,7 @@ use Rattle.bus_msg.specs.Places.{Places}
 use Rattle.bus_msg.specs.PlacedAfter.{what}
 use Rattle.cert_sched.specs.Parts.{last_of}
 use Rattle.cert_sched.specs.Schedule.{placement}
+use Rattle.cert_sched.specs.CertAfter.{CertView}
 use Rattle.cert_sched.specs.Rules.{is_over, ends_run}
 use Rattle.cert_sched.specs.Told.{told}
 use Rattle.cert_sched.specs.Legal.{IsLegalBy}
@@ -16,6 +17,7 @@ use Rattle.cert_sched.specs.Built.{BuiltMayFollow, is_built}
 use Rattle.cert_sched.specs.Scripted.{is_done, is_finished}
 use Rattle.cert_sched.proofs.ListLaws.{last_of-snoc}
 use Rattle.cert_sched.proofs.BuiltLaws.{legal_induction, is_over-snoc}
+use Rattle.bus_order.specs.View.{BusView, IsKept}
 
 ends_done : (places : Places) (w : What) → is_built w ≡ true → ends_run places w ≡ is_done w
 ends_done places (Mail at letter) h = refl
@@ -53,3 +55,12 @@ finished_some log e is = ap (λ o. option_map_or (λ (e : Entry). is_done (what 
 pub finished_long : (log : List Entry) → is_finished log ≡ true → 1 ≤ length log
 finished_long [] h = absurd (true≢false (sym h))
 finished_long (e ∷ log) h = omega arith
+
+abbrev kept_view : System → List Entry → BusView
+kept_view system log = record { system = system; log = log }
+
+-- what a bus that looked at its last entry knows of its view
+pub over_as_seen : {system : System} {log seen : List Entry} {places : Places} {cert : CertView} {b : BusView} {result answer : Bool} → kept_view system log ≡ b
+    → IsKept system log places cert → seen ≡ log → result ≡ is_finished seen → result ≡ answer → is_over b.system b.log ≡ answer
+over_as_seen {system} {log} same kept seen_is looked is =
+    ap (λ (b : BusView). is_over b.system b.log) (sym same) ∙ over_finished system log kept.legal ∙ ap is_finished (sym seen_is) ∙ sym looked ∙ is

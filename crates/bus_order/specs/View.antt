@@ -6,9 +6,9 @@ use Rattle.bus_msg.specs.declared.entry.By.TheVariants.{Cluster}
 use Rattle.bus_msg.specs.declared.entry.Post.{Post}
 use Rattle.bus_msg.specs.declared.entry.Entry.{Entry}
 use Rattle.bus_msg.specs.Places.{Places}
-use Rattle.bus_msg.specs.Route.{route}
 use Rattle.cert_sched.specs.CertAfter.{CertView, IsCertOf}
 use Rattle.cert_sched.specs.Schedule.{placement}
+use Rattle.cert_sched.specs.Appended.{entry_of}
 use Rattle.cert_sched.specs.Rules.{is_over}
 use Rattle.cert_sched.specs.Legal.{IsLegalBy}
 use Rattle.cert_sched.specs.Built.{BuiltMayFollow}
@@ -25,10 +25,6 @@ pub record IsKept (system : System) (log : List Entry) (places : Places) (cert :
   pub legal : IsLegalBy BuiltMayFollow system log
   pub placed : places ≡ placement system log
   pub scheduled : IsCertOf system log cert
-
--- the entry that a post becomes at the end of a log
-abbrev pub entry_of : System → List Entry → Post → Entry
-entry_of system log post = record { place = length log; post = post; dests = route (placement system log) post.what }
 
 -- the bus with one entry more
 abbrev pub with_post : BusView → Post → BusView

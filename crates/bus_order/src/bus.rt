@@ -4,7 +4,8 @@ ghost use Rattle.std.specs.Option.{option_copied};
 ghost use Rattle.sys_text.specs.Valid.{is_system};
 ghost use Rattle.cert_sched.specs.Schedule.{placement, schedule_of};
 ghost use Rattle.cert_sched.specs.Built.{BuiltMayFollow};
-ghost use Rattle.bus_order.specs.View.{entry_of, with_post, MayTransmit, Transmits};
+ghost use Rattle.cert_sched.specs.Appended.{entry_of};
+ghost use Rattle.bus_order.specs.View.{with_post, MayTransmit, Transmits};
 
 use crate::log::{append, has_ended};
 use crate::refused::Refused;

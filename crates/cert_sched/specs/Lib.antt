@@ -4,6 +4,7 @@ pub mod Reading
 pub mod Printing
 pub mod Parts
 pub mod Schedule
+pub mod Appended
 pub mod Told
 pub mod Deeds
 pub mod Record

@@ -38,7 +38,8 @@ use Rattle.cert_sched.proofs.StepLaws.{Tells, sent_applies}
 use Rattle.cluster_core.specs.declared.resident.Resident.{Resident}
 use Rattle.cluster_core.specs.View.{ClusterView, Held, Runs, held_at, head_of, after_head, after_sent, next_count}
 use Rattle.cluster_core.specs.Parts.{held_here, posts_of}
-use Rattle.cluster_core.specs.Queue.{entry_of, IsQueueLegal, tells_steps, is_move_of, move_of, taken_by, state_by, state_now}
+use Rattle.cert_sched.specs.Appended.{entry_of}
+use Rattle.cluster_core.specs.Queue.{IsQueueLegal, tells_steps, is_move_of, move_of, taken_by, state_by, state_now}
 use Rattle.cluster_core.specs.Holds.{IsHeldAs, home_pids}
 use Rattle.cluster_core.specs.Follows.{FollowsBuilt, IsOpen, StandsBetween}
 use Rattle.cluster_core.specs.Calls.{IsReady, Absorbs, absorbed, without_ended}

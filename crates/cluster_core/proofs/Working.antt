@@ -40,7 +40,8 @@ use Rattle.cluster_core.specs.declared.resident.Resident.{Resident}
 use Rattle.cluster_core.specs.declared.worked.Worked.TheVariants.{Moved, Queued, Rests}
 use Rattle.cluster_core.specs.View.{ClusterView, Held, Runs, next_count, counted_once}
 use Rattle.cluster_core.specs.Parts.{held_here, IsOwn}
-use Rattle.cluster_core.specs.Queue.{entry_of, move_of, taken_by, state_by, state_now}
+use Rattle.cert_sched.specs.Appended.{entry_of}
+use Rattle.cluster_core.specs.Queue.{move_of, taken_by, state_by, state_now}
 use Rattle.cluster_core.specs.Holds.{IsHeldAs, home_pids}
 use Rattle.cluster_core.specs.Follows.{FollowsBuilt, IsOpen}
 use Rattle.cluster_core.specs.Calls.{GoesOn, WorkIs, is_resting, is_at_rest}

@@ -6,7 +6,7 @@ use Rattle.cert_sched.specs.Legal.{IsLegalBy, MayFollow}
 use Rattle.cert_sched.specs.Rules.{is_over}
 use Rattle.cert_sched.specs.Built.{BuiltMayFollow}
 use Rattle.cluster_core.specs.View.{ClusterView, head_of, after_sent}
-use Rattle.cluster_core.specs.Queue.{entry_of}
+use Rattle.cert_sched.specs.Appended.{entry_of}
 use Rattle.cluster_core.specs.Holds.{HoldsProcesses, HoldsPages, HoldsMarks, HoldsRecords, HoldsAccounts}
 
 -- all that a cluster holds

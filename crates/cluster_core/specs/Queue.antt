@@ -9,14 +9,9 @@ use Rattle.bus_msg.specs.declared.entry.What.TheVariants.{Mail, Birth, Exit, Syn
 use Rattle.bus_msg.specs.declared.entry.Post.{Post}
 use Rattle.bus_msg.specs.declared.entry.Entry.{Entry}
 use Rattle.bus_msg.specs.Places.{same_pid}
-use Rattle.bus_msg.specs.Route.{route}
-use Rattle.cert_sched.specs.Schedule.{placement}
+use Rattle.cert_sched.specs.Appended.{entry_of}
 use Rattle.cert_sched.specs.Steps.{process_of, silent_upto, after_items}
 use Rattle.cert_sched.specs.Kinds.{after_take}
-
--- the entry that a post becomes
-abbrev pub entry_of : System → List Entry → Post → Entry
-entry_of system log post = record { place = length log; post = post; dests = route (placement system log) post.what }
 
 abbrev pub is_rebackup : What → Bool
 is_rebackup (Rebackup to fresh recs) = true

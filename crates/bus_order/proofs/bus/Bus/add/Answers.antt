@@ -3,7 +3,8 @@ use Rattle.bus_msg.specs.declared.entry.Entry.{Entry}
 use Rattle.bus_msg.specs.Places.{Places}
 use Rattle.bus_msg.specs.Route.{route}
 use Rattle.cert_sched.specs.Built.{BuiltMayFollow}
-use Rattle.bus_order.specs.View.{BusView, IsKept, entry_of}
+use Rattle.cert_sched.specs.Appended.{entry_of}
+use Rattle.bus_order.specs.View.{BusView, IsKept}
 use Rattle.bus_order.proofs.Keeping.{kept_more}
 use Rattle.bus_order.proofs.bus.Bus.add.Goals as goal
 
