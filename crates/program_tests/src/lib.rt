@@ -3,6 +3,8 @@
 #![tactic(auto)]
 
 #[cfg(test)]
+mod clusters;
+#[cfg(test)]
 mod kernel;
 #[cfg(test)]
 mod program;

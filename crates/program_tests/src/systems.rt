@@ -12,6 +12,10 @@ pub const BAD: &str =
 pub const SPIN: &str =
     "clusters 2\npager 0 1\nsyncreads 32\nsyncsteps 4096\nimage spin 1\nwords 0000006f\nend\nroot 0 1 quarter spin 1 0 0\n";
 
+/// Jumps to itself, and may execute a thousand instructions.
+pub const LONG: &str =
+    "clusters 2\npager 0 1\nsyncreads 32\nsyncsteps 4096\nimage spin 1\nwords 0000006f\nend\nroot 0 1 quarter spin 1000 0 0\n";
+
 /// The first system as a person would write it, with its program in assembler.
 pub const COMMENTED: &str =
     "# says hi\n\n  clusters 02\npager 0 1\nsyncreads 32\nsyncsteps 4096\nasm hi 1\n  li a7, 2   # write\n  li a0, 0\n  la a1, text\n  li a2, 3\n  ecall\n  li a7, 1   # exit\n  li a0, 0\n  ecall\ntext: .ascii \"hi\\n\"\nend\nroot 0 1 quarter hi 1000 0 0";
