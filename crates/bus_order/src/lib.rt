@@ -4,3 +4,5 @@
 pub mod bus;
 pub mod log;
 pub mod refused;
+#[cfg(test)]
+mod tests;

@@ -19,4 +19,4 @@ invariant_of-self-2 c =
     let at : c.len-place.result ≡ length log = search rules in
     let same : e ≡ entry_of system log post = λ i. record { place = at i; post = c.in_ok-copy.ensures i; dests = dests i } in
     subst (λ l. IsKept system l c.append.new.places c.append.new.cert) (sym c.in_ok-append.ensures.log)
-      (kept_more system log c.self.inside.places c.append.new.places c.self.inside.cert c.append.new.cert e c.self.invariant (subst (BuiltMayFollow system log) (sym same) may) c.in_ok-append.ensures.places c.in_ok-append.ensures.cert)
+    (kept_more system log c.self.inside.places c.append.new.places c.self.inside.cert c.append.new.cert e c.self.invariant (subst (BuiltMayFollow system log) (sym same) may) c.in_ok-append.ensures.places c.in_ok-append.ensures.cert)
