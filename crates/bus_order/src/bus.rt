@@ -5,9 +5,10 @@ ghost use Rattle.sys_text.specs.Valid.{is_system};
 ghost use Rattle.cert_sched.specs.Schedule.{placement, schedule_of};
 ghost use Rattle.cert_sched.specs.Built.{BuiltMayFollow};
 ghost use Rattle.cert_sched.specs.Appended.{entry_of};
-ghost use Rattle.bus_order.specs.View.{with_post, MayTransmit, Transmits};
+ghost use Rattle.bus_order.specs.View.{BeginsWith, Idles, MayIdle, MayTransmit, Transmits, mark_in, with_post};
 
 use crate::log::{append, has_ended};
+use crate::marks::{Idled, Mark};
 use crate::refused::Refused;
 use bus_msg::entry::{Entry, Post};
 use cert_sched::cert::Cert;
@@ -28,6 +29,7 @@ pub struct Bus<'s> {
     log: Vec<Entry>,
     places: Placement,
     cert: Cert,
+    marks: Vec<Option<Mark>>,
 }
 
 impl<'s> Model for Bus<'s> {
@@ -35,16 +37,16 @@ impl<'s> Model for Bus<'s> {
 
     ghost Value = { BusView };
 
-    ghost view = { λ b. record { system = b.system.now; log = b.log.items } };
+    ghost view = { λ b. record { system = b.system.now; log = b.log.items; marks = b.marks.items } };
 
-    ghost invariant = { λ b. IsKept b.system.now b.log.items b.places b.cert };
+    ghost invariant = { λ b. IsKept b.system.now b.log.items b.places b.cert b.marks.items };
 }
 
 impl<'s> Bus<'s> {
     /// The bus of a system, with no entry.
     pub fn boot(alloc: Global, system: &'s System) -> Result<Bus<'s>, NoMemory>
         requires { is_system system.now ≡ true }
-        ensures { IfOk result (λ bus. bus ≡ record { system = system.now; log = [] }) }
+        ensures { IfOk result (BeginsWith system.now) }
     {
         let places = placement_at_boot(alloc, system)?;
         Ok(Bus {
@@ -102,6 +104,28 @@ impl<'s> Bus<'s> {
         match self.add(post) {
             Ok(at) => Ok(at),
             Err(NoMemory) => Err(Refused::NoMemory),
+        }
+    }
+
+    /// Marks the cluster `by`, which has seen the log up to its cursor and in which nothing can move. Where
+    /// no other living cluster is without a mark, the run ends, by an entry that names each process that has
+    /// not ended with its count of steps. `Over { at }` and `Behind { length }` come as from `transmit`, and
+    /// change nothing, nor does want of memory.
+    pub fn idle(&mut self, by: ClusterNo, cursor: u64, mark: Mark) -> Result<Idled, Refused>
+        requires { MayIdle self.old by cursor mark }
+        ensures { Idles self.old by cursor mark result self.new }
+    {
+        Err(Refused::NoMemory)
+    }
+
+    /// The kernel steps and the disk calls that a cluster told: None exactly where it has no mark at the
+    /// length that the log has, a `Done` that stands last not counted. Takes no memory.
+    pub fn marked(&self, k: ClusterNo) -> Option<(u64, u64)>
+        ensures { result ≡ option_map (λ m. (m.steps, m.calls)) (mark_in self.now.marks k) }
+    {
+        match self.marks.get(usize::from(k.0)) {
+            Some(Some(mark)) => Some((mark.steps, mark.calls)),
+            _ => None,
         }
     }
 

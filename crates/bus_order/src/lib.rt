@@ -3,6 +3,7 @@
 
 pub mod bus;
 pub mod log;
+pub mod marks;
 pub mod refused;
 #[cfg(test)]
 mod tests;

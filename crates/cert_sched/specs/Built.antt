@@ -1,5 +1,6 @@
 -- The part of the rules that is built so far. It goes away when every kind of entry is built.
-use Rattle.std.specs.Prelude.{◌≡◌, Bool, true, false, List}
+use Rattle.std.specs.Prelude.{ℕ, ◌≡◌, Bool, true, false, List}
+use Rattle.t32_base.specs.declared.process.ClusterNo.{ClusterNo}
 use Rattle.t32_base.specs.declared.letter.To.{To}
 use Rattle.t32_base.specs.declared.letter.To.TheVariants.{Proc, Tty}
 use Rattle.sys_text.specs.declared.system.System.{System}
@@ -8,6 +9,7 @@ use Rattle.bus_msg.specs.declared.entry.What.TheVariants.{Mail, Exit, Done}
 use Rattle.bus_msg.specs.declared.entry.Entry.{Entry}
 use Rattle.bus_msg.specs.PlacedAfter.{what}
 use Rattle.cert_sched.specs.Legal.{Stands}
+use Rattle.cert_sched.specs.Scripted.{has_counted_steps}
 
 abbrev pub is_to_terminal : To → Bool
 is_to_terminal (Proc p e) = false
@@ -24,3 +26,7 @@ is_built _ = false
 pub record BuiltMayFollow (system : System) (log : List Entry) (e : Entry) : Type 0 where
   pub stands : Stands system log e
   pub built : is_built (what e) ≡ true
+
+-- No cluster is lost yet, and none has a disk: each has counted at least the steps that the log shows.
+abbrev pub has_counted_built : System → List Entry → List ℕ → List ℕ → ClusterNo → Bool
+has_counted_built system log steps calls k = has_counted_steps log steps k

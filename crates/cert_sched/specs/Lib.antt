@@ -16,6 +16,7 @@ pub mod Counted
 pub mod Steps
 pub mod Rules
 pub mod Kinds
+pub mod Rests
 pub mod Legal
 pub mod CertAfter
 pub mod Built

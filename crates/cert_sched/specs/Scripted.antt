@@ -35,20 +35,27 @@ is_unused_rightly log steps calls (ReturnAt k place) = true
 abbrev pub is_server : System → ClusterNo → Bool
 is_server system k = same_cluster k (system.pager).0 || same_cluster k (system.pager).1
 
+-- a cluster has counted at least the steps that the log shows
+abbrev pub has_counted_steps : List Entry → List ℕ → ClusterNo → Bool
+has_counted_steps log steps k = nat_le (capped (least_steps (before_end log) log k)) (slice_index steps k.0)
+
 -- a cluster that was never lost has counted at least the steps and the calls that the log shows
 abbrev pub has_counted : System → List Entry → List ℕ → List ℕ → ClusterNo → Bool
 has_counted system log steps calls k =
     was_lost_in log k
-    || (nat_le (capped (least_steps (before_end log) log k)) (slice_index steps k.0)
+    || (has_counted_steps log steps k
     && (not (is_server system k) || nat_le (capped (least_calls system log log k)) (slice_index calls k.0)))
 
--- the crashes and returns of the log are those that the script gives
-pub record IsScripted (system : System) (log : List Entry) (script : List ScriptWord) (steps calls : List ℕ) : Type 0 where
+-- the crashes and returns of the log are those that the script gives, where a test says whether a cluster has counted enough
+pub record IsScriptedBy (enough : System → List Entry → List ℕ → List ℕ → ClusterNo → Bool) (system : System) (log : List Entry) (script : List ScriptWord) (steps calls : List ℕ) : Type 0 where
   pub left : List ScriptWord
   pub looked : Looked system script log left
   pub losses : list_all (λ (t : Told). is_scripted_loss system script t.log (what t.entry)) (told system log) ≡ true
   pub unused : is_finished log ≡ true → list_all (is_unused_rightly log steps calls) script ≡ true
-  pub counted : is_finished log ≡ true → list_all (λ n. has_counted system log steps calls (cluster_no n)) (range_with_len 0 system.clusters) ≡ true
+  pub counted : is_finished log ≡ true → list_all (λ n. enough system log steps calls (cluster_no n)) (range_with_len 0 system.clusters) ≡ true
+
+abbrev pub IsScripted : System → List Entry → List ScriptWord → List ℕ → List ℕ → Type 0
+IsScripted system log script steps calls = IsScriptedBy has_counted system log script steps calls
 
 -- ---- scripts whose losses are covered in every schedule
 

@@ -23,7 +23,8 @@ use Rattle.cert_sched.specs.Parts.{rising}
 use Rattle.cluster_core.specs.declared.resident.Resident.{Resident}
 use Rattle.cluster_core.specs.View.{ClusterView, Held, Runs, held_at}
 use Rattle.cluster_core.specs.Parts.{held_here}
-use Rattle.cluster_core.specs.Holds.{IsHeldAs, home_pids}
+use Rattle.cert_sched.specs.Rests.{home_pids}
+use Rattle.cluster_core.specs.Holds.{IsHeldAs}
 use Rattle.cluster_core.specs.Follows.{FollowsBuilt}
 use Rattle.cluster_core.specs.Booting.{roots_in, IsOnlyRoot, IsResident}
 use Rattle.cert_sched.proofs.RootPids.{root_pids_differ}

@@ -40,7 +40,8 @@ use Rattle.cluster_core.specs.View.{ClusterView, Held, Runs, held_at, head_of, a
 use Rattle.cluster_core.specs.Parts.{held_here, posts_of}
 use Rattle.cert_sched.specs.Appended.{entry_of}
 use Rattle.cluster_core.specs.Queue.{IsQueueLegal, tells_steps, is_move_of, move_of, taken_by, state_by, state_now}
-use Rattle.cluster_core.specs.Holds.{IsHeldAs, home_pids}
+use Rattle.cert_sched.specs.Rests.{home_pids}
+use Rattle.cluster_core.specs.Holds.{IsHeldAs}
 use Rattle.cluster_core.specs.Follows.{FollowsBuilt, IsOpen, StandsBetween}
 use Rattle.cluster_core.specs.Calls.{IsReady, Absorbs, absorbed, without_ended}
 use Rattle.cluster_core.proofs.Telling.{Telling, telling, not_done, told_process, other_process, done_is, same_silent, same_emission, same_items}

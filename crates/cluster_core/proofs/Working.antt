@@ -42,7 +42,8 @@ use Rattle.cluster_core.specs.View.{ClusterView, Held, Runs, next_count, counted
 use Rattle.cluster_core.specs.Parts.{held_here, IsOwn}
 use Rattle.cert_sched.specs.Appended.{entry_of}
 use Rattle.cluster_core.specs.Queue.{move_of, taken_by, state_by, state_now}
-use Rattle.cluster_core.specs.Holds.{IsHeldAs, home_pids}
+use Rattle.cert_sched.specs.Rests.{home_pids}
+use Rattle.cluster_core.specs.Holds.{IsHeldAs}
 use Rattle.cluster_core.specs.Follows.{FollowsBuilt, IsOpen}
 use Rattle.cluster_core.specs.Calls.{GoesOn, WorkIs, is_resting, is_at_rest}
 use Rattle.cluster_core.specs.Quantum.{RunsSome, RunsAndSends}
@@ -332,4 +333,18 @@ module _ (c : ClusterView) (old new : Resident) (post : Post) (e : Emission) (ru
   sends_has (suc n) s is = silent_has n s runs.before is
 
   pub posted_work : WorkIs c Queued (posted_view c new post)
-  posted_work = (not_resting c old here (sends_has runs.steps (state_of old.process) runs.silent), refl)
+  posted_work = (
+    not_resting c old here (sends_has runs.steps (state_of old.process) runs.silent),
+    record {
+      pid = old.pid;
+      was = old.process;
+      now = new.process;
+      emission = e;
+      post = post;
+      there = there c old here;
+      runs = runs;
+      post_is = post_is;
+      rest = ap (λ hs. record c { here = hs; queue = post ∷ []; steps = next_count c.steps })
+          (ap (λ p. (p, Runs new.process) ∷ []) same ∙ sym (ap (map (λ (e : Pid × Held). cond (same_pid e.0 old.pid) (old.pid, Runs new.process) e)) here ∙ replaced old.pid old.process new.process));
+    },
+  )

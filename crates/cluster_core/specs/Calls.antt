@@ -5,18 +5,23 @@ use Rattle.t32_base.specs.declared.process.Pid.{Pid}
 use Rattle.t32_base.specs.declared.process.ClusterNo.{ClusterNo}
 use Rattle.sys_text.specs.declared.system.System.{System}
 use Rattle.proc_state.specs.declared.process.Process.{Process}
-use Rattle.proc_state.specs.State.{state_of, can_take}
-use Rattle.sys_calls.specs.Next.{next_step, has_step, silently}
+use Rattle.proc_state.specs.State.{state_of}
+use Rattle.sys_calls.specs.declared.steps.Emission.{Emission}
+use Rattle.sys_calls.specs.Next.{silently}
 use Rattle.bus_msg.specs.declared.entry.What.{What}
 use Rattle.bus_msg.specs.declared.entry.What.TheVariants.{Exit}
+use Rattle.bus_msg.specs.declared.entry.Post.{Post}
 use Rattle.bus_msg.specs.declared.entry.Entry.{Entry}
 use Rattle.bus_msg.specs.Places.{same_pid}
 use Rattle.bus_msg.specs.PlacedAfter.{what, placed_after}
 use Rattle.cert_sched.specs.Built.{BuiltMayFollow}
 use Rattle.cert_sched.specs.Losses.{is_by_cluster, is_crash_of}
+use Rattle.cert_sched.specs.Rests.{is_idle}
 use Rattle.cluster_core.specs.declared.worked.Worked.{Worked}
 use Rattle.cluster_core.specs.declared.worked.Worked.TheVariants.{Moved, Queued, Waits as IsWaiting, Rests}
 use Rattle.cluster_core.specs.View.{ClusterView, Held, Runs, Rolls, Waits, held_at, head_of, next_count, counted_once}
+use Rattle.cluster_core.specs.Quantum.{RunsAndSends}
+use Rattle.cluster_core.specs.Turn.{post_told}
 use Rattle.cluster_core.specs.Follows.{FollowsBuilt, IsOpen, StandsBetween}
 
 -- ---- the start
@@ -78,7 +83,7 @@ absorbed c e = record c {
 
 -- a process here runs, and has neither a step nor a take
 abbrev pub is_at_rest : Held → Bool
-is_at_rest (Runs p) = not (has_step (next_step (state_of p)) || can_take (state_of p))
+is_at_rest (Runs p) = is_idle (state_of p)
 is_at_rest (Rolls p counts births) = false
 is_at_rest (Waits kept) = false
 
@@ -113,10 +118,22 @@ pub record MovedOne (old new : ClusterView) : Type 0 where
   pub silent : silently steps (state_of was) ≡ Some (state_of now)
   pub rest : new ≡ record old { here = map (λ (e : Pid × Held). if same_pid e.0 pid then (pid, Runs now) else e) old.here; steps = next_count old.steps }
 
+-- one process made 1 to 64 steps, of which the last sent something, and this is the one post to be sent
+pub record QueuesOne (old new : ClusterView) : Type 0 where
+  pub pid : Pid
+  pub was : Process
+  pub now : Process
+  pub emission : Emission
+  pub post : Post
+  pub there : held_at old pid ≡ Some (Runs was)
+  pub runs : RunsAndSends 64 (state_of was) emission (state_of now)
+  pub post_is : post ≡ post_told old.number pid (now.small).steps emission
+  pub rest : new ≡ record old { here = map (λ (e : Pid × Held). if same_pid e.0 pid then (pid, Runs now) else e) old.here; queue = post ∷ []; steps = next_count old.steps }
+
 -- what a work says that it did; nothing here waits for a page yet
 abbrev pub WorkIs : ClusterView → Worked → ClusterView → Type 0
 WorkIs old Moved new = (is_resting old ≡ false) × MovedOne old new
-WorkIs old Queued new = (is_resting old ≡ false) × (is_some (head_of new.queue) ≡ true)
+WorkIs old Queued new = (is_resting old ≡ false) × QueuesOne old new
 WorkIs old IsWaiting new = ⊥
 WorkIs old Rests new = (is_resting old ≡ true) × (new ≡ counted_once old)
 

@@ -23,6 +23,7 @@ use Rattle.cert_sched.specs.Account.{account_after, page_in}
 use Rattle.cert_sched.specs.Moved.{moved_with_state, any_since_moved, is_fetch, is_page_is, is_page_at, waiting_fetches}
 use Rattle.cert_sched.specs.Rolling.{replayed, refilled}
 use Rattle.cert_sched.specs.Steps.{numbers_read, saved_of, start_steps, page_count}
+use Rattle.cert_sched.specs.Rests.{home_pids}
 use Rattle.cert_sched.specs.Rules.{has_its_pages}
 use Rattle.cert_sched.specs.Losses.{is_from, was_lost_in, least_steps, least_calls, capped}
 use Rattle.cert_sched.specs.Scripted.{is_server}
@@ -48,9 +49,6 @@ abbrev pub IsHeldAs : System → List Entry → List Post → Pid → Held → T
 IsHeldAs system log queue p (Runs process) = state_now system log queue p (process.small).steps ≡ Some (state_of process)
 IsHeldAs system log queue p (Rolls process counts births) = RollsAs system log p (state_of process) counts births
 IsHeldAs system log queue p (Waits kept) = backup_record system log p ≡ Some kept
-
-abbrev pub home_pids : System → List Entry → ClusterNo → List ℕ
-home_pids system log k = map (λ (q : Placed). (q.pid).0) (filter (is_at_home k) (placement system log).placed)
 
 -- It has taken in the log. Each process at home here that has not ended stands here once, as the log says. Each post is its own and may follow, by a rule. Its kernel
 -- steps are at least one for each entry that it took in or sent, and one for a head that was tried.

@@ -1,6 +1,7 @@
 //! A cluster with its process.
 ghost use Rattle.std.specs.Prelude.{◌≡◌, ◌<◌, ◌≤◌, ◌^◌, ◌-◌, ◌==◌, [], Some, None, OnOk, IfOk, is_some, true, count_by, if◌then◌else◌};
 ghost use Rattle.std.specs.Option.{option_copied};
+ghost use Rattle.std.specs.Arc.{arc_value};
 ghost use Rattle.sys_text.specs.Valid.{is_system};
 ghost use Rattle.cluster_core.specs.View.{head_of, after_sent, counted_once, tried_once};
 ghost use Rattle.cluster_core.specs.Follows.{FollowsBuilt};
@@ -15,6 +16,7 @@ use cert_sched::start::placement_at_boot;
 use channel_table::placement::Placement;
 use std::alloc::Global;
 use std::marker::Model;
+use std::sync::Arc;
 use sys_text::system::System;
 use t32_base::lists::List;
 use t32_base::process::{ClusterNo, Pid};
@@ -22,9 +24,9 @@ use t32_base::streams::NoMemory;
 
 /// A cluster of a system: the placement, its process, and the post that it has to send.
 #[derive(Drop)]
-pub struct Cluster<'s> {
+pub struct Cluster {
     alloc: Global,
-    system: &'s System,
+    system: Arc<System>,
     number: ClusterNo,
     cursor: u64,
     places: Placement,
@@ -34,7 +36,8 @@ pub struct Cluster<'s> {
     steps: u64,
 }
 
-impl<'s> Model for Cluster<'s> {
+impl Model for Cluster {
+    ghost use Rattle.std.specs.Arc.{arc_value};
     ghost use Rattle.std.specs.Prelude.{[], false, None};
     ghost use Rattle.cluster_core.specs.View.{ClusterView};
     ghost use Rattle.cluster_core.specs.Parts.{held_here, posts_of, IsSound};
@@ -42,7 +45,7 @@ impl<'s> Model for Cluster<'s> {
     ghost Value = { ClusterView };
 
     ghost view = { λ c. record {
-      system = c.system.now;
+      system = arc_value c.system;
       number = c.number;
       cursor = c.cursor;
       places = c.places;
@@ -58,27 +61,27 @@ impl<'s> Model for Cluster<'s> {
       failed = None;
     } };
 
-    ghost invariant = { λ c. IsSound c.system.now c.number c.here (posts_of c.queue) };
+    ghost invariant = { λ c. IsSound (arc_value c.system) c.number c.here (posts_of c.queue) };
 }
 
-impl<'s> Cluster<'s> {
+impl Cluster {
     /// A cluster at its start: the placement of the roots, and its root with its image. It has one at most.
     pub fn boot(
         alloc: Global,
-        system: &'s System,
+        system: &Arc<System>,
         number: ClusterNo,
-    ) -> Result<Cluster<'s>, NoMemory>
-        requires valid { is_system system.now ≡ true }
-        requires has { number.0 < system.now.clusters }
-        requires one { count_by (λ r. r.home.0 == number.0) system.now.roots ≤ 1 }
-        ensures follows { IfOk result (FollowsBuilt system.now []) }
-        ensures begins { IfOk result (IsFirst system.now number) }
+    ) -> Result<Cluster, NoMemory>
+        requires valid { is_system (arc_value system.now) ≡ true }
+        requires has { number.0 < (arc_value system.now).clusters }
+        requires one { count_by (λ r. r.home.0 == number.0) (arc_value system.now).roots ≤ 1 }
+        ensures follows { IfOk result (FollowsBuilt (arc_value system.now) []) }
+        ensures begins { IfOk result (IsFirst (arc_value system.now) number) }
     {
         let places = placement_at_boot(alloc, system)?;
         let here = resident_at_boot(alloc, system, number)?;
         Ok(Cluster {
             alloc,
-            system,
+            system: system.clone()?,
             number,
             cursor: 0,
             places,

@@ -1,5 +1,5 @@
 -- When a run is what its system and its script allow.
-use Rattle.std.specs.Prelude.{ℕ, ◌≡◌, true, false, List, Option, Some, None}
+use Rattle.std.specs.Prelude.{ℕ, ◌≡◌, Bool, true, false, List, [], Option, Some, None}
 use Rattle.t32_base.specs.declared.process.ClusterNo.{ClusterNo}
 use Rattle.sys_text.specs.declared.system.System.{System}
 use Rattle.bus_msg.specs.declared.entry.Entry.{Entry}
@@ -11,7 +11,8 @@ use Rattle.cert_sched.specs.Schedule.{schedule_of}
 use Rattle.cert_sched.specs.Told.{Told, told, cluster_lost}
 use Rattle.cert_sched.specs.Legal.{IsLegalBy, MayFollow}
 use Rattle.cert_sched.specs.Counted.{counted}
-use Rattle.cert_sched.specs.Scripted.{IsScripted, is_finished}
+use Rattle.cert_sched.specs.Scripted.{IsScriptedBy, has_counted, is_finished}
+use Rattle.cert_sched.specs.Built.{BuiltMayFollow, has_counted_built}
 use Rattle.report_text.specs.declared.run.Run.{Run}
 use Rattle.report_text.specs.declared.run.Ended.{Ended}
 use Rattle.report_text.specs.declared.run.Ended.TheVariants.{Finished, Lost}
@@ -26,14 +27,19 @@ abbrev pub EndsAs : System → List Entry → Ended → Type 0
 EndsAs system log Finished = is_finished log ≡ true
 EndsAs system log (Lost k at) = IsLostAt (last_of (told system log)) k at
 
--- The log is legal, by a rule, and has the losses of the script. The schedule, the count of what was withheld and the end are those of the log.
-pub record IsGoodBy (May : System → List Entry → Entry → Type 0) (system : System) (script : List ScriptWord) (r : Run) : Type 0 where
+-- The log is legal, by a rule, and has the losses of the script, for clusters that have counted enough, by a test. The schedule, the count of what was withheld and the
+-- end are those of the log.
+pub record IsGoodBy (May : System → List Entry → Entry → Type 0) (enough : System → List Entry → List ℕ → List ℕ → ClusterNo → Bool) (system : System) (script : List ScriptWord) (r : Run) : Type 0 where
   pub legal : IsLegalBy May system r.log
-  pub scripted : IsScripted system r.log script r.steps r.disk_calls
+  pub scripted : IsScriptedBy enough system r.log script r.steps r.disk_calls
   pub items : r.items ≡ schedule_of system r.log
   pub withheld : r.withheld ≡ counted system r.log
   pub ended : EndsAs system r.log r.ended
 
 -- a run that is what its system and its script allow
 abbrev pub IsGood : System → List ScriptWord → Run → Type 0
-IsGood system script r = IsGoodBy MayFollow system script r
+IsGood system script r = IsGoodBy MayFollow has_counted system script r
+
+-- the same of the entries that are built so far, for the empty script
+abbrev pub IsGoodBuilt : System → Run → Type 0
+IsGoodBuilt system r = IsGoodBy BuiltMayFollow has_counted_built system [] r

@@ -2,7 +2,7 @@ use Rattle.std.proofs.Common.{◌≡◌, ◌<◌, refl, ap, subst, sym, ◌∙�
 use Rattle.channel_table.specs.Changes.{pids_differ}
 use Rattle.cert_sched.specs.Losses.{is_from}
 use Rattle.cluster_core.specs.declared.turn.Turn.TheVariants.{Moved as TurnMoved, Posted, Rests as TurnRests}
-use Rattle.cluster_core.specs.declared.worked.Worked.TheVariants.{Moved}
+use Rattle.cluster_core.specs.declared.worked.Worked.TheVariants.{Moved, Queued}
 use Rattle.cluster_core.specs.View.{ClusterView, next_count, counted_once}
 use Rattle.cluster_core.specs.Calls.{GoesOn, WorkIs}
 use Rattle.cluster_core.specs.Turn.{TurnIs}
@@ -52,7 +52,8 @@ returns-in-Posted-clause-work c =
     let differ = ap (λ (v : ClusterView). pids_differ (v.places).placed) (sym c.self.view_is) ∙ c.len-count.ensures.different in
     let turn = subst (λ k. TurnIs k c.self.inside.here (Ok (Posted c.in-Posted.post)) c.take_turn.new.here) (ap (λ (v : ClusterView). v.number) c.self.view_is) (rw c.in-Posted.is at c.in_ok-turn.ensures.turn) in
     let posted = posted_turn old c.self.inside.here c.take_turn.new.here c.in-Posted.post here c.requires.empty c.self.invariant.resident differ has turn in
-    (posted.work.0, refl)
+    let whole = c.self-2.view_is ∙ c.count_step.ensures ∙ ap (λ (v : ClusterView). turned v c.take_turn.new.here) c.self.view_is in
+    subst (WorkIs old Queued) (sym (ap (λ (v : ClusterView). record v { queue = c.in-Posted.post ∷ [] }) whole)) posted.work
 
 pub invariant_of-self-in-Posted : goal.invariant_of-self-in-Posted
 invariant_of-self-in-Posted c =
