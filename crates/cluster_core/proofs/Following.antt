@@ -47,7 +47,7 @@ use Rattle.cluster_core.specs.Calls.{IsReady, Absorbs, absorbed, without_ended}
 use Rattle.cluster_core.proofs.Telling.{Telling, telling, not_done, told_process, other_process, done_is, same_silent, same_emission, same_items}
 use Rattle.cluster_core.proofs.Homes.{HomeHere, home_here, pids_home, home_exit, without, unended_exit, rising_none, rising_one}
 
-both : (a b : Bool) → (a && b) ≡ true → (a ≡ true) × (b ≡ true)
+pub both : (a b : Bool) → (a && b) ≡ true → (a ≡ true) × (b ≡ true)
 both true true h = (refl, refl)
 both true false h = absurd (true≢false (sym h))
 both false b h = absurd (true≢false (sym h))

@@ -7,4 +7,5 @@ pub mod Booted
 pub mod Following
 pub mod Owning
 pub mod Working
+pub mod Resting
 pub mod Turning

@@ -38,7 +38,7 @@ use Rattle.cert_sched.proofs.BuiltLaws.{built_births, built_clusters}
 use Rattle.cert_sched.proofs.StepLaws.{Tells, sent_applies}
 use Rattle.cluster_core.specs.declared.resident.Resident.{Resident}
 use Rattle.cluster_core.specs.declared.worked.Worked.TheVariants.{Moved, Queued, Rests}
-use Rattle.cluster_core.specs.View.{ClusterView, Held, Runs, next_count, counted_once}
+use Rattle.cluster_core.specs.View.{ClusterView, Held, Runs, next_count, counted_once, tried_once}
 use Rattle.cluster_core.specs.Parts.{held_here, IsOwn}
 use Rattle.cert_sched.specs.Appended.{entry_of}
 use Rattle.cluster_core.specs.Queue.{move_of, taken_by, state_by, state_now}
@@ -100,7 +100,7 @@ pub record Ahead (system : System) (log : List Entry) (p : Pid) (s : ProcState) 
   pub counts : (s.small).steps ≡ (base.small).steps + ((s.small).steps - (base.small).steps)
   pub done : done_after system log p ≡ (base.small).steps
 
-ahead : (system : System) (log : List Entry) (p : Pid) (s : ProcState) → silent_upto system log p (s.small).steps ≡ Some s → Ahead system log p s
+pub ahead : (system : System) (log : List Entry) (p : Pid) (s : ProcState) → silent_upto system log p (s.small).steps ≡ Some s → Ahead system log p s
 unfolding silent_upto
 ahead system log p s is = by_process (process_after system log p) refl is
   where
@@ -144,7 +144,7 @@ held_only p0 h0 p h is = by_test (same_pid p0 p) refl is
     by_test false at is = cc
 
 -- the process that is held here, in the log
-held_before : (c : ClusterView) (log : List Entry) (r : Resident) → c.here ≡ held_here (Some r) → c.queue ≡ [] → FollowsBuilt c.system log c
+pub held_before : (c : ClusterView) (log : List Entry) (r : Resident) → c.here ≡ held_here (Some r) → c.queue ≡ [] → FollowsBuilt c.system log c
     → silent_upto c.system log r.pid ((r.process).small).steps ≡ Some (state_of r.process)
 held_before c log r here empty f = ap (λ ps. state_now c.system log ps r.pid ((r.process).small).steps) (sym empty) ∙ f.held r.pid (Runs r.process) (there c r here)
 
@@ -169,6 +169,24 @@ goes_on_rested c log now f = record {
   own = f.own;
   queue = f.queue;
   counted = λ kept. more_counted (least_steps log log c.number + cond c.tried 1 0) c.steps (f.counted kept);
+}
+
+-- ---- its head was tried
+
+more_tried : (n s : ℕ) (b : Bool) → capped (n + cond b 1 0) ≤ s → capped (n + 1) ≤ next_count s
+more_tried n s true h = omega (arith, h)
+more_tried n s false h = omega (arith, h)
+
+-- a head that is tried is one kernel step more
+pub goes_on_tried : (c : ClusterView) → GoesOn c (tried_once c)
+goes_on_tried c log now f = record {
+  cursor = f.cursor;
+  places = f.places;
+  held = f.held;
+  each_once = f.each_once;
+  own = f.own;
+  queue = f.queue;
+  counted = λ kept. more_tried (least_steps log log c.number) c.steps c.tried (f.counted kept);
 }
 
 -- ---- it moved

@@ -1,5 +1,5 @@
 -- What the calls on a cluster ask and promise. What a call asks holds of some log; what it promises, of every log that the cluster follows.
-use Rattle.std.specs.Prelude.{ℕ, ◌+◌, ◌≤◌, ◌≡◌, ◌⊎◌, Bool, true, false, not, ◌||◌, if◌then◌else◌, List, [], ◌∷◌, ◌++◌, map, filter, Some, is_some}
+use Rattle.std.specs.Prelude.{ℕ, ◌+◌, ◌≤◌, ◌≡◌, ◌⊎◌, Bool, true, false, not, ◌||◌, if◌then◌else◌, List, [], ◌∷◌, ◌++◌, map, filter, Some, None}
 use Rattle.std.specs.List.{list_all}
 use Rattle.t32_base.specs.declared.process.Pid.{Pid}
 use Rattle.t32_base.specs.declared.process.ClusterNo.{ClusterNo}
@@ -16,7 +16,7 @@ use Rattle.bus_msg.specs.Places.{same_pid}
 use Rattle.bus_msg.specs.PlacedAfter.{what, placed_after}
 use Rattle.cert_sched.specs.Built.{BuiltMayFollow}
 use Rattle.cert_sched.specs.Losses.{is_by_cluster, is_crash_of}
-use Rattle.cert_sched.specs.Rests.{is_idle}
+use Rattle.cert_sched.specs.Rests.{is_idle, IsRestOf}
 use Rattle.cluster_core.specs.declared.worked.Worked.{Worked}
 use Rattle.cluster_core.specs.declared.worked.Worked.TheVariants.{Moved, Queued, Waits as IsWaiting, Rests}
 use Rattle.cluster_core.specs.View.{ClusterView, Held, Runs, Rolls, Waits, held_at, head_of, next_count, counted_once}
@@ -33,6 +33,7 @@ pub record IsFirst (system : System) (number : ClusterNo) (c : ClusterView) : Ty
   pub queue : c.queue ≡ []
   pub tried : c.tried ≡ false
   pub steps : c.steps ≡ 0
+  pub failed : c.failed ≡ None
 
 -- ---- following
 
@@ -105,6 +106,10 @@ rests_in here = map (λ (e : Pid × Held). (e.0, steps_of_held e.1)) here
 -- each process here with its steps
 abbrev pub rests_of : ClusterView → List (Pid × ℕ)
 rests_of c = rests_in c.here
+
+-- where nothing is to be sent, these are the processes that rest here, in each log that the cluster follows
+abbrev pub RestsIn : ClusterView → List (Pid × ℕ) → Type 0
+RestsIn c rests = c.queue ≡ [] → (log : List Entry) → IsOpen BuiltMayFollow c.system log → FollowsBuilt c.system log c → IsRestOf c.system log c.number rests
 
 -- one process made 1 to 64 silent steps, and nothing else changed
 pub record MovedOne (old new : ClusterView) : Type 0 where

@@ -1,11 +1,11 @@
 //! A cluster with its process.
-ghost use Rattle.std.specs.Prelude.{◌≡◌, ◌<◌, ◌≤◌, ◌^◌, ◌-◌, ◌==◌, [], Some, None, OnOk, IfOk, is_some, true, count_by, if◌then◌else◌};
+ghost use Rattle.std.specs.Prelude.{◌≡◌, ◌<◌, ◌≤◌, ◌^◌, ◌-◌, ◌==◌, [], Some, None, OnOk, IfOk, IfSome, is_some, true, count_by, if◌then◌else◌};
 ghost use Rattle.std.specs.Option.{option_copied};
 ghost use Rattle.std.specs.Arc.{arc_value};
 ghost use Rattle.sys_text.specs.Valid.{is_system};
 ghost use Rattle.cluster_core.specs.View.{head_of, after_sent, counted_once, tried_once};
 ghost use Rattle.cluster_core.specs.Follows.{FollowsBuilt};
-ghost use Rattle.cluster_core.specs.Calls.{Absorbs, absorbed, FollowsSome, GoesOn, is_resting, IsFirst, KeepsPlace, ReadyFor, rests_of, WorkIs};
+ghost use Rattle.cluster_core.specs.Calls.{Absorbs, absorbed, FollowsSome, GoesOn, is_resting, IsFirst, KeepsPlace, ReadyFor, RestsIn, rests_of, WorkIs};
 
 use crate::booting::resident_at_boot;
 use crate::resident::{Resident, let_go, resting};
@@ -124,7 +124,8 @@ impl Cluster {
     /// The head of the queue is about to be transmitted. Takes no memory.
     pub fn tried(&mut self)
         requires { is_some (head_of self.old.queue) ≡ true }
-        ensures { self.new ≡ tried_once self.old }
+        ensures tried { self.new ≡ tried_once self.old }
+        ensures follows { GoesOn self.old self.new }
     {
         self.tried = true;
         self.count_step();
@@ -179,7 +180,8 @@ impl Cluster {
 
     /// Each process here with its steps: None exactly where something here can move.
     pub fn rests(&self) -> Result<Option<List<(Pid, u64)>>, NoMemory>
-        ensures { IfOk result (λ rests. rests ≡ (if is_resting self.now then Some (rests_of self.now) else None)) }
+        ensures rests { IfOk result (λ rests. rests ≡ (if is_resting self.now then Some (rests_of self.now) else None)) }
+        ensures idle { IfOk result (λ rests. IfSome rests (RestsIn self.now)) }
     {
         resting(self.alloc, &self.here)
     }

@@ -1,0 +1,66 @@
+-- Beginnings of a log.
+use Rattle.std.proofs.Common.{◌≡◌, ℕ, zero, suc, ◌+◌, ◌≤◌, ◌<◌, refl, sym, ◌∙◌, ap, subst, arith, List, [], ◌∷◌, ◌++◌, length, take, drop, length-append, append_assoc, Bool, false, true, ◌||◌, Option, Some, None, slice_get, true≢false, add-one}
+use Rattle.std.specs.List.{list_any}
+use Rattle.std.proofs.lemmas.List.{take-append-le, drop-append-le, take_all}
+use Rattle.std.proofs.lemmas.List.Folds.{list_any-append}
+use Rattle.sys_text.specs.declared.system.System.{System}
+use Rattle.t32_base.specs.declared.process.ClusterNo.{ClusterNo}
+use Rattle.bus_msg.specs.declared.entry.Entry.{Entry}
+use Rattle.bus_msg.specs.PlacedAfter.{what}
+use Rattle.cert_sched.specs.Rules.{is_over}
+use Rattle.cert_sched.specs.Legal.{IsLegalBy, IsLegalFrom}
+use Rattle.cert_sched.specs.Built.{BuiltMayFollow}
+use Rattle.cert_sched.specs.Losses.{was_lost_in, is_crash_of}
+use Rattle.cert_sched.proofs.LogLaws.{IsLegal-last}
+use Rattle.cert_sched.proofs.BuiltLaws.{built_unlost}
+
+-- ---- lists
+
+-- the part before the next element, and the part from it on
+pub take_next : {X : Type 0} (xs : List X) (n : ℕ) (x : X) → slice_get xs n ≡ Some x → take (suc n) xs ≡ take n xs ++ x ∷ []
+take_next [] n x is = cc
+take_next (y ∷ xs) zero x is = let same : y ≡ x = cc in ap (λ z. z ∷ []) same
+take_next (y ∷ xs) (suc n) x is = ap (λ zs. y ∷ zs) (take_next xs n x is)
+
+pub drop_next : {X : Type 0} (xs : List X) (n : ℕ) (x : X) → slice_get xs n ≡ Some x → drop n xs ≡ x ∷ drop (suc n) xs
+drop_next [] n x is = cc
+drop_next (y ∷ xs) zero x is = let same : y ≡ x = cc in ap (λ z. z ∷ xs) same
+drop_next (y ∷ xs) (suc n) x is = drop_next xs n x is
+
+pub get_last : {X : Type 0} (xs : List X) (x : X) → slice_get (xs ++ x ∷ []) (length xs) ≡ Some x
+get_last [] x = refl
+get_last (y ∷ xs) x = get_last xs x
+
+pub drop_whole : {X : Type 0} (xs : List X) → drop (length xs) xs ≡ []
+drop_whole [] = refl
+drop_whole (x ∷ xs) = drop_whole xs
+
+pub either : (a b : Bool) → (a || b) ≡ false → (a ≡ false) × (b ≡ false)
+either true b h = absurd (true≢false h)
+either false b h = (refl, h)
+
+-- ---- legal logs
+
+legal_from : (May : System → List Entry → Entry → Type 0) (system : System) (before rest : List Entry) (n : ℕ) → IsLegalFrom May system before rest → IsLegalFrom May system before (take n rest)
+legal_from May system before rest zero legal = tt
+legal_from May system before [] (suc n) legal = tt
+legal_from May system before (e ∷ rest) (suc n) legal = (legal.0, legal_from May system (before ++ e ∷ []) rest n legal.1)
+
+-- a beginning of a legal log is legal
+pub legal_prefix : (May : System → List Entry → Entry → Type 0) (system : System) (log : List Entry) (n : ℕ) → IsLegalBy May system log → IsLegalBy May system (take n log)
+unfolding IsLegalBy
+legal_prefix May system log n legal = legal_from May system [] log n legal
+
+-- the log before an entry of it goes on
+pub goes_on_before : (system : System) (log : List Entry) (n : ℕ) (e : Entry) → IsLegalBy BuiltMayFollow system log → slice_get log n ≡ Some e → is_over system (take n log) ≡ false
+goes_on_before system log n e legal at =
+    let more : IsLegalBy BuiltMayFollow system (take n log ++ e ∷ []) = subst (IsLegalBy BuiltMayFollow system) (take_next log n e at) (legal_prefix BuiltMayFollow system log (suc n) legal) in
+    let may = IsLegal-last BuiltMayFollow system (take n log) e more in
+    ((may.stands).placed).2
+
+-- no entry of it is a crash
+pub no_crash : (system : System) (log : List Entry) (n : ℕ) (e : Entry) (k : ClusterNo) → IsLegalBy BuiltMayFollow system log → slice_get log n ≡ Some e → is_crash_of k (what e) ≡ false
+no_crash system log n e k legal at =
+    let more : IsLegalBy BuiltMayFollow system (take n log ++ e ∷ []) = subst (IsLegalBy BuiltMayFollow system) (take_next log n e at) (legal_prefix BuiltMayFollow system log (suc n) legal) in
+    let none = sym (list_any-append (λ (e : Entry). is_crash_of k (what e)) (take n log) (e ∷ [])) ∙ built_unlost system (take n log ++ e ∷ []) k more in
+    (either (is_crash_of k (what e)) false (either (list_any (λ (e : Entry). is_crash_of k (what e)) (take n log)) (is_crash_of k (what e) || false) none).1).0
