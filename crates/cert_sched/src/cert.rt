@@ -11,6 +11,7 @@ use std::alloc::Global;
 use std::collections::BTreeMap;
 use std::marker::Model;
 use t32_base::letter::BackRec;
+use t32_base::lists::List;
 use t32_base::process::{Pid, Small};
 use t32_base::streams::NoMemory;
 
@@ -56,6 +57,13 @@ impl Cert {
         ensures { result.now ≡ self.now.items }
     {
         self.items.as_slice()
+    }
+
+    /// The items so far, by value. Takes no memory.
+    pub fn into_items(self) -> List<Item>
+        ensures { result ≡ self.items }
+    {
+        List::from_vec(self.items)
     }
 }
 

@@ -3,3 +3,4 @@
 
 pub mod life;
 pub mod sim;
+pub mod turn;

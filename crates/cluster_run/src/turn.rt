@@ -1,9 +1,7 @@
 //! One turn of a cluster.
-ghost use Rattle.std.specs.Prelude.{◌≡◌, ◌≤◌, ◌<◌, ◌+◌, [], ◌∷◌, OnOk, false, length};
+ghost use Rattle.std.specs.Prelude.{◌≡◌, ◌≤◌, OnOk, false};
 ghost use Rattle.cert_sched.specs.Rules.{is_over};
-ghost use Rattle.cluster_core.specs.Calls.{is_resting};
-ghost use Rattle.cluster_run.specs.Along.{Extends, IsAlong, IsOpenUpto};
-ghost use Rattle.cluster_run.specs.Sending.{HasOne};
+ghost use Rattle.cluster_run.specs.Along.{Extends, IsAlong, IsAtRest, IsOpenUpto, IsReadyAt, IsSending, IsSent, TakesNext};
 
 use bus_order::bus::Bus;
 use bus_order::marks::Mark;
@@ -21,20 +19,18 @@ pub fn catch_up(bus: &Bus<'_>, cluster: &mut Cluster, upto: u64)
     ensures caught { cluster.new.cursor ≡ upto }
     ensures number { cluster.new.number ≡ cluster.old.number }
 {
+    let _legal = bus.length();
     'entries: while cluster.cursor() < upto {
-        take_in(bus, cluster);
+        take_next(bus, cluster);
     }
 }
 
-// Takes in the next entry.
-fn take_in(bus: &Bus<'_>, cluster: &mut Cluster)
-    requires along { IsAlong bus.now cluster.old }
-    requires open { IsOpenUpto bus.now (cluster.old.cursor + 1) }
-    ensures along { IsAlong bus.now cluster.new }
-    ensures cursor { cluster.new.cursor ≡ cluster.old.cursor + 1 }
-    ensures number { cluster.new.number ≡ cluster.old.number }
+// Takes in the entry at the cursor.
+fn take_next(bus: &Bus<'_>, cluster: &mut Cluster)
+    requires { IsReadyAt bus.now cluster.old }
+    ensures { TakesNext bus.now cluster.old cluster.new }
 {
-    let _legal = bus.length();
+    let _length = bus.length();
     match bus.entry(cluster.cursor()) {
         Some(entry) => cluster.absorb(entry),
         None => unreachable!(),
@@ -55,7 +51,57 @@ pub fn take_turn(bus: &mut Bus<'_>, cluster: &mut Cluster) -> Result<(), NoMemor
     match cluster.work()? {
         Worked::Moved => Ok(()),
         Worked::Queued => send(bus, cluster),
-        Worked::Rests => rest(bus, cluster),
+        Worked::Rests => tell_rest(bus, cluster),
         Worked::Waits => unreachable!(),
+    }
+}
+
+// Sends the post that stands in the queue, and takes its entry in.
+fn send(bus: &mut Bus<'_>, cluster: &mut Cluster) -> Result<(), NoMemory>
+    requires { IsSending bus.old cluster.old }
+    ensures along { OnOk result (IsAlong bus.new cluster.new) }
+    ensures extends { OnOk result (Extends bus.old bus.new cluster.old.number) }
+    ensures number { OnOk result (cluster.new.number ≡ cluster.old.number) }
+{
+    cluster.tried();
+    transmit_head(bus, cluster)?;
+    cluster.sent();
+    take_next(bus, cluster);
+    Ok(())
+}
+
+// Transmits the head of the queue of a cluster that has seen all of the log.
+fn transmit_head(bus: &mut Bus<'_>, cluster: &Cluster) -> Result<(), NoMemory>
+    requires { IsSending bus.old cluster.now }
+    ensures { OnOk result (IsSent bus.old cluster.now bus.new) }
+{
+    let Some(post) = cluster.head() else {
+        unreachable!();
+    };
+    match bus.transmit(cluster.number(), cluster.cursor(), post) {
+        Ok(_) => Ok(()),
+        Err(Refused::NoMemory) => Err(NoMemory),
+        Err(Refused::Over { .. } | Refused::Behind { .. }) => unreachable!(),
+    }
+}
+
+// Tells the bus that nothing can move in a cluster.
+fn tell_rest(bus: &mut Bus<'_>, cluster: &Cluster) -> Result<(), NoMemory>
+    requires { IsAtRest bus.old cluster.now }
+    ensures along { OnOk result (IsAlong bus.new cluster.now) }
+    ensures extends { OnOk result (Extends bus.old bus.new cluster.now.number) }
+{
+    let Some(rests) = cluster.rests()? else {
+        unreachable!();
+    };
+    let mark = Mark {
+        rests,
+        steps: cluster.steps(),
+        calls: 0,
+    };
+    match bus.idle(cluster.number(), cluster.cursor(), mark) {
+        Ok(_) => Ok(()),
+        Err(Refused::NoMemory) => Err(NoMemory),
+        Err(Refused::Over { .. } | Refused::Behind { .. }) => unreachable!(),
     }
 }
