@@ -233,7 +233,7 @@ at_most_one false = omega arith
 -- ---- posts
 
 -- what a post of a cluster tells, which is never the end
-no_end : (k : ClusterNo) (places : Places) (by : By) (w : What) → is_from k by ≡ true → is_by_right places by w ≡ true → is_done w ≡ false
+pub no_end : (k : ClusterNo) (places : Places) (by : By) (w : What) → is_from k by ≡ true → is_by_right places by w ≡ true → is_done w ≡ false
 no_end k places (Cluster j) (Done rests) from right = absurd (true≢false (sym right))
 no_end k places Bus (Done rests) from right = absurd (true≢false (sym from))
 no_end k places by (Mail at letter) from right = refl

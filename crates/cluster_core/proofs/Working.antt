@@ -178,8 +178,8 @@ more_tried n s true h = omega (arith, h)
 more_tried n s false h = omega (arith, h)
 
 -- a head that is tried is one kernel step more
-pub goes_on_tried : (c : ClusterView) → GoesOn c (tried_once c)
-goes_on_tried c log now f = record {
+pub follows_tried : (c : ClusterView) (log : List Entry) → FollowsBuilt c.system log c → FollowsBuilt c.system log (tried_once c)
+follows_tried c log f = record {
   cursor = f.cursor;
   places = f.places;
   held = f.held;
@@ -188,6 +188,9 @@ goes_on_tried c log now f = record {
   queue = f.queue;
   counted = λ kept. more_tried (least_steps log log c.number) c.steps c.tried (f.counted kept);
 }
+
+pub goes_on_tried : (c : ClusterView) → GoesOn c (tried_once c)
+goes_on_tried c log now f = follows_tried c log f
 
 -- ---- it moved
 

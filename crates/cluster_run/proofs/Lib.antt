@@ -1,1 +1,2 @@
-mod Prefixes
+pub mod Prefixes
+pub mod Beside

@@ -1,11 +1,12 @@
 -- Beginnings of a log.
-use Rattle.std.proofs.Common.{◌≡◌, ℕ, zero, suc, ◌+◌, ◌≤◌, ◌<◌, refl, sym, ◌∙◌, ap, subst, arith, List, [], ◌∷◌, ◌++◌, length, take, drop, length-append, append_assoc, Bool, false, true, ◌||◌, Option, Some, None, slice_get, true≢false, add-one}
+use Rattle.std.proofs.Common.{◌≡◌, ℕ, zero, suc, ◌+◌, ◌≤◌, ◌<◌, refl, sym, ◌∙◌, ap, subst, arith, List, [], ◌∷◌, ◌++◌, length, take, drop, length-append, append_assoc, Bool, false, true, ◌||◌, Option, Some, None, slice_get, true≢false, ◌≢◌, eqb-true}
 use Rattle.std.specs.List.{list_any}
 use Rattle.std.proofs.lemmas.List.{take-append-le, drop-append-le, take_all}
 use Rattle.std.proofs.lemmas.List.Folds.{list_any-append}
 use Rattle.sys_text.specs.declared.system.System.{System}
 use Rattle.t32_base.specs.declared.process.ClusterNo.{ClusterNo}
 use Rattle.bus_msg.specs.declared.entry.Entry.{Entry}
+use Rattle.bus_msg.specs.Places.{same_cluster}
 use Rattle.bus_msg.specs.PlacedAfter.{what}
 use Rattle.cert_sched.specs.Rules.{is_over}
 use Rattle.cert_sched.specs.Legal.{IsLegalBy, IsLegalFrom}
@@ -64,3 +65,11 @@ no_crash system log n e k legal at =
     let more : IsLegalBy BuiltMayFollow system (take n log ++ e ∷ []) = subst (IsLegalBy BuiltMayFollow system) (take_next log n e at) (legal_prefix BuiltMayFollow system log (suc n) legal) in
     let none = sym (list_any-append (λ (e : Entry). is_crash_of k (what e)) (take n log) (e ∷ [])) ∙ built_unlost system (take n log ++ e ∷ []) k more in
     (either (is_crash_of k (what e)) false (either (list_any (λ (e : Entry). is_crash_of k (what e)) (take n log)) (is_crash_of k (what e) || false) none).1).0
+
+-- a cluster that is one is no other
+pub not_same : (i j k : ClusterNo) → same_cluster i k ≡ true → j.0 ≢ k.0 → same_cluster i j ≡ false
+not_same i j k same other = by_test (same_cluster i j) refl
+  where
+    by_test : (b : Bool) → same_cluster i j ≡ b → b ≡ false
+    by_test true is = absurd (other (sym (eqb-true i.0 j.0 is) ∙ eqb-true i.0 k.0 same))
+    by_test false is = refl

@@ -65,6 +65,7 @@ fn send(bus: &mut Bus<'_>, cluster: &mut Cluster) -> Result<(), NoMemory>
 {
     cluster.tried();
     transmit_head(bus, cluster)?;
+    let _legal = bus.length();
     cluster.sent();
     take_next(bus, cluster);
     Ok(())
@@ -91,6 +92,7 @@ fn tell_rest(bus: &mut Bus<'_>, cluster: &Cluster) -> Result<(), NoMemory>
     ensures along { OnOk result (IsAlong bus.new cluster.now) }
     ensures extends { OnOk result (Extends bus.old bus.new cluster.now.number) }
 {
+    let _legal = bus.length();
     let Some(rests) = cluster.rests()? else {
         unreachable!();
     };
