@@ -1,0 +1,144 @@
+-- All clusters stay beside their bus while one of them has its turn.
+use Rattle.std.proofs.Common.{◌≡◌, ℕ, zero, suc, ◌+◌, ◌≤◌, ◌<◌, ◌≢◌, refl, sym, ◌∙◌, ap, subst, arith, List, [], ◌∷◌, ◌++◌, length, take, drop, length-append, Bool, false, true, cond, not, ◌||◌, ◌&&◌, Option, Some, None, slice_get, slice_set, get_or, true≢false, eq-eqb, eqb-true, inl, inr, zero-add, OnOk, Result, Ok, Err}
+use Rattle.std.specs.Prelude.{count_by, ◌==◌, nat_eq}
+use Rattle.std.specs.List.{list_any}
+use Rattle.std.proofs.lemmas.List.{take-append-le, drop-append-le, length-set}
+use Rattle.std.proofs.lemmas.List.Folds.{list_any-append}
+use Rattle.std.proofs.lemmas.List.Sums.{sum_by-append}
+use Rattle.std.proofs.lemmas.Option.{slice_get_within, slice_get-get_or}
+use Rattle.t32_base.specs.declared.process.ClusterNo.{ClusterNo}
+use Rattle.sys_text.specs.declared.system.System.{System}
+use Rattle.sys_text.specs.declared.system.Root.{Root}
+use Rattle.bus_msg.specs.declared.entry.Entry.{Entry}
+use Rattle.cert_sched.specs.Rules.{is_over}
+use Rattle.cert_sched.specs.Losses.{is_by_cluster}
+use Rattle.cluster_core.specs.View.{ClusterView}
+use Rattle.cluster_core.specs.Follows.{FollowsBuilt}
+use Rattle.cluster_core.proofs.Following.{both}
+use Rattle.bus_order.specs.View.{BusView}
+use Rattle.cluster_run.specs.Along.{IsAlong, AllAlong, Extends}
+use Rattle.cluster_run.specs.Simulated.{homes_differ}
+use Rattle.cluster_run.specs.Started.{IsStarted, AllStarted}
+use Rattle.cluster_run.proofs.Prefixes.{either, get_last}
+
+-- ---- one element of a list is replaced
+
+get_set_same : {X : Type 0} (xs : List X) (n : ℕ) (x : X) → n < length xs → slice_get (slice_set xs n x) n ≡ Some x
+get_set_same [] n x within = absurd (omega (arith, within))
+get_set_same (y ∷ xs) zero x within = refl
+get_set_same (y ∷ xs) (suc n) x within = get_set_same xs n x (omega (arith, within))
+
+get_set_other : {X : Type 0} (xs : List X) (n m : ℕ) (x : X) → m ≢ n → slice_get (slice_set xs n x) m ≡ slice_get xs m
+get_set_other [] n m x other = refl
+get_set_other (y ∷ xs) zero zero x other = absurd (other refl)
+get_set_other (y ∷ xs) zero (suc m) x other = refl
+get_set_other (y ∷ xs) (suc n) zero x other = refl
+get_set_other (y ∷ xs) (suc n) (suc m) x other = get_set_other xs n m x (λ same. other (ap suc same))
+
+-- ---- the log grows
+
+-- a cluster stays beside a bus whose log has grown by entries of others
+pub along_more : (b after : BusView) (c : ClusterView) (k : ClusterNo) → IsAlong b c → Extends b after k → (c.number).0 ≢ k.0 → IsAlong after c
+along_more b after c k along extends other =
+    let front : take c.cursor after.log ≡ take c.cursor b.log = ap (take c.cursor) extends.log ∙ take-append-le c.cursor b.log extends.more (along.open_upto).0 in
+    let back : drop c.cursor after.log ≡ drop c.cursor b.log ++ extends.more = ap (drop c.cursor) extends.log ∙ drop-append-le c.cursor b.log extends.more (along.open_upto).0 in
+    let long : length after.log ≡ length b.log + length extends.more = ap length extends.log ∙ length-append b.log extends.more in
+    record {
+      system = along.system ∙ sym extends.system;
+      has = subst (λ (s : System). (c.number).0 < s.clusters) (sym extends.system) along.has;
+      open_upto = (omega (arith, long, (along.open_upto).0), (λ i. is_over (extends.system i) (front i)) ∙ (along.open_upto).1);
+      follows = subst (λ log. FollowsBuilt c.system log c) (sym front) along.follows;
+      sent_before = ap (list_any (is_by_cluster c.number)) back ∙ list_any-append (is_by_cluster c.number) (drop c.cursor b.log) extends.more ∙ (λ i. along.sent_before i || extends.others c.number other i);
+      empty = along.empty;
+      unfailed = along.unfailed;
+    }
+
+-- ---- a turn
+
+-- the cluster whose turn it is
+pub one_along : (b : BusView) (cs : List ClusterView) (n : ℕ) (d : ClusterView) → AllAlong b cs → n < length cs → ((get_or cs n d).number).0 ≡ n × IsAlong b (get_or cs n d)
+one_along b cs n d all within = all.along n (get_or cs n d) (slice_get-get_or cs n d within)
+
+-- after its turn all are there
+pub all_after : (b after : BusView) (cs : List ClusterView) (n : ℕ) (d new : ClusterView) → AllAlong b cs → n < length cs → IsAlong after new → Extends b after (get_or cs n d).number → new.number ≡ (get_or cs n d).number
+    → AllAlong after (slice_set cs n new)
+all_after b after cs n d new all within along extends same = record {
+  each = length-set cs n new ∙ all.each ∙ ap (λ (s : System). s.clusters) (sym extends.system);
+  along = λ m c at. by_place m c (nat_eq m n) refl at;
+}
+  where
+    by_place : (m : ℕ) (c : ClusterView) (b : Bool) → nat_eq m n ≡ b → slice_get (slice_set cs n new) m ≡ Some c → ((c.number).0 ≡ m) × IsAlong after c
+    by_place m c true is at =
+        let here : m ≡ n = eqb-true m n is in
+        let it : new ≡ c = let both_are : Some new ≡ Some c = sym (get_set_same cs n new within) ∙ ap (slice_get (slice_set cs n new)) (sym here) ∙ at in cc in
+        let P : ClusterView → Type 0 = λ c. ((c.number).0 ≡ m) × IsAlong after c in
+        subst P it (ap (λ (k : ClusterNo). k.0) same ∙ (one_along b cs n d all within).0 ∙ sym here, along)
+    by_place m c false is at =
+        let other : m ≢ n = λ here. true≢false (sym (eq-eqb m n here) ∙ is) in
+        let old = all.along m c (sym (get_set_other cs n m new other) ∙ at) in
+        (old.0, along_more b after c (get_or cs n d).number old.1 extends (λ here. other (sym old.0 ∙ here ∙ (one_along b cs n d all within).0)))
+
+-- the same, where the turn met no want of memory
+pub turned : {E : Type 0} (r : Result (Unit {0}) E) (b after : BusView) (cs : List ClusterView) (n : ℕ) (d new : ClusterView) → AllAlong b cs → n < length cs → OnOk r (IsAlong after new)
+    → OnOk r (Extends b after (get_or cs n d).number) → OnOk r (new.number ≡ (get_or cs n d).number) → OnOk r (AllAlong after (slice_set cs n new))
+turned (Ok u) b after cs n d new all within along extends same = all_after b after cs n d new all within along extends same
+turned (Err e) b after cs n d new all within along extends same = tt
+
+-- ---- the roots of a system without channels
+
+count_first : (test : Root → Bool) (r : Root) (roots : List Root) → count_by test (r ∷ roots) ≡ cond (test r) 1 0 + count_by test roots
+count_first test r roots = sum_by-append (λ r. cond (test r) 1 0) (r ∷ []) roots ∙ ap (λ n. n + count_by test roots) (zero-add (cond (test r) 1 0))
+
+-- no root passes where none is found
+none_counted : (k : ℕ) (roots : List Root) → list_any (λ (q : Root). (q.home).0 == k) roots ≡ false → count_by (λ (r : Root). (r.home).0 == k) roots ≡ 0
+none_counted k [] none = refl
+none_counted k (r ∷ roots) none =
+    let parts = either ((r.home).0 == k) (list_any (λ (q : Root). (q.home).0 == k) roots) none in
+    let rest = none_counted k roots parts.1 in
+    count_first (λ (r : Root). (r.home).0 == k) r roots ∙ (λ i. cond (parts.0 i) 1 0 + rest i)
+
+unnot : (b : Bool) → not b ≡ true → b ≡ false
+unnot true h = absurd (true≢false (sym h))
+unnot false h = refl
+
+-- where all homes differ, a cluster is the home of one root at most
+pub one_at_home : (k : ℕ) (roots : List Root) → homes_differ roots ≡ true → count_by (λ (r : Root). (r.home).0 == k) roots ≤ 1
+one_at_home k [] differ = omega arith
+one_at_home k (r ∷ roots) differ =
+    let parts = both (not (list_any (λ (q : Root). (q.home).0 == (r.home).0) roots)) (homes_differ roots) differ in
+    subst (λ n. n ≤ 1) (sym (count_first (λ (r : Root). (r.home).0 == k) r roots)) (by_test ((r.home).0 == k) refl (unnot (list_any (λ (q : Root). (q.home).0 == (r.home).0) roots) parts.0) (one_at_home k roots parts.1))
+  where
+    by_test : (b : Bool) → ((r.home).0 == k) ≡ b → list_any (λ (q : Root). (q.home).0 == (r.home).0) roots ≡ false → count_by (λ (r : Root). (r.home).0 == k) roots ≤ 1
+        → cond b 1 0 + count_by (λ (r : Root). (r.home).0 == k) roots ≤ 1
+    by_test true is alone more =
+        let none : count_by (λ (r : Root). (r.home).0 == k) roots ≡ 0 = none_counted k roots (ap (λ n. list_any (λ (q : Root). (q.home).0 == n) roots) (sym (eqb-true (r.home).0 k is)) ∙ alone) in
+        omega (arith, none)
+    by_test false is alone more = omega (arith, more)
+
+-- ---- the clusters at boot
+
+get_front : {X : Type 0} (xs ys : List X) (n : ℕ) → n < length xs → slice_get (xs ++ ys) n ≡ slice_get xs n
+get_front [] ys n within = absurd (omega (arith, within))
+get_front (x ∷ xs) ys zero within = refl
+get_front (x ∷ xs) ys (suc n) within = get_front xs ys n (omega (arith, within))
+
+-- one more cluster at its start
+pub one_started : (system : System) (n : ℕ) (cs more : List ClusterView) (c : ClusterView) → AllStarted system n cs → IsStarted system n c → more ≡ cs ++ c ∷ [] → AllStarted system (n + 1) more
+one_started system n cs more c all first is = subst (AllStarted system (n + 1)) (sym is) (record {
+  each = length-append cs (c ∷ []) ∙ ap (λ n. n + 1) all.each;
+  started = λ m d at. by_place m d (nat_eq m n) refl at;
+})
+  where
+    by_place : (m : ℕ) (d : ClusterView) (b : Bool) → nat_eq m n ≡ b → slice_get (cs ++ c ∷ []) m ≡ Some d → IsStarted system m d
+    by_place m d true same at =
+        let here : m ≡ n = eqb-true m n same in
+        let it : c ≡ d = let both_are : Some c ≡ Some d = sym (get_last cs c) ∙ ap (slice_get (cs ++ c ∷ [])) (all.each ∙ sym here) ∙ at in cc in
+        let At : ℕ → Type 0 = λ m. IsStarted system m c in
+        let Of : ClusterView → Type 0 = λ d. IsStarted system m d in
+        subst Of it (subst At (sym here) first)
+    by_place m d false same at =
+        let other : m ≢ n = λ here. true≢false (sym (eq-eqb m n here) ∙ same) in
+        let within = slice_get_within (cs ++ c ∷ []) m d at in
+        let long : length (cs ++ c ∷ []) ≡ n + 1 = length-append cs (c ∷ []) ∙ ap (λ n. n + 1) all.each in
+        let front : m < length cs = omega (arith, other, within, long, all.each) in
+        all.started m d (sym (get_front cs (c ∷ []) m front) ∙ at)

@@ -1,0 +1,27 @@
+use Rattle.std.proofs.Common.{ap, subst, sym}
+use Rattle.std.specs.Prelude.{length, ◌==◌}
+use Rattle.std.specs.Arc.{arc_value}
+use Rattle.t32_base.specs.declared.process.ClusterNo.{ClusterNo}
+use Rattle.sys_text.specs.declared.system.System.{System}
+use Rattle.cluster_core.specs.Calls.{IsFirst}
+use Rattle.cluster_core.proofs.Following.{both}
+use Rattle.cluster_run.specs.Simulated.{homes_differ}
+use Rattle.cluster_run.proofs.Together.{one_at_home, one_started}
+use Rattle.cluster_run.proofs.booting.clusters_at_boot.Goals as goal
+
+pub boot-requires-clause-one : goal.boot-requires-clause-one
+boot-requires-clause-one c =
+    let system : System = arc_value c.args.system.now in
+    one_at_home c.loop-number.number system.roots (both (length system.chans == 0) (homes_differ system.roots) c.requires.built).1
+
+pub loop-number-preserved : goal.loop-number-preserved
+loop-number-preserved c =
+    let system : System = arc_value c.args.system.now in
+    let begins = c.in_ok-cluster.ensures.begins in
+    one_started system c.loop-number.number c.loop-number.clusters.items c.push.new.self.items c.in_ok-cluster.cluster c.loop-number.invariant
+    (record {
+      number_is = ap (λ (k : ClusterNo). k.0) begins.number_is;
+      first = subst (λ k. IsFirst system k c.in_ok-cluster.cluster) (sym begins.number_is) begins;
+      follows = c.in_ok-cluster.ensures.follows;
+    })
+    c.in_ok-push.ensures.items
