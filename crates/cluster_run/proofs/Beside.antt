@@ -59,6 +59,13 @@ open_below b m n legal open_upto less = elim (slice_get_cases b.log m).1 [
   | inr past ↦ let same : n ≡ m = omega (arith, past.0, open_upto.0) in subst (IsOpenUpto b) same open_upto
 ]
 
+-- what stands before an entry goes on
+pub open_before : (b : BusView) (n : ℕ) → IsLegalIn b → n < length b.log → IsOpenUpto b n
+open_before b n legal within = elim (slice_get_cases b.log n).1 [
+  inl there ↦ (omega (arith, within), goes_on_before b.system b.log n there.0 legal there.2)
+  | inr past ↦ absurd (omega (arith, past.0, within))
+]
+
 -- ---- an entry of another is taken in
 
 foreign : (b : BusView) (c : ClusterView) (e : Entry) → IsAlong b c → IsLegalIn b → slice_get b.log c.cursor ≡ Some e → IsReady (take c.cursor b.log) e c
@@ -281,8 +288,8 @@ module _ (b after : BusView) (c : ClusterView) (s : IsSending b c) (tried : c.tr
       let is : take (length b.log) after.log ≡ b.log = ap (take (length b.log)) sent.log ∙ take-append-le (length b.log) b.log (next ∷ []) (omega arith) ∙ take_all (length b.log) b.log (omega arith) in
       subst (λ y. IsLegalBy BuiltMayFollow y b.log) same (subst (IsLegalBy BuiltMayFollow after.system) is prefix)
 
-  open_before : IsOpen BuiltMayFollow c.system b.log
-  open_before = (legal_before, subst (λ y. is_over y b.log ≡ false) (sym s.system) s.goes_on)
+  open_first : IsOpen BuiltMayFollow c.system b.log
+  open_first = (legal_before, subst (λ y. is_over y b.log ≡ false) (sym s.system) s.goes_on)
 
   open_after : IsOpen BuiltMayFollow c.system (b.log ++ next ∷ [])
   open_after = subst (λ y. IsOpen BuiltMayFollow y (b.log ++ next ∷ [])) same (subst (IsOpen BuiltMayFollow after.system) sent.log (legal, goes_on))
@@ -305,14 +312,14 @@ module _ (b after : BusView) (c : ClusterView) (s : IsSending b c) (tried : c.tr
     ready = λ e at.
         let is : next ≡ e = let both_are : Some next ≡ Some e = sym at_cursor ∙ at in cc in
         let P : Entry → Type 0 = λ e. ReadyFor e (cleared c) in
-        subst P is (record { log = b.log; open_log = open_before; open_next = open_after; ready = between });
+        subst P is (record { log = b.log; open_log = open_first; open_next = open_after; ready = between });
   }
 
   pub along_sent : (new : ClusterView) → TakesNext after (cleared c) new → IsAlong after new
   along_sent new t =
       let is : t.entry ≡ next = let both_are : Some t.entry ≡ Some next = sym t.there ∙ at_cursor in cc in
       let taken : new ≡ absorbed (cleared c) next = t.taken ∙ ap (absorbed (cleared c)) is in
-      let follows = subst (λ e. Absorbs e (cleared c) new) is t.follows b.log open_before open_after between in
+      let follows = subst (λ e. Absorbs e (cleared c) new) is t.follows b.log open_first open_after between in
       let long : length after.log ≡ length b.log + 1 = ap length sent.log ∙ length-append b.log (next ∷ []) in
       let all : (c.cursor + 1) ≡ length after.log = omega (arith, long, s.seen) in
       let whole : take (c.cursor + 1) after.log ≡ b.log ++ next ∷ [] = take_all (c.cursor + 1) after.log (omega (arith, all)) ∙ sent.log in

@@ -1,3 +1,6 @@
 pub mod Prefixes
 pub mod Beside
 pub mod Together
+pub mod AtTheEnd
+pub mod GoodRun
+pub mod LivedRun

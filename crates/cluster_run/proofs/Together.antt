@@ -2,7 +2,7 @@
 use Rattle.std.proofs.Common.{◌≡◌, ℕ, zero, suc, ◌+◌, ◌≤◌, ◌<◌, ◌≢◌, refl, sym, ◌∙◌, ap, subst, arith, List, [], ◌∷◌, ◌++◌, length, take, drop, length-append, Bool, false, true, cond, not, ◌||◌, ◌&&◌, Option, Some, None, slice_get, slice_set, get_or, true≢false, eq-eqb, eqb-true, inl, inr, zero-add, OnOk, Result, Ok, Err}
 use Rattle.std.specs.Prelude.{count_by, ◌==◌, nat_eq}
 use Rattle.std.specs.List.{list_any}
-use Rattle.std.proofs.lemmas.List.{take-append-le, drop-append-le, length-set}
+use Rattle.std.proofs.lemmas.List.{take-append-le, take_all, drop-append-le, length-set}
 use Rattle.std.proofs.lemmas.List.Folds.{list_any-append}
 use Rattle.std.proofs.lemmas.List.Sums.{sum_by-append}
 use Rattle.std.proofs.lemmas.Option.{slice_get_within, slice_get-get_or}
@@ -10,12 +10,13 @@ use Rattle.t32_base.specs.declared.process.ClusterNo.{ClusterNo}
 use Rattle.sys_text.specs.declared.system.System.{System}
 use Rattle.sys_text.specs.declared.system.Root.{Root}
 use Rattle.bus_msg.specs.declared.entry.Entry.{Entry}
+use Rattle.cert_sched.specs.Told.{told}
 use Rattle.cert_sched.specs.Rules.{is_over}
 use Rattle.cert_sched.specs.Losses.{is_by_cluster}
 use Rattle.cluster_core.specs.View.{ClusterView}
 use Rattle.cluster_core.specs.Follows.{FollowsBuilt}
 use Rattle.cluster_core.proofs.Following.{both}
-use Rattle.bus_order.specs.View.{BusView}
+use Rattle.bus_order.specs.View.{BusView, BeginsWith}
 use Rattle.cluster_run.specs.Along.{IsAlong, AllAlong, Extends}
 use Rattle.cluster_run.specs.Simulated.{homes_differ}
 use Rattle.cluster_run.specs.Started.{IsStarted, AllStarted}
@@ -23,12 +24,12 @@ use Rattle.cluster_run.proofs.Prefixes.{either, get_last}
 
 -- ---- one element of a list is replaced
 
-get_set_same : {X : Type 0} (xs : List X) (n : ℕ) (x : X) → n < length xs → slice_get (slice_set xs n x) n ≡ Some x
+pub get_set_same : {X : Type 0} (xs : List X) (n : ℕ) (x : X) → n < length xs → slice_get (slice_set xs n x) n ≡ Some x
 get_set_same [] n x within = absurd (omega (arith, within))
 get_set_same (y ∷ xs) zero x within = refl
 get_set_same (y ∷ xs) (suc n) x within = get_set_same xs n x (omega (arith, within))
 
-get_set_other : {X : Type 0} (xs : List X) (n m : ℕ) (x : X) → m ≢ n → slice_get (slice_set xs n x) m ≡ slice_get xs m
+pub get_set_other : {X : Type 0} (xs : List X) (n m : ℕ) (x : X) → m ≢ n → slice_get (slice_set xs n x) m ≡ slice_get xs m
 get_set_other [] n m x other = refl
 get_set_other (y ∷ xs) zero zero x other = absurd (other refl)
 get_set_other (y ∷ xs) zero (suc m) x other = refl
@@ -142,3 +143,31 @@ one_started system n cs more c all first is = subst (AllStarted system (n + 1)) 
         let long : length (cs ++ c ∷ []) ≡ n + 1 = length-append cs (c ∷ []) ∙ ap (λ n. n + 1) all.each in
         let front : m < length cs = omega (arith, other, within, long, all.each) in
         all.started m d (sym (get_front cs (c ∷ []) m front) ∙ at)
+
+none_over : (system : System) → is_over system [] ≡ false
+unfolding is_over told
+none_over system = refl
+
+-- at the start all stand beside the bus
+pub all_at_start : (system : System) (b : BusView) (cs : List ClusterView) → BeginsWith system b → AllStarted system system.clusters cs → AllAlong b cs
+all_at_start system b cs begins all =
+    let P : BusView → Type 0 = λ b. AllAlong b cs in
+    subst P (sym begins) (record {
+      each = all.each;
+      along = λ n c at.
+          let one = all.started n c at in
+          (one.number_is, record {
+            system = (one.first).system_is;
+            has = omega (arith, slice_get_within cs n c at, all.each, one.number_is);
+            open_upto = (subst (λ m. m ≤ 0) (sym (one.follows).cursor) (omega arith), ap (λ m. is_over system (take m [])) (one.follows).cursor ∙ none_over system);
+            follows = subst (λ m. FollowsBuilt c.system (take m []) c) (sym (one.follows).cursor) (subst (λ s. FollowsBuilt s [] c) (sym (one.first).system_is) one.follows);
+            sent_before = ap (λ m. list_any (is_by_cluster c.number) (drop m [])) (one.follows).cursor;
+            empty = (one.first).queue;
+            unfailed = (one.first).failed;
+          });
+    })
+
+-- ---- a slice of a vector was written
+
+pub written : {X : Type 0} (n : ℕ) (old new : List X) → length new ≡ length old → n ≡ length old → take n (new ++ drop (length new) old) ≡ new
+written n old new same count = take-append-le n new (drop (length new) old) (omega (arith, same, count)) ∙ take_all n new (omega (arith, same, count))

@@ -2,6 +2,7 @@
 #![tactic(auto)]
 
 pub mod booting;
+mod leaving;
 pub mod life;
 pub mod rounds;
 pub mod sim;

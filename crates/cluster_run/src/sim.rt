@@ -1,5 +1,5 @@
 //! A run of clusters on one thread.
-ghost use Rattle.std.specs.Prelude.{◌≡◌, ◌<◌, ◌^◌, [], IfOk, true};
+ghost use Rattle.std.specs.Prelude.{◌≡◌, ◌<◌, ◌^◌, IfOk, true};
 ghost use Rattle.std.specs.Arc.{arc_value};
 ghost use Rattle.sys_text.specs.Valid.{is_system};
 ghost use Rattle.report_text.specs.Good.{IsGoodBuilt};
@@ -7,7 +7,11 @@ ghost use Rattle.report_text.specs.declared.run.Ended.{Ended as AnEnd};
 ghost use Rattle.cluster_run.specs.Lived.{LivedBuilt};
 ghost use Rattle.cluster_run.specs.Simulated.{is_simulated};
 
+use crate::booting::clusters_at_boot;
+use crate::leaving::leave;
 use crate::life::Ran;
+use crate::rounds::run_rounds;
+use bus_order::bus::Bus;
 use std::alloc::Global;
 use std::sync::Arc;
 use sys_text::system::System;
@@ -25,5 +29,8 @@ pub fn sim(alloc: Global, system: &Arc<System>, pick: u32) -> Result<Ran, NoMemo
     ensures withheld { IfOk result (λ ran. ran.run.withheld ≡ 0) }
     ensures lived { IfOk result (λ ran. LivedBuilt (arc_value system.now) ran.run.log ran.lives) }
 {
-    Err(NoMemory)
+    let mut bus = Bus::boot(alloc, system)?;
+    let mut clusters = clusters_at_boot(alloc, system)?;
+    run_rounds(&mut bus, &mut clusters, pick)?;
+    leave(alloc, bus, clusters)
 }
