@@ -1,11 +1,12 @@
 -- A turn of the process of a cluster.
-use Rattle.std.specs.Prelude.{ℕ, ◌≡◌, false, Option, Some, None, Result, Ok, Err}
+use Rattle.std.specs.Prelude.{ℕ, ◌+◌, ◌≤◌, ◌≡◌, false, Option, Some, None, Result, Ok, Err, ⊤}
 use Rattle.t32_base.specs.declared.process.Pid.{Pid}
 use Rattle.t32_base.specs.declared.process.ClusterNo.{ClusterNo}
 use Rattle.t32_base.specs.declared.streams.NoMemory.{NoMemory}
 use Rattle.proc_state.specs.State.{state_of}
 use Rattle.sys_calls.specs.declared.steps.Emission.{Emission}
 use Rattle.sys_calls.specs.declared.steps.Emission.TheVariants.{Mail as Sent, Exit as Ended}
+use Rattle.sys_calls.specs.Small.{weight}
 use Rattle.sys_calls.specs.Next.{next_step, has_step}
 use Rattle.bus_msg.specs.declared.entry.What.{What}
 use Rattle.bus_msg.specs.declared.entry.What.TheVariants.{Mail, Exit}
@@ -44,3 +45,16 @@ TurnIs k None r None = r ≡ Ok Rests
 TurnIs k None r (Some new) = ⊥
 TurnIs k (Some old) r None = ⊥
 TurnIs k (Some old) r (Some new) = ResidentTurn k old r new
+
+-- ---- what is left to do
+
+-- of the steps that the process has left at most, those that it made are gone
+abbrev pub LighterResident : Turn → Resident → Resident → Type 0
+LighterResident Moved old new = weight ((new.process).small) + 1 ≤ weight ((old.process).small)
+LighterResident (Posted post) old new = weight ((new.process).small) + 1 ≤ weight ((old.process).small)
+LighterResident Rests old new = ⊤
+
+abbrev pub LighterTurn : Option Resident → Turn → Option Resident → Type 0
+LighterTurn None turn new = ⊤
+LighterTurn (Some old) turn None = ⊤
+LighterTurn (Some old) turn (Some new) = LighterResident turn old new

@@ -1,11 +1,13 @@
 -- What a cluster holds, as contracts see it.
 use Rattle.std.specs.Prelude.{ℕ, ◌+◌, ◌-◌, ◌^◌, min, Bool, true, false, ◌==◌, ◌&&◌, if◌then◌else◌, List, [], ◌∷◌, map, find, replicate, length, Option, Some, None, option_map}
+use Rattle.std.specs.List.{sum_by}
 use Rattle.t32_base.specs.declared.process.Pid.{Pid}
 use Rattle.t32_base.specs.declared.process.ClusterNo.{ClusterNo}
 use Rattle.t32_base.specs.declared.process.Counts.{Counts}
 use Rattle.t32_base.specs.declared.letter.BackRec.{BackRec}
 use Rattle.sys_text.specs.declared.system.System.{System}
 use Rattle.proc_state.specs.declared.process.Process.{Process}
+use Rattle.sys_calls.specs.Small.{weight}
 use Rattle.bus_msg.specs.declared.entry.Post.{Post}
 use Rattle.bus_msg.specs.declared.entry.What.{What}
 use Rattle.bus_msg.specs.declared.entry.What.TheVariants.{Rebackup}
@@ -97,3 +99,15 @@ counted_once c = record c { steps = next_count c.steps }
 -- the head was tried, by a kernel step
 abbrev pub tried_once : ClusterView → ClusterView
 tried_once c = record c { tried = true; steps = next_count c.steps }
+
+-- ---- what is left to do
+
+-- the most steps that what is held has left
+abbrev pub held_load : Held → ℕ
+held_load (Runs p) = weight p.small
+held_load (Rolls p counts births) = weight p.small
+held_load (Waits kept) = 0
+
+-- the most steps that all processes here have left
+abbrev pub load : ClusterView → ℕ
+load c = sum_by (λ (e : Pid × Held). held_load e.1) c.here

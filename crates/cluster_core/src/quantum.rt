@@ -1,6 +1,6 @@
 //! A quantum of a process.
-ghost use Rattle.std.specs.Prelude.{◌≡◌, ◌==◌, if◌then◌else◌, true};
-ghost use Rattle.cluster_core.specs.Quantum.{MovesOrTells, RunsQuantum, are_unlinked};
+ghost use Rattle.std.specs.Prelude.{◌≡◌, ◌==◌, if◌then◌else◌, true, IfOk};
+ghost use Rattle.cluster_core.specs.Quantum.{IsLighter, MovesOrTells, RunsQuantum, are_unlinked};
 
 use proc_state::process::Process;
 use std::alloc::Global;
@@ -23,7 +23,8 @@ pub const MOST: u32 = 64;
 /// which memory is refused is not made; where it is the first, nothing has changed.
 pub fn run_quantum(alloc: Global, p: &mut Process) -> Result<Quantum, NoMemory>
     requires { are_unlinked p.old.small.ends ≡ true }
-    ensures { RunsQuantum 64 p.old result p.new }
+    ensures runs { RunsQuantum 64 p.old result p.new }
+    ensures lighter { IfOk result (λ q. IsLighter q p.old.small p.new.small) }
 {
     let mut made = run_instructions(p, MOST);
     'steps: while made < MOST {

@@ -1,7 +1,7 @@
 //! A turn of the process of a cluster.
-ghost use Rattle.std.specs.Prelude.{◌≡◌};
+ghost use Rattle.std.specs.Prelude.{◌≡◌, IfOk};
 ghost use Rattle.cluster_core.specs.Parts.{IsOwn, OwnIfThere};
-ghost use Rattle.cluster_core.specs.Turn.{post_told, ResidentTurn, TurnIs};
+ghost use Rattle.cluster_core.specs.Turn.{post_told, LighterResident, LighterTurn, ResidentTurn, TurnIs};
 
 use crate::quantum::{Quantum, run_quantum};
 use crate::resident::Resident;
@@ -30,6 +30,7 @@ pub fn take_turn(
     requires { OwnIfThere here.old }
     ensures own { OwnIfThere here.new }
     ensures turn { TurnIs number here.old result here.new }
+    ensures lighter { IfOk result (λ turn. LighterTurn here.old turn here.new) }
 {
     match here {
         Some(resident) => resident_turn(alloc, number, resident),
@@ -45,6 +46,7 @@ fn resident_turn(
     requires { IsOwn resident.old }
     ensures own { IsOwn resident.new }
     ensures turn { ResidentTurn number resident.old result resident.new }
+    ensures lighter { IfOk result (λ turn. LighterResident turn resident.old resident.new) }
 {
     match run_quantum(alloc, &mut resident.process)? {
         Quantum::Moved => Ok(Turn::Moved),
