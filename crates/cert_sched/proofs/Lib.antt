@@ -4,10 +4,12 @@ pub mod ReadBack
 pub mod Counting
 pub mod FirstBad
 pub mod ListLaws
+pub mod RisingLaws
 pub mod LogLaws
 pub mod RecordLaws
 pub mod BuiltLaws
 pub mod StepLaws
+pub mod RunsLaws
 pub mod CertLaws
 pub mod RootPids
 mod Rows
