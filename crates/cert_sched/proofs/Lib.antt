@@ -10,6 +10,8 @@ pub mod RecordLaws
 pub mod BuiltLaws
 pub mod StepLaws
 pub mod RunsLaws
+pub mod EndedLaws
+pub mod StillLaws
 pub mod CertLaws
 pub mod RootPids
 mod Rows
