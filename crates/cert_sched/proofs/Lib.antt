@@ -12,6 +12,7 @@ pub mod StepLaws
 pub mod RunsLaws
 pub mod EndedLaws
 pub mod StillLaws
+pub mod DoneLaws
 pub mod CertLaws
 pub mod RootPids
 mod Rows
