@@ -1,5 +1,5 @@
 -- When the end of a run may stand next.
-use Rattle.std.proofs.Common.{◌≡◌, ℕ, refl, sym, ◌∙◌, ap, subst, List, [], ◌∷◌, ◌++◌, map, Bool, true, false, cond, not, ◌&&◌, ◌||◌, eqb, leb, Option, Some, None, is_some, is_none, true≢false}
+use Rattle.std.proofs.Common.{◌≡◌, ℕ, refl, sym, ◌∙◌, ap, subst, List, [], ◌∷◌, ◌++◌, map, Bool, true, false, cond, not, ◌&&◌, ◌||◌, eqb, Option, Some, None, is_some, is_none, true≢false}
 use Rattle.std.specs.Prelude.{find, filter, option_map, option_and_then}
 use Rattle.std.specs.List.{list_any, list_all}
 use Rattle.std.specs.Option.{option_map_or}
@@ -9,19 +9,17 @@ use Rattle.sys_text.specs.Valid.{is_system}
 use Rattle.proc_state.specs.State.{ProcState, can_take}
 use Rattle.sys_calls.specs.Next.{next_step, has_step}
 use Rattle.sys_calls.proofs.Counting.{ended_is_over}
-use Rattle.plain_kernel.specs.Kernel.{Kernel, boot, process_at}
-use Rattle.plain_kernel.specs.Apply.{apply_all}
+use Rattle.plain_kernel.specs.Kernel.{Kernel, process_at}
 use Rattle.plain_kernel.specs.Still.{is_still}
 use Rattle.bus_msg.specs.declared.entry.What.TheVariants.{Done}
 use Rattle.bus_msg.specs.declared.entry.By.TheVariants.{Bus}
 use Rattle.bus_msg.specs.declared.entry.Entry.{Entry}
 use Rattle.bus_msg.specs.declared.placed.Placed.{Placed}
-use Rattle.bus_msg.specs.Places.{Places, same_pid, unended_at, unended_in}
-use Rattle.bus_msg.specs.PlacedAfter.{what}
+use Rattle.bus_msg.specs.Places.{same_pid, unended_in}
 use Rattle.bus_msg.specs.NewBackup.{next_backup}
 use Rattle.channel_table.specs.Changes.{pids_differ}
 use Rattle.cert_sched.specs.Parts.{rising}
-use Rattle.cert_sched.specs.Schedule.{done, runs_of, plain_after, after_entry, placement, places_at_boot, placed_root}
+use Rattle.cert_sched.specs.Schedule.{plain_after, after_entry, placement, places_at_boot}
 use Rattle.cert_sched.specs.Steps.{silent_upto}
 use Rattle.cert_sched.specs.Rules.{is_over}
 use Rattle.cert_sched.specs.Kinds.{is_silent_rest}

@@ -1,23 +1,19 @@
 -- A process that the placement does not have among those that have not ended has ended in the kernel.
-use Rattle.std.proofs.Common.{◌≡◌, ℕ, refl, sym, ◌∙◌, ap, List, [], ◌∷◌, ◌++◌, map, Bool, true, false, cond, not, ◌&&◌, ◌||◌, eqb, eqb-true, eq-eqb, ne_eqb, Option, Some, None, is_some, true≢false}
-use Rattle.std.specs.Prelude.{◌≢◌, fold, find, filter, option_and_then, option_map}
-use Rattle.std.specs.List.{list_any}
+use Rattle.std.proofs.Common.{◌≡◌, ℕ, refl, sym, ◌∙◌, ap, List, [], ◌∷◌, ◌++◌, map, Bool, true, false, cond, not, ◌&&◌, eqb, eqb-true, eq-eqb, Option, Some, None, true≢false}
+use Rattle.std.specs.Prelude.{◌≢◌, fold, find, option_map}
 use Rattle.t32_base.specs.declared.process.Pid.{Pid}
 use Rattle.t32_base.specs.declared.process.End.{End}
-use Rattle.t32_base.specs.declared.process.ClusterNo.{ClusterNo}
-use Rattle.t32_base.specs.declared.letter.Letter.{Letter}
 use Rattle.t32_base.specs.declared.letter.To.{To}
 use Rattle.t32_base.specs.declared.letter.To.TheVariants.{Proc, Tty}
 use Rattle.sys_text.specs.declared.system.System.{System}
 use Rattle.sys_text.specs.declared.system.Root.{Root}
 use Rattle.sys_text.specs.Boot.{roots_of}
 use Rattle.proc_state.specs.State.{ProcState, has_ended}
-use Rattle.sys_calls.specs.declared.steps.Emission.{Emission}
 use Rattle.sys_calls.specs.declared.steps.Emission.TheVariants.{Mail as Sent, Exit as Ended}
 use Rattle.sys_calls.proofs.Counting.{last_sent, exit_ends}
 use Rattle.plain_kernel.specs.Kernel.{Kernel, boot, empty, process_at, with_root, root_process}
 use Rattle.plain_kernel.proofs.Entries.{some_same}
-use Rattle.plain_kernel.proofs.Others.{is_outward, is_outward_to, process_at-other}
+use Rattle.plain_kernel.proofs.Others.{is_outward_to, process_at-other}
 use Rattle.bus_msg.specs.declared.entry.What.{What}
 use Rattle.bus_msg.specs.declared.entry.What.TheVariants.{Mail, Birth, Exit, Page, Sync, Fetch, PageIs, Crash, Return, Rebackup, Done, Stop}
 use Rattle.bus_msg.specs.declared.entry.By.{By}
@@ -26,14 +22,14 @@ use Rattle.bus_msg.specs.declared.entry.Entry.{Entry}
 use Rattle.bus_msg.specs.declared.placed.Placed.{Placed}
 use Rattle.bus_msg.specs.Places.{Places, same_pid, unended_at}
 use Rattle.bus_msg.specs.PlacedAfter.{what, placed_after, after_exit}
-use Rattle.cert_sched.specs.Schedule.{plain_after, process_after, placement, places_at_boot, placed_root}
+use Rattle.cert_sched.specs.Schedule.{plain_after, process_after, placement, placed_root}
 use Rattle.cert_sched.specs.Steps.{emission_at}
-use Rattle.cert_sched.specs.Rules.{is_over, ends_run, is_by, is_living, is_by_home, is_by_right, home_at}
-use Rattle.cert_sched.specs.Kinds.{KindHolds, IsSent}
+use Rattle.cert_sched.specs.Rules.{is_over, ends_run, is_by, is_living, is_by_home, is_by_right}
+use Rattle.cert_sched.specs.Kinds.{KindHolds}
 use Rattle.cert_sched.specs.Legal.{IsLegalBy}
 use Rattle.cert_sched.specs.Built.{BuiltMayFollow, is_built, is_to_terminal}
 use Rattle.cert_sched.proofs.LogLaws.{placement-snoc}
-use Rattle.cert_sched.proofs.StepLaws.{Tells, SentTo, is_sent, sent_from, process_after-sent, process_after-others}
+use Rattle.cert_sched.proofs.StepLaws.{SentTo, is_sent, sent_from, process_after-sent, process_after-others}
 use Rattle.cert_sched.proofs.BuiltLaws.{legal_induction, is_over-snoc}
 
 abbrev pub EndsTold : System → List Entry → Type 0

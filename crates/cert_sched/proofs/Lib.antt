@@ -13,6 +13,7 @@ pub mod RunsLaws
 pub mod EndedLaws
 pub mod StillLaws
 pub mod DoneLaws
+pub mod HomesLaws
 pub mod CertLaws
 pub mod RootPids
 mod Rows

@@ -1,5 +1,5 @@
 -- What the runs of several processes make of a kernel, where each is of silent steps.
-use Rattle.std.proofs.Common.{◌≡◌, ℕ, ◌-◌, refl, sym, ◌∙◌, ap, List, [], ◌∷◌, ◌++◌, map, Bool, true, false, cond, ◌||◌, ◌&&◌, eqb, eqb-true, eq-eqb, Option, Some, None, is_some, true≢false, ne_eqb}
+use Rattle.std.proofs.Common.{◌≡◌, ℕ, ◌-◌, refl, sym, ◌∙◌, ap, List, [], ◌∷◌, map, Bool, true, false, cond, ◌||◌, ◌&&◌, eqb, eqb-true, eq-eqb, Option, Some, None, is_some, true≢false}
 use Rattle.std.specs.Prelude.{◌≢◌, option_and_then}
 use Rattle.std.specs.List.{list_any, list_all}
 use Rattle.std.specs.Option.{option_map_or}
@@ -9,11 +9,10 @@ use Rattle.proc_state.specs.State.{ProcState}
 use Rattle.sys_calls.specs.Next.{silently}
 use Rattle.plain_kernel.specs.Kernel.{Kernel, process_at}
 use Rattle.plain_kernel.specs.Apply.{steps, apply_all}
-use Rattle.plain_kernel.proofs.Entries.{some_same}
 use Rattle.plain_kernel.proofs.Others.{silently-made, silently-here, silently-other}
 use Rattle.bus_msg.specs.declared.entry.Entry.{Entry}
 use Rattle.bus_msg.specs.Places.{same_pid}
-use Rattle.cert_sched.specs.Schedule.{done, run_upto, runs_of, plain_after, process_after, done_after}
+use Rattle.cert_sched.specs.Schedule.{done, run_upto, runs_of, plain_after}
 use Rattle.cert_sched.specs.Steps.{silent_upto}
 use Rattle.cert_sched.proofs.LogLaws.{apply_all-append}
 use Rattle.cert_sched.proofs.StepLaws.{apply_run}
