@@ -1,2 +1,4 @@
 pub mod OverLaws
+pub mod MarksLaws
 pub mod Keeping
+pub mod MergingLaws

@@ -1,5 +1,5 @@
 -- When a log of the kinds that are built is over.
-use Rattle.std.proofs.Common.{◌≡◌, ℕ, suc, ◌+◌, ◌-◌, ◌≤◌, arith, length, slice_get, refl, sym, ◌∙◌, ap, List, [], ◌∷◌, ◌++◌, Bool, true, false, Option, Some, None, true≢false}
+use Rattle.std.proofs.Common.{◌≡◌, suc, ◌-◌, ◌≤◌, arith, length, slice_get, refl, sym, ◌∙◌, ap, List, [], ◌∷◌, Bool, true, false, Option, Some, true≢false}
 use Rattle.std.specs.Option.{option_map_or}
 use Rattle.sys_text.specs.declared.system.System.{System}
 use Rattle.bus_msg.specs.declared.entry.What.{What}
@@ -17,6 +17,7 @@ use Rattle.cert_sched.specs.Built.{BuiltMayFollow, is_built}
 use Rattle.cert_sched.specs.Scripted.{is_done, is_finished}
 use Rattle.cert_sched.proofs.ListLaws.{last_of-snoc}
 use Rattle.cert_sched.proofs.BuiltLaws.{legal_induction, is_over-snoc}
+use Rattle.bus_order.specs.declared.marks.Mark.{Mark}
 use Rattle.bus_order.specs.View.{BusView, IsKept}
 
 ends_done : (places : Places) (w : What) → is_built w ≡ true → ends_run places w ≡ is_done w
@@ -56,11 +57,11 @@ pub finished_long : (log : List Entry) → is_finished log ≡ true → 1 ≤ le
 finished_long [] h = absurd (true≢false (sym h))
 finished_long (e ∷ log) h = omega arith
 
-abbrev kept_view : System → List Entry → BusView
-kept_view system log = record { system = system; log = log }
+abbrev kept_view : System → List Entry → List (Option Mark) → BusView
+kept_view system log marks = record { system = system; log = log; marks = marks }
 
 -- what a bus that looked at its last entry knows of its view
-pub over_as_seen : {system : System} {log seen : List Entry} {places : Places} {cert : CertView} {b : BusView} {result answer : Bool} → kept_view system log ≡ b
-    → IsKept system log places cert → seen ≡ log → result ≡ is_finished seen → result ≡ answer → is_over b.system b.log ≡ answer
+pub over_as_seen : {system : System} {log seen : List Entry} {places : Places} {cert : CertView} {marks : List (Option Mark)} {b : BusView} {result answer : Bool} → kept_view system log marks ≡ b
+    → IsKept system log places cert marks → seen ≡ log → result ≡ is_finished seen → result ≡ answer → is_over b.system b.log ≡ answer
 over_as_seen {system} {log} same kept seen_is looked is =
     ap (λ (b : BusView). is_over b.system b.log) (sym same) ∙ over_finished system log kept.legal ∙ ap is_finished (sym seen_is) ∙ sym looked ∙ is

@@ -1,10 +1,10 @@
 -- A bus, as contracts see it.
-use Rattle.std.specs.Prelude.{ℕ, ◌≡◌, ◌+◌, ◌<◌, ◌≤◌, Bool, true, false, not, ◌&&◌, if◌then◌else◌, List, [], ◌∷◌, ◌++◌, map, length, slice_get, slice_set, Option, Some, None, is_none, replicate, option_map, option_and_then, Result, Ok, Err, ⊤}
-use Rattle.std.specs.List.{list_any, flat_map}
-use Rattle.std.specs.Option.{option_map_or}
+use Rattle.std.specs.Prelude.{ℕ, ◌≡◌, ◌+◌, ◌<◌, ◌≤◌, Bool, true, false, ◌&&◌, if◌then◌else◌, List, [], ◌∷◌, ◌++◌, map, length, slice_get, slice_set, Option, Some, None, is_none, replicate, option_and_then, Result, Ok, Err, ⊤}
+use Rattle.std.specs.List.{list_any}
 use Rattle.t32_base.specs.declared.process.Pid.{Pid}
 use Rattle.t32_base.specs.declared.process.ClusterNo.{ClusterNo}
 use Rattle.sys_text.specs.declared.system.System.{System}
+use Rattle.sys_text.specs.Valid.{is_system}
 use Rattle.bus_msg.specs.declared.entry.By.TheVariants.{Cluster, Bus}
 use Rattle.bus_msg.specs.declared.entry.What.TheVariants.{Done}
 use Rattle.bus_msg.specs.declared.entry.Post.{Post}
@@ -59,8 +59,9 @@ is_awaited places marks = list_any (λ k. lives_in places k && is_none (mark_in 
 
 -- ---- the bus
 
--- What a bus keeps: its log is legal, its placement and its schedule are those of the log, and each mark was told at the log.
+-- What a bus keeps: its system is valid, its log is legal, its placement and its schedule are those of the log, and each mark was told at the log.
 pub record IsKept (system : System) (log : List Entry) (places : Places) (cert : CertView) (marks : List (Option Mark)) : Type 0 where
+  pub valid : is_system system ≡ true
   pub legal : IsLegalBy BuiltMayFollow system log
   pub placed : places ≡ placement system log
   pub scheduled : IsCertOf system log cert
@@ -74,6 +75,13 @@ BeginsWith system b = b ≡ record { system = system; log = []; marks = replicat
 -- the bus with one entry more, which ends all rest
 abbrev pub with_post : BusView → Post → BusView
 with_post b post = record b { log = b.log ++ entry_of b.system b.log post ∷ []; marks = no_marks b.marks }
+
+-- Whether a caller may go on. It may where the log is not over and the caller has seen all of it.
+abbrev pub Admits : BusView → ℕ → Result ⊤ Refused → Type 0
+Admits b cursor (Ok u) = (is_over b.system b.log ≡ false) × (length b.log ≤ cursor)
+Admits b cursor (Err (Over at)) = (is_over b.system b.log ≡ true) × (at + 1 ≡ length b.log)
+Admits b cursor (Err (Behind n)) = (is_over b.system b.log ≡ false) × (n ≡ length b.log) × (cursor < n)
+Admits b cursor (Err NoMemory) = ⊥
 
 -- what a transmit asks: the cursor is not above the length, the post is the caller's own, and where the log goes on and the caller has seen
 -- all of it, the post may follow

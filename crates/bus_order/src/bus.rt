@@ -1,22 +1,26 @@
 //! The bus.
-ghost use Rattle.std.specs.Prelude.{◌≡◌, [], IfOk, OnOk, OnErr, slice_get, length, true};
+ghost use Rattle.std.specs.Prelude.{◌≡◌, ◌<◌, IfOk, OnOk, OnErr, slice_get, slice_set, option_map, length, true, false};
 ghost use Rattle.std.specs.Option.{option_copied};
 ghost use Rattle.sys_text.specs.Valid.{is_system};
 ghost use Rattle.cert_sched.specs.Schedule.{placement, schedule_of};
-ghost use Rattle.cert_sched.specs.Built.{BuiltMayFollow};
+ghost use Rattle.cert_sched.specs.Built.{BuiltMayFollow, is_built};
+ghost use Rattle.cert_sched.specs.Rules.{is_over};
 ghost use Rattle.cert_sched.specs.Appended.{entry_of};
-ghost use Rattle.bus_order.specs.View.{BeginsWith, Idles, MayIdle, MayTransmit, Transmits, mark_in, with_post};
+ghost use Rattle.bus_order.specs.View.{Admits, BeginsWith, Idles, MarkHolds, MayIdle, MayTransmit, Transmits, is_awaited, mark_in, with_done, with_post};
+ghost use Rattle.bus_order.specs.Merging.{rests_in};
 
 use crate::log::{append, has_ended};
-use crate::marks::{Idled, Mark};
+use crate::marks::{Idled, Mark, clear, is_waiting, mark_of, unmarked};
+use crate::merging::merged;
 use crate::refused::Refused;
-use bus_msg::entry::{Entry, Post};
+use bus_msg::entry::{By, Entry, Post, What};
 use cert_sched::cert::Cert;
 use cert_sched::start::placement_at_boot;
 use channel_table::placement::Placement;
 use plain_kernel::item::Item;
 use std::alloc::Global;
 use std::marker::Model;
+use std::mem;
 use sys_text::system::System;
 use t32_base::process::ClusterNo;
 use t32_base::streams::NoMemory;
@@ -55,6 +59,7 @@ impl<'s> Bus<'s> {
             log: Vec::new(alloc),
             places,
             cert: Cert::none(alloc),
+            marks: unmarked(alloc, system.clusters)?,
         })
     }
 
@@ -94,13 +99,7 @@ impl<'s> Bus<'s> {
         requires { MayTransmit self.old by cursor post.now }
         ensures { Transmits self.old cursor post.now result self.new }
     {
-        let length = self.length();
-        if has_ended(&self.log) {
-            return Err(Refused::Over { at: length - 1 });
-        }
-        if cursor < length {
-            return Err(Refused::Behind { length });
-        }
+        self.admit(cursor)?;
         match self.add(post) {
             Ok(at) => Ok(at),
             Err(NoMemory) => Err(Refused::NoMemory),
@@ -115,7 +114,18 @@ impl<'s> Bus<'s> {
         requires { MayIdle self.old by cursor mark }
         ensures { Idles self.old by cursor mark result self.new }
     {
-        Err(Refused::NoMemory)
+        self.admit(cursor)?;
+        let before = self.set_mark(by, Some(mark));
+        if self.is_waiting() {
+            return Ok(Idled::Marked);
+        }
+        match self.end() {
+            Ok(at) => Ok(Idled::Done { at }),
+            Err(NoMemory) => {
+                self.set_mark(by, before);
+                Err(Refused::NoMemory)
+            }
+        }
     }
 
     /// The kernel steps and the disk calls that a cluster told: None exactly where it has no mark at the
@@ -123,26 +133,82 @@ impl<'s> Bus<'s> {
     pub fn marked(&self, k: ClusterNo) -> Option<(u64, u64)>
         ensures { result ≡ option_map (λ m. (m.steps, m.calls)) (mark_in self.now.marks k) }
     {
-        match self.marks.get(usize::from(k.0)) {
-            Some(Some(mark)) => Some((mark.steps, mark.calls)),
-            _ => None,
+        let mark = mark_of(&self.marks, k)?;
+        Some((mark.steps, mark.calls))
+    }
+
+    // Refuses a caller after the end, or one that has not seen the whole log.
+    fn admit(&self, cursor: u64) -> Result<(), Refused>
+        ensures { Admits self.now cursor result }
+    {
+        let length = self.length();
+        if has_ended(&self.log) {
+            return Err(Refused::Over { at: length - 1 });
+        }
+        if cursor < length {
+            return Err(Refused::Behind { length });
+        }
+        Ok(())
+    }
+
+    // The entry that a post becomes.
+    fn entry_of(&self, post: Post) -> Entry
+        requires { is_built post.what ≡ true }
+        ensures { result ≡ entry_of self.now.system self.now.log post }
+    {
+        Entry {
+            place: self.log.len() as u64,
+            dests: self.places.route(&post),
+            post,
         }
     }
 
-    // Adds an entry with a post that may follow. After want of memory nothing has changed.
+    // Adds an entry with a post that may follow, which ends all rest. After want of memory nothing has changed.
     fn add(&mut self, post: &Post) -> Result<u64, NoMemory>
         requires { BuiltMayFollow self.old.system self.old.log (entry_of self.old.system self.old.log post.now) }
         ensures place { IfOk result (λ at. at ≡ length self.old.log) }
         ensures ok { OnOk result (self.new ≡ with_post self.old post.now) }
         ensures err { OnErr result (self.new ≡ self.old) }
     {
-        let place = self.log.len() as u64;
-        let entry = Entry {
-            place,
-            post: post.copy()?,
-            dests: self.places.route(post),
-        };
-        append(&mut self.log, &mut self.cert, &mut self.places, entry)?;
+        let entry = self.entry_of(post.copy()?);
+        let place = append(&mut self.log, &mut self.cert, &mut self.places, entry)?;
+        clear(&mut self.marks);
         Ok(place)
+    }
+
+    // Ends a run in which each cluster that lives has its mark. After want of memory nothing has changed.
+    fn end(&mut self) -> Result<u64, NoMemory>
+        requires goes_on { is_over self.old.system self.old.log ≡ false }
+        requires marked { is_awaited (placement self.old.system self.old.log) self.old.marks ≡ false }
+        ensures place { IfOk result (λ at. at ≡ length self.old.log) }
+        ensures ok { OnOk result (self.new ≡ with_done self.old (rests_in self.old.marks)) }
+        ensures err { OnErr result (self.new ≡ self.old) }
+    {
+        let rests = merged(self.alloc, &self.marks)?;
+        let entry = self.entry_of(Post {
+            by: By::Bus,
+            what: What::Done { rests },
+        });
+        let place = append(&mut self.log, &mut self.cert, &mut self.places, entry)?;
+        Ok(place)
+    }
+
+    // Whether a cluster that lives has no mark.
+    fn is_waiting(&self) -> bool
+        ensures { result ≡ is_awaited (placement self.now.system self.now.log) self.now.marks }
+    {
+        is_waiting(&self.places, &self.marks)
+    }
+
+    // Changes the mark of a cluster, and gives back the one that it had.
+    fn set_mark(&mut self, k: ClusterNo, mark: Option<Mark>) -> Option<Mark>
+        requires has { k.0 < self.old.system.clusters }
+        requires goes_on { is_over self.old.system self.old.log ≡ false }
+        requires holds { MarkHolds self.old.system self.old.log k mark }
+        ensures before { result ≡ mark_in self.old.marks k }
+        ensures held { MarkHolds self.old.system self.old.log k result }
+        ensures set { self.new ≡ record self.old { marks = slice_set self.old.marks k.0 mark } }
+    {
+        mem::replace(&mut self.marks[usize::from(k.0)], mark)
     }
 }

@@ -4,6 +4,7 @@
 pub mod bus;
 pub mod log;
 pub mod marks;
+pub mod merging;
 pub mod refused;
 #[cfg(test)]
 mod tests;

@@ -1,6 +1,6 @@
 -- What stays in a log of the entries that are built so far: no cluster is lost, no process moves, and none is born.
-use Rattle.std.proofs.Common.{◌≡◌, ℕ, suc, ◌+◌, refl, sym, ◌∙◌, ap, subst, List, [], ◌∷◌, ◌++◌, map, append_assoc, append-nil, Bool, true, false, cond, ◌||◌, ◌&&◌, Option, Some, None}
-use Rattle.std.specs.List.{list_any, list_all, sum_by, flat_map}
+use Rattle.std.proofs.Common.{◌≡◌, refl, sym, ◌∙◌, ap, subst, List, [], ◌∷◌, ◌++◌, map, append_assoc, append-nil, Bool, true, false, cond, Option, None}
+use Rattle.std.specs.List.{list_all, sum_by}
 use Rattle.std.proofs.lemmas.List.Sums.{sum_by-append}
 use Rattle.std.proofs.lemmas.List.Folds.{list_any-append, list_all-append}
 use Rattle.std.proofs.lemmas.Grind.{flat_map-append}
@@ -15,7 +15,6 @@ use Rattle.bus_msg.specs.declared.entry.Entry.{Entry}
 use Rattle.bus_msg.specs.declared.placed.Placed.{Placed}
 use Rattle.bus_msg.specs.Places.{Places, same_pid}
 use Rattle.bus_msg.specs.PlacedAfter.{what, placed_after, after_exit}
-use Rattle.cert_sched.specs.declared.script.ScriptWord.{ScriptWord}
 use Rattle.cert_sched.specs.Parts.{last_of}
 use Rattle.cert_sched.specs.Schedule.{placement, places_at_boot}
 use Rattle.cert_sched.specs.Told.{Told, told, cluster_lost}
@@ -26,7 +25,6 @@ use Rattle.cert_sched.specs.Built.{is_built, BuiltMayFollow}
 use Rattle.cert_sched.specs.Counted.{counted, counted_at}
 use Rattle.cert_sched.specs.Looked.{Looked, at_start, none_reached, waits_for_words}
 use Rattle.cert_sched.specs.Losses.{was_lost_in, is_crash_of, is_scripted_loss}
-use Rattle.cert_sched.specs.Scripted.{is_done}
 use Rattle.cert_sched.proofs.ListLaws.{last_of-snoc}
 use Rattle.cert_sched.proofs.LogLaws.{placement-snoc, told-snoc, told_last}
 

@@ -4,10 +4,16 @@ pub mod ReadBack
 pub mod Counting
 pub mod FirstBad
 pub mod ListLaws
+pub mod RisingLaws
 pub mod LogLaws
 pub mod RecordLaws
 pub mod BuiltLaws
 pub mod StepLaws
+pub mod RunsLaws
+pub mod EndedLaws
+pub mod StillLaws
+pub mod DoneLaws
+pub mod HomesLaws
 pub mod CertLaws
 pub mod RootPids
 mod Rows

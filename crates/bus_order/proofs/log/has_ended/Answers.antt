@@ -1,5 +1,4 @@
-use Rattle.std.proofs.Common.{sym, ◌∙◌, ap, Some}
-use Rattle.std.specs.Option.{option_copied}
+use Rattle.std.proofs.Common.{sym, ◌∙◌}
 use Rattle.bus_order.proofs.OverLaws.{finished_some}
 use Rattle.bus_order.proofs.log.has_ended.Goals as goal
 

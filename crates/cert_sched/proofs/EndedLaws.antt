@@ -1,0 +1,165 @@
+-- A process that the placement does not have among those that have not ended has ended in the kernel.
+use Rattle.std.proofs.Common.{◌≡◌, ℕ, refl, sym, ◌∙◌, ap, List, [], ◌∷◌, ◌++◌, map, Bool, true, false, cond, not, ◌&&◌, eqb, eqb-true, eq-eqb, Option, Some, None, true≢false}
+use Rattle.std.specs.Prelude.{◌≢◌, fold, find, option_map}
+use Rattle.t32_base.specs.declared.process.Pid.{Pid}
+use Rattle.t32_base.specs.declared.process.End.{End}
+use Rattle.t32_base.specs.declared.letter.To.{To}
+use Rattle.t32_base.specs.declared.letter.To.TheVariants.{Proc, Tty}
+use Rattle.sys_text.specs.declared.system.System.{System}
+use Rattle.sys_text.specs.declared.system.Root.{Root}
+use Rattle.sys_text.specs.Boot.{roots_of}
+use Rattle.proc_state.specs.State.{ProcState, has_ended}
+use Rattle.sys_calls.specs.declared.steps.Emission.TheVariants.{Mail as Sent, Exit as Ended}
+use Rattle.sys_calls.proofs.Counting.{last_sent, exit_ends}
+use Rattle.plain_kernel.specs.Kernel.{Kernel, boot, empty, process_at, with_root, root_process}
+use Rattle.plain_kernel.proofs.Entries.{some_same}
+use Rattle.plain_kernel.proofs.Others.{is_outward_to, process_at-other}
+use Rattle.bus_msg.specs.declared.entry.What.{What}
+use Rattle.bus_msg.specs.declared.entry.What.TheVariants.{Mail, Birth, Exit, Page, Sync, Fetch, PageIs, Crash, Return, Rebackup, Done, Stop}
+use Rattle.bus_msg.specs.declared.entry.By.{By}
+use Rattle.bus_msg.specs.declared.entry.By.TheVariants.{Cluster, Bus}
+use Rattle.bus_msg.specs.declared.entry.Entry.{Entry}
+use Rattle.bus_msg.specs.declared.placed.Placed.{Placed}
+use Rattle.bus_msg.specs.Places.{Places, same_pid, unended_at}
+use Rattle.bus_msg.specs.PlacedAfter.{what, placed_after, after_exit}
+use Rattle.cert_sched.specs.Schedule.{plain_after, process_after, placement, placed_root}
+use Rattle.cert_sched.specs.Steps.{emission_at}
+use Rattle.cert_sched.specs.Rules.{is_over, ends_run, is_by, is_living, is_by_home, is_by_right}
+use Rattle.cert_sched.specs.Kinds.{KindHolds}
+use Rattle.cert_sched.specs.Legal.{IsLegalBy}
+use Rattle.cert_sched.specs.Built.{BuiltMayFollow, is_built, is_to_terminal}
+use Rattle.cert_sched.proofs.LogLaws.{placement-snoc}
+use Rattle.cert_sched.proofs.StepLaws.{SentTo, is_sent, sent_from, process_after-sent, process_after-others}
+use Rattle.cert_sched.proofs.BuiltLaws.{legal_induction, is_over-snoc}
+
+abbrev pub EndsTold : System → List Entry → Type 0
+EndsTold system log = (q : Pid) (s : ProcState) → process_after system log q ≡ Some s → unended_at (placement system log) q ≡ None → has_ended (s.small).status ≡ true
+
+-- ---- the start
+
+unended_of : Pid → List Placed → Option Placed
+unended_of p qs = find (λ (q : Placed). same_pid q.pid p && not q.ended) qs
+
+-- a process that is no root is not there
+no_root : (system : System) (k : Kernel) (roots : List (Pid × Root)) (q : Pid) → unended_of q (map placed_root roots) ≡ None → process_at (fold (with_root system) k roots) q ≡ process_at k q
+unfolding unended_of
+no_root system k [] q none = refl
+no_root system k (r ∷ roots) q none = by_test (same_pid r.0 q) refl none (λ rest. no_root system (with_root system k r) roots q rest)
+  where
+    by_test : (b : Bool) → same_pid r.0 q ≡ b → cond (b && true) (Some (placed_root r)) (unended_of q (map placed_root roots)) ≡ None
+        → (unended_of q (map placed_root roots) ≡ None → process_at (fold (with_root system) (with_root system k r) roots) q ≡ process_at (with_root system k r) q)
+        → process_at (fold (with_root system) (with_root system k r) roots) q ≡ process_at k q
+    by_test true is e more = cc
+    by_test false is e more = more e ∙ process_at-other k r.0 (root_process system r.0 r.1) q (λ same. true≢false (sym (eq-eqb (r.0).0 q.0 (sym same)) ∙ is))
+
+told_at_boot : (system : System) → EndsTold system []
+unfolding plain_after boot placement unended_of
+told_at_boot system q s there none = let gone : process_at (boot system) q ≡ None = no_root system empty (roots_of system) q none in cc
+
+-- ---- a letter to a terminal, and an exit
+
+outward : (to : To) → is_to_terminal to ≡ true → is_outward_to to ≡ true
+outward (Proc p e) h = h
+outward (Tty t) h = h
+
+-- who sends an entry by right has not ended
+sender_there : (places : Places) (by : By) (p : Pid) → is_by_home places by (Some p) ≡ true → unended_at places p ≡ None → ⊥
+sender_there places by p right none = no_sender by (sym (ap (λ o. is_living places by && is_by by (option_map (λ (q : Placed). q.home) o)) none) ∙ right)
+  where
+    no_other : (b : Bool) → (b && false) ≡ true → ⊥
+    no_other true h = true≢false (sym h)
+    no_other false h = true≢false (sym h)
+
+    no_sender : (by : By) → (is_living places by && is_by by None) ≡ true → ⊥
+    no_sender (Cluster k) h = no_other (is_living places (Cluster k)) h
+    no_sender Bus h = true≢false (sym h)
+
+-- a process that has not ended and is not the one that exits has not ended after it
+still_ended : (p r : Pid) (qs : List Placed) → r.0 ≢ p.0 → unended_of r (map (after_exit p) qs) ≡ None → unended_of r qs ≡ None
+unfolding unended_of
+still_ended p r [] apart none = refl
+still_ended p r (q ∷ qs) apart none = by_tests (same_pid q.pid p) (same_pid q.pid r) refl refl none (still_ended p r qs apart)
+  where
+    by_ended : (b : Bool) → cond b (Some q) (unended_of r (map (after_exit p) qs)) ≡ None → (unended_of r (map (after_exit p) qs) ≡ None → unended_of r qs ≡ None) → cond b (Some q) (unended_of r qs) ≡ None
+    by_ended true e more = cc
+    by_ended false e more = more e
+
+    by_tests : (b c : Bool) → same_pid q.pid p ≡ b → same_pid q.pid r ≡ c
+        → cond (same_pid (cond b (record q { ended = true }) q).pid r && not (cond b (record q { ended = true }) q).ended) (Some (cond b (record q { ended = true }) q)) (unended_of r (map (after_exit p) qs)) ≡ None
+        → (unended_of r (map (after_exit p) qs) ≡ None → unended_of r qs ≡ None) → cond (c && not q.ended) (Some q) (unended_of r qs) ≡ None
+    by_tests true true is_p is_r e more = absurd (apart (sym (eqb-true (q.pid).0 r.0 is_r) ∙ eqb-true (q.pid).0 p.0 is_p))
+    by_tests true false is_p is_r e more = more (sym (ap (λ b. cond (b && false) (Some (record q { ended = true })) (unended_of r (map (after_exit p) qs))) is_r) ∙ e)
+    by_tests false c is_p is_r e more = by_ended (c && not q.ended) (sym (ap (λ b. cond (b && not q.ended) (Some q) (unended_of r (map (after_exit p) qs))) is_r) ∙ e) more
+
+exit_before : (p r : Pid) (qs : List Placed) → r.0 ≢ p.0 → find (λ (q : Placed). same_pid q.pid r && not q.ended) (map (after_exit p) qs) ≡ None → find (λ (q : Placed). same_pid q.pid r && not q.ended) qs ≡ None
+unfolding unended_of
+exit_before p r qs apart none = still_ended p r qs apart none
+
+-- what sends its exit has ended
+exit_told : (system : System) (log : List Entry) (p : Pid) (at : ℕ) (end : End) (t : ProcState) → emission_at system log p at ≡ Some (Ended end, t) → has_ended (t.small).status ≡ true
+exit_told system log p at end t is =
+    let s = sent_from system log p at (Ended end) t is in
+    let last = last_sent _ s.was (Ended end) t s.sends in
+    exit_ends last.before t end last.last
+
+same_of : (p q : Pid) → p.0 ≡ q.0 → p ≡ q
+same_of p q e i = record { 0 = e i }
+
+-- ---- one entry more
+
+told_more : (system : System) (log : List Entry) (e : Entry) → (is_over system log ≡ false → EndsTold system log) → BuiltMayFollow system log e → is_over system (log ++ e ∷ []) ≡ false → EndsTold system (log ++ e ∷ [])
+told_more system log e before may open_still = by_what (what e) refl may.built ((may.stands).kind) ((may.stands).by_right) (sym (is_over-snoc system log e) ∙ open_still)
+  where
+    told : EndsTold system log
+    told = before ((may.stands).placed).2
+
+    by_what : (w : What) → what e ≡ w → is_built w ≡ true → KindHolds system log e w → is_by_right (placement system log) (e.post).by w ≡ true → ends_run (placement system log) w ≡ false → EndsTold system (log ++ e ∷ [])
+    by_what (Mail at letter) is built kind right goes_on = λ q s there none. by_pid q s there none (eqb q.0 (letter.from).0) refl
+      where
+        sent : SentTo system log letter.from at (Sent letter)
+        sent = is_sent system log letter.from at (Sent letter) kind
+
+        as_before : (q : Pid) → unended_at (placement system (log ++ e ∷ [])) q ≡ None → unended_at (placement system log) q ≡ None
+        as_before q none = sym (ap (λ p. unended_at p q) (placement-snoc system log e ∙ ap (placed_after (placement system log)) is)) ∙ none
+
+        by_pid : (q : Pid) (s : ProcState) → process_after system (log ++ e ∷ []) q ≡ Some s → unended_at (placement system (log ++ e ∷ [])) q ≡ None → (b : Bool) → eqb q.0 (letter.from).0 ≡ b → has_ended (s.small).status ≡ true
+        by_pid q s there none true pid_is =
+            absurd (sender_there (placement system log) (e.post).by letter.from right
+            (ap (unended_at (placement system log)) (sym (same_of q letter.from (eqb-true q.0 (letter.from).0 pid_is))) ∙ as_before q none))
+        by_pid q s there none false pid_is =
+            told q s
+            (sym (process_after-others system log e letter.from at (Sent letter) sent.after q sent.is (refl, is) (outward letter.to built) (λ same. true≢false (sym (eq-eqb q.0 (letter.from).0 same) ∙ pid_is))) ∙ there)
+            (as_before q none)
+    by_what (Birth parent at child end) is built kind right goes_on = absurd (true≢false (sym built))
+    by_what (Exit pid at end) is built kind right goes_on = λ q s there none. by_pid q s there none (eqb q.0 pid.0) refl
+      where
+        sent : SentTo system log pid at (Ended end)
+        sent = is_sent system log pid at (Ended end) kind.0
+
+        by_pid : (q : Pid) (s : ProcState) → process_after system (log ++ e ∷ []) q ≡ Some s → unended_at (placement system (log ++ e ∷ [])) q ≡ None → (b : Bool) → eqb q.0 pid.0 ≡ b → has_ended (s.small).status ≡ true
+        by_pid q s there none true pid_is =
+            let after : process_after system (log ++ e ∷ []) q ≡ Some sent.after =
+            ap (process_after system (log ++ e ∷ [])) (same_of q pid (eqb-true q.0 pid.0 pid_is)) ∙ process_after-sent system log e pid at (Ended end) sent.after sent.is is refl in
+            let same : sent.after ≡ s = some_same sent.after s (sym after ∙ there) in
+            ap (λ (s : ProcState). has_ended (s.small).status) (sym same) ∙ exit_told system log pid at end sent.after sent.is
+        by_pid q s there none false pid_is =
+            let apart : q.0 ≢ pid.0 = λ same. true≢false (sym (eq-eqb q.0 pid.0 same) ∙ pid_is) in
+            told q s
+            (sym (process_after-others system log e pid at (Ended end) sent.after q sent.is is refl apart) ∙ there)
+            (ended_before q apart (sym (ap (λ p. unended_at p q) (placement-snoc system log e ∙ ap (placed_after (placement system log)) is)) ∙ none))
+          where
+            ended_before : (q : Pid) → q.0 ≢ pid.0 → unended_at (placed_after (placement system log) (Exit pid at end)) q ≡ None → unended_at (placement system log) q ≡ None
+            ended_before q apart none = exit_before pid q (placement system log).placed apart none
+    by_what (Page pid at index bytes) is built kind right goes_on = absurd (true≢false (sym built))
+    by_what (Sync pid small read took) is built kind right goes_on = absurd (true≢false (sym built))
+    by_what (Fetch pid index) is built kind right goes_on = absurd (true≢false (sym built))
+    by_what (PageIs pid index bytes) is built kind right goes_on = absurd (true≢false (sym built))
+    by_what (Crash k cause) is built kind right goes_on = absurd (true≢false (sym built))
+    by_what (Return k) is built kind right goes_on = absurd (true≢false (sym built))
+    by_what (Rebackup to fresh recs) is built kind right goes_on = absurd (true≢false (sym built))
+    by_what (Done rests) is built kind right goes_on = absurd (true≢false goes_on)
+    by_what Stop is built kind right goes_on = absurd (true≢false (sym built))
+
+-- in a legal log that is not over, each process of the kernel has ended that the placement does not have among those that have not
+pub built_ended : (system : System) (log : List Entry) → IsLegalBy BuiltMayFollow system log → is_over system log ≡ false → EndsTold system log
+built_ended system log legal = legal_induction BuiltMayFollow system (λ log. is_over system log ≡ false → EndsTold system log) (λ _. told_at_boot system) (told_more system) log legal
