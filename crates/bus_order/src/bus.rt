@@ -4,6 +4,7 @@ ghost use Rattle.std.specs.Option.{option_copied};
 ghost use Rattle.sys_text.specs.Valid.{is_system};
 ghost use Rattle.cert_sched.specs.Schedule.{placement, schedule_of};
 ghost use Rattle.cert_sched.specs.Built.{BuiltMayFollow, is_built};
+ghost use Rattle.cert_sched.specs.Legal.{IsLegalBy};
 ghost use Rattle.cert_sched.specs.Rules.{is_over};
 ghost use Rattle.cert_sched.specs.Appended.{entry_of};
 ghost use Rattle.bus_order.specs.View.{Admits, BeginsWith, Idles, MarkHolds, MayIdle, MayTransmit, Transmits, is_awaited, mark_in, with_done, with_post};
@@ -22,6 +23,7 @@ use std::alloc::Global;
 use std::marker::Model;
 use std::mem;
 use sys_text::system::System;
+use t32_base::lists::List;
 use t32_base::process::ClusterNo;
 use t32_base::streams::NoMemory;
 
@@ -63,11 +65,27 @@ impl<'s> Bus<'s> {
         })
     }
 
-    /// How many entries the log has. Takes no memory.
+    /// How many entries the log has. Each of them may stand where it stands. Takes no memory.
     pub fn length(&self) -> u64
-        ensures { result ≡ length self.now.log }
+        ensures length { result ≡ length self.now.log }
+        ensures legal { IsLegalBy BuiltMayFollow self.now.system self.now.log }
     {
         self.log.len() as u64
+    }
+
+    /// Whether the end stands last. Takes no memory.
+    pub fn is_over(&self) -> bool
+        ensures { result ≡ is_over self.now.system self.now.log }
+    {
+        has_ended(&self.log)
+    }
+
+    /// The log and its schedule, by value. Takes no memory.
+    pub fn into_parts(self) -> (List<Entry>, List<Item>)
+        ensures log { result.0 ≡ self.entry.log }
+        ensures items { result.1 ≡ schedule_of self.entry.system self.entry.log }
+    {
+        (List::from_vec(self.log), self.cert.into_items())
     }
 
     /// The entry at a place: None exactly where the place is not below the length. Takes no memory.

@@ -9,11 +9,11 @@ returns-then-has_ended c =
     let over = over_as_seen c.self.view_is c.self.invariant c.deref.ensures.value c.has_ended.ensures c.if-has_ended.true in
     let long = finished_long c.self.inside.log.items (sym (over_finished c.self.inside.system.now c.self.inside.log.items c.self.invariant.legal) ∙ ap (λ (b : BusView). is_over b.system b.log) c.self.view_is ∙ over) in
     let same : length c.args.self.now.log ≡ length c.self.inside.log.items = ap (λ (b : BusView). length b.log) (sym c.self.view_is) in
-    (over, omega (arith, long, c.length-length.ensures, same))
+    (over, omega (arith, long, c.length-length.ensures.length, same))
 
 pub returns-then-cursor-length : goal.returns-then-cursor-length
 returns-then-cursor-length c =
-    (over_as_seen c.self.view_is c.self.invariant c.deref.ensures.value c.has_ended.ensures c.if-has_ended.false, c.length-length.ensures, c.if-cursor-length.true)
+    (over_as_seen c.self.view_is c.self.invariant c.deref.ensures.value c.has_ended.ensures c.if-has_ended.false, c.length-length.ensures.length, c.if-cursor-length.true)
 
 pub returns : goal.returns
-returns c = (over_as_seen c.self.view_is c.self.invariant c.deref.ensures.value c.has_ended.ensures c.if-has_ended.false, omega (arith, c.if-cursor-length.false, c.length-length.ensures))
+returns c = (over_as_seen c.self.view_is c.self.invariant c.deref.ensures.value c.has_ended.ensures c.if-has_ended.false, omega (arith, c.if-cursor-length.false, c.length-length.ensures.length))
