@@ -7,6 +7,7 @@ pub mod ListLaws
 pub mod LogLaws
 pub mod RecordLaws
 pub mod BuiltLaws
+pub mod Applied
 pub mod StepLaws
 pub mod CertLaws
 pub mod RootPids
