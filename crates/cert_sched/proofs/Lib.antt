@@ -8,6 +8,7 @@ pub mod RisingLaws
 pub mod LogLaws
 pub mod RecordLaws
 pub mod BuiltLaws
+pub mod Applied
 pub mod StepLaws
 pub mod RunsLaws
 pub mod EndedLaws

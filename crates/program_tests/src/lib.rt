@@ -3,11 +3,15 @@
 #![tactic(auto)]
 
 #[cfg(test)]
+mod calls;
+#[cfg(test)]
 mod kernel;
 #[cfg(test)]
 mod program;
 #[cfg(test)]
 mod reports;
+#[cfg(test)]
+mod simulated;
 #[cfg(test)]
 mod steps;
 #[cfg(test)]

@@ -1,53 +1,18 @@
 //! The program by its words, its input and its output.
+use crate::calls::{answers, sink, source, words};
 use crate::systems::{
     BAD, COMMENTED, CUT, HI, HI_PROGRAM, HI_WORDS, LINKED, MISSING, NO_STEPS, PAIR, SAME, SPIN,
     TOO_MANY_STEPS, WHOLE,
 };
-use std::alloc::Global;
-use std::process::Abort;
-use std::sync::Wait;
 use std::test::Fail;
-use std::thread::Threads;
 use t32_base::gate::OpenGate;
-use t32_base::lists::{Bytes, List, Text};
+use t32_base::lists::{Bytes, List};
 use t32_base::memory::{MemSink, MemSource};
-use t32_base::streams::{NoMemory, Sink, Source};
+use t32_base::streams::{Sink, Source};
 use targon_cli::top::targon;
 
 // One byte more than is read.
 const LARGE: usize = 4194305;
-
-fn words(alloc: Global, list: &[&str]) -> Result<Vec<Text>, NoMemory> {
-    let mut words = Vec::new(alloc);
-    for word in list {
-        words.push(Bytes::copy_of(alloc, word.as_bytes())?)?;
-    }
-    Ok(words)
-}
-
-fn source(alloc: Global, text: &[u8]) -> Result<MemSource, NoMemory> {
-    Ok(MemSource::new(Bytes::copy_of(alloc, text)?, List::new(alloc), 100))
-}
-
-fn sink(alloc: Global) -> Result<MemSink, NoMemory> {
-    MemSink::new(alloc, 1000, List::new(alloc), 7)
-}
-
-// What the program answers to these words and this input: the status, where it wrote just this.
-fn answers<R: Abort + AllocGlobal + Threads + Wait + Sync>(
-    rt: &R,
-    word: &str,
-    text: &[u8],
-    written: &str,
-) -> Result<u8, Fail> {
-    let alloc = rt.alloc();
-    let mut input = source(alloc, text)?;
-    let mut output = sink(alloc)?;
-    let list = words(alloc, &[word])?;
-    let status = targon(rt, alloc, &list, &mut input, &mut output, &OpenGate);
-    assert_eq!(rt; output.bytes.as_slice(), written.as_bytes());
-    Ok(status)
-}
 
 #[test]
 fn the_default_run_is_reported(rt: HostRuntime) -> Result<(), Fail> {
@@ -58,7 +23,7 @@ fn the_default_run_is_reported(rt: HostRuntime) -> Result<(), Fail> {
         (SPIN, "tty 0 0\n\npid 16 limit\n"),
         (PAIR, "tty 2 0\n\ntty 3 0\n\npid 16 trap 2\npid 17 trap 2\n"),
     ] {
-        assert_eq!(rt; answers(&rt, "plain", text.as_bytes(), report)?, 0);
+        assert_eq!(rt; answers(&rt, &["plain"], text.as_bytes(), report)?, 0);
     }
     Ok(())
 }
@@ -66,10 +31,10 @@ fn the_default_run_is_reported(rt: HostRuntime) -> Result<(), Fail> {
 #[test]
 fn a_text_is_printed_in_canonical_form(rt: HostRuntime) -> Result<(), Fail> {
     for (text, printed) in [(HI, HI), (COMMENTED, HI), (PAIR, PAIR), (LINKED, LINKED)] {
-        assert_eq!(rt; answers(&rt, "check", text.as_bytes(), printed)?, 0);
+        assert_eq!(rt; answers(&rt, &["check"], text.as_bytes(), printed)?, 0);
     }
-    assert_eq!(rt; answers(&rt, "asm", HI_PROGRAM.as_bytes(), HI_WORDS)?, 0);
-    assert_eq!(rt; answers(&rt, "asm", b"", "")?, 0);
+    assert_eq!(rt; answers(&rt, &["asm"], HI_PROGRAM.as_bytes(), HI_WORDS)?, 0);
+    assert_eq!(rt; answers(&rt, &["asm"], b"", "")?, 0);
     Ok(())
 }
 
@@ -80,13 +45,13 @@ fn a_refusal_names_the_line_and_the_rule(rt: HostRuntime) -> Result<(), Fail> {
         (CUT, "t32: system line 6 rule 10\n"),
         ("", "t32: system line 1 rule 10\n"),
     ] {
-        assert_eq!(rt; answers(&rt, "plain", text.as_bytes(), line)?, 2);
-        assert_eq!(rt; answers(&rt, "check", text.as_bytes(), line)?, 2);
+        assert_eq!(rt; answers(&rt, &["plain"], text.as_bytes(), line)?, 2);
+        assert_eq!(rt; answers(&rt, &["check"], text.as_bytes(), line)?, 2);
     }
     let line = "t32: asm line 1 rule 2\n";
-    assert_eq!(rt; answers(&rt, "asm", b"addd a0, a0, a0", line)?, 2);
+    assert_eq!(rt; answers(&rt, &["asm"], b"addd a0, a0, a0", line)?, 2);
     let line = "t32: not yet\n";
-    assert_eq!(rt; answers(&rt, "plain", LINKED.as_bytes(), line)?, 2);
+    assert_eq!(rt; answers(&rt, &["plain"], LINKED.as_bytes(), line)?, 2);
     Ok(())
 }
 
@@ -103,9 +68,9 @@ fn a_schedule_behind_the_text_is_followed(rt: HostRuntime) -> Result<(), Fail> {
         ("schedule\n", 3, "t32: schedule item 0\n"),
     ] {
         let text = format!(in alloc; "{HI}{schedule}")?;
-        assert_eq!(rt; answers(&rt, "plain", text.as_bytes(), written)?, status);
+        assert_eq!(rt; answers(&rt, &["plain"], text.as_bytes(), written)?, status);
         let line = "t32: system line 10 rule 2\n";
-        assert_eq!(rt; answers(&rt, "check", text.as_bytes(), line)?, 2);
+        assert_eq!(rt; answers(&rt, &["check"], text.as_bytes(), line)?, 2);
     }
     Ok(())
 }
@@ -118,7 +83,17 @@ fn a_long_input_is_refused(rt: HostRuntime) -> Result<(), Fail> {
         let mut input = MemSource::new(Bytes::from_vec(text), List::new(alloc), 1000000);
         let mut output = sink(alloc)?;
         let list = words(alloc, &[word])?;
-        let status = targon(&rt, alloc, &list, &mut input, &mut output, &OpenGate);
+        let mut ran = None;
+        let status = targon(
+            &rt,
+            alloc,
+            &list,
+            &mut input,
+            &mut output,
+            &OpenGate,
+            &mut ran,
+        );
+        assert!(rt; ran.is_none());
         assert_eq!(rt;
             output.bytes.as_slice(),
             b"t32: input too long\n".as_slice()
@@ -131,19 +106,28 @@ fn a_long_input_is_refused(rt: HostRuntime) -> Result<(), Fail> {
 #[test]
 fn other_words_are_usage(rt: HostRuntime) -> Result<(), Fail> {
     let alloc = rt.alloc();
-    let lists: [&[&str]; 6] = [
+    let lists: [&[&str]; 5] = [
         &["simulate"],
         &[],
         &["plain", "plain"],
         &["Plain"],
-        &["sim", "--pick"],
         &["check", "hi"],
     ];
     for list in lists {
         let mut input = source(alloc, HI.as_bytes())?;
         let mut output = sink(alloc)?;
         let list = words(alloc, list)?;
-        let status = targon(&rt, alloc, &list, &mut input, &mut output, &OpenGate);
+        let mut ran = None;
+        let status = targon(
+            &rt,
+            alloc,
+            &list,
+            &mut input,
+            &mut output,
+            &OpenGate,
+            &mut ran,
+        );
+        assert!(rt; ran.is_none());
         assert_eq!(rt; output.bytes.as_slice(), b"t32: usage\n".as_slice());
         assert_eq!(rt; status, 1);
         assert_eq!(rt; input.calls, 0);
@@ -160,7 +144,17 @@ fn a_fault_of_the_outside_is_told(rt: HostRuntime) -> Result<(), Fail> {
     let mut input = source(alloc, HI.as_bytes())?;
     let failing = List::from_vec(vec![in alloc; 1u64]?);
     let mut output = MemSink::new(alloc, 1000, failing, 5)?;
-    let status = targon(&rt, alloc, &list, &mut input, &mut output, &OpenGate);
+    let mut ran = None;
+    let status = targon(
+        &rt,
+        alloc,
+        &list,
+        &mut input,
+        &mut output,
+        &OpenGate,
+        &mut ran,
+    );
+    assert!(rt; ran.is_none());
     assert_eq!(rt; output.bytes.as_slice(), b"tty 0".as_slice());
     assert_eq!(rt; status, 5);
     assert_eq!(rt; output.faults(), 1);
@@ -170,7 +164,17 @@ fn a_fault_of_the_outside_is_told(rt: HostRuntime) -> Result<(), Fail> {
         let failing = List::from_vec(vec![in alloc; call]?);
         let mut input = MemSource::new(Bytes::copy_of(alloc, HI.as_bytes())?, failing, 100);
         let mut output = sink(alloc)?;
-        let status = targon(&rt, alloc, &list, &mut input, &mut output, &OpenGate);
+        let mut ran = None;
+        let status = targon(
+            &rt,
+            alloc,
+            &list,
+            &mut input,
+            &mut output,
+            &OpenGate,
+            &mut ran,
+        );
+        assert!(rt; ran.is_none());
         assert_eq!(rt; output.bytes.as_slice(), b"t32: read fault\n".as_slice());
         assert_eq!(rt; status, 4);
         assert_eq!(rt; input.faults(), 1);

@@ -28,6 +28,10 @@ pub const PAIR: &str =
 pub const LINKED: &str =
     "clusters 2\npager 0 1\nsyncreads 32\nsyncsteps 4096\nimage bad 1\nwords 00000000\nend\nroot 0 1 quarter bad 9 0 0\nroot 0 1 quarter bad 9 0 0\nchan 1 2\n";
 
+/// Two roots at home in one cluster.
+pub const NEIGHBOURS: &str =
+    "clusters 2\npager 0 1\nsyncreads 32\nsyncsteps 4096\nimage bad 1\nwords 00000000\nend\nroot 0 1 quarter bad 9 0 0\nroot 0 1 quarter bad 9 0 1\n";
+
 /// The first system up to its sixth line.
 pub const CUT: &str =
     "clusters 2\npager 0 1\nsyncreads 32\nsyncsteps 4096\nimage hi 1\nwords 00200893 00000513 000105b7 02458593 00300613 00000073 00100893 00000513\n";

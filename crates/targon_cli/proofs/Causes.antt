@@ -1,19 +1,14 @@
 -- The cause of each status.
-use Rattle.std.proofs.Common.{◌≡◌, ℕ, ◌≤◌, Bool, true, false, List, [], ◌∷◌, ◌⊎◌, inl, inr, length, refl, sym, ap, ◌∙◌, subst, arith, Option, Some, None, length-append}
-use Rattle.std.specs.Prelude.{Ok, Err, Result}
+use Rattle.std.proofs.Common.{◌≡◌, ℕ, ◌≤◌, Bool, true, List, ◌⊎◌, inl, inr, length, refl, sym, ap, ◌∙◌, subst, arith, Option, Some, None, length-append}
+use Rattle.std.specs.Prelude.{is_some}
 use Rattle.std.specs.Io.KnownBytes.{Consumes, Appends}
 use Rattle.t32_base.specs.Streams.{Rose}
 use Rattle.targon_cli.specs.declared.command.Command.{Command}
-use Rattle.targon_cli.specs.declared.command.Command.TheVariants as commands
-use Rattle.sys_text.specs.Reading.{reading_of as system_reading, system_of_lines}
-use Rattle.rv_asm.specs.Program.{reading_of as asm_reading}
-use Rattle.targon_cli.specs.Command.{command_of}
-use Rattle.targon_cli.specs.Reply.{Makes, MakesPlain, MakesCheck, MakesAsm, Runs, FollowsSection, Follows, Applied, Refused, is_run}
-use Rattle.targon_cli.specs.Sections.{system_part, section_part, items_of_lines}
-use Rattle.plain_kernel.specs.declared.item.Item.{Item}
-use Rattle.sys_text.specs.declared.system.System.{System}
-use Rattle.text_parts.specs.Lines.{lines_of}
-use Rattle.targon_cli.specs.Answer.{In, Out, Says, Wrote, WriteFault, IsAll, ReadsTooMany, Answers, Replied, TooLong, ReadFault, OutOfMemory, IsReplied, Completes, IsStatus, input_limit, usage_line, Answered}
+use Rattle.cluster_run.specs.declared.life.Ran.{Ran}
+use Rattle.targon_cli.specs.Command.{command_of, makes_run}
+use Rattle.targon_cli.specs.Reply.{Makes}
+use Rattle.targon_cli.specs.Answer.{In, Out, Says, Wrote, WriteFault, IsAll, ReadsTooMany, Answers, Replied, TooLong, ReadFault, OutOfMemory, IsReplied, Completes, IsCutOff, AppendsPart, IsStatus, input_limit, usage_line, Answered}
+use Rattle.targon_cli.proofs.Replies.{IsReply, status_made, run_made, no_run_made}
 
 -- the status of what is said, and its cause
 told : (wanted : ℕ) (text : List ℕ) (status : ℕ) (old new : Out) → Says wanted text status old new → ((status ≡ wanted) × Appends old.holds new.holds text) ⊎ ((status ≡ 5) × Rose old.faults new.faults)
@@ -29,87 +24,52 @@ status_5_said : (wanted : ℕ) (text : List ℕ) (status : ℕ) (old new : Out) 
 status_5_said wanted text status old new n (Wrote e a) f = absurd (n (sym e ∙ f))
 status_5_said wanted text status old new n (WriteFault e r a) f = r
 
--- ---- a command's reply has the status 0, 2 or 3
-
-abbrev IsReply : ℕ → Type 0
-IsReply wanted = (wanted ≡ 0) ⊎ (wanted ≡ 2) ⊎ (wanted ≡ 3)
-
-status_of_items : (system : System) (items : List Item) (wanted : ℕ) (text : List ℕ) → Follows system items wanted text → IsReply wanted
-status_of_items system items wanted text (Applied kernel r e t) = inl e
-status_of_items system items wanted text (Refused index r e t) = inr (inr e)
-
-status_of_section : (system : System) (reading : Result (List Item) ℕ) (wanted : ℕ) (text : List ℕ) → FollowsSection system reading wanted text → IsReply wanted
-status_of_section system (Ok items) wanted text m = status_of_items system items wanted text m
-status_of_section system (Err index) wanted text m = inr (inr m.0)
-
-status_of_run : (system : System) (section : List (List ℕ)) (runs : Bool) (wanted : ℕ) (text : List ℕ) → Runs system section runs wanted text → IsReply wanted
-status_of_run system [] true wanted text m = inl m.0
-status_of_run system (line ∷ lines) true wanted text m = status_of_section system (items_of_lines (line ∷ lines)) wanted text m
-status_of_run system section false wanted text m = inr (inl m.0)
-
-status_of_plain : (reading : _) (section : List (List ℕ)) (wanted : ℕ) (text : List ℕ) → MakesPlain reading section wanted text → IsReply wanted
-status_of_plain (Ok system) section wanted text m = status_of_run system section (is_run system) wanted text m
-status_of_plain (Err refused) section wanted text m = inr (inl m.0)
-
-status_of_check : (reading : _) (wanted : ℕ) (text : List ℕ) → MakesCheck reading wanted text → IsReply wanted
-status_of_check (Ok system) wanted text m = inl m.0
-status_of_check (Err refused) wanted text m = inr (inl m.0)
-
-status_of_asm : (reading : _) (wanted : ℕ) (text : List ℕ) → MakesAsm reading wanted text → IsReply wanted
-status_of_asm (Ok words) wanted text m = inl m.0
-status_of_asm (Err refused) wanted text m = inr (inl m.0)
-
-status_made : (command : Command) (bytes : List ℕ) (wanted : ℕ) (text : List ℕ) → Makes command bytes wanted text → IsReply wanted
-status_made commands.Plain bytes wanted text m = status_of_plain (system_of_lines (system_part (lines_of bytes))) (section_part (lines_of bytes)) wanted text m
-status_made commands.Check bytes wanted text m = status_of_check (system_reading bytes) wanted text m
-status_made commands.Asm bytes wanted text m = status_of_asm (asm_reading bytes) wanted text m
-
 -- ---- what is answered, by its status
 
 -- a status of a reply: the whole text was written under it
-replied : (words : List (List ℕ)) (command : Command) (status : ℕ) (old new : In) (ended : Bool) (before after : Out) → command_of words ≡ Some command
+replied : (words : List (List ℕ)) (command : Command) (status : ℕ) (old new : In) (ended : Bool) (before after : Out) (ran : Option Ran) → command_of words ≡ Some command
     → (4 ≡ status → ⊥) → (5 ≡ status → ⊥) → (6 ≡ status → ⊥) → (8 ≡ status → ⊥)
-    → Answers command status old new ended before after → IsReplied words status old new ended before after
-replied words command status old new ended before after w n4 n5 n6 n8 (Replied bytes wanted text r m says) =
+    → Answers command status old new ended before after ran → IsReplied words status old new ended before after ran
+replied words command status old new ended before after ran w n4 n5 n6 n8 (Replied bytes wanted text r m says) =
     elim (told wanted text status before after says) [
-      | inl s ↦ record { command = command; words_are = w; bytes = bytes; text = text; read = r; made = subst (λ k. Makes command bytes k text) (sym s.0) m; written = s.1 }
+      | inl s ↦ record { command = command; words_are = w; bytes = bytes; text = text; read = r; made = subst (λ k. Makes command bytes k text ran) (sym s.0) m; written = s.1 }
       | inr f ↦ absurd (n5 (sym f.0))
     ]
-replied words command status old new ended before after w n4 n5 n6 n8 (TooLong bytes r says) = not_said 8 _ status status before after n8 n5 says refl
-replied words command status old new ended before after w n4 n5 n6 n8 (ReadFault r says) = not_said 4 _ status status before after n4 n5 says refl
-replied words command status old new ended before after w n4 n5 n6 n8 (OutOfMemory e keeps) = absurd (n6 (sym e))
+replied words command status old new ended before after ran w n4 n5 n6 n8 (TooLong bytes r says none) = not_said 8 _ status status before after n8 n5 says refl
+replied words command status old new ended before after ran w n4 n5 n6 n8 (ReadFault r says none) = not_said 4 _ status status before after n4 n5 says refl
+replied words command status old new ended before after ran w n4 n5 n6 n8 (OutOfMemory e keeps none) = absurd (n6 (sym e))
 
 no_reply_by : (wanted k : ℕ) → IsReply wanted → (0 ≡ k → ⊥) → (2 ≡ k → ⊥) → (3 ≡ k → ⊥) → wanted ≡ k → ⊥
 no_reply_by wanted k (inl z) n0 n2 n3 e = n0 (sym z ∙ e)
 no_reply_by wanted k (inr (inl z)) n0 n2 n3 e = n2 (sym z ∙ e)
 no_reply_by wanted k (inr (inr z)) n0 n2 n3 e = n3 (sym z ∙ e)
 
-no_reply : (command : Command) (bytes : List ℕ) (wanted k : ℕ) (text : List ℕ) → Makes command bytes wanted text → (0 ≡ k → ⊥) → (2 ≡ k → ⊥) → (3 ≡ k → ⊥) → wanted ≡ k → ⊥
-no_reply command bytes wanted k text m n0 n2 n3 e = no_reply_by wanted k (status_made command bytes wanted text m) n0 n2 n3 e
+no_reply : (command : Command) (bytes : List ℕ) (wanted k : ℕ) (text : List ℕ) (ran : Option Ran) → Makes command bytes wanted text ran → (0 ≡ k → ⊥) → (2 ≡ k → ⊥) → (3 ≡ k → ⊥) → wanted ≡ k → ⊥
+no_reply command bytes wanted k text ran m n0 n2 n3 e = no_reply_by wanted k (status_made command bytes wanted text ran m) n0 n2 n3 e
 
-status_1 : (command : Command) (status : ℕ) (old new : In) (ended : Bool) (before after : Out) → Answers command status old new ended before after → status ≡ 1 → ⊥
-status_1 command status old new ended before after (Replied bytes wanted text r m says) = not_said wanted text status 1 before after (no_reply command bytes wanted 1 text m (λ e. omega arith) (λ e. omega arith) (λ e. omega arith)) (λ e. omega arith) says
-status_1 command status old new ended before after (TooLong bytes r says) = not_said 8 _ status 1 before after (λ e. omega arith) (λ e. omega arith) says
-status_1 command status old new ended before after (ReadFault r says) = not_said 4 _ status 1 before after (λ e. omega arith) (λ e. omega arith) says
-status_1 command status old new ended before after (OutOfMemory e keeps) = λ f. omega arith
+status_1 : (command : Command) (status : ℕ) (old new : In) (ended : Bool) (before after : Out) (ran : Option Ran) → Answers command status old new ended before after ran → status ≡ 1 → ⊥
+status_1 command status old new ended before after ran (Replied bytes wanted text r m says) = not_said wanted text status 1 before after (no_reply command bytes wanted 1 text ran m (λ e. omega arith) (λ e. omega arith) (λ e. omega arith)) (λ e. omega arith) says
+status_1 command status old new ended before after ran (TooLong bytes r says none) = not_said 8 _ status 1 before after (λ e. omega arith) (λ e. omega arith) says
+status_1 command status old new ended before after ran (ReadFault r says none) = not_said 4 _ status 1 before after (λ e. omega arith) (λ e. omega arith) says
+status_1 command status old new ended before after ran (OutOfMemory e keeps none) = λ f. omega arith
 
-status_4 : (command : Command) (status : ℕ) (old new : In) (ended : Bool) (before after : Out) → Answers command status old new ended before after → status ≡ 4 → Rose old.faults new.faults
-status_4 command status old new ended before after (Replied bytes wanted text r m says) = not_said wanted text status 4 before after (no_reply command bytes wanted 4 text m (λ e. omega arith) (λ e. omega arith) (λ e. omega arith)) (λ e. omega arith) says
-status_4 command status old new ended before after (TooLong bytes r says) = not_said 8 _ status 4 before after (λ e. omega arith) (λ e. omega arith) says
-status_4 command status old new ended before after (ReadFault r says) = λ e. r
-status_4 command status old new ended before after (OutOfMemory e keeps) = λ f. absurd (omega arith)
+status_4 : (command : Command) (status : ℕ) (old new : In) (ended : Bool) (before after : Out) (ran : Option Ran) → Answers command status old new ended before after ran → status ≡ 4 → Rose old.faults new.faults
+status_4 command status old new ended before after ran (Replied bytes wanted text r m says) = not_said wanted text status 4 before after (no_reply command bytes wanted 4 text ran m (λ e. omega arith) (λ e. omega arith) (λ e. omega arith)) (λ e. omega arith) says
+status_4 command status old new ended before after ran (TooLong bytes r says none) = not_said 8 _ status 4 before after (λ e. omega arith) (λ e. omega arith) says
+status_4 command status old new ended before after ran (ReadFault r says none) = λ e. r
+status_4 command status old new ended before after ran (OutOfMemory e keeps none) = λ f. absurd (omega arith)
 
-status_5 : (command : Command) (status : ℕ) (old new : In) (ended : Bool) (before after : Out) → Answers command status old new ended before after → status ≡ 5 → Rose before.faults after.faults
-status_5 command status old new ended before after (Replied bytes wanted text r m says) = status_5_said wanted text status before after (no_reply command bytes wanted 5 text m (λ e. omega arith) (λ e. omega arith) (λ e. omega arith)) says
-status_5 command status old new ended before after (TooLong bytes r says) = status_5_said 8 _ status before after (λ e. omega arith) says
-status_5 command status old new ended before after (ReadFault r says) = status_5_said 4 _ status before after (λ e. omega arith) says
-status_5 command status old new ended before after (OutOfMemory e keeps) = λ f. absurd (omega arith)
+status_5 : (command : Command) (status : ℕ) (old new : In) (ended : Bool) (before after : Out) (ran : Option Ran) → Answers command status old new ended before after ran → status ≡ 5 → Rose before.faults after.faults
+status_5 command status old new ended before after ran (Replied bytes wanted text r m says) = status_5_said wanted text status before after (no_reply command bytes wanted 5 text ran m (λ e. omega arith) (λ e. omega arith) (λ e. omega arith)) says
+status_5 command status old new ended before after ran (TooLong bytes r says none) = status_5_said 8 _ status before after (λ e. omega arith) says
+status_5 command status old new ended before after ran (ReadFault r says none) = status_5_said 4 _ status before after (λ e. omega arith) says
+status_5 command status old new ended before after ran (OutOfMemory e keeps none) = λ f. absurd (omega arith)
 
-status_8 : (command : Command) (status : ℕ) (old new : In) (ended : Bool) (before after : Out) → Answers command status old new ended before after → status ≡ 8 → (bytes : List ℕ) × ReadsTooMany old new bytes
-status_8 command status old new ended before after (Replied bytes wanted text r m says) = not_said wanted text status 8 before after (no_reply command bytes wanted 8 text m (λ e. omega arith) (λ e. omega arith) (λ e. omega arith)) (λ e. omega arith) says
-status_8 command status old new ended before after (TooLong bytes r says) = λ e. (bytes, r)
-status_8 command status old new ended before after (ReadFault r says) = not_said 4 _ status 8 before after (λ e. omega arith) (λ e. omega arith) says
-status_8 command status old new ended before after (OutOfMemory e keeps) = λ f. absurd (omega arith)
+status_8 : (command : Command) (status : ℕ) (old new : In) (ended : Bool) (before after : Out) (ran : Option Ran) → Answers command status old new ended before after ran → status ≡ 8 → (bytes : List ℕ) × ReadsTooMany old new bytes
+status_8 command status old new ended before after ran (Replied bytes wanted text r m says) = not_said wanted text status 8 before after (no_reply command bytes wanted 8 text ran m (λ e. omega arith) (λ e. omega arith) (λ e. omega arith)) (λ e. omega arith) says
+status_8 command status old new ended before after ran (TooLong bytes r says none) = λ e. (bytes, r)
+status_8 command status old new ended before after ran (ReadFault r says none) = not_said 4 _ status 8 before after (λ e. omega arith) (λ e. omega arith) says
+status_8 command status old new ended before after ran (OutOfMemory e keeps none) = λ f. absurd (omega arith)
 
 is_status_said : (wanted : ℕ) (text : List ℕ) (status : ℕ) (old new : Out) → IsStatus wanted → Says wanted text status old new → IsStatus status
 is_status_said wanted text status old new w (Wrote e a) = subst IsStatus (sym e) w
@@ -120,11 +80,57 @@ is_status_made wanted (inl z) = inl z
 is_status_made wanted (inr (inl z)) = inr (inr (inl z))
 is_status_made wanted (inr (inr z)) = inr (inr (inr (inl z)))
 
-is_status : (command : Command) (status : ℕ) (old new : In) (ended : Bool) (before after : Out) → Answers command status old new ended before after → IsStatus status
-is_status command status old new ended before after (Replied bytes wanted text r m says) = is_status_said wanted text status before after (is_status_made wanted (status_made command bytes wanted text m)) says
-is_status command status old new ended before after (TooLong bytes r says) = is_status_said 8 _ status before after (grind arith) says
-is_status command status old new ended before after (ReadFault r says) = is_status_said 4 _ status before after (grind arith) says
-is_status command status old new ended before after (OutOfMemory e keeps) = subst IsStatus (sym e) (grind arith)
+is_status : (command : Command) (status : ℕ) (old new : In) (ended : Bool) (before after : Out) (ran : Option Ran) → Answers command status old new ended before after ran → IsStatus status
+is_status command status old new ended before after ran (Replied bytes wanted text r m says) = is_status_said wanted text status before after (is_status_made wanted (status_made command bytes wanted text ran m)) says
+is_status command status old new ended before after ran (TooLong bytes r says none) = is_status_said 8 _ status before after (grind arith) says
+is_status command status old new ended before after ran (ReadFault r says none) = is_status_said 4 _ status before after (grind arith) says
+is_status command status old new ended before after ran (OutOfMemory e keeps none) = subst IsStatus (sym e) (grind arith)
+
+-- ---- the run that is handed out
+
+no_run : (command : Command) (status : ℕ) (old new : In) (ended : Bool) (before after : Out) (ran : Option Ran) → Answers command status old new ended before after ran
+    → (status ≡ 0 → ⊥) → (status ≡ 5 → ⊥) → ran ≡ None
+no_run command status old new ended before after ran (Replied bytes wanted text r m says) n0 n5 =
+    elim (told wanted text status before after says) [
+      | inl s ↦ no_run_made command bytes wanted text ran m (λ z. n0 (s.0 ∙ z))
+      | inr f ↦ absurd (n5 f.0)
+    ]
+no_run command status old new ended before after ran (TooLong bytes r says none) n0 n5 = none
+no_run command status old new ended before after ran (ReadFault r says none) n0 n5 = none
+no_run command status old new ended before after ran (OutOfMemory e keeps none) n0 n5 = none
+
+-- a front of the text was written, where the sink failed
+front : (wanted : ℕ) (text : List ℕ) (status : ℕ) (old new : Out) → (wanted ≡ 5 → ⊥) → Says wanted text status old new → status ≡ 5 → AppendsPart old.holds new.holds text
+front wanted text status old new n (Wrote e a) f = absurd (n (sym e ∙ f))
+front wanted text status old new n (WriteFault e r a) f = a
+
+none_there : {X : Type 0} (ran : Option Ran) → ran ≡ None → is_some ran ≡ true → X
+none_there None e h = cc
+none_there (Some r) e h = cc
+
+-- a reply that has a run is a report under the status 0
+run_reply : (command : Command) (bytes : List ℕ) (wanted : ℕ) (text : List ℕ) (ran : Option Ran) → Makes command bytes wanted text ran → is_some ran ≡ true → IsReply wanted → Makes command bytes 0 text ran
+run_reply command bytes wanted text ran m h (inl z) = subst (λ k. Makes command bytes k text ran) z m
+run_reply command bytes wanted text ran m h (inr (inl z)) = none_there ran (no_run_made command bytes wanted text ran m (λ e. absurd (omega arith))) h
+run_reply command bytes wanted text ran m h (inr (inr z)) = none_there ran (no_run_made command bytes wanted text ran m (λ e. absurd (omega arith))) h
+
+cut_off : (words : List (List ℕ)) (command : Command) (status : ℕ) (old new : In) (ended : Bool) (before after : Out) (ran : Option Ran) → command_of words ≡ Some command
+    → Answers command status old new ended before after ran → status ≡ 5 → is_some ran ≡ true → IsCutOff words old new ended before after ran
+cut_off words command status old new ended before after ran w (Replied bytes wanted text r m says) e h = record {
+  command = command;
+  words_are = w;
+  bytes = bytes;
+  text = text;
+  read = r;
+  made = run_reply command bytes wanted text ran m h (status_made command bytes wanted text ran m);
+  written = front wanted text status before after (no_reply command bytes wanted 5 text ran m (λ e. omega arith) (λ e. omega arith) (λ e. omega arith)) says e;
+}
+cut_off words command status old new ended before after ran w (TooLong bytes r says none) e h = none_there ran none h
+cut_off words command status old new ended before after ran w (ReadFault r says none) e h = none_there ran none h
+cut_off words command status old new ended before after ran w (OutOfMemory z keeps none) e h = none_there ran none h
+
+run_there : (words : List (List ℕ)) (old new : In) (ended : Bool) (before after : Out) (ran : Option Ran) → IsReplied words 0 old new ended before after ran → is_some ran ≡ makes_run (command_of words)
+run_there words old new ended before after ran replied = rw replied.words_are (run_made replied.command replied.bytes replied.text ran replied.made)
 
 -- ---- where nothing fails
 
@@ -139,37 +145,40 @@ shorter bytes taken a b e c = by_rest b (rw e at c)
 all_same : (bytes taken : List ℕ) (a : Option (List ℕ)) → a ≡ Some bytes → IsAll a taken → bytes ≡ taken
 all_same bytes taken a e h = rw e at h
 
-complete : (command : Command) (status : ℕ) (old new : In) (ended : Bool) (before after : Out) → Answers command status old new ended before after
-    → (Rose old.faults new.faults → ⊥) → (Rose before.faults after.faults → ⊥) → (bytes : List ℕ) → old.left ≡ Some bytes → length bytes ≤ input_limit → Completes command bytes status before after ⊎ (status ≡ 6)
-complete command status old new ended before after (Replied taken wanted text r m says) in_ok out_ok bytes e le =
-    let same : Makes command bytes wanted text = subst (λ b. Makes command b wanted text) (sym (all_same bytes taken old.left e r.all)) m in
+complete : (command : Command) (status : ℕ) (old new : In) (ended : Bool) (before after : Out) (ran : Option Ran) → Answers command status old new ended before after ran
+    → (Rose old.faults new.faults → ⊥) → (Rose before.faults after.faults → ⊥) → (bytes : List ℕ) → old.left ≡ Some bytes → length bytes ≤ input_limit → Completes command bytes status before after ran ⊎ (status ≡ 6)
+complete command status old new ended before after ran (Replied taken wanted text r m says) in_ok out_ok bytes e le =
+    let same : Makes command bytes wanted text ran = subst (λ b. Makes command b wanted text ran) (sym (all_same bytes taken old.left e r.all)) m in
     elim (told wanted text status before after says) [
-      | inl s ↦ inl (record { text = text; made = subst (λ k. Makes command bytes k text) (sym s.0) same; written = s.1 })
+      | inl s ↦ inl (record { text = text; made = subst (λ k. Makes command bytes k text ran) (sym s.0) same; written = s.1 })
       | inr f ↦ absurd (out_ok f.1)
     ]
-complete command status old new ended before after (TooLong taken r says) in_ok out_ok bytes e le =
+complete command status old new ended before after ran (TooLong taken r says none) in_ok out_ok bytes e le =
     absurd (omega (arith, shorter bytes taken old.left new.left e r.taken, r.above))
-complete command status old new ended before after (ReadFault r says) in_ok out_ok bytes e le = absurd (in_ok r)
-complete command status old new ended before after (OutOfMemory z keeps) in_ok out_ok bytes e le = inr z
+complete command status old new ended before after ran (ReadFault r says none) in_ok out_ok bytes e le = absurd (in_ok r)
+complete command status old new ended before after ran (OutOfMemory z keeps none) in_ok out_ok bytes e le = inr z
 
 -- ---- by the words
 
 -- all of it follows from what is answered by cases
-pub answered : (words : List (List ℕ)) (status : ℕ) (old new : In) (ended : Bool) (before after : Out)
-    → (command_of words ≡ None → Says 1 usage_line status before after)
-    → ((command : Command) → command_of words ≡ Some command → Answers command status old new ended before after) → Answered words status old new ended before after
-answered words status old new ended before after usage command = record {
+pub answered : (words : List (List ℕ)) (status : ℕ) (old new : In) (ended : Bool) (before after : Out) (ran : Option Ran)
+    → (command_of words ≡ None → Says 1 usage_line status before after) → (command_of words ≡ None → ran ≡ None)
+    → ((command : Command) → command_of words ≡ Some command → Answers command status old new ended before after ran) → Answered words status old new ended before after ran
+answered words status old new ended before after ran usage unran command = record {
   usage = usage;
   command = command;
   status_0 = λ e. by_words (λ n. not_said 1 usage_line status 0 before after (λ e. omega arith) (λ e. omega arith) (usage n) e) (λ c w. at_reply e c w);
-  status_1 = λ e. by_words (λ n. n) (λ c w. absurd (status_1 c status old new ended before after (command c w) e));
+  status_1 = λ e. by_words (λ n. n) (λ c w. absurd (status_1 c status old new ended before after ran (command c w) e));
   status_2 = λ e. by_words (λ n. not_said 1 usage_line status 2 before after (λ e. omega arith) (λ e. omega arith) (usage n) e) (λ c w. at_reply_2 e c w);
   status_3 = λ e. by_words (λ n. not_said 1 usage_line status 3 before after (λ e. omega arith) (λ e. omega arith) (usage n) e) (λ c w. at_reply_3 e c w);
-  status_4 = λ e. by_words (λ n. not_said 1 usage_line status 4 before after (λ e. omega arith) (λ e. omega arith) (usage n) e) (λ c w. status_4 c status old new ended before after (command c w) e);
-  status_5 = λ e. by_words (λ n. status_5_said 1 usage_line status before after (λ e. omega arith) (usage n) e) (λ c w. status_5 c status old new ended before after (command c w) e);
-  status_8 = λ e. by_words (λ n. not_said 1 usage_line status 8 before after (λ e. omega arith) (λ e. omega arith) (usage n) e) (λ c w. status_8 c status old new ended before after (command c w) e);
-  no_other = by_words (λ n. is_status_said 1 usage_line status before after (grind arith) (usage n)) (λ c w. is_status c status old new ended before after (command c w));
-  complete = λ c w i o bytes e le. complete c status old new ended before after (command c w) i o bytes e le;
+  status_4 = λ e. by_words (λ n. not_said 1 usage_line status 4 before after (λ e. omega arith) (λ e. omega arith) (usage n) e) (λ c w. status_4 c status old new ended before after ran (command c w) e);
+  status_5 = λ e. by_words (λ n. status_5_said 1 usage_line status before after (λ e. omega arith) (usage n) e) (λ c w. status_5 c status old new ended before after ran (command c w) e);
+  status_8 = λ e. by_words (λ n. not_said 1 usage_line status 8 before after (λ e. omega arith) (λ e. omega arith) (usage n) e) (λ c w. status_8 c status old new ended before after ran (command c w) e);
+  no_other = by_words (λ n. is_status_said 1 usage_line status before after (grind arith) (usage n)) (λ c w. is_status c status old new ended before after ran (command c w));
+  complete = λ c w i o bytes e le. complete c status old new ended before after ran (command c w) i o bytes e le;
+  ran_0 = λ e. run_at status e (λ f. by_words (λ n. not_said 1 usage_line status 0 before after (λ e. omega arith) (λ e. omega arith) (usage n) f) (λ c w. at_reply f c w));
+  ran_5 = λ e h. by_words (λ n. none_there ran (unran n) h) (λ c w. cut_off words c status old new ended before after ran w (command c w) e h);
+  no_run = λ n0 n5. by_words (λ n. unran n) (λ c w. no_run c status old new ended before after ran (command c w) n0 n5);
 }
   where
     by_option : {X : Type 0} (found : Option Command) → found ≡ command_of words → (command_of words ≡ None → X) → ((c : Command) → command_of words ≡ Some c → X) → X
@@ -179,11 +188,14 @@ answered words status old new ended before after usage command = record {
     by_words : {X : Type 0} → (command_of words ≡ None → X) → ((c : Command) → command_of words ≡ Some c → X) → X
     by_words f g = by_option (command_of words) refl f g
 
-    at_reply : status ≡ 0 → (c : Command) → command_of words ≡ Some c → IsReplied words status old new ended before after
-    at_reply e c w = replied words c status old new ended before after w (λ f. omega arith) (λ f. omega arith) (λ f. omega arith) (λ f. omega arith) (command c w)
+    at_reply : status ≡ 0 → (c : Command) → command_of words ≡ Some c → IsReplied words status old new ended before after ran
+    at_reply e c w = replied words c status old new ended before after ran w (λ f. omega arith) (λ f. omega arith) (λ f. omega arith) (λ f. omega arith) (command c w)
 
-    at_reply_2 : status ≡ 2 → (c : Command) → command_of words ≡ Some c → IsReplied words status old new ended before after
-    at_reply_2 e c w = replied words c status old new ended before after w (λ f. omega arith) (λ f. omega arith) (λ f. omega arith) (λ f. omega arith) (command c w)
+    at_reply_2 : status ≡ 2 → (c : Command) → command_of words ≡ Some c → IsReplied words status old new ended before after ran
+    at_reply_2 e c w = replied words c status old new ended before after ran w (λ f. omega arith) (λ f. omega arith) (λ f. omega arith) (λ f. omega arith) (command c w)
 
-    at_reply_3 : status ≡ 3 → (c : Command) → command_of words ≡ Some c → IsReplied words status old new ended before after
-    at_reply_3 e c w = replied words c status old new ended before after w (λ f. omega arith) (λ f. omega arith) (λ f. omega arith) (λ f. omega arith) (command c w)
+    at_reply_3 : status ≡ 3 → (c : Command) → command_of words ≡ Some c → IsReplied words status old new ended before after ran
+    at_reply_3 e c w = replied words c status old new ended before after ran w (λ f. omega arith) (λ f. omega arith) (λ f. omega arith) (λ f. omega arith) (command c w)
+
+    run_at : (k : ℕ) → k ≡ 0 → (k ≡ 0 → IsReplied words k old new ended before after ran) → is_some ran ≡ makes_run (command_of words)
+    run_at k e at = run_there words old new ended before after ran (subst (λ k. IsReplied words k old new ended before after ran) e (at e))

@@ -1,3 +1,6 @@
 mod Causes
 mod Parts
+mod Picks
+mod Replies
 mod Streams
+mod Tales

@@ -1,9 +1,10 @@
--- What the program answers: its status, what it wrote, and what it took of its input.
-use Rattle.std.specs.Prelude.{ℕ, ◌≡◌, ◌≤◌, ◌<◌, ◌⊎◌, Bool, true, List, length, take, codes, Option, Some, None}
+-- What the program answers: its status, what it wrote, what it took of its input, and the run of `sim`.
+use Rattle.std.specs.Prelude.{ℕ, ◌≡◌, ◌≤◌, ◌<◌, ◌⊎◌, Bool, true, List, length, take, codes, Option, Some, None, is_some}
 use Rattle.std.specs.Io.KnownBytes.{Consumes, Keeps, Appends}
 use Rattle.t32_base.specs.Streams.{Rose}
 use Rattle.targon_cli.specs.declared.command.Command.{Command}
-use Rattle.targon_cli.specs.Command.{command_of}
+use Rattle.targon_cli.specs.Command.{command_of, makes_run}
+use Rattle.cluster_run.specs.declared.life.Ran.{Ran}
 use Rattle.targon_cli.specs.Reply.{Makes}
 
 -- the most bytes that are read
@@ -53,51 +54,66 @@ pub record ReadsTooMany (old new : In) (bytes : List ℕ) : Type 0 where
   pub taken : Consumes old.left new.left bytes
   pub above : input_limit < length bytes
 
--- what a command answers, with the status and what was taken and written
-pub data Answers (command : Command) (status : ℕ) (old new : In) (ended : Bool) (before after : Out) : Type 0 where
+-- what a command answers, with the status, what was taken and written, and the run that is handed out
+pub data Answers (command : Command) (status : ℕ) (old new : In) (ended : Bool) (before after : Out) (ran : Option Ran) : Type 0 where
   -- what it makes of the bytes that were read
-  Replied : (bytes : List ℕ) (wanted : ℕ) (text : List ℕ) → ReadsAll old new ended bytes → Makes command bytes wanted text
-      → Says wanted text status before after → Answers command status old new ended before after
-  TooLong : (bytes : List ℕ) → ReadsTooMany old new bytes → Says 8 too_long_line status before after
-      → Answers command status old new ended before after
-  ReadFault : Rose old.faults new.faults → Says 4 read_fault_line status before after → Answers command status old new ended before after
-  OutOfMemory : status ≡ 6 → Keeps before.holds after.holds → Answers command status old new ended before after
+  Replied : (bytes : List ℕ) (wanted : ℕ) (text : List ℕ) → ReadsAll old new ended bytes → Makes command bytes wanted text ran
+      → Says wanted text status before after → Answers command status old new ended before after ran
+  TooLong : (bytes : List ℕ) → ReadsTooMany old new bytes → Says 8 too_long_line status before after → ran ≡ None
+      → Answers command status old new ended before after ran
+  ReadFault : Rose old.faults new.faults → Says 4 read_fault_line status before after → ran ≡ None
+      → Answers command status old new ended before after ran
+  OutOfMemory : status ≡ 6 → Keeps before.holds after.holds → ran ≡ None → Answers command status old new ended before after ran
 
 -- A command made this of all the bytes of the input, under its status, and the whole text was written.
-pub record IsReplied (words : List (List ℕ)) (status : ℕ) (old new : In) (ended : Bool) (before after : Out) : Type 0 where
+pub record IsReplied (words : List (List ℕ)) (status : ℕ) (old new : In) (ended : Bool) (before after : Out) (ran : Option Ran) : Type 0 where
   pub command : Command
   pub words_are : command_of words ≡ Some command
   pub bytes : List ℕ
   pub text : List ℕ
   pub read : ReadsAll old new ended bytes
-  pub made : Makes command bytes status text
+  pub made : Makes command bytes status text ran
   pub written : Appends before.holds after.holds text
 
 -- what a command makes of known bytes was written, under its status
-pub record Completes (command : Command) (bytes : List ℕ) (status : ℕ) (before after : Out) : Type 0 where
+pub record Completes (command : Command) (bytes : List ℕ) (status : ℕ) (before after : Out) (ran : Option Ran) : Type 0 where
   pub text : List ℕ
-  pub made : Makes command bytes status text
+  pub made : Makes command bytes status text ran
   pub written : Appends before.holds after.holds text
+
+-- A command made a run and its report of all the bytes of the input, and a front of the report was written.
+pub record IsCutOff (words : List (List ℕ)) (old new : In) (ended : Bool) (before after : Out) (ran : Option Ran) : Type 0 where
+  pub command : Command
+  pub words_are : command_of words ≡ Some command
+  pub bytes : List ℕ
+  pub text : List ℕ
+  pub read : ReadsAll old new ended bytes
+  pub made : Makes command bytes 0 text ran
+  pub written : AppendsPart before.holds after.holds text
 
 -- the statuses of the program
 abbrev pub IsStatus : ℕ → Type 0
 IsStatus status = (status ≡ 0) ⊎ (status ≡ 1) ⊎ (status ≡ 2) ⊎ (status ≡ 3) ⊎ (status ≡ 4) ⊎ (status ≡ 5) ⊎ (status ≡ 6) ⊎ (status ≡ 8)
 
 -- What the top call answers. Want of memory, 6, is the one status without a cause.
-pub record Answered (words : List (List ℕ)) (status : ℕ) (old new : In) (ended : Bool) (before after : Out) : Type 0 where
+pub record Answered (words : List (List ℕ)) (status : ℕ) (old new : In) (ended : Bool) (before after : Out) (ran : Option Ran) : Type 0 where
   -- the words are no command
   pub usage : command_of words ≡ None → Says 1 usage_line status before after
   -- the words are a command
-  pub command : (command : Command) → command_of words ≡ Some command → Answers command status old new ended before after
+  pub command : (command : Command) → command_of words ≡ Some command → Answers command status old new ended before after ran
   -- each status has its cause: 0 that a command was carried out, and 2 and 3 that it refuses its input
-  pub status_0 : status ≡ 0 → IsReplied words status old new ended before after
+  pub status_0 : status ≡ 0 → IsReplied words status old new ended before after ran
   pub status_1 : status ≡ 1 → command_of words ≡ None
-  pub status_2 : status ≡ 2 → IsReplied words status old new ended before after
-  pub status_3 : status ≡ 3 → IsReplied words status old new ended before after
+  pub status_2 : status ≡ 2 → IsReplied words status old new ended before after ran
+  pub status_3 : status ≡ 3 → IsReplied words status old new ended before after ran
   pub status_4 : status ≡ 4 → Rose old.faults new.faults
   pub status_5 : status ≡ 5 → Rose before.faults after.faults
   pub status_8 : status ≡ 8 → (bytes : List ℕ) × ReadsTooMany old new bytes
   pub no_other : IsStatus status
   -- where neither side fails, what a command makes of its input is written, unless memory is refused
   pub complete : (command : Command) → command_of words ≡ Some command → (Rose old.faults new.faults → ⊥) → (Rose before.faults after.faults → ⊥)
-      → (bytes : List ℕ) → old.left ≡ Some bytes → length bytes ≤ input_limit → Completes command bytes status before after ⊎ (status ≡ 6)
+      → (bytes : List ℕ) → old.left ≡ Some bytes → length bytes ≤ input_limit → Completes command bytes status before after ran ⊎ (status ≡ 6)
+  -- a run is handed out exactly where all was done and it was `sim` that did it, or where its report could not be written whole
+  pub ran_0 : status ≡ 0 → is_some ran ≡ makes_run (command_of words)
+  pub ran_5 : status ≡ 5 → is_some ran ≡ true → IsCutOff words old new ended before after ran
+  pub no_run : (status ≡ 0 → ⊥) → (status ≡ 5 → ⊥) → ran ≡ None

@@ -1,5 +1,5 @@
--- What a command makes of the bytes of its input: the status, and the text that is written.
-use Rattle.std.specs.Prelude.{ℕ, ◌≡◌, Bool, true, false, ◌==◌, List, [], ◌∷◌, ◌++◌, length, codes, Some, Result, Ok, Err}
+-- What a command makes of the bytes of its input: the status, the text that is written, and for `sim` the run that it tells of.
+use Rattle.std.specs.Prelude.{ℕ, ◌≡◌, Bool, true, false, ◌==◌, List, [], ◌∷◌, ◌++◌, length, codes, Option, Some, None, Result, Ok, Err}
 use Rattle.std.specs.Fmt.{decimal}
 use Rattle.targon_cli.specs.declared.command.Command.{Command}
 use Rattle.targon_cli.specs.declared.command.Command.TheVariants as commands
@@ -12,13 +12,20 @@ use Rattle.rv_asm.specs.Program.{reading_of as asm_reading}
 use Rattle.rv_asm.specs.Printing.{words_text_of}
 use Rattle.rv_asm.specs.Refusal.{number_of_rule as asm_rule}
 use Rattle.plain_kernel.specs.Kernel.{Kernel}
-use Rattle.plain_kernel.specs.Still.{IsDefaultRun}
+use Rattle.plain_kernel.specs.Still.{IsDefaultRun, is_still}
 use Rattle.plain_kernel.specs.declared.item.Item.{Item}
 use Rattle.plain_kernel.specs.Apply.{plain_run}
 use Rattle.plain_kernel.specs.Answers.{BadAt}
 use Rattle.text_parts.specs.Lines.{lines_of}
 use Rattle.targon_cli.specs.Sections.{system_part, section_part, items_of_lines}
 use Rattle.report_text.specs.Report.{plain_report}
+use Rattle.report_text.specs.declared.run.Run.{Run}
+use Rattle.report_text.specs.declared.run.Ended.TheVariants.{Finished}
+use Rattle.report_text.specs.RunReport.{report_of, log_text_of}
+use Rattle.report_text.specs.Good.{IsGoodBuilt}
+use Rattle.cluster_run.specs.declared.life.Ran.{Ran}
+use Rattle.cluster_run.specs.Lived.{LivedBuilt}
+use Rattle.cluster_run.specs.Simulated.{is_simulated}
 
 -- a refused text, with its line and its rule
 abbrev pub system_line : (line rule : ℕ) → List ℕ
@@ -71,7 +78,42 @@ abbrev pub MakesAsm : Result (List ℕ) (ℕ × AsmRule) → (status : ℕ) → 
 MakesAsm (Ok words) status text = (status ≡ 0) × (text ≡ words_text_of words)
 MakesAsm (Err refused) status text = (status ≡ 2) × (text ≡ asm_line refused.0 (asm_rule refused.1))
 
-abbrev pub Makes : Command → (bytes : List ℕ) → (status : ℕ) → (text : List ℕ) → Type 0
-Makes commands.Plain bytes status text = MakesPlain (system_of_lines (system_part (lines_of bytes))) (section_part (lines_of bytes)) status text
-Makes commands.Check bytes status text = MakesCheck (system_reading bytes) status text
-Makes commands.Asm bytes status text = MakesAsm (asm_reading bytes) status text
+-- ---- the run of clusters
+
+-- what is written of a run, where the kernel stands after its schedule; the log only where it is asked for
+abbrev pub run_text : (log : Bool) → Kernel → Run → List ℕ
+run_text false kernel r = report_of kernel r
+run_text true kernel r = report_of kernel r ++ log_text_of r.log
+
+-- The run is good and came to its end: nothing was to be withheld, and nothing can move in the kernel of its schedule. Its clusters did its work, and it is what is written.
+pub record TellsOf (system : System) (log : Bool) (text : List ℕ) (ran : Ran) : Type 0 where
+  pub kernel : Kernel
+  pub scheduled : plain_run system (ran.run).items ≡ Some kernel
+  pub good : IsGoodBuilt system ran.run
+  pub ended : (ran.run).ended ≡ Finished
+  pub withheld : (ran.run).withheld ≡ 0
+  pub still : is_still kernel ≡ true
+  pub lived : LivedBuilt system (ran.run).log ran.lives
+  pub told : text ≡ run_text log kernel ran.run
+
+abbrev pub TellsOfRun : System → (log : Bool) → (status : ℕ) → (text : List ℕ) → Option Ran → Type 0
+TellsOfRun system log status text None = ⊥
+TellsOfRun system log status text (Some ran) = (status ≡ 0) × TellsOf system log text ran
+
+-- a system whose clusters are run is told of
+abbrev pub Simulates : System → Bool → (log : Bool) → (status : ℕ) → (text : List ℕ) → Option Ran → Type 0
+Simulates system false log status text ran = (status ≡ 2) × (text ≡ not_yet_line) × (ran ≡ None)
+Simulates system true log status text ran = TellsOfRun system log status text ran
+
+abbrev pub MakesSim : Answer → (log : Bool) → (status : ℕ) → (text : List ℕ) → Option Ran → Type 0
+MakesSim (Ok system) log status text ran = Simulates system (is_simulated system) log status text ran
+MakesSim (Err refused) log status text ran = (status ≡ 2) × (text ≡ system_line refused.0 (system_rule refused.1)) × (ran ≡ None)
+
+-- ---- any command
+
+-- only `sim` makes a run
+abbrev pub Makes : Command → (bytes : List ℕ) → (status : ℕ) → (text : List ℕ) → Option Ran → Type 0
+Makes commands.Plain bytes status text ran = MakesPlain (system_of_lines (system_part (lines_of bytes))) (section_part (lines_of bytes)) status text × (ran ≡ None)
+Makes commands.Check bytes status text ran = MakesCheck (system_reading bytes) status text × (ran ≡ None)
+Makes commands.Asm bytes status text ran = MakesAsm (asm_reading bytes) status text × (ran ≡ None)
+Makes (commands.Sim pick log) bytes status text ran = MakesSim (system_reading bytes) log status text ran

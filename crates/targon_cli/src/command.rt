@@ -1,18 +1,21 @@
 //! The commands, by their words.
-ghost use Rattle.std.specs.Prelude.{◌≡◌};
-ghost use Rattle.targon_cli.specs.Command.{command_of as command_of_words, commands_by_name};
+ghost use Rattle.std.specs.Prelude.{◌≡◌, IfSome, true};
+ghost use Rattle.targon_cli.specs.Command.{command_alone as command_alone_of, command_of as command_of_words, commands_by_name, has_pick, sim_by};
 ghost use Rattle.text_parts.specs.Table.{lookup as lookup_in};
 
+use crate::options::{Options, options_of};
 use t32_base::lists::Text;
 use text_parts::lookup;
 
 /// What the program is told to do: to run a system without failures, to print a system text in canonical
-/// form, or to assemble a text.
+/// form, to assemble a text, or to run the clusters of a system on one thread, each round beginning where
+/// the pick says, and to print the log of that run or not.
 #[derive(Clone, Copy, PartialEq, Eq, Debug)]
 pub enum Command {
     Plain,
     Check,
     Asm,
+    Sim { pick: u32, log: bool },
 }
 
 const COMMANDS: [(&[u8], Command); 3] = [
@@ -23,11 +26,24 @@ const COMMANDS: [(&[u8], Command); 3] = [
 
 /// The command that the words are, if they are one.
 pub fn command_of(words: &[Text]) -> Option<Command>
-    ensures { result ≡ command_of_words words.now }
+    ensures command { result ≡ command_of_words words.now }
+    ensures pick { IfSome result (λ c. has_pick c ≡ true) }
 {
     match words {
+        [word, options @ ..] if word.as_slice() == b"sim".as_slice() => {
+            Some(sim(options_of(options)?))
+        }
         [word] => command_named(word.as_slice()),
         _ => None,
+    }
+}
+
+fn sim(options: Options) -> Command
+    ensures { result ≡ sim_by options }
+{
+    Command::Sim {
+        pick: options.pick.unwrap_or(0),
+        log: options.log,
     }
 }
 

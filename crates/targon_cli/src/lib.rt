@@ -3,7 +3,9 @@
 
 pub mod command;
 pub mod input;
+pub mod options;
 pub mod output;
 pub mod reply;
 mod sections;
+mod simulated;
 pub mod top;

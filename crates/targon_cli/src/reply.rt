@@ -8,11 +8,14 @@ ghost use Rattle.sys_text.specs.Reading.{reading_of as system_reading, system_of
 ghost use Rattle.text_parts.specs.Lines.{lines_of};
 ghost use Rattle.targon_cli.specs.Sections.{section_part, system_part};
 ghost use Rattle.sys_text.specs.Valid.{is_system};
+ghost use Rattle.targon_cli.specs.Command.{has_pick};
 ghost use Rattle.targon_cli.specs.Reply.{asm_line, Follows, is_run as is_run_of, Makes, MakesAsm, MakesCheck, MakesPlain, not_yet_line, RunsBy, schedule_line, system_line};
 
 use crate::command::Command;
 use crate::sections::split_at_section;
+use crate::simulated::simulate;
 use cert_sched::{ItemsRefused, read_items};
+use cluster_run::life::Ran;
 use plain_kernel::item::{Item, RunRefused};
 use plain_kernel::plain::{default_run, run};
 use report_text::plain::plain_report;
@@ -40,14 +43,20 @@ pub struct Reply {
     pub text: Text,
 }
 
-/// What a command makes of the bytes of its input.
-pub fn carry_out(alloc: Global, command: Command, bytes: &[u8]) -> Result<Reply, NoMemory>
-    ensures { IfOk result (λ r. Makes command bytes.now r.status r.text) }
+/// What a command makes of the bytes of its input, and for `sim` the run that the text tells of.
+pub fn carry_out(
+    alloc: Global,
+    command: Command,
+    bytes: &[u8],
+) -> Result<(Reply, Option<Ran>), NoMemory>
+    requires { has_pick command ≡ true }
+    ensures { IfOk result (λ r. Makes command bytes.now r.0.status r.0.text r.1) }
 {
     match command {
-        Command::Plain => plain(alloc, bytes),
-        Command::Check => check(alloc, bytes),
-        Command::Asm => asm(alloc, bytes),
+        Command::Plain => Ok((plain(alloc, bytes)?, None)),
+        Command::Check => Ok((check(alloc, bytes)?, None)),
+        Command::Asm => Ok((asm(alloc, bytes)?, None)),
+        Command::Sim { pick, log } => simulate(alloc, bytes, pick, log),
     }
 }
 
@@ -118,7 +127,8 @@ fn report_of(alloc: Global, system: &System) -> Result<Text, NoMemory>
     plain_report(alloc, &plain)
 }
 
-fn not_yet(alloc: Global) -> Result<Reply, NoMemory>
+/// The reply for a system that cannot be run yet.
+pub fn not_yet(alloc: Global) -> Result<Reply, NoMemory>
     ensures { IfOk result (λ r. (r.status ≡ 2) × (r.text ≡ not_yet_line)) }
 {
     let text = Bytes::copy_of(alloc, b"t32: not yet\n")?;
@@ -156,7 +166,8 @@ fn asm(alloc: Global, bytes: &[u8]) -> Result<Reply, NoMemory>
     }
 }
 
-fn refused_system(alloc: Global, line: u64, rule: u8) -> Result<Reply, NoMemory>
+/// The reply for a text that is no system.
+pub fn refused_system(alloc: Global, line: u64, rule: u8) -> Result<Reply, NoMemory>
     ensures { IfOk result (λ r. (r.status ≡ 2) × (r.text ≡ system_line line rule)) }
 {
     let text = format!(in alloc; "t32: system line {line} rule {rule}\n")?;

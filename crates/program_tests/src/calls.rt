@@ -1,0 +1,58 @@
+//! The program by its words, as the tests call it.
+use std::alloc::Global;
+use std::process::Abort;
+use std::sync::Wait;
+use std::test::Fail;
+use std::thread::Threads;
+use t32_base::gate::OpenGate;
+use t32_base::lists::{Bytes, List, Text};
+use t32_base::memory::{MemSink, MemSource};
+use t32_base::streams::NoMemory;
+use targon_cli::top::targon;
+
+// More than any of the tests writes.
+const ROOM: u32 = 20000;
+
+/// The words of a call.
+pub fn words(alloc: Global, list: &[&str]) -> Result<Vec<Text>, NoMemory> {
+    let mut words = Vec::new(alloc);
+    for word in list {
+        words.push(Bytes::copy_of(alloc, word.as_bytes())?)?;
+    }
+    Ok(words)
+}
+
+/// A source of a text that does not fail.
+pub fn source(alloc: Global, text: &[u8]) -> Result<MemSource, NoMemory> {
+    Ok(MemSource::new(Bytes::copy_of(alloc, text)?, List::new(alloc), 100))
+}
+
+/// A sink that does not fail.
+pub fn sink(alloc: Global) -> Result<MemSink, NoMemory> {
+    MemSink::new(alloc, ROOM, List::new(alloc), 7)
+}
+
+/// What the program answers to these words and this input: the status, where it wrote just this.
+pub fn answers<R: Abort + AllocGlobal + Threads + Wait + Sync>(
+    rt: &R,
+    list: &[&str],
+    text: &[u8],
+    written: &str,
+) -> Result<u8, Fail> {
+    let alloc = rt.alloc();
+    let mut input = source(alloc, text)?;
+    let mut output = sink(alloc)?;
+    let list = words(alloc, list)?;
+    let mut ran = None;
+    let status = targon(
+        rt,
+        alloc,
+        &list,
+        &mut input,
+        &mut output,
+        &OpenGate,
+        &mut ran,
+    );
+    assert_eq!(rt; output.bytes.as_slice(), written.as_bytes());
+    Ok(status)
+}

@@ -1,0 +1,104 @@
+-- The replies of commands: their statuses, and which of them have a run.
+use Rattle.std.proofs.Common.{◌≡◌, ℕ, Bool, true, false, List, [], ◌∷◌, ◌⊎◌, inl, inr, refl, arith, Option, Some, None}
+use Rattle.std.specs.Prelude.{Ok, Err, Result, is_some}
+use Rattle.targon_cli.specs.declared.command.Command.{Command}
+use Rattle.targon_cli.specs.declared.command.Command.TheVariants as commands
+use Rattle.sys_text.specs.Reading.{reading_of as system_reading, system_of_lines}
+use Rattle.sys_text.specs.declared.system.System.{System}
+use Rattle.rv_asm.specs.Program.{reading_of as asm_reading}
+use Rattle.plain_kernel.specs.declared.item.Item.{Item}
+use Rattle.text_parts.specs.Lines.{lines_of}
+use Rattle.cluster_run.specs.declared.life.Ran.{Ran}
+use Rattle.cluster_run.specs.Simulated.{is_simulated}
+use Rattle.targon_cli.specs.Command.{makes_run}
+use Rattle.targon_cli.specs.Reply.{Makes, MakesPlain, MakesCheck, MakesAsm, MakesSim, Simulates, TellsOfRun, Runs, FollowsSection, Follows, Applied, Refused, is_run}
+use Rattle.targon_cli.specs.Sections.{system_part, section_part, items_of_lines}
+
+-- ---- the status
+
+-- a reply has the status 0, 2 or 3
+abbrev pub IsReply : ℕ → Type 0
+IsReply wanted = (wanted ≡ 0) ⊎ (wanted ≡ 2) ⊎ (wanted ≡ 3)
+
+status_of_items : (system : System) (items : List Item) (wanted : ℕ) (text : List ℕ) → Follows system items wanted text → IsReply wanted
+status_of_items system items wanted text (Applied kernel r e t) = inl e
+status_of_items system items wanted text (Refused index r e t) = inr (inr e)
+
+status_of_section : (system : System) (reading : Result (List Item) ℕ) (wanted : ℕ) (text : List ℕ) → FollowsSection system reading wanted text → IsReply wanted
+status_of_section system (Ok items) wanted text m = status_of_items system items wanted text m
+status_of_section system (Err index) wanted text m = inr (inr m.0)
+
+status_of_run : (system : System) (section : List (List ℕ)) (runs : Bool) (wanted : ℕ) (text : List ℕ) → Runs system section runs wanted text → IsReply wanted
+status_of_run system [] true wanted text m = inl m.0
+status_of_run system (line ∷ lines) true wanted text m = status_of_section system (items_of_lines (line ∷ lines)) wanted text m
+status_of_run system section false wanted text m = inr (inl m.0)
+
+status_of_plain : (reading : _) (section : List (List ℕ)) (wanted : ℕ) (text : List ℕ) → MakesPlain reading section wanted text → IsReply wanted
+status_of_plain (Ok system) section wanted text m = status_of_run system section (is_run system) wanted text m
+status_of_plain (Err refused) section wanted text m = inr (inl m.0)
+
+status_of_check : (reading : _) (wanted : ℕ) (text : List ℕ) → MakesCheck reading wanted text → IsReply wanted
+status_of_check (Ok system) wanted text m = inl m.0
+status_of_check (Err refused) wanted text m = inr (inl m.0)
+
+status_of_asm : (reading : _) (wanted : ℕ) (text : List ℕ) → MakesAsm reading wanted text → IsReply wanted
+status_of_asm (Ok words) wanted text m = inl m.0
+status_of_asm (Err refused) wanted text m = inr (inl m.0)
+
+status_of_tale : (system : System) (log : Bool) (wanted : ℕ) (text : List ℕ) (ran : Option Ran) → TellsOfRun system log wanted text ran → IsReply wanted
+status_of_tale system log wanted text None m = absurd m
+status_of_tale system log wanted text (Some r) m = inl m.0
+
+status_of_clusters : (system : System) (simulated log : Bool) (wanted : ℕ) (text : List ℕ) (ran : Option Ran) → Simulates system simulated log wanted text ran → IsReply wanted
+status_of_clusters system true log wanted text ran m = status_of_tale system log wanted text ran m
+status_of_clusters system false log wanted text ran m = inr (inl m.0)
+
+status_of_sim : (reading : _) (log : Bool) (wanted : ℕ) (text : List ℕ) (ran : Option Ran) → MakesSim reading log wanted text ran → IsReply wanted
+status_of_sim (Ok system) log wanted text ran m = status_of_clusters system (is_simulated system) log wanted text ran m
+status_of_sim (Err refused) log wanted text ran m = inr (inl m.0)
+
+pub status_made : (command : Command) (bytes : List ℕ) (wanted : ℕ) (text : List ℕ) (ran : Option Ran) → Makes command bytes wanted text ran → IsReply wanted
+status_made commands.Plain bytes wanted text ran m = status_of_plain (system_of_lines (system_part (lines_of bytes))) (section_part (lines_of bytes)) wanted text m.0
+status_made commands.Check bytes wanted text ran m = status_of_check (system_reading bytes) wanted text m.0
+status_made commands.Asm bytes wanted text ran m = status_of_asm (asm_reading bytes) wanted text m.0
+status_made (commands.Sim pick log) bytes wanted text ran m = status_of_sim (system_reading bytes) log wanted text ran m
+
+-- ---- the run
+
+tale_has_run : (system : System) (log : Bool) (text : List ℕ) (ran : Option Ran) → TellsOfRun system log 0 text ran → is_some ran ≡ true
+tale_has_run system log text None m = absurd m
+tale_has_run system log text (Some r) m = refl
+
+clusters_have_run : (system : System) (simulated log : Bool) (text : List ℕ) (ran : Option Ran) → Simulates system simulated log 0 text ran → is_some ran ≡ true
+clusters_have_run system true log text ran m = tale_has_run system log text ran m
+clusters_have_run system false log text ran m = absurd (omega (arith, m.0))
+
+sim_has_run : (reading : _) (log : Bool) (text : List ℕ) (ran : Option Ran) → MakesSim reading log 0 text ran → is_some ran ≡ true
+sim_has_run (Ok system) log text ran m = clusters_have_run system (is_simulated system) log text ran m
+sim_has_run (Err refused) log text ran m = absurd (omega (arith, m.0))
+
+-- what is done by `sim` has a run, and by another command none
+pub run_made : (command : Command) (bytes : List ℕ) (text : List ℕ) (ran : Option Ran) → Makes command bytes 0 text ran → is_some ran ≡ makes_run (Some command)
+run_made commands.Plain bytes text ran m = rw m.1 refl
+run_made commands.Check bytes text ran m = rw m.1 refl
+run_made commands.Asm bytes text ran m = rw m.1 refl
+run_made (commands.Sim pick log) bytes text ran m = sim_has_run (system_reading bytes) log text ran m
+
+no_tale : (system : System) (log : Bool) (wanted : ℕ) (text : List ℕ) (ran : Option Ran) → TellsOfRun system log wanted text ran → (wanted ≡ 0 → ⊥) → ran ≡ None
+no_tale system log wanted text None m n = refl
+no_tale system log wanted text (Some r) m n = absurd (n m.0)
+
+no_clusters : (system : System) (simulated log : Bool) (wanted : ℕ) (text : List ℕ) (ran : Option Ran) → Simulates system simulated log wanted text ran → (wanted ≡ 0 → ⊥) → ran ≡ None
+no_clusters system true log wanted text ran m n = no_tale system log wanted text ran m n
+no_clusters system false log wanted text ran m n = m.2
+
+no_sim : (reading : _) (log : Bool) (wanted : ℕ) (text : List ℕ) (ran : Option Ran) → MakesSim reading log wanted text ran → (wanted ≡ 0 → ⊥) → ran ≡ None
+no_sim (Ok system) log wanted text ran m n = no_clusters system (is_simulated system) log wanted text ran m n
+no_sim (Err refused) log wanted text ran m n = m.2
+
+-- a refusal has no run
+pub no_run_made : (command : Command) (bytes : List ℕ) (wanted : ℕ) (text : List ℕ) (ran : Option Ran) → Makes command bytes wanted text ran → (wanted ≡ 0 → ⊥) → ran ≡ None
+no_run_made commands.Plain bytes wanted text ran m n = m.1
+no_run_made commands.Check bytes wanted text ran m n = m.1
+no_run_made commands.Asm bytes wanted text ran m n = m.1
+no_run_made (commands.Sim pick log) bytes wanted text ran m n = no_sim (system_reading bytes) log wanted text ran m n
