@@ -1,5 +1,5 @@
 -- The ends of a process.
-use Rattle.std.specs.Prelude.{Bool, true, false, Option, Some, None}
+use Rattle.std.specs.Prelude.{ℕ, Bool, true, false, List, Option, Some, None, slice_get}
 use Rattle.t32_base.specs.declared.process.EndState.{EndState}
 use Rattle.t32_base.specs.declared.process.EndState.TheVariants.{Never, Tty, Linked, Shut}
 use Rattle.t32_base.specs.declared.letter.To.{To}
@@ -16,6 +16,14 @@ is_linked Never = false
 is_linked (Tty t) = false
 is_linked (Linked peer far finished) = true
 is_linked Shut = false
+
+-- the end with this number is linked; a number of 32 or more is no end
+abbrev pub is_linked_at : List EndState → ℕ → Bool
+is_linked_at ends e = linked (slice_get ends e)
+  where
+    linked : Option EndState → Bool
+    linked None = false
+    linked (Some state) = is_linked state
 
 -- where an end leads: an open one to a terminal or to the peer's end, any other nowhere
 abbrev pub leads_to : EndState → Option To
