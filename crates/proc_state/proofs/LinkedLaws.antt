@@ -70,6 +70,27 @@ pub without_linked_on : (ends : List EndState) (letters : List Arrived) (a : Arr
 without_linked_on ends letters a found =
     without_first_stricter (is_on_linked ends) (is_on (end_of_letter a)) letters a (not_on ends (end_of_letter a) (find_passes (is_on_linked ends) letters a found)) (eq-eqb (end_of_letter a) (end_of_letter a) refl) found
 
+-- what is found and what is left at the end of the first letter for a linked end
+pub record IsFoundOn (ends : List EndState) (letters : List Arrived) (e : ℕ) : Type 0 where
+  pub found : find (is_on e) letters ≡ find (is_on_linked ends) letters
+  pub left : without_first (is_on e) letters ≡ without_first (is_on_linked ends) letters
+
+pub found_on : (ends : List EndState) (letters : List Arrived) (e : ℕ) → Some e ≡ option_map end_of_letter (find (is_on_linked ends) letters) → IsFoundOn ends letters e
+found_on ends letters e is = at (find (is_on_linked ends) letters) refl is
+  where
+    at : (found : Option Arrived) → find (is_on_linked ends) letters ≡ found → Some e ≡ option_map end_of_letter found → IsFoundOn ends letters e
+    at None found none = cc
+    at (Some a) found some =
+        let same : e ≡ end_of_letter a = cc in
+        subst (IsFoundOn ends letters) (sym same) (record { found = linked_on ends letters a found ∙ sym found; left = sym (without_linked_on ends letters a found) })
+
+pub none_left : (ends : List EndState) (letters : List Arrived) → None ≡ option_map end_of_letter (find (is_on_linked ends) letters) → without_first (is_on_linked ends) letters ≡ letters
+none_left ends letters is = at (find (is_on_linked ends) letters) refl is
+  where
+    at : (found : Option Arrived) → find (is_on_linked ends) letters ≡ found → None ≡ option_map end_of_letter found → without_first (is_on_linked ends) letters ≡ letters
+    at None found none = without_first_not_found (is_on_linked ends) letters found
+    at (Some a) found some = cc
+
 -- ---- among the queues
 
 waits_there : (ends : List EndState) (queues : List (List Arrived)) (e number : ℕ) → waiting ends queues e ≡ Some number
