@@ -1,5 +1,5 @@
 -- The search for the end at which the first letter waits, end by end.
-use Rattle.std.proofs.Common.{◌≡◌, ℕ, zero, suc, ◌+◌, ◌<◌, ◌≤◌, inl, inr, List, [], ◌∷◌, length, Bool, true, false, cond, slice_get, option_map, Option, None, Some, MatchOption, refl, sym, ◌∙◌, ap, arith}
+use Rattle.std.proofs.Common.{◌≡◌, ℕ, zero, suc, ◌<◌, ◌≤◌, inl, inr, List, [], ◌∷◌, length, false, cond, slice_get, option_map, Option, None, Some, refl, ap, arith}
 use Rattle.std.proofs.lemmas.Bool.{cases_lt}
 use Rattle.t32_base.specs.declared.letter.Arrived.{Arrived}
 use Rattle.t32_base.specs.declared.process.EndState.{EndState}
@@ -34,7 +34,7 @@ earliest_of_all ends queues upto e number long found = record {
   number = number;
   waits = found.waits;
   least = λ j m waits. elim (cases_lt j upto) [
-      | inl below ↦ found.least j m below waits
-      | inr past ↦ let none = none_waits ends queues j (omega arith) in cc
-    ];
+    | inl below ↦ found.least j m below waits
+    | inr past ↦ let none = none_waits ends queues j (omega arith) in cc
+  ];
 }

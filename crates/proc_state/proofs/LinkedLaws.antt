@@ -1,5 +1,5 @@
 -- The first letter for an end that is linked.
-use Rattle.std.proofs.Common.{◌≡◌, ◌≢◌, ℕ, ◌<◌, ◌≤◌, ◌==◌, ◌⊎◌, inl, inr, Bool, true, false, cond, List, [], ◌∷◌, find, get_or, slice_get, Option, None, Some, MatchOption, option_map, refl, sym, ◌∙◌, ap, subst, arith, All, eqb-true, eq-eqb}
+use Rattle.std.proofs.Common.{◌≡◌, ◌≢◌, ℕ, ◌<◌, ◌≤◌, ◌⊎◌, inl, inr, Bool, true, false, cond, List, [], ◌∷◌, find, slice_get, Option, None, Some, MatchOption, option_map, refl, sym, ◌∙◌, ap, subst, arith, All, eqb-true, eq-eqb}
 use Rattle.std.specs.List.{AllPairs}
 use Rattle.std.proofs.lemmas.List.Elements.{All-nil, All-cons, All-head, All-weaker}
 use Rattle.t32_base.specs.declared.letter.Arrived.{Arrived}
@@ -32,17 +32,17 @@ IsStricter {X} p q = (x : X) → p x ≡ false → q x ≡ false
 pub find_stricter : {X : Type 0} (p q : X → Bool) (xs : List X) (y : X) → IsStricter p q → q y ≡ true → find p xs ≡ Some y → find q xs ≡ Some y
 find_stricter p q [] y stricter passes found = cc
 find_stricter p q (x ∷ xs) y stricter passes found = elim (find-cons p x y xs found) [
-    | inl here ↦ ap (λ v. cond v (Some x) (find q xs)) (ap q here.1 ∙ passes) ∙ ap Some here.1
-    | inr later ↦ ap (λ v. cond v (Some x) (find q xs)) (stricter x later.0) ∙ find_stricter p q xs y stricter passes later.1
-  ]
+  | inl here ↦ ap (λ v. cond v (Some x) (find q xs)) (ap q here.1 ∙ passes) ∙ ap Some here.1
+  | inr later ↦ ap (λ v. cond v (Some x) (find q xs)) (stricter x later.0) ∙ find_stricter p q xs y stricter passes later.1
+]
 
 pub without_first_stricter : {X : Type 0} (p q : X → Bool) (xs : List X) (y : X) → IsStricter p q → q y ≡ true → find p xs ≡ Some y → without_first p xs ≡ without_first q xs
 without_first_stricter p q [] y stricter passes found = refl
 without_first_stricter p q (x ∷ xs) y stricter passes found = elim (find-cons p x y xs found) [
-    | inl here ↦ ap (λ v. cond v xs (x ∷ without_first p xs)) here.0 ∙ ap (λ v. cond v xs (x ∷ without_first q xs)) (sym (ap q here.1 ∙ passes))
-    | inr later ↦ ap (λ v. cond v xs (x ∷ without_first p xs)) later.0 ∙ ap (λ left. x ∷ left) (without_first_stricter p q xs y stricter passes later.1)
-        ∙ ap (λ v. cond v xs (x ∷ without_first q xs)) (sym (stricter x later.0))
-  ]
+  | inl here ↦ ap (λ v. cond v xs (x ∷ without_first p xs)) here.0 ∙ ap (λ v. cond v xs (x ∷ without_first q xs)) (sym (ap q here.1 ∙ passes))
+  | inr later ↦ ap (λ v. cond v xs (x ∷ without_first p xs)) later.0 ∙ ap (λ left. x ∷ left) (without_first_stricter p q xs y stricter passes later.1)
+      ∙ ap (λ v. cond v xs (x ∷ without_first q xs)) (sym (stricter x later.0))
+]
 
 pub without_first_not_found : {X : Type 0} (p : X → Bool) (xs : List X) → find p xs ≡ None → without_first p xs ≡ xs
 without_first_not_found p [] none = refl
@@ -133,7 +133,7 @@ earliest_found ends queues next e q earliest =
     let a : Arrived = there.1.0 in
     let rest : List Arrived = there.1.1 in
     let first : IsFirst (is_linked_at ends) queues e a rest =
-        first_of_linked ends queues next e a rest q there.0 there.1.2 (λ j m waits. let at_most = earliest.least j m waits in let same = there.1.3 in omega arith) in
+    first_of_linked ends queues next e a rest q there.0 there.1.2 (λ j m waits. let at_most = earliest.least j m waits in let same = there.1.3 in omega arith) in
     let on : IsOn e a = All-head (IsOn e) a rest (subst (All (IsOn e)) there.1.2 (q.placed e)) in
     ap Some (sym (eqb-true (end_of_letter a) e on)) ∙ ap (option_map end_of_letter) (sym (find-first (is_linked_at ends) queues next e a rest q first))
 

@@ -1,14 +1,12 @@
 -- Laws of the letters of several queues, put by their numbers.
-use Rattle.std.proofs.Common.{◌≡◌, ◌≢◌, ℕ, zero, suc, ◌+◌, ◌-◌, ◌<◌, ◌≤◌, ◌==◌, ◌⊎◌, inl, inr, nat_lt, Bool, true, false, cond, List, [], ◌∷◌, ◌++◌, length, find, set, get_or, drop, slice_get, Option, None, Some, option_map, refl, sym, ◌∙◌, ap, subst, arith, All, eqb-true, eq-eqb}
+use Rattle.std.proofs.Common.{◌≡◌, ◌≢◌, ℕ, zero, suc, ◌+◌, ◌-◌, ◌<◌, ◌≤◌, ◌==◌, ◌⊎◌, inl, inr, nat_lt, Bool, true, false, cond, List, [], ◌∷◌, ◌++◌, length, find, set, get_or, drop, slice_get, None, Some, refl, sym, ◌∙◌, ap, subst, arith, All, eqb-true, eq-eqb}
 use Rattle.std.specs.List.{AllPairs}
 use Rattle.std.proofs.lemmas.Bool.Decides.{nat_tests}
-use Rattle.std.proofs.lemmas.List.{get_or-set_other, get_or-set_same, get_or-drop, length-drop, set-get_or, append-nil, length-append}
+use Rattle.std.proofs.lemmas.List.{get_or-drop, length-drop, set-get_or, append-nil, length-append}
 use Rattle.std.proofs.lemmas.List.Elements.{All-nil, All-cons, All-head, All-tail, All-push, All-weaker, All-drop}
 use Rattle.std.proofs.lemmas.List.Quantifiers.{all_pairs_push}
 use Rattle.t32_base.specs.declared.letter.Arrived.{Arrived}
-use Rattle.t32_base.specs.declared.process.EndState.{EndState}
-use Rattle.proc_state.specs.Ends.{is_linked_at}
-use Rattle.proc_state.specs.Mail.{end_of, is_on, is_on_linked, without_first}
+use Rattle.proc_state.specs.Mail.{end_of, is_on, without_first}
 use Rattle.proc_state.specs.Queues.{queue_of, put_by_number, put_each, in_order, IsOn, IsBefore, DiffersFrom, IsBelow, AreQueues, IsMailbox, SameQueues, PutsLast}
 
 -- ---- one letter put by its number
@@ -201,10 +199,10 @@ longer_apart : (old new : List (List Arrived)) (e : ℕ) (a : Arrived) → AreLo
 longer_apart old new e a longer q d f other =
     longer_queue (λ xs. AreApart xs (queue_of new f)) old new e a longer d
     (longer_queue (AreApart (queue_of old d)) old new e a longer f (q.apart d f other)
-      (λ is. apart_behind a (queue_of old d) (queue_of old f) (q.apart d f other) (q.below d)))
+    (λ is. apart_behind a (queue_of old d) (queue_of old f) (q.apart d f other) (q.below d)))
     (λ here. longer_queue (AreApart (queue_of old d ++ a ∷ [])) old new e a longer f
-      (All-push (λ x. All (DiffersFrom x) (queue_of old f)) (queue_of old d) a (q.apart d f other) (differs_below a (queue_of old f) (q.below f)))
-      (λ there. absurd (other (here ∙ sym there))))
+    (All-push (λ x. All (DiffersFrom x) (queue_of old f)) (queue_of old d) a (q.apart d f other) (differs_below a (queue_of old f) (q.below f)))
+    (λ there. absurd (other (here ∙ sym there))))
 
 -- a letter with the greatest number is put last in the queue of its end
 pub longer_queues : (old new : List (List Arrived)) (e : ℕ) (a : Arrived) → AreLonger old new e a → IsOn e a → AreQueues old a.number → AreQueues new (a.number + 1)
@@ -307,10 +305,10 @@ in_order-taken : (queues : List (List Arrived)) (next e : ℕ) (a : Arrived) (re
 in_order-taken queues next e a rest q is =
     let rising : AllPairs IsBefore (a ∷ rest) = subst (AllPairs IsBefore) is (q.rising e) in
     let others : (d : ℕ) → d ≢ e → All (DiffersFrom a) (queue_of queues d) = λ d other.
-        All-head (λ x. All (DiffersFrom x) (queue_of queues d)) a rest (subst (λ xs. AreApart xs (queue_of queues d)) is (q.apart e d (λ same. other (sym same)))) in
+    All-head (λ x. All (DiffersFrom x) (queue_of queues d)) a rest (subst (λ xs. AreApart xs (queue_of queues d)) is (q.apart e d (λ same. other (sym same)))) in
     ap in_order (sym (same_written queues e (a ∷ rest) (sym is)))
     ∙ in_order-with a [] rest queues e (queue_within queues e a rest is)
-      (Each-set (DiffersFrom a) rest queues e others (differs_rest a rest (pairs_head a rest rising)))
+    (Each-set (DiffersFrom a) rest queues e others (differs_rest a rest (pairs_head a rest rising)))
 
 -- the letter a is the first of its queue, and no letter of another of these ends has a smaller number
 pub record IsFirst (ends : ℕ → Bool) (queues : List (List Arrived)) (e : ℕ) (a : Arrived) (rest : List Arrived) : Type 0 where
@@ -330,7 +328,7 @@ later_taken ends queues next e a rest q first =
     let rising : AllPairs IsBefore (a ∷ rest) = subst (AllPairs IsBefore) first.is (q.rising e) in
     All-in_order (PassesLater (is_for ends) a) (set queues e rest)
     (Each-set (PassesLater (is_for ends) a) rest queues e (later_others ends queues next e a rest q first)
-      (All-weaker (IsBefore a) (PassesLater (is_for ends) a) (λ b less. λ passes. less) rest (pairs_head a rest rising)))
+    (All-weaker (IsBefore a) (PassesLater (is_for ends) a) (λ b less. λ passes. less) rest (pairs_head a rest rising)))
 
 first_passes : (ends : ℕ → Bool) (queues : List (List Arrived)) (next e : ℕ) (a : Arrived) (rest : List Arrived) → AreQueues queues next → IsFirst ends queues e a rest
     → is_for ends a ≡ true
@@ -365,12 +363,14 @@ pub IsMailbox-taken : (queues : List (List Arrived)) (unread next e : ℕ) (a : 
 IsMailbox-taken queues unread next e a rest is m =
     let left : List (List Arrived) = set queues e rest in
     let same : set queues e (drop 1 (queue_of queues e)) ≡ left = ap (λ queue. set queues e (drop 1 queue)) is in
-    let fewer : length (in_order queues) ≡ length (in_order left) + 1 = ap length (in_order-taken queues next e a rest m.sorted is) ∙ length-put a (in_order left) in
-    (omega (arith, m.counted), record {
-      sorted = subst (λ qs. AreQueues qs next) same (shorter_queues queues (set queues e (drop 1 (queue_of queues e))) next (shorter_by_first queues e) m.sorted);
-      counted = omega (arith, m.counted);
-      few = omega (arith, m.few);
-    })
+    let fewer : length (in_order queues) ≡ length (in_order left) + 1 = ap length (in_order-taken queues next e a rest m.sorted is) ∙ length-put a (in_order left) in (
+      omega (arith, m.counted),
+      record {
+        sorted = subst (λ qs. AreQueues qs next) same (shorter_queues queues (set queues e (drop 1 (queue_of queues e))) next (shorter_by_first queues e) m.sorted);
+        counted = omega (arith, m.counted);
+        few = omega (arith, m.few);
+      },
+    )
 
 -- ---- one end
 

@@ -1,7 +1,6 @@
 -- A mailbox: the letters that have arrived and were not read, in order of arrival.
 use Rattle.std.specs.Prelude.{ℕ, Bool, true, false, if◌then◌else◌, ◌==◌, List, [], ◌∷◌, find, Option, Some, None, option_and_then}
 use Rattle.t32_base.specs.declared.letter.Arrived.{Arrived}
-use Rattle.t32_base.specs.declared.letter.Letter.{Letter}
 use Rattle.t32_base.specs.declared.letter.To.{To}
 use Rattle.t32_base.specs.declared.letter.To.TheVariants.{Proc, Tty}
 use Rattle.t32_base.specs.declared.letter.Body.{Body}

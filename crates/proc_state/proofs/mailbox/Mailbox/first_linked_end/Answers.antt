@@ -1,6 +1,5 @@
-use Rattle.std.proofs.Common.{Option, None, Some, MatchOption, find, option_map, ap, sym, ◌∙◌}
+use Rattle.std.proofs.Common.{find, option_map, ap, ◌∙◌}
 use Rattle.proc_state.specs.Mail.{MailState, is_on_linked}
-use Rattle.proc_state.specs.Queues.{waiting, IsEarliest}
 use Rattle.proc_state.proofs.LinkedLaws.{linked_end, end_of_letter}
 use Rattle.proc_state.proofs.mailbox.Mailbox.first_linked_end.Goals as goal
 

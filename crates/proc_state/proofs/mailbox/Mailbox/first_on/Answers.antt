@@ -2,7 +2,6 @@ use Rattle.std.proofs.Common.{sym, ap, ◌∙◌, find, slice_get}
 use Rattle.proc_state.specs.Mail.{MailState, is_on}
 use Rattle.proc_state.specs.Queues.{queue_of}
 use Rattle.proc_state.proofs.QueueLaws.{find-on}
-use Rattle.proc_state.proofs.LinkedLaws.{none_found}
 use Rattle.proc_state.proofs.mailbox.Mailbox.first_on.Goals as goal
 
 pub returns : goal.returns

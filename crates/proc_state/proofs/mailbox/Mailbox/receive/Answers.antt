@@ -1,5 +1,4 @@
 use Rattle.std.proofs.Common.{◌++◌, [], ◌∷◌, ◌+◌, sym, ap, ◌∙◌, eq-eqb}
-use Rattle.t32_base.specs.declared.letter.Arrived.{Arrived}
 use Rattle.proc_state.specs.Mail.{MailState, end_of}
 use Rattle.proc_state.specs.Queues.{IsOn}
 use Rattle.proc_state.proofs.QueueLaws.{in_order-put, IsMailbox-put}

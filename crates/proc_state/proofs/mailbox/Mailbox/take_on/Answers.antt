@@ -1,6 +1,6 @@
-use Rattle.std.proofs.Common.{subst, sym, ap, ◌∙◌, refl, ◌-◌, slice_get, find}
+use Rattle.std.proofs.Common.{sym, ap, ◌∙◌, find}
 use Rattle.proc_state.specs.Mail.{MailState, is_on, without_first}
-use Rattle.proc_state.specs.Queues.{queue_of, in_order, IsMailbox}
+use Rattle.proc_state.specs.Queues.{in_order}
 use Rattle.proc_state.proofs.QueueLaws.{find-on, without_first-on, some_taken, none_taken}
 use Rattle.proc_state.proofs.mailbox.Mailbox.take_on.Goals as goal
 
