@@ -1,4 +1,5 @@
 //! A process and its mailbox.
 #![tactic(auto)]
 
+pub mod mailbox;
 pub mod process;
