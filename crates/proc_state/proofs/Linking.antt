@@ -1,5 +1,5 @@
 -- An end that is linked leaves as many steps.
-use Rattle.std.proofs.Common.{◌≡◌, ℕ, ◌+◌, ◌<◌, Bool, true, false, List, length, get_or, arith, refl, cond, position, unwrap_or, Option, Some, None}
+use Rattle.std.proofs.Common.{◌≡◌, ℕ, ◌<◌, true, false, List, length, get_or, arith, refl, cond, position, unwrap_or, Option, Some, None}
 use Rattle.std.specs.List.{count_by}
 use Rattle.std.specs.Prelude.{slice_set}
 use Rattle.std.proofs.lemmas.List.Sums.{sum_by-set}

@@ -1,5 +1,5 @@
 -- The ends of a process.
-use Rattle.std.specs.Prelude.{ℕ, Bool, true, false, List, Option, Some, None, slice_get, slice_set, position, unwrap_or}
+use Rattle.std.specs.Prelude.{ℕ, Bool, true, false, List, Option, Some, None, slice_get, slice_set, position, option_and_then, is_some, unwrap_or}
 use Rattle.std.specs.Option.{option_map_or}
 use Rattle.t32_base.specs.declared.process.EndState.{EndState}
 use Rattle.t32_base.specs.declared.process.EndState.TheVariants.{Never, Tty, Linked, Shut}
@@ -39,6 +39,18 @@ leads_to Never = None
 leads_to (Tty t) = Some (ToTty t)
 leads_to (Linked peer far finished) = Some (Proc peer far)
 leads_to Shut = None
+
+-- where end i leads, if there is such an end and it is open
+abbrev pub leads_at : List EndState → ℕ → Option To
+leads_at ends i = option_and_then leads_to (slice_get ends i)
+
+-- end i is open
+abbrev pub is_open_at : List EndState → ℕ → Bool
+is_open_at ends i = is_some (leads_at ends i)
+
+-- end i is finished
+abbrev pub is_finished_at : List EndState → ℕ → Bool
+is_finished_at ends i = option_map_or is_finished (slice_get ends i) false
 
 -- end i is linked
 abbrev pub is_linked_at : List EndState → ℕ → Bool

@@ -2,7 +2,6 @@
 use Rattle.std.specs.Prelude.{ℕ, Bool, true, false, ◌==◌, if◌then◌else◌, List, [], ◌∷◌, find, Option, Some, None, option_and_then}
 use Rattle.t32_base.specs.declared.process.EndState.{EndState}
 use Rattle.t32_base.specs.declared.letter.Arrived.{Arrived}
-use Rattle.t32_base.specs.declared.letter.Letter.{Letter}
 use Rattle.t32_base.specs.declared.letter.To.{To}
 use Rattle.t32_base.specs.declared.letter.To.TheVariants.{Proc, Tty}
 use Rattle.t32_base.specs.declared.letter.Body.{Body}

@@ -1,4 +1,4 @@
-use Rattle.std.proofs.Common.{◌≡◌, ◌∙◌, ap, sym, position, find, Some, None}
+use Rattle.std.proofs.Common.{◌≡◌, ◌∙◌, ap, sym, position, Some, None}
 use Rattle.proc_state.specs.Mail.{is_on_linked}
 use Rattle.proc_state.proofs.Places.{found_at, found_nowhere}
 use Rattle.proc_state.proofs.mailbox.Mailbox.first_linked.Goals as goal

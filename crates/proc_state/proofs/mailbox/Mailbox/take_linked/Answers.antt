@@ -1,5 +1,5 @@
-use Rattle.std.proofs.Common.{◌≡◌, ◌∙◌, ap, sym, position, find, Some, None}
-use Rattle.proc_state.specs.Mail.{MailState, is_on_linked}
+use Rattle.std.proofs.Common.{◌≡◌, ◌∙◌, ap, sym, position, Some, None}
+use Rattle.proc_state.specs.Mail.{is_on_linked}
 use Rattle.proc_state.proofs.Places.{found_at, found_nowhere, left_at, left_whole}
 use Rattle.proc_state.proofs.mailbox.Mailbox.take_linked.Goals as goal
 
