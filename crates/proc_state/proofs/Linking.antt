@@ -32,8 +32,7 @@ within : (ends : List EndState) (o : Option ℕ) → position is_never ends ≡ 
 within ends None is below = absurd (omega arith)
 within ends (Some e) is below = (position-Some is_never ends e Shut is).0
 
-pub linked_as_many : (left : ℕ) (ends : List EndState) (status : Status) (e : ℕ) (peer : Pid) (far : ℕ) → e ≡ free_end ends → free_end ends < 32
-    → steps_left left (slice_set ends e (Linked peer far false)) status ≡ steps_left left ends status
-linked_as_many left ends status e peer far is below =
-    let many = as_many ends (free_end ends) (Linked peer far false) (within ends (position is_never ends) refl below) (free_place ends (position is_never ends) refl below) refl in
-    rw is (omega (arith, many))
+pub linked_as_many : (ends : List EndState) (e : ℕ) (peer : Pid) (far : ℕ) → e ≡ free_end ends → free_end ends < 32
+    → count_by is_unshut (slice_set ends e (Linked peer far false)) ≡ count_by is_unshut ends
+linked_as_many ends e peer far is below =
+    rw is (as_many ends (free_end ends) (Linked peer far false) (within ends (position is_never ends) refl below) (free_place ends (position is_never ends) refl below) refl)

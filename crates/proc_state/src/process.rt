@@ -1,5 +1,5 @@
 //! A process as a kernel runs it.
-ghost use Rattle.std.specs.Prelude.{◌≡◌, ◌*◌, ◌≤◌, ◌+◌, ◌-◌, ◌^◌, ◌<◌, length, slice_set, position, IfOk, OnOk, OnErr, [], replicate, false};
+ghost use Rattle.std.specs.Prelude.{◌≡◌, ◌*◌, ◌≤◌, ◌+◌, ◌-◌, ◌^◌, ◌<◌, length, slice_set, position, count_by, IfOk, OnOk, OnErr, [], replicate, false};
 
 use crate::mailbox::Mailbox;
 use rv_mem::{BASE, Ram};
@@ -77,9 +77,9 @@ impl Process {
         lowest_never(&self.small.ends)
     }
 
-    /// Links the lowest end that was never linked to the end `far` of a peer, and answers its number.
+    /// Links the lowest end that was never linked to the end `far` of a peer, and answers its number. Where
+    /// there is none, nothing is linked and 32 is the answer.
     pub fn link(&mut self, peer: Pid, far: u8) -> u8
-        requires { free_end self.old.small.ends < 32 }
         ensures number { result ≡ free_end self.old.small.ends }
         ensures linked { state_of self.new ≡ linked_to (state_of self.old) peer far }
         ensures rest { SameRest self.old self.new }
@@ -128,7 +128,7 @@ fn first_small(pid: Pid, pages: u16, limit: u32, births: u8, tty: u8) -> Small
     }
 }
 
-ghost use Rattle.t32_base.specs.Small.{steps_left};
+ghost use Rattle.t32_base.specs.Small.{is_unshut, steps_left};
 ghost use Rattle.proc_state.specs.Ends.{free_end, is_never};
 
 // The lowest end that was never linked; 32 where there is none.
@@ -148,18 +148,28 @@ fn never_linked(ends: &[EndState; 32]) -> Option<usize>
     ends.iter().position(|end| matches!(end, EndState::Never))
 }
 
-// Links the lowest end that was never linked, which leaves as many steps.
+// Links the lowest end that was never linked, if there is one, which leaves as many steps.
 fn link_lowest(small: &mut Small, peer: Pid, far: u8) -> u8
-    requires { free_end small.old.ends < 32 }
     ensures number { result ≡ free_end small.old.ends }
     ensures linked { small.new ≡ record small.old { ends = slice_set small.old.ends result (EndState.Linked peer far false) } }
     ensures load { steps_left small.new.left small.new.ends small.new.status ≡ steps_left small.old.left small.old.ends small.old.status }
 {
     let number = lowest_never(&small.ends);
-    small.ends[usize::from(number)] = EndState::Linked {
-        peer,
-        far,
-        finished: false,
-    };
+    link_at(&mut small.ends, number, peer, far);
     number
+}
+
+// Links the end with a number, if there is one.
+fn link_at(ends: &mut [EndState; 32], number: u8, peer: Pid, far: u8)
+    requires { number ≡ free_end ends.old }
+    ensures linked { ends.new ≡ slice_set ends.old number (EndState.Linked peer far false) }
+    ensures unshut { count_by is_unshut ends.new ≡ count_by is_unshut ends.old }
+{
+    if number < 32 {
+        ends[usize::from(number)] = EndState::Linked {
+            peer,
+            far,
+            finished: false,
+        };
+    }
 }
