@@ -1,5 +1,6 @@
 -- The ends of a process.
-use Rattle.std.specs.Prelude.{Bool, true, false, Option, Some, None}
+use Rattle.std.specs.Prelude.{ℕ, Bool, true, false, List, Option, Some, None, slice_get, slice_set, position, option_and_then, is_some, unwrap_or}
+use Rattle.std.specs.Option.{option_map_or}
 use Rattle.t32_base.specs.declared.process.EndState.{EndState}
 use Rattle.t32_base.specs.declared.process.EndState.TheVariants.{Never, Tty, Linked, Shut}
 use Rattle.t32_base.specs.declared.letter.To.{To}
@@ -17,9 +18,55 @@ is_linked (Tty t) = false
 is_linked (Linked peer far finished) = true
 is_linked Shut = false
 
+-- linked, and its end letter was read
+abbrev pub is_finished : EndState → Bool
+is_finished Never = false
+is_finished (Tty t) = false
+is_finished (Linked peer far finished) = finished
+is_finished Shut = false
+
+-- linked, and no end letter was read
+abbrev pub is_unfinished : EndState → Bool
+is_unfinished Never = false
+is_unfinished (Tty t) = false
+is_unfinished (Linked peer far true) = false
+is_unfinished (Linked peer far false) = true
+is_unfinished Shut = false
+
 -- where an end leads: an open one to a terminal or to the peer's end, any other nowhere
 abbrev pub leads_to : EndState → Option To
 leads_to Never = None
 leads_to (Tty t) = Some (ToTty t)
 leads_to (Linked peer far finished) = Some (Proc peer far)
 leads_to Shut = None
+
+-- where end i leads, if there is such an end and it is open
+abbrev pub leads_at : List EndState → ℕ → Option To
+leads_at ends i = option_and_then leads_to (slice_get ends i)
+
+-- end i is open
+abbrev pub is_open_at : List EndState → ℕ → Bool
+is_open_at ends i = is_some (leads_at ends i)
+
+-- end i is finished
+abbrev pub is_finished_at : List EndState → ℕ → Bool
+is_finished_at ends i = option_map_or is_finished (slice_get ends i) false
+
+-- end i is linked
+abbrev pub is_linked_at : List EndState → ℕ → Bool
+is_linked_at ends i = option_map_or is_linked (slice_get ends i) false
+
+-- the end letter of an end was read
+abbrev pub finished_end : EndState → EndState
+finished_end Never = Never
+finished_end (Tty t) = Tty t
+finished_end (Linked peer far finished) = Linked peer far true
+finished_end Shut = Shut
+
+-- the end letter of end i was read
+abbrev pub finished_at : List EndState → ℕ → List EndState
+finished_at ends i = option_map_or (λ end. slice_set ends i (finished_end end)) (slice_get ends i) ends
+
+-- the lowest end that was never linked; 32 where there is none
+abbrev pub free_end : List EndState → ℕ
+free_end ends = unwrap_or (position is_never ends) 32

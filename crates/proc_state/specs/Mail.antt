@@ -1,9 +1,30 @@
 -- A mailbox: the letters that have arrived and were not read, in order of arrival.
-use Rattle.std.specs.Prelude.{ℕ, Bool, true, false, if◌then◌else◌, List, [], ◌∷◌, find, Option, Some, None, option_and_then}
+use Rattle.std.specs.Prelude.{ℕ, Bool, true, false, ◌==◌, if◌then◌else◌, List, [], ◌∷◌, find, Option, Some, None, option_and_then}
+use Rattle.t32_base.specs.declared.process.EndState.{EndState}
 use Rattle.t32_base.specs.declared.letter.Arrived.{Arrived}
-use Rattle.t32_base.specs.declared.letter.Letter.{Letter}
+use Rattle.t32_base.specs.declared.letter.To.{To}
+use Rattle.t32_base.specs.declared.letter.To.TheVariants.{Proc, Tty}
 use Rattle.t32_base.specs.declared.letter.Body.{Body}
 use Rattle.t32_base.specs.declared.letter.Body.TheVariants.{Said, EndOf, Signal}
+use Rattle.proc_state.specs.Ends.{is_linked_at}
+
+-- the letters that have arrived and were not read, in order of arrival, and how many have arrived
+pub record MailState : Type 0 where
+  pub letters : List Arrived
+  pub next : ℕ
+
+-- the end to which a letter goes; 0 for a terminal
+abbrev pub end_of : To → ℕ
+end_of (Proc peer end) = end
+end_of (Tty t) = 0
+
+-- a letter for the end e
+abbrev pub is_on : ℕ → Arrived → Bool
+is_on e a = end_of (a.letter).to == e
+
+-- a letter for an end that is linked
+abbrev pub is_on_linked : List EndState → Arrived → Bool
+is_on_linked ends a = is_linked_at ends (end_of (a.letter).to)
 
 -- the number of the signal that a letter carries
 abbrev pub signal_of : Body → Option ℕ

@@ -1,28 +1,29 @@
 //! A process as a kernel runs it.
-ghost use Rattle.std.specs.Prelude.{◌≡◌, ◌*◌, ◌≤◌, ◌+◌, ◌-◌, ◌^◌, ◌<◌, length, IfOk, OnOk, OnErr, [], replicate, false};
+ghost use Rattle.std.specs.Prelude.{◌≡◌, ◌*◌, ◌≤◌, ◌+◌, ◌-◌, ◌^◌, ◌<◌, length, slice_set, position, count_by, IfOk, OnOk, OnErr, [], replicate, false};
 
+use crate::mailbox::Mailbox;
 use rv_mem::{BASE, Ram};
 use std::alloc::Global;
-use t32_base::letter::{Arrived, Letter};
+use t32_base::letter::Letter;
 use t32_base::lists::List;
 use t32_base::process::{EndState, Pid, Regs, Small, Status};
 use t32_base::streams::NoMemory;
 
-/// A process: its state, its memory, the letters that arrived and were not read, in order of arrival, the
-/// number of letters that have arrived, the arrival numbers of the letters read since its last
+/// A process: its state, its memory, its mailbox, the arrival numbers of the letters read since its last
 /// synchronisation, and its count of steps then.
 #[derive(Drop)]
 pub struct Process {
     pub small: Small,
     pub ram: Ram,
-    pub mail: List<Arrived>,
-    pub next: u64,
+    pub mail: Mailbox,
     pub read: List<u64>,
     pub since: u64,
 }
 
 impl Process {
-    ghost use Rattle.proc_state.specs.State.{state_of, root_state, delivered, SameRest};
+    ghost use Rattle.t32_base.specs.Small.{steps_left};
+    ghost use Rattle.proc_state.specs.Ends.{free_end};
+    ghost use Rattle.proc_state.specs.State.{state_of, root_state, delivered, linked_to, SameRest};
 
     /// A root at its start. Its memory has `pages` pages of 256 bytes and begins with the image, which
     /// fits it; the rest is zero, and no page is dirty. It may execute `limit` instructions and fork
@@ -52,8 +53,7 @@ impl Process {
         Ok(Process {
             small,
             ram,
-            mail: List::new(alloc),
-            next: 0,
+            mail: Mailbox::new(alloc),
             read: List::new(alloc),
             since: 0,
         })
@@ -62,17 +62,44 @@ impl Process {
     /// A letter arrives: it is put last in the mailbox, with the number `next`, which is then one more.
     /// After want of memory the process is as it was, and the letter is dropped.
     pub fn deliver(&mut self, letter: Letter) -> Result<(), NoMemory>
-        requires { self.old.next < 2 ^ 64 - 1 }
+        requires { self.old.mail.next < 2 ^ 64 - 1 }
         ensures ok { OnOk result (state_of self.new ≡ delivered (state_of self.old) letter) }
         ensures rest { SameRest self.old self.new }
         ensures err { OnErr result (self.new ≡ self.old) }
     {
-        self.mail.push(Arrived {
-            number: self.next,
-            letter,
-        })?;
-        self.next += 1;
-        Ok(())
+        self.mail.receive(letter)
+    }
+
+    /// The lowest end that was never linked; 32 where there is none.
+    pub fn free_end(&self) -> u8
+        ensures { result ≡ free_end self.now.small.ends }
+    {
+        lowest_never(&self.small.ends)
+    }
+
+    /// Links the lowest end that was never linked to the end `far` of a peer, and answers its number. Where
+    /// there is none, nothing is linked and 32 is the answer.
+    pub fn link(&mut self, peer: Pid, far: u8) -> u8
+        ensures number { result ≡ free_end self.old.small.ends }
+        ensures linked { state_of self.new ≡ linked_to (state_of self.old) peer far }
+        ensures rest { SameRest self.old self.new }
+        ensures load { steps_left self.new.small.left self.new.small.ends self.new.small.status ≡ steps_left self.old.small.left self.old.small.ends self.old.small.status }
+    {
+        link_lowest(&mut self.small, peer, far)
+    }
+
+    /// The process is synchronised: no letter was read and no page changed since, and its count of steps
+    /// then is the one now.
+    pub fn synced(&mut self)
+        ensures { self.new ≡ record self.old {
+          ram = record (self.old.ram) { dirty = replicate (length self.old.ram.dirty) false };
+          read = [];
+          since = self.old.small.steps;
+        } }
+    {
+        self.read = List::new(self.read.allocator());
+        self.ram.clear_dirty();
+        self.since = self.small.steps;
     }
 }
 
@@ -98,5 +125,51 @@ fn first_small(pid: Pid, pages: u16, limit: u32, births: u8, tty: u8) -> Small
         births,
         status: Status::Live,
         pages,
+    }
+}
+
+ghost use Rattle.t32_base.specs.Small.{is_unshut, steps_left};
+ghost use Rattle.proc_state.specs.Ends.{free_end, is_never};
+
+// The lowest end that was never linked; 32 where there is none.
+fn lowest_never(ends: &[EndState; 32]) -> u8
+    ensures { result ≡ free_end ends.now }
+{
+    match never_linked(ends) {
+        Some(number) => number as u8,
+        None => 32,
+    }
+}
+
+// The first end that was never linked.
+fn never_linked(ends: &[EndState; 32]) -> Option<usize>
+    ensures { result ≡ position is_never ends.now }
+{
+    ends.iter().position(|end| matches!(end, EndState::Never))
+}
+
+// Links the lowest end that was never linked, if there is one, which leaves as many steps.
+fn link_lowest(small: &mut Small, peer: Pid, far: u8) -> u8
+    ensures number { result ≡ free_end small.old.ends }
+    ensures linked { small.new ≡ record small.old { ends = slice_set small.old.ends result (EndState.Linked peer far false) } }
+    ensures load { steps_left small.new.left small.new.ends small.new.status ≡ steps_left small.old.left small.old.ends small.old.status }
+{
+    let number = lowest_never(&small.ends);
+    link_at(&mut small.ends, number, peer, far);
+    number
+}
+
+// Links the end with a number, if there is one.
+fn link_at(ends: &mut [EndState; 32], number: u8, peer: Pid, far: u8)
+    requires { number ≡ free_end ends.old }
+    ensures linked { ends.new ≡ slice_set ends.old number (EndState.Linked peer far false) }
+    ensures unshut { count_by is_unshut ends.new ≡ count_by is_unshut ends.old }
+{
+    if number < 32 {
+        ends[usize::from(number)] = EndState::Linked {
+            peer,
+            far,
+            finished: false,
+        };
     }
 }

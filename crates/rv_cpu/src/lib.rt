@@ -9,7 +9,7 @@ ghost use Rattle.std.specs.Int.{w32, cast_unsigned, cast_signed};
 ghost use Rattle.rv_insn.specs.Encoding.{IsEncodable};
 ghost use Rattle.rv_insn.specs.Word.{sign_extended};
 ghost use Rattle.rv_mem.specs.Memory.{IsWidth};
-ghost use Rattle.rv_cpu.specs.Exec.{Executed, branches, bytes_after, did_of, exec, exec_marks, executed, fetched, jumps, loads, marks_after, marks_stored, onward, plus, reg, regs_after, set_reg, signed, stores, widened, word};
+ghost use Rattle.rv_cpu.specs.Exec.{Executed, branches, bytes_after, did_of, exec, exec_marks, executed, fetched, is_call, is_ecall, jumps, loads, marks_after, marks_stored, onward, plus, reg, regs_after, set_reg, signed, stores, widened, word};
 ghost use Rattle.rv_cpu.specs.Run.{machine_of, one, ran};
 
 use crate::registers::{advance, read, write};
@@ -66,6 +66,23 @@ pub fn run(regs: &mut Regs, ram: &mut Ram, most: u32) -> u32
         }
     }
     most
+}
+
+/// Whether the instruction at `pc` is a system call, `ECALL`. Takes no memory.
+pub fn calls_next(regs: &Regs, ram: &Ram) -> bool
+    ensures { result ≡ is_call (exec regs.now ram.now.bytes) }
+{
+    match fetch(regs, ram) {
+        Some(word) => is_ecall(decode(word)),
+        None => false,
+    }
+}
+
+// Whether a word was decoded as the system call.
+fn is_ecall(insn: Option<Insn>) -> bool
+    ensures { result ≡ is_ecall insn }
+{
+    matches!(insn, Some(Insn::Ecall))
 }
 
 // The word at `pc`, if it lies in memory.

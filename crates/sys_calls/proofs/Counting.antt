@@ -1,19 +1,25 @@
 -- What each step counts, whose letter it sends, and which step is the last of a process.
-use Rattle.std.proofs.Common.{◌≡◌, ℕ, zero, suc, ◌+◌, refl, sym, ◌∙◌, ap, subst, arith, Bool, true, false, cond, eqb, ltb, not, Option, Some, None, option_and_then, slice_get, unwrap_or, true≢false, add-zero}
+use Rattle.std.proofs.Common.{◌≡◌, ℕ, zero, suc, ◌+◌, refl, sym, ◌∙◌, ap, subst, arith, Bool, true, false, cond, eqb, ltb, not, Option, Some, None, option_and_then, unwrap_or, true≢false, add-zero}
 use Rattle.t32_base.specs.declared.process.End.{End}
 use Rattle.t32_base.specs.declared.process.Status.{Status}
 use Rattle.t32_base.specs.declared.process.Status.TheVariants.{Live, Closing, Ended}
 use Rattle.t32_base.specs.declared.letter.Letter.{Letter}
 use Rattle.t32_base.specs.declared.letter.Body.TheVariants.{Said}
+use Rattle.t32_base.specs.declared.letter.Arrived.{Arrived}
 use Rattle.t32_base.specs.declared.letter.To.{To}
+use Rattle.t32_base.specs.declared.letter.To.TheVariants.{Proc, Tty}
 use Rattle.rv_mem.specs.Memory.{is_inside, bytes_at}
 use Rattle.rv_cpu.specs.Exec.{Executed, Steps, Calls, Traps, exec, reg}
-use Rattle.proc_state.specs.Ends.{leads_to}
+use Rattle.proc_state.specs.Ends.{leads_at}
 use Rattle.proc_state.specs.State.{ProcState, with_small, has_ended}
 use Rattle.sys_calls.specs.Small.{spent, lowest_linked}
 use Rattle.sys_calls.specs.declared.steps.Emission.{Emission}
 use Rattle.sys_calls.specs.declared.steps.Emission.TheVariants.{Mail, Exit}
-use Rattle.sys_calls.specs.Calls.{Next, Silent, Blocked, Forks, Emits, Over, Call, ExitCall, Write, GetPid, Unknown, arg, answers, refused, letter_to, called, call_of, write_to}
+use Rattle.sys_calls.specs.Calls.{Next, Silent, Blocked, Forks, Emits, Over, Call, ExitCall, Write, Read, ReadAny, GetPid, Close, Unknown, arg, answers, refused, letter_to, called, call_of, close_to, first_wanted, read_any_checked, read_call, read_checked, read_found, write_to}
+use Rattle.sys_calls.specs.declared.reading.Reading.{Reading}
+use Rattle.sys_calls.specs.declared.reading.Reading.TheVariants.{Refused, AtEnd, Wants}
+use Rattle.sys_calls.specs.declared.reading.Wanted.{Wanted}
+use Rattle.sys_calls.specs.declared.reading.Wanted.TheVariants.{On, AnyLinked}
 use Rattle.sys_calls.specs.Next.{next_step, step_by, live_step, after_exec, closing_step, silent_of, silently, emission_of, last_emission}
 
 -- one step was counted, and the process is the same
@@ -53,9 +59,27 @@ module _ (s p : ProcState) (one : CountsOne s p) (open_still : has_ended (p.smal
   written e ptr len None = (record { steps = one.steps; pid = one.pid }, open_still)
   written e ptr len (Some to) = written_short e ptr len to (ltb 256 len) (not (is_inside p.memory ptr len)) (eqb len 0)
 
+  closed_to : (e : ℕ) (to : Option To) → Counts s (close_to p e to)
+  closed_to e None = (record { steps = one.steps; pid = one.pid }, open_still)
+  closed_to e (Some (Tty t)) = (record { steps = one.steps; pid = one.pid }, open_still)
+  closed_to e (Some (Proc peer far)) = (record { steps = one.steps; pid = one.pid }, (one.pid, open_still))
+
+  found : (wanted : Wanted) (ptr room : ℕ) (o : Option Arrived) → Counts s (read_found p wanted ptr room o)
+  found wanted ptr room None = tt
+  found (On e) ptr room (Some a) = (record { steps = one.steps; pid = one.pid }, open_still)
+  found AnyLinked ptr room (Some a) = (record { steps = one.steps; pid = one.pid }, open_still)
+
+  read : (reading : Reading) → Counts s (read_call p reading)
+  read (Refused error) = (record { steps = one.steps; pid = one.pid }, open_still)
+  read AtEnd = (record { steps = one.steps; pid = one.pid }, open_still)
+  read (Wants wanted ptr room) = found wanted ptr room (first_wanted p wanted)
+
   called_counts : (c : Call) → Counts s (called c p)
   called_counts ExitCall = (record { steps = one.steps; pid = one.pid }, refl)
-  called_counts Write = written (arg p 0) (arg p 1) (arg p 2) (option_and_then leads_to (slice_get (p.small).ends (arg p 0)))
+  called_counts Write = written (arg p 0) (arg p 1) (arg p 2) (leads_at (p.small).ends (arg p 0))
+  called_counts Read = read (read_checked p)
+  called_counts ReadAny = read (read_any_checked p)
+  called_counts Close = closed_to (arg p 0) (leads_at (p.small).ends (arg p 0))
   called_counts GetPid = (record { steps = one.steps; pid = one.pid }, open_still)
   called_counts Unknown = (record { steps = one.steps; pid = one.pid }, open_still)
 

@@ -1,4 +1,6 @@
 mod Calling
 pub mod Running
+pub mod RunLemma
 mod Shutting
+mod Waiting
 pub mod Counting

@@ -8,7 +8,7 @@ use Rattle.rv_cpu.specs.Exec.{Executed, Steps, Calls, Traps, exec, exec_marks}
 use Rattle.rv_cpu.specs.Run.{Machine, stepped, one, ran}
 use Rattle.proc_state.specs.State.{ProcState, with_small}
 use Rattle.sys_calls.specs.Small.{spent, after_instructions}
-use Rattle.sys_calls.specs.Next.{Marked, next_step, step_by, live_step, after_exec, silent_of, silent_step, silently, silently_marked, step_marks, marks_by, marks_live}
+use Rattle.sys_calls.specs.Next.{Marked, next_step, step_by, live_step, after_exec, silent_of, silent_step, silently, silently_marked, step_marks, marks_by, marks_executed, marks_live}
 
 some_same : {X : Type 0} → (x y : X) → Some x ≡ Some y → x ≡ y
 some_same x y e = ap (λ o. unwrap_or o x) e
@@ -36,7 +36,7 @@ counted p n regs bytes =
 
 -- what a step leaves is a silent step of a process for which an instruction was spent
 by_outcome : (x : Executed) (n : ℕ) (p : ProcState) (m m' : Machine) (dirty : List Bool) → stepped x dirty ≡ Some m'
-    → option_map (λ (q : ProcState). let r : Marked = record { state = q; marks = dirty } in r) (silent_of (after_exec x (with_small (moved n p m) (spent (moved n p m).small)))) ≡ Some (moved_marked (suc n) p m')
+    → option_map (λ (q : ProcState). let r : Marked = record { state = q; marks = marks_executed x (moved n p m) dirty } in r) (silent_of (after_exec x (with_small (moved n p m) (spent (moved n p m).small)))) ≡ Some (moved_marked (suc n) p m')
 by_outcome (Steps regs bytes) n p m m' dirty e =
     let is : record { regs = regs; bytes = bytes; dirty = dirty } ≡ m' = some_same _ m' e in
     ap (λ q. Some (record { state = q; marks = dirty })) (counted p n regs bytes) ∙ ap (λ x. Some (moved_marked (suc n) p x)) is

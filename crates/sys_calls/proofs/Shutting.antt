@@ -1,5 +1,5 @@
 -- An end that is shut is one step less.
-use Rattle.std.proofs.Common.{◌≡◌, ℕ, ◌+◌, ◌<◌, true, List, length, get_or, arith, ◌∙◌, cond, add-zero, Option, Some}
+use Rattle.std.proofs.Common.{◌≡◌, ℕ, ◌+◌, ◌<◌, ◌≤◌, true, List, length, get_or, arith, ◌∙◌, cond, add-zero, Option, Some}
 use Rattle.std.specs.List.{count_by}
 use Rattle.std.specs.Prelude.{slice_set, IfSome}
 use Rattle.std.proofs.lemmas.List.Sums.{sum_by-set}
@@ -23,3 +23,9 @@ lighter left ends status found e to is within unshut =
     let open_there : is_unshut (get_or ends e Shut) ≡ true = rw is at unshut in
     let less = shut_less ends e here open_there in
     omega (arith, less)
+
+-- no more ends are unshut where one is shut
+pub no_more : (ends : List EndState) (e : ℕ) → e < length ends → count_by is_unshut (slice_set ends e Shut) ≤ count_by is_unshut ends
+no_more ends e within =
+    let whole = sum_by-set (λ (end : EndState). cond (is_unshut end) 1 0) ends e Shut Shut within in
+    omega (arith, whole)

@@ -1,12 +1,12 @@
 -- A fork: the parent after it, and the child.
-use Rattle.std.specs.Prelude.{position, ℕ, ◌-◌, ◌/◌, false, [], ◌∷◌, replicate, slice_get, Option, Some, None, option_and_then, unwrap_or}
+use Rattle.std.specs.Prelude.{ℕ, ◌-◌, ◌/◌, false, [], ◌∷◌, replicate, slice_get, Option, Some, None, option_and_then, unwrap_or}
 use Rattle.t32_base.specs.declared.process.Pid.{Pid}
 use Rattle.t32_base.specs.declared.process.Status.TheVariants.{Live}
 use Rattle.t32_base.specs.declared.process.EndState.TheVariants.{Never, Linked, Shut}
 use Rattle.t32_base.specs.Registers.{Registers}
 use Rattle.t32_base.specs.Small.{SmallState}
 use Rattle.rv_cpu.specs.Exec.{set_reg, onward}
-use Rattle.proc_state.specs.Ends.{is_never}
+use Rattle.proc_state.specs.Ends.{free_end}
 use Rattle.proc_state.specs.State.{ProcState, with_small}
 use Rattle.sys_calls.specs.Small.{spent, with_end}
 use Rattle.sys_calls.specs.Calls.{Next, Silent, Blocked, Forks, Emits, Over}
@@ -14,7 +14,7 @@ use Rattle.sys_calls.specs.Next.{next_step, silently}
 
 -- the lowest end that was never linked
 abbrev pub next_end : ProcState → ℕ
-next_end p = unwrap_or (position is_never (p.small).ends) 32
+next_end p = free_end (p.small).ends
 
 -- of the allowance f the child gets half of f - 1, rounded down, and the parent keeps the rest
 abbrev pub child_births : ℕ → ℕ

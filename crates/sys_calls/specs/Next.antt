@@ -4,6 +4,7 @@ use Rattle.t32_base.specs.declared.process.End.{End}
 use Rattle.t32_base.specs.declared.process.End.TheVariants.{Trap, Limit}
 use Rattle.t32_base.specs.declared.process.Status.{Status}
 use Rattle.t32_base.specs.declared.process.Status.TheVariants.{Live, Closing, Ended}
+use Rattle.t32_base.specs.declared.letter.Arrived.{Arrived}
 use Rattle.t32_base.specs.declared.letter.Body.TheVariants.{EndOf}
 use Rattle.t32_base.specs.declared.letter.To.{To}
 use Rattle.rv_cpu.specs.Exec.{Executed, Steps, Calls, Traps, exec, exec_marks, reg}
@@ -11,7 +12,7 @@ use Rattle.proc_state.specs.State.{ProcState, with_small}
 use Rattle.sys_calls.specs.Small.{stepped, spent, with_status, with_regs, lowest_linked, shut_at}
 use Rattle.sys_calls.specs.declared.steps.Emission.{Emission}
 use Rattle.sys_calls.specs.declared.steps.Emission.TheVariants.{Mail, Exit}
-use Rattle.sys_calls.specs.Calls.{Next, Silent, Blocked, Forks, Emits, Over, called, call_of, letter_to}
+use Rattle.sys_calls.specs.Calls.{Next, Silent, Blocked, Forks, Emits, Over, called, call_of, letter_called, letter_to, marks_called}
 
 -- a closing process sends an end letter on its lowest linked end, which is then shut; without one it sends its exit and has ended
 abbrev pub closing_step : Option (ℕ × To) → End → ProcState → Next
@@ -45,18 +46,52 @@ has_step Forks = true
 has_step (Emits e p) = true
 has_step Over = false
 
+abbrev pub is_blocked : Next → Bool
+is_blocked (Silent p) = false
+is_blocked Blocked = true
+is_blocked Forks = false
+is_blocked (Emits e p) = false
+is_blocked Over = false
+
+-- ---- the letter that a step takes
+
+abbrev pub letter_executed : Executed → ProcState → Option Arrived
+letter_executed (Steps regs bytes) p = None
+letter_executed (Traps code) p = None
+letter_executed Calls p = letter_called (call_of (reg (p.small).regs 17)) p
+
+abbrev pub letter_live : Bool → ProcState → Option Arrived
+letter_live true p = None
+letter_live false p = letter_executed (exec (p.small).regs p.memory) p
+
+abbrev pub letter_by : Status → ProcState → Option Arrived
+letter_by (Ended end) p = None
+letter_by (Closing end) p = None
+letter_by Live p = letter_live ((p.small).left == 0) p
+
+-- the letter that the next step takes out of the mailbox, if any
+abbrev pub letter_taken : ProcState → Option Arrived
+letter_taken p = letter_by (p.small).status p
+
 -- ---- the marks of the pages that a step changed
 
+-- the marks after a call's read, if the instruction is one
+abbrev pub marks_executed : Executed → ProcState → List Bool → List Bool
+marks_executed (Steps regs bytes) p dirty = dirty
+marks_executed (Traps code) p dirty = dirty
+marks_executed Calls p dirty = marks_called (call_of (reg (p.small).regs 17)) p dirty
+
+-- the instruction's store changes the marks, and then its read
 abbrev pub marks_live : Bool → ProcState → List Bool → List Bool
 marks_live true p dirty = dirty
-marks_live false p dirty = exec_marks (p.small).regs p.memory dirty
+marks_live false p dirty = marks_executed (exec (p.small).regs p.memory) p (exec_marks (p.small).regs p.memory dirty)
 
 abbrev pub marks_by : Status → ProcState → List Bool → List Bool
 marks_by (Ended end) p dirty = dirty
 marks_by (Closing end) p dirty = dirty
 marks_by Live p dirty = marks_live ((p.small).left == 0) p dirty
 
--- the marks after the next step: only an instruction that stores changes them
+-- the marks after the next step: only an instruction that stores, and a read, change them
 abbrev pub step_marks : ProcState → List Bool → List Bool
 step_marks p dirty = marks_by (p.small).status p dirty
 

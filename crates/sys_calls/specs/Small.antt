@@ -28,6 +28,9 @@ with_regs s regs = record s { regs = regs }
 abbrev pub with_end : SmallState → ℕ → EndState → SmallState
 with_end s i end = record s { ends = slice_set s.ends i end }
 
+abbrev pub with_ends : SmallState → List EndState → SmallState
+with_ends s ends = record s { ends = ends }
+
 -- what an instruction leaves: it is spent, unless it is a system call, which is yet to be made
 abbrev pub small_after : Executed → SmallState → SmallState
 small_after (Steps regs bytes) s = with_regs (spent s) regs
@@ -41,6 +44,10 @@ after_instructions n s regs = record s { regs = regs; left = s.left - n; steps =
 -- the answer of a call is in a0, and the pc goes on
 abbrev pub answered : SmallState → ℕ → SmallState
 answered s v = with_regs s (onward (set_reg s.regs 10 v))
+
+-- two answers, in a0 and a1
+abbrev pub both_answered : SmallState → ℕ → ℕ → SmallState
+both_answered s v w = with_regs s (onward (set_reg (set_reg s.regs 10 v) 11 w))
 
 -- the lowest linked end from number i on, and where it leads
 abbrev pub linked_from : ℕ → List EndState → Option (ℕ × To)

@@ -1,13 +1,16 @@
 -- What the call `step` answers, by the next step of its process.
-use Rattle.std.specs.Prelude.{◌≡◌, ◌+◌, ◌≤◌, List, Bool, Result, Ok, Err}
+use Rattle.std.specs.Prelude.{◌≡◌, ℕ, ◌+◌, ◌≤◌, List, [], ◌∷◌, ◌++◌, Bool, Option, Some, None, Result, Ok, Err}
+use Rattle.t32_base.specs.declared.letter.Arrived.{Arrived}
 use Rattle.t32_base.specs.Small.{SmallState}
 use Rattle.t32_base.specs.declared.streams.NoMemory.{NoMemory}
 use Rattle.proc_state.specs.declared.process.Process.{Process}
+use Rattle.proc_state.specs.Mail.{without_first}
 use Rattle.proc_state.specs.State.{ProcState, state_of}
 use Rattle.sys_calls.specs.declared.steps.Step.{Step}
 use Rattle.sys_calls.specs.declared.steps.Step.TheVariants.{Silent as WasSilent, Blocked as WasBlocked, Forks as WouldFork, Emit, Over as WasOver}
 use Rattle.sys_calls.specs.Small.{weight}
-use Rattle.sys_calls.specs.Calls.{Next, Silent, Blocked, Forks, Emits, Over}
+use Rattle.sys_calls.specs.declared.reading.Wanted.{Wanted}
+use Rattle.sys_calls.specs.Calls.{Next, Silent, Blocked, Forks, Emits, Over, first_wanted, is_wanted}
 use Rattle.sys_calls.specs.Next.{Marked}
 
 -- a process that a kernel runs, with the marks of its pages
@@ -23,10 +26,32 @@ Makes next (Ok (Emit e)) old new = next ≡ Emits e new
 Makes next (Ok WasOver) old new = (next ≡ Over) × (new ≡ old)
 Makes next (Err e) old new = new ≡ old
 
--- the letters read and the point of last synchronisation stay
-pub record SameCount (old new : Process) : Type 0 where
-  pub read : new.read ≡ old.read
+-- the number of a letter that is read is put last
+abbrev pub read_after : List ℕ → Option Arrived → List ℕ
+read_after read None = read
+read_after read (Some a) = read ++ a.number ∷ []
+
+-- the number of the letter that was taken is put last among those read, and the point of last synchronisation stays
+pub record Took (taken : Option Arrived) (old new : Process) : Type 0 where
+  pub read : new.read ≡ read_after old.read taken
   pub since : new.since ≡ old.since
+
+-- the letters read and the point of last synchronisation stay
+abbrev pub SameCount : Process → Process → Type 0
+SameCount old new = Took None old new
+
+-- the letter that a step takes: none where memory is refused
+abbrev pub taken_by : Result Step NoMemory → Option Arrived → Option Arrived
+taken_by (Ok step) taken = taken
+taken_by (Err e) taken = None
+
+-- the first letter that a read wants is taken out of the mailbox, and its number put last among those read; where there is none, or memory is refused, nothing is changed
+abbrev pub TakesLetter : Wanted → Result (Option Arrived) NoMemory → Process → Process → Type 0
+TakesLetter wanted (Ok (Some a)) old new =
+    (first_wanted (state_of old) wanted ≡ Some a)
+    × (new ≡ record old { mail = record (old.mail) { letters = without_first (is_wanted (old.small).ends wanted) (old.mail).letters }; read = old.read ++ a.number ∷ [] })
+TakesLetter wanted (Ok None) old new = (first_wanted (state_of old) wanted ≡ None) × (new ≡ old)
+TakesLetter wanted (Err e) old new = new ≡ old
 
 -- the marks after the call are those of the step that was made
 abbrev pub Marks : Result Step NoMemory → List Bool → List Bool → List Bool → Type 0

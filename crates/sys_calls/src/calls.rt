@@ -4,9 +4,12 @@ ghost use Rattle.rv_cpu.specs.Exec.{reg};
 ghost use Rattle.proc_state.specs.Ends.{leads_to};
 ghost use Rattle.proc_state.specs.State.{state_of, with_small};
 ghost use Rattle.sys_calls.specs.Small.{spent};
-ghost use Rattle.sys_calls.specs.Calls.{call_of, called, refused, write_call, ExitCall};
-ghost use Rattle.sys_calls.specs.Steps.{Makes, Marks, SameCount, Touches, Shorter};
+ghost use Rattle.sys_calls.specs.Calls.{call_of, called, close_call, letter_called, marks_called, write_call, ExitCall};
+ghost use Rattle.sys_calls.specs.Steps.{Makes, Marks, SameCount, Shorter, Took, Touches, taken_by};
 
+use crate::ends::{destination, shut};
+use crate::reading::{make_read, read_any_checked, read_checked};
+use crate::refusal::{BAD_ADDRESS, BAD_ARGUMENT, BAD_END, refuse};
 use crate::small::{answer, close, go_on};
 use crate::steps::{Emission, Step};
 use proc_state::process::Process;
@@ -17,13 +20,6 @@ use t32_base::lists::Bytes;
 use t32_base::process::{End, EndState, Status};
 use t32_base::streams::NoMemory;
 
-// The numbers of the errors.
-const BAD_END: u32 = 9;
-
-const BAD_ADDRESS: u32 = 14;
-
-const BAD_ARGUMENT: u32 = 22;
-
 /// The most bytes of one letter.
 const MOST: u32 = 256;
 
@@ -32,19 +28,28 @@ pub fn call(alloc: Global, p: &mut Process) -> Result<Step, NoMemory>
     requires some { 0 < p.old.small.left }
     requires live { p.old.small.status ≡ Status.Live }
     ensures makes { Makes (called (call_of (reg p.old.small.regs 17)) (with_small (state_of p.old) (spent p.old.small))) result (state_of p.old) (state_of p.new) }
-    ensures marks { p.new.ram.dirty ≡ p.old.ram.dirty }
-    ensures count { SameCount p.old p.new }
+    ensures marks { Marks result (marks_called (call_of (reg p.old.small.regs 17)) (state_of p.old) p.old.ram.dirty) p.old.ram.dirty p.new.ram.dirty }
+    ensures count { Took (taken_by result (letter_called (call_of (reg p.old.small.regs 17)) (state_of p.old))) p.old p.new }
     ensures shorter { Shorter result p.old.small p.new.small }
     ensures touches { Touches result p.old p.new }
 {
     match read(&p.small.regs, 17) {
         1 => Ok(exit(p)),
         2 => write(alloc, p),
+        3 => {
+            let reading = read_checked(p);
+            make_read(p, reading)
+        }
+        4 => {
+            let reading = read_any_checked(p);
+            make_read(p, reading)
+        }
         6 => {
             let pid = p.small.pid.0;
             answer(&mut p.small, pid);
             Ok(Step::Silent)
         }
+        10 => Ok(close_end(p)),
         _ => Ok(refuse(p, BAD_ARGUMENT)),
     }
 }
@@ -62,20 +67,6 @@ fn exit(p: &mut Process) -> Step
     let status = read(&p.small.regs, 10) % 256;
     close(&mut p.small, End::Exit(status as u8));
     go_on(&mut p.small);
-    Step::Silent
-}
-
-// A check refuses the call: minus the error's number is the answer.
-fn refuse(p: &mut Process, error: u32) -> Step
-    requires some { 0 < p.old.small.left }
-    requires error { 0 < error }
-    ensures makes { Makes (refused (with_small (state_of p.old) (spent p.old.small)) error) (Ok result) (state_of p.old) (state_of p.new) }
-    ensures marks { p.new.ram.dirty ≡ p.old.ram.dirty }
-    ensures count { SameCount p.old p.new }
-    ensures shorter { Shorter (Ok result) p.old.small p.new.small }
-    ensures touches { Touches (Ok result) p.old p.new }
-{
-    answer(&mut p.small, u32::MAX - (error - 1));
     Step::Silent
 }
 
@@ -115,17 +106,29 @@ fn write(alloc: Global, p: &mut Process) -> Result<Step, NoMemory>
     Ok(Step::Emit(Emission::Mail(letter)))
 }
 
-// Where an open end leads. A number of 32 or more is no end.
-fn destination(ends: &[EndState; 32], end: u32) -> Option<To>
-    ensures leads { result ≡ option_and_then leads_to (slice_get ends.now end) }
-    ensures within { IsSome result → end < 32 }
+/// close(end)
+fn close_end(p: &mut Process) -> Step
+    requires some { 0 < p.old.small.left }
+    ensures makes { Makes (close_call (with_small (state_of p.old) (spent p.old.small)) (reg p.old.small.regs 10)) (Ok result) (state_of p.old) (state_of p.new) }
+    ensures marks { p.new.ram.dirty ≡ p.old.ram.dirty }
+    ensures count { SameCount p.old p.new }
+    ensures shorter { Shorter (Ok result) p.old.small p.new.small }
+    ensures touches { Touches (Ok result) p.old p.new }
 {
-    if end >= 32 {
-        return None;
-    }
-    match ends[end as usize] {
-        EndState::Tty(tty) => Some(To::Tty(tty)),
-        EndState::Linked { peer, far, .. } => Some(To::Proc(peer, far)),
-        EndState::Never | EndState::Shut => None,
+    let end = read(&p.small.regs, 10);
+    let Some(to) = destination(&p.small.ends, end) else {
+        return refuse(p, BAD_END);
+    };
+    let end = end as u8;
+    shut(&mut p.small, end);
+    answer(&mut p.small, 0);
+    match to {
+        To::Tty(_) => Step::Silent,
+        To::Proc(_, _) => Step::Emit(Emission::Mail(Letter {
+            from: p.small.pid,
+            out: end,
+            to,
+            body: Body::EndOf,
+        })),
     }
 }

@@ -2,6 +2,9 @@
 #![tactic(auto)]
 
 pub mod calls;
+pub mod ends;
+pub mod reading;
+pub mod refusal;
 pub mod small;
 pub mod stepping;
 pub mod steps;

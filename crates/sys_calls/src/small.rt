@@ -1,7 +1,7 @@
 //! How the state of a process changes by a step, but for its memory and its mailbox.
 ghost use Rattle.std.specs.Prelude.{◌≡◌, ◌↔◌, IsTrue, min, ◌==◌, ◌<◌, ◌≤◌, ◌+◌, OnSome, IfSome, length, slice_index_or, true};
 ghost use Rattle.t32_base.specs.Small.{is_unshut};
-ghost use Rattle.sys_calls.specs.Small.{spent, stepped, with_status, with_regs, answered, lowest_linked as lowest_linked_of, shut_at, weight};
+ghost use Rattle.sys_calls.specs.Small.{spent, stepped, with_status, with_regs, answered, both_answered, lowest_linked as lowest_linked_of, shut_at, weight};
 ghost use Rattle.rv_cpu.specs.Exec.{onward};
 
 use rv_cpu::registers::{advance, write};
@@ -45,6 +45,17 @@ pub fn answer(small: &mut Small, value: u32)
 {
     spend(small);
     write(&mut small.regs, 10, value);
+    advance(&mut small.regs);
+}
+
+/// The same with two answers, in a0 and a1.
+pub fn answer_both(small: &mut Small, value: u32, other: u32)
+    requires { 0 < small.old.left }
+    ensures { small.new ≡ both_answered (spent small.old) value other }
+{
+    spend(small);
+    write(&mut small.regs, 10, value);
+    write(&mut small.regs, 11, other);
     advance(&mut small.regs);
 }
 

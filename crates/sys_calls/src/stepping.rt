@@ -1,17 +1,18 @@
 //! The next step of a process.
 ghost use Rattle.std.specs.Prelude.{◌≡◌, ◌<◌, ◌≤◌, ◌+◌, ◌==◌, Ok, Some};
 ghost use Rattle.rv_cpu.specs.Run.{machine_of, ran};
-ghost use Rattle.rv_cpu.specs.Exec.{bytes_after, did_of, exec, exec_marks};
+ghost use Rattle.rv_cpu.specs.Exec.{bytes_after, did_of, exec, exec_marks, is_call};
 ghost use Rattle.proc_state.specs.State.{state_of};
-ghost use Rattle.sys_calls.specs.Next.{closing_step, has_step, live_step, marks_live, next_step, silently_marked, step_marks};
+ghost use Rattle.sys_calls.specs.Next.{closing_step, has_step, is_blocked, letter_live, letter_taken, live_step, marks_live, next_step, silently_marked, step_marks};
 ghost use Rattle.sys_calls.specs.Small.{after_instructions, lowest_linked, small_after, weight};
-ghost use Rattle.sys_calls.specs.Steps.{marked, Makes, Marks, SameCount, Touches, Shorter};
+ghost use Rattle.sys_calls.specs.Steps.{marked, Makes, Marks, SameCount, Shorter, Took, Touches, taken_by};
 
 use crate::calls::call;
+use crate::reading::{reading_next, waits};
 use crate::small::{at_most, close, finish, is_live, is_spent_up, run_out, shut_lowest, spend};
 use crate::steps::{Emission, Step};
 use proc_state::process::Process;
-use rv_cpu::{Did, exec, run};
+use rv_cpu::{Did, calls_next, exec, run};
 use rv_mem::Ram;
 use std::alloc::Global;
 use t32_base::letter::{Body, Letter};
@@ -24,7 +25,7 @@ use t32_base::streams::NoMemory;
 pub fn step(alloc: Global, p: &mut Process) -> Result<Step, NoMemory>
     ensures makes { Makes (next_step (state_of p.old)) result (state_of p.old) (state_of p.new) }
     ensures marks { Marks result (step_marks (state_of p.old) p.old.ram.dirty) p.old.ram.dirty p.new.ram.dirty }
-    ensures count { SameCount p.old p.new }
+    ensures count { Took (taken_by result (letter_taken (state_of p.old))) p.old p.new }
     ensures shorter { Shorter result p.old.small p.new.small }
     ensures touches { Touches result p.old p.new }
 {
@@ -41,7 +42,7 @@ pub fn run_instructions(p: &mut Process, most: u32) -> u32
     ensures made { result ≤ most }
     ensures silent { silently_marked result (marked p.old) ≡ Some (marked p.new) }
     ensures shorter { (weight p.new.small + result ≡ weight p.old.small) × (p.new.small.steps ≡ p.old.small.steps + result) }
-    ensures mail { (p.new.mail ≡ p.old.mail) × (p.new.next ≡ p.old.next) }
+    ensures mail { p.new.mail ≡ p.old.mail }
     ensures count { SameCount p.old p.new }
 {
     if !is_live(&p.small) {
@@ -68,7 +69,32 @@ fn instructions(small: &mut Small, ram: &mut Ram, most: u32) -> u32
 pub fn can_step(p: &Process) -> bool
     ensures { result ≡ has_step (next_step (state_of p.now)) }
 {
-    !matches!(p.small.status, Status::Ended(_))
+    match p.small.status {
+        Status::Ended(_) => false,
+        Status::Closing(_) => true,
+        Status::Live => !waits_next(p),
+    }
+}
+
+// Whether a live process's next instruction is a read that waits.
+fn waits_next(p: &Process) -> bool
+    requires live { p.now.small.status ≡ Status.Live }
+    ensures { result ≡ is_blocked (live_step (p.now.small.left == 0) (state_of p.now)) }
+{
+    if is_spent_up(&p.small) {
+        return false;
+    }
+    match reading_next(p) {
+        Some(reading) => stands_at_call(p) && waits(p, reading),
+        None => false,
+    }
+}
+
+// Whether the next instruction is a system call.
+fn stands_at_call(p: &Process) -> bool
+    ensures { result ≡ is_call (exec p.now.small.regs p.now.ram.bytes) }
+{
+    calls_next(&p.small.regs, &p.ram)
 }
 
 // A closing process sends an end letter, or its exit.
@@ -99,7 +125,7 @@ fn live(alloc: Global, p: &mut Process) -> Result<Step, NoMemory>
     requires live { p.old.small.status ≡ Status.Live }
     ensures makes { Makes (live_step (p.old.small.left == 0) (state_of p.old)) result (state_of p.old) (state_of p.new) }
     ensures marks { Marks result (marks_live (p.old.small.left == 0) (state_of p.old) p.old.ram.dirty) p.old.ram.dirty p.new.ram.dirty }
-    ensures count { SameCount p.old p.new }
+    ensures count { Took (taken_by result (letter_live (p.old.small.left == 0) (state_of p.old))) p.old p.new }
     ensures shorter { Shorter result p.old.small p.new.small }
     ensures touches { Touches result p.old p.new }
 {

@@ -1,0 +1,40 @@
+-- The search for the end at which the first letter waits, end by end.
+use Rattle.std.proofs.Common.{◌≡◌, ℕ, zero, suc, ◌<◌, ◌≤◌, inl, inr, List, [], ◌∷◌, length, false, cond, slice_get, option_map, Option, None, Some, refl, ap, arith}
+use Rattle.std.proofs.lemmas.Bool.{cases_lt}
+use Rattle.t32_base.specs.declared.letter.Arrived.{Arrived}
+use Rattle.t32_base.specs.declared.process.EndState.{EndState}
+use Rattle.proc_state.specs.Ends.{is_linked_at}
+use Rattle.proc_state.specs.Queues.{queue_of, waiting, IsEarliest}
+
+pub record IsLeastBelow (upto : ℕ) (ends : List EndState) (queues : List (List Arrived)) (e number : ℕ) : Type 0 where
+  pub waits : waiting ends queues e ≡ Some number
+  pub least : (j m : ℕ) → j < upto → waiting ends queues j ≡ Some m → number ≤ m
+
+-- what is the best of the ends below a number
+abbrev pub IsBestBelow : ℕ → List EndState → List (List Arrived) → Option (ℕ × ℕ) → Type 0
+IsBestBelow upto ends queues None = (j : ℕ) → j < upto → waiting ends queues j ≡ None
+IsBestBelow upto ends queues (Some best) = IsLeastBelow upto ends queues best.0 best.1
+
+not_linked_at : (ends : List EndState) (j : ℕ) → length ends ≤ j → is_linked_at ends j ≡ false
+not_linked_at [] j past = refl
+not_linked_at (e ∷ rest) zero past = absurd (omega arith)
+not_linked_at (e ∷ rest) (suc j) past = not_linked_at rest j (omega arith)
+
+-- numbers from 32 on are no ends
+none_waits : (ends : List EndState) (queues : List (List Arrived)) (j : ℕ) → length ends ≤ j → waiting ends queues j ≡ None
+none_waits ends queues j past = ap (λ t. cond t (option_map (λ (a : Arrived). a.number) (slice_get (queue_of queues j) 0)) None) (not_linked_at ends j past)
+
+pub none_of_all : (ends : List EndState) (queues : List (List Arrived)) (upto : ℕ) → length ends ≤ upto → IsBestBelow upto ends queues None
+    → (j : ℕ) → waiting ends queues j ≡ None
+none_of_all ends queues upto long none j = elim (cases_lt j upto) [ inl below ↦ none j below | inr past ↦ none_waits ends queues j (omega arith) ]
+
+pub earliest_of_all : (ends : List EndState) (queues : List (List Arrived)) (upto e number : ℕ) → length ends ≤ upto → IsLeastBelow upto ends queues e number
+    → IsEarliest ends queues e
+earliest_of_all ends queues upto e number long found = record {
+  number = number;
+  waits = found.waits;
+  least = λ j m waits. elim (cases_lt j upto) [
+    | inl below ↦ found.least j m below waits
+    | inr past ↦ let none = none_waits ends queues j (omega arith) in cc
+  ];
+}
