@@ -1,5 +1,5 @@
 -- The cause of each status.
-use Rattle.std.proofs.Common.{◌≡◌, ℕ, ◌≤◌, Bool, true, false, List, [], ◌∷◌, ◌⊎◌, inl, inr, length, refl, sym, ap, ◌∙◌, subst, arith, Option, Some, None, length-append}
+use Rattle.std.proofs.Common.{◌≡◌, ℕ, ◌≤◌, Bool, List, [], ◌∷◌, ◌⊎◌, inl, inr, length, refl, sym, ap, ◌∙◌, subst, arith, Option, Some, None, length-append}
 use Rattle.std.specs.Prelude.{Ok, Err, Result}
 use Rattle.std.specs.Io.KnownBytes.{Consumes, Appends}
 use Rattle.t32_base.specs.Streams.{Rose}
@@ -8,7 +8,7 @@ use Rattle.targon_cli.specs.declared.command.Command.TheVariants as commands
 use Rattle.sys_text.specs.Reading.{reading_of as system_reading, system_of_lines}
 use Rattle.rv_asm.specs.Program.{reading_of as asm_reading}
 use Rattle.targon_cli.specs.Command.{command_of}
-use Rattle.targon_cli.specs.Reply.{Makes, MakesPlain, MakesCheck, MakesAsm, Runs, FollowsSection, Follows, Applied, Refused, is_run}
+use Rattle.targon_cli.specs.Reply.{Makes, MakesPlain, MakesCheck, MakesAsm, RunsBy, FollowsSection, Follows, Applied, Refused}
 use Rattle.targon_cli.specs.Sections.{system_part, section_part, items_of_lines}
 use Rattle.plain_kernel.specs.declared.item.Item.{Item}
 use Rattle.sys_text.specs.declared.system.System.{System}
@@ -42,13 +42,12 @@ status_of_section : (system : System) (reading : Result (List Item) ℕ) (wanted
 status_of_section system (Ok items) wanted text m = status_of_items system items wanted text m
 status_of_section system (Err index) wanted text m = inr (inr m.0)
 
-status_of_run : (system : System) (section : List (List ℕ)) (runs : Bool) (wanted : ℕ) (text : List ℕ) → Runs system section runs wanted text → IsReply wanted
-status_of_run system [] true wanted text m = inl m.0
-status_of_run system (line ∷ lines) true wanted text m = status_of_section system (items_of_lines (line ∷ lines)) wanted text m
-status_of_run system section false wanted text m = inr (inl m.0)
+status_of_run : (system : System) (section : List (List ℕ)) (wanted : ℕ) (text : List ℕ) → RunsBy system section wanted text → IsReply wanted
+status_of_run system [] wanted text m = inl m.0
+status_of_run system (line ∷ lines) wanted text m = status_of_section system (items_of_lines (line ∷ lines)) wanted text m
 
 status_of_plain : (reading : _) (section : List (List ℕ)) (wanted : ℕ) (text : List ℕ) → MakesPlain reading section wanted text → IsReply wanted
-status_of_plain (Ok system) section wanted text m = status_of_run system section (is_run system) wanted text m
+status_of_plain (Ok system) section wanted text m = status_of_run system section wanted text m
 status_of_plain (Err refused) section wanted text m = inr (inl m.0)
 
 status_of_check : (reading : _) (wanted : ℕ) (text : List ℕ) → MakesCheck reading wanted text → IsReply wanted
