@@ -1,3 +1,4 @@
+mod Channels
 mod Delivery
 pub mod Entries
 pub mod Laws

@@ -17,13 +17,13 @@ use Rattle.t32_base.specs.Small.{SmallState}
 use Rattle.sys_text.specs.declared.system.System.{System}
 use Rattle.sys_text.specs.declared.system.Root.{Root}
 use Rattle.sys_text.specs.Boot.{roots_of}
-use Rattle.proc_state.specs.State.{ProcState, delivered, has_ended}
+use Rattle.proc_state.specs.State.{ProcState, delivered, has_ended, linked_to}
 use Rattle.sys_calls.specs.declared.steps.Emission.{Emission}
 use Rattle.sys_calls.specs.declared.steps.Emission.TheVariants.{Mail, Exit}
 use Rattle.sys_calls.specs.Calls.{Next, Silent, Blocked, Forks, Emits, Over}
 use Rattle.sys_calls.specs.Next.{next_step, silently, last_emission}
 use Rattle.sys_calls.proofs.Counting.{CountsOne, silent_counts, emits_counts, last_sent}
-use Rattle.plain_kernel.specs.Kernel.{Kernel, pid_cmp, process_at, with_process, with_root, root_process, empty, boot, letter_put, letter_to, deliver, emitted}
+use Rattle.plain_kernel.specs.Kernel.{Kernel, pid_cmp, process_at, with_process, with_root, root_process, empty, boot, boot_roots, free_end_at, link_put, root_pid, with_chan, with_end_linked, letter_put, letter_to, deliver, emitted}
 use Rattle.plain_kernel.specs.Apply.{after_step, one_step, steps, apply, apply_all}
 use Rattle.plain_kernel.specs.declared.item.Item.{Item}
 use Rattle.plain_kernel.specs.declared.item.Item.TheVariants.{Run, Fork, Take}
@@ -419,9 +419,27 @@ rising_from : (system : System) (k : Kernel) (roots : List (Pid × Root)) → Is
 rising_from system k [] rising = rising
 rising_from system k (r ∷ roots) rising = rising_from system (with_root system k r) roots (is_sorted-put pid_cmp pid_cmp_total r.0 (root_process system r.0 r.1) k.processes rising)
 
+-- what each end that is linked keeps, the channels keep
+chans-keep : (P : Kernel → Type 0) → ((k : Kernel) (p : Pid) (s : ProcState) (peer : Pid) (far : ℕ) → process_at k p ≡ Some s → P k → P (with_process k p (linked_to s peer far)))
+    → (system : System) (k : Kernel) (chans : List (ℕ × ℕ)) → P k → P (record k { processes = fold (with_chan system) k.processes chans })
+chans-keep P one system k [] has = has
+chans-keep P one system k (chan ∷ chans) has =
+    chans-keep P one system (record k { processes = with_chan system k.processes chan }) chans
+    (linked _ (root_pid system chan.1) (root_pid system chan.0) (free_end_at k.processes (root_pid system chan.0))
+    (linked k (root_pid system chan.0) (root_pid system chan.1) (free_end_at k.processes (root_pid system chan.1)) has))
+  where
+    by_process : (j : Kernel) (p peer : Pid) (far : ℕ) (o : Option ProcState) → process_at j p ≡ o → P j → P (record j { processes = link_put p peer far o j.processes })
+    by_process j p peer far None there has = has
+    by_process j p peer far (Some s) there has = one j p s peer far there has
+
+    linked : (j : Kernel) (p peer : Pid) (far : ℕ) → P j → P (record j { processes = with_end_linked j.processes p peer far })
+    linked j p peer far has = by_process j p peer far (process_at j p) refl has
+
 pub boot-rising : (system : System) → IsRising (boot system)
 unfolding boot
-boot-rising system = rising_from system empty (roots_of system) tt
+boot-rising system =
+    chans-keep IsRising (λ k p s peer far there rising. is_sorted-put pid_cmp pid_cmp_total p (linked_to s peer far) k.processes rising) system (boot_roots system) system.chans
+    (rising_from system empty (roots_of system) tt)
 
 pub boot-pids : (system : System) → HasPids (pids_in (boot system)) (boot system)
 boot-pids system = record { rising = boot-rising system; are = refl }
@@ -449,7 +467,9 @@ none_from system k (r ∷ roots) none = none_from system (with_root system k r) 
 
 pub boot-steps : (system : System) (p : Pid) → steps_at (boot system) p ≡ 0
 unfolding boot none_made
-boot-steps system p = none_from system empty (roots_of system) (λ q. refl) p
+boot-steps system p =
+    chans-keep none_made (λ k q s peer far there none. put_none k q (linked_to s peer far) (ap (λ o. option_map_or (λ (t : ProcState). (t.small).steps) o 0) (sym there) ∙ none q) none) system (boot_roots system) system.chans
+    (none_from system empty (roots_of system) (λ q. refl)) p
 
 own_from : (system : System) (k : Kernel) (roots : List (Pid × Root)) → HasOwnPids k → HasOwnPids (fold (with_root system) k roots)
 own_from system k [] own = own
@@ -458,4 +478,6 @@ own_from system k (r ∷ roots) own = own_from system (with_root system k r) roo
 -- and so it is at the start
 pub boot-own : (system : System) → HasOwnPids (boot system)
 unfolding boot
-boot-own system = own_from system empty (roots_of system) (λ q t there. cc)
+boot-own system =
+    chans-keep HasOwnPids (λ k p s peer far there own. put_own k p (linked_to s peer far) (own p s.small (ap (option_map (λ (t : ProcState). t.small)) there)) own) system (boot_roots system) system.chans
+    (own_from system empty (roots_of system) (λ q t there. cc))

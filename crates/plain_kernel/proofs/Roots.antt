@@ -22,8 +22,8 @@ use Rattle.sys_text.specs.declared.system.Root.{Root}
 use Rattle.sys_text.specs.Valid.{is_system}
 use Rattle.sys_text.specs.Boot.{pid_of as pid_in, with_pids, roots_of}
 use Rattle.sys_text.proofs.Bounds.{root_bounds, root_image, system_bounds}
-use Rattle.plain_kernel.specs.Kernel.{Kernel, pid_cmp, boot, with_root, empty, root_process}
-use Rattle.plain_kernel.specs.Maps.{pid_of, processes_of, load, total_load, booted_processes, booted_ttys, CanBoot}
+use Rattle.plain_kernel.specs.Kernel.{Kernel, pid_cmp, boot, boot_roots, with_chan, with_root, empty, root_process}
+use Rattle.plain_kernel.specs.Maps.{pid_of, processes_of, load, total_load, booted_processes, booted_ttys, linked_processes, CanBoot}
 
 -- ---- an entry that is inserted is put
 
@@ -48,7 +48,7 @@ insert_state k v (e ∷ es) =
 
 -- ---- one root more
 
-abbrev same_home : Root → Root → Bool
+abbrev pub same_home : Root → Root → Bool
 same_home r q = eqb (q.home).0 (r.home).0
 
 pids-snoc : (earlier roots : List Root) (r : Root) → with_pids earlier (roots ++ r ∷ []) ≡ with_pids earlier roots ++ (pid_in (r.home).0 (1 + count_by (same_home r) (earlier ++ roots)), r) ∷ []
@@ -119,6 +119,16 @@ boot_from : (system : System) (k : Kernel) (earlier roots : List Root)
 boot_from system k earlier [] = refl
 boot_from system k earlier (r ∷ roots) = boot_from system (with_root system k (pid_in (r.home).0 (1 + count_by (same_home r) earlier), r)) (earlier ++ r ∷ []) roots
 
-pub booted : (system : System) (ps : List (Pid × ProcState)) (ts : List (ℕ × List ℕ)) → ps ≡ booted_processes system (roots_of system) → ts ≡ booted_ttys system.roots → record { processes = ps; ttys = ts } ≡ boot system
+pub booted_roots : (system : System) → boot_roots system ≡ record { processes = booted_processes system (roots_of system); ttys = booted_ttys system.roots }
+booted_roots system = boot_from system empty [] system.roots
+
+pub booted : (system : System) (ps : List (Pid × ProcState)) (ts : List (ℕ × List ℕ)) → ps ≡ linked_processes system → ts ≡ booted_ttys system.roots → record { processes = ps; ttys = ts } ≡ boot system
 unfolding boot
-booted system ps ts p t = (λ i. record { processes = p i; ttys = t i }) ∙ sym (boot_from system empty [] system.roots)
+booted system ps ts p t =
+    (λ i. record { processes = p i; ttys = t i })
+    ∙ ap (λ (k : Kernel). record k { processes = fold (with_chan system) k.processes system.chans }) (sym (booted_roots system))
+
+-- without channels the roots are the kernel at its start
+pub unlinked_boot : (system : System) → system.chans ≡ [] → boot system ≡ boot_roots system
+unfolding boot
+unlinked_boot system none = ap (λ chans. record (boot_roots system) { processes = fold (with_chan system) (boot_roots system).processes chans }) none

@@ -12,13 +12,18 @@ use Rattle.t32_base.specs.declared.process.Pid.{Pid}
 use Rattle.t32_base.specs.declared.process.End.{End}
 use Rattle.t32_base.specs.declared.process.Status.{Status}
 use Rattle.t32_base.specs.declared.process.Status.TheVariants.{Live, Closing, Ended}
+use Rattle.t32_base.specs.declared.letter.Arrived.{Arrived}
 use Rattle.t32_base.specs.declared.letter.To.{To}
+use Rattle.t32_base.specs.declared.letter.To.TheVariants.{Proc, Tty}
 use Rattle.rv_mem.specs.Memory.{is_inside}
 use Rattle.rv_cpu.specs.Exec.{Executed, Steps, Calls, Traps, exec, reg}
 use Rattle.proc_state.specs.declared.process.Process.{Process}
+use Rattle.proc_state.specs.Ends.{leads_at}
 use Rattle.proc_state.specs.State.{ProcState, state_of, with_small}
 use Rattle.sys_calls.specs.Small.{spent, lowest_linked}
-use Rattle.sys_calls.specs.Calls.{Next, Silent, Blocked, Forks, Emits, Over, Call, ExitCall, Write, GetPid, Unknown, called, call_of, write_to, arg}
+use Rattle.sys_calls.specs.declared.reading.Reading.{Reading}
+use Rattle.sys_calls.specs.declared.reading.Reading.TheVariants.{Refused, AtEnd, Wants}
+use Rattle.sys_calls.specs.Calls.{Next, Silent, Blocked, Forks, Emits, Over, Call, ExitCall, Write, Read, ReadAny, GetPid, Close, Unknown, called, call_of, close_to, first_wanted, read_any_checked, read_call, read_checked, read_found, write_to, arg}
 use Rattle.sys_calls.specs.Next.{next_step, has_step, step_by, live_step, after_exec, closing_step, silently}
 use Rattle.plain_kernel.specs.Kernel.{Kernel, pid_cmp, with_process}
 use Rattle.plain_kernel.specs.declared.item.Item.{Item}
@@ -137,10 +142,27 @@ write_no_fork : (p : ProcState) (e ptr len : ℕ) (o : Option To) → is_fork (w
 write_no_fork p e ptr len None = refl
 write_no_fork p e ptr len (Some to) = either (nat_lt 256 len) _ _ refl (either (not (is_inside p.memory ptr len)) _ _ refl (either (eqb len 0) _ _ refl refl))
 
+close_no_fork : (p : ProcState) (e : ℕ) (o : Option To) → is_fork (close_to p e o) ≡ false
+close_no_fork p e None = refl
+close_no_fork p e (Some (Tty t)) = refl
+close_no_fork p e (Some (Proc peer far)) = refl
+
+read_no_fork : (p : ProcState) (reading : Reading) → is_fork (read_call p reading) ≡ false
+read_no_fork p (Refused error) = refl
+read_no_fork p AtEnd = refl
+read_no_fork p (Wants wanted ptr room) = found (first_wanted p wanted)
+  where
+    found : (o : Option Arrived) → is_fork (read_found p wanted ptr room o) ≡ false
+    found None = refl
+    found (Some a) = refl
+
 call_no_fork : (c : Call) (p : ProcState) → is_fork (called c p) ≡ false
 call_no_fork ExitCall p = refl
 call_no_fork Write p = write_no_fork p (arg p 0) (arg p 1) (arg p 2) _
+call_no_fork Read p = read_no_fork p (read_checked p)
+call_no_fork ReadAny p = read_no_fork p (read_any_checked p)
 call_no_fork GetPid p = refl
+call_no_fork Close p = close_no_fork p (arg p 0) (leads_at (p.small).ends (arg p 0))
 call_no_fork Unknown p = refl
 
 exec_no_fork : (x : Executed) (p : ProcState) → is_fork (after_exec x p) ≡ false

@@ -1,5 +1,6 @@
 -- The kernel without failures: a finite map of processes, and what each terminal was sent. It knows no clusters, backups, counts or pages.
-use Rattle.std.specs.Prelude.{ℕ, List, [], ◌++◌, fold, slice_get, Option, Some, None, unwrap_or, if◌then◌else◌}
+use Rattle.std.specs.Prelude.{ℕ, ◌-◌, List, [], ◌++◌, fold, slice_get, Option, Some, None, unwrap_or, if◌then◌else◌}
+use Rattle.std.specs.Option.{option_map_or}
 use Rattle.std.specs.declared.cmp.Ordering.{Ordering}
 use Rattle.std.specs.Ordering.{nat_cmp}
 use Rattle.std.specs.FinMap.{find, put}
@@ -13,7 +14,8 @@ use Rattle.sys_text.specs.declared.system.System.{System}
 use Rattle.sys_text.specs.declared.system.Image.{Image}
 use Rattle.sys_text.specs.declared.system.Root.{Root}
 use Rattle.sys_text.specs.Boot.{roots_of, bytes_of_words}
-use Rattle.proc_state.specs.State.{ProcState, root_state, delivered, has_ended}
+use Rattle.proc_state.specs.Ends.{free_end}
+use Rattle.proc_state.specs.State.{ProcState, root_state, delivered, has_ended, linked_to}
 use Rattle.sys_calls.specs.declared.steps.Emission.{Emission}
 use Rattle.sys_calls.specs.declared.steps.Emission.TheVariants.{Mail, Exit}
 
@@ -55,8 +57,36 @@ abbrev pub empty : Kernel
 empty = record { processes = []; ttys = [] }
 
 -- the roots with their images, each with its pid, and the terminals that they name
+abbrev pub boot_roots : System → Kernel
+boot_roots system = fold (with_root system) empty (roots_of system)
+
+-- the lowest end of a process that was never linked; 32 where there is none
+abbrev pub free_end_at : List (Pid × ProcState) → Pid → ℕ
+free_end_at processes p = option_map_or (λ (s : ProcState). free_end (s.small).ends) (find pid_cmp p processes) 32
+
+abbrev pub link_put : Pid → Pid → ℕ → Option ProcState → List (Pid × ProcState) → List (Pid × ProcState)
+link_put p peer far None processes = processes
+link_put p peer far (Some s) processes = put pid_cmp p (linked_to s peer far) processes
+
+-- the lowest such end of the process p is linked to an end of a peer
+abbrev pub with_end_linked : List (Pid × ProcState) → Pid → Pid → ℕ → List (Pid × ProcState)
+with_end_linked processes p peer far = link_put p peer far (find pid_cmp p processes) processes
+
+-- the lowest such ends of two processes are linked to each other
+abbrev pub with_link : List (Pid × ProcState) → Pid → Pid → List (Pid × ProcState)
+with_link processes p q = with_end_linked (with_end_linked processes p q (free_end_at processes q)) q p (free_end_at processes p)
+
+-- the pid of a root, whose number is counted from 1 in the order of the text
+abbrev pub root_pid : System → ℕ → Pid
+root_pid system number = option_map_or (λ (r : Pid × Root). r.0) (slice_get (roots_of system) (number - 1)) (record { 0 = 0 })
+
+-- a channel links the roots with two numbers
+abbrev pub with_chan : System → List (Pid × ProcState) → ℕ × ℕ → List (Pid × ProcState)
+with_chan system processes chan = with_link processes (root_pid system chan.0) (root_pid system chan.1)
+
+-- the roots, linked by the channels in the order of the text
 unfoldable pub boot : System → Kernel
-boot system = fold (with_root system) empty (roots_of system)
+boot system = record (boot_roots system) { processes = fold (with_chan system) (boot_roots system).processes system.chans }
 
 -- ---- letters
 

@@ -21,7 +21,8 @@ use Rattle.std.specs.FinMap.{put}
 use Rattle.sys_text.specs.declared.system.System.{System}
 use Rattle.sys_text.specs.declared.system.Image.{Image}
 use Rattle.sys_text.specs.declared.system.Root.{Root}
-use Rattle.plain_kernel.specs.Kernel.{Kernel, pid_cmp, root_process}
+use Rattle.sys_text.specs.Boot.{roots_of}
+use Rattle.plain_kernel.specs.Kernel.{Kernel, pid_cmp, root_process, with_chan, with_end_linked}
 use Rattle.plain_kernel.specs.Apply.{one_step, steps}
 use Rattle.plain_kernel.specs.Still.{default_after}
 use Rattle.plain_kernel.specs.declared.item.NotApplied.{NotApplied}
@@ -39,7 +40,7 @@ kernel_of processes ttys = record { processes = processes_of processes; ttys = t
 
 -- a step uses up two, and the letter that it sends adds one
 abbrev pub load : Process → ℕ
-load p = 2 * weight p.small + p.next
+load p = 2 * weight p.small + (p.mail).next
 
 -- so no process is ever sent more letters than a number holds, and each run ends
 abbrev pub total_load : List (ℕ × Process) → ℕ
@@ -53,6 +54,11 @@ pub record Changes (old new : List (ℕ × Process)) (pid : ℕ) (was now : Proc
   pub found : lookup (at_key pid) old ≡ Some was
   pub entries : new ≡ set_value (at_key pid) old now
   pub ordered : IsStrictlySortedBy nat_cmp (map (λ (e : ℕ × Process). e.0) old)
+
+-- one more end of the process with a pid was linked, which leaves as much to come
+pub record Links (old new : List (ℕ × Process)) (pid : ℕ) (peer : Pid) (far : ℕ) : Type 0 where
+  pub states : processes_of new ≡ with_end_linked (processes_of old) (pid_of pid) peer far
+  pub load : total_load new ≡ total_load old
 
 -- it made so many silent steps
 pub record RunsAt (old new : List (ℕ × Process)) (pid n : ℕ) : Type 0 where
@@ -135,6 +141,10 @@ pub record Turns (next : Option ℕ) (ps qs : List (ℕ × Process)) (ts us : Li
 -- the roots by pid
 abbrev pub booted_processes : System → List (Pid × Root) → List (Pid × ProcState)
 booted_processes system roots = fold (λ ps (r : Pid × Root). put pid_cmp r.0 (root_process system r.0 r.1) ps) [] roots
+
+-- the same, linked by the channels
+abbrev pub linked_processes : System → List (Pid × ProcState)
+linked_processes system = fold (with_chan system) (booted_processes system (roots_of system)) system.chans
 
 -- the terminals that roots name
 abbrev pub booted_ttys : List Root → List (ℕ × List ℕ)

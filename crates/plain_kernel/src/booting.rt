@@ -3,10 +3,11 @@ ghost use Rattle.std.specs.Prelude.{◌≡◌, ◌≤◌, ◌<◌, ◌^◌, ◌*
 ghost use Rattle.sys_text.specs.Valid.{is_system};
 ghost use Rattle.sys_text.specs.Boot.{bytes_of_words, pid_of as pid_in, roots_of};
 ghost use Rattle.plain_kernel.specs.Kernel.{root_process};
-ghost use Rattle.plain_kernel.specs.Maps.{booted_processes, booted_ttys, load, total_load, CanBoot, IsImageOf};
+ghost use Rattle.plain_kernel.specs.Maps.{booted_processes, booted_ttys, linked_processes, load, total_load, CanBoot, IsImageOf};
 ghost use Rattle.plain_kernel.specs.Maps.{processes_of as states_of};
 ghost use Rattle.proc_state.specs.State.{state_of};
 
+use crate::linking::link_roots;
 use byteorder::{ByteOrder, LittleEndian};
 use proc_state::process::Process;
 use std::alloc::Global;
@@ -16,8 +17,22 @@ use t32_base::lists::Bytes;
 use t32_base::process::Pid;
 use t32_base::streams::NoMemory;
 
-/// The roots of a system by pid.
+/// The roots of a system by pid, linked by its channels.
 pub fn processes_of(alloc: Global, system: &System) -> Result<BTreeMap<u32, Process>, NoMemory>
+    requires { is_system system.now ≡ true }
+    ensures states { IfOk result (λ processes. states_of processes.entries ≡ linked_processes system.now) }
+    ensures room { IfOk result (λ processes. total_load processes.entries < 2 ^ 64) }
+{
+    let mut processes = roots_by_pid(alloc, system)?;
+    let chans = system.chans.as_slice();
+    for chan in chans {
+        link_roots(&mut processes, system, *chan);
+    }
+    Ok(processes)
+}
+
+// The roots of a system by pid, with no end linked.
+fn roots_by_pid(alloc: Global, system: &System) -> Result<BTreeMap<u32, Process>, NoMemory>
     requires { is_system system.now ≡ true }
     ensures states { IfOk result (λ processes. states_of processes.entries ≡ booted_processes system.now (roots_of system.now)) }
     ensures room { IfOk result (λ processes. total_load processes.entries < 2 ^ 64) }

@@ -3,6 +3,7 @@
 
 pub mod booting;
 pub mod item;
+mod linking;
 pub mod plain;
 mod processes;
 mod running;

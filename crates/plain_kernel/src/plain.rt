@@ -42,11 +42,10 @@ impl Model for Plain {
 }
 
 impl Plain {
-    /// The kernel of a system at its start: each root with its image, and the terminals that the roots
-    /// name, to which nothing was sent.
+    /// The kernel of a system at its start: each root with its image, linked by the channels, and the
+    /// terminals that the roots name, to which nothing was sent.
     pub fn boot(alloc: Global, system: &System) -> Result<Plain, NoMemory>
-        requires valid { is_system system.now ≡ true }
-        requires unlinked { system.now.chans ≡ [] }
+        requires { is_system system.now ≡ true }
         ensures { IfOk result (λ k. k ≡ boot_of system.now) }
     {
         let processes = processes_of(alloc, system)?;
@@ -118,8 +117,7 @@ impl Plain {
 /// Runs a schedule from the start of a system. `BadItem { index }` comes exactly where the items before
 /// that index apply and that one does not.
 pub fn run(alloc: Global, system: &System, items: &[Item]) -> Result<Plain, RunRefused>
-    requires valid { is_system system.now ≡ true }
-    requires unlinked { system.now.chans ≡ [] }
+    requires { is_system system.now ≡ true }
     ensures { Runs system.now items.now result }
 {
     let mut plain = match Plain::boot(alloc, system) {
@@ -143,8 +141,7 @@ pub fn run(alloc: Global, system: &System, items: &[Item]) -> Result<Plain, RunR
 /// Runs the default schedule from the start of a system: the lowest pid that has a step makes one, until
 /// none has.
 pub fn default_run(alloc: Global, system: &System) -> Result<Plain, NoMemory>
-    requires valid { is_system system.now ≡ true }
-    requires unlinked { system.now.chans ≡ [] }
+    requires { is_system system.now ≡ true }
     ensures { IfOk result (λ k. IsDefaultRun system.now k) }
 {
     let mut processes = processes_of(alloc, system)?;

@@ -18,13 +18,6 @@ is_linked (Tty t) = false
 is_linked (Linked peer far finished) = true
 is_linked Shut = false
 
--- linked, and its end letter was read
-abbrev pub is_finished : EndState → Bool
-is_finished Never = false
-is_finished (Tty t) = false
-is_finished (Linked peer far finished) = finished
-is_finished Shut = false
-
 -- linked, and no end letter was read
 abbrev pub is_unfinished : EndState → Bool
 is_unfinished Never = false
@@ -48,9 +41,9 @@ leads_at ends i = option_and_then leads_to (slice_get ends i)
 abbrev pub is_open_at : List EndState → ℕ → Bool
 is_open_at ends i = is_some (leads_at ends i)
 
--- end i is finished
-abbrev pub is_finished_at : List EndState → ℕ → Bool
-is_finished_at ends i = option_map_or is_finished (slice_get ends i) false
+-- end i is linked, and no end letter was read
+abbrev pub is_unfinished_at : List EndState → ℕ → Bool
+is_unfinished_at ends i = option_map_or is_unfinished (slice_get ends i) false
 
 -- end i is linked
 abbrev pub is_linked_at : List EndState → ℕ → Bool

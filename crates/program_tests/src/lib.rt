@@ -9,6 +9,8 @@ mod kernel;
 #[cfg(test)]
 mod program;
 #[cfg(test)]
+mod reads;
+#[cfg(test)]
 mod reports;
 #[cfg(test)]
 mod simulated;

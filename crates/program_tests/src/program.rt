@@ -1,8 +1,8 @@
 //! The program by its words, its input and its output.
 use crate::calls::{answers, sink, source, words};
 use crate::systems::{
-    BAD, COMMENTED, CUT, HI, HI_PROGRAM, HI_WORDS, LINKED, MISSING, NO_STEPS, PAIR, SAME, SPIN,
-    TOO_MANY_STEPS, WHOLE,
+    BAD, CHANNEL, CHANNEL_SCHEDULE, COMMENTED, CUT, HI, HI_PROGRAM, HI_WORDS, LINKED, MISSING,
+    NO_STEPS, PAIR, SAME, SPIN, TOO_MANY_STEPS, WAIT, WHOLE,
 };
 use std::test::Fail;
 use t32_base::gate::OpenGate;
@@ -50,8 +50,30 @@ fn a_refusal_names_the_line_and_the_rule(rt: HostRuntime) -> Result<(), Fail> {
     }
     let line = "t32: asm line 1 rule 2\n";
     assert_eq!(rt; answers(&rt, &["asm"], b"addd a0, a0, a0", line)?, 2);
-    let line = "t32: not yet\n";
-    assert_eq!(rt; answers(&rt, &["plain"], LINKED.as_bytes(), line)?, 2);
+    Ok(())
+}
+
+#[test]
+fn a_channel_carries_letters_between_two_roots(rt: HostRuntime) -> Result<(), Fail> {
+    let alloc = rt.alloc();
+    let waits = "tty 0 0\n\npid 16 waiting\npid 17 waiting\n";
+    let read = "tty 0 2\nx\n\npid 16 exit 0\npid 17 exit 0\n";
+    for (system, schedule, status, written) in [
+        (WAIT, "", 0, waits),
+        (WAIT, "schedule 2\nrun 16 4\nrun 17 4\n", 0, waits),
+        (
+            WAIT,
+            "schedule 2\nrun 16 4\nrun 16 1\n",
+            3,
+            "t32: schedule item 1\n",
+        ),
+        (CHANNEL, "", 0, read),
+        (CHANNEL, CHANNEL_SCHEDULE, 0, read),
+        (LINKED, "", 0, "tty 0 0\n\npid 16 trap 2\npid 32 trap 2\n"),
+    ] {
+        let text = format!(in alloc; "{system}{schedule}")?;
+        assert_eq!(rt; answers(&rt, &["plain"], text.as_bytes(), written)?, status);
+    }
     Ok(())
 }
 

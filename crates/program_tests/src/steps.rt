@@ -15,7 +15,7 @@ use t32_base::streams::NoMemory;
 const ECALL: [u8; 4] = [0x73, 0, 0, 0];
 
 // A process of one page whose first word is a system call, with these registers a0, a1, a2 and a7.
-fn calling(alloc: Global, a0: u32, a1: u32, a2: u32, a7: u32) -> Result<Process, NoMemory> {
+pub fn calling(alloc: Global, a0: u32, a1: u32, a2: u32, a7: u32) -> Result<Process, NoMemory> {
     let mut p = Process::root(alloc, Pid(16), 1, &ECALL, 1000, 0, 0)?;
     set(&mut p.small, 10, a0);
     set(&mut p.small, 11, a1);
@@ -24,7 +24,7 @@ fn calling(alloc: Global, a0: u32, a1: u32, a2: u32, a7: u32) -> Result<Process,
     Ok(p)
 }
 
-fn set(small: &mut Small, register: u8, value: u32)
+pub fn set(small: &mut Small, register: u8, value: u32)
     requires { register < 32 }
 {
     rv_cpu::registers::write(&mut small.regs, register, value);
@@ -89,7 +89,9 @@ fn each_call_answers(rt: HostRuntime) -> Result<(), Fail> {
         (1, 0x1ff, Status::Closing(End::Exit(255)), 0x1ff),
         (6, 7, Status::Live, 16),
         (0, 7, Status::Live, 0xffffffea),
-        (3, 7, Status::Live, 0xffffffea),
+        (3, 7, Status::Live, 0xfffffff7),
+        (4, 0, Status::Live, 0xfffffff7),
+        (10, 7, Status::Live, 0xfffffff7),
         (11, 7, Status::Live, 0xffffffea),
         (0xffffffff, 7, Status::Live, 0xffffffea),
     ] {

@@ -32,6 +32,14 @@ pub const LINKED: &str =
 pub const NEIGHBOURS: &str =
     "clusters 2\npager 0 1\nsyncreads 32\nsyncsteps 4096\nimage bad 1\nwords 00000000\nend\nroot 0 1 quarter bad 9 0 0\nroot 0 1 quarter bad 9 0 1\n";
 
+/// Two roots that a channel links, each of which reads a letter that never comes.
+pub const WAIT: &str =
+    "clusters 2\npager 0 1\nsyncreads 32\nsyncsteps 4096\nimage wait 1\nwords 00300893 00100513 000105b7 00100613 00000073\nend\nroot 0 1 quarter wait 1000 0 0\nroot 1 0 quarter wait 1000 0 0\nchan 1 2\n";
+
+/// One root writes two bytes to another, which writes them to its terminal.
+pub const CHANNEL: &str =
+    "clusters 2\npager 0 1\nsyncreads 1\nsyncsteps 4096\nasm reader 1\nli a7, 3\nli a0, 1\nla a1, m\nli a2, 2\necall\nmv a2, a0\nli a7, 2\nli a0, 0\necall\nli a7, 1\nli a0, 0\necall\nm: .word 0\nend\nasm writer 1\nli a7, 2\nli a0, 1\nla a1, m\nli a2, 2\necall\nli a7, 1\nli a0, 0\necall\nm: .ascii \"x\\n\"\nend\nroot 0 1 quarter reader 1000 0 0\nroot 1 0 quarter writer 1000 0 0\nchan 1 2\n";
+
 /// The first system up to its sixth line.
 pub const CUT: &str =
     "clusters 2\npager 0 1\nsyncreads 32\nsyncsteps 4096\nimage hi 1\nwords 00200893 00000513 000105b7 02458593 00300613 00000073 00100893 00000513\n";
@@ -49,6 +57,10 @@ pub const TOO_MANY_STEPS: &str = "schedule 2\nrun 16 6\nrun 16 5\n";
 pub const NO_STEPS: &str = "schedule 2\nrun 16 0\nrun 16 5\n";
 
 pub const MISSING: &str = "schedule 3\nrun 16 6\nrun 16 5\n";
+
+/// The schedule by which two clusters run the roots of the channel.
+pub const CHANNEL_SCHEDULE: &str =
+    "schedule 7\nrun 17 6\nrun 17 4\nrun 16 6\nrun 17 1\nrun 16 4\nrun 16 4\nrun 16 1\n";
 
 /// The program of the first system, and its words.
 pub const HI_PROGRAM: &str =

@@ -22,10 +22,11 @@ use Rattle.sys_calls.specs.declared.reading.Wanted.{Wanted}
 use Rattle.sys_calls.specs.declared.reading.Wanted.TheVariants.{On, AnyLinked}
 use Rattle.sys_calls.specs.Next.{next_step, step_by, live_step, after_exec, closing_step, silent_of, silently, emission_of, last_emission}
 
--- one step was counted, and the process is the same
+-- one step was counted, the process is the same, and no letter has arrived
 pub record CountsOne (s t : ProcState) : Type 0 where
   pub steps : (t.small).steps ≡ (s.small).steps + 1
   pub pid : (t.small).pid ≡ (s.small).pid
+  pub next : t.next ≡ s.next
 
 -- what each kind of step does: a letter is the process's own, and its exit alone ends it
 abbrev pub Sends : ProcState → Emission → ProcState → Type 0
@@ -42,59 +43,59 @@ Counts s Over = Unit {0}
 module _ (s p : ProcState) (one : CountsOne s p) (open_still : has_ended (p.small).status ≡ false) where
   written_some : (e ptr len : ℕ) (to : To) (none : Bool)
       → Counts s (cond none (Silent (answers p 0)) (Emits (Mail (letter_to p e to (Said (bytes_at p.memory ptr len)))) (answers p len)))
-  written_some e ptr len to true = (record { steps = one.steps; pid = one.pid }, open_still)
-  written_some e ptr len to false = (record { steps = one.steps; pid = one.pid }, (one.pid, open_still))
+  written_some e ptr len to true = (record { steps = one.steps; pid = one.pid; next = one.next }, open_still)
+  written_some e ptr len to false = (record { steps = one.steps; pid = one.pid; next = one.next }, (one.pid, open_still))
 
   written_inside : (e ptr len : ℕ) (to : To) (outside none : Bool)
       → Counts s (cond outside (refused p 14) (cond none (Silent (answers p 0)) (Emits (Mail (letter_to p e to (Said (bytes_at p.memory ptr len)))) (answers p len))))
-  written_inside e ptr len to true none = (record { steps = one.steps; pid = one.pid }, open_still)
+  written_inside e ptr len to true none = (record { steps = one.steps; pid = one.pid; next = one.next }, open_still)
   written_inside e ptr len to false none = written_some e ptr len to none
 
   written_short : (e ptr len : ℕ) (to : To) (long outside none : Bool)
       → Counts s (cond long (refused p 22) (cond outside (refused p 14) (cond none (Silent (answers p 0)) (Emits (Mail (letter_to p e to (Said (bytes_at p.memory ptr len)))) (answers p len)))))
-  written_short e ptr len to true outside none = (record { steps = one.steps; pid = one.pid }, open_still)
+  written_short e ptr len to true outside none = (record { steps = one.steps; pid = one.pid; next = one.next }, open_still)
   written_short e ptr len to false outside none = written_inside e ptr len to outside none
 
   written : (e ptr len : ℕ) (to : Option To) → Counts s (write_to p e ptr len to)
-  written e ptr len None = (record { steps = one.steps; pid = one.pid }, open_still)
+  written e ptr len None = (record { steps = one.steps; pid = one.pid; next = one.next }, open_still)
   written e ptr len (Some to) = written_short e ptr len to (ltb 256 len) (not (is_inside p.memory ptr len)) (eqb len 0)
 
   closed_to : (e : ℕ) (to : Option To) → Counts s (close_to p e to)
-  closed_to e None = (record { steps = one.steps; pid = one.pid }, open_still)
-  closed_to e (Some (Tty t)) = (record { steps = one.steps; pid = one.pid }, open_still)
-  closed_to e (Some (Proc peer far)) = (record { steps = one.steps; pid = one.pid }, (one.pid, open_still))
+  closed_to e None = (record { steps = one.steps; pid = one.pid; next = one.next }, open_still)
+  closed_to e (Some (Tty t)) = (record { steps = one.steps; pid = one.pid; next = one.next }, open_still)
+  closed_to e (Some (Proc peer far)) = (record { steps = one.steps; pid = one.pid; next = one.next }, (one.pid, open_still))
 
   found : (wanted : Wanted) (ptr room : ℕ) (o : Option Arrived) → Counts s (read_found p wanted ptr room o)
   found wanted ptr room None = tt
-  found (On e) ptr room (Some a) = (record { steps = one.steps; pid = one.pid }, open_still)
-  found AnyLinked ptr room (Some a) = (record { steps = one.steps; pid = one.pid }, open_still)
+  found (On e) ptr room (Some a) = (record { steps = one.steps; pid = one.pid; next = one.next }, open_still)
+  found AnyLinked ptr room (Some a) = (record { steps = one.steps; pid = one.pid; next = one.next }, open_still)
 
   read : (reading : Reading) → Counts s (read_call p reading)
-  read (Refused error) = (record { steps = one.steps; pid = one.pid }, open_still)
-  read AtEnd = (record { steps = one.steps; pid = one.pid }, open_still)
+  read (Refused error) = (record { steps = one.steps; pid = one.pid; next = one.next }, open_still)
+  read AtEnd = (record { steps = one.steps; pid = one.pid; next = one.next }, open_still)
   read (Wants wanted ptr room) = found wanted ptr room (first_wanted p wanted)
 
   called_counts : (c : Call) → Counts s (called c p)
-  called_counts ExitCall = (record { steps = one.steps; pid = one.pid }, refl)
+  called_counts ExitCall = (record { steps = one.steps; pid = one.pid; next = one.next }, refl)
   called_counts Write = written (arg p 0) (arg p 1) (arg p 2) (leads_at (p.small).ends (arg p 0))
   called_counts Read = read (read_checked p)
   called_counts ReadAny = read (read_any_checked p)
   called_counts Close = closed_to (arg p 0) (leads_at (p.small).ends (arg p 0))
-  called_counts GetPid = (record { steps = one.steps; pid = one.pid }, open_still)
-  called_counts Unknown = (record { steps = one.steps; pid = one.pid }, open_still)
+  called_counts GetPid = (record { steps = one.steps; pid = one.pid; next = one.next }, open_still)
+  called_counts Unknown = (record { steps = one.steps; pid = one.pid; next = one.next }, open_still)
 
 executed : (s : ProcState) → has_ended (s.small).status ≡ false → (x : Executed) → Counts s (after_exec x (with_small s (spent s.small)))
-executed s open_still (Steps regs bytes) = (record { steps = refl; pid = refl }, open_still)
-executed s open_still (Traps code) = (record { steps = refl; pid = refl }, refl)
-executed s open_still Calls = called_counts s (with_small s (spent s.small)) (record { steps = refl; pid = refl }) open_still (call_of (reg (s.small).regs 17))
+executed s open_still (Steps regs bytes) = (record { steps = refl; pid = refl; next = refl }, open_still)
+executed s open_still (Traps code) = (record { steps = refl; pid = refl; next = refl }, refl)
+executed s open_still Calls = called_counts s (with_small s (spent s.small)) (record { steps = refl; pid = refl; next = refl }) open_still (call_of (reg (s.small).regs 17))
 
 lived : (s : ProcState) → has_ended (s.small).status ≡ false → (b : Bool) → Counts s (live_step b s)
-lived s open_still true = (record { steps = refl; pid = refl }, refl)
+lived s open_still true = (record { steps = refl; pid = refl; next = refl }, refl)
 lived s open_still false = executed s open_still (exec (s.small).regs s.memory)
 
 closed : (s : ProcState) (end : End) → has_ended (s.small).status ≡ false → (found : Option (ℕ × To)) → Counts s (closing_step found end s)
-closed s end open_still None = (record { steps = refl; pid = refl }, refl)
-closed s end open_still (Some f) = (record { steps = refl; pid = refl }, (refl, open_still))
+closed s end open_still None = (record { steps = refl; pid = refl; next = refl }, refl)
+closed s end open_still (Some f) = (record { steps = refl; pid = refl; next = refl }, (refl, open_still))
 
 by_status : (s : ProcState) (status : Status) → (s.small).status ≡ status → Counts s (step_by status s)
 by_status s Live is = lived s (ap has_ended is) (eqb (s.small).left 0)
@@ -145,16 +146,17 @@ ended_is_over s ended = by_case (s.small).status ended
 same_some : {X : Type 0} → (x y : X) → Some x ≡ Some y → x ≡ y
 same_some x y e = ap (λ o. unwrap_or o x) e
 
--- n steps were counted, and the process is the same
+-- n steps were counted, the process is the same, and no letter has arrived
 pub record CountsMany (n : ℕ) (s t : ProcState) : Type 0 where
   pub steps : (t.small).steps ≡ (s.small).steps + n
   pub pid : (t.small).pid ≡ (s.small).pid
+  pub next : t.next ≡ s.next
 
 one_more : (n : ℕ) (s q t : ProcState) → CountsMany n s q → CountsOne q t → CountsMany (suc n) s t
-one_more n s q t many one = record { steps = omega (arith, many.steps, one.steps); pid = one.pid ∙ many.pid }
+one_more n s q t many one = record { steps = omega (arith, many.steps, one.steps); pid = one.pid ∙ many.pid; next = one.next ∙ many.next }
 
 none_more : (s t : ProcState) → Some s ≡ Some t → CountsMany 0 s t
-none_more s t e = let same : s ≡ t = same_some s t e in record { steps = ap (λ (p : ProcState). (p.small).steps) (sym same) ∙ sym (add-zero (s.small).steps); pid = ap (λ (p : ProcState). (p.small).pid) (sym same) }
+none_more s t e = let same : s ≡ t = same_some s t e in record { steps = ap (λ (p : ProcState). (p.small).steps) (sym same) ∙ sym (add-zero (s.small).steps); pid = ap (λ (p : ProcState). (p.small).pid) (sym same); next = ap (λ (p : ProcState). p.next) (sym same) }
 
 silent_is : (next : Next) (t : ProcState) → silent_of next ≡ Some t → next ≡ Silent t
 silent_is (Silent s) t e = ap Silent (same_some s t e)

@@ -15,7 +15,7 @@ use Rattle.t32_base.specs.declared.letter.To.TheVariants.{Proc, Tty}
 use Rattle.t32_base.specs.Small.{SmallState}
 use Rattle.rv_mem.specs.Memory.{is_inside, bytes_at, with_bytes, touched}
 use Rattle.rv_cpu.specs.Exec.{reg, onward}
-use Rattle.proc_state.specs.Ends.{is_finished_at, is_open_at, is_unfinished, finished_at, leads_at}
+use Rattle.proc_state.specs.Ends.{is_open_at, is_unfinished, is_unfinished_at, finished_at, leads_at}
 use Rattle.proc_state.specs.Mail.{end_of, is_on, is_on_linked, without_first}
 use Rattle.proc_state.specs.State.{ProcState, with_small}
 use Rattle.sys_calls.specs.Small.{answered, both_answered, with_end, with_ends, with_status, with_regs}
@@ -104,8 +104,8 @@ abbrev pub read_checked : ProcState → Reading
 read_checked p =
     if (arg p 0 == 0) || not (is_open_at (p.small).ends (arg p 0)) then Refused 9
     else if not (is_inside p.memory (arg p 1) (room (arg p 2))) then Refused 14
-    else if is_finished_at (p.small).ends (arg p 0) then AtEnd
-    else Wants (On (arg p 0)) (arg p 1) (room (arg p 2))
+    else if is_unfinished_at (p.small).ends (arg p 0) then Wants (On (arg p 0)) (arg p 1) (room (arg p 2))
+    else AtEnd
 
 -- read_any(ptr, max): each byte that may be copied to is in memory, and an end is linked and not finished
 abbrev pub read_any_checked : ProcState → Reading

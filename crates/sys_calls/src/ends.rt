@@ -2,7 +2,7 @@
 ghost use Rattle.std.specs.Prelude.{◌≡◌, ◌<◌, ◌≤◌, IsSome, count_by, slice_set};
 ghost use Rattle.std.specs.List.{list_any};
 ghost use Rattle.t32_base.specs.Small.{is_unshut};
-ghost use Rattle.proc_state.specs.Ends.{finished_at, finished_end, is_finished_at, is_unfinished, leads_at};
+ghost use Rattle.proc_state.specs.Ends.{finished_at, finished_end, is_unfinished, is_unfinished_at, leads_at};
 ghost use Rattle.sys_calls.specs.Small.{with_end, with_ends, weight};
 
 use t32_base::letter::To;
@@ -23,17 +23,17 @@ pub fn destination(ends: &[EndState; 32], end: u32) -> Option<To>
     }
 }
 
-/// Whether an end is linked and its end letter was read.
-pub fn is_finished(ends: &[EndState; 32], end: u32) -> bool
-    ensures { result ≡ is_finished_at ends.now end }
+/// Whether an end is linked and its end letter was not read. A number of 32 or more is no end.
+pub fn is_unfinished_at(ends: &[EndState; 32], end: u32) -> bool
+    ensures { result ≡ is_unfinished_at ends.now end }
 {
     match ends.get(end as usize) {
-        Some(EndState::Linked { finished, .. }) => *finished,
-        _ => false,
+        Some(state) => is_unfinished(*state),
+        None => false,
     }
 }
 
-/// Whether an end is linked and its end letter was not read.
+/// Whether some end is linked and its end letter was not read.
 pub fn any_unfinished(ends: &[EndState; 32]) -> bool
     ensures { result ≡ list_any is_unfinished ends.now }
 {

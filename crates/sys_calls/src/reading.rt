@@ -9,7 +9,7 @@ ghost use Rattle.sys_calls.specs.Calls.{call_of, ends_after, first_wanted, is_wa
 ghost use Rattle.sys_calls.specs.Next.{is_blocked};
 ghost use Rattle.sys_calls.specs.Steps.{Makes, Marks, Shorter, TakesLetter, Took, Touches, taken_by};
 
-use crate::ends::{any_unfinished, destination, finish, is_finished};
+use crate::ends::{any_unfinished, destination, finish, is_unfinished_at};
 use crate::refusal::{BAD_ADDRESS, BAD_END, refuse};
 use crate::small::{answer, answer_both};
 use crate::steps::Step;
@@ -54,7 +54,7 @@ pub fn read_checked(p: &Process) -> Reading
     if !p.ram.inside(ptr, room) {
         return Reading::Refused(BAD_ADDRESS);
     }
-    if is_finished(&p.small.ends, end) {
+    if !is_unfinished_at(&p.small.ends, end) {
         return Reading::AtEnd;
     }
     Reading::Wants(Wanted::On(end as u8), ptr, room)

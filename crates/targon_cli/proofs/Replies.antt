@@ -11,7 +11,7 @@ use Rattle.text_parts.specs.Lines.{lines_of}
 use Rattle.cluster_run.specs.declared.life.Ran.{Ran}
 use Rattle.cluster_run.specs.Simulated.{is_simulated}
 use Rattle.targon_cli.specs.Command.{makes_run}
-use Rattle.targon_cli.specs.Reply.{Makes, MakesPlain, MakesCheck, MakesAsm, MakesSim, Simulates, TellsOfRun, Runs, FollowsSection, Follows, Applied, Refused, is_run}
+use Rattle.targon_cli.specs.Reply.{Makes, MakesPlain, MakesCheck, MakesAsm, MakesSim, Simulates, TellsOfRun, RunsBy, FollowsSection, Follows, Applied, Refused}
 use Rattle.targon_cli.specs.Sections.{system_part, section_part, items_of_lines}
 
 -- ---- the status
@@ -28,13 +28,12 @@ status_of_section : (system : System) (reading : Result (List Item) ℕ) (wanted
 status_of_section system (Ok items) wanted text m = status_of_items system items wanted text m
 status_of_section system (Err index) wanted text m = inr (inr m.0)
 
-status_of_run : (system : System) (section : List (List ℕ)) (runs : Bool) (wanted : ℕ) (text : List ℕ) → Runs system section runs wanted text → IsReply wanted
-status_of_run system [] true wanted text m = inl m.0
-status_of_run system (line ∷ lines) true wanted text m = status_of_section system (items_of_lines (line ∷ lines)) wanted text m
-status_of_run system section false wanted text m = inr (inl m.0)
+status_of_run : (system : System) (section : List (List ℕ)) (wanted : ℕ) (text : List ℕ) → RunsBy system section wanted text → IsReply wanted
+status_of_run system [] wanted text m = inl m.0
+status_of_run system (line ∷ lines) wanted text m = status_of_section system (items_of_lines (line ∷ lines)) wanted text m
 
 status_of_plain : (reading : _) (section : List (List ℕ)) (wanted : ℕ) (text : List ℕ) → MakesPlain reading section wanted text → IsReply wanted
-status_of_plain (Ok system) section wanted text m = status_of_run system section (is_run system) wanted text m
+status_of_plain (Ok system) section wanted text m = status_of_run system section wanted text m
 status_of_plain (Err refused) section wanted text m = inr (inl m.0)
 
 status_of_check : (reading : _) (wanted : ℕ) (text : List ℕ) → MakesCheck reading wanted text → IsReply wanted

@@ -37,10 +37,6 @@ asm_line line rule = codes "t32: asm line " ++ (decimal line ++ (codes " rule " 
 abbrev pub not_yet_line : List ℕ
 not_yet_line = codes "t32: not yet\n"
 
--- the systems that are run yet: those without channels
-abbrev pub is_run : System → Bool
-is_run system = length system.chans == 0
-
 abbrev pub schedule_line : (index : ℕ) → List ℕ
 schedule_line index = codes "t32: schedule item " ++ (decimal index ++ 10 ∷ [])
 
@@ -59,13 +55,8 @@ abbrev pub RunsBy : System → (section : List (List ℕ)) → (status : ℕ) �
 RunsBy system [] status text = (status ≡ 0) × ((kernel : Kernel) × IsDefaultRun system kernel × (text ≡ plain_report kernel))
 RunsBy system (line ∷ lines) status text = FollowsSection system (items_of_lines (line ∷ lines)) status text
 
--- a system that is run is reported
-abbrev pub Runs : System → (section : List (List ℕ)) → Bool → (status : ℕ) → (text : List ℕ) → Type 0
-Runs system section false status text = (status ≡ 2) × (text ≡ not_yet_line)
-Runs system section true status text = RunsBy system section status text
-
 abbrev pub MakesPlain : Answer → (section : List (List ℕ)) → (status : ℕ) → (text : List ℕ) → Type 0
-MakesPlain (Ok system) section status text = Runs system section (is_run system) status text
+MakesPlain (Ok system) section status text = RunsBy system section status text
 MakesPlain (Err refused) section status text = (status ≡ 2) × (text ≡ system_line refused.0 (system_rule refused.1))
 
 -- a system text is printed in canonical form

@@ -9,7 +9,7 @@ ghost use Rattle.text_parts.specs.Lines.{lines_of};
 ghost use Rattle.targon_cli.specs.Sections.{section_part, system_part};
 ghost use Rattle.sys_text.specs.Valid.{is_system};
 ghost use Rattle.targon_cli.specs.Command.{has_pick};
-ghost use Rattle.targon_cli.specs.Reply.{asm_line, Follows, is_run as is_run_of, Makes, MakesAsm, MakesCheck, MakesPlain, not_yet_line, RunsBy, schedule_line, system_line};
+ghost use Rattle.targon_cli.specs.Reply.{asm_line, Follows, Makes, MakesAsm, MakesCheck, MakesPlain, not_yet_line, RunsBy, schedule_line, system_line};
 
 use crate::command::Command;
 use crate::sections::split_at_section;
@@ -60,18 +60,13 @@ pub fn carry_out(
     }
 }
 
-// Runs a system, where it is one that is run yet, by the schedule that stands behind it.
+// Runs a system by the schedule that stands behind it.
 fn plain(alloc: Global, bytes: &[u8]) -> Result<Reply, NoMemory>
     ensures { IfOk result (λ r. MakesPlain (system_of_lines (system_part (lines_of bytes.now))) (section_part (lines_of bytes.now)) r.status r.text) }
 {
     let (text, section) = split_at_section(bytes);
     match read_system(alloc, text) {
-        Ok(system) => {
-            if !is_run(&system) {
-                return not_yet(alloc);
-            }
-            run_by(alloc, &system, section)
-        }
+        Ok(system) => run_by(alloc, &system, section),
         Err(SystemRefused::BadLine { line, rule }) => refused_system(alloc, line, rule),
         Err(SystemRefused::NoMemory) => Err(NoMemory),
     }
@@ -79,8 +74,7 @@ fn plain(alloc: Global, bytes: &[u8]) -> Result<Reply, NoMemory>
 
 // Runs a system by a schedule section, or without one by the default schedule.
 fn run_by(alloc: Global, system: &System, section: &[u8]) -> Result<Reply, NoMemory>
-    requires valid { is_system system.now ≡ true }
-    requires run { is_run_of system.now ≡ true }
+    requires { is_system system.now ≡ true }
     ensures { IfOk result (λ r. RunsBy system.now (lines_of section.now) r.status r.text) }
 {
     if section.is_empty() {
@@ -96,8 +90,7 @@ fn run_by(alloc: Global, system: &System, section: &[u8]) -> Result<Reply, NoMem
 
 // Runs a system by the items of a schedule.
 fn follow(alloc: Global, system: &System, items: &[Item]) -> Result<Reply, NoMemory>
-    requires valid { is_system system.now ≡ true }
-    requires run { is_run_of system.now ≡ true }
+    requires { is_system system.now ≡ true }
     ensures { IfOk result (λ r. Follows system.now items.now r.status r.text) }
 {
     match run(alloc, system, items) {
@@ -110,17 +103,9 @@ fn follow(alloc: Global, system: &System, items: &[Item]) -> Result<Reply, NoMem
     }
 }
 
-// Whether a system is run yet.
-fn is_run(system: &System) -> bool
-    ensures { result ≡ is_run_of system.now }
-{
-    system.chans.len() == 0
-}
-
 // The report of the default run.
 fn report_of(alloc: Global, system: &System) -> Result<Text, NoMemory>
-    requires valid { is_system system.now ≡ true }
-    requires run { is_run_of system.now ≡ true }
+    requires { is_system system.now ≡ true }
     ensures { IfOk result (λ text. (k : Kernel) × IsDefaultRun system.now k × (text ≡ plain_report_of k)) }
 {
     let plain = default_run(alloc, system)?;

@@ -1,5 +1,5 @@
 //! What `sim` makes of the bytes of its input: a run of clusters, and what is written of it.
-ghost use Rattle.std.specs.Prelude.{◌≡◌, ◌<◌, ◌^◌, ◌==◌, IfOk, true, []};
+ghost use Rattle.std.specs.Prelude.{◌≡◌, ◌<◌, ◌^◌, ◌==◌, IfOk, true};
 ghost use Rattle.std.specs.List.{list_any};
 ghost use Rattle.cluster_run.specs.Simulated.{homes_differ as homes_differ_in, is_simulated as is_simulated_system};
 ghost use Rattle.plain_kernel.specs.Apply.{plain_run};
@@ -65,7 +65,6 @@ fn run_system(
 // What is written of a run: its schedule is run once more for the kernel that it leads to.
 fn run_text(alloc: Global, system: &System, run: &Run, log: bool) -> Result<Text, NoMemory>
     requires valid { is_system system.now ≡ true }
-    requires unlinked { system.now.chans ≡ [] }
     requires good { IsGoodBuilt system.now run.now }
     ensures { IfOk result (λ text. (kernel : Kernel) × (plain_run system.now run.now.items ≡ Some kernel) × (text ≡ run_text_of log kernel run.now)) }
 {

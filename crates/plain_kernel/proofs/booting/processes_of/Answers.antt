@@ -1,19 +1,15 @@
-use Rattle.std.proofs.Common.{arith, refl, ap, get_or, length}
-use Rattle.plain_kernel.proofs.Roots.{booted_more, load_more, can_boot, light, no_root}
-use Rattle.plain_kernel.specs.Maps.{CanBoot}
+use Rattle.std.proofs.Common.{arith, ap, length}
+use Rattle.plain_kernel.proofs.Channels.{chan_at}
 use Rattle.plain_kernel.proofs.booting.processes_of.Goals as goal
 
-pub root_of-requires : goal.root_of-requires
-root_of-requires c =
-    let size = ap length c.as_slice-roots.ensures in
-    rw c.as_slice-roots.ensures (can_boot c.args.system.now c.loop-number.number no_root (get_or c.args.system.now.roots c.loop-number.number no_root) c.requires (omega (arith, size)) refl)
+pub link_roots-requires-clause-first : goal.link_roots-requires-clause-first
+link_roots-requires-clause-first c =
+    let size = ap length c.as_slice-chans.ensures in
+    let bounds = chan_at c.args.system.now c.loop-chan.chan-index (0, 0) c.requires (omega (arith, size)) in
+    rw c.as_slice-chans.ensures (bounds.first_least, bounds.first)
 
-pub loop-number-preserved : goal.loop-number-preserved
-loop-number-preserved c =
-    let size = ap length c.as_slice-roots.ensures in
-    let root = get_or c.as_slice-roots.result.now c.loop-number.number no_root in
-    let boots : CanBoot c.args.system.now root = rw c.as_slice-roots.ensures (can_boot c.args.system.now c.loop-number.number no_root (get_or c.args.system.now.roots c.loop-number.number no_root) c.requires (omega (arith, size)) refl) in
-    record {
-      states = booted_more c.args.system.now c.as_slice-roots.result.now c.loop-number.number no_root root c.in_ok-process.process _ _ c.pid_after-pid.result (omega arith) refl c.loop-number.invariant.states c.in_ok-insert.ensures.entries c.pid_after-pid.ensures c.in_ok-process.ensures.state;
-      load = omega (arith, load_more _ _ _ c.in_ok-process.process 200068 c.insert.ensures.was_ordered c.in_ok-insert.ensures.entries (light c.in_ok-process.process root.limit c.in_ok-process.ensures.load boots.limit), c.loop-number.invariant.load);
-    }
+pub link_roots-requires-clause-second : goal.link_roots-requires-clause-second
+link_roots-requires-clause-second c =
+    let size = ap length c.as_slice-chans.ensures in
+    let bounds = chan_at c.args.system.now c.loop-chan.chan-index (0, 0) c.requires (omega (arith, size)) in
+    rw c.as_slice-chans.ensures (bounds.second_least, bounds.second)

@@ -1,11 +1,12 @@
-use Rattle.std.proofs.Common.{◌≡◌, ◌≤◌, ◌*◌, [], take}
-use Rattle.sys_text.specs.Boot.{with_pids}
+use Rattle.std.proofs.Common.{◌≡◌, ◌<◌, ◌^◌, take, fold}
+use Rattle.sys_text.specs.Boot.{roots_of}
+use Rattle.plain_kernel.specs.Kernel.{with_chan}
 use Rattle.plain_kernel.specs.Maps.{booted_processes, total_load}
 use Rattle.plain_kernel.specs.Maps.{processes_of as states_of}
 use Rattle.plain_kernel.proofs.booting.processes_of.Given as goal
 
-abbrev pub invariant-loop-number : goal.invariant-loop-number
-invariant-loop-number l = record {
-  states : states_of l.processes.entries ≡ booted_processes l.system (with_pids [] (take l.number l.roots));
-  load : total_load l.processes.entries ≤ l.number * 200068;
+abbrev pub invariant-loop-chan : goal.invariant-loop-chan
+invariant-loop-chan l = record {
+  states : states_of l.processes.entries ≡ fold (with_chan l.system) (booted_processes l.system (roots_of l.system)) (take l.chan-index l.chans);
+  room : total_load l.processes.entries < 2 ^ 64;
 }

@@ -1,5 +1,5 @@
 use Rattle.std.proofs.Common.{arith, refl}
-use Rattle.plain_kernel.proofs.Delivery.{stepped_silent, stepped_exit, stepped_mail, stepped_alone, less_to_send, there_stepped, undone, stuck_over, refused_back}
+use Rattle.plain_kernel.proofs.Delivery.{stepped_silent, stepped_exit, stepped_mail, stepped_alone, less_to_send, there_stepped, undone, stuck_blocked, stuck_over, refused_back}
 use Rattle.plain_kernel.proofs.sending.make_step.Goals as goal
 
 pub send-requires : goal.send-requires
@@ -30,6 +30,9 @@ pub returns-in-Err-send : goal.returns-in-Err-send
 returns-in-Err-send c =
     let s = rw (c.in-Ok-Emit-Mail.is, c.in-Ok-Emit-Mail.field-0-is, c.in-Ok-Emit-Mail.field-0-0-is) at c.step_at.ensures in
     (undone _ _ _ _ c.args.pid _ _ s c.small_at-before.ensures c.in-Err-send.ensures.same_processes c.restore.ensures, c.in-Err-send.ensures.same_ttys)
+
+pub returns-in-Ok-Blocked : goal.returns-in-Ok-Blocked
+returns-in-Ok-Blocked c = stuck_blocked _ _ _ c.args.pid (rw (c.in-Ok-Blocked.is, c.in-Ok-Blocked.field-0-is) at c.step_at.ensures)
 
 pub returns-in-Ok-Over : goal.returns-in-Ok-Over
 returns-in-Ok-Over c = stuck_over _ _ _ c.args.pid (rw (c.in-Ok-Over.is, c.in-Ok-Over.field-0-is) at c.step_at.ensures)
