@@ -62,13 +62,15 @@ impl<'s> Model for Cluster<'s> {
 }
 
 impl<'s> Cluster<'s> {
-    /// A cluster at its start: the placement of the roots, and its root with its image. It has one at most.
+    /// A cluster at its start: the placement of the roots, and its root with its image. It has one at most,
+    /// and no channel links it yet.
     pub fn boot(
         alloc: Global,
         system: &'s System,
         number: ClusterNo,
     ) -> Result<Cluster<'s>, NoMemory>
         requires valid { is_system system.now ≡ true }
+        requires unlinked { system.now.chans ≡ [] }
         requires has { number.0 < system.now.clusters }
         requires one { count_by (λ r. r.home.0 == number.0) system.now.roots ≤ 1 }
         ensures follows { IfOk result (FollowsBuilt system.now []) }

@@ -2,7 +2,7 @@ use Rattle.std.proofs.Common.{◌≡◌, ◌<◌, refl, ap, subst, sym, ◌∙�
 use Rattle.channel_table.specs.Changes.{pids_differ}
 use Rattle.cert_sched.specs.Losses.{is_from}
 use Rattle.cluster_core.specs.declared.turn.Turn.TheVariants.{Moved as TurnMoved, Posted, Rests as TurnRests}
-use Rattle.cluster_core.specs.declared.worked.Worked.TheVariants.{Moved}
+use Rattle.cluster_core.specs.declared.worked.Worked.TheVariants.{Moved, Rests}
 use Rattle.cluster_core.specs.View.{ClusterView, next_count, counted_once}
 use Rattle.cluster_core.specs.Calls.{GoesOn, WorkIs}
 use Rattle.cluster_core.specs.Turn.{TurnIs}
@@ -32,6 +32,16 @@ returns-in-Rests-clause-follows c =
     c.count_step.ensures ∙ ap (λ (v : ClusterView). turned v c.take_turn.new.here) c.self.view_is
     ∙ (λ i. record old { here = rested.0 i; steps = next_count old.steps }) in
     subst (GoesOn old) (sym whole) rested.1
+
+pub returns-in-Rests-clause-work : goal.returns-in-Rests-clause-work
+returns-in-Rests-clause-work c =
+    let old : ClusterView = c.args.self.now in
+    let turn = subst (λ k. TurnIs k c.self.inside.here (Ok TurnRests) c.take_turn.new.here) (ap (λ (v : ClusterView). v.number) c.self.view_is) (rw c.in-Rests.is at c.in_ok-turn.ensures.turn) in
+    let rested = rested_turn old c.self.inside.here c.take_turn.new.here (ap (λ (v : ClusterView). v.here) (sym c.self.view_is)) c.self.invariant.resident turn in
+    let whole : c.count_step.new.self ≡ counted_once old =
+    c.count_step.ensures ∙ ap (λ (v : ClusterView). turned v c.take_turn.new.here) c.self.view_is
+    ∙ (λ i. record old { here = rested.0 i; steps = next_count old.steps }) in
+    subst (WorkIs old Rests) (sym whole) rested.2
 
 pub returns-in-Posted-clause-follows : goal.returns-in-Posted-clause-follows
 returns-in-Posted-clause-follows c =
