@@ -1,5 +1,5 @@
 -- A process that the placement does not have among those that have not ended has ended in the kernel.
-use Rattle.std.proofs.Common.{◌≡◌, ℕ, refl, sym, ◌∙◌, ap, List, [], ◌∷◌, ◌++◌, map, Bool, true, false, cond, not, ◌&&◌, eqb, eqb-true, eq-eqb, Option, Some, None, true≢false}
+use Rattle.std.proofs.Common.{◌≡◌, ◌≢◌, ℕ, refl, sym, ◌∙◌, ap, List, [], ◌∷◌, ◌++◌, map, Bool, true, false, cond, not, ◌&&◌, eqb, eqb-true, eq-eqb, Option, Some, None, true≢false}
 use Rattle.std.specs.Prelude.{◌≢◌, fold, find, option_map}
 use Rattle.t32_base.specs.declared.process.Pid.{Pid}
 use Rattle.t32_base.specs.declared.process.End.{End}
@@ -8,12 +8,12 @@ use Rattle.t32_base.specs.declared.letter.To.TheVariants.{Proc, Tty}
 use Rattle.sys_text.specs.declared.system.System.{System}
 use Rattle.sys_text.specs.declared.system.Root.{Root}
 use Rattle.sys_text.specs.Boot.{roots_of}
-use Rattle.proc_state.specs.State.{ProcState, has_ended}
+use Rattle.proc_state.specs.State.{ProcState, has_ended, linked_to}
 use Rattle.sys_calls.specs.declared.steps.Emission.TheVariants.{Mail as Sent, Exit as Ended}
 use Rattle.sys_calls.proofs.Counting.{last_sent, exit_ends}
-use Rattle.plain_kernel.specs.Kernel.{Kernel, boot, empty, process_at, with_root, root_process}
+use Rattle.plain_kernel.specs.Kernel.{Kernel, boot, boot_roots, empty, process_at, with_process, with_root, root_process}
 use Rattle.plain_kernel.proofs.Entries.{some_same}
-use Rattle.plain_kernel.proofs.Others.{is_outward_to, process_at-other}
+use Rattle.plain_kernel.proofs.Others.{chans-keep, is_outward_to, process_at-other}
 use Rattle.bus_msg.specs.declared.entry.What.{What}
 use Rattle.bus_msg.specs.declared.entry.What.TheVariants.{Mail, Birth, Exit, Page, Sync, Fetch, PageIs, Crash, Return, Rebackup, Done, Stop}
 use Rattle.bus_msg.specs.declared.entry.By.{By}
@@ -52,9 +52,21 @@ no_root system k (r ∷ roots) q none = by_test (same_pid r.0 q) refl none (λ r
     by_test true is e more = cc
     by_test false is e more = more e ∙ process_at-other k r.0 (root_process system r.0 r.1) q (λ same. true≢false (sym (eq-eqb (r.0).0 q.0 (sym same)) ∙ is))
 
+-- a process that is not there is not there when others are linked
+stays_gone : (q : Pid) (k : Kernel) (p : Pid) (s t : ProcState) → process_at k p ≡ Some s → process_at k q ≡ None → process_at (with_process k p t) q ≡ None
+stays_gone q k p s t there gone =
+    let apart : q.0 ≢ p.0 = λ same. none_there (sym gone ∙ ap (λ n. process_at k (record { 0 = n })) same ∙ there) in
+    process_at-other k p t q apart ∙ gone
+  where
+    none_there : None ≡ Some s → ⊥
+    none_there h = cc
+
 told_at_boot : (system : System) → EndsTold system []
 unfolding plain_after boot placement unended_of
-told_at_boot system q s there none = let gone : process_at (boot system) q ≡ None = no_root system empty (roots_of system) q none in cc
+told_at_boot system q s there none =
+    let gone : process_at (boot system) q ≡ None =
+    chans-keep (λ k. process_at k q ≡ None) (λ k p s peer far there gone. stays_gone q k p s (linked_to s peer far) there gone) system (boot_roots system) system.chans (no_root system empty (roots_of system) q none) in
+    cc
 
 -- ---- a letter to a terminal, and an exit
 

@@ -13,6 +13,7 @@ use Rattle.sys_calls.specs.Next.{silently}
 use Rattle.plain_kernel.specs.Kernel.{Kernel, boot, empty, process_at, root_process, with_root}
 use Rattle.plain_kernel.proofs.Entries.{some_same}
 use Rattle.plain_kernel.proofs.Laws.{process_at-same}
+use Rattle.plain_kernel.proofs.Roots.{unlinked_boot}
 use Rattle.plain_kernel.proofs.Others.{process_at-other}
 use Rattle.bus_msg.specs.declared.placed.Placed.{Placed}
 use Rattle.bus_msg.specs.Places.{same_pid, is_at_home}
@@ -68,10 +69,11 @@ there_from system test k (q ∷ roots) r differ only =
     by_test false e none more = more e
 
 -- the process of the only root of a cluster in the kernel at boot
-pub root_booted : (system : System) (number : ClusterNo) (pid : Pid) (root : Root) → is_system system ≡ true → roots_in system number ≡ (pid, root) ∷ []
+pub root_booted : (system : System) (number : ClusterNo) (pid : Pid) (root : Root) → is_system system ≡ true → system.chans ≡ [] → roots_in system number ≡ (pid, root) ∷ []
     → process_at (boot system) pid ≡ Some (root_process system pid root)
-unfolding boot
-root_booted system number pid root valid only = there_from system (at_home number) empty (roots_of system) (pid, root) (root_pids_differ system valid) only
+root_booted system number pid root valid unlinked only =
+    ap (λ k. process_at k pid) (unlinked_boot system unlinked)
+    ∙ there_from system (at_home number) empty (roots_of system) (pid, root) (root_pids_differ system valid) only
 
 -- no steps lead to a root at its start
 pub root_now : (system : System) (p : Pid) (s : ProcState) → process_at (boot system) p ≡ Some s → silent_upto system [] p 0 ≡ Some s
@@ -121,24 +123,24 @@ boot_view system number r = record {
   failed = None;
 }
 
-held_root : (system : System) (number : ClusterNo) (r : Resident) → is_system system ≡ true → IsOnlyRoot system number r → silent_upto system [] r.pid ((r.process).small).steps ≡ Some (state_of r.process)
-held_root system number r valid only =
+held_root : (system : System) (number : ClusterNo) (r : Resident) → is_system system ≡ true → system.chans ≡ [] → IsOnlyRoot system number r → silent_upto system [] r.pid ((r.process).small).steps ≡ Some (state_of r.process)
+held_root system number r valid unlinked only =
     let starts = only.starts in
     let fresh : ((r.process).small).steps ≡ 0 = ap (λ (s : ProcState). (s.small).steps) starts.state in
     ap (silent_upto system [] r.pid) fresh
     ∙ ap (λ p. silent_upto system [] p 0) starts.pid_is
-    ∙ root_now system only.pid (root_process system only.pid only.root) (root_booted system number only.pid only.root valid only.only)
+    ∙ root_now system only.pid (root_process system only.pid only.root) (root_booted system number only.pid only.root valid unlinked only.only)
     ∙ ap Some (sym starts.state)
 
-held_as : (system : System) (number : ClusterNo) (r : Option Resident) → is_system system ≡ true → IsResident system number r → (p : Pid) (h : Held) → held_at (boot_view system number r) p ≡ Some h → IsHeldAs system [] [] p h
-held_as system number None valid is p h at = cc
-held_as system number (Some r) valid is p h at = by_pid (same_pid r.pid p) refl at
+held_as : (system : System) (number : ClusterNo) (r : Option Resident) → is_system system ≡ true → system.chans ≡ [] → IsResident system number r → (p : Pid) (h : Held) → held_at (boot_view system number r) p ≡ Some h → IsHeldAs system [] [] p h
+held_as system number None valid unlinked is p h at = cc
+held_as system number (Some r) valid unlinked is p h at = by_pid (same_pid r.pid p) refl at
   where
     of_pid : (h : Held) → Runs r.process ≡ h → r.pid ≡ p → IsHeldAs system [] [] p h
     of_pid h same own =
         let AtPid : Pid → Type 0 = λ q. IsHeldAs system [] [] q (Runs r.process) in
         let AsHeld : Held → Type 0 = λ x. IsHeldAs system [] [] p x in
-        subst AsHeld same (subst AtPid own (held_root system number r valid is))
+        subst AsHeld same (subst AtPid own (held_root system number r valid unlinked is))
 
     by_pid : (b : Bool) → same_pid r.pid p ≡ b → option_map (λ (e : Pid × Held). e.1) (cond b (Some (r.pid, Runs r.process)) None) ≡ Some h → IsHeldAs system [] [] p h
     by_pid true same e = of_pid h (some_same (Runs r.process) h e) (λ i. record { 0 = eqb-true (r.pid).0 p.0 same i })
@@ -149,11 +151,11 @@ once system number None none = sym (boot_pids system number ∙ ap (map (λ (r :
 once system number (Some r) is = ap (λ (p : Pid). p.0 ∷ []) (is.starts).pid_is ∙ sym (boot_pids system number ∙ ap (map (λ (r : Pid × Root). (r.0).0)) is.only)
 
 -- a cluster at boot follows the empty log
-pub boot_follows : (system : System) (number : ClusterNo) (r : Option Resident) → is_system system ≡ true → IsResident system number r → FollowsBuilt system [] (boot_view system number r)
-boot_follows system number r valid is = record {
+pub boot_follows : (system : System) (number : ClusterNo) (r : Option Resident) → is_system system ≡ true → system.chans ≡ [] → IsResident system number r → FollowsBuilt system [] (boot_view system number r)
+boot_follows system number r valid unlinked is = record {
   cursor = refl;
   places = placed_at_boot system;
-  held = held_as system number r valid is;
+  held = held_as system number r valid unlinked is;
   each_once = ap rising (once system number r is);
   own = refl;
   queue = tt;

@@ -31,8 +31,7 @@ unmoved p q none same =
     λ i. record {
       small = ((sym m i).state).small;
       ram = record { bytes = ((sym m i).state).memory; dirty = (sym m i).marks };
-      mail = ((sym m i).state).mail;
-      next = ((sym m i).state).next;
+      mail = record { letters = ((sym m i).state).mail; next = ((sym m i).state).next };
       read = same.read i;
       since = same.since i;
     }

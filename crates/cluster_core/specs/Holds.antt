@@ -98,7 +98,7 @@ is_dirty p i = option_map_or (λ b. b) (slice_get (p.ram).dirty i) false
 -- was sent at its present step count.
 pub record IsMarked (system : System) (log : List Entry) (p : Pid) (process : Process) : Type 0 where
   pub since_start : process.since ≡ start_steps system log p
-  pub read : rising process.read ≡ numbers_read (saved_of system log p) process.mail
+  pub read : rising process.read ≡ numbers_read (saved_of system log p) (process.mail).letters
   pub clean : (i : ℕ) → i < (process.small).pages → is_dirty process i ≡ false → page_in (account_after system log p).now i ≡ Some (page_at (process.ram).bytes i)
   pub unsent : (i : ℕ) → i < (process.small).pages → is_dirty process i ≡ true → any_since_moved system log p (is_page_at p i (process.small).steps) ≡ false
 

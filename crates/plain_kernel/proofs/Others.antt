@@ -420,7 +420,7 @@ rising_from system k [] rising = rising
 rising_from system k (r ∷ roots) rising = rising_from system (with_root system k r) roots (is_sorted-put pid_cmp pid_cmp_total r.0 (root_process system r.0 r.1) k.processes rising)
 
 -- what each end that is linked keeps, the channels keep
-chans-keep : (P : Kernel → Type 0) → ((k : Kernel) (p : Pid) (s : ProcState) (peer : Pid) (far : ℕ) → process_at k p ≡ Some s → P k → P (with_process k p (linked_to s peer far)))
+pub chans-keep : (P : Kernel → Type 0) → ((k : Kernel) (p : Pid) (s : ProcState) (peer : Pid) (far : ℕ) → process_at k p ≡ Some s → P k → P (with_process k p (linked_to s peer far)))
     → (system : System) (k : Kernel) (chans : List (ℕ × ℕ)) → P k → P (record k { processes = fold (with_chan system) k.processes chans })
 chans-keep P one system k [] has = has
 chans-keep P one system k (chan ∷ chans) has =

@@ -17,4 +17,4 @@ returns-clause-follows c =
     let starts : IsResident system c.args.number c.in_ok-here.here = subst (λ s. IsResident s c.args.number c.in_ok-here.here) c.deref-2.ensures c.in_ok-here.ensures in
     let old : ClusterView = record (boot_view system c.args.number c.in_ok-here.here) { system = arc_value c.in_ok-clone.field-0; places = c.in_ok-places.places } in
     let same : old ≡ boot_view system c.args.number c.in_ok-here.here = λ i. record (boot_view system c.args.number c.in_ok-here.here) { system = shared i; places = places i } in
-    subst (FollowsBuilt system []) (sym same) (boot_follows system c.args.number c.in_ok-here.here c.requires.valid starts)
+    subst (FollowsBuilt system []) (sym same) (boot_follows system c.args.number c.in_ok-here.here c.requires.valid c.requires.unlinked starts)
