@@ -171,3 +171,8 @@ all_at_start system b cs begins all =
 
 pub written : {X : Type 0} (n : ℕ) (old new : List X) → length new ≡ length old → n ≡ length old → take n (new ++ drop (length new) old) ≡ new
 written n old new same count = take-append-le n new (drop (length new) old) (omega (arith, same, count)) ∙ take_all n new (omega (arith, same, count))
+
+-- a list of no length is empty
+pub none_there : {X : Type 0} (xs : List X) → (length xs == 0) ≡ true → xs ≡ []
+none_there [] h = refl
+none_there (x ∷ xs) h = absurd (let none : length (x ∷ xs) ≡ 0 = eqb-true (length (x ∷ xs)) 0 h in omega (arith, none))

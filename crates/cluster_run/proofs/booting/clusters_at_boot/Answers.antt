@@ -6,7 +6,7 @@ use Rattle.sys_text.specs.declared.system.System.{System}
 use Rattle.cluster_core.specs.Calls.{IsFirst}
 use Rattle.cluster_core.proofs.Following.{both}
 use Rattle.cluster_run.specs.Simulated.{homes_differ}
-use Rattle.cluster_run.proofs.Together.{one_at_home, one_started}
+use Rattle.cluster_run.proofs.Together.{none_there, one_at_home, one_started}
 use Rattle.cluster_run.proofs.booting.clusters_at_boot.Goals as goal
 
 pub boot-requires-clause-one : goal.boot-requires-clause-one
@@ -25,3 +25,8 @@ loop-number-preserved c =
       follows = c.in_ok-cluster.ensures.follows;
     })
     c.in_ok-push.ensures.items
+
+pub boot-requires-clause-unlinked : goal.boot-requires-clause-unlinked
+boot-requires-clause-unlinked c =
+    let system : System = arc_value c.args.system.now in
+    none_there system.chans (both (length system.chans == 0) (homes_differ system.roots) c.requires.built).0
