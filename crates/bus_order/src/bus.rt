@@ -65,10 +65,12 @@ impl<'s> Bus<'s> {
         })
     }
 
-    /// How many entries the log has. Each of them may stand where it stands. Takes no memory.
+    /// How many entries the log has. Each of them may stand where it stands, and there is a place for the mark of
+    /// each cluster. Takes no memory.
     pub fn length(&self) -> u64
         ensures length { result ≡ length self.now.log }
         ensures legal { IsLegalBy BuiltMayFollow self.now.system self.now.log }
+        ensures each { length self.now.marks ≡ self.now.system.clusters }
     {
         self.log.len() as u64
     }

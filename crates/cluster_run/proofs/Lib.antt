@@ -4,3 +4,4 @@ pub mod Together
 pub mod AtTheEnd
 pub mod GoodRun
 pub mod LivedRun
+pub mod Progressing

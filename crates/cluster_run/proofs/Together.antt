@@ -1,12 +1,14 @@
 -- All clusters stay beside their bus while one of them has its turn.
 use Rattle.std.proofs.Common.{◌≡◌, ℕ, zero, suc, ◌+◌, ◌≤◌, ◌<◌, ◌≢◌, refl, sym, ◌∙◌, ap, subst, arith, List, [], ◌∷◌, ◌++◌, length, take, drop, length-append, Bool, false, true, cond, not, ◌||◌, ◌&&◌, Option, Some, None, slice_get, slice_set, get_or, true≢false, eq-eqb, eqb-true, inl, inr, zero-add, OnOk, Result, Ok, Err}
-use Rattle.std.specs.Prelude.{count_by, ◌==◌, nat_eq}
+use Rattle.std.specs.Prelude.{count_by, ◌==◌, nat_eq, nat_le}
 use Rattle.std.specs.List.{list_any}
+use Rattle.std.proofs.lemmas.Bool.{leb-true}
 use Rattle.std.proofs.lemmas.List.{take-append-le, take_all, drop-append-le, length-set}
 use Rattle.std.proofs.lemmas.List.Folds.{list_any-append}
 use Rattle.std.proofs.lemmas.List.Sums.{sum_by-append}
 use Rattle.std.proofs.lemmas.Option.{slice_get_within, slice_get-get_or}
 use Rattle.t32_base.specs.declared.process.ClusterNo.{ClusterNo}
+use Rattle.sys_text.specs.Valid.{are_images, are_roots, is_header, is_pair, is_system, is_within}
 use Rattle.sys_text.specs.declared.system.System.{System}
 use Rattle.sys_text.specs.declared.system.Root.{Root}
 use Rattle.bus_msg.specs.declared.entry.Entry.{Entry}
@@ -176,3 +178,14 @@ written n old new same count = take-append-le n new (drop (length new) old) (ome
 pub none_there : {X : Type 0} (xs : List X) → (length xs == 0) ≡ true → xs ≡ []
 none_there [] h = refl
 none_there (x ∷ xs) h = absurd (let none : length (x ∷ xs) ≡ 0 = eqb-true (length (x ∷ xs)) 0 h in omega (arith, none))
+
+front : (a b : Bool) → (a && b) ≡ true → a ≡ true
+front a b h = (both a b h).0
+
+-- a valid system has clusters
+pub some_clusters : (s : System) → is_system s ≡ true → 0 < s.clusters
+some_clusters s valid =
+    let header = front (is_header s) _ (front (is_header s && are_images s.images) _ (front (is_header s && are_images s.images && are_roots s.clusters (length s.images) s.roots) _ valid)) in
+    let pair = front (is_within 2 16 s.clusters && is_pair s.clusters (s.pager).0 (s.pager).1) _ (front (is_within 2 16 s.clusters && is_pair s.clusters (s.pager).0 (s.pager).1 && is_within 1 1000 s.syncreads) _ header) in
+    let low = front (nat_le 2 s.clusters) _ (front (is_within 2 16 s.clusters) _ pair) in
+    omega (arith, leb-true 2 s.clusters low)

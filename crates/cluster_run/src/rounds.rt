@@ -1,7 +1,8 @@
 //! Rounds of turns.
-ghost use Rattle.std.specs.Prelude.{◌≡◌, ◌<◌, OnOk, true, length};
+ghost use Rattle.std.specs.Prelude.{◌≡◌, ◌<◌, ◌≤◌, ◌+◌, ◌⊎◌, OnOk, true, length};
 ghost use Rattle.cert_sched.specs.Rules.{is_over};
 ghost use Rattle.cluster_run.specs.Along.{AllAlong};
+ghost use Rattle.cluster_run.specs.Progress.{GetsOn, IsOver, total};
 
 use crate::turn::take_turn;
 use bus_order::bus::Bus;
@@ -24,20 +25,18 @@ pub fn run_rounds(
     pick: u32,
 ) -> Result<(), NoMemory>
     requires along { AllAlong bus.old clusters.old }
+    requires some { 0 < length clusters.old }
     requires seed { pick < MODULUS }
     ensures along { OnOk result (AllAlong bus.new clusters.new) }
     ensures over { OnOk result (is_over bus.new.system bus.new.log ≡ true) }
     ensures system { OnOk result (bus.new.system ≡ bus.old.system) }
 {
     let mut seed = u64::from(pick);
-    for _ in 0..u64::MAX {
-        if bus.is_over() {
-            return Ok(());
-        }
-        run_round(bus, clusters, seed)?;
+    'rounds: while !bus.is_over() {
+        run_round(bus, clusters, seed as usize % clusters.len())?;
         seed = next_seed(pick, seed);
     }
-    Err(NoMemory)
+    Ok(())
 }
 
 // The seed of the next round: 0 at a pick of 0.
@@ -51,16 +50,40 @@ fn next_seed(pick: u32, seed: u64) -> u64
     (FACTOR * seed + STEP) % MODULUS
 }
 
-// One round, which begins at a cluster, cyclically.
-fn run_round(bus: &mut Bus<'_>, clusters: &mut [Cluster], seed: u64) -> Result<(), NoMemory>
+// One round, which begins at a cluster, cyclically. Less is then left to do, or the log is over.
+fn run_round(bus: &mut Bus<'_>, clusters: &mut [Cluster], first: usize) -> Result<(), NoMemory>
     requires along { AllAlong bus.old clusters.old }
-    requires seed { seed < MODULUS }
+    requires has { first < length clusters.old }
     ensures along { OnOk result (AllAlong bus.new clusters.new) }
     ensures system { OnOk result (bus.new.system ≡ bus.old.system) }
+    ensures lighter { OnOk result (total clusters.new ≤ total clusters.old) }
+    ensures gets_on { OnOk result ((total clusters.new + 1 ≤ total clusters.old) ⊎ IsOver bus.new) }
 {
     let count = clusters.len();
-    for turn in 0..count {
-        give_turn(bus, clusters, (seed as usize + turn) % count)?;
+    give_turns(bus, clusters, first, count)?;
+    give_turns(bus, clusters, 0, first)?;
+    let _legal = bus.length();
+    Ok(())
+}
+
+// Gives the clusters from one number to another their turns.
+fn give_turns(
+    bus: &mut Bus<'_>,
+    clusters: &mut [Cluster],
+    from: usize,
+    upto: usize,
+) -> Result<(), NoMemory>
+    requires along { AllAlong bus.old clusters.old }
+    requires order { from ≤ upto }
+    requires within { upto ≤ length clusters.old }
+    ensures along { OnOk result (AllAlong bus.new clusters.new) }
+    ensures system { OnOk result (bus.new.system ≡ bus.old.system) }
+    ensures over { OnOk result (IsOver bus.old → IsOver bus.new) }
+    ensures lighter { OnOk result (total clusters.new ≤ total clusters.old) }
+    ensures gets_on { OnOk result (GetsOn bus.old bus.new (total clusters.old) (total clusters.new) from upto) }
+{
+    for number in from..upto {
+        give_turn(bus, clusters, number)?;
     }
     Ok(())
 }
@@ -71,6 +94,9 @@ fn give_turn(bus: &mut Bus<'_>, clusters: &mut [Cluster], number: usize) -> Resu
     requires has { number < length clusters.old }
     ensures along { OnOk result (AllAlong bus.new clusters.new) }
     ensures system { OnOk result (bus.new.system ≡ bus.old.system) }
+    ensures over { OnOk result (IsOver bus.old → IsOver bus.new) }
+    ensures lighter { OnOk result (total clusters.new ≤ total clusters.old) }
+    ensures gets_on { OnOk result (GetsOn bus.old bus.new (total clusters.old) (total clusters.new) number (number + 1)) }
 {
     if bus.is_over() {
         return Ok(());

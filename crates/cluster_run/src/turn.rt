@@ -1,6 +1,8 @@
 //! One turn of a cluster.
-ghost use Rattle.std.specs.Prelude.{◌≡◌, ◌≤◌, OnOk, false};
+ghost use Rattle.std.specs.Prelude.{◌≡◌, ◌≤◌, ◌+◌, ◌⊎◌, OnOk, false};
 ghost use Rattle.cert_sched.specs.Rules.{is_over};
+ghost use Rattle.cluster_core.specs.View.{load};
+ghost use Rattle.cluster_run.specs.Progress.{GetsOn, IsOver, Rests};
 ghost use Rattle.cluster_run.specs.Along.{Extends, IsAlong, IsAtRest, IsOpenUpto, IsReadyAt, IsSending, IsSent, TakesNext};
 
 use bus_order::bus::Bus;
@@ -18,6 +20,7 @@ pub fn catch_up(bus: &Bus<'_>, cluster: &mut Cluster, upto: u64)
     ensures along { IsAlong bus.now cluster.new }
     ensures caught { cluster.new.cursor ≡ upto }
     ensures number { cluster.new.number ≡ cluster.old.number }
+    ensures lighter { load cluster.new ≤ load cluster.old }
 {
     let _legal = bus.length();
     'entries: while cluster.cursor() < upto {
@@ -45,6 +48,8 @@ pub fn take_turn(bus: &mut Bus<'_>, cluster: &mut Cluster) -> Result<(), NoMemor
     ensures along { OnOk result (IsAlong bus.new cluster.new) }
     ensures extends { OnOk result (Extends bus.old bus.new cluster.old.number) }
     ensures number { OnOk result (cluster.new.number ≡ cluster.old.number) }
+    ensures lighter { OnOk result (load cluster.new ≤ load cluster.old) }
+    ensures gets_on { OnOk result (GetsOn bus.old bus.new (load cluster.old) (load cluster.new) cluster.old.number.0 (cluster.old.number.0 + 1)) }
 {
     let length = bus.length();
     catch_up(bus, cluster, length);
@@ -62,6 +67,7 @@ fn send(bus: &mut Bus<'_>, cluster: &mut Cluster) -> Result<(), NoMemory>
     ensures along { OnOk result (IsAlong bus.new cluster.new) }
     ensures extends { OnOk result (Extends bus.old bus.new cluster.old.number) }
     ensures number { OnOk result (cluster.new.number ≡ cluster.old.number) }
+    ensures lighter { OnOk result (load cluster.new ≤ load cluster.old) }
 {
     cluster.tried();
     transmit_head(bus, cluster)?;
@@ -91,6 +97,7 @@ fn tell_rest(bus: &mut Bus<'_>, cluster: &Cluster) -> Result<(), NoMemory>
     requires { IsAtRest bus.old cluster.now }
     ensures along { OnOk result (IsAlong bus.new cluster.now) }
     ensures extends { OnOk result (Extends bus.old bus.new cluster.now.number) }
+    ensures told { OnOk result (IsOver bus.new ⊎ Rests bus.old bus.new cluster.now.number.0 (cluster.now.number.0 + 1)) }
 {
     let _legal = bus.length();
     let Some(rests) = cluster.rests()? else {

@@ -1,10 +1,16 @@
-use Rattle.std.proofs.Common.{◌≡◌, ◌<◌, ◌^◌}
+use Rattle.std.proofs.Common.{◌≡◌, ◌+◌, ◌<◌, ◌^◌, length, cond}
+use Rattle.cert_sched.specs.Rules.{is_over}
 use Rattle.cluster_run.specs.Along.{AllAlong}
+use Rattle.cluster_run.specs.Progress.{total}
 use Rattle.cluster_run.proofs.rounds.run_rounds.Given as goal
 
-abbrev pub invariant-loop : goal.invariant-loop
-invariant-loop l = record {
+abbrev pub invariant-rounds : goal.invariant-rounds
+invariant-rounds l = record {
   along : AllAlong l.bus l.clusters;
+  some : 0 < length l.clusters;
   seed : l.seed < 2 ^ 31;
   system : l.bus.system ≡ l.fn.bus.system;
 }
+
+abbrev pub decreases-rounds : goal.decreases-rounds
+decreases-rounds l = total l.clusters + cond (is_over l.bus.system l.bus.log) 0 1

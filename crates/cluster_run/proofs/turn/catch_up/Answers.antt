@@ -1,6 +1,7 @@
 use Rattle.std.proofs.Common.{◌+◌, ◌∙◌, arith}
 use Rattle.cluster_run.specs.Along.{IsOpenUpto}
 use Rattle.cluster_run.proofs.Beside.{along_taken, cursor_taken, open_below, ready_along}
+use Rattle.cluster_run.proofs.Progressing.{load_taken}
 use Rattle.cluster_run.proofs.turn.catch_up.Goals as goal
 
 pub take_next-requires : goal.take_next-requires
@@ -18,4 +19,5 @@ entries-preserved c =
       along = along_taken c.args.bus.now c.entries.cluster c.take_next.new.cluster c.entries.invariant.along c.length-legal.ensures.legal next_open c.take_next.ensures;
       behind = omega (arith, moved.0, c.entries-test.true, c.cursor.ensures);
       number = moved.1 ∙ c.entries.invariant.number;
+      lighter = omega (arith, c.entries.invariant.lighter, load_taken c.args.bus.now c.entries.cluster c.take_next.new.cluster c.take_next.ensures);
     }

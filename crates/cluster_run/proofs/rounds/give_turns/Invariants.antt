@@ -1,0 +1,14 @@
+use Rattle.std.proofs.Common.{◌≡◌, ◌≤◌, length}
+use Rattle.cluster_run.specs.Along.{AllAlong}
+use Rattle.cluster_run.specs.Progress.{GetsOn, IsOver, total}
+use Rattle.cluster_run.proofs.rounds.give_turns.Given as goal
+
+abbrev pub invariant-loop-number : goal.invariant-loop-number
+invariant-loop-number l = record {
+  along : AllAlong l.bus l.clusters;
+  within : l.upto ≤ length l.clusters;
+  system : l.bus.system ≡ l.fn.bus.system;
+  over : IsOver l.fn.bus → IsOver l.bus;
+  lighter : total l.clusters ≤ total l.initial.clusters;
+  gets_on : GetsOn l.fn.bus l.bus (total l.initial.clusters) (total l.clusters) l.from l.number;
+}
