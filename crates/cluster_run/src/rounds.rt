@@ -88,8 +88,8 @@ fn give_turns(
     Ok(())
 }
 
-// Gives the cluster with a number its turn, where the log is not over.
-fn give_turn(bus: &mut Bus<'_>, clusters: &mut [Cluster], number: usize) -> Result<(), NoMemory>
+/// Gives the cluster with a number its turn, where the log is not over.
+pub fn give_turn(bus: &mut Bus<'_>, clusters: &mut [Cluster], number: usize) -> Result<(), NoMemory>
     requires along { AllAlong bus.old clusters.old }
     requires has { number < length clusters.old }
     ensures along { OnOk result (AllAlong bus.new clusters.new) }

@@ -1,5 +1,5 @@
 //! Reads, closed ends and waiting, at the edges of their calls.
-ghost use Rattle.std.specs.Prelude.{◌≡◌, ◌<◌, ◌+◌, ◌^◌, OnOk, IfOk};
+ghost use Rattle.std.specs.Prelude.{◌≡◌, ◌<◌, ◌+◌, OnOk};
 
 use crate::steps::{calling, set};
 use proc_state::process::Process;

@@ -1,5 +1,5 @@
 //! One step of a process at the edges of its calls.
-ghost use Rattle.std.specs.Prelude.{◌<◌};
+ghost use Rattle.std.specs.Prelude.{◌≡◌, ◌<◌, IfOk};
 
 use proc_state::process::Process;
 use rv_cpu::registers::read;
@@ -15,7 +15,9 @@ use t32_base::streams::NoMemory;
 const ECALL: [u8; 4] = [0x73, 0, 0, 0];
 
 // A process of one page whose first word is a system call, with these registers a0, a1, a2 and a7.
-pub fn calling(alloc: Global, a0: u32, a1: u32, a2: u32, a7: u32) -> Result<Process, NoMemory> {
+pub fn calling(alloc: Global, a0: u32, a1: u32, a2: u32, a7: u32) -> Result<Process, NoMemory>
+    ensures { IfOk result (λ p. p.mail.next ≡ 0) }
+{
     let mut p = Process::root(alloc, Pid(16), 1, &ECALL, 1000, 0, 0)?;
     set(&mut p.small, 10, a0);
     set(&mut p.small, 11, a1);

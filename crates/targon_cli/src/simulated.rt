@@ -1,7 +1,6 @@
 //! What `sim` makes of the bytes of its input: a run of clusters, and what is written of it.
-ghost use Rattle.std.specs.Prelude.{◌≡◌, ◌<◌, ◌^◌, ◌==◌, IfOk, true};
-ghost use Rattle.std.specs.List.{list_any};
-ghost use Rattle.cluster_run.specs.Simulated.{homes_differ as homes_differ_in, is_simulated as is_simulated_system};
+ghost use Rattle.std.specs.Prelude.{◌≡◌, ◌<◌, ◌^◌, IfOk, true};
+ghost use Rattle.cluster_run.specs.Simulated.{is_simulated as is_simulated_system};
 ghost use Rattle.plain_kernel.specs.Apply.{plain_run};
 ghost use Rattle.plain_kernel.specs.Kernel.{Kernel};
 ghost use Rattle.report_text.specs.Good.{IsGoodBuilt};
@@ -11,14 +10,14 @@ ghost use Rattle.targon_cli.specs.Reply.{MakesSim, run_text as run_text_of, Simu
 
 use crate::reply::{DONE, Reply, not_yet, refused_system};
 use cluster_run::life::Ran;
-use cluster_run::sim::sim;
+use cluster_run::sim::{is_simulated, sim};
 use plain_kernel::item::RunRefused;
 use plain_kernel::plain::run as run_items;
 use report_text::run::Run;
 use report_text::whole::{log_text, report};
 use std::alloc::Global;
 use std::sync::Arc;
-use sys_text::system::{Root, System};
+use sys_text::system::System;
 use sys_text::{SystemRefused, read_system};
 use t32_base::lists::Text;
 use t32_base::streams::NoMemory;
@@ -78,27 +77,4 @@ fn run_text(alloc: Global, system: &System, run: &Run, log: bool) -> Result<Text
         text.extend(log_text(alloc, run.log.as_slice())?.as_slice())?;
     }
     Ok(text)
-}
-
-// Whether the clusters of a system are run yet.
-fn is_simulated(system: &System) -> bool
-    ensures { result ≡ is_simulated_system system.now }
-{
-    system.chans.len() == 0 && homes_differ(system.roots.as_slice())
-}
-
-fn homes_differ(roots: &[Root]) -> bool
-    ensures { result ≡ homes_differ_in roots.now }
-{
-    match roots {
-        [] => true,
-        [root, rest @ ..] => !is_home_in(root, rest) && homes_differ(rest),
-    }
-}
-
-// Whether one of the roots has the home of this one.
-fn is_home_in(root: &Root, roots: &[Root]) -> bool
-    ensures { result ≡ list_any (λ q. q.home.0 == root.now.home.0) roots.now }
-{
-    roots.iter().any(|other| other.home.0 == root.home.0)
 }
