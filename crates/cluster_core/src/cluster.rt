@@ -67,11 +67,7 @@ impl Model for Cluster {
 impl Cluster {
     /// A cluster at its start: the placement of the roots, and its root with its image. It has one at most,
     /// and no channel links it yet.
-    pub fn boot(
-        alloc: Global,
-        system: &Arc<System>,
-        number: ClusterNo,
-    ) -> Result<Cluster, NoMemory>
+    pub fn boot(alloc: Global, system: &Arc<System>, number: ClusterNo) -> Result<Cluster, NoMemory>
         requires valid { is_system (arc_value system.now) ≡ true }
         requires unlinked { (arc_value system.now).chans ≡ [] }
         requires has { number.0 < (arc_value system.now).clusters }

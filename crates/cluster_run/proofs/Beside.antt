@@ -55,14 +55,14 @@ open_with b c n e same legal open_upto at =
 -- each beginning of what goes on goes on
 pub open_below : (b : BusView) (m n : ℕ) → IsLegalIn b → IsOpenUpto b n → m ≤ n → IsOpenUpto b m
 open_below b m n legal open_upto less = elim (slice_get_cases b.log m).1 [
-  inl there ↦ (omega (arith, there.1), goes_on_before b.system b.log m there.0 legal there.2)
+  | inl there ↦ (omega (arith, there.1), goes_on_before b.system b.log m there.0 legal there.2)
   | inr past ↦ let same : n ≡ m = omega (arith, past.0, open_upto.0) in subst (IsOpenUpto b) same open_upto
 ]
 
 -- what stands before an entry goes on
 pub open_before : (b : BusView) (n : ℕ) → IsLegalIn b → n < length b.log → IsOpenUpto b n
 open_before b n legal within = elim (slice_get_cases b.log n).1 [
-  inl there ↦ (omega (arith, within), goes_on_before b.system b.log n there.0 legal there.2)
+  | inl there ↦ (omega (arith, within), goes_on_before b.system b.log n there.0 legal there.2)
   | inr past ↦ absurd (omega (arith, past.0, within))
 ]
 

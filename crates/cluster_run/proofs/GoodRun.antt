@@ -84,7 +84,7 @@ all_enough b end cs calls legal upto last = range_all (λ n. has_counted_steps b
   where
     at_place : (k : ℕ) (o : Option ClusterView) → slice_get cs k ≡ o → k < length cs → nat_le (capped (least_steps (before_end b.log) b.log (cluster_no k))) (slice_index (map (λ (c : ClusterView). c.steps) cs) k) ≡ true
     at_place k None at within = let past = slice_get_cases cs k in elim past.1 [
-      inl there ↦ (let both_are : None ≡ Some there.0 = sym at ∙ there.2 in cc)
+      | inl there ↦ (let both_are : None ≡ Some there.0 = sym at ∙ there.2 in cc)
       | inr none ↦ absurd (omega (arith, none.0, within))
     ]
     at_place k (Some c) at within =

@@ -173,7 +173,7 @@ none_returned b k n (Some e) legal at =
 there : (b : BusView) (end : ℕ) (cs : List ClusterView) → IsLegalIn b → IsUpto b end (length cs) cs → (k : ClusterNo) (from : ℕ) → k.0 < (b.system).clusters → begins_at b.log k from ≡ true
     → (list_any (is_life k from) (map (life_at end) cs) || may_be_left_out b.log k from) ≡ true
 there b end cs legal upto k zero has begins = ap (λ t. t || may_be_left_out b.log k 0) (elim (slice_get_cases cs k.0).1 [
-  inl at ↦ (let number = ((upto.all).along k.0 at.0 at.2).0 in any_there (is_life k 0) (map (life_at end) cs) k.0 (life_at end at.0) (get_map end cs k.0 at.0 at.2) (ap (λ t. t && true) (eq-eqb ((at.0).number).0 k.0 number)))
+  | inl at ↦ (let number = ((upto.all).along k.0 at.0 at.2).0 in any_there (is_life k 0) (map (life_at end) cs) k.0 (life_at end at.0) (get_map end cs k.0 at.0 at.2) (ap (λ t. t && true) (eq-eqb ((at.0).number).0 k.0 number)))
   | inr past ↦ absurd (omega (arith, past.0, has, (upto.all).each))
 ])
 there b end cs legal upto k (suc n) has begins = absurd (true≢false (sym begins ∙ none_returned b k n (slice_get b.log n) legal refl))

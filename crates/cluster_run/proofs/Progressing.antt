@@ -74,7 +74,7 @@ marked_still b k m n within had = by_place (nat_eq n k.0) refl had
         let P : ClusterNo → Type 0 = λ j. is_some (mark_in (slice_set b.marks k.0 (Some m)) j) ≡ true in
         subst P same (set_here b.marks k m within)
     by_place false is had = elim had [
-      inl has ↦ ap is_some (set_there b.marks k (cluster_no n) m (λ same. true≢false (sym (eq-eqb n k.0 same) ∙ is))) ∙ has
+      | inl has ↦ ap is_some (set_there b.marks k (cluster_no n) m (λ same. true≢false (sym (eq-eqb n k.0 same) ∙ is))) ∙ has
       | inr same ↦ absurd (true≢false (sym (eq-eqb n k.0 same) ∙ is))
     ]
 
@@ -106,7 +106,7 @@ pub turn_gets_on : {E : Type 0} (r : Result (Unit {0}) E) (b after : BusView) (c
     → OnOk r (GetsOn b after (load (get_or cs n d)) (load new) ((get_or cs n d).number).0 (((get_or cs n d).number).0 + 1)) → OnOk r (GetsOn b after (total cs) (total (slice_set cs n new)) n (n + 1))
 turn_gets_on (Err e) b after cs n d new within number gets = tt
 turn_gets_on (Ok u) b after cs n d new within number gets = elim gets [
-  inl less ↦ inl (omega (arith, less, sum_by-set load cs n new d within))
+  | inl less ↦ inl (omega (arith, less, sum_by-set load cs n new d within))
   | inr more ↦ inr (subst (λ k. IsOver after ⊎ Rests b after k (k + 1)) number more)
 ]
 
@@ -114,7 +114,7 @@ turn_gets_on (Ok u) b after cs n d new within number gets = elim gets [
 pub gets_on_more : (b then after : BusView) (left still now from n upto : ℕ) → from ≤ n → n ≤ upto → (IsOver then → IsOver after) → now ≤ still → still ≤ left → GetsOn b then left still from n → GetsOn then after still now n upto
     → GetsOn b after left now from upto
 gets_on_more b then after left still now from n upto low high over less lessen before next = elim before [
-  inl done ↦ inl (omega (arith, done, less))
+  | inl done ↦ inl (omega (arith, done, less))
   | inr more ↦ after_rest more
 ]
   where
@@ -123,7 +123,7 @@ gets_on_more b then after left still now from n upto low high over less lessen b
       marked = λ m from_m m_upto. by_place m (nat_lt_or m n) from_m m_upto;
       kept = λ m has. second.kept m (first.kept m has);
       awaits = λ any. elim any [
-        inl some ↦ some_awaits (nat_lt_or from n) some
+        | inl some ↦ some_awaits (nat_lt_or from n) some
         | inr awaited ↦ second.awaits (inr (first.awaits (inr awaited)))
       ];
     }
@@ -177,7 +177,7 @@ none_awaited b legal all = any_none (λ k. lives_in (placement b.system b.log) k
 pub round_gets_on : (b then after : BusView) (left still now first count : ℕ) → IsLegalIn after → count ≡ (after.system).clusters → first < count → (IsOver then → IsOver after) → now ≤ still → still ≤ left
     → GetsOn b then left still first count → GetsOn then after still now 0 first → (now + 1 ≤ left) ⊎ IsOver after
 round_gets_on b then after left still now first count legal each within over less lessen before next = elim before [
-  inl done ↦ inl (omega (arith, done, less))
+  | inl done ↦ inl (omega (arith, done, less))
   | inr more ↦ after_rest more
 ]
   where

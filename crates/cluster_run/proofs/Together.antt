@@ -157,16 +157,18 @@ all_at_start system b cs begins all =
     subst P (sym begins) (record {
       each = all.each;
       along = λ n c at.
-          let one = all.started n c at in
-          (one.number_is, record {
-            system = (one.first).system_is;
-            has = omega (arith, slice_get_within cs n c at, all.each, one.number_is);
-            open_upto = (subst (λ m. m ≤ 0) (sym (one.follows).cursor) (omega arith), ap (λ m. is_over system (take m [])) (one.follows).cursor ∙ none_over system);
-            follows = subst (λ m. FollowsBuilt c.system (take m []) c) (sym (one.follows).cursor) (subst (λ s. FollowsBuilt s [] c) (sym (one.first).system_is) one.follows);
-            sent_before = ap (λ m. list_any (is_by_cluster c.number) (drop m [])) (one.follows).cursor;
-            empty = (one.first).queue;
-            unfailed = (one.first).failed;
-          });
+          let one = all.started n c at in (
+            one.number_is,
+            record {
+              system = (one.first).system_is;
+              has = omega (arith, slice_get_within cs n c at, all.each, one.number_is);
+              open_upto = (subst (λ m. m ≤ 0) (sym (one.follows).cursor) (omega arith), ap (λ m. is_over system (take m [])) (one.follows).cursor ∙ none_over system);
+              follows = subst (λ m. FollowsBuilt c.system (take m []) c) (sym (one.follows).cursor) (subst (λ s. FollowsBuilt s [] c) (sym (one.first).system_is) one.follows);
+              sent_before = ap (λ m. list_any (is_by_cluster c.number) (drop m [])) (one.follows).cursor;
+              empty = (one.first).queue;
+              unfailed = (one.first).failed;
+            },
+          );
     })
 
 -- ---- a slice of a vector was written

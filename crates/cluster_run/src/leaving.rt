@@ -31,12 +31,7 @@ pub fn leave(alloc: Global, bus: Bus<'_>, mut clusters: Vec<Cluster>) -> Result<
 }
 
 // The run of a bus whose log ends at a place, with its clusters, which took in what stands before.
-fn gather(
-    alloc: Global,
-    bus: Bus<'_>,
-    clusters: Vec<Cluster>,
-    end: u64,
-) -> Result<Ran, NoMemory>
+fn gather(alloc: Global, bus: Bus<'_>, clusters: Vec<Cluster>, end: u64) -> Result<Ran, NoMemory>
     requires upto { IsUpto bus end (length clusters.items) clusters.items }
     requires over { is_over bus.system bus.log ≡ true }
     requires last { end + 1 ≡ length bus.log }

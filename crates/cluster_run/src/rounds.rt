@@ -19,11 +19,7 @@ const MODULUS: u64 = 2147483648;
 /// Gives each cluster one turn a round, until the log is over. A pick of 0 begins each round at cluster 0;
 /// another pick p at x modulo the number of clusters, where x is p, and then the next of a linear congruential
 /// sequence for each round.
-pub fn run_rounds(
-    bus: &mut Bus<'_>,
-    clusters: &mut [Cluster],
-    pick: u32,
-) -> Result<(), NoMemory>
+pub fn run_rounds(bus: &mut Bus<'_>, clusters: &mut [Cluster], pick: u32) -> Result<(), NoMemory>
     requires along { AllAlong bus.old clusters.old }
     requires some { 0 < length clusters.old }
     requires seed { pick < MODULUS }

@@ -27,10 +27,10 @@ const TOO_LONG: u8 = 8;
 
 /// What the program does with its words, its input and its output, and the status with which it ends: 0
 /// where a command was carried out, 1 where the words are no command, 2 where the command refuses its
-/// input, 4 where the input could not be read, 5 where the output could not be written, 6 where memory
-/// was refused and nothing was written, and 8 where the input is longer than is read. After 0 `ran` is the
-/// run that `sim` made, and after 5 the run whose report was being written; else it is none. The threads of
-/// `rt` and the gate are used by no command yet.
+/// input, 3 where an item of the schedule cannot be read or applied, 4 where the input could not be read, 5
+/// where the output could not be written, 6 where memory was refused and nothing was written, and 8 where
+/// the input is longer than is read. After 0 `ran` is the run that `sim` made, and after 5 the run whose
+/// report was being written; else it is none. The threads of `rt` and the gate are used by no command yet.
 pub fn targon<R: Threads + Wait + Sync, S: Source, K: Sink, G: Gate + Sync>(
     _rt: &R,
     alloc: Global,
