@@ -1,0 +1,222 @@
+-- Laws of letters between processes: what an entry that tells of an emission makes of the process that sent it and of every other, also where they run ahead of the log.
+use Rattle.std.proofs.Common.{◌≡◌, ℕ, zero, suc, ◌+◌, ◌-◌, ◌≤◌, refl, sym, ◌∙◌, ap, subst, arith, List, [], ◌∷◌, ◌++◌, Bool, true, false, cond, ◌&&◌, ◌||◌, not, eqb, eqb-true, eq-eqb, Option, Some, None, is_some, true≢false}
+use Rattle.std.specs.Prelude.{◌≢◌, if◌then◌else◌, option_and_then, option_map}
+use Rattle.std.specs.Option.{option_map_or}
+use Rattle.std.specs.FinMap.{find, put}
+use Rattle.t32_base.specs.declared.process.Pid.{Pid}
+use Rattle.t32_base.specs.declared.letter.Letter.{Letter}
+use Rattle.t32_base.specs.declared.letter.To.{To}
+use Rattle.t32_base.specs.declared.letter.To.TheVariants.{Proc, Tty}
+use Rattle.sys_text.specs.declared.system.System.{System}
+use Rattle.proc_state.specs.State.{ProcState, delivered, has_ended}
+use Rattle.sys_calls.specs.declared.steps.Emission.{Emission}
+use Rattle.sys_calls.specs.declared.steps.Emission.TheVariants.{Mail as Sent, Exit as Ended}
+use Rattle.sys_calls.specs.Calls.{Next, Silent, Emits, Over}
+use Rattle.sys_calls.specs.Next.{next_step, silently, last_emission}
+use Rattle.sys_calls.proofs.Counting.{LastSent, last_sent, last_counts, silently_counts, silent_goes_on, letter_goes_on, ended_is_over}
+use Rattle.sys_calls.proofs.RunLemma.{silently-delivered, last_emission-delivered}
+use Rattle.plain_kernel.specs.Kernel.{Kernel, pid_cmp, process_at, with_process, letter_put, letter_to, emitted}
+use Rattle.plain_kernel.proofs.Entries.{some_same}
+use Rattle.plain_kernel.proofs.Laws.{process_at-same, last_silent, no_silent}
+use Rattle.plain_kernel.proofs.Others.{process_at-other}
+use Rattle.bus_msg.specs.declared.entry.What.{What}
+use Rattle.bus_msg.specs.declared.entry.Entry.{Entry}
+use Rattle.bus_msg.specs.Places.{same_pid}
+use Rattle.bus_msg.specs.PlacedAfter.{what}
+use Rattle.cert_sched.specs.Schedule.{done, plain_after, process_after, done_after}
+use Rattle.cert_sched.specs.Steps.{silent_upto, emission_at}
+use Rattle.cert_sched.specs.Scripted.{is_done}
+use Rattle.cert_sched.specs.CertAfter.{count_in}
+use Rattle.cert_sched.proofs.StepLaws.{Tells, sent_from, silent_from, sent_applies, plain_after-sent, done_kernel, done_after-other, done_after-here}
+
+-- ---- what is delivered
+
+-- where a letter goes is an end of this process
+abbrev pub is_end_of : Pid → To → Bool
+is_end_of q (Proc p e) = same_pid p q
+is_end_of q (Tty t) = false
+
+-- a process with this pid that has not ended, after an emission was delivered: a letter to one of its ends arrives
+abbrev pub arrived : Emission → Pid → ProcState → ProcState
+arrived (Sent letter) q s = if is_end_of q letter.to then delivered s letter else s
+arrived (Ended end) q s = s
+
+-- a process with this pid after an emission was delivered: a letter to one of its ends arrives, unless it has ended
+abbrev pub received : Emission → Pid → ProcState → ProcState
+received (Sent letter) q s = if has_ended (s.small).status then s else if is_end_of q letter.to then delivered s letter else s
+received (Ended end) q s = s
+
+pub received-ended : (e : Emission) (q : Pid) (s : ProcState) → has_ended (s.small).status ≡ true → received e q s ≡ s
+received-ended (Sent letter) q s is = ap (λ b. cond b s (cond (is_end_of q letter.to) (delivered s letter) s)) is
+received-ended (Ended end) q s is = refl
+
+pub received-goes_on : (e : Emission) (q : Pid) (s : ProcState) → has_ended (s.small).status ≡ false → received e q s ≡ arrived e q s
+received-goes_on (Sent letter) q s is = ap (λ b. cond b s (cond (is_end_of q letter.to) (delivered s letter) s)) is
+received-goes_on (Ended end) q s is = refl
+
+-- ---- in a kernel
+
+unchanged : (o : Option ProcState) → o ≡ option_map (λ s. s) o
+unchanged None = refl
+unchanged (Some s) = refl
+
+unsent : (o : Option ProcState) → o ≡ option_map (λ (s : ProcState). cond (has_ended (s.small).status) s s) o
+unsent None = refl
+unsent (Some s) = by_status (has_ended (s.small).status)
+  where
+    by_status : (b : Bool) → Some s ≡ Some (cond b s s)
+    by_status true = refl
+    by_status false = refl
+
+put_other : (k : Kernel) (letter : Letter) (p q : Pid) (o : Option ProcState) → q.0 ≢ p.0 → find pid_cmp q (letter_put letter p o k.processes) ≡ process_at k q
+put_other k letter p q None apart = refl
+put_other k letter p q (Some s) apart = by_status (has_ended (s.small).status)
+  where
+    by_status : (b : Bool) → find pid_cmp q (cond b k.processes (put pid_cmp p (delivered s letter) k.processes)) ≡ process_at k q
+    by_status true = refl
+    by_status false = process_at-other k p (delivered s letter) q apart
+
+put_here : (k : Kernel) (letter : Letter) (p : Pid) (o : Option ProcState) → process_at k p ≡ o
+    → find pid_cmp p (letter_put letter p o k.processes) ≡ option_map (λ (s : ProcState). cond (has_ended (s.small).status) s (delivered s letter)) o
+put_here k letter p None there = there
+put_here k letter p (Some s) there = by_status (has_ended (s.small).status)
+  where
+    by_status : (b : Bool) → find pid_cmp p (cond b k.processes (put pid_cmp p (delivered s letter) k.processes)) ≡ Some (cond b s (delivered s letter))
+    by_status true = there
+    by_status false = process_at-same k p (delivered s letter)
+
+letter_at : (k : Kernel) (letter : Letter) (q : Pid) (to : To)
+    → process_at (letter_to k letter to) q ≡ option_map (λ (s : ProcState). cond (has_ended (s.small).status) s (cond (is_end_of q to) (delivered s letter) s)) (process_at k q)
+letter_at k letter q (Tty t) = unsent (process_at k q)
+letter_at k letter q (Proc p e) = by_pid (same_pid p q) refl
+  where
+    by_pid : (b : Bool) → same_pid p q ≡ b
+        → find pid_cmp q (letter_put letter p (process_at k p) k.processes) ≡ option_map (λ (s : ProcState). cond (has_ended (s.small).status) s (cond b (delivered s letter) s)) (process_at k q)
+    by_pid true is =
+        let number : p.0 ≡ q.0 = eqb-true p.0 q.0 is in
+        let same : p ≡ q = λ i. record { 0 = number i } in
+        subst (λ r. find pid_cmp r (letter_put letter p (process_at k p) k.processes) ≡ option_map (λ (s : ProcState). cond (has_ended (s.small).status) s (delivered s letter)) (process_at k r)) same (put_here k letter p (process_at k p) refl)
+    by_pid false is = put_other k letter p q (process_at k p) (λ e. true≢false (sym (eq-eqb p.0 q.0 (sym e)) ∙ is)) ∙ unsent (process_at k q)
+
+-- an emission that is delivered gives its letter to the process where it goes, unless that has ended, and leaves every other
+pub process_at-emitted : (k : Kernel) (e : Emission) (q : Pid) → process_at (emitted k e) q ≡ option_map (received e q) (process_at k q)
+process_at-emitted k (Sent letter) q = letter_at k letter q letter.to
+process_at-emitted k (Ended end) q = unchanged (process_at k q)
+
+-- ---- in the kernel after a log
+
+-- after an entry that tells of an emission, the process that sent it is as the step left it, with its own letter where it wrote to itself
+pub process_after-sender : (system : System) (log : List Entry) (entry : Entry) (p : Pid) (at : ℕ) (e : Emission) (t : ProcState) → emission_at system log p at ≡ Some (e, t) → Tells p at e (what entry)
+    → process_after system (log ++ entry ∷ []) p ≡ Some (received e p t)
+process_after-sender system log entry p at e t is tells =
+    let s = sent_from system log p at e t is in
+    ap (option_and_then (λ k. process_at k p)) (plain_after-sent system log entry p at e t s.kernel s.before is tells)
+    ∙ process_at-emitted (with_process s.kernel p t) e p ∙ ap (option_map (received e p)) (process_at-same s.kernel p t)
+
+-- and every other process is as it was, with the letter where it goes there
+pub process_after-receiver : (system : System) (log : List Entry) (entry : Entry) (p : Pid) (at : ℕ) (e : Emission) (t : ProcState) (q : Pid) → emission_at system log p at ≡ Some (e, t) → Tells p at e (what entry)
+    → q.0 ≢ p.0 → process_after system (log ++ entry ∷ []) q ≡ option_map (received e q) (process_after system log q)
+process_after-receiver system log entry p at e t q is tells apart =
+    let s = sent_from system log p at e t is in
+    ap (option_and_then (λ k. process_at k q)) (plain_after-sent system log entry p at e t s.kernel s.before is tells)
+    ∙ process_at-emitted (with_process s.kernel p t) e q ∙ ap (option_map (received e q)) (process_at-other s.kernel p t q apart ∙ sym (ap (option_and_then (λ k. process_at k q)) s.before))
+
+-- ---- ahead of the log
+
+not_true : (b : Bool) → (b ≡ true → ⊥) → b ≡ false
+not_true true never = absurd (never refl)
+not_true false never = refl
+
+silent_not_over : (next : Next) (t : ProcState) → next ≡ Silent t → next ≡ Over → ⊥
+silent_not_over next t silent over = cc
+
+emits_not_over : (next : Next) (m : Emission) (t : ProcState) → next ≡ Emits m t → next ≡ Over → ⊥
+emits_not_over next m t emits over = cc
+
+-- silent steps end no process, and one that has ended makes none
+pub silently_ends : (n : ℕ) (s t : ProcState) → silently n s ≡ Some t → has_ended (t.small).status ≡ has_ended (s.small).status
+silently_ends zero s t e = ap (λ (p : ProcState). has_ended (p.small).status) (sym (no_silent s t e))
+silently_ends (suc n) s t e =
+    let l = last_silent n s t e in
+    let open_still : has_ended ((l.before).small).status ≡ false = not_true (has_ended ((l.before).small).status) (λ ended. silent_not_over (next_step l.before) t l.last (ended_is_over l.before ended)) in
+    silent_goes_on l.before t l.last ∙ sym open_still ∙ silently_ends n s l.before l.made
+
+-- a process that sends something by the last of some steps has not ended before them
+pub sender_goes_on : (n : ℕ) (s : ProcState) (m : Emission) (t : ProcState) → last_emission n s ≡ Some (m, t) → has_ended (s.small).status ≡ false
+sender_goes_on n s m t sends =
+    let l = last_sent n s m t sends in
+    sym (silently_ends l.earlier s l.before l.silent)
+    ∙ not_true (has_ended ((l.before).small).status) (λ ended. emits_not_over (next_step l.before) m t l.last (ended_is_over l.before ended))
+
+-- silent steps are the same after an emission was delivered, and the letter is there after them
+pub silently-received : (n : ℕ) (s t : ProcState) (e : Emission) (q : Pid) → silently n s ≡ Some t → silently n (received e q s) ≡ Some (received e q t)
+silently-received n s t (Ended end) q silent = silent
+silently-received n s t (Sent letter) q silent =
+    by_status (has_ended (s.small).status) (is_end_of q letter.to)
+    ∙ ap (λ b. Some (cond b t (cond (is_end_of q letter.to) (delivered t letter) t))) (sym (silently_ends n s t silent))
+  where
+    by_status : (b c : Bool) → silently n (cond b s (cond c (delivered s letter) s)) ≡ Some (cond b t (cond c (delivered t letter) t))
+    by_status true c = silent
+    by_status false true = silently-delivered n s t letter silent
+    by_status false false = silent
+
+-- so is what the last of some steps sends; the letter is there after it, even where that was an exit
+pub last_emission-received : (n : ℕ) (s : ProcState) (m : Emission) (t : ProcState) (e : Emission) (q : Pid) → last_emission n s ≡ Some (m, t) → last_emission n (received e q s) ≡ Some (m, arrived e q t)
+last_emission-received n s m t e q sends = ap (last_emission n) (received-goes_on e q s (sender_goes_on n s m t sends)) ∙ by_emission e
+  where
+    by_test : (letter : Letter) (b : Bool) → last_emission n (cond b (delivered s letter) s) ≡ Some (m, cond b (delivered t letter) t)
+    by_test letter true = last_emission-delivered n s m t letter sends
+    by_test letter false = sends
+
+    by_emission : (e : Emission) → last_emission n (arrived e q s) ≡ Some (m, arrived e q t)
+    by_emission (Sent letter) = by_test letter (is_end_of q letter.to)
+    by_emission (Ended end) = sends
+
+count_told : (p : Pid) (at : ℕ) (e : Emission) (w : What) → Tells p at e w → (is_done w ≡ false) × (count_in w ≡ Some (p, at))
+count_told p at (Sent letter) w tells = (ap is_done tells.1, ap count_in tells.1 ∙ ap (λ q. Some (q, at)) tells.0)
+count_told p at (Ended end) w tells = (ap is_done tells, ap count_in tells)
+
+-- an entry that tells of an emission leaves the count of every process but its sender
+pub done_after-receiver : (system : System) (log : List Entry) (entry : Entry) (p : Pid) (at : ℕ) (e : Emission) (t : ProcState) (q : Pid) → emission_at system log p at ≡ Some (e, t) → Tells p at e (what entry)
+    → q.0 ≢ p.0 → done_after system (log ++ entry ∷ []) q ≡ done_after system log q
+done_after-receiver system log entry p at e t q is tells apart =
+    let told = count_told p at e (what entry) tells in
+    done_after-other system log entry p q at told.0 (sent_applies system log entry p at e t is tells) told.1 apart
+
+-- a process that runs ahead of the log by silent steps gets the letter where it is
+pub silent_upto-receiver : (system : System) (log : List Entry) (entry : Entry) (p : Pid) (at : ℕ) (e : Emission) (t : ProcState) (q : Pid) (n : ℕ) (s : ProcState)
+    → emission_at system log p at ≡ Some (e, t) → Tells p at e (what entry) → q.0 ≢ p.0 → silent_upto system log q n ≡ Some s → silent_upto system (log ++ entry ∷ []) q n ≡ Some (received e q s)
+unfolding silent_upto
+silent_upto-receiver system log entry p at e t q n s is tells apart silent =
+    let f = silent_from system log q n s silent in
+    let there : process_after system log q ≡ Some f.was = ap (option_and_then (λ k. process_at k q)) f.before ∙ f.there in
+    let made : silently (n - done_after system log q) f.was ≡ Some s = ap (λ d. silently (n - d) f.was) (done_kernel system log f.kernel q f.before) ∙ f.silent in
+    ap (λ d. option_and_then (silently (n - d)) (process_after system (log ++ entry ∷ []) q)) (done_after-receiver system log entry p at e t q is tells apart)
+    ∙ ap (option_and_then (silently (n - done_after system log q))) (process_after-receiver system log entry p at e t q is tells apart ∙ ap (option_map (received e q)) there)
+    ∙ silently-received (n - done_after system log q) f.was s e q made
+
+-- one whose next emission is not in the log yet sends the same, and gets the letter where it is then, even where that emission is its exit
+pub emission_at-receiver : (system : System) (log : List Entry) (entry : Entry) (p : Pid) (at : ℕ) (e : Emission) (t : ProcState) (q : Pid) (n : ℕ) (m : Emission) (s : ProcState)
+    → emission_at system log p at ≡ Some (e, t) → Tells p at e (what entry) → q.0 ≢ p.0 → emission_at system log q n ≡ Some (m, s) → emission_at system (log ++ entry ∷ []) q n ≡ Some (m, arrived e q s)
+unfolding emission_at
+emission_at-receiver system log entry p at e t q n m s is tells apart sends =
+    let f = sent_from system log q n m s sends in
+    let there : process_after system log q ≡ Some f.was = ap (option_and_then (λ k. process_at k q)) f.before ∙ f.there in
+    let made : last_emission (n - done_after system log q) f.was ≡ Some (m, s) = ap (λ d. last_emission (n - d) f.was) (done_kernel system log f.kernel q f.before) ∙ f.sends in
+    ap (λ d. option_and_then (last_emission (n - d)) (process_after system (log ++ entry ∷ []) q)) (done_after-receiver system log entry p at e t q is tells apart)
+    ∙ ap (option_and_then (last_emission (n - done_after system log q))) (process_after-receiver system log entry p at e t q is tells apart ∙ ap (option_map (received e q)) there)
+    ∙ last_emission-received (n - done_after system log q) f.was m s e q made
+
+-- where silent steps lead ahead of the log, the process has ended if it has in the kernel after the log
+pub silent_upto-ends : (system : System) (log : List Entry) (q : Pid) (n : ℕ) (was s : ProcState) → process_after system log q ≡ Some was → silent_upto system log q n ≡ Some s → has_ended (s.small).status ≡ has_ended (was.small).status
+silent_upto-ends system log q n was s there silent =
+    let f = silent_from system log q n s silent in
+    let same : f.was ≡ was = some_same f.was was (sym (ap (option_and_then (λ k. process_at k q)) f.before ∙ f.there) ∙ there) in
+    silently_ends (n - done f.kernel q) f.was s f.silent ∙ ap (λ (p : ProcState). has_ended (p.small).status) same
+
+-- one that sends something ahead of the log has not ended in that kernel
+pub emission_at-goes_on : (system : System) (log : List Entry) (q : Pid) (n : ℕ) (m : Emission) (was s : ProcState) → process_after system log q ≡ Some was → emission_at system log q n ≡ Some (m, s) → has_ended (was.small).status ≡ false
+emission_at-goes_on system log q n m was s there sends =
+    let f = sent_from system log q n m s sends in
+    let same : was ≡ f.was = some_same was f.was (sym there ∙ ap (option_and_then (λ k. process_at k q)) f.before ∙ f.there) in
+    ap (λ (p : ProcState). has_ended (p.small).status) same ∙ sender_goes_on (n - done f.kernel q) f.was m s f.sends
