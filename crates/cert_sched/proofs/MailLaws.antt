@@ -1,33 +1,41 @@
 -- Laws of letters between processes: what an entry that tells of an emission makes of the process that sent it and of every other, also where they run ahead of the log.
-use Rattle.std.proofs.Common.{◌≡◌, ℕ, zero, suc, ◌+◌, ◌-◌, ◌≤◌, refl, sym, ◌∙◌, ap, subst, arith, List, [], ◌∷◌, ◌++◌, Bool, true, false, cond, ◌&&◌, ◌||◌, not, eqb, eqb-true, eq-eqb, Option, Some, None, is_some, true≢false}
-use Rattle.std.specs.Prelude.{◌≢◌, if◌then◌else◌, option_and_then, option_map}
+use Rattle.std.proofs.Common.{◌≡◌, ℕ, zero, suc, ◌+◌, ◌-◌, ◌≤◌, refl, sym, ◌∙◌, ap, subst, arith, List, [], ◌∷◌, ◌++◌, Bool, true, false, cond, ◌&&◌, ◌||◌, not, eqb, eqb-true, eq-eqb, Option, Some, None, length, length-append, is_some, true≢false}
+use Rattle.std.specs.Prelude.{◌≢◌, if◌then◌else◌, fold, option_and_then, option_map}
 use Rattle.std.specs.Option.{option_map_or}
+use Rattle.std.specs.Ordering.{eq_by_cmp}
 use Rattle.std.specs.FinMap.{find, put}
 use Rattle.t32_base.specs.declared.process.Pid.{Pid}
 use Rattle.t32_base.specs.declared.letter.Letter.{Letter}
 use Rattle.t32_base.specs.declared.letter.To.{To}
 use Rattle.t32_base.specs.declared.letter.To.TheVariants.{Proc, Tty}
 use Rattle.sys_text.specs.declared.system.System.{System}
-use Rattle.proc_state.specs.State.{ProcState, delivered, has_ended}
+use Rattle.sys_text.specs.declared.system.Root.{Root}
+use Rattle.sys_text.specs.Boot.{roots_of}
+use Rattle.proc_state.specs.State.{ProcState, delivered, has_ended, linked_to}
 use Rattle.sys_calls.specs.declared.steps.Emission.{Emission}
 use Rattle.sys_calls.specs.declared.steps.Emission.TheVariants.{Mail as Sent, Exit as Ended}
 use Rattle.sys_calls.specs.Calls.{Next, Silent, Emits, Over}
 use Rattle.sys_calls.specs.Next.{next_step, silently, last_emission}
 use Rattle.sys_calls.proofs.Counting.{LastSent, last_sent, last_counts, silently_counts, silent_goes_on, letter_goes_on, ended_is_over}
 use Rattle.sys_calls.proofs.RunLemma.{silently-delivered, last_emission-delivered}
-use Rattle.plain_kernel.specs.Kernel.{Kernel, pid_cmp, process_at, with_process, letter_put, letter_to, emitted}
+use Rattle.plain_kernel.specs.Kernel.{Kernel, pid_cmp, process_at, with_process, with_root, root_process, empty, boot_roots, boot, letter_put, letter_to, emitted}
 use Rattle.plain_kernel.proofs.Entries.{some_same}
-use Rattle.plain_kernel.proofs.Laws.{process_at-same, last_silent, no_silent}
-use Rattle.plain_kernel.proofs.Others.{process_at-other}
+use Rattle.plain_kernel.proofs.Laws.{process_at-with_process, process_at-same, last_silent, no_silent}
+use Rattle.plain_kernel.proofs.Others.{process_at-other, chans-keep}
 use Rattle.bus_msg.specs.declared.entry.What.{What}
+use Rattle.bus_msg.specs.declared.entry.What.TheVariants.{Mail, Birth, Exit, Page, Sync, Fetch, PageIs, Crash, Return, Rebackup, Done, Stop}
 use Rattle.bus_msg.specs.declared.entry.Entry.{Entry}
 use Rattle.bus_msg.specs.Places.{same_pid}
 use Rattle.bus_msg.specs.PlacedAfter.{what}
-use Rattle.cert_sched.specs.Schedule.{done, plain_after, process_after, done_after}
+use Rattle.cert_sched.specs.Schedule.{done, plain_after, process_after, done_after, placement}
 use Rattle.cert_sched.specs.Steps.{silent_upto, emission_at}
 use Rattle.cert_sched.specs.Scripted.{is_done}
 use Rattle.cert_sched.specs.CertAfter.{count_in}
-use Rattle.cert_sched.proofs.StepLaws.{Tells, sent_from, silent_from, sent_applies, plain_after-sent, done_kernel, done_after-other, done_after-here}
+use Rattle.cert_sched.specs.Rules.{is_over, ends_run}
+use Rattle.cert_sched.specs.Kinds.{KindHolds}
+use Rattle.cert_sched.specs.Legal.{IsLegalBy, Stands}
+use Rattle.cert_sched.proofs.BuiltLaws.{legal_induction, is_over-snoc}
+use Rattle.cert_sched.proofs.StepLaws.{Tells, is_sent, sent_from, silent_from, sent_applies, plain_after-sent, done_kernel, done_after-other, done_after-here}
 
 -- ---- what is delivered
 
@@ -220,3 +228,125 @@ emission_at-goes_on system log q n m was s there sends =
     let f = sent_from system log q n m s sends in
     let same : was ≡ f.was = some_same was f.was (sym there ∙ ap (option_and_then (λ k. process_at k q)) f.before ∙ f.there) in
     ap (λ (p : ProcState). has_ended (p.small).status) same ∙ sender_goes_on (n - done f.kernel q) f.was m s f.sends
+
+-- ---- how many letters have arrived
+
+-- no process has been sent more letters than so many
+abbrev pub ArrivedWithin : System → List Entry → ℕ → Type 0
+ArrivedWithin system log n = (q : Pid) (s : ProcState) → process_after system log q ≡ Some s → s.next ≤ n
+
+next_received : (e : Emission) (q : Pid) (s : ProcState) → (received e q s).next ≤ s.next + 1
+next_received (Ended end) q s = omega arith
+next_received (Sent letter) q s = by_tests (has_ended (s.small).status) (is_end_of q letter.to)
+  where
+    by_tests : (b c : Bool) → (cond b s (cond c (delivered s letter) s)).next ≤ s.next + 1
+    by_tests true c = omega arith
+    by_tests false true = omega arith
+    by_tests false false = omega arith
+
+-- an entry that tells of an emission brings a process one letter at most
+pub sent_within : (system : System) (log : List Entry) (entry : Entry) (p : Pid) (at : ℕ) (e : Emission) (t : ProcState) (n : ℕ) → emission_at system log p at ≡ Some (e, t) → Tells p at e (what entry)
+    → ArrivedWithin system log n → ArrivedWithin system (log ++ entry ∷ []) (n + 1)
+sent_within system log entry p at e t n is tells within q s there = by_pid (eqb q.0 p.0) refl
+  where
+    was_within : t.next ≤ n
+    was_within =
+        let f = sent_from system log p at e t is in
+        let before : (f.was).next ≤ n = within p f.was (ap (option_and_then (λ k. process_at k p)) f.before ∙ f.there) in
+        let same : t.next ≡ (f.was).next = (last_counts (at - done f.kernel p) f.was e t f.sends).next in
+        omega (arith, before, same)
+
+    by_old : (o : Option ProcState) → process_after system log q ≡ o → option_map (received e q) o ≡ Some s → s.next ≤ n + 1
+    by_old None old is = cc
+    by_old (Some r) old is =
+        let more : s.next ≤ r.next + 1 = subst (λ (x : ProcState). x.next ≤ r.next + 1) (some_same (received e q r) s is) (next_received e q r) in
+        let before : r.next ≤ n = within q r old in
+        omega (arith, more, before)
+
+    by_pid : (b : Bool) → eqb q.0 p.0 ≡ b → s.next ≤ n + 1
+    by_pid true pid_is =
+        let number : q.0 ≡ p.0 = eqb-true q.0 p.0 pid_is in
+        let same : q ≡ p = λ i. record { 0 = number i } in
+        let after : received e p t ≡ s = some_same (received e p t) s (sym (process_after-sender system log entry p at e t is tells) ∙ sym (ap (process_after system (log ++ entry ∷ [])) same) ∙ there) in
+        let more : s.next ≤ t.next + 1 = subst (λ (x : ProcState). x.next ≤ t.next + 1) after (next_received e p t) in
+        omega (arith, more, was_within)
+    by_pid false pid_is =
+        by_old (process_after system log q) refl (sym (process_after-receiver system log entry p at e t q is tells (λ same. true≢false (sym (eq-eqb q.0 p.0 same) ∙ pid_is))) ∙ there)
+
+-- a letter, an exit or the end
+abbrev pub is_plain : What → Bool
+is_plain (Mail at letter) = true
+is_plain (Exit pid at end) = true
+is_plain (Done rests) = true
+is_plain _ = false
+
+-- by this rule an entry stands, and is a letter, an exit or the end
+abbrev pub IsPlainRule : (System → List Entry → Entry → Type 0) → Type 0
+IsPlainRule May = (system : System) (log : List Entry) (e : Entry) → May system log e → Stands system log e × (is_plain (what e) ≡ true)
+
+entry_within : (system : System) (log : List Entry) (e : Entry) (n : ℕ) → KindHolds system log e (what e) → is_plain (what e) ≡ true → ArrivedWithin system log n
+    → ((rests : List (Pid × ℕ)) → what e ≡ Done rests → ArrivedWithin system (log ++ e ∷ []) (n + 1)) → ArrivedWithin system (log ++ e ∷ []) (n + 1)
+entry_within system log e n kind plain within at_end = by_what (what e) refl kind plain
+  where
+    by_what : (w : What) → what e ≡ w → KindHolds system log e w → is_plain w ≡ true → ArrivedWithin system (log ++ e ∷ []) (n + 1)
+    by_what (Mail at letter) is kind plain =
+        let sent = is_sent system log letter.from at (Sent letter) kind in
+        sent_within system log e letter.from at (Sent letter) sent.after n sent.is (refl, is) within
+    by_what (Exit pid at end) is kind plain =
+        let sent = is_sent system log pid at (Ended end) kind.0 in
+        sent_within system log e pid at (Ended end) sent.after n sent.is is within
+    by_what (Done rests) is kind plain = at_end rests is
+    by_what (Birth parent at child end) is kind plain = absurd (true≢false (sym plain))
+    by_what (Page pid at index bytes) is kind plain = absurd (true≢false (sym plain))
+    by_what (Sync pid small read took) is kind plain = absurd (true≢false (sym plain))
+    by_what (Fetch pid index) is kind plain = absurd (true≢false (sym plain))
+    by_what (PageIs pid index bytes) is kind plain = absurd (true≢false (sym plain))
+    by_what (Crash k cause) is kind plain = absurd (true≢false (sym plain))
+    by_what (Return k) is kind plain = absurd (true≢false (sym plain))
+    by_what (Rebackup to fresh recs) is kind plain = absurd (true≢false (sym plain))
+    by_what Stop is kind plain = absurd (true≢false (sym plain))
+
+-- ---- the start
+
+abbrev none_arrived : Kernel → Type 0
+none_arrived k = (q : Pid) (s : ProcState) → process_at k q ≡ Some s → s.next ≡ 0
+
+put_fresh : (k : Kernel) (p : Pid) (s : ProcState) → s.next ≡ 0 → none_arrived k → none_arrived (with_process k p s)
+put_fresh k p s fresh none q t there = by_test (eq_by_cmp pid_cmp q p) (sym (process_at-with_process k p s q) ∙ there)
+  where
+    by_test : (b : Bool) → cond b (Some s) (process_at k q) ≡ Some t → t.next ≡ 0
+    by_test true e = ap (λ (x : ProcState). x.next) (sym (some_same s t e)) ∙ fresh
+    by_test false e = none q t e
+
+fresh_from : (system : System) (k : Kernel) (roots : List (Pid × Root)) → none_arrived k → none_arrived (fold (with_root system) k roots)
+fresh_from system k [] none = none
+fresh_from system k (r ∷ roots) none = fresh_from system (with_root system k r) roots (put_fresh k r.0 (root_process system r.0 r.1) refl none)
+
+-- no letter has arrived anywhere before the first entry
+pub boot_arrived : (system : System) (q : Pid) (s : ProcState) → process_at (boot system) q ≡ Some s → s.next ≡ 0
+unfolding boot
+boot_arrived system =
+    chans-keep none_arrived (λ k p s peer far there none. put_fresh k p (linked_to s peer far) (none p s there) none) system (boot_roots system) system.chans
+    (fresh_from system empty (roots_of system) (λ q s there. cc))
+
+pub none_within : (system : System) → ArrivedWithin system [] 0
+unfolding plain_after
+none_within system q s there = let none = boot_arrived system q s there in omega (arith, none)
+
+one_longer : (log : List Entry) (e : Entry) → length (log ++ e ∷ []) ≡ length log + 1
+one_longer log e = length-append log (e ∷ [])
+
+-- ---- a log that is not over
+
+-- in a legal log of letters and exits no process has been sent more letters than the log has entries
+pub next_within-goes_on : (May : System → List Entry → Entry → Type 0) → IsPlainRule May → (system : System) (log : List Entry) → IsLegalBy May system log → is_over system log ≡ false
+    → (p : Pid) (s : ProcState) → process_after system log p ≡ Some s → s.next ≤ length log
+next_within-goes_on May plain system log legal =
+    legal_induction May system (λ log. is_over system log ≡ false → ArrivedWithin system log (length log)) (λ goes_on. none_within system) more log legal
+  where
+    more : (log : List Entry) (e : Entry) → (is_over system log ≡ false → ArrivedWithin system log (length log)) → May system log e → is_over system (log ++ e ∷ []) ≡ false → ArrivedWithin system (log ++ e ∷ []) (length (log ++ e ∷ []))
+    more log e before may goes_on =
+        let h = plain system log e may in
+        subst (ArrivedWithin system (log ++ e ∷ [])) (sym (one_longer log e))
+        (entry_within system log e (length log) (h.0).kind h.1 (before ((h.0).placed).2)
+        (λ rests is. absurd (true≢false (sym (ap (ends_run (placement system log)) is) ∙ sym (is_over-snoc system log e) ∙ goes_on))))
