@@ -1,6 +1,6 @@
 -- Laws of letters between processes: what an entry that tells of an emission makes of the process that sent it and of every other, also where they run ahead of the log.
-use Rattle.std.proofs.Common.{◌≡◌, ℕ, zero, suc, ◌+◌, ◌-◌, ◌≤◌, refl, sym, ◌∙◌, ap, subst, arith, List, [], ◌∷◌, ◌++◌, Bool, true, false, cond, ◌&&◌, ◌||◌, not, eqb, eqb-true, eq-eqb, Option, Some, None, length, length-append, map, is_some, true≢false}
-use Rattle.std.specs.Prelude.{◌≢◌, if◌then◌else◌, fold, filter, option_and_then, option_map}
+use Rattle.std.proofs.Common.{◌≡◌, ℕ, zero, suc, ◌+◌, ◌-◌, ◌≤◌, add-one, refl, sym, ◌∙◌, ap, subst, arith, List, [], ◌∷◌, ◌++◌, Bool, true, false, cond, ◌&&◌, ◌||◌, not, eqb, eqb-true, eq-eqb, Option, Some, None, length, length-append, map, is_some, true≢false}
+use Rattle.std.specs.Prelude.{◌≢◌, max, if◌then◌else◌, fold, filter, option_and_then, option_map}
 use Rattle.std.specs.List.{list_any}
 use Rattle.std.specs.Ordering.{eq_by_cmp}
 use Rattle.std.specs.FinMap.{find, put}
@@ -238,6 +238,40 @@ emission_at-goes_on system log q n m was s there sends =
     let f = sent_from system log q n m s sends in
     let same : was ≡ f.was = some_same was f.was (sym there ∙ ap (option_and_then (λ k. process_at k q)) f.before ∙ f.there) in
     ap (λ (p : ProcState). has_ended (p.small).status) same ∙ sender_goes_on (n - done f.kernel q) f.was m s f.sends
+
+-- ---- the sender, on from its emission
+
+-- the sender has made its steps up to the emission
+pub done_after-sender : (system : System) (log : List Entry) (entry : Entry) (p : Pid) (at : ℕ) (e : Emission) (t : ProcState) → emission_at system log p at ≡ Some (e, t) → Tells p at e (what entry)
+    → done_after system (log ++ entry ∷ []) p ≡ at
+done_after-sender system log entry p at e t is tells =
+    let told = count_told p at e (what entry) tells in
+    let f = sent_from system log p at e t is in
+    let l = last_sent (at - done f.kernel p) f.was e t f.sends in
+    let before : done_after system log p ≡ done f.kernel p = done_kernel system log f.kernel p f.before in
+    let after : done_after system (log ++ entry ∷ []) p ≡ max at (done_after system log p) = done_after-here system log entry p at told.0 (sent_applies system log entry p at e t is tells) told.1 in
+    let later : at - done f.kernel p ≡ l.earlier + 1 = l.count ∙ sym (add-one l.earlier) in
+    omega (arith, before, after, later)
+
+-- silent steps that it made since are those ahead of the log with the entry
+pub silent_upto-sender : (system : System) (log : List Entry) (entry : Entry) (p : Pid) (at : ℕ) (e : Emission) (t : ProcState) (n : ℕ) (s : ProcState)
+    → emission_at system log p at ≡ Some (e, t) → Tells p at e (what entry) → silently n t ≡ Some s → silent_upto system (log ++ entry ∷ []) p (at + n) ≡ Some (received e p s)
+unfolding silent_upto
+silent_upto-sender system log entry p at e t n s is tells made =
+    let rest : (at + n) - at ≡ n = omega arith in
+    ap (λ d. option_and_then (silently ((at + n) - d)) (process_after system (log ++ entry ∷ []) p)) (done_after-sender system log entry p at e t is tells)
+    ∙ ap (option_and_then (silently ((at + n) - at))) (process_after-sender system log entry p at e t is tells)
+    ∙ ap (λ m. silently m (received e p t)) rest ∙ silently-received n t s e p made
+
+-- and so is what it sends next
+pub emission_at-sender : (system : System) (log : List Entry) (entry : Entry) (p : Pid) (at : ℕ) (e : Emission) (t : ProcState) (n : ℕ) (m : Emission) (s : ProcState)
+    → emission_at system log p at ≡ Some (e, t) → Tells p at e (what entry) → last_emission n t ≡ Some (m, s) → emission_at system (log ++ entry ∷ []) p (at + n) ≡ Some (m, arrived e p s)
+unfolding emission_at
+emission_at-sender system log entry p at e t n m s is tells sends =
+    let rest : (at + n) - at ≡ n = omega arith in
+    ap (λ d. option_and_then (last_emission ((at + n) - d)) (process_after system (log ++ entry ∷ []) p)) (done_after-sender system log entry p at e t is tells)
+    ∙ ap (option_and_then (last_emission ((at + n) - at))) (process_after-sender system log entry p at e t is tells)
+    ∙ ap (λ c. last_emission c (received e p t)) rest ∙ last_emission-received n t m s e p sends
 
 -- ---- how many letters have arrived
 
