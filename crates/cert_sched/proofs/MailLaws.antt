@@ -17,7 +17,7 @@ use Rattle.sys_calls.specs.declared.steps.Emission.{Emission}
 use Rattle.sys_calls.specs.declared.steps.Emission.TheVariants.{Mail as Sent, Exit as Ended}
 use Rattle.sys_calls.specs.Calls.{Next, Silent, Emits, Over}
 use Rattle.sys_calls.specs.Next.{next_step, silently, last_emission}
-use Rattle.sys_calls.proofs.Counting.{LastSent, last_sent, last_counts, silently_counts, silent_goes_on, letter_goes_on, ended_is_over}
+use Rattle.sys_calls.proofs.Counting.{last_sent, last_counts, silently_counts, silent_goes_on, ended_is_over}
 use Rattle.sys_calls.proofs.RunLemma.{silently-delivered, last_emission-delivered}
 use Rattle.plain_kernel.specs.Kernel.{Kernel, pid_cmp, process_at, with_process, with_root, root_process, empty, boot_roots, boot, letter_put, letter_to, emitted}
 use Rattle.plain_kernel.specs.Apply.{apply_all}
@@ -55,9 +55,9 @@ is_end_of q (Proc p e) = same_pid p q
 is_end_of q (Tty t) = false
 
 -- a process with this pid that has not ended, after an emission was delivered: a letter to one of its ends arrives
-abbrev pub arrived : Emission → Pid → ProcState → ProcState
-arrived (Sent letter) q s = if is_end_of q letter.to then delivered s letter else s
-arrived (Ended end) q s = s
+abbrev pub with_arrival : Emission → Pid → ProcState → ProcState
+with_arrival (Sent letter) q s = if is_end_of q letter.to then delivered s letter else s
+with_arrival (Ended end) q s = s
 
 -- a process with this pid after an emission was delivered: a letter to one of its ends arrives, unless it has ended
 abbrev pub received : Emission → Pid → ProcState → ProcState
@@ -68,7 +68,7 @@ pub received-ended : (e : Emission) (q : Pid) (s : ProcState) → has_ended (s.s
 received-ended (Sent letter) q s is = ap (λ b. cond b s (cond (is_end_of q letter.to) (delivered s letter) s)) is
 received-ended (Ended end) q s is = refl
 
-pub received-goes_on : (e : Emission) (q : Pid) (s : ProcState) → has_ended (s.small).status ≡ false → received e q s ≡ arrived e q s
+pub received-goes_on : (e : Emission) (q : Pid) (s : ProcState) → has_ended (s.small).status ≡ false → received e q s ≡ with_arrival e q s
 received-goes_on (Sent letter) q s is = ap (λ b. cond b s (cond (is_end_of q letter.to) (delivered s letter) s)) is
 received-goes_on (Ended end) q s is = refl
 
@@ -179,14 +179,14 @@ silently-received n s t (Sent letter) q silent =
     by_status false false = silent
 
 -- so is what the last of some steps sends; the letter is there after it, even where that was an exit
-pub last_emission-received : (n : ℕ) (s : ProcState) (m : Emission) (t : ProcState) (e : Emission) (q : Pid) → last_emission n s ≡ Some (m, t) → last_emission n (received e q s) ≡ Some (m, arrived e q t)
+pub last_emission-received : (n : ℕ) (s : ProcState) (m : Emission) (t : ProcState) (e : Emission) (q : Pid) → last_emission n s ≡ Some (m, t) → last_emission n (received e q s) ≡ Some (m, with_arrival e q t)
 last_emission-received n s m t e q sends = ap (last_emission n) (received-goes_on e q s (sender_goes_on n s m t sends)) ∙ by_emission e
   where
     by_test : (letter : Letter) (b : Bool) → last_emission n (cond b (delivered s letter) s) ≡ Some (m, cond b (delivered t letter) t)
     by_test letter true = last_emission-delivered n s m t letter sends
     by_test letter false = sends
 
-    by_emission : (e : Emission) → last_emission n (arrived e q s) ≡ Some (m, arrived e q t)
+    by_emission : (e : Emission) → last_emission n (with_arrival e q s) ≡ Some (m, with_arrival e q t)
     by_emission (Sent letter) = by_test letter (is_end_of q letter.to)
     by_emission (Ended end) = sends
 
@@ -215,7 +215,7 @@ silent_upto-receiver system log entry p at e t q n s is tells apart silent =
 
 -- one whose next emission is not in the log yet sends the same, and gets the letter where it is then, even where that emission is its exit
 pub emission_at-receiver : (system : System) (log : List Entry) (entry : Entry) (p : Pid) (at : ℕ) (e : Emission) (t : ProcState) (q : Pid) (n : ℕ) (m : Emission) (s : ProcState)
-    → emission_at system log p at ≡ Some (e, t) → Tells p at e (what entry) → q.0 ≢ p.0 → emission_at system log q n ≡ Some (m, s) → emission_at system (log ++ entry ∷ []) q n ≡ Some (m, arrived e q s)
+    → emission_at system log p at ≡ Some (e, t) → Tells p at e (what entry) → q.0 ≢ p.0 → emission_at system log q n ≡ Some (m, s) → emission_at system (log ++ entry ∷ []) q n ≡ Some (m, with_arrival e q s)
 unfolding emission_at
 emission_at-receiver system log entry p at e t q n m s is tells apart sends =
     let f = sent_from system log q n m s sends in
@@ -265,7 +265,7 @@ silent_upto-sender system log entry p at e t n s is tells made =
 
 -- and so is what it sends next
 pub emission_at-sender : (system : System) (log : List Entry) (entry : Entry) (p : Pid) (at : ℕ) (e : Emission) (t : ProcState) (n : ℕ) (m : Emission) (s : ProcState)
-    → emission_at system log p at ≡ Some (e, t) → Tells p at e (what entry) → last_emission n t ≡ Some (m, s) → emission_at system (log ++ entry ∷ []) p (at + n) ≡ Some (m, arrived e p s)
+    → emission_at system log p at ≡ Some (e, t) → Tells p at e (what entry) → last_emission n t ≡ Some (m, s) → emission_at system (log ++ entry ∷ []) p (at + n) ≡ Some (m, with_arrival e p s)
 unfolding emission_at
 emission_at-sender system log entry p at e t n m s is tells sends =
     let rest : (at + n) - at ≡ n = omega arith in
@@ -495,12 +495,11 @@ Plain system log = (pids_of (placement system log).placed ≡ pids_of (places_at
 more_plain : (May : System → List Entry → Entry → Type 0) → IsPlainRule May → (system : System) → is_system system ≡ true → (log : List Entry) (e : Entry) → Plain system log → May system log e → Plain system (log ++ e ∷ [])
 more_plain May plain system valid log e before may =
     let h = plain system log e may in
-    let two : NoTwo (pids_of (placement system log).placed) = subst NoTwo (sym before.0) (apart_of (places_at_boot system).placed (root_pids_differ system valid)) in
-    (
+    let two : NoTwo (pids_of (placement system log).placed) = subst NoTwo (sym before.0) (apart_of (places_at_boot system).placed (root_pids_differ system valid)) in (
       ap (λ (p : Places). pids_of p.placed) (placement-snoc system log e) ∙ same_pids (what e) (placement system log) h.1 ∙ before.0,
       subst (ArrivedWithin system (log ++ e ∷ [])) (sym (one_longer log e))
-      (entry_within system log e (length log) (h.0).kind h.1 before.1
-      (λ rests is. end_within system log e rests (length log) is (h.0).applies (subst (KindHolds system log e) is (h.0).kind) two before.1)),
+          (entry_within system log e (length log) (h.0).kind h.1 before.1
+          (λ rests is. end_within system log e rests (length log) is (h.0).applies (subst (KindHolds system log e) is (h.0).kind) two before.1)),
     )
 
 -- in a legal log of letters, exits and the end no process has been sent more letters than the log has entries
