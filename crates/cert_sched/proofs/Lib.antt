@@ -10,6 +10,7 @@ pub mod RecordLaws
 pub mod BuiltLaws
 pub mod Applied
 pub mod StepLaws
+pub mod MailLaws
 pub mod RunsLaws
 pub mod EndedLaws
 pub mod StillLaws
