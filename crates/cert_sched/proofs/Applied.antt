@@ -1,5 +1,5 @@
 -- The kernel after a legal log: there is one, and where Done stands last nothing can move in it.
-use Rattle.std.proofs.Common.{◌≡◌, ℕ, zero, suc, refl, sym, ◌∙◌, ap, List, [], ◌∷◌, ◌++◌, take, Bool, true, false, Option, Some, None}
+use Rattle.std.proofs.Common.{◌≡◌, ℕ, zero, suc, refl, sym, ◌∙◌, ap, List, [], ◌∷◌, ◌++◌, take, true, false, Option, Some, None}
 use Rattle.std.specs.Prelude.{is_some, slice_get, option_map, option_and_then}
 use Rattle.std.specs.Option.{option_map_or}
 use Rattle.sys_text.specs.declared.system.System.{System}
@@ -12,7 +12,6 @@ use Rattle.bus_msg.specs.declared.entry.What.{What}
 use Rattle.bus_msg.specs.declared.entry.What.TheVariants.{Mail, Birth, Exit, Page, Sync, Fetch, PageIs, Crash, Return, Rebackup, Done, Stop}
 use Rattle.bus_msg.specs.declared.entry.Entry.{Entry}
 use Rattle.bus_msg.specs.PlacedAfter.{what}
-use Rattle.cert_sched.specs.Parts.{last_of}
 use Rattle.cert_sched.specs.Schedule.{plain_after, schedule_of}
 use Rattle.cert_sched.specs.Kinds.{KindHolds}
 use Rattle.cert_sched.specs.Scripted.{is_done, is_finished}

@@ -3,6 +3,7 @@ use Rattle.std.proofs.Common.{◌≡◌, ℕ, refl, sym, ◌∙◌, ap, subst, L
 use Rattle.std.specs.Prelude.{find, filter, option_map, option_and_then}
 use Rattle.std.specs.List.{list_any, list_all}
 use Rattle.std.specs.Option.{option_map_or}
+use Rattle.std.proofs.lemmas.Bool.{and_parts, and_from}
 use Rattle.t32_base.specs.declared.process.Pid.{Pid}
 use Rattle.sys_text.specs.declared.system.System.{System}
 use Rattle.sys_text.specs.Valid.{is_system}
@@ -17,7 +18,6 @@ use Rattle.bus_msg.specs.declared.entry.Entry.{Entry}
 use Rattle.bus_msg.specs.declared.placed.Placed.{Placed}
 use Rattle.bus_msg.specs.Places.{same_pid, unended_in}
 use Rattle.bus_msg.specs.NewBackup.{next_backup}
-use Rattle.channel_table.specs.Changes.{pids_differ}
 use Rattle.cert_sched.specs.Parts.{rising}
 use Rattle.cert_sched.specs.Schedule.{plain_after, after_entry, placement, places_at_boot}
 use Rattle.cert_sched.specs.Steps.{silent_upto}
@@ -32,6 +32,7 @@ use Rattle.cert_sched.proofs.StepLaws.{plain_after-pids}
 use Rattle.cert_sched.proofs.RootPids.{root_pids_differ}
 use Rattle.cert_sched.proofs.BuiltLaws.{Kept, kept, built_kept, legal_induction}
 use Rattle.cert_sched.proofs.RisingLaws.{NoTwo, rising-any, rising-apart}
+use Rattle.cert_sched.proofs.PidLaws.{placed_pids, apart_of, apart_fewer}
 use Rattle.cert_sched.proofs.RunsLaws.{rest_pids, led, led-silent_upto, after_runs, RunsTo, runs_made}
 use Rattle.cert_sched.proofs.EndedLaws.{EndsTold, built_ended}
 use Rattle.cert_sched.proofs.StillLaws.{still_where_none_acts}
@@ -42,24 +43,13 @@ pub record AllRest (system : System) (log : List Entry) (rests : List (Pid × �
   pub idle : list_all (is_idle_at system log) rests ≡ true
   pub backed : list_all (λ q. is_none (next_backup (placement system log) q)) (placement system log).placed ≡ true
 
-both : (a b : Bool) → (a && b) ≡ true → (a ≡ true) × (b ≡ true)
-both true b h = (refl, h)
-both false b h = absurd (true≢false (sym h))
-
-and_true : (a b : Bool) → a ≡ true → b ≡ true → (a && b) ≡ true
-and_true true b h g = g
-and_true false b h g = h
-
 pub list_all-weaker : {X : Type 0} (t u : X → Bool) → ((x : X) → t x ≡ true → u x ≡ true) → (xs : List X) → list_all t xs ≡ true → list_all u xs ≡ true
 list_all-weaker t u weaker [] all = refl
 list_all-weaker t u weaker (x ∷ xs) all =
-    let parts = both (t x) (list_all t xs) all in
-    and_true (u x) (list_all u xs) (weaker x parts.0) (list_all-weaker t u weaker xs parts.1)
+    let parts = and_parts (t x) (list_all t xs) all in
+    and_from (u x) (list_all u xs) (weaker x parts.0) (list_all-weaker t u weaker xs parts.1)
 
 -- ---- the pids
-
-abbrev placed_pids : List Placed → List ℕ
-placed_pids qs = map (λ (q : Placed). (q.pid).0) qs
 
 abbrev kept_pids : List Kept → List ℕ
 kept_pids ks = map (λ (k : Kept). (k.pid).0) ks
@@ -67,39 +57,6 @@ kept_pids ks = map (λ (k : Kept). (k.pid).0) ks
 pids_kept : (qs : List Placed) → kept_pids (map kept qs) ≡ placed_pids qs
 pids_kept [] = refl
 pids_kept (q ∷ qs) = ap (λ ns. (q.pid).0 ∷ ns) (pids_kept qs)
-
-none_of : (n : ℕ) (qs : List Placed) (p : Pid) → p.0 ≡ n → not (list_any (λ (q : Placed). same_pid q.pid p) qs) ≡ true → list_any (λ m. eqb m n) (placed_pids qs) ≡ false
-none_of n [] p is none = refl
-none_of n (q ∷ qs) p is none = by_test (same_pid q.pid p) refl none (none_of n qs p is)
-  where
-    by_test : (b : Bool) → same_pid q.pid p ≡ b → not (b || list_any (λ (q : Placed). same_pid q.pid p) qs) ≡ true
-        → (not (list_any (λ (q : Placed). same_pid q.pid p) qs) ≡ true → list_any (λ m. eqb m n) (placed_pids qs) ≡ false) → (eqb (q.pid).0 n || list_any (λ m. eqb m n) (placed_pids qs)) ≡ false
-    by_test true same e more = absurd (true≢false (sym e))
-    by_test false same e more = ap (λ m. eqb (q.pid).0 m || list_any (λ m. eqb m n) (placed_pids qs)) (sym is) ∙ ap (λ b. b || list_any (λ m. eqb m n) (placed_pids qs)) same ∙ more e
-
-apart_of : (qs : List Placed) → pids_differ qs ≡ true → NoTwo (placed_pids qs)
-apart_of [] differ = tt
-apart_of (q ∷ qs) differ =
-    let parts = both (not (list_any (λ (p : Placed). same_pid p.pid q.pid) qs)) (pids_differ qs) differ in
-    (none_of (q.pid).0 qs q.pid refl parts.0, apart_of qs parts.1)
-
-any_fewer : (t : ℕ → Bool) (u : Placed → Bool) (qs : List Placed) → list_any t (placed_pids qs) ≡ false → list_any t (placed_pids (filter u qs)) ≡ false
-any_fewer t u [] none = refl
-any_fewer t u (q ∷ qs) none = by_tests (u q) (t (q.pid).0) refl none (any_fewer t u qs)
-  where
-    by_tests : (b c : Bool) → t (q.pid).0 ≡ c → (c || list_any t (placed_pids qs)) ≡ false → (list_any t (placed_pids qs) ≡ false → list_any t (placed_pids (filter u qs)) ≡ false)
-        → list_any t (placed_pids (cond b (q ∷ filter u qs) (filter u qs))) ≡ false
-    by_tests b true is e more = absurd (true≢false e)
-    by_tests true false is e more = ap (λ b. b || list_any t (placed_pids (filter u qs))) is ∙ more e
-    by_tests false false is e more = more e
-
-apart_fewer : (u : Placed → Bool) (qs : List Placed) → NoTwo (placed_pids qs) → NoTwo (placed_pids (filter u qs))
-apart_fewer u [] two = tt
-apart_fewer u (q ∷ qs) two = by_test (u q) (apart_fewer u qs two.1)
-  where
-    by_test : (b : Bool) → NoTwo (placed_pids (filter u qs)) → NoTwo (placed_pids (cond b (q ∷ filter u qs) (filter u qs)))
-    by_test true more = (any_fewer (λ m. eqb m (q.pid).0) u qs two.0, more)
-    by_test false more = more
 
 -- no two processes of such a log have one pid
 built_apart : (system : System) (log : List Entry) → is_system system ≡ true → IsLegalBy BuiltMayFollow system log → NoTwo (placed_pids (placement system log).placed)
@@ -139,7 +96,7 @@ idle_after : (k : Kernel) (rs : List (Pid × ℕ)) (o : Option ProcState) (q : P
     → (list_any (λ m. eqb m q.0) (rest_pids rs) ≡ false → o ≡ Some s → has_step (next_step s) ≡ false) → has_step (next_step s) ≡ false
 idle_after k [] o q s idle there other = other refl there
 idle_after k (r ∷ rs) o q s idle there other =
-    let parts = both (option_map_or is_idle (led k r) false) (list_all (λ r. option_map_or is_idle (led k r) false) rs) idle in
+    let parts = and_parts (option_map_or is_idle (led k r) false) (list_all (λ r. option_map_or is_idle (led k r) false) rs) idle in
     by_test parts.0 (same_pid r.0 q) refl there (λ e later. idle_after k rs o q s parts.1 e later)
   where
     by_test : option_map_or is_idle (led k r) false ≡ true → (b : Bool) → same_pid r.0 q ≡ b → cond b (led k r) (after_runs k rs o q) ≡ Some s
@@ -161,8 +118,8 @@ record DoneKernel (system : System) (log : List Entry) (rests : List (Pid × ℕ
 
 idle_reached : (system : System) (log : List Entry) (r : Pid × ℕ) → is_idle_at system log r ≡ true → is_some (silent_upto system log r.0 r.1) ≡ true
 idle_reached system log r idle =
-    let halves = both (is_silent_rest system log r) (option_map_or is_idle (silent_upto system log r.0 r.1) false) idle in
-    (both _ (is_some (silent_upto system log r.0 r.1)) halves.0).1
+    let halves = and_parts (is_silent_rest system log r) (option_map_or is_idle (silent_upto system log r.0 r.1) false) idle in
+    (and_parts _ (is_some (silent_upto system log r.0 r.1)) halves.0).1
 
 done_kernel : (system : System) (log : List Entry) (rests : List (Pid × ℕ)) → is_system system ≡ true → IsLegalBy BuiltMayFollow system log → AllRest system log rests → DoneKernel system log rests
 done_kernel system log rests valid legal rest = by_kernel (plain_after system log) refl (plain_some system log legal)
@@ -186,7 +143,7 @@ done_still system log rests legal goes_on rest d =
 
     idle : list_all (λ r. option_map_or is_idle (led d.kernel r) false) rests ≡ true
     idle = list_all-weaker (is_idle_at system log) (λ r. option_map_or is_idle (led d.kernel r) false)
-        (λ r idle. ap (λ o. option_map_or is_idle o false) (sym (led-silent_upto system log d.kernel r d.before)) ∙ (both (is_silent_rest system log r) (option_map_or is_idle (silent_upto system log r.0 r.1) false) idle).1) rests rest.idle
+        (λ r idle. ap (λ o. option_map_or is_idle o false) (sym (led-silent_upto system log d.kernel r d.before)) ∙ (and_parts (is_silent_rest system log r) (option_map_or is_idle (silent_upto system log r.0 r.1) false) idle).1) rests rest.idle
 
     none_moves : (q : Pid) (s : ProcState) → process_at (d.runs).to q ≡ Some s → has_step (next_step s) ≡ false
     none_moves q s there =
@@ -207,7 +164,7 @@ done_may_follow system log rests valid legal goes_on rest =
         applies = ap is_some d.after;
         kind = record {
           named = rest.named;
-          silent = list_all-weaker (is_idle_at system log) (is_silent_rest system log) (λ r idle. (both (is_silent_rest system log r) (option_map_or is_idle (silent_upto system log r.0 r.1) false) idle).0) rests rest.idle;
+          silent = list_all-weaker (is_idle_at system log) (is_silent_rest system log) (λ r idle. (and_parts (is_silent_rest system log r) (option_map_or is_idle (silent_upto system log r.0 r.1) false) idle).0) rests rest.idle;
           still = ap (option_map is_still) d.after ∙ ap Some (done_still system log rests legal goes_on rest d);
           backed = rest.backed;
         };

@@ -1,5 +1,5 @@
 -- The processes at home in the clusters, one cluster after another, are those that have not ended.
-use Rattle.std.proofs.Common.{◌≡◌, ℕ, zero, suc, ◌+◌, ◌<◌, ◌≤◌, refl, sym, ◌∙◌, ap, subst, arith, List, [], ◌∷◌, ◌++◌, map, length, Bool, true, false, cond, not, ◌&&◌, ◌||◌, eqb, eq-eqb, Some, None, is_some, is_none, true≢false}
+use Rattle.std.proofs.Common.{◌≡◌, ℕ, zero, suc, ◌+◌, ◌<◌, ◌≤◌, refl, sym, ◌∙◌, ap, subst, arith, List, [], ◌∷◌, ◌++◌, map, length, Bool, true, false, cond, not, ◌&&◌, ◌||◌, eqb, eq-eqb, Some, None, is_some, is_none}
 use Rattle.std.specs.Prelude.{filter, slice_get}
 use Rattle.std.specs.List.{list_all, flat_map, range_with_len}
 use Rattle.std.specs.Option.{option_map_or}
@@ -7,6 +7,7 @@ use Rattle.std.proofs.lemmas.List.{map-append}
 use Rattle.std.proofs.lemmas.List.Folds.{list_all-append}
 use Rattle.std.proofs.lemmas.List.FromFn.{length-map-range_with_len, get_or-map-range_with_len}
 use Rattle.std.proofs.lemmas.Option.{slice_get-get_or}
+use Rattle.std.proofs.lemmas.Bool.{and_parts}
 use Rattle.t32_base.specs.declared.process.Pid.{Pid}
 use Rattle.sys_text.specs.declared.system.System.{System}
 use Rattle.sys_text.specs.declared.system.Root.{Root}
@@ -126,10 +127,6 @@ and_true : (a b : Bool) → a ≡ true → b ≡ true → (a && b) ≡ true
 and_true true b h g = g
 and_true false b h g = h
 
-both : (a b : Bool) → (a && b) ≡ true → (a ≡ true) × (b ≡ true)
-both true b h = (refl, h)
-both false b h = absurd (true≢false (sym h))
-
 all_parts : (t : Pid × ℕ → Bool) (f : ℕ → List (Pid × ℕ)) (a len : ℕ) → ((k : ℕ) → k < a + len → list_all t (f k) ≡ true) → list_all t (flat_map f (range_with_len a len)) ≡ true
 all_parts t f a zero each = refl
 all_parts t f a (suc len) each =
@@ -142,14 +139,14 @@ all_placed t n (q ∷ qs) gone below each =
     and_true (t q) (list_all t qs) (here q.ended refl) (all_placed t n qs gone below.1 (λ k within. later k (is_at_home (cluster_no k) q) (each k within)))
   where
     later : (k : ℕ) (b : Bool) → list_all t (cond b (q ∷ filter (is_at_home (cluster_no k)) qs) (filter (is_at_home (cluster_no k)) qs)) ≡ true → list_all t (filter (is_at_home (cluster_no k)) qs) ≡ true
-    later k true all = (both (t q) _ all).1
+    later k true all = (and_parts (t q) _ all).1
     later k false all = all
 
     here : (b : Bool) → q.ended ≡ b → t q ≡ true
     here true is = gone q is
     here false is =
         let home : is_at_home (cluster_no (q.home).0) q ≡ true = and_true (eqb (q.home).0 (q.home).0) (not q.ended) (eq-eqb (q.home).0 (q.home).0 refl) (ap not is) in
-        (both (t q) _ (sym (ap (λ b. list_all t (cond b (q ∷ filter (is_at_home (cluster_no (q.home).0)) qs) (filter (is_at_home (cluster_no (q.home).0)) qs))) home) ∙ each (q.home).0 below.0)).0
+        (and_parts (t q) _ (sym (ap (λ b. list_all t (cond b (q ∷ filter (is_at_home (cluster_no (q.home).0)) qs) (filter (is_at_home (cluster_no (q.home).0)) qs))) home) ∙ each (q.home).0 below.0)).0
 
 -- ---- the whole
 

@@ -5,6 +5,7 @@ pub mod Counting
 pub mod FirstBad
 pub mod ListLaws
 pub mod RisingLaws
+pub mod PidLaws
 pub mod LogLaws
 pub mod RecordLaws
 pub mod BuiltLaws

@@ -1,9 +1,9 @@
 -- Laws of letters between processes: what an entry that tells of an emission makes of the process that sent it and of every other, also where they run ahead of the log.
-use Rattle.std.proofs.Common.{◌≡◌, ℕ, zero, suc, ◌+◌, ◌-◌, ◌≤◌, add-one, refl, sym, ◌∙◌, ap, subst, arith, List, [], ◌∷◌, ◌++◌, Bool, true, false, cond, ◌&&◌, ◌||◌, not, eqb, eqb-true, eq-eqb, Option, Some, None, length, length-append, map, is_some, true≢false}
-use Rattle.std.specs.Prelude.{◌≢◌, max, if◌then◌else◌, fold, filter, option_and_then, option_map}
-use Rattle.std.specs.List.{list_any}
+use Rattle.std.proofs.Common.{◌≡◌, ℕ, zero, suc, ◌+◌, ◌-◌, ◌≤◌, add-one, refl, sym, ◌∙◌, ap, subst, arith, List, [], ◌∷◌, ◌++◌, Bool, true, false, cond, not, eqb, eqb-true, eq-eqb, Option, Some, None, length, length-append, map, is_some, true≢false}
+use Rattle.std.specs.Prelude.{◌≢◌, max, if◌then◌else◌, fold, option_and_then, option_map}
 use Rattle.std.specs.Ordering.{eq_by_cmp}
 use Rattle.std.specs.FinMap.{find, put}
+use Rattle.std.proofs.lemmas.Bool.{and_parts}
 use Rattle.t32_base.specs.declared.process.Pid.{Pid}
 use Rattle.t32_base.specs.declared.letter.Letter.{Letter}
 use Rattle.t32_base.specs.declared.letter.To.{To}
@@ -30,7 +30,6 @@ use Rattle.bus_msg.specs.declared.entry.Entry.{Entry}
 use Rattle.bus_msg.specs.declared.placed.Placed.{Placed}
 use Rattle.bus_msg.specs.Places.{Places, same_pid, unended_in}
 use Rattle.bus_msg.specs.PlacedAfter.{what, placed_after, after_exit}
-use Rattle.channel_table.specs.Changes.{pids_differ}
 use Rattle.cert_sched.specs.Schedule.{done, items_of, plain_after, process_after, done_after, placement, places_at_boot}
 use Rattle.cert_sched.specs.Steps.{silent_upto, emission_at}
 use Rattle.cert_sched.specs.Scripted.{is_done}
@@ -42,6 +41,7 @@ use Rattle.cert_sched.specs.Built.{is_built, BuiltMayFollow}
 use Rattle.cert_sched.proofs.LogLaws.{placement-snoc}
 use Rattle.cert_sched.proofs.RootPids.{root_pids_differ}
 use Rattle.cert_sched.proofs.RisingLaws.{NoTwo, rising-apart}
+use Rattle.cert_sched.proofs.PidLaws.{placed_pids, apart_of, apart_fewer}
 use Rattle.cert_sched.proofs.RunsLaws.{rest_pids, led, led-silent_upto, after_runs, runs_made}
 use Rattle.cert_sched.proofs.DoneLaws.{list_all-weaker}
 use Rattle.cert_sched.proofs.BuiltLaws.{legal_induction, is_over-snoc}
@@ -397,18 +397,15 @@ next_within-goes_on May plain system log legal =
 
 -- ---- a log that may be over
 
-abbrev pids_of : List Placed → List ℕ
-pids_of qs = map (λ (q : Placed). (q.pid).0) qs
-
-exit_pids : (p : Pid) (qs : List Placed) → pids_of (map (after_exit p) qs) ≡ pids_of qs
+exit_pids : (p : Pid) (qs : List Placed) → placed_pids (map (after_exit p) qs) ≡ placed_pids qs
 exit_pids p [] = refl
-exit_pids p (q ∷ qs) = ap (λ n. n ∷ pids_of (map (after_exit p) qs)) (by_test (same_pid q.pid p)) ∙ ap (λ ns. (q.pid).0 ∷ ns) (exit_pids p qs)
+exit_pids p (q ∷ qs) = ap (λ n. n ∷ placed_pids (map (after_exit p) qs)) (by_test (same_pid q.pid p)) ∙ ap (λ ns. (q.pid).0 ∷ ns) (exit_pids p qs)
   where
     by_test : (b : Bool) → ((cond b (record q { ended = true }) q).pid).0 ≡ (q.pid).0
     by_test true = refl
     by_test false = refl
 
-same_pids : (w : What) (places : Places) → is_plain w ≡ true → pids_of (placed_after places w).placed ≡ pids_of places.placed
+same_pids : (w : What) (places : Places) → is_plain w ≡ true → placed_pids (placed_after places w).placed ≡ placed_pids places.placed
 same_pids (Mail at letter) places h = refl
 same_pids (Exit pid at end) places h = exit_pids pid places.placed
 same_pids (Done rests) places h = refl
@@ -421,42 +418,6 @@ same_pids (Crash k cause) places h = cc
 same_pids (Return k) places h = cc
 same_pids (Rebackup to fresh recs) places h = cc
 same_pids Stop places h = cc
-
-both : (a b : Bool) → (a && b) ≡ true → (a ≡ true) × (b ≡ true)
-both true b h = (refl, h)
-both false b h = absurd (true≢false (sym h))
-
-not_false : (b : Bool) → not b ≡ true → b ≡ false
-not_false true h = absurd (true≢false (sym h))
-not_false false h = refl
-
-any_pid : (n : ℕ) (qs : List Placed) → list_any (λ m. eqb m n) (pids_of qs) ≡ list_any (λ (q : Placed). eqb (q.pid).0 n) qs
-any_pid n [] = refl
-any_pid n (q ∷ qs) = ap (λ b. eqb (q.pid).0 n || b) (any_pid n qs)
-
-apart_of : (qs : List Placed) → pids_differ qs ≡ true → NoTwo (pids_of qs)
-apart_of [] differ = tt
-apart_of (q ∷ qs) differ =
-    let parts = both (not (list_any (λ (p : Placed). same_pid p.pid q.pid) qs)) (pids_differ qs) differ in
-    (any_pid (q.pid).0 qs ∙ not_false (list_any (λ (p : Placed). same_pid p.pid q.pid) qs) parts.0, apart_of qs parts.1)
-
-fewer : (t : ℕ → Bool) (u : Placed → Bool) (qs : List Placed) → list_any t (pids_of qs) ≡ false → list_any t (pids_of (filter u qs)) ≡ false
-fewer t u [] none = refl
-fewer t u (q ∷ qs) none = by_tests (u q) (t (q.pid).0) refl none (fewer t u qs)
-  where
-    by_tests : (b c : Bool) → t (q.pid).0 ≡ c → (c || list_any t (pids_of qs)) ≡ false → (list_any t (pids_of qs) ≡ false → list_any t (pids_of (filter u qs)) ≡ false)
-        → list_any t (pids_of (cond b (q ∷ filter u qs) (filter u qs))) ≡ false
-    by_tests b true is e more = absurd (true≢false e)
-    by_tests true false is e more = ap (λ b. b || list_any t (pids_of (filter u qs))) is ∙ more e
-    by_tests false false is e more = more e
-
-apart_fewer : (u : Placed → Bool) (qs : List Placed) → NoTwo (pids_of qs) → NoTwo (pids_of (filter u qs))
-apart_fewer u [] two = tt
-apart_fewer u (q ∷ qs) two = by_test (u q) (apart_fewer u qs two.1)
-  where
-    by_test : (b : Bool) → NoTwo (pids_of (filter u qs)) → NoTwo (pids_of (cond b (q ∷ filter u qs) (filter u qs)))
-    by_test true more = (fewer (λ m. eqb m (q.pid).0) u qs two.0, more)
-    by_test false more = more
 
 led_within : (k : Kernel) (n : ℕ) → ((q : Pid) (s : ProcState) → process_at k q ≡ Some s → s.next ≤ n) → (r : Pid × ℕ) (s : ProcState) → led k r ≡ Some s → s.next ≤ n
 led_within k n within r s is = by_process (process_at k r.0) refl is
@@ -477,12 +438,12 @@ runs_within k n within (r ∷ rs) q s there = by_test (same_pid r.0 q) there (ru
     by_test false e more = more e
 
 -- the silent steps of the end bring no letter
-end_within : (system : System) (log : List Entry) (e : Entry) (rests : List (Pid × ℕ)) (n : ℕ) → what e ≡ Done rests → is_some (plain_after system (log ++ e ∷ [])) ≡ true → DoneHolds system log e rests → NoTwo (pids_of (placement system log).placed)
+end_within : (system : System) (log : List Entry) (e : Entry) (rests : List (Pid × ℕ)) (n : ℕ) → what e ≡ Done rests → is_some (plain_after system (log ++ e ∷ [])) ≡ true → DoneHolds system log e rests → NoTwo (placed_pids (placement system log).placed)
     → ArrivedWithin system log n → ArrivedWithin system (log ++ e ∷ []) (n + 1)
 end_within system log e rests n is applies holds two within q s there =
     let a = applied system log e applies in
-    let named : NoTwo (rest_pids rests) = subst NoTwo (sym holds.named) (rising-apart (pids_of (unended_in (placement system log))) (apart_fewer (λ (q : Placed). not q.ended) (placement system log).placed two)) in
-    let runs = runs_made a.old rests named (list_all-weaker (is_silent_rest system log) (λ r. is_some (led a.old r)) (λ r rest. sym (ap is_some (led-silent_upto system log a.old r a.before)) ∙ (both _ (is_some (silent_upto system log r.0 r.1)) rest).1) rests holds.silent) in
+    let named : NoTwo (rest_pids rests) = subst NoTwo (sym holds.named) (rising-apart (placed_pids (unended_in (placement system log))) (apart_fewer (λ (q : Placed). not q.ended) (placement system log).placed two)) in
+    let runs = runs_made a.old rests named (list_all-weaker (is_silent_rest system log) (λ r. is_some (led a.old r)) (λ r rest. sym (ap is_some (led-silent_upto system log a.old r a.before)) ∙ (and_parts _ (is_some (silent_upto system log r.0 r.1)) rest).1) rests holds.silent) in
     let same : runs.to ≡ a.new = some_same runs.to a.new (sym runs.made ∙ sym (ap (λ w. apply_all (items_of a.old w) a.old) is) ∙ a.made) in
     let after : after_runs a.old rests (process_at a.old q) q ≡ Some s = sym (runs.are q) ∙ ap (λ k. process_at k q) same ∙ sym (ap (option_and_then (λ k. process_at k q)) a.after) ∙ there in
     let most : s.next ≤ n = runs_within a.old n (λ p t here. within p t (ap (option_and_then (λ k. process_at k p)) a.before ∙ here)) rests q s after in
@@ -490,13 +451,13 @@ end_within system log e rests n is applies holds two within q s there =
 
 -- it has the processes of boot, and none was sent more letters than it has entries
 abbrev Plain : System → List Entry → Type 0
-Plain system log = (pids_of (placement system log).placed ≡ pids_of (places_at_boot system).placed) × ArrivedWithin system log (length log)
+Plain system log = (placed_pids (placement system log).placed ≡ placed_pids (places_at_boot system).placed) × ArrivedWithin system log (length log)
 
 more_plain : (May : System → List Entry → Entry → Type 0) → IsPlainRule May → (system : System) → is_system system ≡ true → (log : List Entry) (e : Entry) → Plain system log → May system log e → Plain system (log ++ e ∷ [])
 more_plain May plain system valid log e before may =
     let h = plain system log e may in
-    let two : NoTwo (pids_of (placement system log).placed) = subst NoTwo (sym before.0) (apart_of (places_at_boot system).placed (root_pids_differ system valid)) in (
-      ap (λ (p : Places). pids_of p.placed) (placement-snoc system log e) ∙ same_pids (what e) (placement system log) h.1 ∙ before.0,
+    let two : NoTwo (placed_pids (placement system log).placed) = subst NoTwo (sym before.0) (apart_of (places_at_boot system).placed (root_pids_differ system valid)) in (
+      ap (λ (p : Places). placed_pids p.placed) (placement-snoc system log e) ∙ same_pids (what e) (placement system log) h.1 ∙ before.0,
       subst (ArrivedWithin system (log ++ e ∷ [])) (sym (one_longer log e))
           (entry_within system log e (length log) (h.0).kind h.1 before.1
           (λ rests is. end_within system log e rests (length log) is (h.0).applies (subst (KindHolds system log e) is (h.0).kind) two before.1)),
