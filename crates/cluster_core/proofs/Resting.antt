@@ -1,6 +1,6 @@
 -- What a cluster tells where nothing in it can move.
-use Rattle.std.proofs.Common.{◌≡◌, ℕ, ◌+◌, ◌-◌, ◌≤◌, refl, sym, ◌∙◌, ap, subst, arith, Result, Ok, Err, List, [], ◌∷◌, map, Bool, true, false, cond, ◌&&◌, ◌||◌, Option, Some, None, true≢false}
-use Rattle.std.specs.Prelude.{IfOk, IfSome, filter, is_some, is_none, nat_le, option_map}
+use Rattle.std.proofs.Common.{◌≡◌, ℕ, refl, sym, ◌∙◌, ap, subst, arith, Result, Ok, Err, List, [], ◌∷◌, map, Bool, true, false, cond, ◌&&◌, ◌||◌, Option, Some, None, true≢false}
+use Rattle.std.specs.Prelude.{IfOk, IfSome, filter, is_some, is_none, nat_le}
 use Rattle.std.specs.List.{list_all}
 use Rattle.std.proofs.lemmas.Bool.{le-leb}
 use Rattle.std.specs.Option.{option_map_or}
@@ -16,17 +16,16 @@ use Rattle.bus_msg.specs.NewBackup.{next_backup, backup_by_mode}
 use Rattle.cert_sched.specs.Parts.{rising}
 use Rattle.cert_sched.specs.Schedule.{placed_root, placement, done_after}
 use Rattle.cert_sched.specs.Steps.{silent_upto}
-use Rattle.cert_sched.specs.Rests.{is_idle, is_idle_at, IsRestOf}
+use Rattle.cert_sched.specs.Rests.{is_idle, is_idle_at}
 use Rattle.cert_sched.specs.Legal.{IsLegalBy}
 use Rattle.cert_sched.specs.Built.{BuiltMayFollow}
 use Rattle.cert_sched.proofs.BuiltLaws.{Kept, kept, built_kept}
 use Rattle.cluster_core.specs.declared.resident.Resident.{Resident}
-use Rattle.cluster_core.specs.View.{ClusterView, Held, Runs}
+use Rattle.cluster_core.specs.View.{ClusterView, Held}
 use Rattle.cluster_core.specs.Parts.{held_here}
-use Rattle.cluster_core.specs.Follows.{FollowsBuilt, IsOpen}
 use Rattle.cluster_core.specs.Calls.{RestsIn, are_at_rest, rests_in}
 use Rattle.cluster_core.proofs.Following.{both}
-use Rattle.cluster_core.proofs.Working.{Ahead, ahead, held_before}
+use Rattle.cluster_core.proofs.Working.{ahead, held_before}
 
 -- ---- no process is owed a backup
 

@@ -1,27 +1,22 @@
 -- The process of the only root that is at home in a cluster.
-use Rattle.std.proofs.Common.{◌≡◌, ℕ, zero, suc, ◌+◌, ◌*◌, ◌<◌, ◌≤◌, Bool, true, false, not, ◌&&◌, ◌||◌, cond, eqb, List, [], ◌∷◌, ◌++◌, length, take, map, get_or, refl, sym, ap, ◌∙◌, arith, Some, None, append_assoc, append-nil, eq-eqb, ne_eqb, true≢false}
-use Rattle.std.specs.Prelude.{slice_get, filter, ◌≢◌}
-use Rattle.std.specs.List.{count_by, list_any, list_all, position, position_from}
+use Rattle.std.proofs.Common.{◌≡◌, ℕ, zero, suc, ◌+◌, ◌<◌, ◌≤◌, Bool, true, false, not, cond, List, [], ◌∷◌, ◌++◌, length, take, get_or, refl, sym, ap, ◌∙◌, arith, Some, None, append_assoc, append-nil, true≢false}
+use Rattle.std.specs.Prelude.{slice_get, filter}
+use Rattle.std.specs.List.{count_by, list_all, position, position_from}
 use Rattle.std.proofs.lemmas.Iterator.Adapters.{position_from-zero}
 use Rattle.std.proofs.lemmas.List.Quantifiers.{position-Some}
-use Rattle.std.proofs.lemmas.List.{take_more, map-append, length-map}
 use Rattle.std.proofs.lemmas.Option.{slice_get-get_or, get_or_from_slice_get}
-use Rattle.std.proofs.lemmas.List.Sums.{sum_by-cons, sum_by_push}
+use Rattle.std.proofs.lemmas.List.Sums.{sum_by-cons}
 use Rattle.t32_base.specs.declared.process.Pid.{Pid}
 use Rattle.t32_base.specs.declared.process.ClusterNo.{ClusterNo}
 use Rattle.sys_text.specs.declared.system.System.{System}
 use Rattle.sys_text.specs.declared.system.Root.{Root}
-use Rattle.sys_text.specs.Valid.{is_system, is_root}
-use Rattle.sys_text.specs.Boot.{pid_of, with_pids, roots_of}
-use Rattle.sys_text.proofs.Bounds.{first_of_two, second_of_two, root_fits, root_tests, system_bounds, tests}
+use Rattle.sys_text.specs.Boot.{with_pids}
 use Rattle.proc_state.specs.declared.process.Process.{Process}
 use Rattle.proc_state.specs.State.{ProcState, state_of}
 use Rattle.proc_state.specs.Ends.{is_linked}
 use Rattle.plain_kernel.specs.Kernel.{root_process}
-use Rattle.bus_msg.specs.declared.placed.Placed.{Placed}
-use Rattle.bus_msg.specs.Places.{same_pid, same_cluster}
-use Rattle.channel_table.specs.Changes.{pids_differ}
-use Rattle.cert_sched.specs.Schedule.{placed_root, next_pid}
+use Rattle.bus_msg.specs.Places.{same_cluster}
+use Rattle.cert_sched.specs.Schedule.{next_pid}
 use Rattle.cert_sched.proofs.RootPids.{has_home}
 use Rattle.cluster_core.specs.declared.resident.Resident.{Resident}
 use Rattle.cluster_core.specs.Booting.{roots_in, IsRootProcess, IsRootNumber, IsOnlyRoot}

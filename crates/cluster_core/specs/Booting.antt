@@ -1,11 +1,11 @@
 -- What a cluster has at boot.
-use Rattle.std.specs.Prelude.{ℕ, ◌≡◌, ◌+◌, ◌==◌, true, not, List, [], ◌∷◌, take, filter, count_by, slice_get, Option, Some, None}
+use Rattle.std.specs.Prelude.{ℕ, ◌≡◌, true, not, List, [], ◌∷◌, take, filter, slice_get, Option, Some, None}
 use Rattle.std.specs.List.{list_all}
 use Rattle.t32_base.specs.declared.process.Pid.{Pid}
 use Rattle.t32_base.specs.declared.process.ClusterNo.{ClusterNo}
 use Rattle.sys_text.specs.declared.system.System.{System}
 use Rattle.sys_text.specs.declared.system.Root.{Root}
-use Rattle.sys_text.specs.Boot.{pid_of, roots_of}
+use Rattle.sys_text.specs.Boot.{roots_of}
 use Rattle.proc_state.specs.State.{state_of}
 use Rattle.proc_state.specs.Ends.{is_linked}
 use Rattle.plain_kernel.specs.Kernel.{root_process}

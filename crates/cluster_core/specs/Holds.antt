@@ -1,5 +1,5 @@
 -- What a cluster that follows a log holds, line by line.
-use Rattle.std.specs.Prelude.{ℕ, ◌+◌, ◌≡◌, ◌≤◌, ◌<◌, Bool, true, false, ◌||◌, if◌then◌else◌, List, ◌++◌, map, filter, length, slice_get, Option, Some, None, is_some, option_and_then, ⊤}
+use Rattle.std.specs.Prelude.{ℕ, ◌+◌, ◌≡◌, ◌≤◌, ◌<◌, Bool, true, false, ◌||◌, if◌then◌else◌, List, ◌++◌, map, length, slice_get, Option, Some, None, is_some, option_and_then, ⊤}
 use Rattle.std.specs.List.{list_any, list_all}
 use Rattle.std.specs.Option.{option_map_or}
 use Rattle.t32_base.specs.declared.process.Pid.{Pid}

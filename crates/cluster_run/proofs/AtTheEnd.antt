@@ -1,5 +1,5 @@
 -- The clusters take in what stands before the end.
-use Rattle.std.proofs.Common.{◌≡◌, ℕ, ◌+◌, ◌≤◌, ◌<◌, ◌≢◌, refl, sym, ◌∙◌, ap, subst, arith, List, [], ◌∷◌, ◌++◌, length, Bool, false, true, Option, Some, None, slice_get, slice_set, get_or, true≢false, eq-eqb, eqb-true, append-nil}
+use Rattle.std.proofs.Common.{◌≡◌, ℕ, ◌+◌, ◌≤◌, ◌<◌, ◌≢◌, refl, sym, ◌∙◌, ap, arith, List, [], length, Bool, false, true, Some, slice_get, slice_set, get_or, true≢false, eq-eqb, eqb-true, append-nil}
 use Rattle.std.specs.Prelude.{nat_eq}
 use Rattle.std.proofs.lemmas.List.{take_all}
 use Rattle.t32_base.specs.declared.process.ClusterNo.{ClusterNo}

@@ -1,9 +1,9 @@
 -- A cluster that takes in, works and sends stays beside its bus.
-use Rattle.std.proofs.Common.{◌≡◌, ℕ, suc, ◌+◌, ◌-◌, ◌≤◌, ◌<◌, ◌≢◌, refl, sym, ◌∙◌, ap, subst, arith, List, [], ◌∷◌, ◌++◌, length, take, drop, length-append, Bool, false, true, cond, ◌||◌, ◌&&◌, Option, Some, None, slice_get, true≢false, add-one, inl, inr, add-zero}
+use Rattle.std.proofs.Common.{◌≡◌, ℕ, suc, ◌+◌, ◌≤◌, ◌<◌, ◌≢◌, refl, sym, ◌∙◌, ap, subst, arith, List, [], ◌∷◌, ◌++◌, length, take, drop, length-append, Bool, false, true, cond, ◌||◌, Some, slice_get, true≢false, add-one, inl, inr}
 use Rattle.std.specs.Prelude.{option_map}
 use Rattle.std.specs.List.{list_any, list_all}
 use Rattle.std.specs.Option.{option_map_or}
-use Rattle.std.proofs.lemmas.List.{take-append-le, drop-append-le, take_all}
+use Rattle.std.proofs.lemmas.List.{take-append-le, take_all}
 use Rattle.std.proofs.lemmas.Option.{slice_get_cases}
 use Rattle.t32_base.specs.declared.process.Pid.{Pid}
 use Rattle.t32_base.specs.declared.process.ClusterNo.{ClusterNo}
@@ -24,16 +24,14 @@ use Rattle.cert_sched.specs.Built.{BuiltMayFollow, is_built}
 use Rattle.cert_sched.specs.Losses.{is_by_cluster, is_from, least_steps, capped}
 use Rattle.cert_sched.specs.Scripted.{is_done, is_finished}
 use Rattle.cert_sched.proofs.ListLaws.{last_of-snoc}
-use Rattle.cert_sched.proofs.LogLaws.{IsLegal-last}
 use Rattle.cert_sched.proofs.BuiltLaws.{built_unlost}
 use Rattle.cluster_core.specs.View.{ClusterView, head_of, after_head, after_sent, counted_once, tried_once}
 use Rattle.cluster_core.specs.Queue.{IsQueueLegal}
-use Rattle.cluster_core.specs.Follows.{FollowsBuilt, IsOpen, StandsBetween}
+use Rattle.cluster_core.specs.Follows.{FollowsBuilt, IsOpen}
 use Rattle.cluster_core.specs.Calls.{Absorbs, FollowsSome, GoesOn, IsReady, MovedOne, QueuesOne, ReadyFor, RestsIn, absorbed, is_resting}
 use Rattle.cluster_core.proofs.Following.{both, no_end}
 use Rattle.cluster_core.proofs.Working.{follows_tried}
-use Rattle.bus_order.specs.declared.marks.Mark.{Mark}
-use Rattle.bus_order.specs.View.{BusView, IsMarkOf, MayIdle}
+use Rattle.bus_order.specs.View.{BusView, MayIdle}
 use Rattle.bus_order.proofs.OverLaws.{over_finished}
 use Rattle.cluster_run.specs.Along.{IsOpenUpto, IsAlong, Extends, IsReadyAt, TakesNext, IsSending, IsSent, IsAtRest}
 use Rattle.cluster_run.proofs.Prefixes.{take_next, drop_next, get_last, drop_whole, either, legal_prefix, goes_on_before, no_crash, not_same}

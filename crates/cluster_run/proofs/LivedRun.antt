@@ -1,15 +1,13 @@
 -- The clusters of a run that has ended followed its log.
-use Rattle.std.proofs.Common.{◌≡◌, ℕ, zero, suc, ◌+◌, ◌-◌, ◌≤◌, ◌<◌, ◌≢◌, refl, sym, ◌∙◌, ap, subst, arith, List, [], ◌∷◌, ◌++◌, map, length, take, drop, Bool, false, true, cond, not, ◌||◌, ◌&&◌, Option, Some, None, slice_get, get_or, true≢false, eq-eqb, eqb-true, inl, inr}
-use Rattle.std.specs.Prelude.{position, ◌==◌, option_and_then}
+use Rattle.std.proofs.Common.{◌≡◌, ℕ, zero, suc, ◌+◌, ◌-◌, ◌<◌, refl, sym, ◌∙◌, ap, subst, arith, List, [], ◌∷◌, map, length, take, drop, Bool, false, true, not, ◌||◌, ◌&&◌, Option, Some, None, slice_get, get_or, true≢false, eq-eqb, eqb-true, inl, inr}
+use Rattle.std.specs.Prelude.{position, option_and_then}
 use Rattle.std.specs.List.{list_any}
 use Rattle.std.specs.Option.{option_map_or}
 use Rattle.std.proofs.lemmas.List.Quantifiers.{position-Some}
 use Rattle.std.proofs.lemmas.Option.{slice_get_cases, slice_get_within}
 use Rattle.t32_base.specs.declared.process.ClusterNo.{ClusterNo}
-use Rattle.sys_text.specs.declared.system.System.{System}
 use Rattle.bus_msg.specs.declared.entry.What.{What}
 use Rattle.bus_msg.specs.declared.entry.What.TheVariants.{Mail, Birth, Exit, Page, Sync, Fetch, PageIs, Crash, Return, Rebackup, Done, Stop}
-use Rattle.bus_msg.specs.declared.entry.Cause.{Cause}
 use Rattle.bus_msg.specs.declared.entry.Entry.{Entry}
 use Rattle.bus_msg.specs.Places.{same_cluster}
 use Rattle.bus_msg.specs.PlacedAfter.{what}
@@ -17,7 +15,7 @@ use Rattle.cert_sched.specs.Rules.{is_over}
 use Rattle.cert_sched.specs.Legal.{IsLegalBy}
 use Rattle.cert_sched.specs.Built.{BuiltMayFollow, is_built}
 use Rattle.cert_sched.specs.Losses.{is_by_cluster, is_crash_of}
-use Rattle.cert_sched.specs.Scripted.{is_done, is_finished}
+use Rattle.cert_sched.specs.Scripted.{is_done}
 use Rattle.cert_sched.proofs.LogLaws.{IsLegal-last}
 use Rattle.cert_sched.proofs.BuiltLaws.{built_unlost}
 use Rattle.cluster_core.specs.View.{ClusterView}
@@ -27,7 +25,7 @@ use Rattle.bus_order.proofs.OverLaws.{over_finished, last_is}
 use Rattle.cluster_run.specs.declared.life.Life.{Life}
 use Rattle.cluster_run.specs.Along.{IsAlong}
 use Rattle.cluster_run.specs.Left.{IsUpto, life_at}
-use Rattle.cluster_run.specs.Lived.{is_return_of, begins_at, end_of_life, last_entry, has_sent, cause_in, end_cause, EndsBy, FollowedUpto, LifeHolds, AllLives, is_life, are_distinct, may_be_left_out, LivedBuilt}
+use Rattle.cluster_run.specs.Lived.{is_return_of, begins_at, end_of_life, cause_in, end_cause, EndsBy, LifeHolds, AllLives, is_life, are_distinct, may_be_left_out, LivedBuilt}
 use Rattle.cluster_run.proofs.Prefixes.{either, legal_prefix, take_next}
 use Rattle.cluster_run.proofs.Beside.{IsLegalIn}
 

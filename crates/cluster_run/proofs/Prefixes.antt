@@ -1,7 +1,6 @@
 -- Beginnings of a log.
-use Rattle.std.proofs.Common.{◌≡◌, ℕ, zero, suc, ◌+◌, ◌≤◌, ◌<◌, refl, sym, ◌∙◌, ap, subst, arith, List, [], ◌∷◌, ◌++◌, length, take, drop, length-append, append_assoc, Bool, false, true, ◌||◌, Option, Some, None, slice_get, true≢false, ◌≢◌, eqb-true}
+use Rattle.std.proofs.Common.{◌≡◌, ℕ, zero, suc, refl, sym, ◌∙◌, ap, subst, List, [], ◌∷◌, ◌++◌, length, take, drop, Bool, false, true, ◌||◌, Some, slice_get, true≢false, ◌≢◌, eqb-true}
 use Rattle.std.specs.List.{list_any}
-use Rattle.std.proofs.lemmas.List.{take-append-le, drop-append-le, take_all}
 use Rattle.std.proofs.lemmas.List.Folds.{list_any-append}
 use Rattle.sys_text.specs.declared.system.System.{System}
 use Rattle.t32_base.specs.declared.process.ClusterNo.{ClusterNo}
@@ -11,7 +10,7 @@ use Rattle.bus_msg.specs.PlacedAfter.{what}
 use Rattle.cert_sched.specs.Rules.{is_over}
 use Rattle.cert_sched.specs.Legal.{IsLegalBy, IsLegalFrom}
 use Rattle.cert_sched.specs.Built.{BuiltMayFollow}
-use Rattle.cert_sched.specs.Losses.{was_lost_in, is_crash_of}
+use Rattle.cert_sched.specs.Losses.{is_crash_of}
 use Rattle.cert_sched.proofs.LogLaws.{IsLegal-last}
 use Rattle.cert_sched.proofs.BuiltLaws.{built_unlost}
 

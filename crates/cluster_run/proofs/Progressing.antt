@@ -1,5 +1,5 @@
 -- Each round leaves less to do, or ends the run.
-use Rattle.std.proofs.Common.{◌≡◌, ℕ, zero, suc, ◌+◌, ◌≤◌, ◌<◌, ◌≢◌, ◌⊎◌, inl, inr, refl, sym, ◌∙◌, ap, subst, arith, List, [], ◌∷◌, ◌++◌, map, filter, length, Bool, false, true, cond, not, ◌||◌, ◌&&◌, Option, Some, None, get_or, slice_set, true≢false, eq-eqb, eqb-true, OnOk, Result, Ok, Err}
+use Rattle.std.proofs.Common.{◌≡◌, ℕ, zero, suc, ◌+◌, ◌≤◌, ◌<◌, ◌≢◌, ◌⊎◌, inl, inr, refl, sym, ◌∙◌, ap, subst, arith, List, [], ◌∷◌, filter, length, Bool, false, true, cond, not, ◌||◌, ◌&&◌, Option, Some, None, get_or, slice_set, true≢false, eq-eqb, eqb-true, OnOk, Result, Ok, Err}
 use Rattle.std.specs.Prelude.{is_none, is_some, nat_eq, nat_lt, option_map, slice_get}
 use Rattle.std.specs.List.{sum_by, list_any, range_with_len}
 use Rattle.std.proofs.lemmas.List.Sums.{sum_by-cons, sum_by-set}
@@ -10,21 +10,20 @@ use Rattle.t32_base.specs.declared.process.Pid.{Pid}
 use Rattle.t32_base.specs.declared.process.ClusterNo.{ClusterNo}
 use Rattle.bus_msg.specs.declared.entry.What.{What}
 use Rattle.bus_msg.specs.declared.entry.What.TheVariants.{Mail, Birth, Exit, Page, Sync, Fetch, PageIs, Crash, Return, Rebackup, Done, Stop}
-use Rattle.bus_msg.specs.declared.entry.Entry.{Entry}
-use Rattle.bus_msg.specs.Places.{Places, all_clusters, cluster_no, lives_in, same_pid}
+use Rattle.bus_msg.specs.Places.{all_clusters, cluster_no, lives_in, same_pid}
 use Rattle.bus_msg.specs.PlacedAfter.{what}
 use Rattle.cert_sched.specs.Schedule.{placement}
 use Rattle.cert_sched.specs.Rules.{is_over}
 use Rattle.cert_sched.proofs.BuiltLaws.{is_over-snoc}
 use Rattle.cert_sched.proofs.HomesLaws.{built_clusters-length}
 use Rattle.cluster_core.specs.View.{ClusterView, Held, held_load, load}
-use Rattle.cluster_core.specs.Calls.{absorbed, without_ended}
+use Rattle.cluster_core.specs.Calls.{without_ended}
 use Rattle.bus_order.specs.declared.marks.Mark.{Mark}
 use Rattle.bus_order.specs.declared.marks.Idled.{Idled}
 use Rattle.bus_order.specs.declared.marks.Idled.TheVariants.{Marked, Done as WasDone}
 use Rattle.bus_order.specs.View.{BusView, Idles, is_awaited, mark_in, with_mark}
 use Rattle.bus_order.proofs.MarksLaws.{mark_in-get_or}
-use Rattle.cluster_run.specs.Along.{AllAlong, TakesNext}
+use Rattle.cluster_run.specs.Along.{TakesNext}
 use Rattle.cluster_run.specs.Progress.{total, IsOver, HasMark, IsAwaiting, Rests, GetsOn}
 use Rattle.cluster_run.proofs.Beside.{IsLegalIn}
 

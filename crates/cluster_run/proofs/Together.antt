@@ -1,5 +1,5 @@
 -- All clusters stay beside their bus while one of them has its turn.
-use Rattle.std.proofs.Common.{◌≡◌, ℕ, zero, suc, ◌+◌, ◌≤◌, ◌<◌, ◌≢◌, refl, sym, ◌∙◌, ap, subst, arith, List, [], ◌∷◌, ◌++◌, length, take, drop, length-append, Bool, false, true, cond, not, ◌||◌, ◌&&◌, Option, Some, None, slice_get, slice_set, get_or, true≢false, eq-eqb, eqb-true, inl, inr, zero-add, OnOk, Result, Ok, Err}
+use Rattle.std.proofs.Common.{◌≡◌, ℕ, zero, suc, ◌+◌, ◌≤◌, ◌<◌, ◌≢◌, refl, sym, ◌∙◌, ap, subst, arith, List, [], ◌∷◌, ◌++◌, length, take, drop, length-append, Bool, false, true, cond, not, ◌||◌, ◌&&◌, Some, slice_get, slice_set, get_or, true≢false, eq-eqb, eqb-true, zero-add, OnOk, Result, Ok, Err}
 use Rattle.std.specs.Prelude.{count_by, ◌==◌, nat_eq, nat_le}
 use Rattle.std.specs.List.{list_any}
 use Rattle.std.proofs.lemmas.Bool.{leb-true}
@@ -11,7 +11,6 @@ use Rattle.t32_base.specs.declared.process.ClusterNo.{ClusterNo}
 use Rattle.sys_text.specs.Valid.{are_images, are_roots, is_header, is_pair, is_system, is_within}
 use Rattle.sys_text.specs.declared.system.System.{System}
 use Rattle.sys_text.specs.declared.system.Root.{Root}
-use Rattle.bus_msg.specs.declared.entry.Entry.{Entry}
 use Rattle.cert_sched.specs.Told.{told}
 use Rattle.cert_sched.specs.Rules.{is_over}
 use Rattle.cert_sched.specs.Losses.{is_by_cluster}

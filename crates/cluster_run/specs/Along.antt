@@ -8,7 +8,7 @@ use Rattle.cert_sched.specs.Rules.{is_over}
 use Rattle.cert_sched.specs.Appended.{entry_of}
 use Rattle.cert_sched.specs.Losses.{is_by_cluster}
 use Rattle.cluster_core.specs.View.{ClusterView}
-use Rattle.cluster_core.specs.Follows.{FollowsBuilt, StandsBetween}
+use Rattle.cluster_core.specs.Follows.{FollowsBuilt}
 use Rattle.cluster_core.specs.Calls.{Absorbs, ReadyFor, absorbed, is_resting}
 use Rattle.bus_order.specs.View.{BusView}
 

@@ -1,5 +1,3 @@
-use Rattle.std.proofs.Common.{ap, ◌∙◌}
-use Rattle.cluster_core.specs.View.{ClusterView}
 use Rattle.cluster_run.proofs.AtTheEnd.{behind_end, none_caught, one_caught, open_end}
 use Rattle.cluster_run.proofs.Together.{one_along}
 use Rattle.cluster_run.proofs.leaving.catch_all_up.Goals as goal

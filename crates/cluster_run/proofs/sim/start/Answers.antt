@@ -1,7 +1,7 @@
-use Rattle.std.proofs.Common.{◌≡◌, length, sym, ap, ◌∙◌, subst, arith}
+use Rattle.std.proofs.Common.{subst, arith}
 use Rattle.std.specs.Arc.{arc_value}
 use Rattle.sys_text.specs.declared.system.System.{System}
-use Rattle.bus_order.specs.View.{BeginsWith, BusView}
+use Rattle.bus_order.specs.View.{BeginsWith}
 use Rattle.cluster_run.proofs.Together.{all_at_start, some_clusters}
 use Rattle.cluster_run.proofs.sim.start.Goals as goal
 

@@ -1,7 +1,6 @@
 use Rattle.std.proofs.Common.{◌≡◌, subst, sym, ap, ◌∙◌, []}
 use Rattle.std.specs.Arc.{arc_value}
 use Rattle.sys_text.specs.declared.system.System.{System}
-use Rattle.bus_msg.specs.Places.{Places}
 use Rattle.cert_sched.specs.Schedule.{places_at_boot}
 use Rattle.cluster_core.specs.View.{ClusterView}
 use Rattle.cluster_core.specs.Booting.{IsResident}
