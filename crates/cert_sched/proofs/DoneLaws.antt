@@ -3,7 +3,7 @@ use Rattle.std.proofs.Common.{◌≡◌, ℕ, refl, sym, ◌∙◌, ap, subst, L
 use Rattle.std.specs.Prelude.{find, filter, option_map, option_and_then}
 use Rattle.std.specs.List.{list_any, list_all}
 use Rattle.std.specs.Option.{option_map_or}
-use Rattle.std.proofs.lemmas.Bool.{and_parts, and_from}
+use Rattle.std.proofs.lemmas.Bool.{and_parts}
 use Rattle.t32_base.specs.declared.process.Pid.{Pid}
 use Rattle.sys_text.specs.declared.system.System.{System}
 use Rattle.sys_text.specs.Valid.{is_system}
@@ -27,6 +27,7 @@ use Rattle.cert_sched.specs.Rests.{is_idle, is_idle_at}
 use Rattle.cert_sched.specs.Legal.{IsLegalBy}
 use Rattle.cert_sched.specs.Built.{BuiltMayFollow}
 use Rattle.cert_sched.specs.Appended.{entry_of}
+use Rattle.cert_sched.proofs.ListLaws.{list_all-weaker}
 use Rattle.cert_sched.proofs.LogLaws.{plain_after-snoc}
 use Rattle.cert_sched.proofs.StepLaws.{plain_after-pids}
 use Rattle.cert_sched.proofs.RootPids.{root_pids_differ}
@@ -42,12 +43,6 @@ pub record AllRest (system : System) (log : List Entry) (rests : List (Pid × �
   pub named : rest_pids rests ≡ rising (map (λ (q : Placed). (q.pid).0) (unended_in (placement system log)))
   pub idle : list_all (is_idle_at system log) rests ≡ true
   pub backed : list_all (λ q. is_none (next_backup (placement system log) q)) (placement system log).placed ≡ true
-
-pub list_all-weaker : {X : Type 0} (t u : X → Bool) → ((x : X) → t x ≡ true → u x ≡ true) → (xs : List X) → list_all t xs ≡ true → list_all u xs ≡ true
-list_all-weaker t u weaker [] all = refl
-list_all-weaker t u weaker (x ∷ xs) all =
-    let parts = and_parts (t x) (list_all t xs) all in
-    and_from (u x) (list_all u xs) (weaker x parts.0) (list_all-weaker t u weaker xs parts.1)
 
 -- ---- the pids
 

@@ -3,8 +3,6 @@ use Rattle.std.proofs.Common.{◌≡◌, ◌≢◌, ℕ, refl, sym, ◌∙◌, a
 use Rattle.std.specs.Prelude.{◌≢◌, fold, find, option_map}
 use Rattle.t32_base.specs.declared.process.Pid.{Pid}
 use Rattle.t32_base.specs.declared.process.End.{End}
-use Rattle.t32_base.specs.declared.letter.To.{To}
-use Rattle.t32_base.specs.declared.letter.To.TheVariants.{Proc, Tty}
 use Rattle.sys_text.specs.declared.system.System.{System}
 use Rattle.sys_text.specs.declared.system.Root.{Root}
 use Rattle.sys_text.specs.Boot.{roots_of}
@@ -13,7 +11,7 @@ use Rattle.sys_calls.specs.declared.steps.Emission.TheVariants.{Mail as Sent, Ex
 use Rattle.sys_calls.proofs.Counting.{last_sent, exit_ends}
 use Rattle.plain_kernel.specs.Kernel.{Kernel, boot, boot_roots, empty, process_at, with_process, with_root, root_process}
 use Rattle.plain_kernel.proofs.Entries.{some_same}
-use Rattle.plain_kernel.proofs.Others.{chans-keep, is_outward_to, process_at-other}
+use Rattle.plain_kernel.proofs.Others.{chans-keep, process_at-other}
 use Rattle.bus_msg.specs.declared.entry.What.{What}
 use Rattle.bus_msg.specs.declared.entry.What.TheVariants.{Mail, Birth, Exit, Page, Sync, Fetch, PageIs, Crash, Return, Rebackup, Done, Stop}
 use Rattle.bus_msg.specs.declared.entry.By.{By}
@@ -26,10 +24,11 @@ use Rattle.cert_sched.specs.Schedule.{plain_after, process_after, placement, pla
 use Rattle.cert_sched.specs.Steps.{emission_at}
 use Rattle.cert_sched.specs.Rules.{is_over, ends_run, is_by, is_living, is_by_home, is_by_right}
 use Rattle.cert_sched.specs.Kinds.{KindHolds}
-use Rattle.cert_sched.specs.Legal.{IsLegalBy}
-use Rattle.cert_sched.specs.Built.{BuiltMayFollow, is_built, is_to_terminal}
+use Rattle.cert_sched.specs.Legal.{IsLegalBy, Stands}
+use Rattle.cert_sched.specs.Built.{BuiltMayFollow}
 use Rattle.cert_sched.proofs.LogLaws.{placement-snoc}
 use Rattle.cert_sched.proofs.StepLaws.{SentTo, is_sent, sent_from, process_after-sent, process_after-others}
+use Rattle.cert_sched.proofs.MailLaws.{received, received-ended, process_after-receiver, is_plain, IsPlainRule, built_is_plain}
 use Rattle.cert_sched.proofs.BuiltLaws.{legal_induction, is_over-snoc}
 
 abbrev pub EndsTold : System → List Entry → Type 0
@@ -68,11 +67,7 @@ told_at_boot system q s there none =
     chans-keep (λ k. process_at k q ≡ None) (λ k p s peer far there gone. stays_gone q k p s (linked_to s peer far) there gone) system (boot_roots system) system.chans (no_root system empty (roots_of system) q none) in
     cc
 
--- ---- a letter to a terminal, and an exit
-
-outward : (to : To) → is_to_terminal to ≡ true → is_outward_to to ≡ true
-outward (Proc p e) h = h
-outward (Tty t) h = h
+-- ---- a letter, and an exit
 
 -- who sends an entry by right has not ended
 sender_there : (places : Places) (by : By) (p : Pid) → is_by_home places by (Some p) ≡ true → unended_at places p ≡ None → ⊥
@@ -119,13 +114,16 @@ same_of p q e i = record { 0 = e i }
 
 -- ---- one entry more
 
-told_more : (system : System) (log : List Entry) (e : Entry) → (is_over system log ≡ false → EndsTold system log) → BuiltMayFollow system log e → is_over system (log ++ e ∷ []) ≡ false → EndsTold system (log ++ e ∷ [])
-told_more system log e before may open_still = by_what (what e) refl may.built ((may.stands).kind) ((may.stands).by_right) (sym (is_over-snoc system log e) ∙ open_still)
+told_more : (May : System → List Entry → Entry → Type 0) → IsPlainRule May → (system : System) (log : List Entry) (e : Entry) → (is_over system log ≡ false → EndsTold system log) → May system log e → is_over system (log ++ e ∷ []) ≡ false → EndsTold system (log ++ e ∷ [])
+told_more May plain system log e before may open_still = by_what (what e) refl h.1 (h.0).kind (h.0).by_right (sym (is_over-snoc system log e) ∙ open_still)
   where
-    told : EndsTold system log
-    told = before ((may.stands).placed).2
+    h : Stands system log e × (is_plain (what e) ≡ true)
+    h = plain system log e may
 
-    by_what : (w : What) → what e ≡ w → is_built w ≡ true → KindHolds system log e w → is_by_right (placement system log) (e.post).by w ≡ true → ends_run (placement system log) w ≡ false → EndsTold system (log ++ e ∷ [])
+    told : EndsTold system log
+    told = before ((h.0).placed).2
+
+    by_what : (w : What) → what e ≡ w → is_plain w ≡ true → KindHolds system log e w → is_by_right (placement system log) (e.post).by w ≡ true → ends_run (placement system log) w ≡ false → EndsTold system (log ++ e ∷ [])
     by_what (Mail at letter) is built kind right goes_on = λ q s there none. by_pid q s there none (eqb q.0 (letter.from).0) refl
       where
         sent : SentTo system log letter.from at (Sent letter)
@@ -139,9 +137,17 @@ told_more system log e before may open_still = by_what (what e) refl may.built (
             absurd (sender_there (placement system log) (e.post).by letter.from right
             (ap (unended_at (placement system log)) (sym (same_of q letter.from (eqb-true q.0 (letter.from).0 pid_is))) ∙ as_before q none))
         by_pid q s there none false pid_is =
-            told q s
-            (sym (process_after-others system log e letter.from at (Sent letter) sent.after q sent.is (refl, is) (outward letter.to built) (λ same. true≢false (sym (eq-eqb q.0 (letter.from).0 same) ∙ pid_is))) ∙ there)
-            (as_before q none)
+            let apart : q.0 ≢ (letter.from).0 = λ same. true≢false (sym (eq-eqb q.0 (letter.from).0 same) ∙ pid_is) in
+            by_process (process_after system log q) refl
+            (sym (process_after-receiver system log e letter.from at (Sent letter) sent.after q sent.is (refl, is) apart) ∙ there)
+          where
+            -- what has ended receives nothing
+            by_process : (o : Option ProcState) → process_after system log q ≡ o → option_map (received (Sent letter) q) o ≡ Some s → has_ended (s.small).status ≡ true
+            by_process None here same = cc
+            by_process (Some was) here same =
+                let ended : has_ended (was.small).status ≡ true = told q was here (as_before q none) in
+                let as_was : was ≡ s = some_same was s (sym (ap Some (received-ended (Sent letter) q was ended)) ∙ same) in
+                ap (λ (s : ProcState). has_ended (s.small).status) (sym as_was) ∙ ended
     by_what (Birth parent at child end) is built kind right goes_on = absurd (true≢false (sym built))
     by_what (Exit pid at end) is built kind right goes_on = λ q s there none. by_pid q s there none (eqb q.0 pid.0) refl
       where
@@ -172,6 +178,10 @@ told_more system log e before may open_still = by_what (what e) refl may.built (
     by_what (Done rests) is built kind right goes_on = absurd (true≢false goes_on)
     by_what Stop is built kind right goes_on = absurd (true≢false (sym built))
 
--- in a legal log that is not over, each process of the kernel has ended that the placement does not have among those that have not
+-- in a legal log of letters and exits that is not over, each process of the kernel has ended that the placement does not have among those that have not
+pub plain_ended : (May : System → List Entry → Entry → Type 0) → IsPlainRule May → (system : System) (log : List Entry) → IsLegalBy May system log → is_over system log ≡ false → EndsTold system log
+plain_ended May plain system log legal = legal_induction May system (λ log. is_over system log ≡ false → EndsTold system log) (λ _. told_at_boot system) (told_more May plain system) log legal
+
+-- so it is for the entries that are built so far
 pub built_ended : (system : System) (log : List Entry) → IsLegalBy BuiltMayFollow system log → is_over system log ≡ false → EndsTold system log
-built_ended system log legal = legal_induction BuiltMayFollow system (λ log. is_over system log ≡ false → EndsTold system log) (λ _. told_at_boot system) (told_more system) log legal
+built_ended system log legal = plain_ended BuiltMayFollow built_is_plain system log legal

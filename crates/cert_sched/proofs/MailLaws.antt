@@ -38,12 +38,12 @@ use Rattle.cert_sched.specs.Rules.{is_over, ends_run}
 use Rattle.cert_sched.specs.Kinds.{KindHolds, DoneHolds, is_silent_rest}
 use Rattle.cert_sched.specs.Legal.{IsLegalBy, Stands}
 use Rattle.cert_sched.specs.Built.{is_built, BuiltMayFollow}
+use Rattle.cert_sched.proofs.ListLaws.{list_all-weaker}
 use Rattle.cert_sched.proofs.LogLaws.{placement-snoc}
 use Rattle.cert_sched.proofs.RootPids.{root_pids_differ}
 use Rattle.cert_sched.proofs.RisingLaws.{NoTwo, rising-apart}
 use Rattle.cert_sched.proofs.PidLaws.{placed_pids, apart_of, apart_fewer}
 use Rattle.cert_sched.proofs.RunsLaws.{rest_pids, led, led-silent_upto, after_runs, runs_made}
-use Rattle.cert_sched.proofs.DoneLaws.{list_all-weaker}
 use Rattle.cert_sched.proofs.BuiltLaws.{legal_induction, is_over-snoc}
 use Rattle.cert_sched.proofs.StepLaws.{Tells, applied, is_sent, sent_from, silent_from, sent_applies, plain_after-sent, done_kernel, done_after-other, done_after-here}
 
