@@ -1,16 +1,19 @@
--- A process that the placement does not have among those that have not ended has ended in the kernel.
-use Rattle.std.proofs.Common.{◌≡◌, ◌≢◌, ℕ, refl, sym, ◌∙◌, ap, List, [], ◌∷◌, ◌++◌, map, Bool, true, false, cond, not, ◌&&◌, eqb, eqb-true, eq-eqb, Option, Some, None, true≢false}
-use Rattle.std.specs.Prelude.{◌≢◌, fold, find, option_map}
+-- A process has ended in the kernel just where the placement does not have it among those that have not ended.
+use Rattle.std.proofs.Common.{◌≡◌, ◌≢◌, ℕ, refl, sym, ◌∙◌, ap, List, [], ◌∷◌, ◌++◌, map, Bool, true, false, cond, not, ◌&&◌, eqb, eqb-true, eq-eqb, Option, Some, None, true≢false, is_some}
+use Rattle.std.specs.Prelude.{◌≢◌, fold, find, option_map, option_and_then}
 use Rattle.t32_base.specs.declared.process.Pid.{Pid}
 use Rattle.t32_base.specs.declared.process.End.{End}
 use Rattle.sys_text.specs.declared.system.System.{System}
 use Rattle.sys_text.specs.declared.system.Root.{Root}
 use Rattle.sys_text.specs.Boot.{roots_of}
-use Rattle.proc_state.specs.State.{ProcState, has_ended, linked_to}
+use Rattle.proc_state.specs.State.{ProcState, has_ended, linked_to, delivered}
+use Rattle.t32_base.specs.declared.letter.Letter.{Letter}
+use Rattle.sys_calls.specs.declared.steps.Emission.{Emission}
 use Rattle.sys_calls.specs.declared.steps.Emission.TheVariants.{Mail as Sent, Exit as Ended}
-use Rattle.sys_calls.proofs.Counting.{last_sent, exit_ends}
+use Rattle.sys_calls.proofs.Counting.{last_sent, exit_ends, letter_goes_on}
 use Rattle.plain_kernel.specs.Kernel.{Kernel, boot, boot_roots, empty, process_at, with_process, with_root, root_process}
 use Rattle.plain_kernel.proofs.Entries.{some_same}
+use Rattle.plain_kernel.proofs.Laws.{process_at-same}
 use Rattle.plain_kernel.proofs.Others.{chans-keep, process_at-other}
 use Rattle.bus_msg.specs.declared.entry.What.{What}
 use Rattle.bus_msg.specs.declared.entry.What.TheVariants.{Mail, Birth, Exit, Page, Sync, Fetch, PageIs, Crash, Return, Rebackup, Done, Stop}
@@ -19,16 +22,17 @@ use Rattle.bus_msg.specs.declared.entry.By.TheVariants.{Cluster, Bus}
 use Rattle.bus_msg.specs.declared.entry.Entry.{Entry}
 use Rattle.bus_msg.specs.declared.placed.Placed.{Placed}
 use Rattle.bus_msg.specs.Places.{Places, same_pid, unended_at}
-use Rattle.bus_msg.specs.PlacedAfter.{what, placed_after, after_exit}
+use Rattle.bus_msg.specs.PlacedAfter.{what, placed_after}
 use Rattle.cert_sched.specs.Schedule.{plain_after, process_after, placement, placed_root}
-use Rattle.cert_sched.specs.Steps.{emission_at}
+use Rattle.cert_sched.specs.Steps.{emission_at, silent_upto}
 use Rattle.cert_sched.specs.Rules.{is_over, ends_run, is_by, is_living, is_by_home, is_by_right}
 use Rattle.cert_sched.specs.Kinds.{KindHolds}
 use Rattle.cert_sched.specs.Legal.{IsLegalBy, Stands}
 use Rattle.cert_sched.specs.Built.{BuiltMayFollow}
 use Rattle.cert_sched.proofs.LogLaws.{placement-snoc}
-use Rattle.cert_sched.proofs.StepLaws.{SentTo, is_sent, sent_from, process_after-sent, process_after-others}
-use Rattle.cert_sched.proofs.MailLaws.{received, received-ended, process_after-receiver, is_plain, IsPlainRule, built_is_plain}
+use Rattle.cert_sched.proofs.StepLaws.{SentTo, is_sent, sent_from, process_after-sent, process_after-others, Tells, SilentFrom, silent_from}
+use Rattle.cert_sched.proofs.ExitLaws.{exited, unended_exit}
+use Rattle.cert_sched.proofs.MailLaws.{received, received-ended, process_after-receiver, is_plain, IsPlainRule, built_is_plain, with_arrival, received-goes_on, is_end_of, process_after-sender, silent_upto-receiver, silent_upto-ends}
 use Rattle.cert_sched.proofs.BuiltLaws.{legal_induction, is_over-snoc}
 
 abbrev pub EndsTold : System → List Entry → Type 0
@@ -80,27 +84,6 @@ sender_there places by p right none = no_sender by (sym (ap (λ o. is_living pla
     no_sender : (by : By) → (is_living places by && is_by by None) ≡ true → ⊥
     no_sender (Cluster k) h = no_other (is_living places (Cluster k)) h
     no_sender Bus h = true≢false (sym h)
-
--- a process that has not ended and is not the one that exits has not ended after it
-still_ended : (p r : Pid) (qs : List Placed) → r.0 ≢ p.0 → unended_of r (map (after_exit p) qs) ≡ None → unended_of r qs ≡ None
-unfolding unended_of
-still_ended p r [] apart none = refl
-still_ended p r (q ∷ qs) apart none = by_tests (same_pid q.pid p) (same_pid q.pid r) refl refl none (still_ended p r qs apart)
-  where
-    by_ended : (b : Bool) → cond b (Some q) (unended_of r (map (after_exit p) qs)) ≡ None → (unended_of r (map (after_exit p) qs) ≡ None → unended_of r qs ≡ None) → cond b (Some q) (unended_of r qs) ≡ None
-    by_ended true e more = cc
-    by_ended false e more = more e
-
-    by_tests : (b c : Bool) → same_pid q.pid p ≡ b → same_pid q.pid r ≡ c
-        → cond (same_pid (cond b (record q { ended = true }) q).pid r && not (cond b (record q { ended = true }) q).ended) (Some (cond b (record q { ended = true }) q)) (unended_of r (map (after_exit p) qs)) ≡ None
-        → (unended_of r (map (after_exit p) qs) ≡ None → unended_of r qs ≡ None) → cond (c && not q.ended) (Some q) (unended_of r qs) ≡ None
-    by_tests true true is_p is_r e more = absurd (apart (sym (eqb-true (q.pid).0 r.0 is_r) ∙ eqb-true (q.pid).0 p.0 is_p))
-    by_tests true false is_p is_r e more = more (sym (ap (λ b. cond (b && false) (Some (record q { ended = true })) (unended_of r (map (after_exit p) qs))) is_r) ∙ e)
-    by_tests false c is_p is_r e more = by_ended (c && not q.ended) (sym (ap (λ b. cond (b && not q.ended) (Some q) (unended_of r (map (after_exit p) qs))) is_r) ∙ e) more
-
-exit_before : (p r : Pid) (qs : List Placed) → r.0 ≢ p.0 → find (λ (q : Placed). same_pid q.pid r && not q.ended) (map (after_exit p) qs) ≡ None → find (λ (q : Placed). same_pid q.pid r && not q.ended) qs ≡ None
-unfolding unended_of
-exit_before p r qs apart none = still_ended p r qs apart none
 
 -- what sends its exit has ended
 exit_told : (system : System) (log : List Entry) (p : Pid) (at : ℕ) (end : End) (t : ProcState) → emission_at system log p at ≡ Some (Ended end, t) → has_ended (t.small).status ≡ true
@@ -164,10 +147,7 @@ told_more May plain system log e before may open_still = by_what (what e) refl h
             let apart : q.0 ≢ pid.0 = λ same. true≢false (sym (eq-eqb q.0 pid.0 same) ∙ pid_is) in
             told q s
             (sym (process_after-others system log e pid at (Ended end) sent.after q sent.is is refl apart) ∙ there)
-            (ended_before q apart (sym (ap (λ p. unended_at p q) (placement-snoc system log e ∙ ap (placed_after (placement system log)) is)) ∙ none))
-          where
-            ended_before : (q : Pid) → q.0 ≢ pid.0 → unended_at (placed_after (placement system log) (Exit pid at end)) q ≡ None → unended_at (placement system log) q ≡ None
-            ended_before q apart none = exit_before pid q (placement system log).placed apart none
+            (sym (unended_exit pid q (placement system log).placed apart) ∙ sym (ap (λ p. unended_at p q) (placement-snoc system log e ∙ ap (placed_after (placement system log)) is)) ∙ none)
     by_what (Page pid at index bytes) is built kind right goes_on = absurd (true≢false (sym built))
     by_what (Sync pid small read took) is built kind right goes_on = absurd (true≢false (sym built))
     by_what (Fetch pid index) is built kind right goes_on = absurd (true≢false (sym built))
@@ -185,3 +165,133 @@ plain_ended May plain system log legal = legal_induction May system (λ log. is_
 -- so it is for the entries that are built so far
 pub built_ended : (system : System) (log : List Entry) → IsLegalBy BuiltMayFollow system log → is_over system log ≡ false → EndsTold system log
 built_ended system log legal = plain_ended BuiltMayFollow built_is_plain system log legal
+
+-- ---- the other way round
+
+-- each process of the kernel that the placement has among those that have not ended has not ended there
+abbrev pub RunsOn : System → List Entry → Type 0
+RunsOn system log = (q : Pid) (s : ProcState) → process_after system log q ≡ Some s → is_some (unended_at (placement system log) q) ≡ true → has_ended (s.small).status ≡ false
+
+abbrev none_ended : Kernel → Type 0
+none_ended k = (q : Pid) (s : ProcState) → process_at k q ≡ Some s → has_ended (s.small).status ≡ false
+
+put_open : (k : Kernel) (p : Pid) (t : ProcState) → has_ended (t.small).status ≡ false → none_ended k → none_ended (with_process k p t)
+put_open k p t open_still none q s there = by_pid (same_pid q p) refl
+  where
+    by_pid : (b : Bool) → same_pid q p ≡ b → has_ended (s.small).status ≡ false
+    by_pid true is =
+        let same : t ≡ s = some_same t s (sym (process_at-same k p t) ∙ sym (ap (process_at (with_process k p t)) (same_of q p (eqb-true q.0 p.0 is))) ∙ there) in
+        ap (λ (s : ProcState). has_ended (s.small).status) (sym same) ∙ open_still
+    by_pid false is = none q s (sym (process_at-other k p t q (λ same. true≢false (sym (eq-eqb q.0 p.0 same) ∙ is))) ∙ there)
+
+roots_open : (system : System) (k : Kernel) (roots : List (Pid × Root)) → none_ended k → none_ended (fold (with_root system) k roots)
+roots_open system k [] none = none
+roots_open system k (r ∷ roots) none = roots_open system (with_root system k r) roots (put_open k r.0 (root_process system r.0 r.1) refl none)
+
+open_at_boot : (system : System) → RunsOn system []
+unfolding plain_after boot
+open_at_boot system q s there placed =
+    chans-keep none_ended (λ k p s peer far there none. put_open k p (linked_to s peer far) (none p s there) none) system (boot_roots system) system.chans
+    (roots_open system empty (roots_of system) none_there) q s there
+  where
+    none_there : none_ended empty
+    none_there q s h = cc
+
+-- what sends a letter has not ended
+letter_told : (system : System) (log : List Entry) (p : Pid) (at : ℕ) (letter : Letter) (t : ProcState) → emission_at system log p at ≡ Some (Sent letter, t) → has_ended (t.small).status ≡ false
+letter_told system log p at letter t is =
+    let s = sent_from system log p at (Sent letter) t is in
+    let last = last_sent _ s.was (Sent letter) t s.sends in
+    letter_goes_on last.before t letter last.last
+
+-- a letter that arrives ends nothing
+received_ends : (e : Emission) (q : Pid) (s : ProcState) → has_ended ((received e q s).small).status ≡ has_ended (s.small).status
+received_ends (Ended end) q s = refl
+received_ends (Sent letter) q s = by_tests (has_ended (s.small).status) (is_end_of q letter.to)
+  where
+    by_tests : (b c : Bool) → has_ended ((cond b s (cond c (delivered s letter) s)).small).status ≡ has_ended (s.small).status
+    by_tests true c = refl
+    by_tests false true = refl
+    by_tests false false = refl
+
+-- who has not ended before an entry of another process has not ended after it
+open_beside : (system : System) (log : List Entry) (e : Entry) (p : Pid) (at : ℕ) (m : Emission) (t : ProcState) → emission_at system log p at ≡ Some (m, t) → Tells p at m (what e)
+    → RunsOn system log → (q : Pid) (s : ProcState) → q.0 ≢ p.0 → process_after system (log ++ e ∷ []) q ≡ Some s → is_some (unended_at (placement system log) q) ≡ true → has_ended (s.small).status ≡ false
+open_beside system log e p at m t is tells runs q s apart there placed =
+    by_process (process_after system log q) refl (sym (process_after-receiver system log e p at m t q is tells apart) ∙ there)
+  where
+    by_process : (o : Option ProcState) → process_after system log q ≡ o → option_map (received m q) o ≡ Some s → has_ended (s.small).status ≡ false
+    by_process None here same = cc
+    by_process (Some was) here same =
+        let as_was : received m q was ≡ s = some_same (received m q was) s same in
+        ap (λ (s : ProcState). has_ended (s.small).status) (sym as_was) ∙ received_ends m q was ∙ runs q was here placed
+
+open_more : (May : System → List Entry → Entry → Type 0) → IsPlainRule May → (system : System) (log : List Entry) (e : Entry) → (is_over system log ≡ false → RunsOn system log) → May system log e → is_over system (log ++ e ∷ []) ≡ false → RunsOn system (log ++ e ∷ [])
+open_more May plain system log e before may open_still = by_what (what e) refl h.1 (h.0).kind (sym (is_over-snoc system log e) ∙ open_still)
+  where
+    h : Stands system log e × (is_plain (what e) ≡ true)
+    h = plain system log e may
+
+    runs : RunsOn system log
+    runs = before ((h.0).placed).2
+
+    as_after : (w : What) → what e ≡ w → (q : Pid) → unended_at (placement system (log ++ e ∷ [])) q ≡ unended_at (placed_after (placement system log) w) q
+    as_after w is q = ap (λ p. unended_at p q) (placement-snoc system log e ∙ ap (placed_after (placement system log)) is)
+
+    by_what : (w : What) → what e ≡ w → is_plain w ≡ true → KindHolds system log e w → ends_run (placement system log) w ≡ false → RunsOn system (log ++ e ∷ [])
+    by_what (Mail at letter) is built kind goes_on = λ q s there placed. by_pid q s there placed (eqb q.0 (letter.from).0) refl
+      where
+        sent : SentTo system log letter.from at (Sent letter)
+        sent = is_sent system log letter.from at (Sent letter) kind
+
+        by_pid : (q : Pid) (s : ProcState) → process_after system (log ++ e ∷ []) q ≡ Some s → is_some (unended_at (placement system (log ++ e ∷ [])) q) ≡ true → (b : Bool) → eqb q.0 (letter.from).0 ≡ b → has_ended (s.small).status ≡ false
+        by_pid q s there placed true pid_is =
+            let after : process_after system (log ++ e ∷ []) q ≡ Some (received (Sent letter) letter.from sent.after) =
+            ap (process_after system (log ++ e ∷ [])) (same_of q letter.from (eqb-true q.0 (letter.from).0 pid_is)) ∙ process_after-sender system log e letter.from at (Sent letter) sent.after sent.is (refl, is) in
+            let same : received (Sent letter) letter.from sent.after ≡ s = some_same (received (Sent letter) letter.from sent.after) s (sym after ∙ there) in
+            ap (λ (s : ProcState). has_ended (s.small).status) (sym same) ∙ received_ends (Sent letter) letter.from sent.after ∙ letter_told system log letter.from at letter sent.after sent.is
+        by_pid q s there placed false pid_is =
+            open_beside system log e letter.from at (Sent letter) sent.after sent.is (refl, is) runs q s (λ same. true≢false (sym (eq-eqb q.0 (letter.from).0 same) ∙ pid_is)) there
+            (sym (ap is_some (as_after (Mail at letter) is q)) ∙ placed)
+    by_what (Exit pid at end) is built kind goes_on = λ q s there placed. by_pid q s there placed (eqb q.0 pid.0) refl
+      where
+        sent : SentTo system log pid at (Ended end)
+        sent = is_sent system log pid at (Ended end) kind.0
+
+        by_pid : (q : Pid) (s : ProcState) → process_after system (log ++ e ∷ []) q ≡ Some s → is_some (unended_at (placement system (log ++ e ∷ [])) q) ≡ true → (b : Bool) → eqb q.0 pid.0 ≡ b → has_ended (s.small).status ≡ false
+        by_pid q s there placed true pid_is =
+            absurd (true≢false (sym placed ∙ ap is_some (as_after (Exit pid at end) is q ∙ ap (λ r. unended_at (placed_after (placement system log) (Exit pid at end)) r) (same_of q pid (eqb-true q.0 pid.0 pid_is)) ∙ exited pid (placement system log).placed)))
+        by_pid q s there placed false pid_is =
+            let apart : q.0 ≢ pid.0 = λ same. true≢false (sym (eq-eqb q.0 pid.0 same) ∙ pid_is) in
+            open_beside system log e pid at (Ended end) sent.after sent.is is runs q s apart there
+            (ap is_some (sym (unended_exit pid q (placement system log).placed apart)) ∙ sym (ap is_some (as_after (Exit pid at end) is q)) ∙ placed)
+    by_what (Done rests) is built kind goes_on = absurd (true≢false goes_on)
+    by_what (Birth parent at child end) is built kind goes_on = absurd (true≢false (sym built))
+    by_what (Page pid at index bytes) is built kind goes_on = absurd (true≢false (sym built))
+    by_what (Sync pid small read took) is built kind goes_on = absurd (true≢false (sym built))
+    by_what (Fetch pid index) is built kind goes_on = absurd (true≢false (sym built))
+    by_what (PageIs pid index bytes) is built kind goes_on = absurd (true≢false (sym built))
+    by_what (Crash k cause) is built kind goes_on = absurd (true≢false (sym built))
+    by_what (Return k) is built kind goes_on = absurd (true≢false (sym built))
+    by_what (Rebackup to fresh recs) is built kind goes_on = absurd (true≢false (sym built))
+    by_what Stop is built kind goes_on = absurd (true≢false (sym built))
+
+-- in such a log, each process of the kernel that the placement has among those that have not ended has not ended
+pub plain_runs : (May : System → List Entry → Entry → Type 0) → IsPlainRule May → (system : System) (log : List Entry) → IsLegalBy May system log → is_over system log ≡ false → RunsOn system log
+plain_runs May plain system log legal = legal_induction May system (λ log. is_over system log ≡ false → RunsOn system log) (λ _. open_at_boot system) (open_more May plain system) log legal
+
+-- and ahead of such a log, one that makes silent steps gets a letter of another where it is
+pub silent_upto-arrives : (May : System → List Entry → Entry → Type 0) → IsPlainRule May → (system : System) (log : List Entry) (e : Entry) (p : Pid) (at : ℕ) (m : Emission) (t : ProcState) → IsLegalBy May system log → is_over system log ≡ false
+    → emission_at system log p at ≡ Some (m, t) → Tells p at m (what e) → (q : Pid) (n : ℕ) (s : ProcState) → q.0 ≢ p.0 → is_some (unended_at (placement system log) q) ≡ true → silent_upto system log q n ≡ Some s
+    → silent_upto system (log ++ e ∷ []) q n ≡ Some (with_arrival m q s)
+silent_upto-arrives May plain system log e p at m t legal goes_on is tells q n s apart placed silent =
+    silent_upto-receiver system log e p at m t q n s is tells apart silent ∙ ap Some (received-goes_on m q s open_still)
+  where
+    from : SilentFrom system log q n s
+    from = silent_from system log q n s silent
+
+    there : process_after system log q ≡ Some from.was
+    there = ap (option_and_then (λ k. process_at k q)) from.before ∙ from.there
+
+    open_still : has_ended (s.small).status ≡ false
+    open_still = silent_upto-ends system log q n from.was s there silent ∙ plain_runs May plain system log legal goes_on q from.was there placed

@@ -12,6 +12,7 @@ pub mod BuiltLaws
 pub mod Applied
 pub mod StepLaws
 pub mod MailLaws
+pub mod ExitLaws
 pub mod RunsLaws
 pub mod EndedLaws
 pub mod StillLaws

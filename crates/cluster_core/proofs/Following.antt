@@ -30,6 +30,7 @@ use Rattle.cert_sched.specs.Legal.{IsLegalBy}
 use Rattle.cert_sched.specs.Built.{is_built, BuiltMayFollow}
 use Rattle.cert_sched.specs.Losses.{is_from, is_by_cluster, least_steps, capped}
 use Rattle.cert_sched.specs.Scripted.{is_done}
+use Rattle.cert_sched.proofs.ExitLaws.{unended_exit}
 use Rattle.cert_sched.proofs.LogLaws.{placement-snoc, IsLegal-last}
 use Rattle.cert_sched.proofs.BuiltLaws.{built_births, built_clusters, built_unlost}
 use Rattle.plain_kernel.proofs.Entries.{some_same}
@@ -45,7 +46,7 @@ use Rattle.cluster_core.specs.Holds.{IsHeldAs}
 use Rattle.cluster_core.specs.Follows.{FollowsBuilt, IsOpen, StandsBetween}
 use Rattle.cluster_core.specs.Calls.{IsReady, Absorbs, absorbed, without_ended}
 use Rattle.cluster_core.proofs.Telling.{Telling, telling, not_done, told_process, other_process, done_is, same_silent, same_emission, same_items}
-use Rattle.cluster_core.proofs.Homes.{HomeHere, home_here, pids_home, home_exit, without, unended_exit, rising_none, rising_one}
+use Rattle.cluster_core.proofs.Homes.{HomeHere, home_here, pids_home, home_exit, without, rising_none, rising_one}
 
 pub both : (a b : Bool) → (a && b) ≡ true → (a ≡ true) × (b ≡ true)
 both true true h = (refl, refl)
