@@ -4,3 +4,4 @@ pub mod RunLemma
 mod Shutting
 mod Waiting
 pub mod Counting
+pub mod Quiet
