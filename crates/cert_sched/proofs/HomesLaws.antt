@@ -7,7 +7,7 @@ use Rattle.std.proofs.lemmas.List.{map-append}
 use Rattle.std.proofs.lemmas.List.Folds.{list_all-append}
 use Rattle.std.proofs.lemmas.List.FromFn.{length-map-range_with_len, get_or-map-range_with_len}
 use Rattle.std.proofs.lemmas.Option.{slice_get-get_or}
-use Rattle.std.proofs.lemmas.Bool.{and_parts}
+use Rattle.std.proofs.lemmas.Bool.{and_parts, and_from}
 use Rattle.t32_base.specs.declared.process.Pid.{Pid}
 use Rattle.sys_text.specs.declared.system.System.{System}
 use Rattle.sys_text.specs.declared.system.Root.{Root}
@@ -123,20 +123,16 @@ pids-flat_map : (f : ℕ → List (Pid × ℕ)) (ks : List ℕ) → rest_pids (f
 pids-flat_map f [] = refl
 pids-flat_map f (k ∷ ks) = map-append (λ (r : Pid × ℕ). (r.0).0) (f k) (flat_map f ks) ∙ ap (λ l. rest_pids (f k) ++ l) (pids-flat_map f ks)
 
-and_true : (a b : Bool) → a ≡ true → b ≡ true → (a && b) ≡ true
-and_true true b h g = g
-and_true false b h g = h
-
 all_parts : (t : Pid × ℕ → Bool) (f : ℕ → List (Pid × ℕ)) (a len : ℕ) → ((k : ℕ) → k < a + len → list_all t (f k) ≡ true) → list_all t (flat_map f (range_with_len a len)) ≡ true
 all_parts t f a zero each = refl
 all_parts t f a (suc len) each =
-    list_all-append t (f a) (flat_map f (range_with_len (a + 1) len)) ∙ and_true (list_all t (f a)) _ (each a (omega arith)) (all_parts t f (a + 1) len (λ k within. each k (omega arith)))
+    list_all-append t (f a) (flat_map f (range_with_len (a + 1) len)) ∙ and_from (list_all t (f a)) _ (each a (omega arith)) (all_parts t f (a + 1) len (λ k within. each k (omega arith)))
 
 -- a test that passes for each process that has ended, and for each at home in a cluster
 all_placed : (t : Placed → Bool) (n : ℕ) (qs : List Placed) → ((q : Placed) → q.ended ≡ true → t q ≡ true) → AllBelow n (homes qs) → ((k : ℕ) → k < n → list_all t (filter (is_at_home (cluster_no k)) qs) ≡ true) → list_all t qs ≡ true
 all_placed t n [] gone below each = refl
 all_placed t n (q ∷ qs) gone below each =
-    and_true (t q) (list_all t qs) (here q.ended refl) (all_placed t n qs gone below.1 (λ k within. later k (is_at_home (cluster_no k) q) (each k within)))
+    and_from (t q) (list_all t qs) (here q.ended refl) (all_placed t n qs gone below.1 (λ k within. later k (is_at_home (cluster_no k) q) (each k within)))
   where
     later : (k : ℕ) (b : Bool) → list_all t (cond b (q ∷ filter (is_at_home (cluster_no k)) qs) (filter (is_at_home (cluster_no k)) qs)) ≡ true → list_all t (filter (is_at_home (cluster_no k)) qs) ≡ true
     later k true all = (and_parts (t q) _ all).1
@@ -145,7 +141,7 @@ all_placed t n (q ∷ qs) gone below each =
     here : (b : Bool) → q.ended ≡ b → t q ≡ true
     here true is = gone q is
     here false is =
-        let home : is_at_home (cluster_no (q.home).0) q ≡ true = and_true (eqb (q.home).0 (q.home).0) (not q.ended) (eq-eqb (q.home).0 (q.home).0 refl) (ap not is) in
+        let home : is_at_home (cluster_no (q.home).0) q ≡ true = and_from (eqb (q.home).0 (q.home).0) (not q.ended) (eq-eqb (q.home).0 (q.home).0 refl) (ap not is) in
         (and_parts (t q) _ (sym (ap (λ b. list_all t (cond b (q ∷ filter (is_at_home (cluster_no (q.home).0)) qs) (filter (is_at_home (cluster_no (q.home).0)) qs))) home) ∙ each (q.home).0 below.0)).0
 
 -- ---- the whole

@@ -1,8 +1,9 @@
 -- What the runs of several processes make of a kernel, where each is of silent steps.
-use Rattle.std.proofs.Common.{◌≡◌, ℕ, ◌-◌, refl, sym, ◌∙◌, ap, List, [], ◌∷◌, map, Bool, true, false, cond, ◌||◌, ◌&&◌, eqb, eqb-true, eq-eqb, Option, Some, None, is_some, true≢false}
+use Rattle.std.proofs.Common.{◌≡◌, ℕ, ◌-◌, refl, sym, ◌∙◌, ap, List, [], ◌∷◌, map, Bool, true, false, cond, ◌||◌, eqb, eqb-true, eq-eqb, Option, Some, None, is_some, true≢false}
 use Rattle.std.specs.Prelude.{◌≢◌, option_and_then}
 use Rattle.std.specs.List.{list_any, list_all}
 use Rattle.std.specs.Option.{option_map_or}
+use Rattle.std.proofs.lemmas.Bool.{and_parts}
 use Rattle.t32_base.specs.declared.process.Pid.{Pid}
 use Rattle.sys_text.specs.declared.system.System.{System}
 use Rattle.proc_state.specs.State.{ProcState}
@@ -113,14 +114,10 @@ pub record RunsTo (k i : Kernel) (rs : List (Pid × ℕ)) : Type 0 where
   pub made : apply_all (runs_of k rs) i ≡ Some to
   pub are : (q : Pid) → process_at to q ≡ after_runs k rs (process_at i q) q
 
-both : (a b : Bool) → (a && b) ≡ true → (a ≡ true) × (b ≡ true)
-both true b h = (refl, h)
-both false b h = absurd (true≢false (sym h))
-
 runs_from : (k i : Kernel) (rs : List (Pid × ℕ)) → NoTwo (rest_pids rs) → list_all (λ r. is_some (led k r)) rs ≡ true → AreAs k i rs → RunsTo k i rs
 runs_from k i [] two some same = record { to = i; made = refl; are = λ q. refl }
 runs_from k i (r ∷ rs) two some same =
-    let parts = both (is_some (led k r)) (list_all (λ r. is_some (led k r)) rs) some in
+    let parts = and_parts (is_some (led k r)) (list_all (λ r. is_some (led k r)) rs) some in
     let first = run_made k i r parts.0 same.0 in
     let rest = runs_from k first.to rs two.1 parts.1 (as_before k i first.to r.0 rs first.others two.0 same.1) in
     record {

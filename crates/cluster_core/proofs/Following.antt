@@ -3,6 +3,7 @@ use Rattle.std.proofs.Common.{◌≡◌, ℕ, ◌+◌, ◌-◌, ◌≤◌, refl,
 use Rattle.std.specs.Prelude.{filter, find, ◌≢◌, option_map, option_and_then, count_by}
 use Rattle.std.specs.List.{list_all, list_any}
 use Rattle.std.specs.Option.{option_map_or}
+use Rattle.std.proofs.lemmas.Bool.{and_parts}
 use Rattle.t32_base.specs.declared.process.Pid.{Pid}
 use Rattle.t32_base.specs.declared.process.ClusterNo.{ClusterNo}
 use Rattle.sys_text.specs.declared.system.System.{System}
@@ -48,11 +49,6 @@ use Rattle.cluster_core.specs.Calls.{IsReady, Absorbs, absorbed, without_ended}
 use Rattle.cluster_core.proofs.Telling.{Telling, telling, not_done, told_process, other_process, done_is, same_silent, same_emission, same_items}
 use Rattle.cluster_core.proofs.Homes.{HomeHere, home_here, pids_home, home_exit, without, rising_none, rising_one}
 
-pub both : (a b : Bool) → (a && b) ≡ true → (a ≡ true) × (b ≡ true)
-both true true h = (refl, refl)
-both true false h = absurd (true≢false (sym h))
-both false b h = absurd (true≢false (sym h))
-
 -- ---- one open step
 
 -- a log, its next entry, and what the entry tells
@@ -79,7 +75,7 @@ by_one k Bus b home at bt from = absurd (true≢false (sym at))
 
 -- the home of a process that an entry tells of sent it
 by_home_of : (places : Places) (by : By) (p : Pid) → is_by_home places by (Some p) ≡ true → is_by by (home_at places p) ≡ true
-by_home_of places by p h = (both (is_living places by) (is_by by (home_at places p)) h).1
+by_home_of places by p h = (and_parts (is_living places by) (is_by by (home_at places p)) h).1
 
 pub pid_same : (p q : Pid) → p.0 ≡ q.0 → p ≡ q
 pid_same p q h = λ i. record { 0 = h i }
@@ -326,7 +322,7 @@ held_foreign c log e n (Some r) is differ f foreign p h at =
 queue_foreign : (c : ClusterView) (log : List Entry) (e : Entry) (n : Next c.system log e) (q : Option Post) → is_by_cluster c.number e ≡ false → list_all (λ (post : Post). is_from c.number post.by) (posts_of q) ≡ true
     → IsQueueLegal BuiltMayFollow c.system log (posts_of q) → IsQueueLegal BuiltMayFollow c.system (log ++ e ∷ []) (posts_of q)
 queue_foreign c log e n None foreign own legal = tt
-queue_foreign c log e n (Some post) foreign own legal = (post_stays c.system log e n c.number post foreign (both (is_from c.number post.by) true own).0 legal.0, tt)
+queue_foreign c log e n (Some post) foreign own legal = (post_stays c.system log e n c.number post foreign (and_parts (is_from c.number post.by) true own).0 legal.0, tt)
 
 counted_foreign : (c : ClusterView) (log : List Entry) (e : Entry) → is_by_cluster c.number e ≡ false → capped (least_steps log log c.number + cond c.tried 1 0) ≤ c.steps
     → capped (least_steps (log ++ e ∷ []) (log ++ e ∷ []) c.number + cond c.tried 1 0) ≤ next_count c.steps

@@ -1,7 +1,8 @@
 -- The processes at home in a cluster, where that is one at most.
 use Rattle.std.proofs.Common.{◌≡◌, ℕ, refl, sym, ◌∙◌, ap, List, [], ◌∷◌, map, Bool, true, false, cond, not, ◌&&◌, ◌||◌, eqb, eqb-true, eq-eqb, ltb, Option, Some, true≢false}
-use Rattle.std.specs.Prelude.{filter, find, ◌≢◌}
+use Rattle.std.specs.Prelude.{filter, find}
 use Rattle.std.specs.List.{list_any}
+use Rattle.std.proofs.lemmas.Bool.{and_parts}
 use Rattle.t32_base.specs.declared.process.Pid.{Pid}
 use Rattle.t32_base.specs.declared.process.ClusterNo.{ClusterNo}
 use Rattle.bus_msg.specs.declared.placed.Placed.{Placed}
@@ -79,11 +80,6 @@ pub record HomeHere (places : Places) (p : Pid) (k : ClusterNo) : Type 0 where
   pub found : unended_at places p ≡ Some placed
   pub home : same_cluster placed.home k ≡ true
 
-both : (a b : Bool) → (a && b) ≡ true → (a ≡ true) × (b ≡ true)
-both true true h = (refl, refl)
-both true false h = absurd (true≢false (sym h))
-both false b h = absurd (true≢false (sym h))
-
 either_false : (a b : Bool) → (not a && b) ≡ true → a ≡ false
 either_false true b h = absurd (true≢false (sym h))
 either_false false b h = refl
@@ -108,10 +104,10 @@ found_here k (q ∷ qs) p differ h = by_home (is_at_home k q) refl (sym (home_mo
     by_home : (b : Bool) → is_at_home k q ≡ b → cond b ((q.pid).0 ∷ pids_home k qs) (pids_home k qs) ≡ p.0 ∷ [] → (pids_differ qs ≡ true → pids_home k qs ≡ p.0 ∷ [] → FoundAt qs p k) → FoundAt (q ∷ qs) p k
     by_home true at e more =
         let same : (q.pid).0 ≡ p.0 = cc in
-        let halves = both (same_cluster q.home k) (not q.ended) at in
+        let halves = and_parts (same_cluster q.home k) (not q.ended) at in
         (q, alike (same_pid q.pid p) (not q.ended) (eq-eqb (q.pid).0 p.0 same) halves.1 _, halves.0)
     by_home false at e more =
-        let parts = both (not (list_any (λ (r : Placed). same_pid r.pid q.pid) qs)) (pids_differ qs) differ in
+        let parts = and_parts (not (list_any (λ (r : Placed). same_pid r.pid q.pid) qs)) (pids_differ qs) differ in
         let rest = more parts.1 e in
         (rest.0, unlike (same_pid q.pid p) (other (same_pid q.pid p) refl e parts.0) _ ∙ rest.1, rest.2)
       where

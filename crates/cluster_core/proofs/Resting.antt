@@ -4,6 +4,7 @@ use Rattle.std.specs.Prelude.{IfOk, IfSome, filter, is_some, is_none, nat_le}
 use Rattle.std.specs.List.{list_all}
 use Rattle.std.proofs.lemmas.Bool.{le-leb}
 use Rattle.std.specs.Option.{option_map_or}
+use Rattle.std.proofs.lemmas.Bool.{and_parts}
 use Rattle.t32_base.specs.declared.process.Pid.{Pid}
 use Rattle.sys_text.specs.declared.system.System.{System}
 use Rattle.sys_text.specs.declared.system.Root.{Root}
@@ -24,7 +25,6 @@ use Rattle.cluster_core.specs.declared.resident.Resident.{Resident}
 use Rattle.cluster_core.specs.View.{ClusterView, Held}
 use Rattle.cluster_core.specs.Parts.{held_here}
 use Rattle.cluster_core.specs.Calls.{RestsIn, are_at_rest, rests_in}
-use Rattle.cluster_core.proofs.Following.{both}
 use Rattle.cluster_core.proofs.Working.{ahead, held_before}
 
 -- ---- no process is owed a backup
@@ -38,7 +38,7 @@ boot_backups (r ∷ roots) = boot_backups roots
 
 none_owed : (places : Places) (test : Placed → Bool) (qs : List Placed) → have_backups (map kept qs) ≡ true → list_all (λ q. is_none (next_backup places q)) (filter test qs) ≡ true
 none_owed places test [] have = refl
-none_owed places test (q ∷ qs) have = by_test (test q) (of_one q.ended (is_some q.backup) (both (is_some q.backup) (have_backups (map kept qs)) have).0) (none_owed places test qs (both (is_some q.backup) (have_backups (map kept qs)) have).1)
+none_owed places test (q ∷ qs) have = by_test (test q) (of_one q.ended (is_some q.backup) (and_parts (is_some q.backup) (have_backups (map kept qs)) have).0) (none_owed places test qs (and_parts (is_some q.backup) (have_backups (map kept qs)) have).1)
   where
     of_one : (ended some : Bool) → some ≡ true → is_none (cond (ended || some) None (backup_by_mode places q q.mode)) ≡ true
     of_one true some is = refl
@@ -70,7 +70,7 @@ rests_told c None here at_rest empty log now f = record {
 }
 rests_told c (Some r) here at_rest empty log now f = record {
   named = ap (λ hs. rising (map (λ (e : Pid × Held). (e.0).0) hs)) (sym here) ∙ f.each_once;
-  idle = ap (λ b. b && true) (idle_at c.system log r.pid (state_of r.process) (held_before c log r here empty f) (both (is_idle (state_of r.process)) true at_rest).0);
+  idle = ap (λ b. b && true) (idle_at c.system log r.pid (state_of r.process) (held_before c log r here empty f) (and_parts (is_idle (state_of r.process)) true at_rest).0);
   backed = backed c.system log _ now.0;
 }
 

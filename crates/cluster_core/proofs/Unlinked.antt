@@ -2,6 +2,7 @@
 use Rattle.std.proofs.Common.{◌≡◌, ℕ, zero, suc, ◌+◌, refl, sym, ◌∙◌, ap, subst, List, [], ◌∷◌, Bool, true, false, cond, not, ◌&&◌, eqb, ltb, Option, Some, None, slice_get, true≢false}
 use Rattle.std.specs.Prelude.{option_and_then, is_some, is_none, slice_set}
 use Rattle.std.specs.List.{list_any}
+use Rattle.std.proofs.lemmas.Bool.{and_parts}
 use Rattle.proc_state.specs.Mail.{first_signal}
 use Rattle.t32_base.specs.declared.process.End.{End}
 use Rattle.t32_base.specs.declared.process.EndState.{EndState}
@@ -34,11 +35,6 @@ Stays s Forks = ⊥
 Stays s (Emits e t) = (are_unlinked (t.small).ends ≡ true) × (is_outward e ≡ true)
 Stays s Over = is_live (s.small).status ≡ false
 
-both : (a b : Bool) → (a && b) ≡ true → (a ≡ true) × (b ≡ true)
-both true true h = (refl, refl)
-both true false h = absurd (true≢false (sym h))
-both false b h = absurd (true≢false (sym h))
-
 none_linked : (i : ℕ) (ends : List EndState) → are_unlinked ends ≡ true → linked_from i ends ≡ None
 none_linked i [] h = refl
 none_linked i (Never ∷ ends) h = none_linked (i + 1) ends h
@@ -55,8 +51,8 @@ leads_outward Shut to h is = cc
 
 each_outward : (ends : List EndState) (i : ℕ) (to : To) → are_unlinked ends ≡ true → option_and_then leads_to (slice_get ends i) ≡ Some to → is_outward_to to ≡ true
 each_outward [] i to h is = cc
-each_outward (e ∷ ends) zero to h is = leads_outward e to (both (not (is_linked e)) (are_unlinked ends) h).0 is
-each_outward (e ∷ ends) (suc i) to h is = each_outward ends i to (both (not (is_linked e)) (are_unlinked ends) h).1 is
+each_outward (e ∷ ends) zero to h is = leads_outward e to (and_parts (not (is_linked e)) (are_unlinked ends) h).0 is
+each_outward (e ∷ ends) (suc i) to h is = each_outward ends i to (and_parts (not (is_linked e)) (are_unlinked ends) h).1 is
 
 -- no end waits for an end letter
 none_unfinished : (ends : List EndState) → are_unlinked ends ≡ true → list_any is_unfinished ends ≡ false
@@ -72,14 +68,14 @@ not_unfinished (Never ∷ ends) zero h = refl
 not_unfinished (TtyEnd t ∷ ends) zero h = refl
 not_unfinished (Linked peer far finished ∷ ends) zero h = absurd (true≢false (sym h))
 not_unfinished (Shut ∷ ends) zero h = refl
-not_unfinished (e ∷ ends) (suc i) h = not_unfinished ends i (both (not (is_linked e)) (are_unlinked ends) h).1
+not_unfinished (e ∷ ends) (suc i) h = not_unfinished ends i (and_parts (not (is_linked e)) (are_unlinked ends) h).1
 
 -- an end that is shut is not linked
 shut_unlinked : (ends : List EndState) (i : ℕ) → are_unlinked ends ≡ true → are_unlinked (slice_set ends i Shut) ≡ true
 shut_unlinked [] i h = refl
-shut_unlinked (e ∷ ends) zero h = (both (not (is_linked e)) (are_unlinked ends) h).1
+shut_unlinked (e ∷ ends) zero h = (and_parts (not (is_linked e)) (are_unlinked ends) h).1
 shut_unlinked (e ∷ ends) (suc i) h =
-    let parts = both (not (is_linked e)) (are_unlinked ends) h in
+    let parts = and_parts (not (is_linked e)) (are_unlinked ends) h in
     rw parts.0 (shut_unlinked ends i parts.1)
 
 module _ (s p : ProcState) (unlinked : are_unlinked (p.small).ends ≡ true) where
