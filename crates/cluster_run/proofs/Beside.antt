@@ -5,6 +5,7 @@ use Rattle.std.specs.List.{list_any, list_all}
 use Rattle.std.specs.Option.{option_map_or}
 use Rattle.std.proofs.lemmas.List.{take-append-le, take_all}
 use Rattle.std.proofs.lemmas.Option.{slice_get_cases}
+use Rattle.std.proofs.lemmas.Bool.{and_parts}
 use Rattle.t32_base.specs.declared.process.Pid.{Pid}
 use Rattle.t32_base.specs.declared.process.ClusterNo.{ClusterNo}
 use Rattle.sys_text.specs.declared.system.System.{System}
@@ -25,11 +26,11 @@ use Rattle.cert_sched.specs.Losses.{is_by_cluster, is_from, least_steps, capped}
 use Rattle.cert_sched.specs.Scripted.{is_done, is_finished}
 use Rattle.cert_sched.proofs.ListLaws.{last_of-snoc}
 use Rattle.cert_sched.proofs.BuiltLaws.{built_unlost}
-use Rattle.cluster_core.specs.View.{ClusterView, head_of, after_head, after_sent, counted_once, tried_once}
+use Rattle.cluster_core.specs.View.{ClusterView, head_of, after_head, after_sent, tried_once}
 use Rattle.cluster_core.specs.Queue.{IsQueueLegal}
 use Rattle.cluster_core.specs.Follows.{FollowsBuilt, IsOpen}
-use Rattle.cluster_core.specs.Calls.{Absorbs, FollowsSome, GoesOn, IsReady, MovedOne, QueuesOne, ReadyFor, RestsIn, absorbed, is_resting}
-use Rattle.cluster_core.proofs.Following.{both, no_end}
+use Rattle.cluster_core.specs.Calls.{Absorbs, IsReady, ReadyFor, RestsIn, absorbed}
+use Rattle.cluster_core.proofs.Following.{no_end}
 use Rattle.cluster_core.proofs.Working.{follows_tried}
 use Rattle.bus_order.specs.View.{BusView, MayIdle}
 use Rattle.bus_order.proofs.OverLaws.{over_finished}
@@ -106,74 +107,11 @@ cursor_taken b old new t = (ap (λ (c : ClusterView). c.cursor) t.taken, ap (λ 
 
 -- ---- all of the log was taken in
 
--- the log up to its length goes on
-pub open_whole : (b : BusView) → is_over b.system b.log ≡ false → IsOpenUpto b (length b.log)
-open_whole b goes_on = (omega arith, ap (is_over b.system) (take_all (length b.log) b.log (omega arith)) ∙ goes_on)
-
 follows_whole : (b : BusView) (c : ClusterView) → IsAlong b c → c.cursor ≡ length b.log → FollowsBuilt c.system b.log c
 follows_whole b c along seen = subst (λ log. FollowsBuilt c.system log c) (take_all c.cursor b.log (omega (arith, seen))) along.follows
 
 open_log : (b : BusView) (c : ClusterView) → c.system ≡ b.system → IsLegalIn b → is_over b.system b.log ≡ false → IsOpen BuiltMayFollow c.system b.log
 open_log b c same legal goes_on = subst (λ s. IsOpen BuiltMayFollow s b.log) (sym same) (legal, goes_on)
-
-pub follows_some : (b : BusView) (c : ClusterView) → IsAlong b c → IsLegalIn b → c.cursor ≡ length b.log → is_over b.system b.log ≡ false → FollowsSome c
-follows_some b c along legal seen goes_on = record { log = b.log; open_log = open_log b c along.system legal goes_on; follows = follows_whole b c along seen }
-
--- ---- after a work
-
--- a process moved
-pub along_moved : (b : BusView) (old new : ClusterView) → IsAlong b old → IsLegalIn b → GoesOn old new → MovedOne old new → IsAlong b new
-along_moved b old new along legal goes moved =
-    let follows = goes (take old.cursor b.log) (open_at b old old.cursor along.system legal along.open_upto) along.follows in
-    let P : ClusterView → Type 0 = λ c. FollowsBuilt old.system (take old.cursor b.log) c → IsAlong b c in
-    subst P (sym moved.rest) (λ f. record {
-      system = along.system;
-      has = along.has;
-      open_upto = along.open_upto;
-      follows = f;
-      sent_before = along.sent_before;
-      empty = along.empty;
-      unfailed = along.unfailed;
-    }) follows
-
--- nothing moved
-pub along_rested : (b : BusView) (old new : ClusterView) → IsAlong b old → IsLegalIn b → GoesOn old new → new ≡ counted_once old → IsAlong b new
-along_rested b old new along legal goes same =
-    let follows = goes (take old.cursor b.log) (open_at b old old.cursor along.system legal along.open_upto) along.follows in
-    let P : ClusterView → Type 0 = λ c. FollowsBuilt old.system (take old.cursor b.log) c → IsAlong b c in
-    subst P (sym same) (λ f. record {
-      system = along.system;
-      has = along.has;
-      open_upto = along.open_upto;
-      follows = f;
-      sent_before = along.sent_before;
-      empty = along.empty;
-      unfailed = along.unfailed;
-    }) follows
-
-pub at_rest : (b : BusView) (old new : ClusterView) → IsAlong b old → IsLegalIn b → old.cursor ≡ length b.log → is_over b.system b.log ≡ false → GoesOn old new → is_resting old ≡ true → new ≡ counted_once old → IsAtRest b new
-at_rest b old new along legal seen goes_on goes resting same = record {
-  along = along_rested b old new along legal goes same;
-  seen = ap (λ (c : ClusterView). c.cursor) same ∙ seen;
-  goes_on = goes_on;
-  resting = ap is_resting same ∙ resting;
-}
-
--- a post is to be sent
-pub sending : (b : BusView) (old new : ClusterView) → IsAlong b old → IsLegalIn b → old.cursor ≡ length b.log → is_over b.system b.log ≡ false → GoesOn old new → QueuesOne old new → IsSending b new
-sending b old new along legal seen goes_on goes queues =
-    let follows = goes b.log (open_log b old along.system legal goes_on) (follows_whole b old along seen) in
-    let P : ClusterView → Type 0 = λ c. FollowsBuilt old.system b.log c → IsSending b c in
-    subst P (sym queues.rest) (λ f. record {
-      system = along.system;
-      has = along.has;
-      seen = seen;
-      goes_on = goes_on;
-      follows = f;
-      post = queues.post;
-      only = refl;
-      unfailed = along.unfailed;
-    }) follows
 
 -- ---- a rest is told
 
@@ -248,7 +186,7 @@ sendable b c post s only =
     let own = sym (ap (λ q. list_all (λ (p : Post). is_from c.number p.by) q) only) ∙ (s.follows).own in
     record {
       may = subst (λ y. BuiltMayFollow y b.log (entry_of y b.log post)) s.system legal.0;
-      own = (both (is_from c.number post.by) true own).0;
+      own = (and_parts (is_from c.number post.by) true own).0;
     }
 
 pub sent_clears : (b : BusView) (c : ClusterView) → IsSending b c → after_sent c c.queue ≡ cleared c

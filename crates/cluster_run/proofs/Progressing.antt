@@ -109,41 +109,6 @@ turn_gets_on (Ok u) b after cs n d new within number gets = elim gets [
   | inr more ↦ inr (subst (λ k. IsOver after ⊎ Rests b after k (k + 1)) number more)
 ]
 
--- several turns, and one more
-pub gets_on_more : (b then after : BusView) (left still now from n upto : ℕ) → from ≤ n → n ≤ upto → (IsOver then → IsOver after) → now ≤ still → still ≤ left → GetsOn b then left still from n → GetsOn then after still now n upto
-    → GetsOn b after left now from upto
-gets_on_more b then after left still now from n upto low high over less lessen before next = elim before [
-  | inl done ↦ inl (omega (arith, done, less))
-  | inr more ↦ after_rest more
-]
-  where
-    rests_more : Rests b then from n → Rests then after n upto → Rests b after from upto
-    rests_more first second = record {
-      marked = λ m from_m m_upto. by_place m (nat_lt_or m n) from_m m_upto;
-      kept = λ m has. second.kept m (first.kept m has);
-      awaits = λ any. elim any [
-        | inl some ↦ some_awaits (nat_lt_or from n) some
-        | inr awaited ↦ second.awaits (inr (first.awaits (inr awaited)))
-      ];
-    }
-      where
-        by_place : (m : ℕ) → (m < n) ⊎ (n ≤ m) → from ≤ m → m < upto → HasMark after m
-        by_place m (inl before) from_m m_upto = second.kept m (first.marked m from_m before)
-        by_place m (inr later) from_m m_upto = second.marked m later m_upto
-
-        some_awaits : (from < n) ⊎ (n ≤ from) → from < upto → IsAwaiting after
-        some_awaits (inl some) any = second.awaits (inr (first.awaits (inl some)))
-        some_awaits (inr none) any = second.awaits (inl (omega (arith, none, low, any)))
-
-    then_next : Rests b then from n → GetsOn then after still now n upto → GetsOn b after left now from upto
-    then_next first (inl done) = inl (omega (arith, done, lessen))
-    then_next first (inr (inl ended)) = inr (inl ended)
-    then_next first (inr (inr second)) = inr (inr (rests_more first second))
-
-    after_rest : IsOver then ⊎ Rests b then from n → GetsOn b after left now from upto
-    after_rest (inl ended) = inr (inl (over ended))
-    after_rest (inr first) = then_next first next
-
 -- ---- a round
 
 any_none : {X : Type 0} (test : X → Bool) (xs : List X) → ((n : ℕ) (x : X) → slice_get xs n ≡ Some x → test x ≡ false) → list_any test xs ≡ false

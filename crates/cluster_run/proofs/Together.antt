@@ -7,6 +7,7 @@ use Rattle.std.proofs.lemmas.List.{take-append-le, take_all, drop-append-le, len
 use Rattle.std.proofs.lemmas.List.Folds.{list_any-append}
 use Rattle.std.proofs.lemmas.List.Sums.{sum_by-append}
 use Rattle.std.proofs.lemmas.Option.{slice_get_within, slice_get-get_or}
+use Rattle.std.proofs.lemmas.Bool.{and_parts}
 use Rattle.t32_base.specs.declared.process.ClusterNo.{ClusterNo}
 use Rattle.sys_text.specs.Valid.{are_images, are_roots, is_header, is_pair, is_system, is_within}
 use Rattle.sys_text.specs.declared.system.System.{System}
@@ -16,7 +17,6 @@ use Rattle.cert_sched.specs.Rules.{is_over}
 use Rattle.cert_sched.specs.Losses.{is_by_cluster}
 use Rattle.cluster_core.specs.View.{ClusterView}
 use Rattle.cluster_core.specs.Follows.{FollowsBuilt}
-use Rattle.cluster_core.proofs.Following.{both}
 use Rattle.bus_order.specs.View.{BusView, BeginsWith}
 use Rattle.cluster_run.specs.Along.{IsAlong, AllAlong, Extends}
 use Rattle.cluster_run.specs.Simulated.{homes_differ}
@@ -107,7 +107,7 @@ unnot false h = refl
 pub one_at_home : (k : ℕ) (roots : List Root) → homes_differ roots ≡ true → count_by (λ (r : Root). (r.home).0 == k) roots ≤ 1
 one_at_home k [] differ = omega arith
 one_at_home k (r ∷ roots) differ =
-    let parts = both (not (list_any (λ (q : Root). (q.home).0 == (r.home).0) roots)) (homes_differ roots) differ in
+    let parts = and_parts (not (list_any (λ (q : Root). (q.home).0 == (r.home).0) roots)) (homes_differ roots) differ in
     subst (λ n. n ≤ 1) (sym (count_first (λ (r : Root). (r.home).0 == k) r roots)) (by_test ((r.home).0 == k) refl (unnot (list_any (λ (q : Root). (q.home).0 == (r.home).0) roots) parts.0) (one_at_home k roots parts.1))
   where
     by_test : (b : Bool) → ((r.home).0 == k) ≡ b → list_any (λ (q : Root). (q.home).0 == (r.home).0) roots ≡ false → count_by (λ (r : Root). (r.home).0 == k) roots ≤ 1
@@ -181,7 +181,7 @@ none_there [] h = refl
 none_there (x ∷ xs) h = absurd (let none : length (x ∷ xs) ≡ 0 = eqb-true (length (x ∷ xs)) 0 h in omega (arith, none))
 
 front : (a b : Bool) → (a && b) ≡ true → a ≡ true
-front a b h = (both a b h).0
+front a b h = (and_parts a b h).0
 
 -- a valid system has clusters
 pub some_clusters : (s : System) → is_system s ≡ true → 0 < s.clusters
