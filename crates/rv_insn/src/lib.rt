@@ -122,7 +122,7 @@ fn imm_j(word: u32) -> i32
 /// The instruction that a word is, with its registers and its immediate (RISC-V unprivileged specification,
 /// RV32I: the instruction listing). `None` says that the word is no instruction of RV32I. A `FENCE` of any
 /// fields is `Fence`.
-#[inline]
+#[inline(always)]
 pub fn decode(word: u32) -> Option<Insn>
     ensures value { result ≡ decoded word }
     ensures each_row { All (λ row. IsTrue (row.takes (key_of word)) → result ≡ Some (row.insn word)) rows }
