@@ -24,6 +24,7 @@ use Rattle.bus_msg.specs.declared.placed.Placed.{Placed}
 use Rattle.bus_msg.specs.Places.{Places, same_pid, unended_at}
 use Rattle.bus_msg.specs.PlacedAfter.{what, placed_after}
 use Rattle.cert_sched.specs.Schedule.{plain_after, process_after, placement, placed_root}
+use Rattle.cert_sched.specs.Deeds.{is_end_of}
 use Rattle.cert_sched.specs.Steps.{emission_at, silent_upto}
 use Rattle.cert_sched.specs.Rules.{is_over, ends_run, is_by, is_living, is_by_home, is_by_right}
 use Rattle.cert_sched.specs.Kinds.{KindHolds}
@@ -32,7 +33,7 @@ use Rattle.cert_sched.specs.Built.{BuiltMayFollow}
 use Rattle.cert_sched.proofs.LogLaws.{placement-snoc}
 use Rattle.cert_sched.proofs.StepLaws.{SentTo, is_sent, sent_from, process_after-sent, process_after-others, Tells, SilentFrom, silent_from}
 use Rattle.cert_sched.proofs.ExitLaws.{exited, unended_exit}
-use Rattle.cert_sched.proofs.MailLaws.{received, received-ended, process_after-receiver, is_plain, IsPlainRule, built_is_plain, with_arrival, received-goes_on, is_end_of, process_after-sender, silent_upto-receiver, silent_upto-ends}
+use Rattle.cert_sched.proofs.MailLaws.{received, received-ended, process_after-receiver, is_plain, IsPlainRule, built_is_plain, with_arrival, received-goes_on, process_after-sender, silent_upto-receiver, silent_upto-ends}
 use Rattle.cert_sched.proofs.BuiltLaws.{legal_induction, is_over-snoc}
 
 abbrev pub EndsTold : System → List Entry → Type 0
@@ -198,7 +199,7 @@ open_at_boot system q s there placed =
     none_there q s h = cc
 
 -- what sends a letter has not ended
-letter_told : (system : System) (log : List Entry) (p : Pid) (at : ℕ) (letter : Letter) (t : ProcState) → emission_at system log p at ≡ Some (Sent letter, t) → has_ended (t.small).status ≡ false
+pub letter_told : (system : System) (log : List Entry) (p : Pid) (at : ℕ) (letter : Letter) (t : ProcState) → emission_at system log p at ≡ Some (Sent letter, t) → has_ended (t.small).status ≡ false
 letter_told system log p at letter t is =
     let s = sent_from system log p at (Sent letter) t is in
     let last = last_sent _ s.was (Sent letter) t s.sends in

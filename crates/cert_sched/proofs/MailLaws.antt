@@ -18,6 +18,7 @@ use Rattle.sys_calls.specs.declared.steps.Emission.TheVariants.{Mail as Sent, Ex
 use Rattle.sys_calls.specs.Calls.{Next, Silent, Emits, Over}
 use Rattle.sys_calls.specs.Next.{next_step, silently, last_emission}
 use Rattle.sys_calls.proofs.Counting.{last_sent, last_counts, silently_counts, silent_goes_on, ended_is_over}
+use Rattle.sys_calls.proofs.Quiet.{sends_none, sends_no_signal}
 use Rattle.sys_calls.proofs.RunLemma.{silently-delivered, last_emission-delivered}
 use Rattle.plain_kernel.specs.Kernel.{Kernel, pid_cmp, process_at, with_process, with_root, root_process, empty, boot_roots, boot, letter_put, letter_to, emitted}
 use Rattle.plain_kernel.specs.Apply.{apply_all}
@@ -31,6 +32,7 @@ use Rattle.bus_msg.specs.declared.placed.Placed.{Placed}
 use Rattle.bus_msg.specs.Places.{Places, same_pid, unended_in}
 use Rattle.bus_msg.specs.PlacedAfter.{what, placed_after, after_exit}
 use Rattle.cert_sched.specs.Schedule.{done, items_of, plain_after, process_after, done_after, placement, places_at_boot}
+use Rattle.cert_sched.specs.Deeds.{is_end_of}
 use Rattle.cert_sched.specs.Steps.{silent_upto, emission_at}
 use Rattle.cert_sched.specs.Scripted.{is_done}
 use Rattle.cert_sched.specs.CertAfter.{count_in}
@@ -48,11 +50,6 @@ use Rattle.cert_sched.proofs.BuiltLaws.{legal_induction, is_over-snoc}
 use Rattle.cert_sched.proofs.StepLaws.{Tells, applied, is_sent, sent_from, silent_from, sent_applies, plain_after-sent, done_kernel, done_after-other, done_after-here}
 
 -- ---- what is delivered
-
--- where a letter goes is an end of this process
-abbrev pub is_end_of : Pid → To → Bool
-is_end_of q (Proc p e) = same_pid p q
-is_end_of q (Tty t) = false
 
 -- a process with this pid that has not ended, after an emission was delivered: a letter to one of its ends arrives
 abbrev pub with_arrival : Emission → Pid → ProcState → ProcState
@@ -238,6 +235,13 @@ emission_at-goes_on system log q n m was s there sends =
     let f = sent_from system log q n m s sends in
     let same : was ≡ f.was = some_same was f.was (sym there ∙ ap (option_and_then (λ k. process_at k q)) f.before ∙ f.there) in
     ap (λ (p : ProcState). has_ended (p.small).status) same ∙ sender_goes_on (n - done f.kernel q) f.was m s f.sends
+
+-- what a process sends ahead of the log is no signal
+pub sent_no_signal : (system : System) (log : List Entry) (p : Pid) (at : ℕ) (e : Emission) (t : ProcState) → emission_at system log p at ≡ Some (e, t) → sends_none e
+sent_no_signal system log p at e t is =
+    let f = sent_from system log p at e t is in
+    let l = last_sent (at - done f.kernel p) f.was e t f.sends in
+    sends_no_signal l.before t e l.last
 
 -- ---- the sender, on from its emission
 

@@ -1,8 +1,6 @@
 -- The part of the rules that is built so far. It goes away when every kind of entry is built.
 use Rattle.std.specs.Prelude.{ℕ, ◌≡◌, Bool, true, false, List}
 use Rattle.t32_base.specs.declared.process.ClusterNo.{ClusterNo}
-use Rattle.t32_base.specs.declared.letter.To.{To}
-use Rattle.t32_base.specs.declared.letter.To.TheVariants.{Proc, Tty}
 use Rattle.sys_text.specs.declared.system.System.{System}
 use Rattle.bus_msg.specs.declared.entry.What.{What}
 use Rattle.bus_msg.specs.declared.entry.What.TheVariants.{Mail, Exit, Done}
@@ -11,13 +9,9 @@ use Rattle.bus_msg.specs.PlacedAfter.{what}
 use Rattle.cert_sched.specs.Legal.{Stands}
 use Rattle.cert_sched.specs.Scripted.{has_counted_steps}
 
-abbrev pub is_to_terminal : To → Bool
-is_to_terminal (Proc p e) = false
-is_to_terminal (Tty t) = true
-
--- the kinds of entries that are sent so far: letters to terminals, exits and the end
+-- the kinds of entries that are sent so far: letters, exits and the end
 abbrev pub is_built : What → Bool
-is_built (Mail at letter) = is_to_terminal letter.to
+is_built (Mail at letter) = true
 is_built (Exit pid at end) = true
 is_built (Done rests) = true
 is_built _ = false

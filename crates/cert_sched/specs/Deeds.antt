@@ -81,6 +81,11 @@ births_in deeds = flat_map child_in deeds
 
 -- ---- what came to it
 
+-- where a letter goes is an end of this process
+abbrev pub is_end_of : Pid → To → Bool
+is_end_of q (Proc p e) = same_pid p q
+is_end_of q (Tty t) = false
+
 abbrev pub to_process : Pid → Letter → To → List Letter
 to_process p letter (Proc q e) = if same_pid q p then letter ∷ [] else []
 to_process p letter (Tty t) = []
