@@ -1,8 +1,6 @@
 pub mod Telling
-pub mod Unlinked
 pub mod Quanta
 pub mod Homes
-pub mod RootHomes
 pub mod Booted
 pub mod Following
 pub mod Owning

@@ -3,23 +3,25 @@ use Rattle.std.specs.Prelude.{ℕ, ◌+◌, ◌≤◌, ◌≡◌, ◌⊎◌, Boo
 use Rattle.std.specs.List.{list_all}
 use Rattle.t32_base.specs.declared.process.Pid.{Pid}
 use Rattle.t32_base.specs.declared.process.ClusterNo.{ClusterNo}
+use Rattle.t32_base.specs.declared.letter.Letter.{Letter}
 use Rattle.sys_text.specs.declared.system.System.{System}
 use Rattle.proc_state.specs.declared.process.Process.{Process}
 use Rattle.proc_state.specs.State.{state_of}
 use Rattle.sys_calls.specs.declared.steps.Emission.{Emission}
 use Rattle.sys_calls.specs.Next.{silently}
 use Rattle.bus_msg.specs.declared.entry.What.{What}
-use Rattle.bus_msg.specs.declared.entry.What.TheVariants.{Exit}
+use Rattle.bus_msg.specs.declared.entry.What.TheVariants.{Mail, Exit}
 use Rattle.bus_msg.specs.declared.entry.Post.{Post}
 use Rattle.bus_msg.specs.declared.entry.Entry.{Entry}
 use Rattle.bus_msg.specs.Places.{same_pid}
 use Rattle.bus_msg.specs.PlacedAfter.{what, placed_after}
 use Rattle.cert_sched.specs.Built.{BuiltMayFollow}
+use Rattle.cert_sched.specs.Deeds.{is_end_of}
 use Rattle.cert_sched.specs.Losses.{is_by_cluster, is_crash_of}
 use Rattle.cert_sched.specs.Rests.{is_idle, IsRestOf}
 use Rattle.cluster_core.specs.declared.worked.Worked.{Worked}
 use Rattle.cluster_core.specs.declared.worked.Worked.TheVariants.{Moved, Queued, Waits as IsWaiting, Rests}
-use Rattle.cluster_core.specs.View.{ClusterView, Held, Runs, Rolls, Waits, held_at, next_count, counted_once, load}
+use Rattle.cluster_core.specs.View.{ClusterView, Held, Runs, Rolls, Waits, arrived_held, held_at, next_count, counted_once, load}
 use Rattle.cluster_core.specs.Quantum.{RunsAndSends}
 use Rattle.cluster_core.specs.Turn.{post_told}
 use Rattle.cluster_core.specs.Follows.{FollowsBuilt, IsOpen, StandsBetween}
@@ -66,17 +68,22 @@ Absorbs e old new =
     (log : List Entry) → IsOpen BuiltMayFollow old.system log → IsOpen BuiltMayFollow old.system (log ++ e ∷ []) → IsReady log e old →
     FollowsBuilt old.system (log ++ e ∷ []) new
 
--- a process whose end was taken in is here no more
-abbrev pub without_ended : What → List (Pid × Held) → List (Pid × Held)
-without_ended (Exit pid at end) here = filter (λ (e : Pid × Held). not (same_pid e.0 pid)) here
-without_ended w here = here
+-- a letter to an end of a process that is here arrives
+abbrev pub with_letter : Letter → List (Pid × Held) → List (Pid × Held)
+with_letter letter here = map (λ (e : Pid × Held). if is_end_of e.0 letter.to then (e.0, arrived_held e.1 letter) else e) here
+
+-- what an entry that was taken in makes of the processes here: a letter arrives, and a process that ended is here no more
+abbrev pub here_after : What → List (Pid × Held) → List (Pid × Held)
+here_after (Mail at letter) here = with_letter letter here
+here_after (Exit pid at end) here = filter (λ (e : Pid × Held). not (same_pid e.0 pid)) here
+here_after w here = here
 
 -- the cluster with one more entry of the log taken in, by one kernel step
 abbrev pub absorbed : ClusterView → Entry → ClusterView
 absorbed c e = record c {
   cursor = c.cursor + 1;
   places = placed_after c.places (what e);
-  here = without_ended (what e) c.here;
+  here = here_after (what e) c.here;
   steps = next_count c.steps;
 }
 

@@ -1,4 +1,5 @@
 pub mod View
+pub mod Residents
 pub mod Parts
 pub mod Queue
 pub mod Holds
@@ -7,3 +8,4 @@ pub mod Calls
 pub mod Quantum
 pub mod Booting
 pub mod Turn
+pub mod Slots

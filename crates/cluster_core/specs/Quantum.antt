@@ -1,8 +1,5 @@
 -- A quantum of a process: silent steps, and at most one emission at their end.
-use Rattle.std.specs.Prelude.{ℕ, ◌+◌, ◌≤◌, ◌<◌, ◌≡◌, Bool, false, not, List, Some, Result, Ok, Err, ⊤}
-use Rattle.std.specs.List.{list_all}
-use Rattle.t32_base.specs.declared.process.EndState.{EndState}
-use Rattle.proc_state.specs.Ends.{is_linked}
+use Rattle.std.specs.Prelude.{ℕ, ◌+◌, ◌≤◌, ◌<◌, ◌≡◌, false, Some, Result, Ok, Err, ⊤}
 use Rattle.t32_base.specs.declared.streams.NoMemory.{NoMemory}
 use Rattle.proc_state.specs.declared.process.Process.{Process}
 use Rattle.proc_state.specs.State.{ProcState, state_of}
@@ -13,10 +10,6 @@ use Rattle.sys_calls.specs.Calls.{Emits}
 use Rattle.sys_calls.specs.Next.{next_step, has_step, silently}
 use Rattle.cluster_core.specs.declared.quantum.Quantum.{Quantum}
 use Rattle.cluster_core.specs.declared.quantum.Quantum.TheVariants.{Moved, Sent, Stuck}
-
--- none of the ends of a process is linked
-abbrev pub are_unlinked : List EndState → Bool
-are_unlinked ends = list_all (λ (e : EndState). not (is_linked e)) ends
 
 -- so many silent steps, one at least
 pub record RunsSome (most : ℕ) (old new : ProcState) : Type 0 where

@@ -1,5 +1,5 @@
--- A turn of the process of a cluster.
-use Rattle.std.specs.Prelude.{ℕ, ◌+◌, ◌≤◌, ◌≡◌, false, Option, Some, None, Result, Ok, Err, ⊤}
+-- A turn of one of the processes of a cluster.
+use Rattle.std.specs.Prelude.{ℕ, ◌+◌, ◌≤◌, ◌≡◌, true, false, List, Some, Result, Ok, Err, ⊤}
 use Rattle.t32_base.specs.declared.process.Pid.{Pid}
 use Rattle.t32_base.specs.declared.process.ClusterNo.{ClusterNo}
 use Rattle.t32_base.specs.declared.streams.NoMemory.{NoMemory}
@@ -12,10 +12,11 @@ use Rattle.bus_msg.specs.declared.entry.What.{What}
 use Rattle.bus_msg.specs.declared.entry.What.TheVariants.{Mail, Exit}
 use Rattle.bus_msg.specs.declared.entry.By.TheVariants.{Cluster}
 use Rattle.bus_msg.specs.declared.entry.Post.{Post}
-use Rattle.cluster_core.specs.declared.resident.Resident.{Resident}
+use Rattle.proc_state.specs.declared.process.Process.{Process}
 use Rattle.cluster_core.specs.declared.turn.Turn.{Turn}
 use Rattle.cluster_core.specs.declared.turn.Turn.TheVariants.{Moved, Posted, Rests}
 use Rattle.cluster_core.specs.Quantum.{RunsSome, RunsAndSends}
+use Rattle.cluster_core.specs.Residents.{process_in, with_changed, are_stuck, load_in}
 
 -- what is posted of an emission by the step `at`
 abbrev pub told_of : Pid → ℕ → Emission → What
@@ -25,36 +26,45 @@ told_of pid at (Ended end) = Exit pid at end
 abbrev pub post_told : ClusterNo → Pid → ℕ → Emission → Post
 post_told k pid at e = record { by = Cluster k; what = told_of pid at e }
 
--- its process sent something, which is posted
-pub record Posts (k : ClusterNo) (old : Resident) (post : Post) (new : Resident) : Type 0 where
+-- a process sent something, which is posted
+pub record Posts (k : ClusterNo) (pid : Pid) (old : Process) (post : Post) (new : Process) : Type 0 where
   pub emission : Emission
-  pub runs : RunsAndSends 64 (state_of old.process) emission (state_of new.process)
-  pub post_is : post ≡ post_told k old.pid ((new.process).small).steps emission
-  pub same : new.pid ≡ old.pid
+  pub runs : RunsAndSends 64 (state_of old) emission (state_of new)
+  pub post_is : post ≡ post_told k pid (new.small).steps emission
 
--- what the process of a cluster did: it moved, posted something, or had no step; after want of memory nothing has changed
-abbrev pub ResidentTurn : ClusterNo → Resident → Result Turn NoMemory → Resident → Type 0
-ResidentTurn k old (Ok Moved) new = RunsSome 64 (state_of old.process) (state_of new.process) × (new.pid ≡ old.pid)
-ResidentTurn k old (Ok (Posted post)) new = Posts k old post new
-ResidentTurn k old (Ok Rests) new = (has_step (next_step (state_of old.process)) ≡ false) × (new ≡ old)
-ResidentTurn k old (Err fault) new = new ≡ old
-
--- the same of a cluster that may have no process
-abbrev pub TurnIs : ClusterNo → Option Resident → Result Turn NoMemory → Option Resident → Type 0
-TurnIs k None r None = r ≡ Ok Rests
-TurnIs k None r (Some new) = ⊥
-TurnIs k (Some old) r None = ⊥
-TurnIs k (Some old) r (Some new) = ResidentTurn k old r new
-
--- ---- what is left to do
+-- what a process did in its turn: it moved, posted something, or had no step; after want of memory nothing has changed
+abbrev pub ProcessTurn : ClusterNo → Pid → Process → Result Turn NoMemory → Process → Type 0
+ProcessTurn k pid old (Ok Moved) new = RunsSome 64 (state_of old) (state_of new)
+ProcessTurn k pid old (Ok (Posted post)) new = Posts k pid old post new
+ProcessTurn k pid old (Ok Rests) new = (has_step (next_step (state_of old)) ≡ false) × (new ≡ old)
+ProcessTurn k pid old (Err fault) new = new ≡ old
 
 -- of the steps that the process has left at most, those that it made are gone
-abbrev pub LighterResident : Turn → Resident → Resident → Type 0
-LighterResident Moved old new = weight ((new.process).small) + 1 ≤ weight ((old.process).small)
-LighterResident (Posted post) old new = weight ((new.process).small) + 1 ≤ weight ((old.process).small)
-LighterResident Rests old new = ⊤
+abbrev pub LighterProcess : Turn → Process → Process → Type 0
+LighterProcess Moved old new = weight new.small + 1 ≤ weight old.small
+LighterProcess (Posted post) old new = weight new.small + 1 ≤ weight old.small
+LighterProcess Rests old new = ⊤
 
-abbrev pub LighterTurn : Option Resident → Turn → Option Resident → Type 0
-LighterTurn None turn new = ⊤
-LighterTurn (Some old) turn None = ⊤
-LighterTurn (Some old) turn (Some new) = LighterResident turn old new
+-- ---- one of the processes of a cluster
+
+-- one of the processes had a turn, and the others stayed
+pub record TakesTurn (k : ClusterNo) (old : List (Pid × Process)) (turn : Turn) (new : List (Pid × Process)) : Type 0 where
+  pub pid : Pid
+  pub was : Process
+  pub now : Process
+  pub there : process_in old pid ≡ Some was
+  pub turn_is : ProcessTurn k pid was (Ok turn) now
+  pub here : new ≡ with_changed pid now old
+
+-- one of them moved or posted something, or none has a step; after want of memory nothing has changed
+abbrev pub TurnIs : ClusterNo → List (Pid × Process) → Result Turn NoMemory → List (Pid × Process) → Type 0
+TurnIs k old (Ok Moved) new = TakesTurn k old Moved new
+TurnIs k old (Ok (Posted post)) new = TakesTurn k old (Posted post) new
+TurnIs k old (Ok Rests) new = (are_stuck old ≡ true) × (new ≡ old)
+TurnIs k old (Err fault) new = new ≡ old
+
+-- of the steps that all have left at most, those that were made are gone
+abbrev pub LighterTurn : Turn → List (Pid × Process) → List (Pid × Process) → Type 0
+LighterTurn Moved old new = load_in new + 1 ≤ load_in old
+LighterTurn (Posted post) old new = load_in new + 1 ≤ load_in old
+LighterTurn Rests old new = ⊤

@@ -1,10 +1,11 @@
 -- What a cluster holds, as contracts see it.
-use Rattle.std.specs.Prelude.{ℕ, ◌+◌, ◌-◌, ◌^◌, min, Bool, true, false, ◌==◌, ◌&&◌, if◌then◌else◌, List, [], ◌∷◌, map, find, replicate, length, Option, Some, None, option_map}
+use Rattle.std.specs.Prelude.{ℕ, ◌+◌, ◌-◌, ◌^◌, min, Bool, true, false, ◌==◌, ◌&&◌, if◌then◌else◌, List, [], ◌∷◌, ◌++◌, map, find, replicate, length, Option, Some, None, option_map}
 use Rattle.std.specs.List.{sum_by}
 use Rattle.t32_base.specs.declared.process.Pid.{Pid}
 use Rattle.t32_base.specs.declared.process.ClusterNo.{ClusterNo}
 use Rattle.t32_base.specs.declared.process.Counts.{Counts}
 use Rattle.t32_base.specs.declared.letter.BackRec.{BackRec}
+use Rattle.t32_base.specs.declared.letter.Letter.{Letter}
 use Rattle.sys_text.specs.declared.system.System.{System}
 use Rattle.proc_state.specs.declared.process.Process.{Process}
 use Rattle.sys_calls.specs.Small.{weight}
@@ -63,6 +64,18 @@ page_wait c p i = find (λ (w : PageWait). same_pid w.pid p && w.index == i) c.p
 abbrev pub head_of : List Post → Option Post
 head_of [] = None
 head_of (post ∷ rest) = Some post
+
+-- ---- a letter arrives
+
+-- last in the mailbox of a process, with the next number
+abbrev pub arrived : Process → Letter → Process
+arrived p letter = record p { mail = record { letters = (p.mail).letters ++ record { number = (p.mail).next; letter = letter } ∷ []; next = (p.mail).next + 1 } }
+
+-- the same of what is held: a process that waits saves the letter in its record
+abbrev pub arrived_held : Held → Letter → Held
+arrived_held (Runs p) letter = Runs (arrived p letter)
+arrived_held (Rolls p counts births) letter = Rolls (arrived p letter) counts births
+arrived_held (Waits kept) letter = Waits (record kept { saved = kept.saved ++ record { number = kept.next; letter = letter } ∷ []; next = kept.next + 1 })
 
 -- ---- the head was sent
 

@@ -1,48 +1,37 @@
-//! The start of a cluster: the root that is at home there.
-ghost use Rattle.std.specs.Prelude.{◌≡◌, ◌≤◌, ◌<◌, ◌==◌, true, count_by, length, position, IfOk};
+//! The start of a cluster: the roots that are at home there.
+ghost use Rattle.std.specs.Prelude.{◌≡◌, IfOk, true};
 ghost use Rattle.sys_text.specs.Valid.{is_system};
-ghost use Rattle.cluster_core.specs.Booting.{IsResident, IsRootNumber};
+ghost use Rattle.cluster_core.specs.Booting.{AreBooted, belongs_to};
 
-use crate::resident::Resident;
-use plain_kernel::booting::{pid_after, root_of};
+use crate::residents::Residents;
+use plain_kernel::booting::processes_of;
 use std::alloc::Global;
-use sys_text::system::{Root, System};
-use t32_base::process::ClusterNo;
+use sys_text::system::System;
+use t32_base::process::{ClusterNo, Pid};
 use t32_base::streams::NoMemory;
 
-/// The process of the root that is at home in a cluster, at its start: None exactly where no root is. A
-/// cluster has one at most.
-pub fn resident_at_boot(
+/// The processes of the roots that are at home in a cluster, at their start, linked by the channels of the
+/// system.
+pub fn residents_at_boot(
     alloc: Global,
     system: &System,
     number: ClusterNo,
-) -> Result<Option<Resident>, NoMemory>
+) -> Result<Residents, NoMemory>
     requires valid { is_system system.now ≡ true }
-    requires one { count_by (λ r. r.home.0 == number.0) system.now.roots ≤ 1 }
-    ensures { IfOk result (IsResident system.now number) }
+    ensures { IfOk result (λ r. AreBooted system.now number r.here) }
 {
-    match root_at_home(system.roots.as_slice(), number) {
-        None => Ok(None),
-        Some(at) => Ok(Some(resident_of(alloc, system, at)?)),
+    let mut here = Residents::none(alloc);
+    for (pid, process) in processes_of(alloc, system)? {
+        if is_pid_at(number, pid) {
+            here.add(Pid(pid), process)?;
+        }
     }
+    Ok(here)
 }
 
-// The first root that is at home in a cluster, by its number from 0.
-fn root_at_home(roots: &[Root], number: ClusterNo) -> Option<usize>
-    ensures { result ≡ position (λ r. r.home.0 == number.0) roots.now }
+// Whether a root with this pid is at home in a cluster.
+fn is_pid_at(number: ClusterNo, pid: u32) -> bool
+    ensures { result ≡ belongs_to number pid }
 {
-    roots.iter().position(|root| root.home.0 == number.0)
-}
-
-// The process of the root with a number from 0, at its start.
-fn resident_of(alloc: Global, system: &System, number: usize) -> Result<Resident, NoMemory>
-    requires valid { is_system system.now ≡ true }
-    requires within { number < length system.now.roots }
-    ensures { IfOk result (IsRootNumber system.now number) }
-{
-    let roots = system.roots.as_slice();
-    let root = roots[number];
-    let pid = pid_after(&roots[..number], root);
-    let process = root_of(alloc, system, pid, root)?;
-    Ok(Resident { pid, process })
+    pid % 16 == u32::from(number.0)
 }

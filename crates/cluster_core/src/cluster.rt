@@ -1,5 +1,5 @@
-//! A cluster with its process.
-ghost use Rattle.std.specs.Prelude.{◌≡◌, ◌<◌, ◌≤◌, ◌^◌, ◌-◌, ◌==◌, [], Some, None, OnOk, IfOk, IfSome, is_some, true, count_by, if◌then◌else◌};
+//! A cluster with its processes.
+ghost use Rattle.std.specs.Prelude.{◌≡◌, ◌<◌, ◌^◌, ◌-◌, [], Some, None, OnOk, IfOk, IfSome, is_some, true, if◌then◌else◌};
 ghost use Rattle.std.specs.Option.{option_copied};
 ghost use Rattle.std.specs.Arc.{arc_value};
 ghost use Rattle.sys_text.specs.Valid.{is_system};
@@ -7,9 +7,9 @@ ghost use Rattle.cluster_core.specs.View.{head_of, after_sent, counted_once, tri
 ghost use Rattle.cluster_core.specs.Follows.{FollowsBuilt};
 ghost use Rattle.cluster_core.specs.Calls.{Absorbs, absorbed, FollowsSome, GoesOn, is_resting, IsFirst, KeepsPlace, Lightens, ReadyFor, RestsIn, rests_of, WorkIs};
 
-use crate::booting::resident_at_boot;
-use crate::resident::{Resident, let_go, resting};
-use crate::turn::{Turn, take_turn};
+use crate::booting::residents_at_boot;
+use crate::residents::Residents;
+use crate::turn::Turn;
 use crate::worked::Worked;
 use bus_msg::entry::{Entry, Post};
 use cert_sched::start::placement_at_boot;
@@ -22,7 +22,7 @@ use t32_base::lists::List;
 use t32_base::process::{ClusterNo, Pid};
 use t32_base::streams::NoMemory;
 
-/// A cluster of a system: the placement, its process, and the post that it has to send.
+/// A cluster of a system: the placement, the processes at home there, and the post that it has to send.
 #[derive(Drop)]
 pub struct Cluster {
     alloc: Global,
@@ -30,7 +30,7 @@ pub struct Cluster {
     number: ClusterNo,
     cursor: u64,
     places: Placement,
-    here: Option<Resident>,
+    here: Residents,
     queue: Option<Post>,
     tried: bool,
     steps: u64,
@@ -40,7 +40,7 @@ impl Model for Cluster {
     ghost use Rattle.std.specs.Arc.{arc_value};
     ghost use Rattle.std.specs.Prelude.{[], false, None};
     ghost use Rattle.cluster_core.specs.View.{ClusterView};
-    ghost use Rattle.cluster_core.specs.Parts.{held_here, posts_of, IsSound};
+    ghost use Rattle.cluster_core.specs.Parts.{held_in, posts_of, IsSound};
 
     ghost Value = { ClusterView };
 
@@ -49,7 +49,7 @@ impl Model for Cluster {
       number = c.number;
       cursor = c.cursor;
       places = c.places;
-      here = held_here c.here;
+      here = held_in (c.here).here;
       pages = [];
       records = [];
       accounts = [];
@@ -61,22 +61,20 @@ impl Model for Cluster {
       failed = None;
     } };
 
-    ghost invariant = { λ c. IsSound (arc_value c.system) c.number c.here (posts_of c.queue) };
+    ghost invariant = { λ c. IsSound (arc_value c.system) c.number c.cursor (c.here).here (posts_of c.queue) };
 }
 
 impl Cluster {
-    /// A cluster at its start: the placement of the roots, and its root with its image. It has one at most,
-    /// and no channel links it yet.
+    /// A cluster at its start: the placement of the roots, and the roots at home there with their images,
+    /// linked by the channels.
     pub fn boot(alloc: Global, system: &Arc<System>, number: ClusterNo) -> Result<Cluster, NoMemory>
         requires valid { is_system (arc_value system.now) ≡ true }
-        requires unlinked { (arc_value system.now).chans ≡ [] }
         requires has { number.0 < (arc_value system.now).clusters }
-        requires one { count_by (λ r. r.home.0 == number.0) (arc_value system.now).roots ≤ 1 }
         ensures follows { IfOk result (FollowsBuilt (arc_value system.now) []) }
         ensures begins { IfOk result (IsFirst (arc_value system.now) number) }
     {
         let places = placement_at_boot(alloc, system)?;
-        let here = resident_at_boot(alloc, system, number)?;
+        let here = residents_at_boot(alloc, system, number)?;
         Ok(Cluster {
             alloc,
             system: system.clone()?,
@@ -139,23 +137,27 @@ impl Cluster {
         self.tried = false;
     }
 
-    /// Takes in the next entry of the log. Takes no memory.
-    pub fn absorb(&mut self, entry: &Entry)
+    /// Takes in the next entry of the log: a letter arrives at the process here whose end it is for, and a
+    /// process that ended is let go. After want of memory nothing is said of the cluster but that it can be
+    /// dropped.
+    pub fn absorb(&mut self, entry: &Entry) -> Result<(), NoMemory>
         requires room { self.old.cursor < 2 ^ 64 - 1 }
         requires ready { ReadyFor entry.now self.old }
-        ensures absorbed { self.new ≡ absorbed self.old entry.now }
-        ensures follows { Absorbs entry.now self.old self.new }
+        ensures absorbed { OnOk result (self.new ≡ absorbed self.old entry.now) }
+        ensures follows { OnOk result (Absorbs entry.now self.old self.new) }
     {
         // A placement tells with its length that no two processes have one pid.
         let _count = self.places.len();
+        self.here.take_in(&entry.post.what)?;
         self.cursor += 1;
         self.places.note(entry);
-        let_go(&mut self.here, &entry.post.what);
         self.count_step();
+        Ok(())
     }
 
-    /// Does the next thing that is to be done here: its process runs, up to something that it sends, or
-    /// nothing can move. After want of memory nothing is said of the cluster but that it can be dropped.
+    /// Does the next thing that is to be done here: a process runs, up to something that it sends, or
+    /// nothing can move. It is the next one in rising pid order that has a step, after the one that ran last,
+    /// cyclically. After want of memory nothing is said of the cluster but that it can be dropped.
     pub fn work(&mut self) -> Result<Worked, NoMemory>
         requires empty { self.old.queue ≡ [] }
         requires follows { FollowsSome self.old }
@@ -165,7 +167,7 @@ impl Cluster {
         ensures place { OnOk result (KeepsPlace self.old self.new) }
     {
         let _count = self.places.len();
-        let turn = take_turn(self.alloc, self.number, &mut self.here)?;
+        let turn = self.here.take_turn(self.alloc, self.number)?;
         self.count_step();
         match turn {
             Turn::Moved => Ok(Worked::Moved),
@@ -182,7 +184,7 @@ impl Cluster {
         ensures rests { IfOk result (λ rests. rests ≡ (if is_resting self.now then Some (rests_of self.now) else None)) }
         ensures idle { IfOk result (λ rests. IfSome rests (RestsIn self.now)) }
     {
-        resting(self.alloc, &self.here)
+        self.here.rests(self.alloc)
     }
 
     // One kernel step more.

@@ -4,6 +4,6 @@
 pub mod booting;
 pub mod cluster;
 pub mod quantum;
-pub mod resident;
+pub mod residents;
 pub mod turn;
 pub mod worked;

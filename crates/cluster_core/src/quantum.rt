@@ -1,6 +1,6 @@
 //! A quantum of a process.
-ghost use Rattle.std.specs.Prelude.{◌≡◌, ◌==◌, if◌then◌else◌, true, IfOk};
-ghost use Rattle.cluster_core.specs.Quantum.{IsLighter, MovesOrTells, RunsQuantum, are_unlinked};
+ghost use Rattle.std.specs.Prelude.{◌≡◌, ◌==◌, if◌then◌else◌, IfOk};
+ghost use Rattle.cluster_core.specs.Quantum.{IsLighter, MovesOrTells, RunsQuantum};
 
 use proc_state::process::Process;
 use std::alloc::Global;
@@ -19,10 +19,9 @@ pub enum Quantum {
 /// The most steps of a quantum.
 pub const MOST: u32 = 64;
 
-/// Makes at most 64 steps of a process that links no end, up to one that sends something. A later step for
-/// which memory is refused is not made; where it is the first, nothing has changed.
+/// Makes at most 64 steps of a process, up to one that sends something, or up to a read that waits. A later
+/// step for which memory is refused is not made; where it is the first, nothing has changed.
 pub fn run_quantum(alloc: Global, p: &mut Process) -> Result<Quantum, NoMemory>
-    requires { are_unlinked p.old.small.ends ≡ true }
     ensures runs { RunsQuantum 64 p.old result p.new }
     ensures lighter { IfOk result (λ q. IsLighter q p.old.small p.new.small) }
 {

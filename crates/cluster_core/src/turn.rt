@@ -1,10 +1,8 @@
-//! A turn of the process of a cluster.
+//! A turn of a process.
 ghost use Rattle.std.specs.Prelude.{◌≡◌, IfOk};
-ghost use Rattle.cluster_core.specs.Parts.{IsOwn, OwnIfThere};
-ghost use Rattle.cluster_core.specs.Turn.{post_told, LighterResident, LighterTurn, ResidentTurn, TurnIs};
+ghost use Rattle.cluster_core.specs.Turn.{LighterProcess, post_told, ProcessTurn};
 
 use crate::quantum::{Quantum, run_quantum};
-use crate::resident::Resident;
 use bus_msg::entry::{By, Post, What};
 use proc_state::process::Process;
 use std::alloc::Global;
@@ -12,8 +10,7 @@ use sys_calls::steps::Emission;
 use t32_base::process::{ClusterNo, Pid, Small};
 use t32_base::streams::NoMemory;
 
-/// What the process of a cluster did: it made silent steps, sent something, which is to be posted, or had
-/// no step.
+/// What a process did: it made silent steps, sent something, which is to be posted, or had no step.
 #[derive(Drop)]
 pub enum Turn {
     Moved,
@@ -21,38 +18,21 @@ pub enum Turn {
     Rests,
 }
 
-/// Lets the process of a cluster run for a quantum. After want of memory nothing has changed.
-pub fn take_turn(
+/// Lets a process run for a quantum. After want of memory nothing has changed.
+pub fn process_turn(
     alloc: Global,
     number: ClusterNo,
-    here: &mut Option<Resident>,
+    pid: Pid,
+    process: &mut Process,
 ) -> Result<Turn, NoMemory>
-    requires { OwnIfThere here.old }
-    ensures own { OwnIfThere here.new }
-    ensures turn { TurnIs number here.old result here.new }
-    ensures lighter { IfOk result (λ turn. LighterTurn here.old turn here.new) }
+    ensures turn { ProcessTurn number pid process.old result process.new }
+    ensures lighter { IfOk result (λ turn. LighterProcess turn process.old process.new) }
 {
-    match here {
-        Some(resident) => resident_turn(alloc, number, resident),
-        None => Ok(Turn::Rests),
-    }
-}
-
-fn resident_turn(
-    alloc: Global,
-    number: ClusterNo,
-    resident: &mut Resident,
-) -> Result<Turn, NoMemory>
-    requires { IsOwn resident.old }
-    ensures own { IsOwn resident.new }
-    ensures turn { ResidentTurn number resident.old result resident.new }
-    ensures lighter { IfOk result (λ turn. LighterResident turn resident.old resident.new) }
-{
-    match run_quantum(alloc, &mut resident.process)? {
+    match run_quantum(alloc, process)? {
         Quantum::Moved => Ok(Turn::Moved),
         Quantum::Sent(emission) => {
-            let at = steps_of(&resident.process);
-            Ok(Turn::Posted(post_of(number, resident.pid, at, emission)))
+            let at = steps_of(process);
+            Ok(Turn::Posted(post_of(number, pid, at, emission)))
         }
         Quantum::Stuck => Ok(Turn::Rests),
     }

@@ -1,0 +1,58 @@
+-- The processes at home in a cluster, as its code keeps them.
+use Rattle.std.specs.Prelude.{ℕ, ◌≡◌, ◌≤◌, Bool, true, not, ◌==◌, nat_lt, if◌then◌else◌, List, map, filter, find, Option, Some, option_map}
+use Rattle.std.specs.List.{list_any, list_all, sum_by}
+use Rattle.std.specs.Option.{option_or}
+use Rattle.t32_base.specs.declared.process.Pid.{Pid}
+use Rattle.t32_base.specs.declared.letter.Letter.{Letter}
+use Rattle.proc_state.specs.declared.process.Process.{Process}
+use Rattle.proc_state.specs.State.{state_of}
+use Rattle.sys_calls.specs.Small.{weight}
+use Rattle.sys_calls.specs.Next.{next_step, has_step}
+use Rattle.bus_msg.specs.declared.entry.What.{What}
+use Rattle.bus_msg.specs.declared.entry.What.TheVariants.{Mail, Exit}
+use Rattle.bus_msg.specs.Places.{same_pid}
+use Rattle.cert_sched.specs.Deeds.{is_end_of}
+use Rattle.cert_sched.specs.Parts.{first_of}
+use Rattle.cluster_core.specs.View.{arrived}
+
+-- the processes by rising pid; the pids of those that may have a step, rising; and the pid that was chosen last, 0 before any was
+pub record ResidentsView : Type 0 where
+  pub here : List (Pid × Process)
+  pub ready : List ℕ
+  pub last : ℕ
+
+-- the process with a pid
+abbrev pub process_in : List (Pid × Process) → Pid → Option Process
+process_in here p = option_map (λ (e : Pid × Process). e.1) (find (λ (e : Pid × Process). same_pid e.0 p) here)
+
+-- the process with a pid is another one now
+abbrev pub with_changed : Pid → Process → List (Pid × Process) → List (Pid × Process)
+with_changed p now here = map (λ (e : Pid × Process). if same_pid e.0 p then (p, now) else e) here
+
+-- what an entry makes of the processes: a letter arrives at the one whose end it is for, and one that ended is there no more
+abbrev pub residents_after : What → List (Pid × Process) → List (Pid × Process)
+residents_after (Mail at letter) here = map (λ (e : Pid × Process). if is_end_of e.0 letter.to then (e.0, arrived e.1 letter) else e) here
+residents_after (Exit pid at end) here = filter (λ (e : Pid × Process). not (same_pid e.0 pid)) here
+residents_after w here = here
+
+abbrev pub is_stuck : Process → Bool
+is_stuck p = not (has_step (next_step (state_of p)))
+
+-- none of them has a step
+abbrev pub are_stuck : List (Pid × Process) → Bool
+are_stuck here = list_all (λ (e : Pid × Process). is_stuck e.1) here
+
+abbrev pub pids_in : List (Pid × Process) → List ℕ
+pids_in here = map (λ (e : Pid × Process). (e.0).0) here
+
+-- each with its steps
+abbrev pub steps_in : List (Pid × Process) → List (Pid × ℕ)
+steps_in here = map (λ (e : Pid × Process). (e.0, ((e.1).small).steps)) here
+
+-- the most steps that they have left
+abbrev pub load_in : List (Pid × Process) → ℕ
+load_in here = sum_by (λ (e : Pid × Process). weight (e.1).small) here
+
+-- the next pid in rising order after the one that was chosen last, cyclically
+abbrev pub next_ready : List ℕ → ℕ → Option ℕ
+next_ready ready last = option_or (find (λ n. nat_lt last n) ready) (first_of ready)

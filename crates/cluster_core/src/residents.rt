@@ -1,0 +1,183 @@
+//! The processes at home in a cluster.
+ghost use Rattle.std.specs.Prelude.{◌≡◌, ◌<◌, ◌^◌, ◌++◌, ◌∷◌, [], IfOk, OnOk, OnErr, Some, None, IsSome, if◌then◌else◌};
+ghost use Rattle.std.specs.List.{list_all};
+ghost use Rattle.cert_sched.specs.Parts.{rising};
+ghost use Rattle.cluster_core.specs.Residents.{are_stuck, next_ready, pids_in, process_in, residents_after, steps_in, with_changed};
+ghost use Rattle.cluster_core.specs.Turn.{LighterTurn, TurnIs};
+
+use crate::turn::{Turn, process_turn, steps_of};
+use bus_msg::entry::What;
+use proc_state::process::Process;
+use slab::Slab;
+use std::alloc::Global;
+use std::collections::{BTreeMap, BTreeSet};
+use std::marker::Model;
+use std::ops::Bound;
+use sys_calls::stepping::can_step;
+use t32_base::letter::{Letter, To};
+use t32_base::lists::List;
+use t32_base::process::{ClusterNo, Pid};
+use t32_base::streams::NoMemory;
+
+/// The processes at home in a cluster, by pid. One that has no step, but may get one by a letter, is
+/// not asked again before a letter comes to it.
+#[derive(Drop)]
+pub struct Residents {
+    processes: Slab<Process>,
+    keys: BTreeMap<u32, usize>,
+    ready: BTreeSet<u32>,
+    last: u32,
+}
+
+impl Model for Residents {
+    ghost use Rattle.cluster_core.specs.Residents.{ResidentsView};
+    ghost use Rattle.cluster_core.specs.Slots.{stands_in, IsKept};
+
+    ghost Value = { ResidentsView };
+
+    ghost view = { λ r. record { here = stands_in r.processes r.keys.entries; ready = r.ready.keys; last = r.last } };
+
+    ghost invariant = { λ r. IsKept r.processes r.keys.entries r.ready.keys };
+}
+
+impl Residents {
+    /// No process.
+    pub fn none(alloc: Global) -> Residents
+        ensures { result.here ≡ [] }
+    {
+        Residents {
+            processes: Slab::new(alloc),
+            keys: BTreeMap::new(alloc),
+            ready: BTreeSet::new(alloc),
+            last: 0,
+        }
+    }
+
+    /// One process more, whose pid is above those of all that are here. After want of memory nothing is
+    /// said but that the value can be dropped.
+    pub fn add(&mut self, pid: Pid, process: Process) -> Result<(), NoMemory>
+        requires { list_all (λ e. e.0.0 < pid.0) self.old.here ≡ true }
+        ensures { OnOk result (self.new.here ≡ self.old.here ++ (pid, process) ∷ []) }
+    {
+        let key = self.processes.insert(process)?;
+        self.keys.insert(pid.0, key)?;
+        self.ready.insert(pid.0)?;
+        Ok(())
+    }
+
+    /// Lets the next process that has a step run for a quantum: the next one in rising pid order after the
+    /// one that was chosen last, cyclically. After want of memory no process has changed.
+    pub fn take_turn(&mut self, alloc: Global, number: ClusterNo) -> Result<Turn, NoMemory>
+        ensures turn { TurnIs number self.old.here result self.new.here }
+        ensures lighter { IfOk result (λ turn. LighterTurn turn self.old.here self.new.here) }
+    {
+        'choices: while let Some(pid) = self.next() {
+            match self.give_turn(alloc, number, pid)? {
+                Turn::Rests => self.rest(pid),
+                turn => {
+                    self.choose(pid);
+                    return Ok(turn);
+                }
+            }
+        }
+        Ok(Turn::Rests)
+    }
+
+    // The next of those that may have a step. Takes no memory.
+    fn next(&self) -> Option<u32>
+        ensures { result ≡ next_ready self.now.ready self.now.last }
+    {
+        let above = (Bound::Excluded(self.last), Bound::Unbounded);
+        match self.ready.range(above).next() {
+            Some(pid) => Some(*pid),
+            None => self.ready.first().copied(),
+        }
+    }
+
+    // Lets the process with a pid run for a quantum.
+    fn give_turn(&mut self, alloc: Global, number: ClusterNo, pid: u32) -> Result<Turn, NoMemory>
+    {
+        match self.keys.get(&pid) {
+            Some(key) => match self.processes.get_mut(*key) {
+                Some(process) => process_turn(alloc, number, Pid(pid), process),
+                None => unreachable!(),
+            },
+            None => unreachable!(),
+        }
+    }
+
+    // A process that has no step is not asked again before a letter comes to it.
+    fn rest(&mut self, pid: u32)
+    {
+        self.ready.remove(&pid);
+    }
+
+    fn choose(&mut self, pid: u32)
+    {
+        self.last = pid;
+    }
+
+    /// Takes in an entry: a letter arrives at the process whose end it is for, and a process that ended is
+    /// let go. After want of memory no process has changed.
+    pub fn take_in(&mut self, what: &What) -> Result<(), NoMemory>
+        requires { list_all (λ e. e.1.mail.next < 2 ^ 64 - 1) self.old.here ≡ true }
+        ensures ok { OnOk result (self.new.here ≡ residents_after what.now self.old.here) }
+        ensures err { OnErr result (self.new.here ≡ self.old.here) }
+    {
+        match what {
+            What::Mail { letter, .. } => match letter.to {
+                To::Proc(pid, _) => self.deliver(pid, letter),
+                To::Tty(_) => Ok(()),
+            },
+            What::Exit { pid, .. } => {
+                self.let_go(*pid);
+                Ok(())
+            }
+            _ => Ok(()),
+        }
+    }
+
+    // A letter arrives at the process with a pid, if it is here.
+    fn deliver(&mut self, pid: Pid, letter: &Letter) -> Result<(), NoMemory>
+    {
+        match self.keys.get(&pid.0) {
+            Some(key) => {
+                self.ready.insert(pid.0)?;
+                match self.processes.get_mut(*key) {
+                    Some(process) => process.deliver(letter.copy()?),
+                    None => unreachable!(),
+                }
+            }
+            None => Ok(()),
+        }
+    }
+
+    // Lets the process with a pid go, if it is here. Takes no memory.
+    fn let_go(&mut self, pid: Pid)
+    {
+        if let Some(key) = self.keys.remove(&pid.0) {
+            self.ready.remove(&pid.0);
+            self.processes.try_remove(key);
+        }
+    }
+
+    /// Each process with its steps, by rising pid: None exactly where one of them has a step.
+    pub fn rests(&self, alloc: Global) -> Result<Option<List<(Pid, u64)>>, NoMemory>
+        ensures rests { IfOk result (λ rests. rests ≡ (if are_stuck self.now.here then Some (steps_in self.now.here) else None)) }
+        ensures rising { rising (pids_in self.now.here) ≡ pids_in self.now.here }
+    {
+        let mut rests = List::new(alloc);
+        for (pid, key) in &self.keys {
+            match self.processes.get(*key) {
+                Some(process) => {
+                    if can_step(process) {
+                        return Ok(None);
+                    }
+                    rests.push((Pid(*pid), steps_of(process)))?;
+                }
+                None => unreachable!(),
+            }
+        }
+        Ok(Some(rests))
+    }
+}
