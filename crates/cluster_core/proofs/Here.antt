@@ -1,5 +1,5 @@
 -- The processes that are here, as they are held, and what an entry makes of them.
-use Rattle.std.proofs.Common.{◌≡◌, ℕ, refl, sym, ◌∙◌, ap, subst, List, [], ◌∷◌, map, Bool, true, false, cond, not, ◌||◌, eqb, eqb-true, eq-eqb, Option, Some, None, true≢false}
+use Rattle.std.proofs.Common.{◌≡◌, ℕ, ◌+◌, refl, sym, ◌∙◌, ap, List, [], ◌∷◌, map, Bool, true, false, cond, not, ◌||◌, eqb, eqb-true, eq-eqb, Option, Some, None, true≢false}
 use Rattle.std.specs.Prelude.{filter, find, option_map}
 use Rattle.std.specs.List.{list_any, list_all, sum_by}
 use Rattle.std.proofs.lemmas.List.Sums.{sum_by-cons}
@@ -130,29 +130,26 @@ pub record WasHere (w : What) (rs : List (Pid × Process)) (p : Pid) (s : Proces
   pub there : process_in rs p ≡ Some was
   pub same : s ≡ arrival_at w p was
 
-letter_found : (letter : Letter) (rs : List (Pid × Process)) (p : Pid)
-    → process_in (map (λ (e : Pid × Process). cond (is_end_of e.0 letter.to) (e.0, arrived e.1 letter) e) rs) p
+abbrev LetterFound : Letter → List (Pid × Process) → Pid → Type 0
+LetterFound letter rs p =
+    process_in (map (λ (e : Pid × Process). cond (is_end_of e.0 letter.to) (e.0, arrived e.1 letter) e) rs) p
     ≡ option_map (λ (s : Process). cond (is_end_of p letter.to) (arrived s letter) s) (process_in rs p)
+
+letter_found : (letter : Letter) (rs : List (Pid × Process)) (p : Pid) → LetterFound letter rs p
 letter_found letter [] p = refl
 letter_found letter (e ∷ rs) p = by_tests (is_end_of e.0 letter.to) refl (letter_found letter rs p)
   where
-    Rest : Type 0
-    Rest =
-        process_in (map (λ (e : Pid × Process). cond (is_end_of e.0 letter.to) (e.0, arrived e.1 letter) e) rs) p
-        ≡ option_map (λ (s : Process). cond (is_end_of p letter.to) (arrived s letter) s) (process_in rs p)
-
-    by_pid : (x : Process) (b : Bool) → (b ≡ true → x ≡ cond (is_end_of p letter.to) (arrived e.1 letter) e.1) → Rest
+    by_pid : (x : Process) (b : Bool) → (b ≡ true → x ≡ cond (is_end_of p letter.to) (arrived e.1 letter) e.1) → LetterFound letter rs p
         → option_map (λ (e : Pid × Process). e.1)
         (cond b (Some (e.0, x)) (find (λ (e : Pid × Process). same_pid e.0 p) (map (λ (e : Pid × Process). cond (is_end_of e.0 letter.to) (e.0, arrived e.1 letter) e) rs)))
         ≡ option_map (λ (s : Process). cond (is_end_of p letter.to) (arrived s letter) s) (option_map (λ (e : Pid × Process). e.1) (cond b (Some e) (find (λ (e : Pid × Process). same_pid e.0 p) rs)))
-    unfolding Rest
     by_pid x true is more = ap Some (is refl)
     by_pid x false is more = more
 
     at_end : (b : Bool) → same_pid e.0 p ≡ b → b ≡ true → is_end_of e.0 letter.to ≡ is_end_of p letter.to
     at_end b at is = ap (λ q. is_end_of q letter.to) (pid_same e.0 p (eqb-true (e.0).0 p.0 (at ∙ is)))
 
-    by_tests : (b : Bool) → is_end_of e.0 letter.to ≡ b → Rest
+    by_tests : (b : Bool) → is_end_of e.0 letter.to ≡ b → LetterFound letter rs p
         → option_map (λ (e : Pid × Process). e.1)
         (find (λ (e : Pid × Process). same_pid e.0 p) (cond b (e.0, arrived e.1 letter) e ∷ map (λ (e : Pid × Process). cond (is_end_of e.0 letter.to) (e.0, arrived e.1 letter) e) rs))
         ≡ option_map (λ (s : Process). cond (is_end_of p letter.to) (arrived s letter) s) (process_in (e ∷ rs) p)

@@ -2,6 +2,7 @@
 ghost use Rattle.std.specs.Prelude.{◌≡◌, ◌++◌, ◌∷◌, [], IfOk, OnOk, OnErr, Some, None, IsSome, nat_lt, true, if◌then◌else◌};
 ghost use Rattle.std.specs.List.{list_all};
 ghost use Rattle.cert_sched.specs.Parts.{rising};
+ghost use Rattle.cert_sched.proofs.RisingLaws.{NoTwo};
 ghost use Rattle.cluster_core.specs.Residents.{HasRoom, are_stuck, next_ready, pids_in, process_in, residents_after, steps_in, with_changed};
 ghost use Rattle.cluster_core.specs.Turn.{LighterTurn, TurnIs};
 
@@ -165,6 +166,7 @@ impl Residents {
     pub fn rests(&self, alloc: Global) -> Result<Option<List<(Pid, u64)>>, NoMemory>
         ensures rests { IfOk result (λ rests. rests ≡ (if are_stuck self.now.here then Some (steps_in self.now.here) else None)) }
         ensures rising { rising (pids_in self.now.here) ≡ pids_in self.now.here }
+        ensures apart { NoTwo (pids_in self.now.here) }
     {
         let mut rests = List::new(alloc);
         for (pid, key) in &self.keys {

@@ -1,11 +1,13 @@
-use Rattle.std.proofs.Common.{◌≡◌, ap, subst, sym, ◌∙◌, ◌+◌, refl}
+use Rattle.std.proofs.Common.{◌≡◌, ◌+◌, ◌-◌, ◌^◌, ◌<◌, ap, subst, sym, ◌∙◌, List}
+use Rattle.t32_base.specs.declared.process.Pid.{Pid}
+use Rattle.proc_state.specs.declared.process.Process.{Process}
 use Rattle.bus_msg.specs.PlacedAfter.{what, placed_after}
 use Rattle.channel_table.specs.Changes.{pids_differ}
 use Rattle.cert_sched.specs.Built.{BuiltMayFollow}
 use Rattle.cert_sched.proofs.LogLaws.{IsLegal-last}
 use Rattle.cluster_core.specs.View.{ClusterView, next_count}
 use Rattle.cluster_core.specs.Residents.{residents_after}
-use Rattle.cluster_core.specs.Parts.{held_in, posts_of}
+use Rattle.cluster_core.specs.Parts.{held_in, posts_of, AllOwn}
 use Rattle.cluster_core.specs.Calls.{Absorbs, absorbed, here_after}
 use Rattle.cluster_core.proofs.Here.{held_after}
 use Rattle.cluster_core.proofs.Owning.{has_room, own_after}
@@ -19,3 +21,48 @@ take_in-requires c =
 
 pub note-requires : goal.note-requires
 note-requires c = built_no_birth (what c.args.entry.now) (IsLegal-last BuiltMayFollow c.args.self.now.system c.requires.ready.log c.args.entry.now c.requires.ready.open_next.0).built
+
+pub invariant_of-self-2 : goal.invariant_of-self-2
+invariant_of-self-2 c =
+    let old : ClusterView = c.args.self.now in
+    let e = c.args.entry.now in
+    let rs : List (Pid × Process) = c.self.inside.here.here in
+    let taken : c.take_in.new.self.here ≡ residents_after (what e) rs = c.in_ok-take_in.ensures.ok in
+    let ready = c.requires.ready in
+    let none = ready_quiet old.system ready.log e ready.open_log ready.open_next in
+    record {
+      valid = c.self.invariant.valid;
+      has = c.self.invariant.has;
+      residents = subst (AllOwn (c.self.inside.cursor + 1)) (sym taken) (own_after c.self.inside.cursor (what e) rs none c.self.invariant.residents);
+      own = c.self.invariant.own;
+      built = c.self.invariant.built;
+    }
+
+pub returns-clause-absorbed : goal.returns-clause-absorbed
+returns-clause-absorbed c =
+    let old : ClusterView = c.args.self.now in
+    let e = c.args.entry.now in
+    let rs : List (Pid × Process) = c.self.inside.here.here in
+    let taken : c.take_in.new.self.here ≡ residents_after (what e) rs = c.in_ok-take_in.ensures.ok in
+    let places : c.note.new.self ≡ placed_after old.places (what e) = c.note.ensures ∙ ap (λ (v : ClusterView). placed_after v.places (what e)) c.self.view_is in
+    let here : held_in c.take_in.new.self.here ≡ here_after (what e) old.here = ap held_in taken ∙ held_after (what e) rs ∙ ap (λ (v : ClusterView). here_after (what e) v.here) c.self.view_is in
+    let whole : c.count_step.new.self ≡ absorbed old e =
+    c.count_step.ensures
+    ∙ ap (λ (v : ClusterView). record v { cursor = v.cursor + 1; places = c.note.new.self; here = held_in c.take_in.new.self.here; steps = next_count v.steps }) c.self.view_is
+    ∙ (λ i. record old { cursor = old.cursor + 1; places = places i; here = here i; steps = next_count old.steps }) in
+    whole
+
+pub returns-clause-follows : goal.returns-clause-follows
+returns-clause-follows c =
+    let old : ClusterView = c.args.self.now in
+    let e = c.args.entry.now in
+    let rs : List (Pid × Process) = c.self.inside.here.here in
+    let taken : c.take_in.new.self.here ≡ residents_after (what e) rs = c.in_ok-take_in.ensures.ok in
+    let places : c.note.new.self ≡ placed_after old.places (what e) = c.note.ensures ∙ ap (λ (v : ClusterView). placed_after v.places (what e)) c.self.view_is in
+    let here : held_in c.take_in.new.self.here ≡ here_after (what e) old.here = ap held_in taken ∙ held_after (what e) rs ∙ ap (λ (v : ClusterView). here_after (what e) v.here) c.self.view_is in
+    let whole : c.count_step.new.self ≡ absorbed old e =
+    c.count_step.ensures
+    ∙ ap (λ (v : ClusterView). record v { cursor = v.cursor + 1; places = c.note.new.self; here = held_in c.take_in.new.self.here; steps = next_count v.steps }) c.self.view_is
+    ∙ (λ i. record old { cursor = old.cursor + 1; places = places i; here = here i; steps = next_count old.steps }) in
+    let differ = ap (λ (v : ClusterView). pids_differ (v.places).placed) (sym c.self.view_is) ∙ c.len-count.ensures.different in
+    subst (Absorbs e old) (sym whole) (absorbs old e rs c.self.inside.queue (ap (λ (v : ClusterView). v.here) (sym c.self.view_is)) (ap (λ (v : ClusterView). v.queue) (sym c.self.view_is)) differ)

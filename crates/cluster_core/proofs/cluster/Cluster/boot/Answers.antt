@@ -28,7 +28,7 @@ invariant_of-result c =
     record {
       valid = rw shared c.requires.valid;
       has = rw shared c.requires.has;
-      residents = boot_own system c.args.number here c.requires.valid booted;
+      residents = boot_own system c.args.number here booted;
       own = refl;
       built = refl;
     }
