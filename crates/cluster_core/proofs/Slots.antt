@@ -1,6 +1,6 @@
 -- The processes of a cluster in their slots: what a write, a removal and one more make of them.
 use Rattle.std.proofs.Common.{◌≡◌, ◌≢◌, ℕ, ◌+◌, ◌≤◌, ◌<◌, Bool, true, false, cond, not, ◌||◌, ◌&&◌, eqb, ltb, eqb-true, eq-eqb, ne_eqb, List, [], ◌∷◌, ◌++◌, map, find, length, refl, sym, ap, subst, ◌∙◌, arith, Option, Some, None, IsSome, is_some, option_map, true≢false, append_assoc}
-use Rattle.std.specs.Prelude.{filter}
+use Rattle.std.specs.Prelude.{filter, Result, Ok, Err, IfOk}
 use Rattle.std.specs.List.{list_any, list_all, sum_by, AllByRecursion}
 use Rattle.std.specs.List.Sorted.{IsStrictlySortedBy}
 use Rattle.std.specs.Option.{option_or}
@@ -26,7 +26,11 @@ use Rattle.cert_sched.specs.Parts.{rising, put_rising, first_of}
 use Rattle.cert_sched.proofs.RisingLaws.{NoTwo}
 use Rattle.cluster_core.specs.Residents.{process_in, with_changed, is_stuck, are_stuck, pids_in, steps_in, load_in, next_ready}
 use Rattle.cluster_core.specs.Slots.{in_slot, stands_in, IsSlot, IsKept}
-use Rattle.cluster_core.specs.Turn.{is_stuck_at}
+use Rattle.t32_base.specs.declared.process.ClusterNo.{ClusterNo}
+use Rattle.t32_base.specs.declared.streams.NoMemory.{NoMemory}
+use Rattle.cluster_core.specs.declared.turn.Turn.{Turn}
+use Rattle.cluster_core.specs.declared.turn.Turn.TheVariants.{Moved, Posted, Rests}
+use Rattle.cluster_core.specs.Turn.{is_stuck_at, ProcessTurn, TakesTurn, GivenTurnIs, LighterProcess, LighterTurn}
 
 abbrev pids : List (ℕ × ℕ) → List ℕ
 pids es = map (λ (e : ℕ × ℕ). e.0) es
@@ -77,11 +81,11 @@ all_put_last P (x ∷ xs) y ps p = (ps.0, all_put_last P xs y ps.1 p)
 
 all_removed : (P : ℕ × ℕ → Type 0) (t : ℕ → Bool) (es : List (ℕ × ℕ)) → AllByRecursion P es → AllByRecursion P (remove_entry t es)
 all_removed P t [] ps = tt
-all_removed P t (e ∷ es) ps = by_test (t e.0)
+all_removed P t (e ∷ es) ps = by_test (t e.0) (all_removed P t es ps.1)
   where
-    by_test : (b : Bool) → AllByRecursion P (cond b es (e ∷ remove_entry t es))
-    by_test true = ps.1
-    by_test false = (ps.0, all_removed P t es ps.1)
+    by_test : (b : Bool) → AllByRecursion P (remove_entry t es) → AllByRecursion P (cond b es (e ∷ remove_entry t es))
+    by_test true more = ps.1
+    by_test false more = (ps.0, more)
 
 -- ---- one key of one pid
 
@@ -110,13 +114,13 @@ others_apart n key x k (e ∷ es) later none is_pid is_key =
 pub one_key : (n key : ℕ) (es : List (ℕ × ℕ)) → IsStrictlySortedBy nat_cmp (pids es) → NoTwo (slot_keys es) → lookup (at_key n) es ≡ Some key → AllByRecursion (IsOne n key) es
 unfolding IsStrictlySortedBy
 one_key n key [] ordered apart found = tt
-one_key n key (e ∷ es) ordered apart found = by_test (eqb e.0 n) refl (subst (λ b. cond b (Some e.1) (lookup (at_key n) es) ≡ Some key) (at_key_is n e.0) found)
+one_key n key (e ∷ es) ordered apart found = by_test (eqb e.0 n) refl (subst (λ b. cond b (Some e.1) (lookup (at_key n) es) ≡ Some key) (at_key_is n e.0) found) (λ found. one_key n key es ordered.1 apart.1 found)
   where
-    by_test : (b : Bool) → eqb e.0 n ≡ b → cond b (Some e.1) (lookup (at_key n) es) ≡ Some key → AllByRecursion (IsOne n key) (e ∷ es)
-    by_test true is found =
+    by_test : (b : Bool) → eqb e.0 n ≡ b → cond b (Some e.1) (lookup (at_key n) es) ≡ Some key → (lookup (at_key n) es ≡ Some key → AllByRecursion (IsOne n key) es) → AllByRecursion (IsOne n key) (e ∷ es)
+    by_test true is found more =
         let same : e.1 ≡ key = some_same e.1 key found in
         (is ∙ sym (eq-eqb e.1 key same), others_apart n key e.0 e.1 es ordered.0 apart.0 (eqb-true e.0 n is) same)
-    by_test false is found = (is ∙ sym (turned key e.1 (other_key n key e.1 es found apart.0)), one_key n key es ordered.1 apart.1 found)
+    by_test false is found more = (is ∙ sym (turned key e.1 (other_key n key e.1 es found apart.0)), more found)
 
 -- ---- look-ups
 
@@ -131,50 +135,52 @@ in_slot_found pid p (Some r) q rest same is = ap (λ b. option_map (λ (e : Pid 
 -- the process with a pid is in the slot of its key
 pub process_there : (slots : Slab Process) (n key : ℕ) (p : Process) (es : List (ℕ × ℕ)) → lookup (at_key n) es ≡ Some key → get slots key ≡ Some p → process_in (stands_in slots es) (pid_of n) ≡ Some p
 process_there slots n key p [] found is = cc
-process_there slots n key p (e ∷ es) found is = by_test (eqb e.0 n) refl (subst (λ b. cond b (Some e.1) (lookup (at_key n) es) ≡ Some key) (at_key_is n e.0) found)
+process_there slots n key p (e ∷ es) found is = by_test (eqb e.0 n) refl (subst (λ b. cond b (Some e.1) (lookup (at_key n) es) ≡ Some key) (at_key_is n e.0) found) (λ found. process_there slots n key p es found is)
   where
-    by_test : (b : Bool) → eqb e.0 n ≡ b → cond b (Some e.1) (lookup (at_key n) es) ≡ Some key → process_in (stands_in slots (e ∷ es)) (pid_of n) ≡ Some p
-    by_test true same found = in_slot_found (pid_of e.0) (pid_of n) (get slots e.1) p (stands_in slots es) same (ap (get slots) (some_same e.1 key found) ∙ is)
-    by_test false other found = in_slot_find (pid_of e.0) (pid_of n) (get slots e.1) (stands_in slots es) other ∙ process_there slots n key p es found is
+    by_test : (b : Bool) → eqb e.0 n ≡ b → cond b (Some e.1) (lookup (at_key n) es) ≡ Some key → (lookup (at_key n) es ≡ Some key → process_in (stands_in slots es) (pid_of n) ≡ Some p) → process_in (stands_in slots (e ∷ es)) (pid_of n) ≡ Some p
+    by_test true same found more = in_slot_found (pid_of e.0) (pid_of n) (get slots e.1) p (stands_in slots es) same (ap (get slots) (some_same e.1 key found) ∙ is)
+    by_test false other found more = in_slot_find (pid_of e.0) (pid_of n) (get slots e.1) (stands_in slots es) other ∙ more found
 
 -- ---- a pid that is not there
 
 -- no entry has the pid
 pub no_entry : (n : ℕ) (es : List (ℕ × ℕ)) → lookup (at_key n) es ≡ None → AllByRecursion (λ (e : ℕ × ℕ). eqb e.0 n ≡ false) es
 no_entry n [] none = tt
-no_entry n (e ∷ es) none = by_test (eqb e.0 n) refl (subst (λ b. cond b (Some e.1) (lookup (at_key n) es) ≡ None) (at_key_is n e.0) none)
+no_entry n (e ∷ es) none = by_test (eqb e.0 n) refl (subst (λ b. cond b (Some e.1) (lookup (at_key n) es) ≡ None) (at_key_is n e.0) none) (λ none. no_entry n es none)
   where
-    by_test : (b : Bool) → eqb e.0 n ≡ b → cond b (Some e.1) (lookup (at_key n) es) ≡ None → AllByRecursion (λ (e : ℕ × ℕ). eqb e.0 n ≡ false) (e ∷ es)
-    by_test true is none = absurd (none_not_some (Some e.1) none refl)
-    by_test false is none = (is, no_entry n es none)
+    by_test : (b : Bool) → eqb e.0 n ≡ b → cond b (Some e.1) (lookup (at_key n) es) ≡ None → (lookup (at_key n) es ≡ None → AllByRecursion (λ (e : ℕ × ℕ). eqb e.0 n ≡ false) es) → AllByRecursion (λ (e : ℕ × ℕ). eqb e.0 n ≡ false) (e ∷ es)
+    by_test true is none more = absurd (none_not_some (Some e.1) none refl)
+    by_test false is none more = (is, more none)
 
 -- a change of the process with that pid changes nothing
 pub nobody_changed : (slots : Slab Process) (n : ℕ) (g : Pid × Process → Pid × Process) (es : List (ℕ × ℕ)) → AllByRecursion (λ (e : ℕ × ℕ). eqb e.0 n ≡ false) es
     → map (λ (e : Pid × Process). cond (same_pid e.0 (pid_of n)) (g e) e) (stands_in slots es) ≡ stands_in slots es
 nobody_changed slots n g [] none = refl
-nobody_changed slots n g (e ∷ es) none = in_front (get slots e.1)
+nobody_changed slots n g (e ∷ es) none = in_front (get slots e.1) (nobody_changed slots n g es none.1)
   where
-    in_front : (o : Option Process) → map (λ (e : Pid × Process). cond (same_pid e.0 (pid_of n)) (g e) e) (in_slot (pid_of e.0) o (stands_in slots es)) ≡ in_slot (pid_of e.0) o (stands_in slots es)
-    in_front None = nobody_changed slots n g es none.1
-    in_front (Some p) = λ i. cond (none.0 i) (g (pid_of e.0, p)) (pid_of e.0, p) ∷ nobody_changed slots n g es none.1 i
+    in_front : (o : Option Process) → map (λ (e : Pid × Process). cond (same_pid e.0 (pid_of n)) (g e) e) (stands_in slots es) ≡ stands_in slots es
+        → map (λ (e : Pid × Process). cond (same_pid e.0 (pid_of n)) (g e) e) (in_slot (pid_of e.0) o (stands_in slots es)) ≡ in_slot (pid_of e.0) o (stands_in slots es)
+    in_front None more = more
+    in_front (Some p) more = λ i. cond (none.0 i) (g (pid_of e.0, p)) (pid_of e.0, p) ∷ more i
 
 -- and no process goes where it goes
 pub nobody_goes : (slots : Slab Process) (n : ℕ) (es : List (ℕ × ℕ)) → AllByRecursion (λ (e : ℕ × ℕ). eqb e.0 n ≡ false) es
     → filter (λ (e : Pid × Process). not (same_pid e.0 (pid_of n))) (stands_in slots es) ≡ stands_in slots es
 nobody_goes slots n [] none = refl
-nobody_goes slots n (e ∷ es) none = in_front (get slots e.1)
+nobody_goes slots n (e ∷ es) none = in_front (get slots e.1) (nobody_goes slots n es none.1)
   where
-    in_front : (o : Option Process) → filter (λ (e : Pid × Process). not (same_pid e.0 (pid_of n))) (in_slot (pid_of e.0) o (stands_in slots es)) ≡ in_slot (pid_of e.0) o (stands_in slots es)
-    in_front None = nobody_goes slots n es none.1
-    in_front (Some p) = λ i. cond (not (none.0 i)) ((pid_of e.0, p) ∷ nobody_goes slots n es none.1 i) (nobody_goes slots n es none.1 i)
+    in_front : (o : Option Process) → filter (λ (e : Pid × Process). not (same_pid e.0 (pid_of n))) (stands_in slots es) ≡ stands_in slots es
+        → filter (λ (e : Pid × Process). not (same_pid e.0 (pid_of n))) (in_slot (pid_of e.0) o (stands_in slots es)) ≡ in_slot (pid_of e.0) o (stands_in slots es)
+    in_front None more = more
+    in_front (Some p) more = λ i. cond (not (none.0 i)) ((pid_of e.0, p) ∷ more i) (more i)
 
 pub nobody_stuck : (slots : Slab Process) (n : ℕ) (es : List (ℕ × ℕ)) → AllByRecursion (λ (e : ℕ × ℕ). eqb e.0 n ≡ false) es → is_stuck_at (pid_of n) (stands_in slots es) ≡ true
 nobody_stuck slots n [] none = refl
-nobody_stuck slots n (e ∷ es) none = in_front (get slots e.1)
+nobody_stuck slots n (e ∷ es) none = in_front (get slots e.1) (nobody_stuck slots n es none.1)
   where
-    in_front : (o : Option Process) → is_stuck_at (pid_of n) (in_slot (pid_of e.0) o (stands_in slots es)) ≡ true
-    in_front None = nobody_stuck slots n es none.1
-    in_front (Some p) = ap (λ b. (not b || is_stuck p) && is_stuck_at (pid_of n) (stands_in slots es)) none.0 ∙ nobody_stuck slots n es none.1
+    in_front : (o : Option Process) → is_stuck_at (pid_of n) (stands_in slots es) ≡ true → is_stuck_at (pid_of n) (in_slot (pid_of e.0) o (stands_in slots es)) ≡ true
+    in_front None more = more
+    in_front (Some p) more = ap (λ b. (not b || is_stuck p) && is_stuck_at (pid_of n) (stands_in slots es)) none.0 ∙ more
 
 -- ---- a slot is written
 
@@ -244,20 +250,20 @@ taken_out slots new n key (e ∷ es) one updates = by_test (eqb e.1 key) refl (t
 -- an entry whose slot is empty may go
 pub entry_goes : (slots : Slab Process) (t : ℕ → Bool) (key : ℕ) (es : List (ℕ × ℕ)) → lookup t es ≡ Some key → get slots key ≡ None → stands_in slots (remove_entry t es) ≡ stands_in slots es
 entry_goes slots t key [] found none = refl
-entry_goes slots t key (e ∷ es) found none = by_test (t e.0) found
+entry_goes slots t key (e ∷ es) found none = by_test (t e.0) found (λ found. entry_goes slots t key es found none)
   where
-    by_test : (b : Bool) → cond b (Some e.1) (lookup t es) ≡ Some key → stands_in slots (cond b es (e ∷ remove_entry t es)) ≡ stands_in slots (e ∷ es)
-    by_test true found = ap (λ o. in_slot (pid_of e.0) o (stands_in slots es)) (sym (ap (get slots) (some_same e.1 key found) ∙ none))
-    by_test false found = ap (λ rest. in_slot (pid_of e.0) (get slots e.1) rest) (entry_goes slots t key es found none)
+    by_test : (b : Bool) → cond b (Some e.1) (lookup t es) ≡ Some key → (lookup t es ≡ Some key → stands_in slots (remove_entry t es) ≡ stands_in slots es) → stands_in slots (cond b es (e ∷ remove_entry t es)) ≡ stands_in slots (e ∷ es)
+    by_test true found more = ap (λ o. in_slot (pid_of e.0) o (stands_in slots es)) (sym (ap (get slots) (some_same e.1 key found) ∙ none))
+    by_test false found more = ap (λ rest. in_slot (pid_of e.0) (get slots e.1) rest) (more found)
 
 -- one more entry at the end
 pub one_more : (slots : Slab Process) (n key : ℕ) (p : Process) (es : List (ℕ × ℕ)) → get slots key ≡ Some p → stands_in slots (es ++ (n, key) ∷ []) ≡ stands_in slots es ++ (pid_of n, p) ∷ []
 one_more slots n key p [] there = ap (λ o. in_slot (pid_of n) o []) there
-one_more slots n key p (e ∷ es) there = in_front (get slots e.1)
+one_more slots n key p (e ∷ es) there = in_front (get slots e.1) (one_more slots n key p es there)
   where
-    in_front : (o : Option Process) → in_slot (pid_of e.0) o (stands_in slots (es ++ (n, key) ∷ [])) ≡ in_slot (pid_of e.0) o (stands_in slots es) ++ (pid_of n, p) ∷ []
-    in_front None = one_more slots n key p es there
-    in_front (Some q) = ap (λ rest. (pid_of e.0, q) ∷ rest) (one_more slots n key p es there)
+    in_front : (o : Option Process) → stands_in slots (es ++ (n, key) ∷ []) ≡ stands_in slots es ++ (pid_of n, p) ∷ [] → in_slot (pid_of e.0) o (stands_in slots (es ++ (n, key) ∷ [])) ≡ in_slot (pid_of e.0) o (stands_in slots es) ++ (pid_of n, p) ∷ []
+    in_front None more = more
+    in_front (Some q) more = ap (λ rest. (pid_of e.0, q) ∷ rest) more
 
 -- ---- the steps that are left
 
@@ -279,19 +285,20 @@ load_more pid (Some q) a b v w more =
 pub load_written : (slots new : Slab Process) (n key : ℕ) (was now : Process) (es : List (ℕ × ℕ)) → lookup (at_key n) es ≡ Some key → NoTwo (slot_keys es) → get slots key ≡ Some was → Updates slots new key (Some now)
     → load_in (stands_in new es) + weight was.small ≡ load_in (stands_in slots es) + weight now.small
 load_written slots new n key was now [] found apart there updates = cc
-load_written slots new n key was now (e ∷ es) found apart there updates = by_test (at_key n e.0) found
+load_written slots new n key was now (e ∷ es) found apart there updates = by_test (at_key n e.0) found (λ found. load_written slots new n key was now es found apart.1 there updates)
   where
-    by_test : (b : Bool) → cond b (Some e.1) (lookup (at_key n) es) ≡ Some key → load_in (stands_in new (e ∷ es)) + weight was.small ≡ load_in (stands_in slots (e ∷ es)) + weight now.small
-    by_test true found =
+    by_test : (b : Bool) → cond b (Some e.1) (lookup (at_key n) es) ≡ Some key → (lookup (at_key n) es ≡ Some key → load_in (stands_in new es) + weight was.small ≡ load_in (stands_in slots es) + weight now.small)
+        → load_in (stands_in new (e ∷ es)) + weight was.small ≡ load_in (stands_in slots (e ∷ es)) + weight now.small
+    by_test true found more =
         let at : e.1 ≡ key = some_same e.1 key found in
         let rest : load_in (stands_in new es) ≡ load_in (stands_in slots es) = ap load_in (others_stand slots new key (Some now) es updates (no_key e.1 key es apart.0 at)) in
         let before : load_in (stands_in slots (e ∷ es)) ≡ weight was.small + load_in (stands_in slots es) = in_slot_load (pid_of e.0) (get slots e.1) was (stands_in slots es) (ap (get slots) at ∙ there) in
         let after : load_in (stands_in new (e ∷ es)) ≡ weight now.small + load_in (stands_in new es) = in_slot_load (pid_of e.0) (get new e.1) now (stands_in new es) (ap (get new) at ∙ updates.changed) in
         omega (arith, rest, before, after)
-    by_test false found =
+    by_test false found more =
         let other : e.1 ≢ key = λ same. true≢false (sym (eq-eqb key e.1 (sym same)) ∙ other_key n key e.1 es found apart.0) in
         ap (λ o. load_in (in_slot (pid_of e.0) o (stands_in new es)) + weight was.small) (updates.others e.1 other)
-        ∙ load_more (pid_of e.0) (get slots e.1) (stands_in new es) (stands_in slots es) (weight was.small) (weight now.small) (load_written slots new n key was now es found apart.1 there updates)
+        ∙ load_more (pid_of e.0) (get slots e.1) (stands_in new es) (stands_in slots es) (weight was.small) (weight now.small) (more found)
 
 -- ---- what is kept
 
@@ -389,19 +396,19 @@ any_removed : (t u : ℕ → Bool) (es : List (ℕ × ℕ)) → list_any t (slot
 any_removed t u [] none = none
 any_removed t u (e ∷ es) none =
     let parts = either_not (t e.1) (list_any t (slot_keys es)) none in
-    by_test parts.0 parts.1 (u e.0)
+    by_test parts.0 parts.1 (u e.0) (any_removed t u es parts.1)
   where
-    by_test : t e.1 ≡ false → list_any t (slot_keys es) ≡ false → (b : Bool) → list_any t (slot_keys (cond b es (e ∷ remove_entry u es))) ≡ false
-    by_test first rest true = rest
-    by_test first rest false = ap (λ b. b || list_any t (slot_keys (remove_entry u es))) first ∙ any_removed t u es rest
+    by_test : t e.1 ≡ false → list_any t (slot_keys es) ≡ false → (b : Bool) → list_any t (slot_keys (remove_entry u es)) ≡ false → list_any t (slot_keys (cond b es (e ∷ remove_entry u es))) ≡ false
+    by_test first rest true more = rest
+    by_test first rest false more = ap (λ b. b || list_any t (slot_keys (remove_entry u es))) first ∙ more
 
 apart_removed : (u : ℕ → Bool) (es : List (ℕ × ℕ)) → NoTwo (slot_keys es) → NoTwo (slot_keys (remove_entry u es))
 apart_removed u [] apart = tt
-apart_removed u (e ∷ es) apart = by_test (u e.0)
+apart_removed u (e ∷ es) apart = by_test (u e.0) (apart_removed u es apart.1)
   where
-    by_test : (b : Bool) → NoTwo (slot_keys (cond b es (e ∷ remove_entry u es)))
-    by_test true = apart.1
-    by_test false = (any_removed (λ m. eqb m e.1) u es apart.0, apart_removed u es apart.1)
+    by_test : (b : Bool) → NoTwo (slot_keys (remove_entry u es)) → NoTwo (slot_keys (cond b es (e ∷ remove_entry u es)))
+    by_test true more = apart.1
+    by_test false more = (any_removed (λ m. eqb m e.1) u es apart.0, more)
 
 later_apart : (x n : ℕ) (es : List (ℕ × ℕ)) → AllByRecursion (λ y. nat_cmp x y ≡ Less) (pids es) → x ≡ n → AllByRecursion (λ (e : ℕ × ℕ). eqb e.0 n ≡ false) es
 later_apart x n [] later same = tt
@@ -410,11 +417,11 @@ later_apart x n (e ∷ es) later same = (later_is_other x e.0 n later.0 same, la
 pub gone : (n : ℕ) (es : List (ℕ × ℕ)) → IsStrictlySortedBy nat_cmp (pids es) → AllByRecursion (λ (e : ℕ × ℕ). eqb e.0 n ≡ false) (remove_entry (at_key n) es)
 unfolding IsStrictlySortedBy
 gone n [] ordered = tt
-gone n (e ∷ es) ordered = by_test (at_key n e.0) (at_key_is n e.0)
+gone n (e ∷ es) ordered = by_test (at_key n e.0) (at_key_is n e.0) (gone n es ordered.1)
   where
-    by_test : (b : Bool) → b ≡ eqb e.0 n → AllByRecursion (λ (e : ℕ × ℕ). eqb e.0 n ≡ false) (cond b es (e ∷ remove_entry (at_key n) es))
-    by_test true is = later_apart e.0 n es ordered.0 (eqb-true e.0 n (sym is))
-    by_test false is = (sym is, gone n es ordered.1)
+    by_test : (b : Bool) → b ≡ eqb e.0 n → AllByRecursion (λ (e : ℕ × ℕ). eqb e.0 n ≡ false) (remove_entry (at_key n) es) → AllByRecursion (λ (e : ℕ × ℕ). eqb e.0 n ≡ false) (cond b es (e ∷ remove_entry (at_key n) es))
+    by_test true is more = later_apart e.0 n es ordered.0 (eqb-true e.0 n (sym is))
+    by_test false is more = (sym is, more)
 
 pub kept_gone : (slots new : Slab Process) (n key : ℕ) (keys : List (ℕ × ℕ)) (ready less : List ℕ) → lookup (at_key n) keys ≡ Some key → Updates slots new key None
     → ((q : ℕ) → at_key n q ≡ false → list_any (at_key q) less ≡ list_any (at_key q) ready) → IsStrictlySortedBy nat_cmp (pids (remove_entry (at_key n) keys)) → IsKept slots keys ready → IsKept new (remove_entry (at_key n) keys) less
@@ -472,6 +479,10 @@ pub stuck_there : (slots : Slab Process) (n key : ℕ) (was : Process) (es : Lis
 stuck_there slots n key was [] one there none = refl
 stuck_there slots n key was (e ∷ es) one there none = by_test (eqb e.1 key) refl (stuck_there slots n key was es one.1 there none)
   where
+    or_true : (b : Bool) → ((b || true) && true) ≡ true
+    or_true true = refl
+    or_true false = refl
+
     here : (o : Option Process) (m : ℕ) → o ≡ Some was → is_stuck_at (pid_of n) (stands_in slots es) ≡ true → is_stuck_at (pid_of n) (in_slot (pid_of m) o (stands_in slots es)) ≡ true
     here None m same more = more
     here (Some q) m same more =
@@ -481,10 +492,6 @@ stuck_there slots n key was (e ∷ es) one there none = by_test (eqb e.1 key) re
     elsewhere : (o : Option Process) (m : ℕ) → eqb m n ≡ false → is_stuck_at (pid_of n) (stands_in slots es) ≡ true → is_stuck_at (pid_of n) (in_slot (pid_of m) o (stands_in slots es)) ≡ true
     elsewhere None m other more = more
     elsewhere (Some q) m other more = λ i. ((λ j. (not (other j) || is_stuck q) && is_stuck_at (pid_of n) (stands_in slots es)) ∙ more) i
-
-    or_true : (b : Bool) → ((b || true) && true) ≡ true
-    or_true true = refl
-    or_true false = refl
 
     by_test : (b : Bool) → eqb e.1 key ≡ b → is_stuck_at (pid_of n) (stands_in slots es) ≡ true → is_stuck_at (pid_of n) (stands_in slots (e ∷ es)) ≡ true
     by_test true is more = here (get slots e.1) e.0 (ap (get slots) (eqb-true e.1 key is) ∙ there) more
@@ -517,15 +524,15 @@ all_stuck slots (e ∷ es) kept = in_front (get slots e.1) (λ p is. (kept.0).st
 
 find_any : (t : ℕ → Bool) (n : ℕ) (xs : List ℕ) → find t xs ≡ Some n → list_any (at_key n) xs ≡ true
 find_any t n [] found = cc
-find_any t n (x ∷ xs) found = by_test (t x) found
+find_any t n (x ∷ xs) found = by_test (t x) found (λ found. find_any t n xs found)
   where
     or_true : (b : Bool) → (b || true) ≡ true
     or_true true = refl
     or_true false = refl
 
-    by_test : (b : Bool) → cond b (Some x) (find t xs) ≡ Some n → (at_key n x || list_any (at_key n) xs) ≡ true
-    by_test true found = ap (λ b. b || list_any (at_key n) xs) (at_key_is n x ∙ eq-eqb x n (some_same x n found))
-    by_test false found = ap (λ b. at_key n x || b) (find_any t n xs found) ∙ or_true (at_key n x)
+    by_test : (b : Bool) → cond b (Some x) (find t xs) ≡ Some n → (find t xs ≡ Some n → list_any (at_key n) xs ≡ true) → (at_key n x || list_any (at_key n) xs) ≡ true
+    by_test true found more = ap (λ b. b || list_any (at_key n) xs) (at_key_is n x ∙ eq-eqb x n (some_same x n found))
+    by_test false found more = ap (λ b. at_key n x || b) (more found) ∙ or_true (at_key n x)
 
 first_any : (n : ℕ) (xs : List ℕ) → first_of xs ≡ Some n → list_any (at_key n) xs ≡ true
 first_any n [] first = cc
@@ -582,3 +589,95 @@ pub one_steps : (slots : Slab Process) (before : List (Pid × ℕ)) (e : ℕ × 
 one_steps slots before e p es there steps =
     ap (λ o. rests_with before (in_slot (pid_of e.0) o (stands_in slots es))) there
     ∙ (λ i. cond (not (steps i) && are_stuck (stands_in slots es)) (Some (before ++ (pid_of e.0, (p.small).steps) ∷ steps_in (stands_in slots es))) None)
+
+-- ---- one process of those that are kept
+
+filled_at : (slots : Slab Process) (ready : List ℕ) (n key : ℕ) (es : List (ℕ × ℕ)) → lookup (at_key n) es ≡ Some key → AllByRecursion (IsSlot slots ready) es → IsSome (get slots key)
+filled_at slots ready n key [] found kept = cc
+filled_at slots ready n key (e ∷ es) found kept = by_test (at_key n e.0) found (λ found. filled_at slots ready n key es found kept.1)
+  where
+    by_test : (b : Bool) → cond b (Some e.1) (lookup (at_key n) es) ≡ Some key → (lookup (at_key n) es ≡ Some key → IsSome (get slots key)) → IsSome (get slots key)
+    by_test true found more = ap (λ k. is_some (get slots k)) (sym (some_same e.1 key found)) ∙ (kept.0).filled
+    by_test false found more = more found
+
+pub never_empty : (slots : Slab Process) (n key : ℕ) (keys : List (ℕ × ℕ)) (ready : List ℕ) → IsKept slots keys ready → lookup (at_key n) keys ≡ Some key → get slots key ≡ None → ⊥
+never_empty slots n key keys ready k found none = none_not_some (get slots key) none (filled_at slots ready n key keys found k.each)
+
+-- a slot that is written as it was
+pub written_back : (slots new : Slab Process) (key : ℕ) (was now : Process) (es : List (ℕ × ℕ)) → get slots key ≡ Some was → Updates slots new key (Some now) → now ≡ was → stands_in new es ≡ stands_in slots es
+written_back slots new key was now [] there updates same = refl
+written_back slots new key was now (e ∷ es) there updates same =
+    let more : stands_in new es ≡ stands_in slots es = written_back slots new key was now es there updates same in
+    let here : get new e.1 ≡ get slots e.1 = by_test (eqb e.1 key) refl in
+    λ i. in_slot (pid_of e.0) (here i) (more i)
+  where
+    by_test : (b : Bool) → eqb e.1 key ≡ b → get new e.1 ≡ get slots e.1
+    by_test true is =
+        let at : e.1 ≡ key = eqb-true e.1 key is in
+        ap (get new) at ∙ updates.changed ∙ ap Some same ∙ sym there ∙ ap (get slots) (sym at)
+    by_test false is = updates.others e.1 (λ same. true≢false (sym (eq-eqb e.1 key same) ∙ is))
+
+-- a process had its turn
+pub given_turn : (k : ClusterNo) (slots new : Slab Process) (n key : ℕ) (keys : List (ℕ × ℕ)) (ready : List ℕ) (was now : Process) (old : List (Pid × Process)) (r : Result Turn NoMemory)
+    → IsKept slots keys ready → lookup (at_key n) keys ≡ Some key → get slots key ≡ Some was → Updates slots new key (Some now) → stands_in slots keys ≡ old → ProcessTurn k (pid_of n) was r now → GivenTurnIs k (pid_of n) old r (stands_in new keys)
+given_turn k slots new n key keys ready was now old (Ok Moved) kept found there updates same turn =
+    subst (λ old. TakesTurn k old Moved (stands_in new keys)) same
+    (record {
+      pid = pid_of n;
+      was = was;
+      now = now;
+      there = process_there slots n key was keys found there;
+      turn_is = turn;
+      here = written slots new n key was now (λ e. (pid_of n, now)) keys (one_key n key keys kept.ordered kept.apart found) there updates refl;
+    })
+given_turn k slots new n key keys ready was now old (Ok (Posted post)) kept found there updates same turn =
+    subst (λ old. TakesTurn k old (Posted post) (stands_in new keys)) same
+    (record {
+      pid = pid_of n;
+      was = was;
+      now = now;
+      there = process_there slots n key was keys found there;
+      turn_is = turn;
+      here = written slots new n key was now (λ e. (pid_of n, now)) keys (one_key n key keys kept.ordered kept.apart found) there updates refl;
+    })
+given_turn k slots new n key keys ready was now old (Ok Rests) kept found there updates same turn =
+    (ap (is_stuck_at (pid_of n)) (sym same) ∙ stuck_there slots n key was keys (one_key n key keys kept.ordered kept.apart found) there turn.0, written_back slots new key was now keys there updates turn.1 ∙ same)
+given_turn k slots new n key keys ready was now old (Err fault) kept found there updates same turn = written_back slots new key was now keys there updates turn ∙ same
+
+less_load : (slots new : Slab Process) (n key : ℕ) (keys : List (ℕ × ℕ)) (ready : List ℕ) (was now : Process) (old : List (Pid × Process)) → IsKept slots keys ready → lookup (at_key n) keys ≡ Some key → get slots key ≡ Some was → Updates slots new key (Some now)
+    → stands_in slots keys ≡ old → weight now.small + 1 ≤ weight was.small → load_in (stands_in new keys) + 1 ≤ load_in old
+less_load slots new n key keys ready was now old kept found there updates same lighter =
+    omega (arith, lighter, ap load_in same, load_written slots new n key was now keys found kept.apart there updates)
+
+pub given_lighter : (slots new : Slab Process) (n key : ℕ) (keys : List (ℕ × ℕ)) (ready : List ℕ) (was now : Process) (old : List (Pid × Process)) (r : Result Turn NoMemory)
+    → IsKept slots keys ready → lookup (at_key n) keys ≡ Some key → get slots key ≡ Some was → Updates slots new key (Some now) → stands_in slots keys ≡ old → IfOk r (λ turn. LighterProcess turn was now) → IfOk r (λ turn. LighterTurn turn old (stands_in new keys))
+given_lighter slots new n key keys ready was now old (Ok Moved) kept found there updates same lighter = less_load slots new n key keys ready was now old kept found there updates same lighter
+given_lighter slots new n key keys ready was now old (Ok (Posted post)) kept found there updates same lighter = less_load slots new n key keys ready was now old kept found there updates same lighter
+given_lighter slots new n key keys ready was now old (Ok Rests) kept found there updates same lighter = tt
+given_lighter slots new n key keys ready was now old (Err fault) kept found there updates same lighter = tt
+
+-- a process goes with its entry
+pub goes : (slots new : Slab Process) (n key : ℕ) (keys : List (ℕ × ℕ)) (ready : List ℕ) → IsKept slots keys ready → lookup (at_key n) keys ≡ Some key → Updates slots new key None
+    → stands_in new (remove_entry (at_key n) keys) ≡ filter (λ (e : Pid × Process). not (same_pid e.0 (pid_of n))) (stands_in slots keys)
+goes slots new n key keys ready kept found updates = entry_goes new (at_key n) key keys found updates.changed ∙ taken_out slots new n key keys (one_key n key keys kept.ordered kept.apart found) updates
+
+-- ---- the first of those above
+
+first_filtered : (t u : ℕ → Bool) → ((n : ℕ) → t n ≡ u n) → (xs : List ℕ) → first_of (filter t xs) ≡ find u xs
+first_filtered t u same [] = refl
+first_filtered t u same (x ∷ xs) = by_test (t x) (u x) (same x) (first_filtered t u same xs)
+  where
+    by_test : (b c : Bool) → b ≡ c → first_of (filter t xs) ≡ find u xs → first_of (cond b (x ∷ filter t xs) (filter t xs)) ≡ cond c (Some x) (find u xs)
+    by_test true true is more = refl
+    by_test true false is more = absurd (true≢false is)
+    by_test false true is more = absurd (false≢true is)
+    by_test false false is more = more
+
+pub next_above : (t : ℕ → Bool) (ready : List ℕ) (last n : ℕ) → ((m : ℕ) → t m ≡ ltb last m) → first_of (filter t ready) ≡ Some n → Some n ≡ next_ready ready last
+next_above t ready last n same first = sym (ap (λ o. option_or o (first_of ready)) (sym (first_filtered t (λ m. ltb last m) same ready) ∙ first))
+
+pub next_around : (t : ℕ → Bool) (ready : List ℕ) (last : ℕ) → ((m : ℕ) → t m ≡ ltb last m) → first_of (filter t ready) ≡ None → first_of ready ≡ next_ready ready last
+next_around t ready last same first = sym (ap (λ o. option_or o (first_of ready)) (sym (first_filtered t (λ m. ltb last m) same ready) ∙ first))
+
+pub none_next : (slots : Slab Process) (keys : List (ℕ × ℕ)) (ready : List ℕ) (last : ℕ) → IsKept slots keys ready → next_ready ready last ≡ None → are_stuck (stands_in slots keys) ≡ true
+none_next slots keys ready last kept none = all_stuck slots keys (subst (λ ready. AllByRecursion (IsSlot slots ready) keys) (none_ready ready last none) kept.each)
