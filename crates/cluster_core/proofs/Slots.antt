@@ -1,9 +1,12 @@
 -- The processes of a cluster in their slots: what a write, a removal and one more make of them.
 use Rattle.std.proofs.Common.{◌≡◌, ◌≢◌, ℕ, ◌+◌, ◌≤◌, ◌<◌, Bool, true, false, cond, not, ◌||◌, ◌&&◌, eqb, ltb, eqb-true, eq-eqb, ne_eqb, List, [], ◌∷◌, ◌++◌, map, find, length, refl, sym, ap, subst, ◌∙◌, arith, Option, Some, None, IsSome, is_some, option_map, true≢false, append_assoc}
-use Rattle.std.specs.Prelude.{filter, Result, Ok, Err, IfOk}
+use Rattle.std.specs.Prelude.{filter, Result, Ok, Err, IfOk, OnOk, OnErr, slice_get, slice_index_or, IfSome}
+use Rattle.std.specs.Borrow.{Bor}
+use Rattle.std.specs.BTreeMap.Range.{range_contains}
+use Rattle.std.specs.declared.ops.Bound.TheVariants.{Excluded, Unbounded}
 use Rattle.std.specs.List.{list_any, list_all, sum_by, AllByRecursion}
 use Rattle.std.specs.List.Sorted.{IsStrictlySortedBy}
-use Rattle.std.specs.Option.{option_or}
+use Rattle.std.specs.Option.{option_or, option_copied}
 use Rattle.std.specs.Set.{remove_key}
 use Rattle.std.specs.Ordering.{nat_cmp, is_eq}
 use Rattle.std.specs.declared.cmp.Ordering.{Ordering}
@@ -16,7 +19,12 @@ use Rattle.std.proofs.lemmas.Bool.{false≢true}
 use Rattle.slab.specs.Slab.{Slab, get, Updates}
 use Rattle.t32_base.specs.declared.process.Pid.{Pid}
 use Rattle.proc_state.specs.declared.process.Process.{Process}
-use Rattle.proc_state.specs.State.{state_of}
+use Rattle.proc_state.specs.State.{state_of, delivered, SameRest}
+use Rattle.t32_base.specs.declared.letter.Letter.{Letter}
+use Rattle.t32_base.specs.declared.letter.To.{To}
+use Rattle.t32_base.specs.declared.letter.To.TheVariants.{Tty}
+use Rattle.cert_sched.specs.Deeds.{is_end_of}
+use Rattle.cluster_core.specs.View.{arrived}
 use Rattle.sys_calls.specs.Small.{weight}
 use Rattle.sys_calls.specs.Next.{next_step, has_step}
 use Rattle.bus_msg.specs.Places.{same_pid}
@@ -681,3 +689,69 @@ next_around t ready last same first = sym (ap (λ o. option_or o (first_of ready
 
 pub none_next : (slots : Slab Process) (keys : List (ℕ × ℕ)) (ready : List ℕ) (last : ℕ) → IsKept slots keys ready → next_ready ready last ≡ None → are_stuck (stands_in slots keys) ≡ true
 none_next slots keys ready last kept none = all_stuck slots keys (subst (λ ready. AllByRecursion (IsSlot slots ready) keys) (none_ready ready last none) kept.each)
+
+in_range : (last m : ℕ) → range_contains nat_cmp (Excluded last) Unbounded m ≡ ltb last m
+in_range last m = grind (arith, nat_tests)
+
+pub above_in : (ready range more : List ℕ) (last n : ℕ) → range ≡ filter (range_contains nat_cmp (Excluded last) Unbounded) ready → range ≡ n ∷ more → Some n ≡ next_ready ready last
+above_in ready range more last n between first = next_above (range_contains nat_cmp (Excluded last) Unbounded) ready last n (in_range last) (ap first_of (sym between ∙ first))
+
+pub around_in : (ready range : List ℕ) (last : ℕ) → range ≡ filter (range_contains nat_cmp (Excluded last) Unbounded) ready → range ≡ [] → first_of ready ≡ next_ready ready last
+around_in ready range last between none = next_around (range_contains nat_cmp (Excluded last) Unbounded) ready last (in_range last) (ap first_of (sym between ∙ none))
+
+-- the first of a set
+pub first_is : (r : Option (Bor ℕ)) (xs : List ℕ) → IfSome r (λ k. slice_get xs 0 ≡ Some k.now) → (0 < length xs → IsSome r) → option_copied r ≡ first_of xs
+first_is None [] first there = refl
+first_is None (x ∷ xs) first there = absurd (false≢true (there (omega arith)))
+first_is (Some k) [] first there = cc
+first_is (Some k) (x ∷ xs) first there = sym first
+
+-- ---- a letter
+
+flipped : (n m : ℕ) → eqb m n ≡ eqb n m
+flipped n m = grind (arith, nat_tests)
+
+pub arrival : (slots new : Slab Process) (n key : ℕ) (was now : Process) (letter : Letter) (keys : List (ℕ × ℕ)) (ready : List ℕ) (old : List (Pid × Process)) → IsKept slots keys ready → lookup (at_key n) keys ≡ Some key → get slots key ≡ Some was → Updates slots new key (Some now)
+    → stands_in slots keys ≡ old → now ≡ arrived was letter → stands_in new keys ≡ map (λ (e : Pid × Process). cond (same_pid (pid_of n) e.0) (e.0, arrived e.1 letter) e) old
+arrival slots new n key was now letter keys ready old kept found there updates same is =
+    written slots new n key was now (λ e. (e.0, arrived e.1 letter)) keys (one_key n key keys kept.ordered kept.apart found) there updates (ap (λ p. (pid_of n, p)) (sym is))
+    ∙ (λ i. map (λ (e : Pid × Process). cond (flipped n (e.0).0 i) (e.0, arrived e.1 letter) e) (same i))
+
+pub no_arrival : (slots : Slab Process) (n : ℕ) (letter : Letter) (keys : List (ℕ × ℕ)) (old : List (Pid × Process)) → lookup (at_key n) keys ≡ None → stands_in slots keys ≡ old → old ≡ map (λ (e : Pid × Process). cond (same_pid (pid_of n) e.0) (e.0, arrived e.1 letter) e) old
+no_arrival slots n letter keys old none same =
+    sym same ∙ sym (nobody_changed slots n (λ e. (e.0, arrived e.1 letter)) keys (no_entry n keys none)) ∙ (λ i. map (λ (e : Pid × Process). cond (flipped n (e.0).0 i) (e.0, arrived e.1 letter) e) (same i))
+
+pub arrived_is : (was now : Process) (letter : Letter) → state_of now ≡ delivered (state_of was) letter → SameRest was now → now ≡ arrived was letter
+arrived_is was now letter is rest = λ i. record { small = (is i).small; ram = rest.ram i; mail = record { letters = (is i).mail; next = (is i).next }; read = rest.read i; since = rest.since i }
+
+pub on_ok : {P Q : Type 0} → (r : Result (Unit {0}) NoMemory) → (P → Q) → OnOk r P → OnOk r Q
+on_ok (Ok done) f h = f h
+on_ok (Err fault) f h = tt
+
+pub on_err : {P Q : Type 0} → (r : Result (Unit {0}) NoMemory) → (P → Q) → OnErr r P → OnErr r Q
+on_err (Ok done) f h = tt
+on_err (Err fault) f h = f h
+
+all_same : {X : Type 0} → (xs : List X) → map (λ (x : X). x) xs ≡ xs
+all_same [] = refl
+all_same (x ∷ xs) = ap (λ rest. x ∷ rest) (all_same xs)
+
+pub no_end_of : (letter : Letter) (to : To) (tty : ℕ) (here : List (Pid × Process)) → to ≡ Tty tty → map (λ (e : Pid × Process). cond (is_end_of e.0 to) (e.0, arrived e.1 letter) e) here ≡ here
+no_end_of letter to tty here is = (λ i. map (λ (e : Pid × Process). cond (is_end_of e.0 (is i)) (e.0, arrived e.1 letter) e) here) ∙ all_same here
+
+-- ---- one more is ready, or there is more room
+
+adds : (b c d : Bool) → d ≡ cond b true c → c ≡ true → d ≡ true
+adds true c d is h = is
+adds false c d is h = is ∙ h
+
+pub ready_put : (slots : Slab Process) (keys : List (ℕ × ℕ)) (n : ℕ) (ready more : List ℕ) → ((q : ℕ) → list_any (at_key q) more ≡ cond (at_key n q) true (list_any (at_key q) ready)) → IsKept slots keys ready → IsKept slots keys more
+ready_put slots keys n ready more puts kept = ready_more slots keys ready more (λ q h. adds (at_key n q) (list_any (at_key q) ready) (list_any (at_key q) more) (puts q) h) kept
+
+pub more_room : (slots new : Slab Process) (keys : List (ℕ × ℕ)) (ready : List ℕ) → new.slots ≡ slots.slots → IsKept slots keys ready → IsKept new keys ready
+more_room slots new keys ready same kept = record { ordered = kept.ordered; apart = kept.apart; each = all_more (IsSlot slots ready) (IsSlot new ready) each keys kept.each }
+  where
+    each : (e : ℕ × ℕ) → IsSlot slots ready e → IsSlot new ready e
+    each e s =
+        let at : get new e.1 ≡ get slots e.1 = ap (λ l. slice_index_or l e.1 None) same in
+        record { filled = ap is_some at ∙ s.filled; stepping = λ p there steps. s.stepping p (sym at ∙ there) steps }

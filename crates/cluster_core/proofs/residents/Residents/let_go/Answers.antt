@@ -33,4 +33,7 @@ returns-in-Some c =
     elim c.match-try_remove.branch [ in-Some-1 w ↦ ap (λ (v : ResidentsView). v.here) w.self-is ∙ after | in-None-1 w ↦ ap (λ (v : ResidentsView). v.here) w.self-is ∙ after ]
 
 pub returns-in_default : goal.returns-in_default
-returns-in_default c = let x = c.in_default.ensures.unchanged in let y = c.in_default.is in let z = c.in_default.not-Some in ?
+returns-in_default c =
+    ap (stands_in c.self.inside.processes) c.in_default.ensures.unchanged
+    ∙ sym (nobody_goes c.self.inside.processes (c.args.pid).0 c.self.inside.keys.entries (no_entry (c.args.pid).0 c.self.inside.keys.entries (sym c.in_default.ensures.value)))
+    ∙ ap (λ (v : ResidentsView). filter (λ e. not (same_pid e.0 c.args.pid)) v.here) c.self.view_is
