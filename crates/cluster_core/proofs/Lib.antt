@@ -1,6 +1,7 @@
 pub mod Telling
 pub mod Quanta
 pub mod Here
+pub mod Slots
 pub mod Homes
 pub mod Booted
 pub mod Following

@@ -1,8 +1,9 @@
 -- What a cluster tells where nothing in it can move.
-use Rattle.std.proofs.Common.{◌≡◌, ℕ, refl, sym, ◌∙◌, ap, subst, arith, Result, Ok, Err, List, [], ◌∷◌, map, Bool, true, false, cond, ◌&&◌, ◌||◌, eqb, eqb-true, Option, Some, None, true≢false}
+use Rattle.std.proofs.Common.{◌≡◌, ℕ, refl, sym, ◌∙◌, ap, subst, arith, Result, Ok, Err, List, [], ◌∷◌, map, Bool, true, false, cond, ◌&&◌, ◌||◌, eqb, eqb-true, ltb, Option, Some, None, true≢false}
 use Rattle.std.specs.Prelude.{IfOk, IfSome, filter, find, is_some, is_none, nat_le, option_map}
 use Rattle.std.specs.List.{list_any, list_all}
 use Rattle.std.proofs.lemmas.Bool.{le-leb}
+use Rattle.std.proofs.lemmas.Bool.Decides.{nat_tests}
 use Rattle.std.specs.Option.{option_map_or}
 use Rattle.std.proofs.lemmas.Bool.{and_parts, and_from}
 use Rattle.t32_base.specs.declared.process.Pid.{Pid}
@@ -14,7 +15,7 @@ use Rattle.bus_msg.specs.declared.entry.Entry.{Entry}
 use Rattle.bus_msg.specs.declared.placed.Placed.{Placed}
 use Rattle.bus_msg.specs.Places.{Places}
 use Rattle.bus_msg.specs.NewBackup.{next_backup, backup_by_mode}
-use Rattle.cert_sched.specs.Parts.{rising}
+use Rattle.cert_sched.specs.Parts.{rising, put_rising}
 use Rattle.cert_sched.specs.Schedule.{placed_root, placement, done_after}
 use Rattle.cert_sched.specs.Steps.{silent_upto}
 use Rattle.cert_sched.specs.Rests.{is_idle, is_idle_at}
@@ -26,7 +27,7 @@ use Rattle.cluster_core.specs.View.{ClusterView}
 use Rattle.bus_msg.specs.Places.{same_pid}
 use Rattle.cert_sched.proofs.RisingLaws.{NoTwo}
 use Rattle.cluster_core.proofs.Here.{is_among, pids_held, pids_same, same_itself}
-use Rattle.cluster_core.specs.Residents.{process_in, pids_in, steps_in, are_stuck}
+use Rattle.cluster_core.specs.Residents.{process_in, are_rising, pids_in, steps_in, are_stuck}
 use Rattle.cluster_core.specs.Parts.{held_in, AllOwn}
 use Rattle.cluster_core.specs.Calls.{RestsIn, are_at_rest, is_resting, rests_in, rests_of}
 use Rattle.cluster_core.proofs.Owning.{stuck_rest}
@@ -66,6 +67,33 @@ idle_at system log p s silent idle =
     let enough : nat_le (done_after system log p) (s.small).steps ≡ true = le-leb (done_after system log p) (s.small).steps (omega (arith, a.done, a.counts)) in
     (λ i. (enough i && is_some (silent i)) && option_map_or is_idle (silent i) false) ∙ idle
 
+-- ---- numbers that rise
+
+in_front : (n : ℕ) (ns : List ℕ) → list_all (λ m. ltb n m) ns ≡ true → put_rising n ns ≡ n ∷ ns
+in_front n [] below = refl
+in_front n (m ∷ ns) below = ap (λ b. cond b (n ∷ m ∷ ns) (m ∷ put_rising n ns)) (and_parts (ltb n m) (list_all (λ m. ltb n m) ns) below).0
+
+-- they are in their order
+rises : (ns : List ℕ) → are_rising ns ≡ true → rising ns ≡ ns
+rises [] h = refl
+rises (n ∷ ns) h = let parts = and_parts (list_all (λ m. ltb n m) ns) (are_rising ns) h in ap (put_rising n) (rises ns parts.1) ∙ in_front n ns parts.0
+
+none_equal : (n : ℕ) (ns : List ℕ) → list_all (λ m. ltb n m) ns ≡ true → list_any (λ m. eqb m n) ns ≡ false
+none_equal n [] below = refl
+none_equal n (m ∷ ns) below =
+    let parts = and_parts (ltb n m) (list_all (λ m. ltb n m) ns) below in
+    ap (λ b. b || list_any (λ m. eqb m n) ns) (other n m parts.0) ∙ none_equal n ns parts.1
+  where
+    other : (n m : ℕ) → ltb n m ≡ true → eqb m n ≡ false
+    other n m less = grind (arith, nat_tests)
+
+-- none stands twice
+apart : (ns : List ℕ) → are_rising ns ≡ true → NoTwo ns
+apart [] h = tt
+apart (n ∷ ns) h = let parts = and_parts (list_all (λ m. ltb n m) ns) (are_rising ns) h in (none_equal n ns parts.0, apart ns parts.1)
+
+-- ---- what is told
+
 -- what is told of the processes is what is told of what is held
 same_rests : (rs : List (Pid × Process)) → steps_in rs ≡ rests_in (held_in rs)
 same_rests [] = refl
@@ -86,10 +114,10 @@ each_idle c log (e ∷ rs) there two rest =
     beside p s at false is = ap (λ b. option_map (λ (e : Pid × Process). e.1) (cond b (Some e) (find (λ (q : Pid × Process). same_pid q.0 p) rs))) is ∙ at
 
 -- the processes that a cluster tells rest in each log that it follows
-pub rests_told : (c : ClusterView) (rs : List (Pid × Process)) → c.here ≡ held_in rs → rising (pids_in rs) ≡ pids_in rs → NoTwo (pids_in rs) → are_at_rest (held_in rs) ≡ true → RestsIn c (steps_in rs)
-rests_told c rs here ordered two at_rest empty log now f = record {
-  named = same_pids rs ∙ sym ordered ∙ ap rising (sym (pids_same rs)) ∙ ap (λ hs. rising (pids_held hs)) (sym here) ∙ f.each_once;
-  idle = ap (list_all (is_idle_at c.system log)) (same_rests rs) ∙ each_idle c log rs (λ p s there. held_before c log rs p s here empty f there) two at_rest;
+pub rests_told : (c : ClusterView) (rs : List (Pid × Process)) → c.here ≡ held_in rs → are_rising (pids_in rs) ≡ true → are_at_rest (held_in rs) ≡ true → RestsIn c (steps_in rs)
+rests_told c rs here ordered at_rest empty log now f = record {
+  named = same_pids rs ∙ sym (rises (pids_in rs) ordered) ∙ ap rising (sym (pids_same rs)) ∙ ap (λ hs. rising (pids_held hs)) (sym here) ∙ f.each_once;
+  idle = ap (list_all (is_idle_at c.system log)) (same_rests rs) ∙ each_idle c log rs (λ p s there. held_before c log rs p s here empty f there) (apart (pids_in rs) ordered) at_rest;
   backed = backed c.system log _ now.0;
 }
   where
@@ -98,13 +126,13 @@ rests_told c rs here ordered two at_rest empty log now f = record {
     same_pids (e ∷ rs) = ap (λ ns. (e.0).0 ∷ ns) (same_pids rs)
 
 -- what a call answers that tells them
-pub told_rests : {E : Type 0} (c : ClusterView) (rs : List (Pid × Process)) (result : Result (Option (List (Pid × ℕ))) E) → AllOwn c.cursor rs → c.here ≡ held_in rs → rising (pids_in rs) ≡ pids_in rs → NoTwo (pids_in rs)
+pub told_rests : {E : Type 0} (c : ClusterView) (rs : List (Pid × Process)) (result : Result (Option (List (Pid × ℕ))) E) → AllOwn c.cursor rs → c.here ≡ held_in rs → are_rising (pids_in rs) ≡ true
     → IfOk result (λ rests. rests ≡ cond (are_stuck rs) (Some (steps_in rs)) None) → IfOk result (λ rests. IfSome rests (RestsIn c))
-told_rests c rs (Err e) own here ordered two told = tt
-told_rests c rs (Ok o) own here ordered two told = by_test (are_stuck rs) refl told
+told_rests c rs (Err e) own here ordered told = tt
+told_rests c rs (Ok o) own here ordered told = by_test (are_stuck rs) refl told
   where
     by_test : (b : Bool) → are_stuck rs ≡ b → o ≡ cond b (Some (steps_in rs)) None → IfSome o (RestsIn c)
-    by_test true stuck is = let P : Option (List (Pid × ℕ)) → Type 0 = λ o. IfSome o (RestsIn c) in subst P (sym is) (rests_told c rs here ordered two (stuck_rest c.cursor rs own ∙ stuck))
+    by_test true stuck is = let P : Option (List (Pid × ℕ)) → Type 0 = λ o. IfSome o (RestsIn c) in subst P (sym is) (rests_told c rs here ordered (stuck_rest c.cursor rs own ∙ stuck))
     by_test false stuck is = let P : Option (List (Pid × ℕ)) → Type 0 = λ o. IfSome o (RestsIn c) in subst P (sym is) tt
 
 -- it answers so of the cluster

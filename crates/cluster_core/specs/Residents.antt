@@ -1,5 +1,5 @@
 -- The processes at home in a cluster, as its code keeps them.
-use Rattle.std.specs.Prelude.{ℕ, ◌≡◌, ◌<◌, ◌-◌, ◌^◌, Bool, not, ◌==◌, nat_lt, if◌then◌else◌, List, map, filter, find, Option, Some, option_map}
+use Rattle.std.specs.Prelude.{ℕ, ◌≡◌, ◌<◌, ◌-◌, ◌^◌, Bool, true, not, ◌&&◌, ◌==◌, nat_lt, if◌then◌else◌, List, [], ◌∷◌, map, filter, find, Option, Some, option_map}
 use Rattle.std.specs.List.{list_any, list_all, sum_by}
 use Rattle.std.specs.Option.{option_or}
 use Rattle.t32_base.specs.declared.process.Pid.{Pid}
@@ -48,6 +48,11 @@ are_stuck here = list_all (λ (e : Pid × Process). is_stuck e.1) here
 
 abbrev pub pids_in : List (Pid × Process) → List ℕ
 pids_in here = map (λ (e : Pid × Process). (e.0).0) here
+
+-- each number is below those after it
+abbrev pub are_rising : List ℕ → Bool
+are_rising [] = true
+are_rising (n ∷ ns) = list_all (λ m. nat_lt n m) ns && are_rising ns
 
 -- each with its steps
 abbrev pub steps_in : List (Pid × Process) → List (Pid × ℕ)

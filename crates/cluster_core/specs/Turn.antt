@@ -1,5 +1,6 @@
 -- A turn of one of the processes of a cluster.
-use Rattle.std.specs.Prelude.{ℕ, ◌+◌, ◌≤◌, ◌≡◌, true, false, List, Some, Result, Ok, Err, ⊤}
+use Rattle.std.specs.Prelude.{ℕ, ◌+◌, ◌≤◌, ◌≡◌, Bool, true, false, not, ◌||◌, List, Some, Result, Ok, Err, ⊤}
+use Rattle.std.specs.List.{list_all}
 use Rattle.t32_base.specs.declared.process.Pid.{Pid}
 use Rattle.t32_base.specs.declared.process.ClusterNo.{ClusterNo}
 use Rattle.t32_base.specs.declared.streams.NoMemory.{NoMemory}
@@ -12,11 +13,12 @@ use Rattle.bus_msg.specs.declared.entry.What.{What}
 use Rattle.bus_msg.specs.declared.entry.What.TheVariants.{Mail, Exit}
 use Rattle.bus_msg.specs.declared.entry.By.TheVariants.{Cluster}
 use Rattle.bus_msg.specs.declared.entry.Post.{Post}
+use Rattle.bus_msg.specs.Places.{same_pid}
 use Rattle.proc_state.specs.declared.process.Process.{Process}
 use Rattle.cluster_core.specs.declared.turn.Turn.{Turn}
 use Rattle.cluster_core.specs.declared.turn.Turn.TheVariants.{Moved, Posted, Rests}
 use Rattle.cluster_core.specs.Quantum.{RunsSome, RunsAndSends}
-use Rattle.cluster_core.specs.Residents.{process_in, with_changed, are_stuck, load_in}
+use Rattle.cluster_core.specs.Residents.{process_in, with_changed, is_stuck, are_stuck, load_in}
 
 -- what is posted of an emission by the step `at`
 abbrev pub told_of : Pid → ℕ → Emission → What
@@ -68,3 +70,16 @@ abbrev pub LighterTurn : Turn → List (Pid × Process) → List (Pid × Process
 LighterTurn Moved old new = load_in new + 1 ≤ load_in old
 LighterTurn (Posted post) old new = load_in new + 1 ≤ load_in old
 LighterTurn Rests old new = ⊤
+
+-- ---- the process with a pid
+
+-- the process with a pid has no step, if it is there
+abbrev pub is_stuck_at : Pid → List (Pid × Process) → Bool
+is_stuck_at pid here = list_all (λ (e : Pid × Process). not (same_pid e.0 pid) || is_stuck e.1) here
+
+-- the process with a pid moved or posted something, or has no step; after want of memory nothing has changed
+abbrev pub GivenTurnIs : ClusterNo → Pid → List (Pid × Process) → Result Turn NoMemory → List (Pid × Process) → Type 0
+GivenTurnIs k pid old (Ok Moved) new = TakesTurn k old Moved new
+GivenTurnIs k pid old (Ok (Posted post)) new = TakesTurn k old (Posted post) new
+GivenTurnIs k pid old (Ok Rests) new = (is_stuck_at pid old ≡ true) × (new ≡ old)
+GivenTurnIs k pid old (Err fault) new = new ≡ old

@@ -1,10 +1,11 @@
 //! The processes at home in a cluster.
-ghost use Rattle.std.specs.Prelude.{◌≡◌, ◌++◌, ◌∷◌, [], IfOk, OnOk, OnErr, Some, None, IsSome, nat_lt, true, if◌then◌else◌};
-ghost use Rattle.std.specs.List.{list_all};
-ghost use Rattle.cert_sched.specs.Parts.{rising};
-ghost use Rattle.cert_sched.proofs.RisingLaws.{NoTwo};
-ghost use Rattle.cluster_core.specs.Residents.{HasRoom, are_stuck, next_ready, pids_in, process_in, residents_after, steps_in, with_changed};
-ghost use Rattle.cluster_core.specs.Turn.{LighterTurn, TurnIs};
+ghost use Rattle.std.specs.Prelude.{◌≡◌, ◌+◌, ◌++◌, ◌∷◌, [], IfOk, OnOk, OnErr, Some, None, nat_lt, true, length, filter, map, not, if◌then◌else◌};
+ghost use Rattle.std.specs.List.{list_all, list_any};
+ghost use Rattle.bus_msg.specs.Places.{same_pid};
+ghost use Rattle.plain_kernel.specs.Maps.{at_key, pid_of};
+ghost use Rattle.cluster_core.specs.Residents.{HasRoom, are_rising, are_stuck, next_ready, pids_in, residents_after, steps_in};
+ghost use Rattle.cluster_core.specs.Turn.{GivenTurnIs, is_stuck_at, LighterTurn, TurnIs};
+ghost use Rattle.cluster_core.specs.View.{arrived};
 
 use crate::turn::{Turn, process_turn, steps_of};
 use bus_msg::entry::What;
@@ -60,9 +61,9 @@ impl Residents {
         requires { list_all (λ e. nat_lt e.0.0 pid.0) self.old.here ≡ true }
         ensures { OnOk result (self.new.here ≡ self.old.here ++ (pid, process) ∷ []) }
     {
+        self.ready.insert(pid.0)?;
         let key = self.processes.insert(process)?;
         self.keys.insert(pid.0, key)?;
-        self.ready.insert(pid.0)?;
         Ok(())
     }
 
@@ -86,7 +87,8 @@ impl Residents {
 
     // The next of those that may have a step. Takes no memory.
     fn next(&self) -> Option<u32>
-        ensures { result ≡ next_ready self.now.ready self.now.last }
+        ensures next { result ≡ next_ready self.now.ready self.now.last }
+        ensures stuck { result ≡ None → are_stuck self.now.here ≡ true }
     {
         let above = (Bound::Excluded(self.last), Bound::Unbounded);
         match self.ready.range(above).next() {
@@ -95,25 +97,36 @@ impl Residents {
         }
     }
 
-    // Lets the process with a pid run for a quantum.
+    // Lets the process with a pid run for a quantum, if it is here.
     fn give_turn(&mut self, alloc: Global, number: ClusterNo, pid: u32) -> Result<Turn, NoMemory>
+        requires { list_any (at_key pid) self.old.ready ≡ true }
+        ensures turn { GivenTurnIs number (pid_of pid) self.old.here result self.new.here }
+        ensures lighter { IfOk result (λ turn. LighterTurn turn self.old.here self.new.here) }
+        ensures ready { self.new.ready ≡ self.old.ready }
     {
         match self.keys.get(&pid) {
             Some(key) => match self.processes.get_mut(*key) {
                 Some(process) => process_turn(alloc, number, Pid(pid), process),
                 None => unreachable!(),
             },
-            None => unreachable!(),
+            None => Ok(Turn::Rests),
         }
     }
 
     // A process that has no step is not asked again before a letter comes to it.
     fn rest(&mut self, pid: u32)
+        requires stuck { is_stuck_at (pid_of pid) self.old.here ≡ true }
+        requires there { list_any (at_key pid) self.old.ready ≡ true }
+        ensures here { self.new.here ≡ self.old.here }
+        ensures fewer { length self.new.ready + 1 ≡ length self.old.ready }
     {
         self.ready.remove(&pid);
     }
 
+    // The process with a pid was chosen.
     fn choose(&mut self, pid: u32)
+        ensures here { self.new.here ≡ self.old.here }
+        ensures last { self.new.last ≡ pid }
     {
         self.last = pid;
     }
@@ -140,6 +153,9 @@ impl Residents {
 
     // A letter arrives at the process with a pid, if it is here.
     fn deliver(&mut self, pid: Pid, letter: &Letter) -> Result<(), NoMemory>
+        requires { HasRoom self.old.here }
+        ensures ok { OnOk result (self.new.here ≡ map (λ e. if same_pid pid e.0 then (e.0, arrived e.1 letter.now) else e) self.old.here) }
+        ensures err { OnErr result (self.new.here ≡ self.old.here) }
     {
         match self.keys.get(&pid.0) {
             Some(key) => {
@@ -155,6 +171,7 @@ impl Residents {
 
     // Lets the process with a pid go, if it is here. Takes no memory.
     fn let_go(&mut self, pid: Pid)
+        ensures { self.new.here ≡ filter (λ e. not (same_pid e.0 pid)) self.old.here }
     {
         if let Some(key) = self.keys.remove(&pid.0) {
             self.ready.remove(&pid.0);
@@ -165,8 +182,7 @@ impl Residents {
     /// Each process with its steps, by rising pid: None exactly where one of them has a step.
     pub fn rests(&self, alloc: Global) -> Result<Option<List<(Pid, u64)>>, NoMemory>
         ensures rests { IfOk result (λ rests. rests ≡ (if are_stuck self.now.here then Some (steps_in self.now.here) else None)) }
-        ensures rising { rising (pids_in self.now.here) ≡ pids_in self.now.here }
-        ensures apart { NoTwo (pids_in self.now.here) }
+        ensures ordered { are_rising (pids_in self.now.here) ≡ true }
     {
         let mut rests = List::new(alloc);
         for (pid, key) in &self.keys {

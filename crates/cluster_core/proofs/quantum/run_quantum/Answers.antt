@@ -44,3 +44,10 @@ returns-in-Ok-Over-clause-runs c =
     let same = rw c.in-Ok-Over.field-0-is at c.in-Ok-Over.ensures.touches in
     subst (λ q. RunsQuantum 64 c.args.p.now (Ok q) c.step.new.p) (sym c.moved_or_stuck-in-Ok-Over.ensures)
     (none_left c.steps.made c.args.p.now c.steps.p c.step.new.p c.steps.invariant.silent c.steps.invariant.few c.steps.invariant.unmoved (ap has_step over.0) same)
+
+pub returns-in-Ok-Blocked-clause-runs : goal.returns-in-Ok-Blocked-clause-runs
+returns-in-Ok-Blocked-clause-runs c =
+    let blocked = rw c.in-Ok-Blocked.field-0-is at c.in-Ok-Blocked.ensures.makes in
+    let same = rw c.in-Ok-Blocked.field-0-is at c.in-Ok-Blocked.ensures.touches in
+    subst (λ q. RunsQuantum 64 c.args.p.now (Ok q) c.step.new.p) (sym c.moved_or_stuck.ensures)
+    (none_left c.steps.made c.args.p.now c.steps.p c.step.new.p c.steps.invariant.silent c.steps.invariant.few c.steps.invariant.unmoved (ap has_step blocked.0) same)

@@ -16,4 +16,4 @@ pub returns-clause-idle : goal.returns-clause-idle
 returns-clause-idle c =
     let rs : List (Pid × Process) = c.self.inside.here.here in
     let own = subst (λ n. AllOwn n rs) (ap (λ (v : ClusterView). v.cursor) c.self.view_is) c.self.invariant.residents in
-    told_rests c.args.self.now rs c.rests.result own (ap (λ (v : ClusterView). v.here) (sym c.self.view_is)) c.rests.ensures.rising c.rests.ensures.apart c.rests.ensures.rests
+    told_rests c.args.self.now rs c.rests.result own (ap (λ (v : ClusterView). v.here) (sym c.self.view_is)) c.rests.ensures.ordered c.rests.ensures.rests

@@ -1,0 +1,43 @@
+use Rattle.std.proofs.Common.{◌≡◌, ◌++◌, ◌∷◌, [], ◌∙◌, ap, sym, subst, is_some, map, ltb, ℕ, List, Some}
+use Rattle.std.specs.List.{list_all}
+use Rattle.std.specs.List.Sorted.{IsStrictlySortedBy}
+use Rattle.std.specs.Ordering.{nat_cmp}
+use Rattle.slab.specs.Slab.{Slab}
+use Rattle.proc_state.specs.declared.process.Process.{Process}
+use Rattle.cluster_core.specs.Residents.{ResidentsView}
+use Rattle.cluster_core.specs.Slots.{stands_in, IsKept}
+use Rattle.cluster_core.proofs.Slots.{all_below, put_last, kept_added, kept_beside, more_room, one_more, others_stand, ready_put, unnamed}
+use Rattle.cluster_core.proofs.residents.Residents.add.Goals as goal
+
+pub invariant_of-self-in_err-key : goal.invariant_of-self-in_err-key
+invariant_of-self-in_err-key c =
+    more_room c.self.inside.processes c.insert-2.new.self c.self.inside.keys.entries c.insert.new.self.keys (ap (λ (s : Slab Process). s.slots) c.in_err-key.ensures.err)
+    (ready_put c.self.inside.processes c.self.inside.keys.entries (c.args.pid).0 c.self.inside.ready.keys c.insert.new.self.keys c.in_ok-insert.ensures.updates.0 c.self.invariant)
+
+pub invariant_of-self-in_err-insert-2 : goal.invariant_of-self-in_err-insert-2
+invariant_of-self-in_err-insert-2 c =
+    subst (λ (es : List (ℕ × ℕ)). IsKept c.insert-2.new.self es c.insert.new.self.keys) (sym c.in_err-insert-2.ensures.err)
+    (kept_beside c.self.inside.processes c.insert-2.new.self c.in_ok-key.key (Some c.args.process) c.self.inside.keys.entries c.insert.new.self.keys c.in_ok-key.ensures.was_vacant c.in_ok-key.ensures.updates
+    (ready_put c.self.inside.processes c.self.inside.keys.entries (c.args.pid).0 c.self.inside.ready.keys c.insert.new.self.keys c.in_ok-insert.ensures.updates.0 c.self.invariant))
+
+pub invariant_of-self-2 : goal.invariant_of-self-2
+invariant_of-self-2 c =
+    let below = all_below c.self.inside.processes c.self.inside.ready.keys (c.args.pid).0 c.self.inside.keys.entries c.self.invariant.each (ap (λ (v : ResidentsView). list_all (λ e. ltb (e.0).0 (c.args.pid).0) v.here) c.self.view_is ∙ c.requires) in
+    let entries = c.in_ok-insert-2.ensures.entries ∙ put_last (c.args.pid).0 c.in_ok-key.key c.self.inside.keys.entries below in
+    subst (λ (es : List (ℕ × ℕ)). IsKept c.insert-2.new.self es c.insert.new.self.keys) (sym entries)
+    (kept_added c.insert-2.new.self (c.args.pid).0 c.in_ok-key.key c.self.inside.keys.entries c.insert.new.self.keys (ap is_some c.in_ok-key.ensures.updates.changed)
+    (unnamed c.self.inside.processes c.self.inside.ready.keys c.in_ok-key.key c.self.inside.keys.entries c.self.invariant.each c.in_ok-key.ensures.was_vacant)
+    c.in_ok-insert.ensures.updates.1
+    (subst (λ (es : List (ℕ × ℕ)). IsStrictlySortedBy nat_cmp (map (λ (e : ℕ × ℕ). e.0) es)) entries c.insert-3.ensures.ordered)
+    (kept_beside c.self.inside.processes c.insert-2.new.self c.in_ok-key.key (Some c.args.process) c.self.inside.keys.entries c.insert.new.self.keys c.in_ok-key.ensures.was_vacant c.in_ok-key.ensures.updates
+    (ready_put c.self.inside.processes c.self.inside.keys.entries (c.args.pid).0 c.self.inside.ready.keys c.insert.new.self.keys c.in_ok-insert.ensures.updates.0 c.self.invariant)))
+
+pub returns : goal.returns
+returns c =
+    let below = all_below c.self.inside.processes c.self.inside.ready.keys (c.args.pid).0 c.self.inside.keys.entries c.self.invariant.each (ap (λ (v : ResidentsView). list_all (λ e. ltb (e.0).0 (c.args.pid).0) v.here) c.self.view_is ∙ c.requires) in
+    ap (stands_in c.insert-2.new.self) (c.in_ok-insert-2.ensures.entries ∙ put_last (c.args.pid).0 c.in_ok-key.key c.self.inside.keys.entries below)
+    ∙ one_more c.insert-2.new.self (c.args.pid).0 c.in_ok-key.key c.args.process c.self.inside.keys.entries c.in_ok-key.ensures.updates.changed
+    ∙ ap (λ l. l ++ (c.args.pid, c.args.process) ∷ [])
+    (others_stand c.self.inside.processes c.insert-2.new.self c.in_ok-key.key (Some c.args.process) c.self.inside.keys.entries c.in_ok-key.ensures.updates
+    (unnamed c.self.inside.processes c.self.inside.ready.keys c.in_ok-key.key c.self.inside.keys.entries c.self.invariant.each c.in_ok-key.ensures.was_vacant)
+    ∙ ap (λ (v : ResidentsView). v.here) c.self.view_is)

@@ -1,0 +1,34 @@
+use Rattle.std.proofs.Common.{◌∙◌, ap, sym, is_some, refl}
+use Rattle.std.specs.List.{list_any}
+use Rattle.slab.specs.Slab.{with_value}
+use Rattle.slab.proofs.SlabLemmas.{Updates-with_value}
+use Rattle.plain_kernel.specs.Maps.{at_key, pid_of}
+use Rattle.cluster_core.specs.Residents.{ResidentsView}
+use Rattle.cluster_core.specs.Turn.{is_stuck_at}
+use Rattle.cluster_core.proofs.Slots.{never_empty, kept_written, given_turn, given_lighter, nobody_stuck, no_entry}
+use Rattle.cluster_core.proofs.residents.Residents.give_turn.Goals as goal
+
+pub unreachable-requires : goal.unreachable-requires
+unreachable-requires c = never_empty c.self.inside.processes c.args.pid c.in-Some.key.now c.self.inside.keys.entries c.self.inside.ready.keys c.self.invariant (sym c.in-Some.ensures.value) (sym c.in-None-get_mut.ensures.value)
+
+pub invariant_of-self : goal.invariant_of-self
+invariant_of-self c =
+    kept_written c.self.inside.processes (with_value c.self.inside.processes c.in-Some.key.now c.process_turn.new.process) c.args.pid c.in-Some.key.now c.process_turn.new.process c.self.inside.keys.entries c.self.inside.ready.keys
+    (ap (λ (v : ResidentsView). list_any (at_key c.args.pid) v.ready) c.self.view_is ∙ c.requires) (sym c.in-Some.ensures.value)
+    (Updates-with_value c.self.inside.processes c.in-Some.key.now c.process_turn.new.process (ap is_some (sym c.in-Some-get_mut.ensures.value))) c.self.invariant
+
+pub returns-in-Some-get_mut-clause-turn : goal.returns-in-Some-get_mut-clause-turn
+returns-in-Some-get_mut-clause-turn c =
+    given_turn c.args.number c.self.inside.processes (with_value c.self.inside.processes c.in-Some.key.now c.process_turn.new.process) c.args.pid c.in-Some.key.now c.self.inside.keys.entries c.self.inside.ready.keys
+    c.in-Some-get_mut.process.now c.process_turn.new.process c.args.self.now.here c.process_turn.result c.self.invariant (sym c.in-Some.ensures.value) (sym c.in-Some-get_mut.ensures.value)
+    (Updates-with_value c.self.inside.processes c.in-Some.key.now c.process_turn.new.process (ap is_some (sym c.in-Some-get_mut.ensures.value))) (ap (λ (v : ResidentsView). v.here) c.self.view_is) c.process_turn.ensures.turn
+
+pub returns-in-Some-get_mut-clause-lighter : goal.returns-in-Some-get_mut-clause-lighter
+returns-in-Some-get_mut-clause-lighter c =
+    given_lighter c.self.inside.processes (with_value c.self.inside.processes c.in-Some.key.now c.process_turn.new.process) c.args.pid c.in-Some.key.now c.self.inside.keys.entries c.self.inside.ready.keys
+    c.in-Some-get_mut.process.now c.process_turn.new.process c.args.self.now.here c.process_turn.result c.self.invariant (sym c.in-Some.ensures.value) (sym c.in-Some-get_mut.ensures.value)
+    (Updates-with_value c.self.inside.processes c.in-Some.key.now c.process_turn.new.process (ap is_some (sym c.in-Some-get_mut.ensures.value))) (ap (λ (v : ResidentsView). v.here) c.self.view_is) c.process_turn.ensures.lighter
+
+pub returns-in-None-clause-turn : goal.returns-in-None-clause-turn
+returns-in-None-clause-turn c =
+    (ap (λ (v : ResidentsView). is_stuck_at (pid_of c.args.pid) v.here) (sym c.self.view_is) ∙ nobody_stuck c.self.inside.processes c.args.pid c.self.inside.keys.entries (no_entry c.args.pid c.self.inside.keys.entries (sym c.in-None.ensures.value)), refl)

@@ -1,0 +1,23 @@
+use Rattle.std.proofs.Common.{◌∙◌, ap, sym}
+use Rattle.cluster_core.specs.Residents.{ResidentsView, are_stuck, next_ready}
+use Rattle.cluster_core.proofs.Slots.{above_in, around_in, first_is, none_next}
+use Rattle.cluster_core.proofs.residents.Residents.next.Goals as goal
+
+pub returns-in-Some-clause-next : goal.returns-in-Some-clause-next
+returns-in-Some-clause-next c =
+    above_in c.self.inside.ready.keys c.range.result c.next.new.self c.self.inside.last c.in-Some.pid.now (c.range.ensures.between tt) c.in-Some.ensures.steps
+    ∙ ap (λ (v : ResidentsView). next_ready v.ready v.last) c.self.view_is
+
+pub returns-in-None-clause-next : goal.returns-in-None-clause-next
+returns-in-None-clause-next c =
+    c.copied.ensures ∙ first_is c.first.result c.self.inside.ready.keys c.first.ensures.first c.first.ensures.variant.1
+    ∙ around_in c.self.inside.ready.keys c.range.result c.self.inside.last (c.range.ensures.between tt) c.in-None.ensures.steps.0
+    ∙ ap (λ (v : ResidentsView). next_ready v.ready v.last) c.self.view_is
+
+pub returns-in-None-clause-stuck : goal.returns-in-None-clause-stuck
+returns-in-None-clause-stuck c = λ none.
+    let next =
+      c.copied.ensures ∙ first_is c.first.result c.self.inside.ready.keys c.first.ensures.first c.first.ensures.variant.1
+      ∙ around_in c.self.inside.ready.keys c.range.result c.self.inside.last (c.range.ensures.between tt) c.in-None.ensures.steps.0
+    in
+    ap (λ (v : ResidentsView). are_stuck v.here) (sym c.self.view_is) ∙ none_next c.self.inside.processes c.self.inside.keys.entries c.self.inside.ready.keys c.self.inside.last c.self.invariant (sym next ∙ none)
