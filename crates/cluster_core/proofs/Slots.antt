@@ -1,16 +1,14 @@
 -- The processes of a cluster in their slots: what a write, a removal and one more make of them.
 use Rattle.std.proofs.Common.{◌≡◌, ◌≢◌, ℕ, ◌+◌, ◌≤◌, ◌<◌, Bool, true, false, cond, not, ◌||◌, ◌&&◌, eqb, ltb, eqb-true, eq-eqb, ne_eqb, List, [], ◌∷◌, ◌++◌, map, find, length, refl, sym, ap, subst, ◌∙◌, arith, Option, Some, None, IsSome, is_some, option_map, true≢false, append_assoc}
-use Rattle.std.specs.Prelude.{filter, Result, Ok, Err, IfOk, OnOk, OnErr, slice_get, slice_index_or, IfSome}
+use Rattle.std.specs.Prelude.{filter, Result, Ok, Err, IfOk, OnOk, slice_get, slice_index_or, IfSome}
 use Rattle.std.specs.Borrow.{Bor}
 use Rattle.std.specs.BTreeMap.Range.{range_contains}
 use Rattle.std.specs.declared.ops.Bound.TheVariants.{Excluded, Unbounded}
-use Rattle.std.specs.List.{list_any, list_all, sum_by, AllByRecursion}
+use Rattle.std.specs.List.{list_any, list_all, AllByRecursion}
 use Rattle.std.specs.List.Sorted.{IsStrictlySortedBy}
 use Rattle.std.specs.Option.{option_or, option_copied}
-use Rattle.std.specs.Set.{remove_key}
-use Rattle.std.specs.Ordering.{nat_cmp, is_eq}
-use Rattle.std.specs.declared.cmp.Ordering.{Ordering}
-use Rattle.std.specs.declared.cmp.Ordering.TheVariants.{Less, Equal, Greater}
+use Rattle.std.specs.Ordering.{nat_cmp}
+use Rattle.std.specs.declared.cmp.Ordering.TheVariants.{Less, Greater}
 use Rattle.std.specs.Map.{lookup, remove_entry}
 use Rattle.std.specs.BTreeMap.{insert_entry}
 use Rattle.std.proofs.lemmas.List.Sums.{sum_by-cons}
@@ -32,7 +30,7 @@ use Rattle.plain_kernel.specs.Maps.{at_key, pid_of}
 use Rattle.plain_kernel.proofs.Entries.{some_same}
 use Rattle.cert_sched.specs.Parts.{first_of}
 use Rattle.cert_sched.proofs.RisingLaws.{NoTwo}
-use Rattle.cluster_core.specs.Residents.{process_in, with_changed, is_stuck, are_rising, are_stuck, pids_in, steps_in, load_in, next_ready}
+use Rattle.cluster_core.specs.Residents.{process_in, is_stuck, are_rising, are_stuck, pids_in, steps_in, load_in, next_ready}
 use Rattle.cluster_core.specs.Slots.{in_slot, stands_in, IsSlot, IsKept}
 use Rattle.t32_base.specs.declared.process.ClusterNo.{ClusterNo}
 use Rattle.t32_base.specs.declared.streams.NoMemory.{NoMemory}
@@ -723,10 +721,6 @@ arrived_is was now letter is rest = λ i. record { small = (is i).small; ram = r
 pub on_ok : {P Q : Type 0} → (r : Result (Unit {0}) NoMemory) → (P → Q) → OnOk r P → OnOk r Q
 on_ok (Ok done) f h = f h
 on_ok (Err fault) f h = tt
-
-pub on_err : {P Q : Type 0} → (r : Result (Unit {0}) NoMemory) → (P → Q) → OnErr r P → OnErr r Q
-on_err (Ok done) f h = tt
-on_err (Err fault) f h = f h
 
 all_same : {X : Type 0} → (xs : List X) → map (λ (x : X). x) xs ≡ xs
 all_same [] = refl

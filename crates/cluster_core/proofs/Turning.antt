@@ -1,5 +1,5 @@
 -- What a turn of its processes makes of a cluster.
-use Rattle.std.proofs.Common.{◌≡◌, ◌+◌, ◌<◌, ◌≤◌, refl, sym, ◌∙◌, ap, subst, arith, List, [], ◌∷◌, true, false, Ok}
+use Rattle.std.proofs.Common.{◌≡◌, ℕ, ◌+◌, ◌<◌, ◌≤◌, refl, sym, ◌∙◌, ap, subst, arith, List, [], ◌∷◌, true, false, Ok}
 use Rattle.t32_base.specs.declared.process.Pid.{Pid}
 use Rattle.proc_state.specs.declared.process.Process.{Process}
 use Rattle.bus_msg.specs.declared.entry.What.{What}
@@ -8,6 +8,8 @@ use Rattle.bus_msg.specs.declared.entry.Post.{Post}
 use Rattle.channel_table.specs.Changes.{is_birth, pids_differ}
 use Rattle.cert_sched.specs.Built.{is_built}
 use Rattle.cert_sched.specs.Losses.{is_from}
+use Rattle.t32_base.specs.declared.process.ClusterNo.{ClusterNo}
+use Rattle.cluster_core.specs.declared.turn.Turn.{Turn}
 use Rattle.cluster_core.specs.declared.turn.Turn.TheVariants.{Moved as TurnMoved, Posted, Rests as TurnRests}
 use Rattle.cluster_core.specs.declared.worked.Worked.TheVariants.{Moved, Queued, Rests}
 use Rattle.cluster_core.specs.View.{ClusterView, next_count, counted_once, load}
@@ -34,24 +36,30 @@ built_no_birth (Rebackup to fresh recs) h = refl
 built_no_birth (Done rests) h = refl
 built_no_birth Stop h = refl
 
+-- after a turn each process is its own
+pub own_turned : (cursor : ℕ) (k : ClusterNo) (old new : List (Pid × Process)) (turn : Turn) → AllOwn cursor old → TurnIs k old (Ok turn) new → AllOwn cursor new
+own_turned cursor k old new TurnMoved own turn =
+    subst (AllOwn cursor) (sym turn.here) (own_changed cursor turn.pid turn.now old own (own_moved cursor turn.pid turn.was turn.now (own_at cursor old turn.pid turn.was own turn.there) turn.turn_is))
+own_turned cursor k old new (Posted post) own turn =
+    subst (AllOwn cursor) (sym turn.here)
+    (own_changed cursor turn.pid turn.now old own (own_sent cursor turn.pid turn.was turn.now (turn.turn_is).emission (own_at cursor old turn.pid turn.was own turn.there) (turn.turn_is).runs))
+own_turned cursor k old new TurnRests own turn = subst (AllOwn cursor) (sym turn.1) own
+
 -- what holds of a turn in which one moved
 pub record MovedTurn (c : ClusterView) (new : List (Pid × Process)) : Type 0 where
   pub goes_on : GoesOn c (moved_view c new)
   pub work : WorkIs c Moved (moved_view c new)
-  pub residents : AllOwn c.cursor new
 
-pub moved_turn : (c : ClusterView) (old new : List (Pid × Process)) → c.here ≡ held_in old → c.queue ≡ [] → AllOwn c.cursor old → TurnIs c.number old (Ok TurnMoved) new → MovedTurn c new
-moved_turn c old new here empty own turn = subst (MovedTurn c) (sym turn.here) (record {
+pub moved_turn : (c : ClusterView) (old new : List (Pid × Process)) → c.here ≡ held_in old → c.queue ≡ [] → TurnIs c.number old (Ok TurnMoved) new → MovedTurn c new
+moved_turn c old new here empty turn = subst (MovedTurn c) (sym turn.here) (record {
   goes_on = moved_goes_on c old turn.pid turn.was turn.now here empty turn.there turn.turn_is;
   work = moved_work c old turn.pid turn.was turn.now here turn.there turn.turn_is;
-  residents = own_changed c.cursor turn.pid turn.now old own (own_moved c.cursor turn.pid turn.was turn.now (own_at c.cursor old turn.pid turn.was own turn.there) turn.turn_is);
 })
 
 -- what holds of a turn in which one posted something
 pub record PostedTurn (c : ClusterView) (new : List (Pid × Process)) (post : Post) : Type 0 where
   pub goes_on : GoesOn c (posted_view c new post)
   pub work : WorkIs c Queued (posted_view c new post)
-  pub residents : AllOwn c.cursor new
   pub own : is_from c.number post.by ≡ true
   pub built : is_built post.what ≡ true
 
@@ -63,7 +71,6 @@ posted_turn c old new post here empty own differ has turn =
     subst (λ rs. PostedTurn c rs post) (sym turn.here) (record {
       goes_on = posted_goes_on c old turn.pid turn.was turn.now post posts.emission posts.runs posts.post_is here empty turn.there mine differ has;
       work = posted_work c old turn.pid turn.was turn.now post posts.emission posts.runs posts.post_is here empty turn.there mine;
-      residents = own_changed c.cursor turn.pid turn.now old own (own_sent c.cursor turn.pid turn.was turn.now posts.emission mine posts.runs);
       own = posted_own c old turn.pid turn.was turn.now post posts.emission posts.runs posts.post_is here empty turn.there mine;
       built = posted_built c old turn.pid turn.was turn.now post posts.emission posts.runs posts.post_is here empty turn.there mine;
     })

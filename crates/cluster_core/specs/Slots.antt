@@ -1,6 +1,6 @@
 -- The processes of a cluster in their slots: a slab has the processes, and a map has the key of each by its pid.
-use Rattle.std.specs.Prelude.{ℕ, ◌≡◌, true, false, not, Bool, ◌||◌, List, [], ◌∷◌, map, Option, Some, None, IsSome, Result, Ok, Err}
-use Rattle.std.specs.List.{list_any, list_all, AllByRecursion}
+use Rattle.std.specs.Prelude.{ℕ, ◌≡◌, true, List, [], ◌∷◌, map, Option, Some, None, IsSome}
+use Rattle.std.specs.List.{list_any, AllByRecursion}
 use Rattle.std.specs.List.Sorted.{IsStrictlySortedBy}
 use Rattle.std.specs.Ordering.{nat_cmp}
 use Rattle.slab.specs.Slab.{Slab, get}

@@ -1,15 +1,15 @@
-use Rattle.std.proofs.Common.{◌≡◌, ◌<◌, ap, subst, sym, ◌∙◌, List, [], ◌∷◌, true, ◌&&◌, Ok}
+use Rattle.std.proofs.Common.{◌≡◌, ◌+◌, ◌<◌, ◌≤◌, refl, ap, subst, sym, ◌∙◌, List, [], ◌∷◌, true, ◌&&◌, Ok}
 use Rattle.channel_table.specs.Changes.{pids_differ}
 use Rattle.cert_sched.specs.Losses.{is_from}
 use Rattle.t32_base.specs.declared.process.Pid.{Pid}
 use Rattle.proc_state.specs.declared.process.Process.{Process}
 use Rattle.cluster_core.specs.declared.turn.Turn.TheVariants.{Moved as TurnMoved, Posted, Rests as TurnRests}
 use Rattle.cluster_core.specs.declared.worked.Worked.TheVariants.{Moved, Queued, Rests}
-use Rattle.cluster_core.specs.View.{ClusterView, next_count, counted_once}
+use Rattle.cluster_core.specs.View.{ClusterView, next_count, counted_once, load}
 use Rattle.cluster_core.specs.Calls.{GoesOn, Lightens, WorkIs}
 use Rattle.cluster_core.specs.Parts.{AllOwn}
 use Rattle.cluster_core.specs.Turn.{TurnIs}
-use Rattle.cluster_core.proofs.Turning.{lighter_view, moved_turn, posted_turn, rested_turn}
+use Rattle.cluster_core.proofs.Turning.{lighter_view, moved_turn, own_turned, posted_turn, rested_turn}
 use Rattle.cluster_core.proofs.Working.{moved_view, posted_view}
 use Rattle.cluster_core.proofs.cluster.Cluster.work.Goals as goal
 
@@ -20,9 +20,8 @@ returns-in-Moved-clause-follows c =
     let new : List (Pid × Process) = c.take_turn.new.self.here in
     let here = ap (λ (v : ClusterView). v.here) (sym c.self.view_is) in
     let turn = subst (λ k. TurnIs k was (Ok TurnMoved) new) (ap (λ (v : ClusterView). v.number) c.self.view_is) (rw c.in-Moved.is at c.in_ok-turn.ensures.turn) in
-    let own = subst (λ n. AllOwn n was) (ap (λ (v : ClusterView). v.cursor) c.self.view_is) c.self.invariant.residents in
     let whole : c.count_step.new.self ≡ moved_view old new = c.count_step.ensures ∙ ap (λ (v : ClusterView). moved_view v new) c.self.view_is in
-    subst (GoesOn old) (sym whole) (moved_turn old was new here c.requires.empty own turn).goes_on
+    subst (GoesOn old) (sym whole) (moved_turn old was new here c.requires.empty turn).goes_on
 
 pub returns-in-Moved-clause-work : goal.returns-in-Moved-clause-work
 returns-in-Moved-clause-work c =
@@ -31,9 +30,8 @@ returns-in-Moved-clause-work c =
     let new : List (Pid × Process) = c.take_turn.new.self.here in
     let here = ap (λ (v : ClusterView). v.here) (sym c.self.view_is) in
     let turn = subst (λ k. TurnIs k was (Ok TurnMoved) new) (ap (λ (v : ClusterView). v.number) c.self.view_is) (rw c.in-Moved.is at c.in_ok-turn.ensures.turn) in
-    let own = subst (λ n. AllOwn n was) (ap (λ (v : ClusterView). v.cursor) c.self.view_is) c.self.invariant.residents in
     let whole : c.count_step.new.self ≡ moved_view old new = c.count_step.ensures ∙ ap (λ (v : ClusterView). moved_view v new) c.self.view_is in
-    subst (WorkIs old Moved) (sym whole) (moved_turn old was new here c.requires.empty own turn).work
+    subst (WorkIs old Moved) (sym whole) (moved_turn old was new here c.requires.empty turn).work
 
 pub returns-in-Moved-clause-lighter : goal.returns-in-Moved-clause-lighter
 returns-in-Moved-clause-lighter c =
@@ -105,5 +103,13 @@ returns-in-Posted-clause-lighter c =
     let here = ap (λ (v : ClusterView). v.here) (sym c.self.view_is) in
     let less = rw c.in-Posted.is at c.in_ok-turn.ensures.lighter in
     let whole = c.self-2.view_is ∙ c.count_step.ensures ∙ ap (λ (v : ClusterView). moved_view v new) c.self.view_is in
-    lighter_view old was new _ here (ap (λ (v : ClusterView). v.here) (ap (λ (v : ClusterView). record v { queue = c.in-Posted.post ∷ [] }) whole)) less
+    subst (λ (v : ClusterView). load v + 1 ≤ load old) (sym (ap (λ (v : ClusterView). record v { queue = c.in-Posted.post ∷ [] }) whole)) (lighter_view old was new (posted_view old new c.in-Posted.post) here refl less)
 
+pub invariant_of-self-2 : goal.invariant_of-self-2
+invariant_of-self-2 c = record {
+  valid = c.self.invariant.valid;
+  has = c.self.invariant.has;
+  residents = own_turned c.self.inside.cursor c.self.inside.number c.self.inside.here.here c.take_turn.new.self.here c.in_ok-turn.turn c.self.invariant.residents c.in_ok-turn.ensures.turn;
+  own = c.self.invariant.own;
+  built = c.self.invariant.built;
+}

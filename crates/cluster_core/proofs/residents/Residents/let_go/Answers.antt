@@ -1,4 +1,4 @@
-use Rattle.std.proofs.Common.{◌≡◌, ◌∙◌, ap, sym, subst, map, not, ℕ}
+use Rattle.std.proofs.Common.{◌∙◌, ap, sym, subst, map, not, ℕ}
 use Rattle.std.specs.Prelude.{filter, List}
 use Rattle.std.specs.List.Sorted.{IsStrictlySortedBy}
 use Rattle.std.specs.Ordering.{nat_cmp}
