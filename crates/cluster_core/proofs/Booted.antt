@@ -1,9 +1,8 @@
 -- What a cluster has at boot is what it holds of the empty log.
-use Rattle.std.proofs.Common.{◌≡◌, ℕ, ◌+◌, ◌*◌, ◌-◌, ◌<◌, Bool, true, false, not, ◌&&◌, ◌||◌, cond, eqb, List, [], ◌∷◌, ◌++◌, length, map, refl, sym, ap, subst, ◌∙◌, arith, Option, Some, None, T, is_some, eqb-true, eq-eqb, true≢false}
-use Rattle.std.specs.Prelude.{◌%◌, filter, find, fold, option_and_then, option_map}
+use Rattle.std.proofs.Common.{◌≡◌, ℕ, ◌+◌, ◌*◌, ◌<◌, Bool, true, false, ◌&&◌, ◌||◌, cond, eqb, List, [], ◌∷◌, ◌++◌, length, map, refl, sym, ap, subst, ◌∙◌, arith, Option, Some, None, T, is_some, eqb-true, eq-eqb, true≢false}
+use Rattle.std.specs.Prelude.{◌%◌, filter, find, fold, option_map}
 use Rattle.std.specs.List.{count_by, list_any}
 use Rattle.std.specs.Map.{lookup}
-use Rattle.std.specs.Option.{option_map_or}
 use Rattle.std.specs.Ordering.{is_eq, is_lt, nat_cmp, eq_by_cmp}
 use Rattle.std.specs.declared.cmp.Ordering.{Ordering}
 use Rattle.std.specs.declared.cmp.Ordering.TheVariants.{Less, Equal, Greater}
@@ -21,9 +20,8 @@ use Rattle.sys_text.proofs.Bounds.{root_tests, system_bounds, tests}
 use Rattle.proc_state.specs.declared.process.Process.{Process}
 use Rattle.proc_state.specs.Mail.{is_signal}
 use Rattle.proc_state.specs.State.{ProcState, linked_to, state_of}
-use Rattle.sys_calls.specs.Next.{silently}
 use Rattle.plain_kernel.specs.Kernel.{Kernel, boot, boot_roots, empty, pid_cmp, process_at, root_process, with_process, with_root}
-use Rattle.plain_kernel.specs.Maps.{at_key, booted_ttys, linked_processes, pid_of}
+use Rattle.plain_kernel.specs.Maps.{at_key, booted_ttys, linked_processes}
 use Rattle.plain_kernel.specs.Maps.{processes_of as states_of}
 use Rattle.plain_kernel.proofs.Entries.{lookup_state, some_same}
 use Rattle.plain_kernel.proofs.Laws.{pid_cmp_total, process_at-with_process}
@@ -33,7 +31,7 @@ use Rattle.bus_msg.specs.declared.placed.Placed.{Placed}
 use Rattle.bus_msg.specs.Places.{same_pid, is_at_home}
 use Rattle.cert_sched.specs.Parts.{put_rising, rising}
 use Rattle.cert_sched.specs.Rests.{home_pids}
-use Rattle.cert_sched.specs.Schedule.{done_after, next_pid, placed_root, places_at_boot, placement, plain_after, process_after}
+use Rattle.cert_sched.specs.Schedule.{next_pid, placed_root, places_at_boot, placement, plain_after}
 use Rattle.cert_sched.specs.Steps.{silent_upto}
 use Rattle.cert_sched.proofs.MailLaws.{boot_arrived}
 use Rattle.cert_sched.proofs.PidLaws.{apart_of, placed_pids}

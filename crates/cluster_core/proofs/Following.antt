@@ -1,5 +1,5 @@
 -- A cluster that takes in the next entry of a log that it follows goes on to follow it.
-use Rattle.std.proofs.Common.{◌≡◌, ℕ, ◌+◌, ◌-◌, ◌≤◌, refl, sym, ◌∙◌, ap, subst, arith, List, [], ◌∷◌, ◌++◌, map, length, length-append, Bool, true, false, cond, not, ◌&&◌, eqb, eqb-true, eq-eqb, zero-add, add-zero, inl, inr, Option, Some, None, slice_get, true≢false}
+use Rattle.std.proofs.Common.{◌≡◌, ℕ, ◌+◌, ◌≤◌, refl, sym, ◌∙◌, ap, subst, arith, List, [], ◌∷◌, ◌++◌, map, length, length-append, Bool, true, false, cond, not, ◌&&◌, eqb, eqb-true, eq-eqb, zero-add, add-zero, inl, inr, Option, Some, None, slice_get, true≢false}
 use Rattle.std.specs.Prelude.{filter, find, ◌≢◌, is_some, option_map, count_by}
 use Rattle.std.specs.List.{list_all, list_any}
 use Rattle.std.specs.Option.{option_map_or}
@@ -44,13 +44,13 @@ use Rattle.cert_sched.proofs.RisingLaws.{rising-same}
 use Rattle.cert_sched.proofs.StepLaws.{Tells, sent_applies}
 use Rattle.cert_sched.proofs.MailLaws.{sent_no_signal, with_arrival}
 use Rattle.cluster_core.specs.View.{ClusterView, Held, Runs, arrived_held, held_at, head_of, after_head, after_sent, next_count}
-use Rattle.cluster_core.specs.Residents.{process_in, residents_after}
+use Rattle.cluster_core.specs.Residents.{residents_after}
 use Rattle.cluster_core.specs.Parts.{held_in, posts_of}
 use Rattle.cluster_core.specs.Queue.{IsQueueLegal, tells_steps, is_move_of, move_of, taken_by, state_by, state_now}
 use Rattle.cluster_core.specs.Holds.{IsHeldAs}
 use Rattle.cluster_core.specs.Follows.{FollowsBuilt, IsOpen, StandsBetween}
 use Rattle.cluster_core.specs.Calls.{IsReady, Absorbs, absorbed, here_after}
-use Rattle.cluster_core.proofs.Here.{arrival_at, arrival_small, arrival_state, held_after, held_here, held_of, is_among, pid_same, pids_held, runs_here, same_itself, was_here}
+use Rattle.cluster_core.proofs.Here.{arrival_at, arrival_small, arrival_state, held_after, held_here, held_of, is_among, pid_same, pids_held, runs_here, was_here}
 use Rattle.cluster_core.proofs.Telling.{Telling, telling, not_done, items_told, sends_still, silent_still, told_now}
 use Rattle.cluster_core.proofs.Owning.{brings_none}
 use Rattle.cluster_core.proofs.Homes.{HomeHere, home_here, pids_home, home_exit, without}

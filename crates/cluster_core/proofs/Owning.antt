@@ -1,14 +1,11 @@
 -- A process that is here keeps its pid, and no signal comes to it.
-use Rattle.std.proofs.Common.{◌≡◌, ◌≢◌, ℕ, ◌+◌, ◌-◌, ◌^◌, ◌<◌, ◌≤◌, ◌∙◌, refl, sym, ap, subst, arith, List, [], ◌∷◌, Bool, true, false, cond, not, ◌&&◌, ◌||◌, eqb, eqb-true, eq-eqb, Option, Some, None, true≢false}
+use Rattle.std.proofs.Common.{◌≡◌, ℕ, ◌+◌, ◌-◌, ◌^◌, ◌<◌, ◌≤◌, ◌∙◌, refl, sym, ap, subst, arith, List, [], ◌∷◌, Bool, true, false, cond, not, ◌&&◌, ◌||◌, eqb-true, Some}
 use Rattle.std.specs.Prelude.{filter, find, option_map}
-use Rattle.std.specs.List.{list_any, list_all}
-use Rattle.std.proofs.lemmas.Bool.{and_parts}
 use Rattle.t32_base.specs.declared.process.Pid.{Pid}
 use Rattle.t32_base.specs.declared.letter.Letter.{Letter}
-use Rattle.t32_base.specs.declared.streams.NoMemory.{NoMemory}
 use Rattle.proc_state.specs.declared.process.Process.{Process}
 use Rattle.proc_state.specs.Mail.{carries_signal}
-use Rattle.proc_state.specs.State.{ProcState, state_of}
+use Rattle.proc_state.specs.State.{state_of}
 use Rattle.sys_calls.specs.declared.steps.Emission.{Emission}
 use Rattle.sys_calls.specs.Next.{next_step, has_step}
 use Rattle.sys_calls.proofs.Counting.{silently_counts, emits_counts}
@@ -18,10 +15,9 @@ use Rattle.bus_msg.specs.declared.entry.What.TheVariants.{Mail, Birth, Exit, Pag
 use Rattle.bus_msg.specs.Places.{same_pid}
 use Rattle.cert_sched.specs.Deeds.{is_end_of}
 use Rattle.cluster_core.specs.View.{arrived}
-use Rattle.cluster_core.specs.Residents.{process_in, residents_after, with_changed, is_stuck, are_stuck, HasRoom}
+use Rattle.cluster_core.specs.Residents.{process_in, residents_after, with_changed, are_stuck, HasRoom}
 use Rattle.cluster_core.specs.Parts.{held_in, IsOwn, AllOwn}
-use Rattle.cluster_core.specs.Calls.{is_at_rest, are_at_rest}
-use Rattle.cluster_core.specs.View.{Runs}
+use Rattle.cluster_core.specs.Calls.{are_at_rest}
 use Rattle.cluster_core.specs.Quantum.{RunsSome, RunsAndSends}
 use Rattle.cluster_core.proofs.Here.{pid_same}
 

@@ -1,5 +1,5 @@
 -- What a turn of its processes makes of a cluster.
-use Rattle.std.proofs.Common.{◌≡◌, ℕ, ◌+◌, ◌<◌, ◌≤◌, refl, sym, ◌∙◌, ap, subst, arith, List, [], ◌∷◌, true, false, Ok}
+use Rattle.std.proofs.Common.{◌≡◌, ℕ, ◌+◌, ◌<◌, ◌≤◌, refl, sym, ◌∙◌, ap, subst, arith, List, [], true, false, Ok}
 use Rattle.t32_base.specs.declared.process.Pid.{Pid}
 use Rattle.proc_state.specs.declared.process.Process.{Process}
 use Rattle.bus_msg.specs.declared.entry.What.{What}
@@ -12,11 +12,11 @@ use Rattle.t32_base.specs.declared.process.ClusterNo.{ClusterNo}
 use Rattle.cluster_core.specs.declared.turn.Turn.{Turn}
 use Rattle.cluster_core.specs.declared.turn.Turn.TheVariants.{Moved as TurnMoved, Posted, Rests as TurnRests}
 use Rattle.cluster_core.specs.declared.worked.Worked.TheVariants.{Moved, Queued, Rests}
-use Rattle.cluster_core.specs.View.{ClusterView, next_count, counted_once, load}
-use Rattle.cluster_core.specs.Residents.{with_changed, load_in}
+use Rattle.cluster_core.specs.View.{ClusterView, counted_once, load}
+use Rattle.cluster_core.specs.Residents.{load_in}
 use Rattle.cluster_core.specs.Parts.{held_in, AllOwn}
 use Rattle.cluster_core.specs.Calls.{GoesOn, WorkIs}
-use Rattle.cluster_core.specs.Turn.{TurnIs, TakesTurn}
+use Rattle.cluster_core.specs.Turn.{TurnIs}
 use Rattle.cluster_core.proofs.Here.{load_same}
 use Rattle.cluster_core.proofs.Owning.{own_at, own_changed, own_moved, own_sent}
 use Rattle.cluster_core.proofs.Working.{moved_view, posted_view, moved_goes_on, moved_work, posted_goes_on, posted_work, posted_built, posted_own, goes_on_rested, rested}

@@ -1,9 +1,8 @@
 -- A cluster that works goes on to follow each log that it followed.
-use Rattle.std.proofs.Common.{◌≡◌, ℕ, zero, suc, ◌+◌, ◌-◌, ◌≤◌, ◌<◌, refl, sym, ◌∙◌, ap, subst, arith, List, [], ◌∷◌, map, length, Bool, true, false, cond, not, ◌&&◌, ◌||◌, eqb, eqb-true, eq-eqb, add-zero, zero-add, Option, Some, None, Ok, slice_get, true≢false}
-use Rattle.std.specs.Prelude.{◌≢◌, option_map, option_and_then, find}
-use Rattle.std.specs.List.{list_any, list_all, range_with_len}
+use Rattle.std.proofs.Common.{◌≡◌, ℕ, zero, suc, ◌+◌, ◌-◌, ◌≤◌, ◌<◌, refl, sym, ◌∙◌, ap, subst, arith, List, [], ◌∷◌, map, length, Bool, true, false, cond, not, ◌&&◌, ◌||◌, eqb-true, eq-eqb, add-zero, zero-add, Option, Some, None, slice_get, true≢false}
+use Rattle.std.specs.Prelude.{option_map, option_and_then, find}
+use Rattle.std.specs.List.{range_with_len}
 use Rattle.std.specs.Option.{option_map_or}
-use Rattle.std.proofs.lemmas.Bool.{and_parts}
 use Rattle.std.proofs.lemmas.Option.{slice_get-map, slice_get-get_or}
 use Rattle.std.proofs.lemmas.List.FromFn.{get_or-range_with_len, length-range_with_len}
 use Rattle.t32_base.specs.declared.process.Pid.{Pid}
@@ -17,7 +16,6 @@ use Rattle.sys_calls.specs.declared.steps.Emission.TheVariants.{Mail as Sent, Ex
 use Rattle.sys_calls.specs.Calls.{Next, Silent, Blocked, Forks, Emits, Over}
 use Rattle.sys_calls.specs.Next.{next_step, has_step, silently, silent_of, emission_of, last_emission}
 use Rattle.sys_calls.proofs.Counting.{silently_counts, emits_counts, letter_is_own}
-use Rattle.bus_msg.specs.declared.entry.What.{What}
 use Rattle.bus_msg.specs.declared.entry.What.TheVariants.{Mail, Exit}
 use Rattle.bus_msg.specs.declared.entry.By.TheVariants.{Cluster}
 use Rattle.bus_msg.specs.declared.entry.Post.{Post}
@@ -34,21 +32,19 @@ use Rattle.cert_sched.specs.Legal.{IsLegalBy}
 use Rattle.cert_sched.specs.Built.{is_built, BuiltMayFollow}
 use Rattle.cert_sched.specs.Losses.{least_steps, capped, is_from}
 use Rattle.cert_sched.specs.Appended.{entry_of}
-use Rattle.cert_sched.specs.Rests.{home_pids}
 use Rattle.cert_sched.proofs.BuiltLaws.{built_births, built_clusters}
 use Rattle.cert_sched.proofs.StepLaws.{Tells, sent_applies}
-use Rattle.cluster_core.specs.declared.turn.Turn.TheVariants.{Moved as TurnMoved, Posted}
 use Rattle.cluster_core.specs.declared.worked.Worked.TheVariants.{Moved, Queued, Rests}
 use Rattle.cluster_core.specs.View.{ClusterView, Held, Runs, held_at, next_count, counted_once, tried_once}
 use Rattle.cluster_core.specs.Residents.{process_in, with_changed, are_stuck}
 use Rattle.cluster_core.specs.Parts.{held_in, IsOwn, AllOwn}
-use Rattle.cluster_core.specs.Queue.{is_move_of, move_of, taken_by, state_by, state_now}
+use Rattle.cluster_core.specs.Queue.{move_of, taken_by, state_by, state_now}
 use Rattle.cluster_core.specs.Holds.{IsHeldAs}
 use Rattle.cluster_core.specs.Follows.{FollowsBuilt, IsOpen}
 use Rattle.cluster_core.specs.Calls.{GoesOn, WorkIs, is_resting, is_at_rest, are_at_rest}
 use Rattle.cluster_core.specs.Quantum.{RunsSome, RunsAndSends}
-use Rattle.cluster_core.specs.Turn.{told_of, post_told, TakesTurn}
-use Rattle.cluster_core.proofs.Here.{found_changed, held_changed, held_here, is_among, pid_same, pids_changed, pids_held, runs_here, same_itself}
+use Rattle.cluster_core.specs.Turn.{told_of, post_told}
+use Rattle.cluster_core.proofs.Here.{found_changed, held_changed, held_here, is_among, pid_same, pids_changed, pids_held, runs_here}
 use Rattle.cluster_core.proofs.Telling.{done_is}
 use Rattle.cluster_core.proofs.Quanta.{none_silent}
 use Rattle.cluster_core.proofs.Owning.{stuck_rest}

@@ -7,7 +7,7 @@ use Rattle.cert_sched.specs.Built.{BuiltMayFollow}
 use Rattle.cert_sched.proofs.LogLaws.{IsLegal-last}
 use Rattle.cluster_core.specs.View.{ClusterView, next_count}
 use Rattle.cluster_core.specs.Residents.{residents_after}
-use Rattle.cluster_core.specs.Parts.{held_in, posts_of, AllOwn}
+use Rattle.cluster_core.specs.Parts.{held_in, AllOwn}
 use Rattle.cluster_core.specs.Calls.{Absorbs, absorbed, here_after}
 use Rattle.cluster_core.proofs.Here.{held_after}
 use Rattle.cluster_core.proofs.Owning.{has_room, own_after}

@@ -1,4 +1,4 @@
-use Rattle.std.proofs.Common.{◌≡◌, sym, ap, subst, List}
+use Rattle.std.proofs.Common.{sym, ap, subst, List}
 use Rattle.t32_base.specs.declared.process.Pid.{Pid}
 use Rattle.proc_state.specs.declared.process.Process.{Process}
 use Rattle.cluster_core.specs.View.{ClusterView}

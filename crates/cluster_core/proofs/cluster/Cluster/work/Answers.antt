@@ -1,12 +1,11 @@
-use Rattle.std.proofs.Common.{◌≡◌, ◌+◌, ◌<◌, ◌≤◌, refl, ap, subst, sym, ◌∙◌, List, [], ◌∷◌, true, ◌&&◌, Ok}
+use Rattle.std.proofs.Common.{◌≡◌, ◌+◌, ◌<◌, ◌≤◌, refl, ap, subst, sym, ◌∙◌, List, [], ◌∷◌, Ok}
 use Rattle.channel_table.specs.Changes.{pids_differ}
-use Rattle.cert_sched.specs.Losses.{is_from}
 use Rattle.t32_base.specs.declared.process.Pid.{Pid}
 use Rattle.proc_state.specs.declared.process.Process.{Process}
 use Rattle.cluster_core.specs.declared.turn.Turn.TheVariants.{Moved as TurnMoved, Posted, Rests as TurnRests}
 use Rattle.cluster_core.specs.declared.worked.Worked.TheVariants.{Moved, Queued, Rests}
 use Rattle.cluster_core.specs.View.{ClusterView, next_count, counted_once, load}
-use Rattle.cluster_core.specs.Calls.{GoesOn, Lightens, WorkIs}
+use Rattle.cluster_core.specs.Calls.{GoesOn, WorkIs}
 use Rattle.cluster_core.specs.Parts.{AllOwn}
 use Rattle.cluster_core.specs.Turn.{TurnIs}
 use Rattle.cluster_core.proofs.Turning.{lighter_view, moved_turn, own_turned, posted_turn, rested_turn}
