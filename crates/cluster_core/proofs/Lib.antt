@@ -2,6 +2,7 @@ pub mod Telling
 pub mod Quanta
 pub mod Here
 pub mod Slots
+pub mod Kept
 pub mod Homes
 pub mod Booted
 pub mod Following

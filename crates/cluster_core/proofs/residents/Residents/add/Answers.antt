@@ -6,7 +6,8 @@ use Rattle.slab.specs.Slab.{Slab}
 use Rattle.proc_state.specs.declared.process.Process.{Process}
 use Rattle.cluster_core.specs.Residents.{ResidentsView}
 use Rattle.cluster_core.specs.Slots.{stands_in, IsKept}
-use Rattle.cluster_core.proofs.Slots.{all_below, put_last, kept_added, kept_beside, more_room, one_more, others_stand, ready_put, unnamed}
+use Rattle.cluster_core.proofs.Slots.{one_more, others_stand}
+use Rattle.cluster_core.proofs.Kept.{all_below, put_last, kept_added, kept_beside, more_room, ready_put, unnamed}
 use Rattle.cluster_core.proofs.residents.Residents.add.Goals as goal
 
 pub invariant_of-self-in_err-key : goal.invariant_of-self-in_err-key

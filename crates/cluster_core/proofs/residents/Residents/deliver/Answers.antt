@@ -4,7 +4,8 @@ use Rattle.slab.proofs.SlabLemmas.{Updates-with_value}
 use Rattle.t32_base.specs.declared.letter.Letter.{Letter}
 use Rattle.cluster_core.specs.Residents.{ResidentsView, process_in}
 use Rattle.cluster_core.specs.View.{arrived}
-use Rattle.cluster_core.proofs.Slots.{arrival, arrived_is, kept_written, never_empty, no_arrival, on_ok, process_there, ready_put}
+use Rattle.cluster_core.proofs.Slots.{process_there}
+use Rattle.cluster_core.proofs.Kept.{arrival, arrived_is, kept_written, never_empty, no_arrival, on_ok, ready_put}
 use Rattle.cluster_core.proofs.residents.Residents.deliver.Goals as goal
 
 pub invariant_of-self-in_err-copy-in-Some-get_mut : goal.invariant_of-self-in_err-copy-in-Some-get_mut

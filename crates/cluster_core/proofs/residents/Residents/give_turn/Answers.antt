@@ -5,7 +5,8 @@ use Rattle.slab.proofs.SlabLemmas.{Updates-with_value}
 use Rattle.plain_kernel.specs.Maps.{at_key, pid_of}
 use Rattle.cluster_core.specs.Residents.{ResidentsView}
 use Rattle.cluster_core.specs.Turn.{is_stuck_at}
-use Rattle.cluster_core.proofs.Slots.{never_empty, kept_written, given_turn, given_lighter, nobody_stuck, no_entry}
+use Rattle.cluster_core.proofs.Slots.{nobody_stuck, no_entry}
+use Rattle.cluster_core.proofs.Kept.{never_empty, kept_written, given_turn, given_lighter}
 use Rattle.cluster_core.proofs.residents.Residents.give_turn.Goals as goal
 
 pub unreachable-requires : goal.unreachable-requires

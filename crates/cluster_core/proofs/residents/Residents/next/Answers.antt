@@ -1,6 +1,6 @@
 use Rattle.std.proofs.Common.{◌∙◌, ap, sym}
 use Rattle.cluster_core.specs.Residents.{ResidentsView, are_stuck, next_ready}
-use Rattle.cluster_core.proofs.Slots.{above_in, around_in, first_is, none_next}
+use Rattle.cluster_core.proofs.Kept.{above_in, around_in, first_is, none_next}
 use Rattle.cluster_core.proofs.residents.Residents.next.Goals as goal
 
 pub returns-in-Some-clause-next : goal.returns-in-Some-clause-next

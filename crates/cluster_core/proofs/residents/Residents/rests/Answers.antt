@@ -1,6 +1,6 @@
 use Rattle.std.proofs.Common.{◌≡◌, subst, true}
 use Rattle.cluster_core.specs.Residents.{ResidentsView, are_rising, pids_in}
-use Rattle.cluster_core.proofs.Slots.{rising_here}
+use Rattle.cluster_core.proofs.Kept.{rising_here}
 use Rattle.cluster_core.proofs.residents.Residents.rests.Goals as goal
 
 pub returns-then-can_step-clause-ordered : goal.returns-then-can_step-clause-ordered

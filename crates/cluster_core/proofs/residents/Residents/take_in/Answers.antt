@@ -1,7 +1,7 @@
 use Rattle.std.proofs.Common.{◌∙◌, ap, sym}
 use Rattle.bus_msg.specs.declared.entry.What.{What}
 use Rattle.cluster_core.specs.Residents.{residents_after}
-use Rattle.cluster_core.proofs.Slots.{no_end_of}
+use Rattle.cluster_core.proofs.Kept.{no_end_of}
 use Rattle.cluster_core.proofs.residents.Residents.take_in.Goals as goal
 
 pub returns-in-Tty-clause-ok : goal.returns-in-Tty-clause-ok

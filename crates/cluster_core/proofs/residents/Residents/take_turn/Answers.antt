@@ -1,7 +1,7 @@
 use Rattle.std.proofs.Common.{◌∙◌, ap, sym}
 use Rattle.std.specs.List.{list_any}
 use Rattle.plain_kernel.specs.Maps.{at_key}
-use Rattle.cluster_core.proofs.Slots.{next_is_ready}
+use Rattle.cluster_core.proofs.Kept.{next_is_ready}
 use Rattle.cluster_core.proofs.residents.Residents.take_turn.Goals as goal
 
 pub give_turn-requires : goal.give_turn-requires

@@ -1,0 +1,480 @@
+-- The processes of a cluster in their slots stay as they have to: what is kept over a write, a removal and one more.
+use Rattle.std.proofs.Common.{◌≡◌, ◌≢◌, ℕ, ◌+◌, ◌≤◌, ◌<◌, Bool, true, false, cond, not, ◌||◌, ◌&&◌, eqb, ltb, eqb-true, eq-eqb, ne_eqb, List, [], ◌∷◌, ◌++◌, map, find, length, refl, sym, ap, subst, ◌∙◌, arith, Option, Some, None, IsSome, is_some, option_map, true≢false, append_assoc}
+use Rattle.std.specs.Prelude.{filter, Result, Ok, Err, IfOk, OnOk, slice_get, slice_index_or, IfSome}
+use Rattle.std.specs.Borrow.{Bor}
+use Rattle.std.specs.BTreeMap.Range.{range_contains}
+use Rattle.std.specs.declared.ops.Bound.TheVariants.{Excluded, Unbounded}
+use Rattle.std.specs.List.{list_any, list_all, AllByRecursion}
+use Rattle.std.specs.List.Sorted.{IsStrictlySortedBy}
+use Rattle.std.specs.Option.{option_or, option_copied}
+use Rattle.std.specs.Ordering.{nat_cmp}
+use Rattle.std.specs.declared.cmp.Ordering.TheVariants.{Less, Greater}
+use Rattle.std.specs.Map.{lookup, remove_entry}
+use Rattle.std.specs.BTreeMap.{insert_entry}
+use Rattle.std.proofs.lemmas.List.Sums.{sum_by-cons}
+use Rattle.std.proofs.lemmas.Bool.Decides.{nat_tests}
+use Rattle.std.proofs.lemmas.Bool.{false≢true}
+use Rattle.slab.specs.Slab.{Slab, get, Updates}
+use Rattle.t32_base.specs.declared.process.Pid.{Pid}
+use Rattle.proc_state.specs.declared.process.Process.{Process}
+use Rattle.proc_state.specs.State.{state_of, delivered, SameRest}
+use Rattle.t32_base.specs.declared.letter.Letter.{Letter}
+use Rattle.t32_base.specs.declared.letter.To.{To}
+use Rattle.t32_base.specs.declared.letter.To.TheVariants.{Tty}
+use Rattle.cert_sched.specs.Deeds.{is_end_of}
+use Rattle.cluster_core.specs.View.{arrived}
+use Rattle.sys_calls.specs.Small.{weight}
+use Rattle.sys_calls.specs.Next.{next_step, has_step}
+use Rattle.bus_msg.specs.Places.{same_pid}
+use Rattle.plain_kernel.specs.Maps.{at_key, pid_of}
+use Rattle.plain_kernel.proofs.Entries.{some_same}
+use Rattle.cert_sched.specs.Parts.{first_of}
+use Rattle.cert_sched.proofs.RisingLaws.{NoTwo}
+use Rattle.cluster_core.specs.Residents.{process_in, is_stuck, are_rising, are_stuck, pids_in, steps_in, load_in, next_ready}
+use Rattle.cluster_core.specs.Slots.{in_slot, stands_in, IsSlot, IsKept}
+use Rattle.t32_base.specs.declared.process.ClusterNo.{ClusterNo}
+use Rattle.t32_base.specs.declared.streams.NoMemory.{NoMemory}
+use Rattle.cluster_core.specs.declared.turn.Turn.{Turn}
+use Rattle.cluster_core.specs.declared.turn.Turn.TheVariants.{Moved, Posted, Rests}
+use Rattle.cluster_core.specs.Turn.{is_stuck_at, ProcessTurn, TakesTurn, GivenTurnIs, LighterProcess, LighterTurn}
+use Rattle.cluster_core.proofs.Slots.{IsOne, all_more, all_put_last, all_removed, all_with, at_key_is, both_true, either_not, entry_goes, later_is_other, load_written, no_entry, nobody_changed, none_not_some, not_true, one_key, pids, process_there, slot_keys, taken_out, turned, written}
+
+-- ---- what is kept
+
+-- more pids may be ready
+pub ready_more : (slots : Slab Process) (keys : List (ℕ × ℕ)) (ready more : List ℕ) → ((q : ℕ) → list_any (at_key q) ready ≡ true → list_any (at_key q) more ≡ true) → IsKept slots keys ready → IsKept slots keys more
+ready_more slots keys ready more adds k = record {
+  ordered = k.ordered;
+  apart = k.apart;
+  each = all_more (IsSlot slots ready) (IsSlot slots more) (λ e s. record { filled = s.filled; stepping = λ p is steps. adds e.0 (s.stepping p is steps) }) keys k.each;
+}
+
+-- the process of one that is ready was written
+pub kept_written : (slots new : Slab Process) (n key : ℕ) (now : Process) (keys : List (ℕ × ℕ)) (ready : List ℕ) → list_any (at_key n) ready ≡ true → lookup (at_key n) keys ≡ Some key → Updates slots new key (Some now) → IsKept slots keys ready → IsKept new keys ready
+kept_written slots new n key now keys ready listed found updates k = record {
+  ordered = k.ordered;
+  apart = k.apart;
+  each = all_with (IsOne n key) (IsSlot slots ready) (IsSlot new ready) each keys (one_key n key keys k.ordered k.apart found) k.each;
+}
+  where
+    each : (e : ℕ × ℕ) → IsOne n key e → IsSlot slots ready e → IsSlot new ready e
+    each e one s = by_test (eqb e.1 key) refl
+      where
+        by_test : (b : Bool) → eqb e.1 key ≡ b → IsSlot new ready e
+        by_test true is = record {
+          filled = ap is_some (ap (get new) (eqb-true e.1 key is) ∙ updates.changed);
+          stepping = λ p there steps. ap (λ m. list_any (at_key m) ready) (eqb-true e.0 n (one ∙ is)) ∙ listed;
+        }
+        by_test false is =
+            let same : get new e.1 ≡ get slots e.1 = updates.others e.1 (λ same. true≢false (sym (eq-eqb e.1 key same) ∙ is)) in
+            record {
+              filled = ap is_some same ∙ s.filled;
+              stepping = λ p there steps. s.stepping p (sym same ∙ there) steps;
+            }
+
+-- a process is in a slot that no entry names
+pub unnamed : (slots : Slab Process) (ready : List ℕ) (key : ℕ) (es : List (ℕ × ℕ)) → AllByRecursion (IsSlot slots ready) es → get slots key ≡ None → AllByRecursion (λ (e : ℕ × ℕ). eqb e.1 key ≡ false) es
+unnamed slots ready key es kept none = all_more (IsSlot slots ready) (λ (e : ℕ × ℕ). eqb e.1 key ≡ false) (λ e s. ne_eqb e.1 key (λ same. none_not_some (get slots e.1) (ap (get slots) same ∙ none) s.filled)) es kept
+
+pub kept_beside : (slots new : Slab Process) (key : ℕ) (o : Option Process) (keys : List (ℕ × ℕ)) (ready : List ℕ) → get slots key ≡ None → Updates slots new key o → IsKept slots keys ready → IsKept new keys ready
+kept_beside slots new key o keys ready none updates k = record {
+  ordered = k.ordered;
+  apart = k.apart;
+  each = all_with (λ (e : ℕ × ℕ). eqb e.1 key ≡ false) (IsSlot slots ready) (IsSlot new ready) each keys (unnamed slots ready key keys k.each none) k.each;
+}
+  where
+    each : (e : ℕ × ℕ) → eqb e.1 key ≡ false → IsSlot slots ready e → IsSlot new ready e
+    each e other s =
+        let same : get new e.1 ≡ get slots e.1 = updates.others e.1 (λ same. true≢false (sym (eq-eqb e.1 key same) ∙ other)) in
+        record {
+          filled = ap is_some same ∙ s.filled;
+          stepping = λ p there steps. s.stepping p (sym same ∙ there) steps;
+        }
+
+-- ---- one more
+
+above : (x n : ℕ) → ltb x n ≡ true → nat_cmp n x ≡ Greater
+above x n below = grind (arith, nat_tests)
+
+some_before : (slots : Slab Process) (n : ℕ) (pid : ℕ) (o : Option Process) (rest : List (Pid × Process)) → IsSome o → list_all (λ (e : Pid × Process). ltb (e.0).0 n) (in_slot (pid_of pid) o rest) ≡ true
+    → (ltb pid n ≡ true) × (list_all (λ (e : Pid × Process). ltb (e.0).0 n) rest ≡ true)
+some_before slots n pid None rest there all = absurd (false≢true there)
+some_before slots n pid (Some p) rest there all = both_true (ltb pid n) (list_all (λ (e : Pid × Process). ltb (e.0).0 n) rest) all
+
+pub all_below : (slots : Slab Process) (ready : List ℕ) (n : ℕ) (es : List (ℕ × ℕ)) → AllByRecursion (IsSlot slots ready) es → list_all (λ (e : Pid × Process). ltb (e.0).0 n) (stands_in slots es) ≡ true → AllByRecursion (λ (e : ℕ × ℕ). ltb e.0 n ≡ true) es
+all_below slots ready n [] kept all = tt
+all_below slots ready n (e ∷ es) kept all =
+    let parts = some_before slots n e.0 (get slots e.1) (stands_in slots es) (kept.0).filled all in
+    (parts.0, all_below slots ready n es kept.1 parts.1)
+
+pub put_last : (n key : ℕ) (es : List (ℕ × ℕ)) → AllByRecursion (λ (e : ℕ × ℕ). ltb e.0 n ≡ true) es → insert_entry nat_cmp es n key ≡ es ++ (n, key) ∷ []
+put_last n key [] below = refl
+put_last n key (e ∷ es) below = rw (above e.0 n below.0) (ap (λ rest. e ∷ rest) (put_last n key es below.1))
+
+any_last : (t : ℕ → Bool) (n key : ℕ) (es : List (ℕ × ℕ)) → list_any t (slot_keys es) ≡ false → t key ≡ false → list_any t (slot_keys (es ++ (n, key) ∷ [])) ≡ false
+any_last t n key [] none other = ap (λ b. b || false) other
+any_last t n key (e ∷ es) none other =
+    let parts = either_not (t e.1) (list_any t (slot_keys es)) none in
+    ap (λ b. b || list_any t (slot_keys (es ++ (n, key) ∷ []))) parts.0 ∙ any_last t n key es parts.1 other
+
+apart_last : (n key : ℕ) (es : List (ℕ × ℕ)) → NoTwo (slot_keys es) → AllByRecursion (λ (e : ℕ × ℕ). eqb e.1 key ≡ false) es → NoTwo (slot_keys (es ++ (n, key) ∷ []))
+apart_last n key [] apart others = (refl, tt)
+apart_last n key (e ∷ es) apart others = (any_last (λ m. eqb m e.1) n key es apart.0 (turned e.1 key others.0), apart_last n key es apart.1 others.1)
+
+pub kept_added : (slots : Slab Process) (n key : ℕ) (keys : List (ℕ × ℕ)) (ready : List ℕ) → IsSome (get slots key) → AllByRecursion (λ (e : ℕ × ℕ). eqb e.1 key ≡ false) keys → list_any (at_key n) ready ≡ true
+    → IsStrictlySortedBy nat_cmp (pids (keys ++ (n, key) ∷ [])) → IsKept slots keys ready → IsKept slots (keys ++ (n, key) ∷ []) ready
+kept_added slots n key keys ready there others listed ordered k = record {
+  ordered = ordered;
+  apart = apart_last n key keys k.apart others;
+  each = all_put_last (IsSlot slots ready) keys (n, key) k.each (record { filled = there; stepping = λ p is steps. listed });
+}
+
+-- ---- one less
+
+any_removed : (t u : ℕ → Bool) (es : List (ℕ × ℕ)) → list_any t (slot_keys es) ≡ false → list_any t (slot_keys (remove_entry u es)) ≡ false
+any_removed t u [] none = none
+any_removed t u (e ∷ es) none =
+    let parts = either_not (t e.1) (list_any t (slot_keys es)) none in
+    by_test parts.0 parts.1 (u e.0) (any_removed t u es parts.1)
+  where
+    by_test : t e.1 ≡ false → list_any t (slot_keys es) ≡ false → (b : Bool) → list_any t (slot_keys (remove_entry u es)) ≡ false → list_any t (slot_keys (cond b es (e ∷ remove_entry u es))) ≡ false
+    by_test first rest true more = rest
+    by_test first rest false more = ap (λ b. b || list_any t (slot_keys (remove_entry u es))) first ∙ more
+
+apart_removed : (u : ℕ → Bool) (es : List (ℕ × ℕ)) → NoTwo (slot_keys es) → NoTwo (slot_keys (remove_entry u es))
+apart_removed u [] apart = tt
+apart_removed u (e ∷ es) apart = by_test (u e.0) (apart_removed u es apart.1)
+  where
+    by_test : (b : Bool) → NoTwo (slot_keys (remove_entry u es)) → NoTwo (slot_keys (cond b es (e ∷ remove_entry u es)))
+    by_test true more = apart.1
+    by_test false more = (any_removed (λ m. eqb m e.1) u es apart.0, more)
+
+later_apart : (x n : ℕ) (es : List (ℕ × ℕ)) → AllByRecursion (λ y. nat_cmp x y ≡ Less) (pids es) → x ≡ n → AllByRecursion (λ (e : ℕ × ℕ). eqb e.0 n ≡ false) es
+later_apart x n [] later same = tt
+later_apart x n (e ∷ es) later same = (later_is_other x e.0 n later.0 same, later_apart x n es later.1 same)
+
+pub gone : (n : ℕ) (es : List (ℕ × ℕ)) → IsStrictlySortedBy nat_cmp (pids es) → AllByRecursion (λ (e : ℕ × ℕ). eqb e.0 n ≡ false) (remove_entry (at_key n) es)
+unfolding IsStrictlySortedBy
+gone n [] ordered = tt
+gone n (e ∷ es) ordered = by_test (at_key n e.0) (at_key_is n e.0) (gone n es ordered.1)
+  where
+    by_test : (b : Bool) → b ≡ eqb e.0 n → AllByRecursion (λ (e : ℕ × ℕ). eqb e.0 n ≡ false) (remove_entry (at_key n) es) → AllByRecursion (λ (e : ℕ × ℕ). eqb e.0 n ≡ false) (cond b es (e ∷ remove_entry (at_key n) es))
+    by_test true is more = later_apart e.0 n es ordered.0 (eqb-true e.0 n (sym is))
+    by_test false is more = (sym is, more)
+
+pub kept_gone : (slots new : Slab Process) (n key : ℕ) (keys : List (ℕ × ℕ)) (ready less : List ℕ) → lookup (at_key n) keys ≡ Some key → Updates slots new key None
+    → ((q : ℕ) → at_key n q ≡ false → list_any (at_key q) less ≡ list_any (at_key q) ready) → IsStrictlySortedBy nat_cmp (pids (remove_entry (at_key n) keys)) → IsKept slots keys ready → IsKept new (remove_entry (at_key n) keys) less
+kept_gone slots new n key keys ready less found updates keeps ordered k = record {
+  ordered = ordered;
+  apart = apart_removed (at_key n) keys k.apart;
+  each =
+      all_with (λ (e : ℕ × ℕ). eqb e.0 n ≡ false) (λ (e : ℕ × ℕ). IsOne n key e × IsSlot slots ready e) (IsSlot new less) each (remove_entry (at_key n) keys) (gone n keys k.ordered)
+      (all_removed (λ (e : ℕ × ℕ). IsOne n key e × IsSlot slots ready e) (at_key n) keys
+      (all_with (IsOne n key) (IsSlot slots ready) (λ (e : ℕ × ℕ). IsOne n key e × IsSlot slots ready e) (λ e one s. (one, s)) keys (one_key n key keys k.ordered k.apart found) k.each));
+}
+  where
+    each : (e : ℕ × ℕ) → eqb e.0 n ≡ false → IsOne n key e × IsSlot slots ready e → IsSlot new less e
+    each e other s =
+        let same : get new e.1 ≡ get slots e.1 = updates.others e.1 (λ same. true≢false (sym (eq-eqb e.1 key same) ∙ sym s.0 ∙ other)) in
+        record {
+          filled = ap is_some same ∙ (s.1).filled;
+          stepping = λ p there steps. keeps e.0 (at_key_is n e.0 ∙ other) ∙ (s.1).stepping p (sym same ∙ there) steps;
+        }
+
+-- ---- one rests
+
+stuck_here : (slots : Slab Process) (n pid : ℕ) (o : Option Process) (rest : List (Pid × Process)) → IsSome o → is_stuck_at (pid_of n) (in_slot (pid_of pid) o rest) ≡ true
+    → ((p : Process) → o ≡ Some p → eqb pid n ≡ true → has_step (next_step (state_of p)) ≡ false) × (is_stuck_at (pid_of n) rest ≡ true)
+stuck_here slots n pid None rest there stuck = absurd (false≢true there)
+stuck_here slots n pid (Some q) rest there stuck =
+    let parts = both_true (not (eqb pid n) || is_stuck q) (is_stuck_at (pid_of n) rest) stuck in
+    (λ p same at. ap (λ p. has_step (next_step (state_of p))) (sym (some_same q p same)) ∙ not_true (has_step (next_step (state_of q))) ((λ i. not (sym at i) || is_stuck q) ∙ parts.0), parts.1)
+
+stuck_each : (slots : Slab Process) (ready : List ℕ) (n : ℕ) (es : List (ℕ × ℕ)) → AllByRecursion (IsSlot slots ready) es → is_stuck_at (pid_of n) (stands_in slots es) ≡ true
+    → AllByRecursion (λ (e : ℕ × ℕ). (p : Process) → get slots e.1 ≡ Some p → eqb e.0 n ≡ true → has_step (next_step (state_of p)) ≡ false) es
+stuck_each slots ready n [] kept stuck = tt
+stuck_each slots ready n (e ∷ es) kept stuck =
+    let parts = stuck_here slots n e.0 (get slots e.1) (stands_in slots es) (kept.0).filled stuck in
+    (parts.0, stuck_each slots ready n es kept.1 parts.1)
+
+pub kept_resting : (slots : Slab Process) (n : ℕ) (keys : List (ℕ × ℕ)) (ready less : List ℕ) → is_stuck_at (pid_of n) (stands_in slots keys) ≡ true → ((q : ℕ) → at_key n q ≡ false → list_any (at_key q) less ≡ list_any (at_key q) ready)
+    → IsKept slots keys ready → IsKept slots keys less
+kept_resting slots n keys ready less stuck keeps k = record {
+  ordered = k.ordered;
+  apart = k.apart;
+  each =
+      all_with (λ (e : ℕ × ℕ). (p : Process) → get slots e.1 ≡ Some p → eqb e.0 n ≡ true → has_step (next_step (state_of p)) ≡ false) (IsSlot slots ready) (IsSlot slots less) each keys (stuck_each slots ready n keys k.each stuck) k.each;
+}
+  where
+    each : (e : ℕ × ℕ) → ((p : Process) → get slots e.1 ≡ Some p → eqb e.0 n ≡ true → has_step (next_step (state_of p)) ≡ false) → IsSlot slots ready e → IsSlot slots less e
+    each e quiet s = record { filled = s.filled; stepping = λ p there steps. by_test (eqb e.0 n) refl p there steps }
+      where
+        by_test : (b : Bool) → eqb e.0 n ≡ b → (p : Process) → get slots e.1 ≡ Some p → has_step (next_step (state_of p)) ≡ true → list_any (at_key e.0) less ≡ true
+        by_test true is p there steps = absurd (true≢false (sym steps ∙ quiet p there is))
+        by_test false is p there steps = keeps e.0 (at_key_is n e.0 ∙ is) ∙ s.stepping p there steps
+
+-- the process with a pid has no step
+pub stuck_there : (slots : Slab Process) (n key : ℕ) (was : Process) (es : List (ℕ × ℕ)) → AllByRecursion (IsOne n key) es → get slots key ≡ Some was → has_step (next_step (state_of was)) ≡ false → is_stuck_at (pid_of n) (stands_in slots es) ≡ true
+stuck_there slots n key was [] one there none = refl
+stuck_there slots n key was (e ∷ es) one there none = by_test (eqb e.1 key) refl (stuck_there slots n key was es one.1 there none)
+  where
+    or_true : (b : Bool) → ((b || true) && true) ≡ true
+    or_true true = refl
+    or_true false = refl
+
+    here : (o : Option Process) (m : ℕ) → o ≡ Some was → is_stuck_at (pid_of n) (stands_in slots es) ≡ true → is_stuck_at (pid_of n) (in_slot (pid_of m) o (stands_in slots es)) ≡ true
+    here None m same more = more
+    here (Some q) m same more =
+        let quiet : has_step (next_step (state_of q)) ≡ false = ap (λ (p : Process). has_step (next_step (state_of p))) (some_same q was same) ∙ none in
+        (λ i. (not (eqb m n) || not (quiet i)) && more i) ∙ or_true (not (eqb m n))
+
+    elsewhere : (o : Option Process) (m : ℕ) → eqb m n ≡ false → is_stuck_at (pid_of n) (stands_in slots es) ≡ true → is_stuck_at (pid_of n) (in_slot (pid_of m) o (stands_in slots es)) ≡ true
+    elsewhere None m other more = more
+    elsewhere (Some q) m other more = λ i. ((λ j. (not (other j) || is_stuck q) && is_stuck_at (pid_of n) (stands_in slots es)) ∙ more) i
+
+    by_test : (b : Bool) → eqb e.1 key ≡ b → is_stuck_at (pid_of n) (stands_in slots es) ≡ true → is_stuck_at (pid_of n) (stands_in slots (e ∷ es)) ≡ true
+    by_test true is more = here (get slots e.1) e.0 (ap (get slots) (eqb-true e.1 key is) ∙ there) more
+    by_test false is more = elsewhere (get slots e.1) e.0 (one.0 ∙ is) more
+
+-- ---- the next
+
+first_some : {X : Type 0} → (xs : List X) → first_of xs ≡ None → xs ≡ []
+first_some [] none = refl
+first_some (x ∷ xs) none = cc
+
+pub none_ready : (ready : List ℕ) (last : ℕ) → next_ready ready last ≡ None → ready ≡ []
+none_ready ready last none = by_case (find (λ n. ltb last n) ready) none
+  where
+    by_case : (o : Option ℕ) → option_or o (first_of ready) ≡ None → ready ≡ []
+    by_case None none = first_some ready none
+    by_case (Some n) none = cc
+
+pub all_stuck : (slots : Slab Process) (es : List (ℕ × ℕ)) → AllByRecursion (IsSlot slots []) es → are_stuck (stands_in slots es) ≡ true
+all_stuck slots [] kept = refl
+all_stuck slots (e ∷ es) kept = in_front (get slots e.1) (λ p is. (kept.0).stepping p is) (all_stuck slots es kept.1)
+  where
+    quiet : (b : Bool) → (b ≡ true → false ≡ true) → not b ≡ true
+    quiet true steps = steps refl
+    quiet false steps = refl
+
+    in_front : (o : Option Process) → ((p : Process) → o ≡ Some p → has_step (next_step (state_of p)) ≡ true → false ≡ true) → are_stuck (stands_in slots es) ≡ true → are_stuck (in_slot (pid_of e.0) o (stands_in slots es)) ≡ true
+    in_front None steps more = more
+    in_front (Some p) steps more = λ i. ((λ j. quiet (has_step (next_step (state_of p))) (steps p refl) j && are_stuck (stands_in slots es)) ∙ more) i
+
+find_any : (t : ℕ → Bool) (n : ℕ) (xs : List ℕ) → find t xs ≡ Some n → list_any (at_key n) xs ≡ true
+find_any t n [] found = cc
+find_any t n (x ∷ xs) found = by_test (t x) found (λ found. find_any t n xs found)
+  where
+    or_true : (b : Bool) → (b || true) ≡ true
+    or_true true = refl
+    or_true false = refl
+
+    by_test : (b : Bool) → cond b (Some x) (find t xs) ≡ Some n → (find t xs ≡ Some n → list_any (at_key n) xs ≡ true) → (at_key n x || list_any (at_key n) xs) ≡ true
+    by_test true found more = ap (λ b. b || list_any (at_key n) xs) (at_key_is n x ∙ eq-eqb x n (some_same x n found))
+    by_test false found more = ap (λ b. at_key n x || b) (more found) ∙ or_true (at_key n x)
+
+first_any : (n : ℕ) (xs : List ℕ) → first_of xs ≡ Some n → list_any (at_key n) xs ≡ true
+first_any n [] first = cc
+first_any n (x ∷ xs) first = ap (λ b. b || list_any (at_key n) xs) (at_key_is n x ∙ eq-eqb x n (some_same x n first))
+
+pub next_is_ready : (ready : List ℕ) (last n : ℕ) → next_ready ready last ≡ Some n → list_any (at_key n) ready ≡ true
+next_is_ready ready last n next = by_case (find (λ m. ltb last m) ready) refl next
+  where
+    by_case : (o : Option ℕ) → find (λ m. ltb last m) ready ≡ o → option_or o (first_of ready) ≡ Some n → list_any (at_key n) ready ≡ true
+    by_case None is next = first_any n ready next
+    by_case (Some m) is next = find_any (λ m. ltb last m) n ready (is ∙ next)
+
+-- ---- rest
+
+-- numbers in strict order rise
+all_after : (n : ℕ) (ns : List ℕ) → AllByRecursion (λ y. nat_cmp n y ≡ Less) ns → list_all (λ m. ltb n m) ns ≡ true
+all_after n [] later = refl
+all_after n (m ∷ ns) later = ap (λ b. b && list_all (λ m. ltb n m) ns) (less_is n m later.0) ∙ all_after n ns later.1
+  where
+    less_is : (n m : ℕ) → nat_cmp n m ≡ Less → ltb n m ≡ true
+    less_is n m less = grind (arith, nat_tests)
+
+in_order : (ns : List ℕ) → IsStrictlySortedBy nat_cmp ns → are_rising ns ≡ true
+unfolding IsStrictlySortedBy
+in_order [] ordered = refl
+in_order (n ∷ ns) ordered = ap (λ b. b && are_rising ns) (all_after n ns ordered.0) ∙ in_order ns ordered.1
+
+pub pids_stand : (slots : Slab Process) (ready : List ℕ) (es : List (ℕ × ℕ)) → AllByRecursion (IsSlot slots ready) es → pids_in (stands_in slots es) ≡ pids es
+pids_stand slots ready [] kept = refl
+pids_stand slots ready (e ∷ es) kept = in_front (get slots e.1) (kept.0).filled (pids_stand slots ready es kept.1)
+  where
+    in_front : (o : Option Process) → IsSome o → pids_in (stands_in slots es) ≡ pids es → pids_in (in_slot (pid_of e.0) o (stands_in slots es)) ≡ e.0 ∷ pids es
+    in_front None there more = absurd (false≢true there)
+    in_front (Some p) there more = ap (λ ns. e.0 ∷ ns) more
+
+pub rising_here : (slots : Slab Process) (keys : List (ℕ × ℕ)) (ready : List ℕ) → IsKept slots keys ready → are_rising (pids_in (stands_in slots keys)) ≡ true
+rising_here slots keys ready k = ap are_rising (pids_stand slots ready keys k.each) ∙ in_order (pids keys) k.ordered
+
+-- what rests, after some: all, or nothing where one of them has a step
+abbrev pub rests_with : List (Pid × ℕ) → List (Pid × Process) → Option (List (Pid × ℕ))
+rests_with before here = cond (are_stuck here) (Some (before ++ steps_in here)) None
+
+pub one_rests : (slots : Slab Process) (before : List (Pid × ℕ)) (e : ℕ × ℕ) (p : Process) (es : List (ℕ × ℕ)) → get slots e.1 ≡ Some p → has_step (next_step (state_of p)) ≡ false
+    → rests_with before (stands_in slots (e ∷ es)) ≡ rests_with (before ++ (pid_of e.0, (p.small).steps) ∷ []) (stands_in slots es)
+one_rests slots before e p es there none =
+    ap (λ o. rests_with before (in_slot (pid_of e.0) o (stands_in slots es))) there
+    ∙ (λ i. cond (not (none i) && are_stuck (stands_in slots es)) (Some (sym (append_assoc before ((pid_of e.0, (p.small).steps) ∷ []) (steps_in (stands_in slots es))) i)) None)
+
+pub one_steps : (slots : Slab Process) (before : List (Pid × ℕ)) (e : ℕ × ℕ) (p : Process) (es : List (ℕ × ℕ)) → get slots e.1 ≡ Some p → has_step (next_step (state_of p)) ≡ true → rests_with before (stands_in slots (e ∷ es)) ≡ None
+one_steps slots before e p es there steps =
+    ap (λ o. rests_with before (in_slot (pid_of e.0) o (stands_in slots es))) there
+    ∙ (λ i. cond (not (steps i) && are_stuck (stands_in slots es)) (Some (before ++ (pid_of e.0, (p.small).steps) ∷ steps_in (stands_in slots es))) None)
+
+-- ---- one process of those that are kept
+
+filled_at : (slots : Slab Process) (ready : List ℕ) (n key : ℕ) (es : List (ℕ × ℕ)) → lookup (at_key n) es ≡ Some key → AllByRecursion (IsSlot slots ready) es → IsSome (get slots key)
+filled_at slots ready n key [] found kept = cc
+filled_at slots ready n key (e ∷ es) found kept = by_test (at_key n e.0) found (λ found. filled_at slots ready n key es found kept.1)
+  where
+    by_test : (b : Bool) → cond b (Some e.1) (lookup (at_key n) es) ≡ Some key → (lookup (at_key n) es ≡ Some key → IsSome (get slots key)) → IsSome (get slots key)
+    by_test true found more = ap (λ k. is_some (get slots k)) (sym (some_same e.1 key found)) ∙ (kept.0).filled
+    by_test false found more = more found
+
+pub never_empty : (slots : Slab Process) (n key : ℕ) (keys : List (ℕ × ℕ)) (ready : List ℕ) → IsKept slots keys ready → lookup (at_key n) keys ≡ Some key → get slots key ≡ None → ⊥
+never_empty slots n key keys ready k found none = none_not_some (get slots key) none (filled_at slots ready n key keys found k.each)
+
+-- a slot that is written as it was
+pub written_back : (slots new : Slab Process) (key : ℕ) (was now : Process) (es : List (ℕ × ℕ)) → get slots key ≡ Some was → Updates slots new key (Some now) → now ≡ was → stands_in new es ≡ stands_in slots es
+written_back slots new key was now [] there updates same = refl
+written_back slots new key was now (e ∷ es) there updates same =
+    let more : stands_in new es ≡ stands_in slots es = written_back slots new key was now es there updates same in
+    let here : get new e.1 ≡ get slots e.1 = by_test (eqb e.1 key) refl in
+    λ i. in_slot (pid_of e.0) (here i) (more i)
+  where
+    by_test : (b : Bool) → eqb e.1 key ≡ b → get new e.1 ≡ get slots e.1
+    by_test true is =
+        let at : e.1 ≡ key = eqb-true e.1 key is in
+        ap (get new) at ∙ updates.changed ∙ ap Some same ∙ sym there ∙ ap (get slots) (sym at)
+    by_test false is = updates.others e.1 (λ same. true≢false (sym (eq-eqb e.1 key same) ∙ is))
+
+-- a process had its turn
+pub given_turn : (k : ClusterNo) (slots new : Slab Process) (n key : ℕ) (keys : List (ℕ × ℕ)) (ready : List ℕ) (was now : Process) (old : List (Pid × Process)) (r : Result Turn NoMemory)
+    → IsKept slots keys ready → lookup (at_key n) keys ≡ Some key → get slots key ≡ Some was → Updates slots new key (Some now) → stands_in slots keys ≡ old → ProcessTurn k (pid_of n) was r now → GivenTurnIs k (pid_of n) old r (stands_in new keys)
+given_turn k slots new n key keys ready was now old (Ok Moved) kept found there updates same turn =
+    subst (λ old. TakesTurn k old Moved (stands_in new keys)) same
+    (record {
+      pid = pid_of n;
+      was = was;
+      now = now;
+      there = process_there slots n key was keys found there;
+      turn_is = turn;
+      here = written slots new n key was now (λ e. (pid_of n, now)) keys (one_key n key keys kept.ordered kept.apart found) there updates refl;
+    })
+given_turn k slots new n key keys ready was now old (Ok (Posted post)) kept found there updates same turn =
+    subst (λ old. TakesTurn k old (Posted post) (stands_in new keys)) same
+    (record {
+      pid = pid_of n;
+      was = was;
+      now = now;
+      there = process_there slots n key was keys found there;
+      turn_is = turn;
+      here = written slots new n key was now (λ e. (pid_of n, now)) keys (one_key n key keys kept.ordered kept.apart found) there updates refl;
+    })
+given_turn k slots new n key keys ready was now old (Ok Rests) kept found there updates same turn =
+    (ap (is_stuck_at (pid_of n)) (sym same) ∙ stuck_there slots n key was keys (one_key n key keys kept.ordered kept.apart found) there turn.0, written_back slots new key was now keys there updates turn.1 ∙ same)
+given_turn k slots new n key keys ready was now old (Err fault) kept found there updates same turn = written_back slots new key was now keys there updates turn ∙ same
+
+less_load : (slots new : Slab Process) (n key : ℕ) (keys : List (ℕ × ℕ)) (ready : List ℕ) (was now : Process) (old : List (Pid × Process)) → IsKept slots keys ready → lookup (at_key n) keys ≡ Some key → get slots key ≡ Some was → Updates slots new key (Some now)
+    → stands_in slots keys ≡ old → weight now.small + 1 ≤ weight was.small → load_in (stands_in new keys) + 1 ≤ load_in old
+less_load slots new n key keys ready was now old kept found there updates same lighter =
+    omega (arith, lighter, ap load_in same, load_written slots new n key was now keys found kept.apart there updates)
+
+pub given_lighter : (slots new : Slab Process) (n key : ℕ) (keys : List (ℕ × ℕ)) (ready : List ℕ) (was now : Process) (old : List (Pid × Process)) (r : Result Turn NoMemory)
+    → IsKept slots keys ready → lookup (at_key n) keys ≡ Some key → get slots key ≡ Some was → Updates slots new key (Some now) → stands_in slots keys ≡ old → IfOk r (λ turn. LighterProcess turn was now) → IfOk r (λ turn. LighterTurn turn old (stands_in new keys))
+given_lighter slots new n key keys ready was now old (Ok Moved) kept found there updates same lighter = less_load slots new n key keys ready was now old kept found there updates same lighter
+given_lighter slots new n key keys ready was now old (Ok (Posted post)) kept found there updates same lighter = less_load slots new n key keys ready was now old kept found there updates same lighter
+given_lighter slots new n key keys ready was now old (Ok Rests) kept found there updates same lighter = tt
+given_lighter slots new n key keys ready was now old (Err fault) kept found there updates same lighter = tt
+
+-- a process goes with its entry
+pub goes : (slots new : Slab Process) (n key : ℕ) (keys : List (ℕ × ℕ)) (ready : List ℕ) → IsKept slots keys ready → lookup (at_key n) keys ≡ Some key → Updates slots new key None
+    → stands_in new (remove_entry (at_key n) keys) ≡ filter (λ (e : Pid × Process). not (same_pid e.0 (pid_of n))) (stands_in slots keys)
+goes slots new n key keys ready kept found updates = entry_goes new (at_key n) key keys found updates.changed ∙ taken_out slots new n key keys (one_key n key keys kept.ordered kept.apart found) updates
+
+-- ---- the first of those above
+
+first_filtered : (t u : ℕ → Bool) → ((n : ℕ) → t n ≡ u n) → (xs : List ℕ) → first_of (filter t xs) ≡ find u xs
+first_filtered t u same [] = refl
+first_filtered t u same (x ∷ xs) = by_test (t x) (u x) (same x) (first_filtered t u same xs)
+  where
+    by_test : (b c : Bool) → b ≡ c → first_of (filter t xs) ≡ find u xs → first_of (cond b (x ∷ filter t xs) (filter t xs)) ≡ cond c (Some x) (find u xs)
+    by_test true true is more = refl
+    by_test true false is more = absurd (true≢false is)
+    by_test false true is more = absurd (false≢true is)
+    by_test false false is more = more
+
+pub next_above : (t : ℕ → Bool) (ready : List ℕ) (last n : ℕ) → ((m : ℕ) → t m ≡ ltb last m) → first_of (filter t ready) ≡ Some n → Some n ≡ next_ready ready last
+next_above t ready last n same first = sym (ap (λ o. option_or o (first_of ready)) (sym (first_filtered t (λ m. ltb last m) same ready) ∙ first))
+
+pub next_around : (t : ℕ → Bool) (ready : List ℕ) (last : ℕ) → ((m : ℕ) → t m ≡ ltb last m) → first_of (filter t ready) ≡ None → first_of ready ≡ next_ready ready last
+next_around t ready last same first = sym (ap (λ o. option_or o (first_of ready)) (sym (first_filtered t (λ m. ltb last m) same ready) ∙ first))
+
+pub none_next : (slots : Slab Process) (keys : List (ℕ × ℕ)) (ready : List ℕ) (last : ℕ) → IsKept slots keys ready → next_ready ready last ≡ None → are_stuck (stands_in slots keys) ≡ true
+none_next slots keys ready last kept none = all_stuck slots keys (subst (λ ready. AllByRecursion (IsSlot slots ready) keys) (none_ready ready last none) kept.each)
+
+in_range : (last m : ℕ) → range_contains nat_cmp (Excluded last) Unbounded m ≡ ltb last m
+in_range last m = grind (arith, nat_tests)
+
+pub above_in : (ready range more : List ℕ) (last n : ℕ) → range ≡ filter (range_contains nat_cmp (Excluded last) Unbounded) ready → range ≡ n ∷ more → Some n ≡ next_ready ready last
+above_in ready range more last n between first = next_above (range_contains nat_cmp (Excluded last) Unbounded) ready last n (in_range last) (ap first_of (sym between ∙ first))
+
+pub around_in : (ready range : List ℕ) (last : ℕ) → range ≡ filter (range_contains nat_cmp (Excluded last) Unbounded) ready → range ≡ [] → first_of ready ≡ next_ready ready last
+around_in ready range last between none = next_around (range_contains nat_cmp (Excluded last) Unbounded) ready last (in_range last) (ap first_of (sym between ∙ none))
+
+-- the first of a set
+pub first_is : (r : Option (Bor ℕ)) (xs : List ℕ) → IfSome r (λ k. slice_get xs 0 ≡ Some k.now) → (0 < length xs → IsSome r) → option_copied r ≡ first_of xs
+first_is None [] first there = refl
+first_is None (x ∷ xs) first there = absurd (false≢true (there (omega arith)))
+first_is (Some k) [] first there = cc
+first_is (Some k) (x ∷ xs) first there = sym first
+
+-- ---- a letter
+
+flipped : (n m : ℕ) → eqb m n ≡ eqb n m
+flipped n m = grind (arith, nat_tests)
+
+pub arrival : (slots new : Slab Process) (n key : ℕ) (was now : Process) (letter : Letter) (keys : List (ℕ × ℕ)) (ready : List ℕ) (old : List (Pid × Process)) → IsKept slots keys ready → lookup (at_key n) keys ≡ Some key → get slots key ≡ Some was → Updates slots new key (Some now)
+    → stands_in slots keys ≡ old → now ≡ arrived was letter → stands_in new keys ≡ map (λ (e : Pid × Process). cond (same_pid (pid_of n) e.0) (e.0, arrived e.1 letter) e) old
+arrival slots new n key was now letter keys ready old kept found there updates same is =
+    written slots new n key was now (λ e. (e.0, arrived e.1 letter)) keys (one_key n key keys kept.ordered kept.apart found) there updates (ap (λ p. (pid_of n, p)) (sym is))
+    ∙ (λ i. map (λ (e : Pid × Process). cond (flipped n (e.0).0 i) (e.0, arrived e.1 letter) e) (same i))
+
+pub no_arrival : (slots : Slab Process) (n : ℕ) (letter : Letter) (keys : List (ℕ × ℕ)) (old : List (Pid × Process)) → lookup (at_key n) keys ≡ None → stands_in slots keys ≡ old → old ≡ map (λ (e : Pid × Process). cond (same_pid (pid_of n) e.0) (e.0, arrived e.1 letter) e) old
+no_arrival slots n letter keys old none same =
+    sym same ∙ sym (nobody_changed slots n (λ e. (e.0, arrived e.1 letter)) keys (no_entry n keys none)) ∙ (λ i. map (λ (e : Pid × Process). cond (flipped n (e.0).0 i) (e.0, arrived e.1 letter) e) (same i))
+
+pub arrived_is : (was now : Process) (letter : Letter) → state_of now ≡ delivered (state_of was) letter → SameRest was now → now ≡ arrived was letter
+arrived_is was now letter is rest = λ i. record { small = (is i).small; ram = rest.ram i; mail = record { letters = (is i).mail; next = (is i).next }; read = rest.read i; since = rest.since i }
+
+pub on_ok : {P Q : Type 0} → (r : Result (Unit {0}) NoMemory) → (P → Q) → OnOk r P → OnOk r Q
+on_ok (Ok done) f h = f h
+on_ok (Err fault) f h = tt
+
+all_same : {X : Type 0} → (xs : List X) → map (λ (x : X). x) xs ≡ xs
+all_same [] = refl
+all_same (x ∷ xs) = ap (λ rest. x ∷ rest) (all_same xs)
+
+pub no_end_of : (letter : Letter) (to : To) (tty : ℕ) (here : List (Pid × Process)) → to ≡ Tty tty → map (λ (e : Pid × Process). cond (is_end_of e.0 to) (e.0, arrived e.1 letter) e) here ≡ here
+no_end_of letter to tty here is = (λ i. map (λ (e : Pid × Process). cond (is_end_of e.0 (is i)) (e.0, arrived e.1 letter) e) here) ∙ all_same here
+
+-- ---- one more is ready, or there is more room
+
+adds : (b c d : Bool) → d ≡ cond b true c → c ≡ true → d ≡ true
+adds true c d is h = is
+adds false c d is h = is ∙ h
+
+pub ready_put : (slots : Slab Process) (keys : List (ℕ × ℕ)) (n : ℕ) (ready more : List ℕ) → ((q : ℕ) → list_any (at_key q) more ≡ cond (at_key n q) true (list_any (at_key q) ready)) → IsKept slots keys ready → IsKept slots keys more
+ready_put slots keys n ready more puts kept = ready_more slots keys ready more (λ q h. adds (at_key n q) (list_any (at_key q) ready) (list_any (at_key q) more) (puts q) h) kept
+
+pub more_room : (slots new : Slab Process) (keys : List (ℕ × ℕ)) (ready : List ℕ) → new.slots ≡ slots.slots → IsKept slots keys ready → IsKept new keys ready
+more_room slots new keys ready same kept = record { ordered = kept.ordered; apart = kept.apart; each = all_more (IsSlot slots ready) (IsSlot new ready) each keys kept.each }
+  where
+    each : (e : ℕ × ℕ) → IsSlot slots ready e → IsSlot new ready e
+    each e s =
+        let at : get new e.1 ≡ get slots e.1 = ap (λ l. slice_index_or l e.1 None) same in
+        record { filled = ap is_some at ∙ s.filled; stepping = λ p there steps. s.stepping p (sym at ∙ there) steps }
