@@ -36,10 +36,11 @@ fn take_next(bus: &Bus<'_>, cluster: &mut Cluster) -> Result<(), NoMemory>
     ensures { OnOk result (TakesNext bus.now cluster.old cluster.new) }
 {
     let _length = bus.length();
-    match bus.entry(cluster.cursor()) {
-        Some(entry) => cluster.absorb(entry),
-        None => unreachable!(),
-    }
+    let Some(entry) = bus.entry(cluster.cursor()) else {
+        unreachable!();
+    };
+    cluster.absorb(entry)?;
+    Ok(())
 }
 
 /// One turn of a cluster: it takes in what the bus has carried, does the next thing, and sends what that
@@ -75,7 +76,8 @@ fn send(bus: &mut Bus<'_>, cluster: &mut Cluster) -> Result<(), NoMemory>
     transmit_head(bus, cluster)?;
     let _legal = bus.length();
     cluster.sent();
-    take_next(bus, cluster)
+    take_next(bus, cluster)?;
+    Ok(())
 }
 
 // Transmits the head of the queue of a cluster that has seen all of the log.
