@@ -1,16 +1,19 @@
 -- A cluster that takes in the next entry of a log that it follows goes on to follow it.
-use Rattle.std.proofs.Common.{◌≡◌, ℕ, ◌+◌, ◌-◌, ◌≤◌, refl, sym, ◌∙◌, ap, subst, arith, List, [], ◌∷◌, ◌++◌, map, length, length-append, Bool, true, false, cond, not, ◌&&◌, eqb-true, eq-eqb, zero-add, add-zero, inl, inr, Option, Some, None, slice_get, true≢false}
-use Rattle.std.specs.Prelude.{filter, find, ◌≢◌, option_map, option_and_then, count_by}
+use Rattle.std.proofs.Common.{◌≡◌, ℕ, ◌+◌, ◌-◌, ◌≤◌, refl, sym, ◌∙◌, ap, subst, arith, List, [], ◌∷◌, ◌++◌, map, length, length-append, Bool, true, false, cond, not, ◌&&◌, eqb, eqb-true, eq-eqb, zero-add, add-zero, inl, inr, Option, Some, None, slice_get, true≢false}
+use Rattle.std.specs.Prelude.{filter, find, ◌≢◌, is_some, option_map, count_by}
 use Rattle.std.specs.List.{list_all, list_any}
 use Rattle.std.specs.Option.{option_map_or}
 use Rattle.std.proofs.lemmas.Bool.{and_parts}
+use Rattle.std.proofs.lemmas.List.Sums.{sum_by-append}
 use Rattle.t32_base.specs.declared.process.Pid.{Pid}
 use Rattle.t32_base.specs.declared.process.ClusterNo.{ClusterNo}
 use Rattle.sys_text.specs.declared.system.System.{System}
+use Rattle.proc_state.specs.declared.process.Process.{Process}
 use Rattle.proc_state.specs.State.{ProcState, state_of}
 use Rattle.sys_calls.specs.declared.steps.Emission.{Emission}
 use Rattle.sys_calls.specs.declared.steps.Emission.TheVariants.{Mail as Sent, Exit as Ended}
-use Rattle.sys_calls.specs.Next.{silently}
+use Rattle.sys_calls.proofs.Quiet.{sends_none}
+use Rattle.plain_kernel.proofs.Entries.{some_same}
 use Rattle.bus_msg.specs.declared.entry.What.{What}
 use Rattle.bus_msg.specs.declared.entry.What.TheVariants.{Mail, Birth, Exit, Page, Sync, Fetch, PageIs, Crash, Return, Rebackup, Done, Stop}
 use Rattle.bus_msg.specs.declared.entry.By.{By}
@@ -22,32 +25,35 @@ use Rattle.bus_msg.specs.Places.{Places, ClusterPlace, same_pid, unended_at}
 use Rattle.bus_msg.specs.PlacedAfter.{what, placed_after}
 use Rattle.channel_table.specs.Changes.{pids_differ}
 use Rattle.cert_sched.specs.Parts.{rising}
-use Rattle.cert_sched.specs.Schedule.{placement, process_after, done_after}
+use Rattle.cert_sched.specs.Schedule.{placement}
+use Rattle.cert_sched.specs.Deeds.{is_end_of}
 use Rattle.cert_sched.specs.Family.{has_unsynced_child, births_of, is_unsynced}
-use Rattle.cert_sched.specs.Steps.{process_of, silent_upto, after_items}
+use Rattle.cert_sched.specs.Steps.{process_of, silent_upto, emission_at, after_items}
 use Rattle.cert_sched.specs.Rules.{is_over, is_by, is_living, home_at, is_by_home, is_by_right}
 use Rattle.cert_sched.specs.Kinds.{IsSent, KindHolds}
 use Rattle.cert_sched.specs.Legal.{IsLegalBy}
 use Rattle.cert_sched.specs.Built.{is_built, BuiltMayFollow}
 use Rattle.cert_sched.specs.Losses.{is_from, is_by_cluster, least_steps, capped}
 use Rattle.cert_sched.specs.Scripted.{is_done}
+use Rattle.cert_sched.specs.Appended.{entry_of}
+use Rattle.cert_sched.specs.Rests.{home_pids}
 use Rattle.cert_sched.proofs.ExitLaws.{unended_exit}
 use Rattle.cert_sched.proofs.LogLaws.{placement-snoc, IsLegal-last}
 use Rattle.cert_sched.proofs.BuiltLaws.{built_births, built_clusters, built_unlost}
-use Rattle.plain_kernel.proofs.Entries.{some_same}
-use Rattle.std.proofs.lemmas.List.Sums.{sum_by-append}
+use Rattle.cert_sched.proofs.RisingLaws.{rising-same}
 use Rattle.cert_sched.proofs.StepLaws.{Tells, sent_applies}
-use Rattle.cluster_core.specs.declared.resident.Resident.{Resident}
-use Rattle.cluster_core.specs.View.{ClusterView, Held, Runs, held_at, head_of, after_head, after_sent, next_count}
-use Rattle.cluster_core.specs.Parts.{held_here, posts_of}
-use Rattle.cert_sched.specs.Appended.{entry_of}
+use Rattle.cert_sched.proofs.MailLaws.{sent_no_signal, with_arrival}
+use Rattle.cluster_core.specs.View.{ClusterView, Held, Runs, arrived_held, held_at, head_of, after_head, after_sent, next_count}
+use Rattle.cluster_core.specs.Residents.{process_in, residents_after}
+use Rattle.cluster_core.specs.Parts.{held_in, posts_of}
 use Rattle.cluster_core.specs.Queue.{IsQueueLegal, tells_steps, is_move_of, move_of, taken_by, state_by, state_now}
-use Rattle.cert_sched.specs.Rests.{home_pids}
 use Rattle.cluster_core.specs.Holds.{IsHeldAs}
 use Rattle.cluster_core.specs.Follows.{FollowsBuilt, IsOpen, StandsBetween}
-use Rattle.cluster_core.specs.Calls.{IsReady, Absorbs, absorbed, without_ended}
-use Rattle.cluster_core.proofs.Telling.{Telling, telling, not_done, told_process, other_process, done_is, same_silent, same_emission, same_items}
-use Rattle.cluster_core.proofs.Homes.{HomeHere, home_here, pids_home, home_exit, without, rising_none, rising_one}
+use Rattle.cluster_core.specs.Calls.{IsReady, Absorbs, absorbed, here_after}
+use Rattle.cluster_core.proofs.Here.{arrival_at, arrival_small, arrival_state, held_after, held_here, held_of, is_among, pid_same, pids_held, runs_here, same_itself, was_here}
+use Rattle.cluster_core.proofs.Telling.{Telling, telling, not_done, items_told, sends_still, silent_still, told_now}
+use Rattle.cluster_core.proofs.Owning.{brings_none}
+use Rattle.cluster_core.proofs.Homes.{HomeHere, home_here, pids_home, home_exit, without}
 
 -- ---- one open step
 
@@ -56,13 +62,14 @@ pub record Next (system : System) (log : List Entry) (e : Entry) : Type 0 where
   pub legal : IsLegalBy BuiltMayFollow system log
   pub more : IsLegalBy BuiltMayFollow system (log ++ e ∷ [])
   pub may : BuiltMayFollow system log e
+  pub before : is_over system log ≡ false
   pub goes_on : is_over system (log ++ e ∷ []) ≡ false
   pub told : Telling system log e
 
 pub next_of : (system : System) (log : List Entry) (e : Entry) → IsOpen BuiltMayFollow system log → IsOpen BuiltMayFollow system (log ++ e ∷ []) → Next system log e
 next_of system log e now later =
     let may = IsLegal-last BuiltMayFollow system log e later.0 in
-    record { legal = now.0; more = later.0; may = may; goes_on = later.1; told = telling system log e may (not_done system log e later.1) }
+    record { legal = now.0; more = later.0; may = may; before = now.1; goes_on = later.1; told = telling system log e may (not_done system log e later.1) }
 
 -- ---- whose entry it is
 
@@ -76,9 +83,6 @@ by_one k Bus b home at bt from = absurd (true≢false (sym at))
 -- the home of a process that an entry tells of sent it
 by_home_of : (places : Places) (by : By) (p : Pid) → is_by_home places by (Some p) ≡ true → is_by by (home_at places p) ≡ true
 by_home_of places by p h = (and_parts (is_living places by) (is_by by (home_at places p)) h).1
-
-pub pid_same : (p q : Pid) → p.0 ≡ q.0 → p ≡ q
-pid_same p q h = λ i. record { 0 = h i }
 
 -- an entry by another cluster tells of another process than one that is at home here
 pub apart : (system : System) (log : List Entry) (e : Entry) (t : Telling system log e) (k : ClusterNo) (p : Pid) → HomeHere (placement system log) p k → is_by_cluster k e ≡ false → p.0 ≢ (t.pid).0
@@ -124,68 +128,80 @@ moves_it p (post ∷ rest) w h = by_test (is_move_of p post) refl h (moves_it p 
     by_test true is h more = let same : post.what ≡ w = cc in ap process_of (sym same) ∙ of_post (tells_steps post.what) is
     by_test false is h more = more h
 
--- a process that is the same in both logs is the same ahead of both
-pub now_stays : (system : System) (log more : List Entry) (queue : List Post) (p : Pid) (n : ℕ) → process_after system more p ≡ process_after system log p → state_now system more queue p n ≡ state_now system log queue p n
-now_stays system log more queue p n same = by_move (move_of p queue) refl
+-- what a post of a cluster tells, which is never the end
+pub no_end : (k : ClusterNo) (places : Places) (by : By) (w : What) → is_from k by ≡ true → is_by_right places by w ≡ true → is_done w ≡ false
+no_end k places (Cluster j) (Done rests) from right = absurd (true≢false (sym right))
+no_end k places Bus (Done rests) from right = absurd (true≢false (sym from))
+no_end k places by (Mail at letter) from right = refl
+no_end k places by (Exit pid at end) from right = refl
+no_end k places by (Birth parent at child end) from right = refl
+no_end k places by (Page pid at index bytes) from right = refl
+no_end k places by (Sync pid small read took) from right = refl
+no_end k places by (Fetch pid index) from right = refl
+no_end k places by (PageIs pid index bytes) from right = refl
+no_end k places by (Crash j cause) from right = refl
+no_end k places by (Return j) from right = refl
+no_end k places by (Rebackup to fresh recs) from right = refl
+no_end k places by Stop from right = refl
+
+-- a letter and an exit leave what their step left
+taken_same : (w : What) (p : Pid) (at : ℕ) (m : Emission) (s : ProcState) → Tells p at m w → taken_by w s ≡ s
+taken_same w p at (Sent letter) s tells = ap (λ w. taken_by w s) tells.1
+taken_same w p at (Ended end) s tells = ap (λ w. taken_by w s) tells
+
+tells_same : (system : System) (log : List Entry) (e : Entry) (t : Telling system log e) → tells_steps (what e) ≡ true
+tells_same system log e t = by_emission t.emission t.tells
   where
-    by_move : (o : Option What) → move_of p queue ≡ o → state_by system more p n o ≡ state_by system log p n o
-    by_move None is = same_silent system log more p n same
-    by_move (Some w) is = ap (option_map (taken_by w)) (same_items system log more w p (moves_it p queue w is) same)
+    by_emission : (m : Emission) → Tells t.pid t.at m (what e) → tells_steps (what e) ≡ true
+    by_emission (Sent letter) tells = ap tells_steps tells.1
+    by_emission (Ended end) tells = ap tells_steps tells
 
--- what is held of one process is of that one
-held_one : (w : What) (p0 : Pid) (h0 : Held) (p : Pid) (h : Held) → option_map (λ (e : Pid × Held). e.1) (find (λ (e : Pid × Held). same_pid e.0 p) (without_ended w ((p0, h0) ∷ []))) ≡ Some h → (p0 ≡ p) × (h0 ≡ h)
-held_one w p0 h0 p h is = by_what w is
+-- a process at home that has not ended, where its cluster has at most one post, which may follow: after an entry of another process it is
+-- where it was, with the letter where that goes there
+now_arrives : (system : System) (log : List Entry) (e : Entry) (n : Next system log e) (k : ClusterNo) (q : Option Post) (p : Pid) (steps : ℕ) (s : ProcState) → list_all (λ (post : Post). is_from k post.by) (posts_of q) ≡ true
+    → IsQueueLegal BuiltMayFollow system log (posts_of q) → p.0 ≢ ((n.told).pid).0 → is_some (unended_at (placement system log) p) ≡ true → state_now system log (posts_of q) p steps ≡ Some s
+    → state_now system (log ++ e ∷ []) (posts_of q) p steps ≡ Some (with_arrival (n.told).emission p s)
+now_arrives system log e n k None p steps s own legal apart placed was = silent_still system log e n.told p steps s n.legal n.before apart placed was
+now_arrives system log e n k (Some post) p steps s own legal apart placed was = by_move (is_move_of p post) refl was
   where
-    one : (b : Bool) → same_pid p0 p ≡ b → option_map (λ (e : Pid × Held). e.1) (cond b (Some (p0, h0)) None) ≡ Some h → (p0 ≡ p) × (h0 ≡ h)
-    one true at is = (pid_same p0 p (eqb-true p0.0 p.0 at), cc)
-    one false at is = cc
+    u : Telling system log (entry_of system log post)
+    u = telling system log (entry_of system log post) legal.0 (no_end k (placement system log) post.by post.what (and_parts (is_from k post.by) true own).0 ((legal.0).stands).by_right)
 
-    exits : (b : Bool) → option_map (λ (e : Pid × Held). e.1) (find (λ (e : Pid × Held). same_pid e.0 p) (cond b ((p0, h0) ∷ []) [])) ≡ Some h → (p0 ≡ p) × (h0 ≡ h)
-    exits true is = one (same_pid p0 p) refl is
-    exits false is = cc
+    move_is : (b : Bool) → is_move_of p post ≡ b → move_of p (post ∷ []) ≡ cond b (Some post.what) None
+    move_is b is = ap (λ c. option_map (λ (post : Post). post.what) (cond c (Some post) None)) is ∙ by_bool b
+      where
+        by_bool : (b : Bool) → option_map (λ (post : Post). post.what) (cond b (Some post) None) ≡ cond b (Some post.what) None
+        by_bool true = refl
+        by_bool false = refl
 
-    by_what : (w : What) → option_map (λ (e : Pid × Held). e.1) (find (λ (e : Pid × Held). same_pid e.0 p) (without_ended w ((p0, h0) ∷ []))) ≡ Some h → (p0 ≡ p) × (h0 ≡ h)
-    by_what (Exit pid at end) is = exits (not (same_pid p0 pid)) is
-    by_what (Mail at letter) is = one (same_pid p0 p) refl is
-    by_what (Birth parent at child end) is = one (same_pid p0 p) refl is
-    by_what (Page pid at index bytes) is = one (same_pid p0 p) refl is
-    by_what (Sync pid small read took) is = one (same_pid p0 p) refl is
-    by_what (Fetch pid index) is = one (same_pid p0 p) refl is
-    by_what (PageIs pid index bytes) is = one (same_pid p0 p) refl is
-    by_what (Crash k cause) is = one (same_pid p0 p) refl is
-    by_what (Return k) is = one (same_pid p0 p) refl is
-    by_what (Rebackup to fresh recs) is = one (same_pid p0 p) refl is
-    by_what (Done rests) is = one (same_pid p0 p) refl is
-    by_what Stop is = one (same_pid p0 p) refl is
+    moved : (q : Pid) → u.pid ≡ q → q.0 ≢ ((n.told).pid).0 → option_map (taken_by post.what) (after_items system log post.what) ≡ Some s
+        → option_map (taken_by post.what) (after_items system (log ++ e ∷ []) post.what) ≡ Some (with_arrival (n.told).emission q s)
+    moved q of apart is =
+        let left : taken_by post.what u.after ≡ s = some_same (taken_by post.what u.after) s (sym (ap (option_map (taken_by post.what)) u.items) ∙ is) in
+        let ends : u.after ≡ s = sym (taken_same post.what u.pid u.at u.emission u.after u.tells) ∙ left in
+        let sends = sends_still system log e n.told u.pid u.at u.emission u.after (λ same. apart (ap (λ (r : Pid). r.0) (sym of) ∙ same)) u.is in
+        ap (option_map (taken_by post.what)) (items_told system (log ++ e ∷ []) post.what u.pid u.at u.emission (with_arrival (n.told).emission u.pid u.after) sends u.tells)
+        ∙ ap Some (taken_same post.what u.pid u.at u.emission (with_arrival (n.told).emission u.pid u.after) u.tells)
+        ∙ (λ i. Some (with_arrival (n.told).emission (of i) (ends i)))
 
-held_none : (w : What) (p : Pid) (h : Held) → option_map (λ (e : Pid × Held). e.1) (find (λ (e : Pid × Held). same_pid e.0 p) (without_ended w [])) ≡ Some h → ⊥
-held_none (Exit pid at end) p h is = cc
-held_none (Mail at letter) p h is = cc
-held_none (Birth parent at child end) p h is = cc
-held_none (Page pid at index bytes) p h is = cc
-held_none (Sync pid small read took) p h is = cc
-held_none (Fetch pid index) p h is = cc
-held_none (PageIs pid index bytes) p h is = cc
-held_none (Crash k cause) p h is = cc
-held_none (Return k) p h is = cc
-held_none (Rebackup to fresh recs) p h is = cc
-held_none (Done rests) p h is = cc
-held_none Stop p h is = cc
-
-pub there : (c : ClusterView) (r : Resident) → c.here ≡ held_here (Some r) → held_at c r.pid ≡ Some (Runs r.process)
-there c r is =
-    ap (λ here. option_map (λ (e : Pid × Held). e.1) (find (λ (e : Pid × Held). same_pid e.0 r.pid) here)) is
-    ∙ ap (λ b. option_map (λ (e : Pid × Held). e.1) (cond b (Some (r.pid, Runs r.process)) None)) (eq-eqb (r.pid).0 (r.pid).0 refl)
+    by_move : (b : Bool) → is_move_of p post ≡ b → state_now system log (post ∷ []) p steps ≡ Some s → state_now system (log ++ e ∷ []) (post ∷ []) p steps ≡ Some (with_arrival (n.told).emission p s)
+    by_move true is was =
+        let of : u.pid ≡ p = some_same u.pid p (sym u.process ∙ moves_it p (post ∷ []) post.what (move_is true is)) in
+        ap (state_by system (log ++ e ∷ []) p steps) (move_is true is) ∙ moved p of apart (sym (ap (state_by system log p steps) (move_is true is)) ∙ was)
+    by_move false is was =
+        ap (state_by system (log ++ e ∷ []) p steps) (move_is false is)
+        ∙ silent_still system log e n.told p steps s n.legal n.before apart placed (sym (ap (state_by system log p steps) (move_is false is)) ∙ was)
 
 -- ---- each once
 
-abbrev pub pids_held : List (Pid × Held) → List ℕ
-pids_held here = map (λ (e : Pid × Held). (e.0).0) here
-
--- with one process at most, those here are exactly those at home
-pub exactly : (r : Option Resident) (ns : List ℕ) → rising (pids_held (held_here r)) ≡ rising ns → ns ≡ pids_held (held_here r)
-exactly None ns h = rising_none ns (sym h)
-exactly (Some r) ns h = rising_one ns (r.pid).0 (sym h)
+letter_pids : (at : Pid → Bool) (f : Held → Held) (here : List (Pid × Held)) → pids_held (map (λ (e : Pid × Held). cond (at e.0) (e.0, f e.1) e) here) ≡ pids_held here
+letter_pids at f [] = refl
+letter_pids at f (e ∷ here) = by_test (at e.0) (letter_pids at f here)
+  where
+    by_test : (b : Bool) → pids_held (map (λ (e : Pid × Held). cond (at e.0) (e.0, f e.1) e) here) ≡ pids_held here
+        → ((cond b (e.0, f e.1) e).0).0 ∷ pids_held (map (λ (e : Pid × Held). cond (at e.0) (e.0, f e.1) e) here) ≡ (e.0).0 ∷ pids_held here
+    by_test true more = ap (λ ns. (e.0).0 ∷ ns) more
+    by_test false more = ap (λ ns. (e.0).0 ∷ ns) more
 
 held_exit : (p : Pid) (here : List (Pid × Held)) → pids_held (filter (λ (e : Pid × Held). not (same_pid e.0 p)) here) ≡ without p.0 (pids_held here)
 held_exit p [] = refl
@@ -196,15 +212,22 @@ held_exit p (e ∷ here) = by_test (not (same_pid e.0 p)) (held_exit p here)
     by_test true more = ap (λ ns. (e.0).0 ∷ ns) more
     by_test false more = more
 
-once_after : (system : System) (log : List Entry) (e : Entry) (t : Telling system log e) (k : ClusterNo) (here : List (Pid × Held)) → home_pids system log k ≡ pids_held here
-    → pids_held (without_ended (what e) here) ≡ home_pids system (log ++ e ∷ []) k
-once_after system log e t k here exact = by_emission t.emission t.tells ∙ sym (ap (λ (places : Places). pids_home k places.placed) (placement-snoc system log e))
+-- the pids here are those at home after the entry too
+once_after : (system : System) (log : List Entry) (e : Entry) (t : Telling system log e) (k : ClusterNo) (here : List (Pid × Held)) → rising (pids_held here) ≡ rising (home_pids system log k)
+    → rising (pids_held (here_after (what e) here)) ≡ rising (home_pids system (log ++ e ∷ []) k)
+once_after system log e t k here same = by_emission t.emission t.tells ∙ ap rising (sym (ap (λ (places : Places). pids_home k places.placed) (placement-snoc system log e)))
   where
-    by_emission : (m : Emission) → Tells t.pid t.at m (what e) → pids_held (without_ended (what e) here) ≡ pids_home k (placed_after (placement system log) (what e)).placed
-    by_emission (Sent letter) tells = ap (λ w. pids_held (without_ended w here)) tells.1 ∙ sym exact ∙ ap (λ w. pids_home k (placed_after (placement system log) w).placed) (sym tells.1)
+    by_emission : (m : Emission) → Tells t.pid t.at m (what e) → rising (pids_held (here_after (what e) here)) ≡ rising (pids_home k (placed_after (placement system log) (what e)).placed)
+    by_emission (Sent letter) tells =
+        ap (λ w. rising (pids_held (here_after w here))) tells.1
+        ∙ ap rising (letter_pids (λ q. is_end_of q letter.to) (λ h. arrived_held h letter) here)
+        ∙ same ∙ ap (λ w. rising (pids_home k (placed_after (placement system log) w).placed)) (sym tells.1)
     by_emission (Ended end) tells =
-        ap (λ w. pids_held (without_ended w here)) tells ∙ held_exit t.pid here ∙ ap (without (t.pid).0) (sym exact) ∙ sym (home_exit k t.pid (placement system log).placed)
-        ∙ ap (λ w. pids_home k (placed_after (placement system log) w).placed) (sym tells)
+        ap (λ w. rising (pids_held (here_after w here))) tells
+        ∙ ap rising (held_exit t.pid here)
+        ∙ rising-same (λ m. not (eqb m (t.pid).0)) (pids_held here) (home_pids system log k) same
+        ∙ ap rising (sym (home_exit k t.pid (placement system log).placed))
+        ∙ ap (λ w. rising (pids_home k (placed_after (placement system log) w).placed)) (sym tells)
 
 -- ---- kernel steps
 
@@ -229,28 +252,8 @@ at_most_one false = omega arith
 
 -- ---- posts
 
--- what a post of a cluster tells, which is never the end
-pub no_end : (k : ClusterNo) (places : Places) (by : By) (w : What) → is_from k by ≡ true → is_by_right places by w ≡ true → is_done w ≡ false
-no_end k places (Cluster j) (Done rests) from right = absurd (true≢false (sym right))
-no_end k places Bus (Done rests) from right = absurd (true≢false (sym from))
-no_end k places by (Mail at letter) from right = refl
-no_end k places by (Exit pid at end) from right = refl
-no_end k places by (Birth parent at child end) from right = refl
-no_end k places by (Page pid at index bytes) from right = refl
-no_end k places by (Sync pid small read took) from right = refl
-no_end k places by (Fetch pid index) from right = refl
-no_end k places by (PageIs pid index bytes) from right = refl
-no_end k places by (Crash j cause) from right = refl
-no_end k places by (Return j) from right = refl
-no_end k places by (Rebackup to fresh recs) from right = refl
-no_end k places by Stop from right = refl
-
 pub no_child : (system : System) (log : List Entry) (p : Pid) → births_of log ≡ [] → has_unsynced_child system log p ≡ false
 no_child system log p none = ap (λ bs. list_any (λ (b : Pid × Pid). same_pid b.0 p && is_unsynced (placement system log) b.1) bs) none
-
--- what a post sends stays so after an entry of another process
-sent_stays : (system : System) (log more : List Entry) (p : Pid) (at : ℕ) (m : Emission) → process_after system more p ≡ process_after system log p → IsSent system log p at m → IsSent system more p at m
-sent_stays system log more p at m same h = ap (option_map (λ (r : Emission × ProcState). r.0)) (same_emission system log more p at same) ∙ h
 
 -- a post of a cluster may follow after one more entry of another
 post_stays : (system : System) (log : List Entry) (e : Entry) (n : Next system log e) (k : ClusterNo) (post : Post) → is_by_cluster k e ≡ false → is_from k post.by ≡ true → BuiltMayFollow system log (entry_of system log post)
@@ -259,7 +262,7 @@ post_stays system log e n k post foreign own may = record {
   stands = record {
     placed = (refl, refl, n.goes_on);
     by_right = right;
-    applies = sent_applies system more (entry_of system more post) u.pid u.at u.emission u.after (same_emission system log more u.pid u.at same ∙ u.is) u.tells;
+    applies = sent_applies system more (entry_of system more post) u.pid u.at u.emission (with_arrival (n.told).emission u.pid u.after) sends u.tells;
     kind = kind_of u.emission u.tells;
   };
   built = may.built;
@@ -277,8 +280,8 @@ post_stays system log e n k post foreign own may = record {
         let by_e : is_by (e.post).by (home_at (placement system log) (n.told).pid) ≡ true = by_home_of (placement system log) (e.post).by (n.told).pid (n.told).by_home in
         true≢false (sym (by_one k post.by (e.post).by (home_at (placement system log) u.pid) by_u (subst (λ p. is_by (e.post).by (home_at (placement system log) p) ≡ true) (sym (pid_same u.pid (n.told).pid is)) by_e) own) ∙ foreign)
 
-    same : process_after system more u.pid ≡ process_after system log u.pid
-    same = other_process system log e n.told u.pid other
+    sends : emission_at system more u.pid u.at ≡ Some (u.emission, with_arrival (n.told).emission u.pid u.after)
+    sends = sends_still system log e n.told u.pid u.at u.emission u.after other u.is
 
     found : home_at (placement system more) u.pid ≡ home_at (placement system log) u.pid
     found = ap (option_map (λ (q : Placed). q.home)) (found_stays system log e n.told u.pid other)
@@ -294,7 +297,7 @@ post_stays system log e n k post foreign own may = record {
     right = right_of u.emission u.tells
 
     emits : (m : Emission) → u.emission ≡ m → IsSent system more u.pid u.at m
-    emits m is = ap (option_map (λ (r : Emission × ProcState). r.0)) (same_emission system log more u.pid u.at same ∙ u.is) ∙ ap Some is
+    emits m is = ap (option_map (λ (r : Emission × ProcState). r.0)) sends ∙ ap Some is
 
     kind_by : (m : Emission) → u.emission ≡ m → Tells u.pid u.at m post.what → KindHolds system more (entry_of system more post) post.what
     kind_by (Sent letter) is tells = subst (λ w. KindHolds system more (entry_of system more post) w) (sym tells.1) (subst (λ p. IsSent system more p u.at (Sent letter)) (sym tells.0) (emits (Sent letter) is))
@@ -305,19 +308,28 @@ post_stays system log e n k post foreign own may = record {
 
 -- ---- the whole, for an entry of another cluster
 
+-- a process to which what an emission says has arrived is held as the log says
+held_arrived : (system : System) (log : List Entry) (queue posts : List Post) (w : What) (sender : Pid) (at : ℕ) (m : Emission) (p : Pid) (s : Process) → queue ≡ posts → Tells sender at m w
+    → state_now system log posts p (s.small).steps ≡ Some (with_arrival m p (state_of s)) → IsHeldAs system log queue p (Runs (arrival_at w p s))
+held_arrived system log queue posts w sender at m p s same tells is =
+    (λ i. state_now system log (same i) p (arrival_small w p s i).steps) ∙ is ∙ ap Some (sym (arrival_state w sender at m p s tells))
+
 -- what is held stays what the log says
-held_foreign : (c : ClusterView) (log : List Entry) (e : Entry) (n : Next c.system log e) (r : Option Resident) → c.here ≡ held_here r → pids_differ (placement c.system log).placed ≡ true
+held_foreign : (c : ClusterView) (log : List Entry) (e : Entry) (n : Next c.system log e) (rs : List (Pid × Process)) (q : Option Post) → c.here ≡ held_in rs → c.queue ≡ posts_of q → pids_differ (placement c.system log).placed ≡ true
     → FollowsBuilt c.system log c → is_by_cluster c.number e ≡ false → (p : Pid) (h : Held) → held_at (absorbed c e) p ≡ Some h → IsHeldAs c.system (log ++ e ∷ []) c.queue p h
-held_foreign c log e n None is differ f foreign p h at = absurd (held_none (what e) p h (ap (λ here. option_map (λ (e : Pid × Held). e.1) (find (λ (e : Pid × Held). same_pid e.0 p) (without_ended (what e) here))) (sym is) ∙ at))
-held_foreign c log e n (Some r) is differ f foreign p h at =
-    let one = held_one (what e) r.pid (Runs r.process) p h (ap (λ here. option_map (λ (e : Pid × Held). e.1) (find (λ (e : Pid × Held). same_pid e.0 p) (without_ended (what e) here))) (sym is) ∙ at) in
-    let exact : home_pids c.system log c.number ≡ (r.pid).0 ∷ [] = exactly (Some r) (home_pids c.system log c.number) (ap (λ here. rising (pids_held here)) (sym is) ∙ f.each_once) in
-    let here = home_here (placement c.system log) c.number r.pid differ exact in
-    let other = apart c.system log e n.told c.number r.pid here foreign in
-    let old : IsHeldAs c.system log c.queue r.pid (Runs r.process) = f.held r.pid (Runs r.process) (there c r is) in
-    let new : IsHeldAs c.system (log ++ e ∷ []) c.queue r.pid (Runs r.process) =
-    now_stays c.system log (log ++ e ∷ []) c.queue r.pid ((r.process).small).steps (other_process c.system log e n.told r.pid other) ∙ old in
-    subst (λ q. IsHeldAs c.system (log ++ e ∷ []) c.queue q h) one.0 (subst (λ h. IsHeldAs c.system (log ++ e ∷ []) c.queue r.pid h) one.1 new)
+held_foreign c log e n rs q here_is queue_is differ f foreign p h at =
+    let after : held_of (held_in (residents_after (what e) rs)) p ≡ Some h = ap (λ hs. held_of hs p) (held_after (what e) rs ∙ ap (here_after (what e)) (sym here_is)) ∙ at in
+    let now = runs_here (residents_after (what e) rs) p h after in
+    let before = was_here (what e) rs p now.process now.there in
+    let home = home_here (placement c.system log) c.number (pids_held (held_in rs)) p differ (ap (λ hs. rising (pids_held hs)) (sym here_is) ∙ f.each_once) (is_among rs p before.was before.there) in
+    let other = apart c.system log e n.told c.number p home foreign in
+    let old : IsHeldAs c.system log c.queue p (Runs before.was) = f.held p (Runs before.was) (held_here c rs p before.was here_is before.there) in
+    let own = subst (λ ps. list_all (λ (post : Post). is_from c.number post.by) ps ≡ true) queue_is f.own in
+    let legal = subst (IsQueueLegal BuiltMayFollow c.system log) queue_is f.queue in
+    let there : state_now c.system log (posts_of q) p ((before.was).small).steps ≡ Some (state_of before.was) = ap (λ ps. state_now c.system log ps p ((before.was).small).steps) (sym queue_is) ∙ old in
+    let moved = now_arrives c.system log e n c.number q p ((before.was).small).steps (state_of before.was) own legal other (ap is_some home.found) there in
+    let new : IsHeldAs c.system (log ++ e ∷ []) c.queue p (Runs (arrival_at (what e) p before.was)) = held_arrived c.system (log ++ e ∷ []) c.queue (posts_of q) (what e) (n.told).pid (n.told).at (n.told).emission p before.was queue_is (n.told).tells moved in
+    subst (λ h. IsHeldAs c.system (log ++ e ∷ []) c.queue p h) (ap Runs (sym before.same) ∙ sym now.is) new
 
 queue_foreign : (c : ClusterView) (log : List Entry) (e : Entry) (n : Next c.system log e) (q : Option Post) → is_by_cluster c.number e ≡ false → list_all (λ (post : Post). is_from c.number post.by) (posts_of q) ≡ true
     → IsQueueLegal BuiltMayFollow c.system log (posts_of q) → IsQueueLegal BuiltMayFollow c.system (log ++ e ∷ []) (posts_of q)
@@ -331,13 +343,13 @@ counted_foreign c log e foreign h =
     let next : capped (least_steps log log c.number + cond c.tried 1 0 + 1) ≤ next_count c.steps = capped_next (least_steps log log c.number + cond c.tried 1 0) c.steps h in
     capped_less (least_steps (log ++ e ∷ []) (log ++ e ∷ []) c.number + cond c.tried 1 0) (least_steps log log c.number + cond c.tried 1 0 + 1) (next_count c.steps) (omega (arith, more)) next
 
-pub follows_foreign : (c : ClusterView) (log : List Entry) (e : Entry) (n : Next c.system log e) (r : Option Resident) (q : Option Post) → c.here ≡ held_here r → c.queue ≡ posts_of q
+pub follows_foreign : (c : ClusterView) (log : List Entry) (e : Entry) (n : Next c.system log e) (rs : List (Pid × Process)) (q : Option Post) → c.here ≡ held_in rs → c.queue ≡ posts_of q
     → pids_differ (placement c.system log).placed ≡ true → FollowsBuilt c.system log c → is_by_cluster c.number e ≡ false → FollowsBuilt c.system (log ++ e ∷ []) (absorbed c e)
-follows_foreign c log e n r q here_is queue_is differ f foreign = record {
+follows_foreign c log e n rs q here_is queue_is differ f foreign = record {
   cursor = ap (λ m. m + 1) f.cursor ∙ sym (length-append log (e ∷ []));
   places = ap (λ (p : Places). placed_after p (what e)) f.places ∙ sym (placement-snoc c.system log e);
-  held = held_foreign c log e n r here_is differ f foreign;
-  each_once = ap rising (once_after c.system log e n.told c.number c.here (exactly r (home_pids c.system log c.number) (ap (λ here. rising (pids_held here)) (sym here_is) ∙ f.each_once) ∙ ap pids_held (sym here_is)));
+  held = held_foreign c log e n rs q here_is queue_is differ f foreign;
+  each_once = once_after c.system log e n.told c.number c.here f.each_once;
   own = f.own;
   queue = subst (IsQueueLegal BuiltMayFollow c.system (log ++ e ∷ [])) (sym queue_is)
       (queue_foreign c log e n q foreign (subst (λ ps. list_all (λ (post : Post). is_from c.number post.by) ps ≡ true) queue_is f.own) (subst (IsQueueLegal BuiltMayFollow c.system log) queue_is f.queue));
@@ -387,38 +399,13 @@ left_of c log e built empty s = by_queue (s.before).queue refl s.head s.sent
           same = left ∙ ap (λ (ps : List Post). record (s.before) { queue = ps; tried = false }) none;
         }
 
--- a letter and an exit leave what their step left
-taken_same : (system : System) (log : List Entry) (e : Entry) (t : Telling system log e) (s : ProcState) → taken_by (what e) s ≡ s
-taken_same system log e t s = by_emission t.emission t.tells
-  where
-    by_emission : (m : Emission) → Tells t.pid t.at m (what e) → taken_by (what e) s ≡ s
-    by_emission (Sent letter) tells = ap (λ w. taken_by w s) tells.1
-    by_emission (Ended end) tells = ap (λ w. taken_by w s) tells
-
-tells_same : (system : System) (log : List Entry) (e : Entry) (t : Telling system log e) → tells_steps (what e) ≡ true
-tells_same system log e t = by_emission t.emission t.tells
-  where
-    by_emission : (m : Emission) → Tells t.pid t.at m (what e) → tells_steps (what e) ≡ true
-    by_emission (Sent letter) tells = ap tells_steps tells.1
-    by_emission (Ended end) tells = ap tells_steps tells
-
--- a process at its own step count
-at_once : (system : System) (log : List Entry) (p : Pid) (s : ProcState) → process_after system log p ≡ Some s → silent_upto system log p (s.small).steps ≡ Some s
-unfolding silent_upto silently
-at_once system log p s is =
-    let done : done_after system log p ≡ (s.small).steps = done_is system log p ∙ ap (λ o. option_map_or (λ (s : ProcState). (s.small).steps) o 0) is in
-    let none : (s.small).steps - done_after system log p ≡ 0 = omega (arith, done) in
-    ap (λ m. option_and_then (silently m) (process_after system log p)) none ∙ ap (option_and_then (silently 0)) is
-
--- the process that the post tells of is where its step left it
-now_told : (system : System) (log : List Entry) (e : Entry) (n : Next system log e) (p : Pid) (s : ProcState) → state_now system log (e.post ∷ []) p (s.small).steps ≡ Some s → state_now system (log ++ e ∷ []) [] p (s.small).steps ≡ Some s
-now_told system log e n p s was = by_pid (same_pid (n.told).pid p) refl
+-- a process of a cluster whose only post became the entry
+now_told : (system : System) (log : List Entry) (e : Entry) (n : Next system log e) (p : Pid) (steps : ℕ) (s : ProcState) → (s.small).steps ≡ steps → is_some (unended_at (placement system log) p) ≡ true
+    → state_now system log (e.post ∷ []) p steps ≡ Some s → state_now system (log ++ e ∷ []) [] p steps ≡ Some (with_arrival (n.told).emission p s)
+now_told system log e n p steps s count placed was = by_pid (same_pid (n.told).pid p) refl
   where
     t : Telling system log e
     t = n.told
-
-    more : List Entry
-    more = log ++ e ∷ []
 
     move_is : (b : Bool) → same_pid t.pid p ≡ b → move_of p (e.post ∷ []) ≡ cond b (Some (what e)) None
     move_is b is =
@@ -429,28 +416,30 @@ now_told system log e n p s was = by_pid (same_pid (n.told).pid p) refl
         by_bool true = refl
         by_bool false = refl
 
-    by_pid : (b : Bool) → same_pid t.pid p ≡ b → state_now system more [] p (s.small).steps ≡ Some s
+    by_pid : (b : Bool) → same_pid t.pid p ≡ b → state_now system (log ++ e ∷ []) [] p steps ≡ Some (with_arrival t.emission p s)
     by_pid true is =
         let me : t.pid ≡ p = pid_same t.pid p (eqb-true (t.pid).0 p.0 is) in
-        let after : option_map (taken_by (what e)) (after_items system log (what e)) ≡ Some s = sym (ap (state_by system log p (s.small).steps) (move_is true is)) ∙ was in
+        let after : option_map (taken_by (what e)) (after_items system log (what e)) ≡ Some s = sym (ap (state_by system log p steps) (move_is true is)) ∙ was in
         let left : taken_by (what e) t.after ≡ s = some_same (taken_by (what e) t.after) s (sym (ap (option_map (taken_by (what e))) t.items) ∙ after) in
-        let ends : t.after ≡ s = sym (taken_same system log e t t.after) ∙ left in
-        let there : process_after system more p ≡ Some s = ap (process_after system more) (sym me) ∙ told_process system log e t ∙ ap Some ends in
-        at_once system more p s there
+        let ends : t.after ≡ s = sym (taken_same (what e) t.pid t.at t.emission t.after t.tells) ∙ left in
+        let counted : ((t.after).small).steps ≡ steps = ap (λ (s : ProcState). (s.small).steps) ends ∙ count in
+        (λ i. silent_upto system (log ++ e ∷ []) (sym me i) (sym counted i)) ∙ told_now system log e t ∙ (λ i. Some (with_arrival t.emission (me i) (ends i)))
     by_pid false is =
         let other : p.0 ≢ (t.pid).0 = λ same. true≢false (sym (eq-eqb (t.pid).0 p.0 (sym same)) ∙ is) in
-        same_silent system log more p (s.small).steps (other_process system log e t p other) ∙ sym (ap (state_by system log p (s.small).steps) (move_is false is)) ∙ was
+        silent_still system log e t p steps s n.legal n.before other placed (sym (ap (state_by system log p steps) (move_is false is)) ∙ was)
 
-held_own : (c : ClusterView) (log : List Entry) (e : Entry) (n : Next c.system log e) (l : Left c log e) (r : Option Resident) → c.here ≡ held_here r
-    → (p : Pid) (h : Held) → held_at (absorbed c e) p ≡ Some h → IsHeldAs c.system (log ++ e ∷ []) [] p h
-held_own c log e n l None is p h at = absurd (held_none (what e) p h (ap (λ here. option_map (λ (e : Pid × Held). e.1) (find (λ (e : Pid × Held). same_pid e.0 p) (without_ended (what e) here))) (sym is) ∙ at))
-held_own c log e n l (Some r) is p h at =
-    let one = held_one (what e) r.pid (Runs r.process) p h (ap (λ here. option_map (λ (e : Pid × Held). e.1) (find (λ (e : Pid × Held). same_pid e.0 p) (without_ended (what e) here))) (sym is) ∙ at) in
-    let here : (l.before).here ≡ held_here (Some r) = sym (ap (λ (d : ClusterView). d.here) l.same) ∙ is in
-    let old : state_now c.system log (l.before).queue r.pid ((r.process).small).steps ≡ Some (state_of r.process) = (l.followed).held r.pid (Runs r.process) (there l.before r here) in
-    let new : IsHeldAs c.system (log ++ e ∷ []) [] r.pid (Runs r.process) =
-    now_told c.system log e n r.pid (state_of r.process) (ap (λ ps. state_now c.system log ps r.pid ((r.process).small).steps) (sym l.posts) ∙ old) in
-    subst (λ q. IsHeldAs c.system (log ++ e ∷ []) [] q h) one.0 (subst (λ h. IsHeldAs c.system (log ++ e ∷ []) [] r.pid h) one.1 new)
+held_own : (c : ClusterView) (log : List Entry) (e : Entry) (n : Next c.system log e) (l : Left c log e) (rs : List (Pid × Process)) → c.here ≡ held_in rs → pids_differ (placement c.system log).placed ≡ true
+    → rising (pids_held (held_in rs)) ≡ rising (home_pids c.system log c.number) → (p : Pid) (h : Held) → held_at (absorbed c e) p ≡ Some h → IsHeldAs c.system (log ++ e ∷ []) [] p h
+held_own c log e n l rs here_is differ once p h at =
+    let after : held_of (held_in (residents_after (what e) rs)) p ≡ Some h = ap (λ hs. held_of hs p) (held_after (what e) rs ∙ ap (here_after (what e)) (sym here_is)) ∙ at in
+    let now = runs_here (residents_after (what e) rs) p h after in
+    let was = was_here (what e) rs p now.process now.there in
+    let home = home_here (placement c.system log) c.number (pids_held (held_in rs)) p differ once (is_among rs p was.was was.there) in
+    let here : (l.before).here ≡ held_in rs = sym (ap (λ (d : ClusterView). d.here) l.same) ∙ here_is in
+    let old : state_now c.system log (l.before).queue p ((was.was).small).steps ≡ Some (state_of was.was) = (l.followed).held p (Runs was.was) (held_here l.before rs p was.was here was.there) in
+    let told = now_told c.system log e n p ((was.was).small).steps (state_of was.was) refl (ap is_some home.found) (ap (λ ps. state_now c.system log ps p ((was.was).small).steps) (sym l.posts) ∙ old) in
+    let new : IsHeldAs c.system (log ++ e ∷ []) [] p (Runs (arrival_at (what e) p was.was)) = held_arrived c.system (log ++ e ∷ []) [] [] (what e) (n.told).pid (n.told).at (n.told).emission p was.was refl (n.told).tells told in
+    subst (λ h. IsHeldAs c.system (log ++ e ∷ []) [] p h) (ap Runs (sym was.same) ∙ sym now.is) new
 
 counted_own : (system : System) (log : List Entry) (e : Entry) (k : ClusterNo) (tried : Bool) (steps : ℕ) → tried ≡ true → capped (least_steps log log k + cond tried 1 0) ≤ steps
     → capped (least_steps (log ++ e ∷ []) (log ++ e ∷ []) k + 0) ≤ next_count steps
@@ -460,8 +449,9 @@ counted_own system log e k tried steps is h =
     let more = count_more k log e in
     capped_less (least_steps (log ++ e ∷ []) (log ++ e ∷ []) k + 0) (least_steps log log k + 1 + 1) (next_count steps) (omega (arith, more, one)) (capped_next (least_steps log log k + 1) steps before)
 
-pub follows_own : (c : ClusterView) (log : List Entry) (e : Entry) (n : Next c.system log e) (l : Left c log e) (r : Option Resident) → c.here ≡ held_here r → c.queue ≡ [] → FollowsBuilt c.system (log ++ e ∷ []) (absorbed c e)
-follows_own c log e n l r here_is empty =
+pub follows_own : (c : ClusterView) (log : List Entry) (e : Entry) (n : Next c.system log e) (l : Left c log e) (rs : List (Pid × Process)) → c.here ≡ held_in rs → c.queue ≡ [] → pids_differ (placement c.system log).placed ≡ true
+    → FollowsBuilt c.system (log ++ e ∷ []) (absorbed c e)
+follows_own c log e n l rs here_is empty differ =
     let f = l.followed in
     let here : (l.before).here ≡ c.here = sym (ap (λ (d : ClusterView). d.here) l.same) in
     let number : (l.before).number ≡ c.number = sym (ap (λ (d : ClusterView). d.number) l.same) in
@@ -469,8 +459,8 @@ follows_own c log e n l r here_is empty =
     record {
       cursor = ap (λ m. m + 1) (ap (λ (d : ClusterView). d.cursor) l.same ∙ f.cursor) ∙ sym (length-append log (e ∷ []));
       places = ap (λ (p : Places). placed_after p (what e)) (ap (λ (d : ClusterView). d.places) l.same ∙ f.places) ∙ sym (placement-snoc c.system log e);
-      held = λ p h at. subst (λ ps. IsHeldAs c.system (log ++ e ∷ []) ps p h) (sym empty) (held_own c log e n l r here_is p h at);
-      each_once = ap rising (once_after c.system log e n.told c.number c.here (exactly r (home_pids c.system log c.number) (ap (λ here. rising (pids_held here)) (sym here_is) ∙ once) ∙ ap pids_held (sym here_is)));
+      held = λ p h at. subst (λ ps. IsHeldAs c.system (log ++ e ∷ []) ps p h) (sym empty) (held_own c log e n l rs here_is differ (ap (λ here. rising (pids_held here)) (sym here_is) ∙ once) p h at);
+      each_once = once_after c.system log e n.told c.number c.here once;
       own = ap (λ ps. list_all (λ (post : Post). is_from c.number post.by) ps) empty;
       queue = subst (IsQueueLegal BuiltMayFollow c.system (log ++ e ∷ [])) (sym empty) tt;
       counted = λ kept.
@@ -483,9 +473,27 @@ follows_own c log e n l r here_is empty =
     }
 
 -- a cluster that takes in an entry for which it is ready
-pub absorbs : (c : ClusterView) (e : Entry) (r : Option Resident) (q : Option Post) → c.here ≡ held_here r → c.queue ≡ posts_of q → pids_differ (c.places).placed ≡ true → Absorbs e c (absorbed c e)
-absorbs c e r q here_is queue_is differ log now later ready = by_case (next_of c.system log e now later) ready
+pub absorbs : (c : ClusterView) (e : Entry) (rs : List (Pid × Process)) (q : Option Post) → c.here ≡ held_in rs → c.queue ≡ posts_of q → pids_differ (c.places).placed ≡ true → Absorbs e c (absorbed c e)
+absorbs c e rs q here_is queue_is differ log now later ready = by_case (next_of c.system log e now later) ready
   where
+    placed_as : (f : ClusterView) → FollowsBuilt c.system log f → f.places ≡ c.places → pids_differ (placement c.system log).placed ≡ true
+    placed_as d f same = ap (λ (p : Places). pids_differ p.placed) (sym f.places ∙ same) ∙ differ
+
     by_case : (n : Next c.system log e) → IsReady log e c → FollowsBuilt c.system (log ++ e ∷ []) (absorbed c e)
-    by_case n (inl f) = follows_foreign c log e n r q here_is queue_is (ap (λ (p : Places). pids_differ p.placed) (sym (f.0).places) ∙ differ) f.0 f.1
-    by_case n (inr s) = follows_own c log e n (left_of c log e (n.may).built s.1 s.0) r here_is s.1
+    by_case n (inl f) = follows_foreign c log e n rs q here_is queue_is (placed_as c f.0 refl) f.0 f.1
+    by_case n (inr s) =
+        let l = left_of c log e (n.may).built s.1 s.0 in
+        follows_own c log e n l rs here_is s.1 (placed_as l.before l.followed (sym (ap (λ (d : ClusterView). d.places) l.same)))
+
+-- ---- the letter that it brings
+
+-- an entry that stands in a legal log brings no signal
+pub ready_quiet : (system : System) (log : List Entry) (e : Entry) → IsOpen BuiltMayFollow system log → IsOpen BuiltMayFollow system (log ++ e ∷ []) → brings_none (what e)
+ready_quiet system log e now later = by_emission (n.told).emission (n.told).tells (sent_no_signal system log (n.told).pid (n.told).at (n.told).emission (n.told).after (n.told).is)
+  where
+    n : Next system log e
+    n = next_of system log e now later
+
+    by_emission : (m : Emission) → Tells (n.told).pid (n.told).at m (what e) → sends_none m → brings_none (what e)
+    by_emission (Sent letter) tells quiet = subst brings_none (sym tells.1) quiet
+    by_emission (Ended end) tells quiet = subst brings_none (sym tells) tt

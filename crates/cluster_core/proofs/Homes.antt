@@ -1,5 +1,5 @@
--- The processes at home in a cluster, where that is one at most.
-use Rattle.std.proofs.Common.{◌≡◌, ℕ, refl, sym, ◌∙◌, ap, List, [], ◌∷◌, map, Bool, true, false, cond, not, ◌&&◌, ◌||◌, eqb, eqb-true, eq-eqb, ltb, Option, Some, true≢false}
+-- The processes at home in a cluster.
+use Rattle.std.proofs.Common.{◌≡◌, ℕ, refl, sym, ◌∙◌, ap, List, [], ◌∷◌, map, Bool, true, false, cond, not, ◌&&◌, ◌||◌, eqb, eqb-true, Option, Some, true≢false}
 use Rattle.std.specs.Prelude.{filter, find}
 use Rattle.std.specs.List.{list_any}
 use Rattle.std.proofs.lemmas.Bool.{and_parts}
@@ -9,39 +9,8 @@ use Rattle.bus_msg.specs.declared.placed.Placed.{Placed}
 use Rattle.bus_msg.specs.Places.{Places, same_pid, same_cluster, is_at_home, unended_at}
 use Rattle.bus_msg.specs.PlacedAfter.{after_exit}
 use Rattle.channel_table.specs.Changes.{pids_differ}
-use Rattle.cert_sched.specs.Parts.{rising, put_rising}
-
--- ---- rising numbers
-
-put_some : (n : ℕ) (ms : List ℕ) → put_rising n ms ≡ [] → ⊥
-put_some n [] h = cc
-put_some n (m ∷ ms) h = by_test (ltb n m) h
-  where
-    by_test : (b : Bool) → cond b (n ∷ m ∷ ms) (m ∷ put_rising n ms) ≡ [] → ⊥
-    by_test true h = cc
-    by_test false h = cc
-
-put_two : (n m x : ℕ) (ms : List ℕ) → put_rising n (m ∷ ms) ≡ x ∷ [] → ⊥
-put_two n m x ms h = by_test (ltb n m) h
-  where
-    by_test : (b : Bool) → cond b (n ∷ m ∷ ms) (m ∷ put_rising n ms) ≡ x ∷ [] → ⊥
-    by_test true h = cc
-    by_test false h = let e : put_rising n ms ≡ [] = cc in put_some n ms e
-
-rising_put : (n x : ℕ) (ms : List ℕ) → put_rising n ms ≡ x ∷ [] → (ms ≡ []) × (n ≡ x)
-rising_put n x [] h = (refl, cc)
-rising_put n x (m ∷ ms) h = absurd (put_two n m x ms h)
-
-pub rising_none : (ns : List ℕ) → rising ns ≡ [] → ns ≡ []
-rising_none [] h = refl
-rising_none (n ∷ ns) h = absurd (put_some n (rising ns) h)
-
-pub rising_one : (ns : List ℕ) (x : ℕ) → rising ns ≡ x ∷ [] → ns ≡ x ∷ []
-rising_one [] x h = cc
-rising_one (n ∷ ns) x h =
-    let r = rising_put n x (rising ns) h in
-    let rest : ns ≡ [] = rising_none ns r.0 in
-    ap (λ m. m ∷ ns) r.1 ∙ ap (λ ms. x ∷ ms) rest
+use Rattle.cert_sched.specs.Parts.{rising}
+use Rattle.cert_sched.proofs.RisingLaws.{rising-any}
 
 -- ---- the pids at home
 
@@ -57,22 +26,15 @@ home_more k q qs = by_test (is_at_home k q)
     by_test false = refl
 
 -- a pid at home is one of those that are placed
-among : (k : ClusterNo) (qs : List Placed) (p : ℕ) (ps : List ℕ) (r : Pid) → pids_home k qs ≡ p ∷ ps → r.0 ≡ p → list_any (λ (q : Placed). same_pid q.pid r) qs ≡ true
-among k [] p ps r h is = cc
-among k (q ∷ qs) p ps r h is = by_test (is_at_home k q) (sym (home_more k q qs) ∙ h) (λ e. among k qs p ps r e is)
+among : (k : ClusterNo) (qs : List Placed) (r : Pid) → list_any (λ n. eqb n r.0) (pids_home k qs) ≡ true → list_any (λ (q : Placed). same_pid q.pid r) qs ≡ true
+among k [] r h = absurd (true≢false (sym h))
+among k (q ∷ qs) r h = by_test (is_at_home k q) (same_pid q.pid r) refl (sym (ap (list_any (λ n. eqb n r.0)) (home_more k q qs)) ∙ h) (among k qs r)
   where
-    here : (b : Bool) → b ≡ true → (b || list_any (λ (q : Placed). same_pid q.pid r) qs) ≡ true
-    here true e = refl
-    here false e = absurd (true≢false (sym e))
-
-    later : (b : Bool) → list_any (λ (q : Placed). same_pid q.pid r) qs ≡ true → (b || list_any (λ (q : Placed). same_pid q.pid r) qs) ≡ true
-    later true e = refl
-    later false e = e
-
-    by_test : (b : Bool) → cond b ((q.pid).0 ∷ pids_home k qs) (pids_home k qs) ≡ p ∷ ps → (pids_home k qs ≡ p ∷ ps → list_any (λ (q : Placed). same_pid q.pid r) qs ≡ true)
-        → list_any (λ (q : Placed). same_pid q.pid r) (q ∷ qs) ≡ true
-    by_test true e more = let same : (q.pid).0 ≡ p = cc in here (same_pid q.pid r) (eq-eqb (q.pid).0 r.0 (same ∙ sym is))
-    by_test false e more = later (same_pid q.pid r) (more e)
+    by_test : (b c : Bool) → same_pid q.pid r ≡ c → list_any (λ n. eqb n r.0) (cond b ((q.pid).0 ∷ pids_home k qs) (pids_home k qs)) ≡ true
+        → (list_any (λ n. eqb n r.0) (pids_home k qs) ≡ true → list_any (λ (q : Placed). same_pid q.pid r) qs ≡ true) → (c || list_any (λ (q : Placed). same_pid q.pid r) qs) ≡ true
+    by_test b true is e more = refl
+    by_test true false is e more = more (sym (ap (λ c. c || list_any (λ n. eqb n r.0) (pids_home k qs)) is) ∙ e)
+    by_test false false is e more = more e
 
 -- where a process is placed that is at home in a cluster
 pub record HomeHere (places : Places) (p : Pid) (k : ClusterNo) : Type 0 where
@@ -80,18 +42,17 @@ pub record HomeHere (places : Places) (p : Pid) (k : ClusterNo) : Type 0 where
   pub found : unended_at places p ≡ Some placed
   pub home : same_cluster placed.home k ≡ true
 
-either_false : (a b : Bool) → (not a && b) ≡ true → a ≡ false
-either_false true b h = absurd (true≢false (sym h))
-either_false false b h = refl
-
 abbrev pub FoundAt : List Placed → Pid → ClusterNo → Type 0
 FoundAt qs p k = (q : Placed) × (find (λ (q : Placed). same_pid q.pid p && not q.ended) qs ≡ Some q) × (same_cluster q.home k ≡ true)
 
--- a process that alone is at home is found there, since no other has its pid
-found_here : (k : ClusterNo) (qs : List Placed) (p : Pid) → pids_differ qs ≡ true → pids_home k qs ≡ p.0 ∷ [] → FoundAt qs p k
-found_here k [] p differ h = cc
-found_here k (q ∷ qs) p differ h = by_home (is_at_home k q) refl (sym (home_more k q qs) ∙ h) (λ d e. found_here k qs p d e)
+-- a process with a pid at home is found there, since no other has its pid
+found_here : (k : ClusterNo) (qs : List Placed) (p : Pid) → pids_differ qs ≡ true → list_any (λ n. eqb n p.0) (pids_home k qs) ≡ true → FoundAt qs p k
+found_here k [] p differ h = absurd (true≢false (sym h))
+found_here k (q ∷ qs) p differ h = by_home (is_at_home k q) (same_pid q.pid p) refl refl (sym (ap (list_any (λ n. eqb n p.0)) (home_more k q qs)) ∙ h) (found_here k qs p parts.1)
   where
+    parts : (not (list_any (λ (r : Placed). same_pid r.pid q.pid) qs) ≡ true) × (pids_differ qs ≡ true)
+    parts = and_parts (not (list_any (λ (r : Placed). same_pid r.pid q.pid) qs)) (pids_differ qs) differ
+
     unlike : (b : Bool) → b ≡ false → (f : Option Placed) → cond (b && not q.ended) (Some q) f ≡ f
     unlike true e f = absurd (true≢false e)
     unlike false e f = refl
@@ -101,27 +62,27 @@ found_here k (q ∷ qs) p differ h = by_home (is_at_home k q) refl (sym (home_mo
     alike true false e g f = absurd (true≢false (sym g))
     alike false c e g f = absurd (true≢false (sym e))
 
-    by_home : (b : Bool) → is_at_home k q ≡ b → cond b ((q.pid).0 ∷ pids_home k qs) (pids_home k qs) ≡ p.0 ∷ [] → (pids_differ qs ≡ true → pids_home k qs ≡ p.0 ∷ [] → FoundAt qs p k) → FoundAt (q ∷ qs) p k
-    by_home true at e more =
-        let same : (q.pid).0 ≡ p.0 = cc in
-        let halves = and_parts (same_cluster q.home k) (not q.ended) at in
-        (q, alike (same_pid q.pid p) (not q.ended) (eq-eqb (q.pid).0 p.0 same) halves.1 _, halves.0)
-    by_home false at e more =
-        let parts = and_parts (not (list_any (λ (r : Placed). same_pid r.pid q.pid) qs)) (pids_differ qs) differ in
-        let rest = more parts.1 e in
-        (rest.0, unlike (same_pid q.pid p) (other (same_pid q.pid p) refl e parts.0) _ ∙ rest.1, rest.2)
-      where
-        other : (b : Bool) → same_pid q.pid p ≡ b → pids_home k qs ≡ p.0 ∷ [] → not (list_any (λ (r : Placed). same_pid r.pid q.pid) qs) ≡ true → b ≡ false
-        other false is e none = refl
-        other true is e none =
-            absurd (true≢false (sym (among k qs p.0 [] q.pid e (eqb-true (q.pid).0 p.0 is)) ∙ either_false (list_any (λ (r : Placed). same_pid r.pid q.pid) qs) true (with_true (not (list_any (λ (r : Placed). same_pid r.pid q.pid) qs)) none)))
-          where
-            with_true : (b : Bool) → b ≡ true → (b && true) ≡ true
-            with_true true h = refl
-            with_true false h = h
+    later : same_pid q.pid p ≡ false → FoundAt qs p k → FoundAt (q ∷ qs) p k
+    later is rest = (rest.0, unlike (same_pid q.pid p) is _ ∙ rest.1, rest.2)
 
-pub home_here : (places : Places) (k : ClusterNo) (p : Pid) → pids_differ places.placed ≡ true → pids_home k places.placed ≡ p.0 ∷ [] → HomeHere places p k
-home_here places k p differ h = let f = found_here k places.placed p differ h in record { placed = f.0; found = f.1; home = f.2 }
+    by_home : (b c : Bool) → is_at_home k q ≡ b → same_pid q.pid p ≡ c → list_any (λ n. eqb n p.0) (cond b ((q.pid).0 ∷ pids_home k qs) (pids_home k qs)) ≡ true
+        → (list_any (λ n. eqb n p.0) (pids_home k qs) ≡ true → FoundAt qs p k) → FoundAt (q ∷ qs) p k
+    by_home true true at is e more =
+        let halves = and_parts (same_cluster q.home k) (not q.ended) at in
+        (q, alike (same_pid q.pid p) (not q.ended) is halves.1 _, halves.0)
+    by_home true false at is e more = later is (more (sym (ap (λ c. c || list_any (λ n. eqb n p.0) (pids_home k qs)) is) ∙ e))
+    by_home false false at is e more = later is (more e)
+    by_home false true at is e more =
+        let twice : list_any (λ (r : Placed). same_pid r.pid q.pid) qs ≡ true = among k qs q.pid (ap (λ n. list_any (λ m. eqb m n) (pids_home k qs)) (eqb-true (q.pid).0 p.0 is) ∙ e) in
+        absurd (true≢false (sym parts.0 ∙ ap not twice))
+
+-- where the pids here are those at home, each process that is here is found at home
+pub home_here : (places : Places) (k : ClusterNo) (ns : List ℕ) (p : Pid) → pids_differ places.placed ≡ true → rising ns ≡ rising (pids_home k places.placed) → list_any (λ n. eqb n p.0) ns ≡ true → HomeHere places p k
+home_here places k ns p differ same here =
+    let at_home : list_any (λ n. eqb n p.0) (pids_home k places.placed) ≡ true =
+    sym (rising-any (λ n. eqb n p.0) (pids_home k places.placed)) ∙ ap (list_any (λ n. eqb n p.0)) (sym same) ∙ rising-any (λ n. eqb n p.0) ns ∙ here in
+    let f = found_here k places.placed p differ at_home in
+    record { placed = f.0; found = f.1; home = f.2 }
 
 -- ---- an exit
 

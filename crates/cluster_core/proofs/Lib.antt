@@ -1,5 +1,6 @@
 pub mod Telling
 pub mod Quanta
+pub mod Here
 pub mod Homes
 pub mod Booted
 pub mod Following

@@ -1,10 +1,10 @@
 -- What a cluster tells where nothing in it can move.
-use Rattle.std.proofs.Common.{◌≡◌, ℕ, refl, sym, ◌∙◌, ap, subst, arith, Result, Ok, Err, List, [], ◌∷◌, map, Bool, true, false, cond, ◌&&◌, ◌||◌, Option, Some, None, true≢false}
-use Rattle.std.specs.Prelude.{IfOk, IfSome, filter, is_some, is_none, nat_le}
-use Rattle.std.specs.List.{list_all}
+use Rattle.std.proofs.Common.{◌≡◌, ℕ, refl, sym, ◌∙◌, ap, subst, arith, Result, Ok, Err, List, [], ◌∷◌, map, Bool, true, false, cond, ◌&&◌, ◌||◌, eqb, eqb-true, Option, Some, None, true≢false}
+use Rattle.std.specs.Prelude.{IfOk, IfSome, filter, find, is_some, is_none, nat_le, option_map}
+use Rattle.std.specs.List.{list_any, list_all}
 use Rattle.std.proofs.lemmas.Bool.{le-leb}
 use Rattle.std.specs.Option.{option_map_or}
-use Rattle.std.proofs.lemmas.Bool.{and_parts}
+use Rattle.std.proofs.lemmas.Bool.{and_parts, and_from}
 use Rattle.t32_base.specs.declared.process.Pid.{Pid}
 use Rattle.sys_text.specs.declared.system.System.{System}
 use Rattle.sys_text.specs.declared.system.Root.{Root}
@@ -21,10 +21,15 @@ use Rattle.cert_sched.specs.Rests.{is_idle, is_idle_at}
 use Rattle.cert_sched.specs.Legal.{IsLegalBy}
 use Rattle.cert_sched.specs.Built.{BuiltMayFollow}
 use Rattle.cert_sched.proofs.BuiltLaws.{Kept, kept, built_kept}
-use Rattle.cluster_core.specs.declared.resident.Resident.{Resident}
-use Rattle.cluster_core.specs.View.{ClusterView, Held}
-use Rattle.cluster_core.specs.Parts.{held_here}
-use Rattle.cluster_core.specs.Calls.{RestsIn, are_at_rest, rests_in}
+use Rattle.proc_state.specs.declared.process.Process.{Process}
+use Rattle.cluster_core.specs.View.{ClusterView}
+use Rattle.bus_msg.specs.Places.{same_pid}
+use Rattle.cert_sched.proofs.RisingLaws.{NoTwo}
+use Rattle.cluster_core.proofs.Here.{is_among, pids_held, pids_same, same_itself}
+use Rattle.cluster_core.specs.Residents.{process_in, pids_in, steps_in, are_stuck}
+use Rattle.cluster_core.specs.Parts.{held_in, AllOwn}
+use Rattle.cluster_core.specs.Calls.{RestsIn, are_at_rest, is_resting, rests_in, rests_of}
+use Rattle.cluster_core.proofs.Owning.{stuck_rest}
 use Rattle.cluster_core.proofs.Working.{ahead, held_before}
 
 -- ---- no process is owed a backup
@@ -61,25 +66,50 @@ idle_at system log p s silent idle =
     let enough : nat_le (done_after system log p) (s.small).steps ≡ true = le-leb (done_after system log p) (s.small).steps (omega (arith, a.done, a.counts)) in
     (λ i. (enough i && is_some (silent i)) && option_map_or is_idle (silent i) false) ∙ idle
 
+-- what is told of the processes is what is told of what is held
+same_rests : (rs : List (Pid × Process)) → steps_in rs ≡ rests_in (held_in rs)
+same_rests [] = refl
+same_rests (e ∷ rs) = ap (λ xs. (e.0, ((e.1).small).steps) ∷ xs) (same_rests rs)
+
+-- each process that is at rest here is so in each log that the cluster follows
+each_idle : (c : ClusterView) (log : List Entry) (rs : List (Pid × Process)) → ((p : Pid) (s : Process) → process_in rs p ≡ Some s → silent_upto c.system log p (s.small).steps ≡ Some (state_of s)) → NoTwo (pids_in rs)
+    → are_at_rest (held_in rs) ≡ true → list_all (is_idle_at c.system log) (rests_in (held_in rs)) ≡ true
+each_idle c log [] there two rest = refl
+each_idle c log (e ∷ rs) there two rest =
+    let parts = and_parts (is_idle (state_of e.1)) (are_at_rest (held_in rs)) rest in
+    let first : process_in (e ∷ rs) e.0 ≡ Some e.1 = ap (λ b. option_map (λ (e : Pid × Process). e.1) (cond b (Some e) (find (λ (q : Pid × Process). same_pid q.0 e.0) rs))) (same_itself e.0) in
+    and_from (is_idle_at c.system log (e.0, ((e.1).small).steps)) _ (idle_at c.system log e.0 (state_of e.1) (there e.0 e.1 first) parts.0)
+    (each_idle c log rs (λ p s at. there p s (beside p s at (same_pid e.0 p) refl)) two.1 parts.1)
+  where
+    beside : (p : Pid) (s : Process) → process_in rs p ≡ Some s → (b : Bool) → same_pid e.0 p ≡ b → process_in (e ∷ rs) p ≡ Some s
+    beside p s at true is = absurd (true≢false (sym (ap (λ n. list_any (λ m. eqb m n) (pids_in rs)) (eqb-true (e.0).0 p.0 is) ∙ ap (list_any (λ m. eqb m p.0)) (sym (pids_same rs)) ∙ is_among rs p s at) ∙ two.0))
+    beside p s at false is = ap (λ b. option_map (λ (e : Pid × Process). e.1) (cond b (Some e) (find (λ (q : Pid × Process). same_pid q.0 p) rs))) is ∙ at
+
 -- the processes that a cluster tells rest in each log that it follows
-pub rests_told : (c : ClusterView) (r : Option Resident) → c.here ≡ held_here r → are_at_rest (held_here r) ≡ true → RestsIn c (rests_in (held_here r))
-rests_told c None here at_rest empty log now f = record {
-  named = ap (λ hs. rising (map (λ (e : Pid × Held). (e.0).0) hs)) (sym here) ∙ f.each_once;
-  idle = refl;
+pub rests_told : (c : ClusterView) (rs : List (Pid × Process)) → c.here ≡ held_in rs → rising (pids_in rs) ≡ pids_in rs → NoTwo (pids_in rs) → are_at_rest (held_in rs) ≡ true → RestsIn c (steps_in rs)
+rests_told c rs here ordered two at_rest empty log now f = record {
+  named = same_pids rs ∙ sym ordered ∙ ap rising (sym (pids_same rs)) ∙ ap (λ hs. rising (pids_held hs)) (sym here) ∙ f.each_once;
+  idle = ap (list_all (is_idle_at c.system log)) (same_rests rs) ∙ each_idle c log rs (λ p s there. held_before c log rs p s here empty f there) two at_rest;
   backed = backed c.system log _ now.0;
 }
-rests_told c (Some r) here at_rest empty log now f = record {
-  named = ap (λ hs. rising (map (λ (e : Pid × Held). (e.0).0) hs)) (sym here) ∙ f.each_once;
-  idle = ap (λ b. b && true) (idle_at c.system log r.pid (state_of r.process) (held_before c log r here empty f) (and_parts (is_idle (state_of r.process)) true at_rest).0);
-  backed = backed c.system log _ now.0;
-}
+  where
+    same_pids : (rs : List (Pid × Process)) → map (λ (r : Pid × ℕ). (r.0).0) (steps_in rs) ≡ pids_in rs
+    same_pids [] = refl
+    same_pids (e ∷ rs) = ap (λ ns. (e.0).0 ∷ ns) (same_pids rs)
 
 -- what a call answers that tells them
-pub told_rests : {E : Type 0} (c : ClusterView) (r : Option Resident) (result : Result (Option (List (Pid × ℕ))) E) → c.here ≡ held_here r
-    → IfOk result (λ rests. rests ≡ cond (are_at_rest (held_here r)) (Some (rests_in (held_here r))) None) → IfOk result (λ rests. IfSome rests (RestsIn c))
-told_rests c r (Err e) here told = tt
-told_rests c r (Ok o) here told = by_test (are_at_rest (held_here r)) refl told
+pub told_rests : {E : Type 0} (c : ClusterView) (rs : List (Pid × Process)) (result : Result (Option (List (Pid × ℕ))) E) → AllOwn c.cursor rs → c.here ≡ held_in rs → rising (pids_in rs) ≡ pids_in rs → NoTwo (pids_in rs)
+    → IfOk result (λ rests. rests ≡ cond (are_stuck rs) (Some (steps_in rs)) None) → IfOk result (λ rests. IfSome rests (RestsIn c))
+told_rests c rs (Err e) own here ordered two told = tt
+told_rests c rs (Ok o) own here ordered two told = by_test (are_stuck rs) refl told
   where
-    by_test : (b : Bool) → are_at_rest (held_here r) ≡ b → o ≡ cond b (Some (rests_in (held_here r))) None → IfSome o (RestsIn c)
-    by_test true at_rest is = let P : Option (List (Pid × ℕ)) → Type 0 = λ o. IfSome o (RestsIn c) in subst P (sym is) (rests_told c r here at_rest)
-    by_test false at_rest is = let P : Option (List (Pid × ℕ)) → Type 0 = λ o. IfSome o (RestsIn c) in subst P (sym is) tt
+    by_test : (b : Bool) → are_stuck rs ≡ b → o ≡ cond b (Some (steps_in rs)) None → IfSome o (RestsIn c)
+    by_test true stuck is = let P : Option (List (Pid × ℕ)) → Type 0 = λ o. IfSome o (RestsIn c) in subst P (sym is) (rests_told c rs here ordered two (stuck_rest c.cursor rs own ∙ stuck))
+    by_test false stuck is = let P : Option (List (Pid × ℕ)) → Type 0 = λ o. IfSome o (RestsIn c) in subst P (sym is) tt
+
+-- it answers so of the cluster
+pub answered_rests : {E : Type 0} (c : ClusterView) (rs : List (Pid × Process)) (result : Result (Option (List (Pid × ℕ))) E) → AllOwn c.cursor rs → c.here ≡ held_in rs
+    → IfOk result (λ rests. rests ≡ cond (are_stuck rs) (Some (steps_in rs)) None) → IfOk result (λ rests. rests ≡ cond (is_resting c) (Some (rests_of c)) None)
+answered_rests c rs (Err e) own here told = tt
+answered_rests c rs (Ok o) own here told =
+    told ∙ (λ i. cond (sym (ap are_at_rest here ∙ stuck_rest c.cursor rs own) i) (Some ((same_rests rs ∙ ap rests_in (sym here)) i)) None)

@@ -1,14 +1,13 @@
 -- A cluster that works goes on to follow each log that it followed.
-use Rattle.std.proofs.Common.{◌≡◌, ℕ, zero, suc, ◌+◌, ◌-◌, ◌≤◌, ◌<◌, refl, sym, ◌∙◌, ap, subst, arith, List, [], ◌∷◌, map, length, Bool, true, false, cond, not, ◌&&◌, ◌||◌, eqb-true, eq-eqb, add-zero, zero-add, Option, Some, None, slice_get, true≢false}
-use Rattle.std.specs.Prelude.{option_map, option_and_then, find}
-use Rattle.std.specs.List.{list_all, range_with_len}
+use Rattle.std.proofs.Common.{◌≡◌, ℕ, zero, suc, ◌+◌, ◌-◌, ◌≤◌, ◌<◌, refl, sym, ◌∙◌, ap, subst, arith, List, [], ◌∷◌, map, length, Bool, true, false, cond, not, ◌&&◌, ◌||◌, eqb, eqb-true, eq-eqb, add-zero, zero-add, Option, Some, None, Ok, slice_get, true≢false}
+use Rattle.std.specs.Prelude.{◌≢◌, option_map, option_and_then, find}
+use Rattle.std.specs.List.{list_any, list_all, range_with_len}
 use Rattle.std.specs.Option.{option_map_or}
+use Rattle.std.proofs.lemmas.Bool.{and_parts}
 use Rattle.std.proofs.lemmas.Option.{slice_get-map, slice_get-get_or}
 use Rattle.std.proofs.lemmas.List.FromFn.{get_or-range_with_len, length-range_with_len}
 use Rattle.t32_base.specs.declared.process.Pid.{Pid}
 use Rattle.t32_base.specs.declared.process.ClusterNo.{ClusterNo}
-use Rattle.t32_base.specs.declared.letter.To.{To}
-use Rattle.t32_base.specs.declared.letter.To.TheVariants.{Proc, Tty}
 use Rattle.sys_text.specs.declared.system.System.{System}
 use Rattle.sys_text.specs.Boot.{roots_of}
 use Rattle.proc_state.specs.declared.process.Process.{Process}
@@ -18,7 +17,7 @@ use Rattle.sys_calls.specs.declared.steps.Emission.TheVariants.{Mail as Sent, Ex
 use Rattle.sys_calls.specs.Calls.{Next, Silent, Blocked, Forks, Emits, Over}
 use Rattle.sys_calls.specs.Next.{next_step, has_step, silently, silent_of, emission_of, last_emission}
 use Rattle.sys_calls.proofs.Counting.{silently_counts, emits_counts, letter_is_own}
-use Rattle.plain_kernel.proofs.Others.{is_outward, is_outward_to}
+use Rattle.bus_msg.specs.declared.entry.What.{What}
 use Rattle.bus_msg.specs.declared.entry.What.TheVariants.{Mail, Exit}
 use Rattle.bus_msg.specs.declared.entry.By.TheVariants.{Cluster}
 use Rattle.bus_msg.specs.declared.entry.Post.{Post}
@@ -32,27 +31,29 @@ use Rattle.cert_sched.specs.Steps.{silent_upto, emission_at, after_items}
 use Rattle.cert_sched.specs.Rules.{is_by, is_living, is_by_home, is_by_right, home_at}
 use Rattle.cert_sched.specs.Kinds.{KindHolds}
 use Rattle.cert_sched.specs.Legal.{IsLegalBy}
-use Rattle.cert_sched.specs.Built.{is_built, is_to_terminal, BuiltMayFollow}
+use Rattle.cert_sched.specs.Built.{is_built, BuiltMayFollow}
 use Rattle.cert_sched.specs.Losses.{least_steps, capped, is_from}
+use Rattle.cert_sched.specs.Appended.{entry_of}
+use Rattle.cert_sched.specs.Rests.{home_pids}
 use Rattle.cert_sched.proofs.BuiltLaws.{built_births, built_clusters}
 use Rattle.cert_sched.proofs.StepLaws.{Tells, sent_applies}
-use Rattle.cluster_core.specs.declared.resident.Resident.{Resident}
+use Rattle.cluster_core.specs.declared.turn.Turn.TheVariants.{Moved as TurnMoved, Posted}
 use Rattle.cluster_core.specs.declared.worked.Worked.TheVariants.{Moved, Queued, Rests}
-use Rattle.cluster_core.specs.View.{ClusterView, Held, Runs, next_count, counted_once, tried_once}
-use Rattle.cluster_core.specs.Parts.{held_here, IsOwn}
-use Rattle.cert_sched.specs.Appended.{entry_of}
-use Rattle.cluster_core.specs.Queue.{move_of, taken_by, state_by, state_now}
-use Rattle.cert_sched.specs.Rests.{home_pids}
+use Rattle.cluster_core.specs.View.{ClusterView, Held, Runs, held_at, next_count, counted_once, tried_once}
+use Rattle.cluster_core.specs.Residents.{process_in, with_changed, are_stuck}
+use Rattle.cluster_core.specs.Parts.{held_in, IsOwn, AllOwn}
+use Rattle.cluster_core.specs.Queue.{is_move_of, move_of, taken_by, state_by, state_now}
 use Rattle.cluster_core.specs.Holds.{IsHeldAs}
 use Rattle.cluster_core.specs.Follows.{FollowsBuilt, IsOpen}
-use Rattle.cluster_core.specs.Calls.{GoesOn, WorkIs, is_resting, is_at_rest}
+use Rattle.cluster_core.specs.Calls.{GoesOn, WorkIs, is_resting, is_at_rest, are_at_rest}
 use Rattle.cluster_core.specs.Quantum.{RunsSome, RunsAndSends}
-use Rattle.cluster_core.specs.Turn.{told_of, post_told}
+use Rattle.cluster_core.specs.Turn.{told_of, post_told, TakesTurn}
+use Rattle.cluster_core.proofs.Here.{found_changed, held_changed, held_here, is_among, pid_same, pids_changed, pids_held, runs_here, same_itself}
 use Rattle.cluster_core.proofs.Telling.{done_is}
-use Rattle.cluster_core.proofs.Unlinked.{silently_stays, sent_outward, no_take}
 use Rattle.cluster_core.proofs.Quanta.{none_silent}
+use Rattle.cluster_core.proofs.Owning.{stuck_rest}
 use Rattle.cluster_core.proofs.Homes.{HomeHere, home_here}
-use Rattle.cluster_core.proofs.Following.{exactly, pids_held, pid_same, no_child, there}
+use Rattle.cluster_core.proofs.Following.{no_child}
 
 -- ---- kernel steps
 
@@ -134,31 +135,17 @@ ahead_sent system log p s b t n e is silent sends =
     ∙ ap (option_and_then (λ q. emission_of (next_step q))) (silently-plus ((s.small).steps - ((a.base).small).steps) n a.base s b a.silent silent)
     ∙ ap emission_of sends
 
--- ---- one process here
+-- ---- the processes here
 
-held_only : (p0 : Pid) (h0 : Held) (p : Pid) (h : Held) → option_map (λ (e : Pid × Held). e.1) (find (λ (e : Pid × Held). same_pid e.0 p) ((p0, h0) ∷ [])) ≡ Some h → (p0 ≡ p) × (h0 ≡ h)
-held_only p0 h0 p h is = by_test (same_pid p0 p) refl is
-  where
-    by_test : (b : Bool) → same_pid p0 p ≡ b → option_map (λ (e : Pid × Held). e.1) (cond b (Some (p0, h0)) None) ≡ Some h → (p0 ≡ p) × (h0 ≡ h)
-    by_test true at is = (pid_same p0 p (eqb-true p0.0 p.0 at), cc)
-    by_test false at is = cc
+-- a process that is here, in the log
+pub held_before : (c : ClusterView) (log : List Entry) (rs : List (Pid × Process)) (p : Pid) (s : Process) → c.here ≡ held_in rs → c.queue ≡ [] → FollowsBuilt c.system log c → process_in rs p ≡ Some s
+    → silent_upto c.system log p (s.small).steps ≡ Some (state_of s)
+held_before c log rs p s here empty f there = ap (λ ps. state_now c.system log ps p (s.small).steps) (sym empty) ∙ f.held p (Runs s) (held_here c rs p s here there)
 
--- the process that is held here, in the log
-pub held_before : (c : ClusterView) (log : List Entry) (r : Resident) → c.here ≡ held_here (Some r) → c.queue ≡ [] → FollowsBuilt c.system log c
-    → silent_upto c.system log r.pid ((r.process).small).steps ≡ Some (state_of r.process)
-held_before c log r here empty f = ap (λ ps. state_now c.system log ps r.pid ((r.process).small).steps) (sym empty) ∙ f.held r.pid (Runs r.process) (there c r here)
+-- ---- all rest
 
--- ---- it rests
-
-pub rested_none : (c : ClusterView) → c.here ≡ [] → WorkIs c Rests (counted_once c)
-rested_none c here = (ap (λ hs. list_all (λ (e : Pid × Held). is_at_rest e.1) hs) here, refl)
-
-pub rested_some : (c : ClusterView) (r : Resident) → c.here ≡ held_here (Some r) → IsOwn r → has_step (next_step (state_of r.process)) ≡ false → WorkIs c Rests (counted_once c)
-rested_some c r here own none = (
-  ap (λ hs. list_all (λ (e : Pid × Held). is_at_rest e.1) hs) here
-      ∙ (λ i. not (none i || no_take (state_of r.process) own.unlinked none i) && true),
-  refl,
-)
+pub rested : (c : ClusterView) (rs : List (Pid × Process)) → c.here ≡ held_in rs → AllOwn c.cursor rs → are_stuck rs ≡ true → WorkIs c Rests (counted_once c)
+rested c rs here own stuck = (ap are_at_rest here ∙ stuck_rest c.cursor rs own ∙ stuck, refl)
 
 pub goes_on_rested : (c : ClusterView) → GoesOn c (counted_once c)
 goes_on_rested c log now f = record {
@@ -192,14 +179,30 @@ follows_tried c log f = record {
 pub goes_on_tried : (c : ClusterView) → GoesOn c (tried_once c)
 goes_on_tried c log now f = follows_tried c log f
 
--- ---- it moved
+-- ---- one of them moved
 
-abbrev pub moved_view : ClusterView → Resident → ClusterView
-moved_view c r = record c { here = held_here (Some r); steps = next_count c.steps }
+abbrev pub moved_view : ClusterView → List (Pid × Process) → ClusterView
+moved_view c rs = record c { here = held_in rs; steps = next_count c.steps }
 
-not_resting : (c : ClusterView) (r : Resident) → c.here ≡ held_here (Some r) → has_step (next_step (state_of r.process)) ≡ true → is_resting c ≡ false
-not_resting c r here some =
-    ap (λ hs. list_all (λ (e : Pid × Held). is_at_rest e.1) hs) here ∙ ap (λ b. not (b || can_take (state_of r.process)) && true) some
+-- where one has a step, not all rest
+some_moves : (rs : List (Pid × Process)) (p : Pid) (s : Process) → process_in rs p ≡ Some s → has_step (next_step (state_of s)) ≡ true → are_at_rest (held_in rs) ≡ false
+some_moves [] p s there some = cc
+some_moves (e ∷ rs) p s there some = by_test (same_pid e.0 p) there (some_moves rs p s)
+  where
+    none : (a b : Bool) → b ≡ false → (a && b) ≡ false
+    none true b h = h
+    none false b h = refl
+
+    by_test : (b : Bool) → option_map (λ (e : Pid × Process). e.1) (cond b (Some e) (find (λ (e : Pid × Process). same_pid e.0 p) rs)) ≡ Some s
+        → (process_in rs p ≡ Some s → has_step (next_step (state_of s)) ≡ true → are_at_rest (held_in rs) ≡ false) → are_at_rest (held_in (e ∷ rs)) ≡ false
+    by_test true is more =
+        let same : e.1 ≡ s = cc in
+        let has : has_step (next_step (state_of e.1)) ≡ true = ap (λ (x : Process). has_step (next_step (state_of x))) same ∙ some in
+        ap (λ b. not (b || can_take (state_of e.1)) && are_at_rest (held_in rs)) has
+    by_test false is more = none (is_at_rest (Runs e.1)) (are_at_rest (held_in rs)) (more is some)
+
+not_resting : (c : ClusterView) (rs : List (Pid × Process)) (p : Pid) (s : Process) → c.here ≡ held_in rs → process_in rs p ≡ Some s → has_step (next_step (state_of s)) ≡ true → is_resting c ≡ false
+not_resting c rs p s here there some = ap are_at_rest here ∙ some_moves rs p s there some
 
 some_has : (most : ℕ) (s t : ProcState) → RunsSome most s t → has_step (next_step s) ≡ true
 some_has most s t runs = by_steps runs.steps runs.some runs.silent
@@ -208,44 +211,57 @@ some_has most s t runs = by_steps runs.steps runs.some runs.silent
     by_steps zero some silent = absurd (omega (arith, some))
     by_steps (suc n) some silent = silent_has n s t silent
 
-replaced : (p : Pid) (was now : Process) → map (λ (e : Pid × Held). cond (same_pid e.0 p) (p, Runs now) e) ((p, Runs was) ∷ []) ≡ (p, Runs now) ∷ []
-replaced p was now = ap (λ b. cond b (p, Runs now) (p, Runs was) ∷ []) (eq-eqb p.0 p.0 refl)
-
-pub moved_work : (c : ClusterView) (old new : Resident) → c.here ≡ held_here (Some old) → RunsSome 64 (state_of old.process) (state_of new.process) → new.pid ≡ old.pid → WorkIs c Moved (moved_view c new)
-moved_work c old new here runs same = (
-  not_resting c old here (some_has 64 (state_of old.process) (state_of new.process) runs),
+pub moved_work : (c : ClusterView) (rs : List (Pid × Process)) (p : Pid) (was now : Process) → c.here ≡ held_in rs → process_in rs p ≡ Some was → RunsSome 64 (state_of was) (state_of now)
+    → WorkIs c Moved (moved_view c (with_changed p now rs))
+moved_work c rs p was now here there runs = (
+  not_resting c rs p was here there (some_has 64 (state_of was) (state_of now) runs),
   record {
-    pid = old.pid;
-    was = old.process;
-    now = new.process;
+    pid = p;
+    was = was;
+    now = now;
     steps = runs.steps;
     some = runs.some;
     few = runs.few;
-    there = there c old here;
+    there = held_here c rs p was here there;
     silent = runs.silent;
-    rest = ap (λ hs. record c { here = hs; steps = next_count c.steps })
-        (ap (λ p. (p, Runs new.process) ∷ []) same ∙ sym (ap (map (λ (e : Pid × Held). cond (same_pid e.0 old.pid) (old.pid, Runs new.process) e)) here ∙ replaced old.pid old.process new.process));
+    rest = ap (λ hs. record c { here = hs; steps = next_count c.steps }) (held_changed c p now rs here);
   },
 )
 
-pub moved_goes_on : (c : ClusterView) (old new : Resident) → c.here ≡ held_here (Some old) → c.queue ≡ [] → RunsSome 64 (state_of old.process) (state_of new.process) → new.pid ≡ old.pid → GoesOn c (moved_view c new)
-moved_goes_on c old new here empty runs same log now f = record {
+-- what is held after one process has changed, where the others are held as before
+held_beside : (c : ClusterView) (log : List Entry) (rs : List (Pid × Process)) (p : Pid) (now : Process) (queue : List Post) → c.here ≡ held_in rs → FollowsBuilt c.system log c
+    → IsHeldAs c.system log queue p (Runs now) → ((q : Pid) (s : Process) → same_pid q p ≡ false → IsHeldAs c.system log c.queue q (Runs s) → IsHeldAs c.system log queue q (Runs s))
+    → (q : Pid) (h : Held) → held_at (moved_view c (with_changed p now rs)) q ≡ Some h → IsHeldAs c.system log queue q h
+held_beside c log rs p now queue here f mine others q h at =
+    let r = runs_here (with_changed p now rs) q h at in
+    let w = found_changed p now rs q r.process r.there in
+    by_pid r.process r.is w.was (f.held q (Runs w.was) (held_here c rs q w.was here w.there)) w.here (same_pid q p) refl
+  where
+    by_pid : (s : Process) → h ≡ Runs s → (was : Process) → IsHeldAs c.system log c.queue q (Runs was) → (same_pid q p ≡ true → s ≡ now) × (same_pid q p ≡ false → s ≡ was) → (b : Bool) → same_pid q p ≡ b → IsHeldAs c.system log queue q h
+    by_pid s is was old here true own =
+        let At : Pid → Type 0 = λ r. IsHeldAs c.system log queue r (Runs now) in
+        let Of : Held → Type 0 = λ x. IsHeldAs c.system log queue q x in
+        subst Of (ap Runs (sym (here.0 own)) ∙ sym is) (subst At (sym (pid_same q p (eqb-true q.0 p.0 own))) mine)
+    by_pid s is was old here false other =
+        let Of : Held → Type 0 = λ x. IsHeldAs c.system log queue q x in
+        subst Of (ap Runs (sym (here.1 other)) ∙ sym is) (others q was other old)
+
+pub moved_goes_on : (c : ClusterView) (rs : List (Pid × Process)) (p : Pid) (was now : Process) → c.here ≡ held_in rs → c.queue ≡ [] → process_in rs p ≡ Some was → RunsSome 64 (state_of was) (state_of now)
+    → GoesOn c (moved_view c (with_changed p now rs))
+moved_goes_on c rs p was now here empty there runs log go f = record {
   cursor = f.cursor;
   places = f.places;
-  held = λ p h at.
-      let one = held_only new.pid (Runs new.process) p h at in
-      let ahead : silent_upto c.system log old.pid ((new.process).small).steps ≡ Some (state_of new.process) =
-      ahead_moved c.system log old.pid (state_of old.process) (state_of new.process) runs.steps (held_before c log old here empty f) runs.silent in
-      let held : IsHeldAs c.system log c.queue new.pid (Runs new.process) =
-      ap (λ ps. state_now c.system log ps new.pid ((new.process).small).steps) empty ∙ ap (λ q. silent_upto c.system log q ((new.process).small).steps) same ∙ ahead in
-      subst (λ q. IsHeldAs c.system log c.queue q h) one.0 (subst (λ h. IsHeldAs c.system log c.queue new.pid h) one.1 held);
-  each_once = ap (λ (p : Pid). rising (p.0 ∷ [])) same ∙ ap (λ hs. rising (pids_held hs)) (sym here) ∙ f.each_once;
+  held =
+      let ahead_now : silent_upto c.system log p (now.small).steps ≡ Some (state_of now) = ahead_moved c.system log p (state_of was) (state_of now) runs.steps (held_before c log rs p was here empty f there) runs.silent in
+      let mine : IsHeldAs c.system log c.queue p (Runs now) = ap (λ ps. state_now c.system log ps p (now.small).steps) empty ∙ ahead_now in
+      held_beside c log rs p now c.queue here f mine (λ q s other as_before. as_before);
+  each_once = ap rising (pids_changed p now rs) ∙ ap (λ hs. rising (pids_held hs)) (sym here) ∙ f.each_once;
   own = f.own;
   queue = f.queue;
   counted = λ kept. more_counted (least_steps log log c.number + cond c.tried 1 0) c.steps (f.counted kept);
 }
 
--- ---- it posted
+-- ---- one of them posted something
 
 -- each cluster of a system lives in such a log
 pub lives_built : (system : System) (log : List Entry) (k : ClusterNo) → IsLegalBy BuiltMayFollow system log → k.0 < system.clusters → is_living (placement system log) (Cluster k) ≡ true
@@ -257,16 +273,13 @@ lives_built system log k legal has =
     ap (λ (cs : List ClusterPlace). option_map_or (λ (c : ClusterPlace). c.lives) (slice_get cs k.0) false) (built_clusters system log legal)
     ∙ ap (λ (o : Option ClusterPlace). option_map_or (λ (c : ClusterPlace). c.lives) o false) at
 
-abbrev pub posted_view : ClusterView → Resident → Post → ClusterView
-posted_view c r post = record c { here = held_here (Some r); queue = post ∷ []; steps = next_count c.steps }
+abbrev pub posted_view : ClusterView → List (Pid × Process) → Post → ClusterView
+posted_view c rs post = record c { here = held_in rs; queue = post ∷ []; steps = next_count c.steps }
 
-terminal_of : (to : To) → is_outward_to to ≡ true → is_to_terminal to ≡ true
-terminal_of (Proc p e) h = absurd (true≢false (sym h))
-terminal_of (Tty t) h = refl
-
-built_of : (pid : Pid) (at : ℕ) (e : Emission) → is_outward e ≡ true → is_built (told_of pid at e) ≡ true
-built_of pid at (Sent letter) out = terminal_of letter.to out
-built_of pid at (Ended end) out = refl
+-- whatever is posted is of a kind that is built
+built_of : (pid : Pid) (at : ℕ) (e : Emission) → is_built (told_of pid at e) ≡ true
+built_of pid at (Sent letter) = refl
+built_of pid at (Ended end) = refl
 
 -- what is posted tells of the process
 tells_of : (s t : ProcState) (pid : Pid) (at : ℕ) (e : Emission) → next_step s ≡ Emits e t → (s.small).pid ≡ pid → Tells pid at e (told_of pid at e)
@@ -298,74 +311,87 @@ home_by places k p lives here =
     let same : same_cluster k (here.placed).home ≡ true = eq-eqb k.0 ((here.placed).home).0 (sym (eqb-true ((here.placed).home).0 k.0 here.home)) in
     (λ i. lives i && is_by (Cluster k) (home i)) ∙ same
 
-module _ (c : ClusterView) (old new : Resident) (post : Post) (e : Emission) (runs : RunsAndSends 64 (state_of old.process) e (state_of new.process))
-    (post_is : post ≡ post_told c.number old.pid ((new.process).small).steps e) (same : new.pid ≡ old.pid) (here : c.here ≡ held_here (Some old)) (empty : c.queue ≡ []) (own : IsOwn old) where
+turned : (p q : Pid) → same_pid q p ≡ false → same_pid p q ≡ false
+turned p q other = by_test (same_pid p q) refl
+  where
+    by_test : (b : Bool) → same_pid p q ≡ b → b ≡ false
+    by_test true is = absurd (true≢false (sym (eq-eqb q.0 p.0 (sym (eqb-true p.0 q.0 is))) ∙ other))
+    by_test false is = refl
+
+-- what is posted moves no other process
+moves_no_other : (pid q : Pid) (at : ℕ) (k : ClusterNo) (e : Emission) → Tells pid at e (told_of pid at e) → same_pid q pid ≡ false → move_of q (post_told k pid at e ∷ []) ≡ None
+moves_no_other pid q at k (Sent letter) tells other = ap (λ b. option_map (λ (post : Post). post.what) (cond b (Some (post_told k pid at (Sent letter))) None)) (ap (λ r. same_pid r q) tells.0 ∙ turned pid q other)
+moves_no_other pid q at k (Ended end) tells other = ap (λ b. option_map (λ (post : Post). post.what) (cond b (Some (post_told k pid at (Ended end))) None)) (turned pid q other)
+
+module _ (c : ClusterView) (rs : List (Pid × Process)) (p : Pid) (was now : Process) (post : Post) (e : Emission) (runs : RunsAndSends 64 (state_of was) e (state_of now))
+    (post_is : post ≡ post_told c.number p (now.small).steps e) (here : c.here ≡ held_in rs) (empty : c.queue ≡ []) (there : process_in rs p ≡ Some was) (own : IsOwn c.cursor p was) where
   abbrev at : ℕ
-  at = ((new.process).small).steps
+  at = (now.small).steps
 
-  before_own : ((runs.before).small).pid ≡ old.pid
-  before_own = (silently_counts runs.steps (state_of old.process) runs.before runs.silent).pid ∙ own.pid
+  before_own : ((runs.before).small).pid ≡ p
+  before_own = (silently_counts runs.steps (state_of was) runs.before runs.silent).pid ∙ own.pid_is
 
-  tells : Tells old.pid at e (told_of old.pid at e)
-  tells = tells_of runs.before (state_of new.process) old.pid at e runs.sends before_own
+  tells : Tells p at e (told_of p at e)
+  tells = tells_of runs.before (state_of now) p at e runs.sends before_own
 
-  emission_is : (log : List Entry) → FollowsBuilt c.system log c → emission_at c.system log old.pid at ≡ Some (e, state_of new.process)
-  emission_is log f = ahead_sent c.system log old.pid (state_of old.process) runs.before (state_of new.process) runs.steps e (held_before c log old here empty f) runs.silent runs.sends
+  emission_is : (log : List Entry) → FollowsBuilt c.system log c → emission_at c.system log p at ≡ Some (e, state_of now)
+  emission_is log f = ahead_sent c.system log p (state_of was) runs.before (state_of now) runs.steps e (held_before c log rs p was here empty f there) runs.silent runs.sends
 
   pub posted_built : is_built post.what ≡ true
-  posted_built = ap (λ (p : Post). is_built p.what) post_is
-      ∙ built_of old.pid at e (sent_outward runs.before (state_of new.process) e (silently_stays runs.steps (state_of old.process) runs.before own.unlinked runs.silent) runs.sends)
+  posted_built = ap (λ (p : Post). is_built p.what) post_is ∙ built_of p at e
 
   pub posted_own : is_from c.number post.by ≡ true
   posted_own = ap (λ (p : Post). is_from c.number p.by) post_is ∙ eq-eqb (c.number).0 (c.number).0 refl
 
-  may_follow : (log : List Entry) → IsOpen BuiltMayFollow c.system log → FollowsBuilt c.system log c → pids_differ (c.places).placed ≡ true → (c.number).0 < (c.system).clusters → BuiltMayFollow c.system log (entry_of c.system log (post_told c.number old.pid at e))
-  may_follow log now f differ has =
-      let exact : home_pids c.system log c.number ≡ (old.pid).0 ∷ [] = exactly (Some old) (home_pids c.system log c.number) (ap (λ hs. rising (pids_held hs)) (sym here) ∙ f.each_once) in
-      let home = home_here (placement c.system log) c.number old.pid (ap (λ (p : Places). pids_differ p.placed) (sym f.places) ∙ differ) exact in
+  may_follow : (log : List Entry) → IsOpen BuiltMayFollow c.system log → FollowsBuilt c.system log c → pids_differ (c.places).placed ≡ true → (c.number).0 < (c.system).clusters → BuiltMayFollow c.system log (entry_of c.system log (post_told c.number p at e))
+  may_follow log go f differ has =
+      let home = home_here (placement c.system log) c.number (pids_held (held_in rs)) p (ap (λ (p : Places). pids_differ p.placed) (sym f.places) ∙ differ) (ap (λ hs. rising (pids_held hs)) (sym here) ∙ f.each_once) (is_among rs p was there) in
       record {
         stands = record {
-          placed = (refl, refl, now.1);
-          by_right = right_of_post (placement c.system log) c.number old.pid at e tells (home_by (placement c.system log) c.number old.pid (lives_built c.system log c.number now.0 has) home);
-          applies = sent_applies c.system log (entry_of c.system log (post_told c.number old.pid at e)) old.pid at e (state_of new.process) (emission_is log f) tells;
-          kind = kind_of_post c.system log c.number old.pid at e (state_of new.process) tells (emission_is log f) now.0;
+          placed = (refl, refl, go.1);
+          by_right = right_of_post (placement c.system log) c.number p at e tells (home_by (placement c.system log) c.number p (lives_built c.system log c.number go.0 has) home);
+          applies = sent_applies c.system log (entry_of c.system log (post_told c.number p at e)) p at e (state_of now) (emission_is log f) tells;
+          kind = kind_of_post c.system log c.number p at e (state_of now) tells (emission_is log f) go.0;
         };
-        built = built_of old.pid at e (sent_outward runs.before (state_of new.process) e (silently_stays runs.steps (state_of old.process) runs.before own.unlinked runs.silent) runs.sends);
+        built = built_of p at e;
       }
 
-  pub posted_goes_on : pids_differ (c.places).placed ≡ true → (c.number).0 < (c.system).clusters → GoesOn c (posted_view c new post)
-  posted_goes_on differ has log now f = record {
+  pub posted_goes_on : pids_differ (c.places).placed ≡ true → (c.number).0 < (c.system).clusters → GoesOn c (posted_view c (with_changed p now rs) post)
+  posted_goes_on differ has log go f = record {
     cursor = f.cursor;
     places = f.places;
-    held = λ p h there.
-        let one = held_only new.pid (Runs new.process) p h there in
-        let held : IsHeldAs c.system log (post ∷ []) old.pid (Runs new.process) =
-        ap (λ (q : Post). state_now c.system log (q ∷ []) old.pid at) post_is ∙ ap (state_by c.system log old.pid at) (moves_of old.pid at c.number e tells)
-        ∙ items_of_post c.system log old.pid at e (state_of new.process) tells (emission_is log f) in
-        subst (λ q. IsHeldAs c.system log (post ∷ []) q h) (sym same ∙ one.0) (subst (λ h. IsHeldAs c.system log (post ∷ []) old.pid h) one.1 held);
-    each_once = ap (λ (p : Pid). rising (p.0 ∷ [])) same ∙ ap (λ hs. rising (pids_held hs)) (sym here) ∙ f.each_once;
+    held =
+        let mine : IsHeldAs c.system log (post ∷ []) p (Runs now) =
+        ap (λ (q : Post). state_now c.system log (q ∷ []) p at) post_is ∙ ap (state_by c.system log p at) (moves_of p at c.number e tells)
+        ∙ items_of_post c.system log p at e (state_of now) tells (emission_is log f) in
+        held_beside c log rs p now (post ∷ []) here f mine others;
+    each_once = ap rising (pids_changed p now rs) ∙ ap (λ hs. rising (pids_held hs)) (sym here) ∙ f.each_once;
     own = ap (λ b. b && true) posted_own;
-    queue = (subst (λ (q : Post). BuiltMayFollow c.system log (entry_of c.system log q)) (sym post_is) (may_follow log now f differ has), tt);
+    queue = (subst (λ (q : Post). BuiltMayFollow c.system log (entry_of c.system log q)) (sym post_is) (may_follow log go f differ has), tt);
     counted = λ kept. more_counted (least_steps log log c.number + cond c.tried 1 0) c.steps (f.counted kept);
   }
+    where
+      others : (q : Pid) (s : Process) → same_pid q p ≡ false → IsHeldAs c.system log c.queue q (Runs s) → IsHeldAs c.system log (post ∷ []) q (Runs s)
+      others q s other as_before =
+          ap (λ (x : Post). state_now c.system log (x ∷ []) q (s.small).steps) post_is ∙ ap (state_by c.system log q (s.small).steps) (moves_no_other p q at c.number e tells other)
+          ∙ sym (ap (λ ps. state_now c.system log ps q (s.small).steps) empty) ∙ as_before
 
   sends_has : (n : ℕ) (s : ProcState) → silently n s ≡ Some runs.before → has_step (next_step s) ≡ true
   sends_has zero s is = let at_once : s ≡ runs.before = none_silent s runs.before is in ap (λ s. has_step (next_step s)) at_once ∙ ap has_step runs.sends
   sends_has (suc n) s is = silent_has n s runs.before is
 
-  pub posted_work : WorkIs c Queued (posted_view c new post)
+  pub posted_work : WorkIs c Queued (posted_view c (with_changed p now rs) post)
   posted_work = (
-    not_resting c old here (sends_has runs.steps (state_of old.process) runs.silent),
+    not_resting c rs p was here there (sends_has runs.steps (state_of was) runs.silent),
     record {
-      pid = old.pid;
-      was = old.process;
-      now = new.process;
+      pid = p;
+      was = was;
+      now = now;
       emission = e;
       post = post;
-      there = there c old here;
+      there = held_here c rs p was here there;
       runs = runs;
       post_is = post_is;
-      rest = ap (λ hs. record c { here = hs; queue = post ∷ []; steps = next_count c.steps })
-          (ap (λ p. (p, Runs new.process) ∷ []) same ∙ sym (ap (map (λ (e : Pid × Held). cond (same_pid e.0 old.pid) (old.pid, Runs new.process) e)) here ∙ replaced old.pid old.process new.process));
+      rest = ap (λ hs. record c { here = hs; queue = post ∷ []; steps = next_count c.steps }) (held_changed c p now rs here);
     },
   )

@@ -1,5 +1,5 @@
 -- The parts of a cluster as its code keeps them.
-use Rattle.std.specs.Prelude.{ℕ, ◌≡◌, ◌<◌, ◌≤◌, true, false, List, [], ◌∷◌, map, Option, Some, None}
+use Rattle.std.specs.Prelude.{ℕ, ◌≡◌, ◌<◌, ◌≤◌, true, false, List, [], ◌∷◌, map, Option, Some, None, ⊤}
 use Rattle.std.specs.List.{list_any, list_all}
 use Rattle.t32_base.specs.declared.process.Pid.{Pid}
 use Rattle.t32_base.specs.declared.process.ClusterNo.{ClusterNo}
@@ -11,7 +11,6 @@ use Rattle.bus_msg.specs.declared.entry.Post.{Post}
 use Rattle.cert_sched.specs.Built.{is_built}
 use Rattle.cert_sched.specs.Losses.{is_from}
 use Rattle.cluster_core.specs.View.{Held, Runs}
-use Rattle.cluster_core.specs.Residents.{process_in}
 
 -- each process that is here runs
 abbrev pub held_in : List (Pid × Process) → List (Pid × Held)
@@ -28,7 +27,8 @@ pub record IsOwn (cursor : ℕ) (pid : Pid) (p : Process) : Type 0 where
   pub arrived : (p.mail).next ≤ cursor
 
 abbrev pub AllOwn : ℕ → List (Pid × Process) → Type 0
-AllOwn cursor here = (pid : Pid) (p : Process) → process_in here pid ≡ Some p → IsOwn cursor pid p
+AllOwn cursor [] = ⊤
+AllOwn cursor (e ∷ here) = IsOwn cursor e.0 e.1 × AllOwn cursor here
 
 -- the system is valid and has the cluster; its processes are its own, and its posts are its own and of kinds that are built
 pub record IsSound (system : System) (number : ClusterNo) (cursor : ℕ) (here : List (Pid × Process)) (queue : List Post) : Type 0 where

@@ -1,5 +1,5 @@
 -- The processes at home in a cluster, as its code keeps them.
-use Rattle.std.specs.Prelude.{ℕ, ◌≡◌, ◌≤◌, Bool, true, not, ◌==◌, nat_lt, if◌then◌else◌, List, map, filter, find, Option, Some, option_map}
+use Rattle.std.specs.Prelude.{ℕ, ◌≡◌, ◌<◌, ◌-◌, ◌^◌, Bool, not, ◌==◌, nat_lt, if◌then◌else◌, List, map, filter, find, Option, Some, option_map}
 use Rattle.std.specs.List.{list_any, list_all, sum_by}
 use Rattle.std.specs.Option.{option_or}
 use Rattle.t32_base.specs.declared.process.Pid.{Pid}
@@ -24,6 +24,10 @@ pub record ResidentsView : Type 0 where
 -- the process with a pid
 abbrev pub process_in : List (Pid × Process) → Pid → Option Process
 process_in here p = option_map (λ (e : Pid × Process). e.1) (find (λ (e : Pid × Process). same_pid e.0 p) here)
+
+-- each of them may get one letter more
+abbrev pub HasRoom : List (Pid × Process) → Type 0
+HasRoom here = (pid : Pid) (p : Process) → process_in here pid ≡ Some p → (p.mail).next < 2 ^ 64 - 1
 
 -- the process with a pid is another one now
 abbrev pub with_changed : Pid → Process → List (Pid × Process) → List (Pid × Process)

@@ -1,8 +1,8 @@
 //! The processes at home in a cluster.
-ghost use Rattle.std.specs.Prelude.{◌≡◌, ◌<◌, ◌^◌, ◌++◌, ◌∷◌, [], IfOk, OnOk, OnErr, Some, None, IsSome, if◌then◌else◌};
+ghost use Rattle.std.specs.Prelude.{◌≡◌, ◌++◌, ◌∷◌, [], IfOk, OnOk, OnErr, Some, None, IsSome, nat_lt, true, if◌then◌else◌};
 ghost use Rattle.std.specs.List.{list_all};
 ghost use Rattle.cert_sched.specs.Parts.{rising};
-ghost use Rattle.cluster_core.specs.Residents.{are_stuck, next_ready, pids_in, process_in, residents_after, steps_in, with_changed};
+ghost use Rattle.cluster_core.specs.Residents.{HasRoom, are_stuck, next_ready, pids_in, process_in, residents_after, steps_in, with_changed};
 ghost use Rattle.cluster_core.specs.Turn.{LighterTurn, TurnIs};
 
 use crate::turn::{Turn, process_turn, steps_of};
@@ -56,7 +56,7 @@ impl Residents {
     /// One process more, whose pid is above those of all that are here. After want of memory nothing is
     /// said but that the value can be dropped.
     pub fn add(&mut self, pid: Pid, process: Process) -> Result<(), NoMemory>
-        requires { list_all (λ e. e.0.0 < pid.0) self.old.here ≡ true }
+        requires { list_all (λ e. nat_lt e.0.0 pid.0) self.old.here ≡ true }
         ensures { OnOk result (self.new.here ≡ self.old.here ++ (pid, process) ∷ []) }
     {
         let key = self.processes.insert(process)?;
@@ -120,7 +120,7 @@ impl Residents {
     /// Takes in an entry: a letter arrives at the process whose end it is for, and a process that ended is
     /// let go. After want of memory no process has changed.
     pub fn take_in(&mut self, what: &What) -> Result<(), NoMemory>
-        requires { list_all (λ e. e.1.mail.next < 2 ^ 64 - 1) self.old.here ≡ true }
+        requires { HasRoom self.old.here }
         ensures ok { OnOk result (self.new.here ≡ residents_after what.now self.old.here) }
         ensures err { OnErr result (self.new.here ≡ self.old.here) }
     {
