@@ -1,5 +1,5 @@
 -- Each round leaves less to do, or ends the run.
-use Rattle.std.proofs.Common.{◌≡◌, ℕ, zero, suc, ◌+◌, ◌≤◌, ◌<◌, ◌≢◌, ◌⊎◌, inl, inr, refl, sym, ◌∙◌, ap, subst, arith, List, [], ◌∷◌, filter, length, Bool, false, true, cond, not, ◌||◌, ◌&&◌, Option, Some, None, get_or, slice_set, true≢false, eq-eqb, eqb-true, OnOk, Result, Ok, Err}
+use Rattle.std.proofs.Common.{◌≡◌, ℕ, zero, suc, ◌+◌, ◌≤◌, ◌<◌, ◌≢◌, ◌⊎◌, inl, inr, refl, sym, ◌∙◌, ap, subst, arith, List, [], ◌∷◌, filter, map, length, Bool, false, true, cond, not, ◌||◌, ◌&&◌, Option, Some, None, get_or, slice_set, true≢false, eq-eqb, eqb-true, OnOk, Result, Ok, Err}
 use Rattle.std.specs.Prelude.{is_none, is_some, nat_eq, nat_lt, option_map, slice_get}
 use Rattle.std.specs.List.{sum_by, list_any, range_with_len}
 use Rattle.std.proofs.lemmas.List.Sums.{sum_by-cons, sum_by-set}
@@ -8,6 +8,7 @@ use Rattle.std.proofs.lemmas.Option.{slice_get-map}
 use Rattle.std.proofs.lemmas.List.{get_or-set_same, get_or-set_other}
 use Rattle.t32_base.specs.declared.process.Pid.{Pid}
 use Rattle.t32_base.specs.declared.process.ClusterNo.{ClusterNo}
+use Rattle.t32_base.specs.declared.letter.Letter.{Letter}
 use Rattle.bus_msg.specs.declared.entry.What.{What}
 use Rattle.bus_msg.specs.declared.entry.What.TheVariants.{Mail, Birth, Exit, Page, Sync, Fetch, PageIs, Crash, Return, Rebackup, Done, Stop}
 use Rattle.bus_msg.specs.Places.{all_clusters, cluster_no, lives_in, same_pid}
@@ -16,8 +17,9 @@ use Rattle.cert_sched.specs.Schedule.{placement}
 use Rattle.cert_sched.specs.Rules.{is_over}
 use Rattle.cert_sched.proofs.BuiltLaws.{is_over-snoc}
 use Rattle.cert_sched.proofs.HomesLaws.{built_clusters-length}
-use Rattle.cluster_core.specs.View.{ClusterView, Held, held_load, load}
-use Rattle.cluster_core.specs.Calls.{without_ended}
+use Rattle.cert_sched.specs.Deeds.{is_end_of}
+use Rattle.cluster_core.specs.View.{ClusterView, Held, Runs, Rolls, Waits, arrived_held, held_load, load}
+use Rattle.cluster_core.specs.Calls.{here_after, with_letter}
 use Rattle.bus_order.specs.declared.marks.Mark.{Mark}
 use Rattle.bus_order.specs.declared.marks.Idled.{Idled}
 use Rattle.bus_order.specs.declared.marks.Idled.TheVariants.{Marked, Done as WasDone}
@@ -37,10 +39,27 @@ sum_part f test (x ∷ xs) = by_test (test x) (sum_part f test xs)
     by_test true less = omega (arith, less, sum_by-cons f x xs, sum_by-cons f x (filter test xs))
     by_test false less = omega (arith, less, sum_by-cons f x xs)
 
+sum_same : {X : Type 0} (f : X → ℕ) (g : X → X) → ((x : X) → f (g x) ≡ f x) → (xs : List X) → sum_by f (map g xs) ≡ sum_by f xs
+sum_same f g same [] = refl
+sum_same f g same (x ∷ xs) = sum_by-cons f (g x) (map g xs) ∙ (λ i. same x i + sum_same f g same xs i) ∙ sym (sum_by-cons f x xs)
+
+-- a process that a letter arrives at has as many steps left
+load_arrived : (h : Held) (letter : Letter) → held_load (arrived_held h letter) ≡ held_load h
+load_arrived (Runs p) letter = refl
+load_arrived (Rolls p counts births) letter = refl
+load_arrived (Waits kept) letter = refl
+
+same_load : (letter : Letter) (here : List (Pid × Held)) → sum_by (λ (e : Pid × Held). held_load e.1) (with_letter letter here) ≡ sum_by (λ (e : Pid × Held). held_load e.1) here
+same_load letter here = sum_same (λ (e : Pid × Held). held_load e.1) (λ (e : Pid × Held). cond (is_end_of e.0 letter.to) (e.0, arrived_held e.1 letter) e) (λ e. by_test e (is_end_of e.0 letter.to)) here
+  where
+    by_test : (e : Pid × Held) (b : Bool) → held_load (cond b (e.0, arrived_held e.1 letter) e).1 ≡ held_load e.1
+    by_test e true = load_arrived e.1 letter
+    by_test e false = refl
+
 -- an entry that is taken in adds nothing
-less_held : (w : What) (here : List (Pid × Held)) → sum_by (λ (e : Pid × Held). held_load e.1) (without_ended w here) ≤ sum_by (λ (e : Pid × Held). held_load e.1) here
+less_held : (w : What) (here : List (Pid × Held)) → sum_by (λ (e : Pid × Held). held_load e.1) (here_after w here) ≤ sum_by (λ (e : Pid × Held). held_load e.1) here
 less_held (Exit pid at end) here = sum_part (λ (e : Pid × Held). held_load e.1) (λ (e : Pid × Held). not (same_pid e.0 pid)) here
-less_held (Mail at letter) here = omega arith
+less_held (Mail at letter) here = omega (arith, same_load letter here)
 less_held (Birth parent at child end) here = omega arith
 less_held (Page pid at index bytes) here = omega arith
 less_held (Sync pid small read took) here = omega arith

@@ -1,17 +1,15 @@
 -- All clusters stay beside their bus while one of them has its turn.
-use Rattle.std.proofs.Common.{◌≡◌, ℕ, zero, suc, ◌+◌, ◌≤◌, ◌<◌, ◌≢◌, refl, sym, ◌∙◌, ap, subst, arith, List, [], ◌∷◌, ◌++◌, length, take, drop, length-append, Bool, false, true, cond, not, ◌||◌, ◌&&◌, Some, slice_get, slice_set, get_or, true≢false, eq-eqb, eqb-true, zero-add, OnOk, Result, Ok, Err}
-use Rattle.std.specs.Prelude.{count_by, ◌==◌, nat_eq, nat_le}
+use Rattle.std.proofs.Common.{◌≡◌, ℕ, zero, suc, ◌+◌, ◌≤◌, ◌<◌, ◌≢◌, refl, sym, ◌∙◌, ap, subst, arith, List, [], ◌∷◌, ◌++◌, length, take, drop, length-append, Bool, false, true, ◌||◌, ◌&&◌, Some, slice_get, slice_set, get_or, true≢false, eq-eqb, eqb-true, OnOk, Result, Ok, Err}
+use Rattle.std.specs.Prelude.{nat_eq, nat_le}
 use Rattle.std.specs.List.{list_any}
 use Rattle.std.proofs.lemmas.Bool.{leb-true}
 use Rattle.std.proofs.lemmas.List.{take-append-le, take_all, drop-append-le, length-set}
 use Rattle.std.proofs.lemmas.List.Folds.{list_any-append}
-use Rattle.std.proofs.lemmas.List.Sums.{sum_by-append}
 use Rattle.std.proofs.lemmas.Option.{slice_get_within, slice_get-get_or}
 use Rattle.std.proofs.lemmas.Bool.{and_parts}
 use Rattle.t32_base.specs.declared.process.ClusterNo.{ClusterNo}
 use Rattle.sys_text.specs.Valid.{are_images, are_roots, is_header, is_pair, is_system, is_within}
 use Rattle.sys_text.specs.declared.system.System.{System}
-use Rattle.sys_text.specs.declared.system.Root.{Root}
 use Rattle.cert_sched.specs.Told.{told}
 use Rattle.cert_sched.specs.Rules.{is_over}
 use Rattle.cert_sched.specs.Losses.{is_by_cluster}
@@ -19,9 +17,8 @@ use Rattle.cluster_core.specs.View.{ClusterView}
 use Rattle.cluster_core.specs.Follows.{FollowsBuilt}
 use Rattle.bus_order.specs.View.{BusView, BeginsWith}
 use Rattle.cluster_run.specs.Along.{IsAlong, AllAlong, Extends}
-use Rattle.cluster_run.specs.Simulated.{homes_differ}
 use Rattle.cluster_run.specs.Started.{IsStarted, AllStarted}
-use Rattle.cluster_run.proofs.Prefixes.{either, get_last}
+use Rattle.cluster_run.proofs.Prefixes.{get_last}
 
 -- ---- one element of a list is replaced
 
@@ -86,37 +83,6 @@ pub turned : {E : Type 0} (r : Result (Unit {0}) E) (b after : BusView) (cs : Li
 turned (Ok u) b after cs n d new all within along extends same = all_after b after cs n d new all within along extends same
 turned (Err e) b after cs n d new all within along extends same = tt
 
--- ---- the roots of a system without channels
-
-count_first : (test : Root → Bool) (r : Root) (roots : List Root) → count_by test (r ∷ roots) ≡ cond (test r) 1 0 + count_by test roots
-count_first test r roots = sum_by-append (λ r. cond (test r) 1 0) (r ∷ []) roots ∙ ap (λ n. n + count_by test roots) (zero-add (cond (test r) 1 0))
-
--- no root passes where none is found
-none_counted : (k : ℕ) (roots : List Root) → list_any (λ (q : Root). (q.home).0 == k) roots ≡ false → count_by (λ (r : Root). (r.home).0 == k) roots ≡ 0
-none_counted k [] none = refl
-none_counted k (r ∷ roots) none =
-    let parts = either ((r.home).0 == k) (list_any (λ (q : Root). (q.home).0 == k) roots) none in
-    let rest = none_counted k roots parts.1 in
-    count_first (λ (r : Root). (r.home).0 == k) r roots ∙ (λ i. cond (parts.0 i) 1 0 + rest i)
-
-unnot : (b : Bool) → not b ≡ true → b ≡ false
-unnot true h = absurd (true≢false (sym h))
-unnot false h = refl
-
--- where all homes differ, a cluster is the home of one root at most
-pub one_at_home : (k : ℕ) (roots : List Root) → homes_differ roots ≡ true → count_by (λ (r : Root). (r.home).0 == k) roots ≤ 1
-one_at_home k [] differ = omega arith
-one_at_home k (r ∷ roots) differ =
-    let parts = and_parts (not (list_any (λ (q : Root). (q.home).0 == (r.home).0) roots)) (homes_differ roots) differ in
-    subst (λ n. n ≤ 1) (sym (count_first (λ (r : Root). (r.home).0 == k) r roots)) (by_test ((r.home).0 == k) refl (unnot (list_any (λ (q : Root). (q.home).0 == (r.home).0) roots) parts.0) (one_at_home k roots parts.1))
-  where
-    by_test : (b : Bool) → ((r.home).0 == k) ≡ b → list_any (λ (q : Root). (q.home).0 == (r.home).0) roots ≡ false → count_by (λ (r : Root). (r.home).0 == k) roots ≤ 1
-        → cond b 1 0 + count_by (λ (r : Root). (r.home).0 == k) roots ≤ 1
-    by_test true is alone more =
-        let none : count_by (λ (r : Root). (r.home).0 == k) roots ≡ 0 = none_counted k roots (ap (λ n. list_any (λ (q : Root). (q.home).0 == n) roots) (sym (eqb-true (r.home).0 k is)) ∙ alone) in
-        omega (arith, none)
-    by_test false is alone more = omega (arith, more)
-
 -- ---- the clusters at boot
 
 get_front : {X : Type 0} (xs ys : List X) (n : ℕ) → n < length xs → slice_get (xs ++ ys) n ≡ slice_get xs n
@@ -174,11 +140,6 @@ all_at_start system b cs begins all =
 
 pub written : {X : Type 0} (n : ℕ) (old new : List X) → length new ≡ length old → n ≡ length old → take n (new ++ drop (length new) old) ≡ new
 written n old new same count = take-append-le n new (drop (length new) old) (omega (arith, same, count)) ∙ take_all n new (omega (arith, same, count))
-
--- a list of no length is empty
-pub none_there : {X : Type 0} (xs : List X) → (length xs == 0) ≡ true → xs ≡ []
-none_there [] h = refl
-none_there (x ∷ xs) h = absurd (let none : length (x ∷ xs) ≡ 0 = eqb-true (length (x ∷ xs)) 0 h in omega (arith, none))
 
 front : (a b : Bool) → (a && b) ≡ true → a ≡ true
 front a b h = (and_parts a b h).0

@@ -2,7 +2,6 @@
 ghost use Rattle.std.specs.Prelude.{◌≡◌, IfOk, true};
 ghost use Rattle.std.specs.Arc.{arc_value};
 ghost use Rattle.sys_text.specs.Valid.{is_system};
-ghost use Rattle.cluster_run.specs.Simulated.{is_simulated};
 ghost use Rattle.cluster_run.specs.Started.{AllStarted};
 
 use cluster_core::cluster::Cluster;
@@ -14,8 +13,7 @@ use t32_base::streams::NoMemory;
 
 /// The clusters of a system at their start, each at the place of its number.
 pub fn clusters_at_boot(alloc: Global, system: &Arc<System>) -> Result<Vec<Cluster>, NoMemory>
-    requires valid { is_system (arc_value system.now) ≡ true }
-    requires built { is_simulated (arc_value system.now) ≡ true }
+    requires { is_system (arc_value system.now) ≡ true }
     ensures { IfOk result (λ clusters. AllStarted (arc_value system.now) (arc_value system.now).clusters clusters.items) }
 {
     let mut clusters = Vec::new(alloc);

@@ -1,5 +1,5 @@
 //! What a run leaves when it has ended.
-ghost use Rattle.std.specs.Prelude.{◌≡◌, ◌≤◌, ◌+◌, IfOk, map, length, true};
+ghost use Rattle.std.specs.Prelude.{◌≡◌, ◌≤◌, ◌+◌, IfOk, OnOk, map, length, true};
 ghost use Rattle.cert_sched.specs.Rules.{is_over};
 ghost use Rattle.report_text.specs.Good.{IsGoodBuilt};
 ghost use Rattle.report_text.specs.declared.run.Ended.{Ended as AnEnd};
@@ -26,7 +26,7 @@ pub fn leave(alloc: Global, bus: Bus<'_>, mut clusters: Vec<Cluster>) -> Result<
     ensures lived { IfOk result (λ ran. LivedBuilt bus.entry.system ran.run.log ran.lives) }
 {
     let end = bus.length() - 1;
-    catch_all_up(&bus, &mut clusters, end);
+    catch_all_up(&bus, &mut clusters, end)?;
     gather(alloc, bus, clusters, end)
 }
 
@@ -60,16 +60,17 @@ fn gather(alloc: Global, bus: Bus<'_>, clusters: Vec<Cluster>, end: u64) -> Resu
 }
 
 // Lets each cluster take in what stands before the end.
-fn catch_all_up(bus: &Bus<'_>, clusters: &mut [Cluster], end: u64)
+fn catch_all_up(bus: &Bus<'_>, clusters: &mut [Cluster], end: u64) -> Result<(), NoMemory>
     requires along { AllAlong bus.now clusters.old }
     requires over { is_over bus.now.system bus.now.log ≡ true }
     requires last { end + 1 ≡ length bus.now.log }
-    ensures { IsUpto bus.now end (length clusters.new) clusters.new }
+    ensures { OnOk result (IsUpto bus.now end (length clusters.new) clusters.new) }
 {
     let _legal = bus.length();
     for number in 0..clusters.len() {
-        catch_up(bus, &mut clusters[number], end);
+        catch_up(bus, &mut clusters[number], end)?;
     }
+    Ok(())
 }
 
 fn steps_of(alloc: Global, clusters: &[Cluster]) -> Result<Vec<u64>, AllocError>

@@ -1,13 +1,11 @@
 //! A run of clusters on one thread.
-ghost use Rattle.std.specs.Prelude.{◌≡◌, ◌<◌, ◌^◌, ◌==◌, IfOk, length, true, []};
+ghost use Rattle.std.specs.Prelude.{◌≡◌, ◌<◌, ◌^◌, IfOk, length, true, []};
 ghost use Rattle.std.specs.Arc.{arc_value};
-ghost use Rattle.std.specs.List.{list_any};
 ghost use Rattle.sys_text.specs.Valid.{is_system};
 ghost use Rattle.report_text.specs.Good.{IsGoodBuilt};
 ghost use Rattle.report_text.specs.declared.run.Ended.{Ended as AnEnd};
 ghost use Rattle.cluster_run.specs.Along.{AllAlong};
 ghost use Rattle.cluster_run.specs.Lived.{LivedBuilt};
-ghost use Rattle.cluster_run.specs.Simulated.{homes_differ as homes_differ_in, is_simulated as is_simulated_system};
 
 use crate::booting::clusters_at_boot;
 use crate::leaving::leave;
@@ -17,37 +15,12 @@ use bus_order::bus::Bus;
 use cluster_core::cluster::Cluster;
 use std::alloc::Global;
 use std::sync::Arc;
-use sys_text::system::{Root, System};
+use sys_text::system::System;
 use t32_base::streams::NoMemory;
-
-/// Whether the clusters of a system are run yet: it has no channels, and no two roots have one home. Takes no
-/// memory.
-pub fn is_simulated(system: &System) -> bool
-    ensures { result ≡ is_simulated_system system.now }
-{
-    system.chans.len() == 0 && homes_differ(system.roots.as_slice())
-}
-
-fn homes_differ(roots: &[Root]) -> bool
-    ensures { result ≡ homes_differ_in roots.now }
-{
-    match roots {
-        [] => true,
-        [root, rest @ ..] => !is_home_in(root, rest) && homes_differ(rest),
-    }
-}
-
-// Whether one of the roots has the home of this one.
-fn is_home_in(root: &Root, roots: &[Root]) -> bool
-    ensures { result ≡ list_any (λ q. q.home.0 == root.now.home.0) roots.now }
-{
-    roots.iter().any(|other| other.home.0 == root.home.0)
-}
 
 /// The bus of a system and its clusters, at their start.
 pub fn start(alloc: Global, system: &Arc<System>) -> Result<(Bus<'_>, Vec<Cluster>), NoMemory>
-    requires valid { is_system (arc_value system.now) ≡ true }
-    requires built { is_simulated_system (arc_value system.now) ≡ true }
+    requires { is_system (arc_value system.now) ≡ true }
     ensures along { IfOk result (λ started. AllAlong started.0 started.1.items) }
     ensures some { IfOk result (λ started. 0 < length started.1.items) }
     ensures system { IfOk result (λ started. started.0.system ≡ arc_value system.now) }
@@ -63,7 +36,6 @@ pub fn start(alloc: Global, system: &Arc<System>) -> Result<(Bus<'_>, Vec<Cluste
 /// congruential sequence that says where each round begins.
 pub fn sim(alloc: Global, system: &Arc<System>, pick: u32) -> Result<Ran, NoMemory>
     requires valid { is_system (arc_value system.now) ≡ true }
-    requires built { is_simulated_system (arc_value system.now) ≡ true }
     requires seed { pick < 2 ^ 31 }
     ensures good { IfOk result (λ ran. IsGoodBuilt (arc_value system.now) ran.run) }
     ensures finished { IfOk result (λ ran. ran.run.ended ≡ AnEnd.Finished) }

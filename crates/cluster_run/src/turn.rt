@@ -12,32 +12,35 @@ use cluster_core::cluster::Cluster;
 use cluster_core::worked::Worked;
 use t32_base::streams::NoMemory;
 
-/// Lets a cluster take in the entries of the log before the place `upto`. Takes no memory.
-pub fn catch_up(bus: &Bus<'_>, cluster: &mut Cluster, upto: u64)
+/// Lets a cluster take in the entries of the log before the place `upto`. After want of memory nothing is said
+/// of it.
+pub fn catch_up(bus: &Bus<'_>, cluster: &mut Cluster, upto: u64) -> Result<(), NoMemory>
     requires along { IsAlong bus.now cluster.old }
     requires behind { cluster.old.cursor ≤ upto }
     requires open { IsOpenUpto bus.now upto }
-    ensures along { IsAlong bus.now cluster.new }
-    ensures caught { cluster.new.cursor ≡ upto }
-    ensures number { cluster.new.number ≡ cluster.old.number }
-    ensures lighter { load cluster.new ≤ load cluster.old }
+    ensures along { OnOk result (IsAlong bus.now cluster.new) }
+    ensures caught { OnOk result (cluster.new.cursor ≡ upto) }
+    ensures number { OnOk result (cluster.new.number ≡ cluster.old.number) }
+    ensures lighter { OnOk result (load cluster.new ≤ load cluster.old) }
 {
     let _legal = bus.length();
     'entries: while cluster.cursor() < upto {
-        take_next(bus, cluster);
+        take_next(bus, cluster)?;
     }
+    Ok(())
 }
 
 // Takes in the entry at the cursor.
-fn take_next(bus: &Bus<'_>, cluster: &mut Cluster)
+fn take_next(bus: &Bus<'_>, cluster: &mut Cluster) -> Result<(), NoMemory>
     requires { IsReadyAt bus.now cluster.old }
-    ensures { TakesNext bus.now cluster.old cluster.new }
+    ensures { OnOk result (TakesNext bus.now cluster.old cluster.new) }
 {
     let _length = bus.length();
-    match bus.entry(cluster.cursor()) {
-        Some(entry) => cluster.absorb(entry),
-        None => unreachable!(),
-    }
+    let Some(entry) = bus.entry(cluster.cursor()) else {
+        unreachable!();
+    };
+    cluster.absorb(entry)?;
+    Ok(())
 }
 
 /// One turn of a cluster: it takes in what the bus has carried, does the next thing, and sends what that
@@ -52,7 +55,7 @@ pub fn take_turn(bus: &mut Bus<'_>, cluster: &mut Cluster) -> Result<(), NoMemor
     ensures gets_on { OnOk result (GetsOn bus.old bus.new (load cluster.old) (load cluster.new) cluster.old.number.0 (cluster.old.number.0 + 1)) }
 {
     let length = bus.length();
-    catch_up(bus, cluster, length);
+    catch_up(bus, cluster, length)?;
     match cluster.work()? {
         Worked::Moved => Ok(()),
         Worked::Queued => send(bus, cluster),
@@ -73,7 +76,7 @@ fn send(bus: &mut Bus<'_>, cluster: &mut Cluster) -> Result<(), NoMemory>
     transmit_head(bus, cluster)?;
     let _legal = bus.length();
     cluster.sent();
-    take_next(bus, cluster);
+    take_next(bus, cluster)?;
     Ok(())
 }
 

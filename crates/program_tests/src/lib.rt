@@ -20,3 +20,5 @@ mod simulated;
 mod steps;
 #[cfg(test)]
 mod systems;
+#[cfg(test)]
+mod talks;

@@ -6,7 +6,7 @@ use crate::systems::HI;
 use bus_msg::entry::{By, Post, What};
 use bus_order::refused::Refused;
 use cluster_run::rounds::{give_turn, run_rounds};
-use cluster_run::sim::{is_simulated, start};
+use cluster_run::sim::start;
 use std::alloc::Global;
 use std::sync::Arc;
 use std::test::Fail;
@@ -39,7 +39,6 @@ fn exit_by(number: ClusterNo) -> Post
 fn a_cluster_that_is_behind_is_refused(rt: HostRuntime) -> Result<(), Fail> {
     let alloc = rt.alloc();
     let system = read_system(alloc, HI.as_bytes())?;
-    assert!(rt; is_simulated(&system));
     let system = shared(alloc, system)?;
     let (mut bus, mut clusters) = start(alloc, &system)?;
     assert_eq!(rt; clusters.len(), 2);
@@ -56,7 +55,6 @@ fn a_cluster_that_is_behind_is_refused(rt: HostRuntime) -> Result<(), Fail> {
 fn nothing_is_sent_after_the_end(rt: HostRuntime) -> Result<(), Fail> {
     let alloc = rt.alloc();
     let system = read_system(alloc, HI.as_bytes())?;
-    assert!(rt; is_simulated(&system));
     let system = shared(alloc, system)?;
     let (mut bus, mut clusters) = start(alloc, &system)?;
     run_rounds(&mut bus, &mut clusters, 0)?;

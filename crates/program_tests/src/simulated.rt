@@ -3,7 +3,7 @@
 ghost use Rattle.std.specs.Prelude.{◌<◌};
 
 use crate::calls::{answers, sink, source, words};
-use crate::systems::{BAD, CUT, HI, LINKED, NEIGHBOURS, SPIN};
+use crate::systems::{BAD, CUT, HI, SPIN};
 use plain_kernel::item::Item;
 use report_text::run::Ended;
 use std::alloc::{AllocError, Global};
@@ -162,10 +162,8 @@ fn what_is_no_option_is_usage(rt: HostRuntime) -> Result<(), Fail> {
 }
 
 #[test]
-fn a_system_is_refused_or_not_run_yet(rt: HostRuntime) -> Result<(), Fail> {
+fn a_system_is_refused(rt: HostRuntime) -> Result<(), Fail> {
     for (text, line) in [
-        (LINKED, "t32: not yet\n"),
-        (NEIGHBOURS, "t32: not yet\n"),
         (CUT, "t32: system line 6 rule 10\n"),
         ("", "t32: system line 1 rule 10\n"),
     ] {
@@ -233,10 +231,9 @@ fn the_run_is_handed_out(rt: HostRuntime) -> Result<(), Fail> {
 #[test]
 fn without_a_run_none_is_handed_out(rt: HostRuntime) -> Result<(), Fail> {
     let alloc = rt.alloc();
-    let calls: [(&[&str], &str, u8); 5] = [
+    let calls: [(&[&str], &str, u8); 4] = [
         (&["plain"], HI, 0),
         (&["check"], HI, 0),
-        (&["sim"], LINKED, 2),
         (&["sim"], CUT, 2),
         (&["sim", "--"], HI, 1),
     ];

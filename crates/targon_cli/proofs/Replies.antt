@@ -9,9 +9,8 @@ use Rattle.rv_asm.specs.Program.{reading_of as asm_reading}
 use Rattle.plain_kernel.specs.declared.item.Item.{Item}
 use Rattle.text_parts.specs.Lines.{lines_of}
 use Rattle.cluster_run.specs.declared.life.Ran.{Ran}
-use Rattle.cluster_run.specs.Simulated.{is_simulated}
 use Rattle.targon_cli.specs.Command.{makes_run}
-use Rattle.targon_cli.specs.Reply.{Makes, MakesPlain, MakesCheck, MakesAsm, MakesSim, Simulates, TellsOfRun, RunsBy, FollowsSection, Follows, Applied, Refused}
+use Rattle.targon_cli.specs.Reply.{Makes, MakesPlain, MakesCheck, MakesAsm, MakesSim, TellsOfRun, RunsBy, FollowsSection, Follows, Applied, Refused}
 use Rattle.targon_cli.specs.Sections.{system_part, section_part, items_of_lines}
 
 -- ---- the status
@@ -48,12 +47,8 @@ status_of_tale : (system : System) (log : Bool) (wanted : ℕ) (text : List ℕ)
 status_of_tale system log wanted text None m = absurd m
 status_of_tale system log wanted text (Some r) m = inl m.0
 
-status_of_clusters : (system : System) (simulated log : Bool) (wanted : ℕ) (text : List ℕ) (ran : Option Ran) → Simulates system simulated log wanted text ran → IsReply wanted
-status_of_clusters system true log wanted text ran m = status_of_tale system log wanted text ran m
-status_of_clusters system false log wanted text ran m = inr (inl m.0)
-
 status_of_sim : (reading : _) (log : Bool) (wanted : ℕ) (text : List ℕ) (ran : Option Ran) → MakesSim reading log wanted text ran → IsReply wanted
-status_of_sim (Ok system) log wanted text ran m = status_of_clusters system (is_simulated system) log wanted text ran m
+status_of_sim (Ok system) log wanted text ran m = status_of_tale system log wanted text ran m
 status_of_sim (Err refused) log wanted text ran m = inr (inl m.0)
 
 pub status_made : (command : Command) (bytes : List ℕ) (wanted : ℕ) (text : List ℕ) (ran : Option Ran) → Makes command bytes wanted text ran → IsReply wanted
@@ -68,12 +63,8 @@ tale_has_run : (system : System) (log : Bool) (text : List ℕ) (ran : Option Ra
 tale_has_run system log text None m = absurd m
 tale_has_run system log text (Some r) m = refl
 
-clusters_have_run : (system : System) (simulated log : Bool) (text : List ℕ) (ran : Option Ran) → Simulates system simulated log 0 text ran → is_some ran ≡ true
-clusters_have_run system true log text ran m = tale_has_run system log text ran m
-clusters_have_run system false log text ran m = absurd (omega (arith, m.0))
-
 sim_has_run : (reading : _) (log : Bool) (text : List ℕ) (ran : Option Ran) → MakesSim reading log 0 text ran → is_some ran ≡ true
-sim_has_run (Ok system) log text ran m = clusters_have_run system (is_simulated system) log text ran m
+sim_has_run (Ok system) log text ran m = tale_has_run system log text ran m
 sim_has_run (Err refused) log text ran m = absurd (omega (arith, m.0))
 
 -- what is done by `sim` has a run, and by another command none
@@ -87,12 +78,8 @@ no_tale : (system : System) (log : Bool) (wanted : ℕ) (text : List ℕ) (ran :
 no_tale system log wanted text None m n = refl
 no_tale system log wanted text (Some r) m n = absurd (n m.0)
 
-no_clusters : (system : System) (simulated log : Bool) (wanted : ℕ) (text : List ℕ) (ran : Option Ran) → Simulates system simulated log wanted text ran → (wanted ≡ 0 → ⊥) → ran ≡ None
-no_clusters system true log wanted text ran m n = no_tale system log wanted text ran m n
-no_clusters system false log wanted text ran m n = m.2
-
 no_sim : (reading : _) (log : Bool) (wanted : ℕ) (text : List ℕ) (ran : Option Ran) → MakesSim reading log wanted text ran → (wanted ≡ 0 → ⊥) → ran ≡ None
-no_sim (Ok system) log wanted text ran m n = no_clusters system (is_simulated system) log wanted text ran m n
+no_sim (Ok system) log wanted text ran m n = no_tale system log wanted text ran m n
 no_sim (Err refused) log wanted text ran m n = m.2
 
 -- a refusal has no run

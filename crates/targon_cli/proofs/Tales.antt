@@ -12,8 +12,7 @@ use Rattle.report_text.specs.declared.run.Ended.TheVariants.{Finished}
 use Rattle.report_text.specs.Good.{IsGoodBuilt, EndsAs}
 use Rattle.cluster_run.specs.declared.life.Ran.{Ran}
 use Rattle.cluster_run.specs.Lived.{LivedBuilt}
-use Rattle.cluster_run.specs.Simulated.{is_simulated}
-use Rattle.targon_cli.specs.Reply.{run_text, TellsOf, Simulates}
+use Rattle.targon_cli.specs.Reply.{run_text, TellsOf, TellsOfRun}
 
 ends_finished : (system : System) (r : Run) → r.ended ≡ Finished → EndsAs system r.log r.ended → is_finished r.log ≡ true
 ends_finished system r e h = subst (λ (k : Ended). EndsAs system r.log k) e h
@@ -24,11 +23,11 @@ still system r kernel good ended runs =
     finished_kernel_still system r.log kernel good.legal (ends_finished system r ended good.ended) (ap (plain_run system) (sym good.items) ∙ runs)
 
 -- a good run that is finished is told of by its text
-pub tells : (system : System) (log : Bool) (text : List ℕ) (ran : Ran) → is_simulated system ≡ true → IsGoodBuilt system ran.run → (ran.run).ended ≡ Finished → (ran.run).withheld ≡ 0
+pub tells : (system : System) (log : Bool) (text : List ℕ) (ran : Ran) → IsGoodBuilt system ran.run → (ran.run).ended ≡ Finished → (ran.run).withheld ≡ 0
     → LivedBuilt system (ran.run).log ran.lives → (kernel : Kernel) → plain_run system (ran.run).items ≡ Some kernel → text ≡ run_text log kernel ran.run
-    → Simulates system (is_simulated system) log 0 text (Some ran)
-tells system log text ran simulated good ended withheld lived kernel runs told =
-    let tale : TellsOf system log text ran = record {
+    → TellsOfRun system log 0 text (Some ran)
+tells system log text ran good ended withheld lived kernel runs told =
+    (refl, record {
       kernel = kernel;
       scheduled = runs;
       good = good;
@@ -37,5 +36,4 @@ tells system log text ran simulated good ended withheld lived kernel runs told =
       still = still system ran.run kernel good ended runs;
       lived = lived;
       told = told;
-    } in
-    subst (λ b. Simulates system b log 0 text (Some ran)) (sym simulated) (refl, tale)
+    })

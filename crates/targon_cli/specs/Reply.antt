@@ -25,7 +25,6 @@ use Rattle.report_text.specs.RunReport.{report_of, log_text_of}
 use Rattle.report_text.specs.Good.{IsGoodBuilt}
 use Rattle.cluster_run.specs.declared.life.Ran.{Ran}
 use Rattle.cluster_run.specs.Lived.{LivedBuilt}
-use Rattle.cluster_run.specs.Simulated.{is_simulated}
 
 -- a refused text, with its line and its rule
 abbrev pub system_line : (line rule : ℕ) → List ℕ
@@ -33,9 +32,6 @@ system_line line rule = codes "t32: system line " ++ (decimal line ++ (codes " r
 
 abbrev pub asm_line : (line rule : ℕ) → List ℕ
 asm_line line rule = codes "t32: asm line " ++ (decimal line ++ (codes " rule " ++ (decimal rule ++ 10 ∷ [])))
-
-abbrev pub not_yet_line : List ℕ
-not_yet_line = codes "t32: not yet\n"
 
 abbrev pub schedule_line : (index : ℕ) → List ℕ
 schedule_line index = codes "t32: schedule item " ++ (decimal index ++ 10 ∷ [])
@@ -91,13 +87,9 @@ abbrev pub TellsOfRun : System → (log : Bool) → (status : ℕ) → (text : L
 TellsOfRun system log status text None = ⊥
 TellsOfRun system log status text (Some ran) = (status ≡ 0) × TellsOf system log text ran
 
--- a system whose clusters are run is told of
-abbrev pub Simulates : System → Bool → (log : Bool) → (status : ℕ) → (text : List ℕ) → Option Ran → Type 0
-Simulates system false log status text ran = (status ≡ 2) × (text ≡ not_yet_line) × (ran ≡ None)
-Simulates system true log status text ran = TellsOfRun system log status text ran
-
+-- each system is run and told of
 abbrev pub MakesSim : Answer → (log : Bool) → (status : ℕ) → (text : List ℕ) → Option Ran → Type 0
-MakesSim (Ok system) log status text ran = Simulates system (is_simulated system) log status text ran
+MakesSim (Ok system) log status text ran = TellsOfRun system log status text ran
 MakesSim (Err refused) log status text ran = (status ≡ 2) × (text ≡ system_line refused.0 (system_rule refused.1)) × (ran ≡ None)
 
 -- ---- any command

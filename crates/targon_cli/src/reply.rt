@@ -9,7 +9,7 @@ ghost use Rattle.text_parts.specs.Lines.{lines_of};
 ghost use Rattle.targon_cli.specs.Sections.{section_part, system_part};
 ghost use Rattle.sys_text.specs.Valid.{is_system};
 ghost use Rattle.targon_cli.specs.Command.{has_pick};
-ghost use Rattle.targon_cli.specs.Reply.{asm_line, Follows, Makes, MakesAsm, MakesCheck, MakesPlain, not_yet_line, RunsBy, schedule_line, system_line};
+ghost use Rattle.targon_cli.specs.Reply.{asm_line, Follows, Makes, MakesAsm, MakesCheck, MakesPlain, RunsBy, schedule_line, system_line};
 
 use crate::command::Command;
 use crate::sections::split_at_section;
@@ -110,17 +110,6 @@ fn report_of(alloc: Global, system: &System) -> Result<Text, NoMemory>
 {
     let plain = default_run(alloc, system)?;
     plain_report(alloc, &plain)
-}
-
-/// The reply for a system that cannot be run yet.
-pub fn not_yet(alloc: Global) -> Result<Reply, NoMemory>
-    ensures { IfOk result (λ r. (r.status ≡ 2) × (r.text ≡ not_yet_line)) }
-{
-    let text = Bytes::copy_of(alloc, b"t32: not yet\n")?;
-    Ok(Reply {
-        status: REFUSED,
-        text,
-    })
 }
 
 // Prints a system in canonical form.

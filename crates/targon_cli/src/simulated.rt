@@ -1,16 +1,15 @@
 //! What `sim` makes of the bytes of its input: a run of clusters, and what is written of it.
 ghost use Rattle.std.specs.Prelude.{◌≡◌, ◌<◌, ◌^◌, IfOk, true};
-ghost use Rattle.cluster_run.specs.Simulated.{is_simulated as is_simulated_system};
 ghost use Rattle.plain_kernel.specs.Apply.{plain_run};
 ghost use Rattle.plain_kernel.specs.Kernel.{Kernel};
 ghost use Rattle.report_text.specs.Good.{IsGoodBuilt};
 ghost use Rattle.sys_text.specs.Reading.{reading_of as system_reading};
 ghost use Rattle.sys_text.specs.Valid.{is_system};
-ghost use Rattle.targon_cli.specs.Reply.{MakesSim, run_text as run_text_of, Simulates};
+ghost use Rattle.targon_cli.specs.Reply.{MakesSim, run_text as run_text_of, TellsOfRun};
 
-use crate::reply::{DONE, Reply, not_yet, refused_system};
+use crate::reply::{DONE, Reply, refused_system};
 use cluster_run::life::Ran;
-use cluster_run::sim::{is_simulated, sim};
+use cluster_run::sim::sim;
 use plain_kernel::item::RunRefused;
 use plain_kernel::plain::run as run_items;
 use report_text::run::Run;
@@ -22,8 +21,7 @@ use sys_text::{SystemRefused, read_system};
 use t32_base::lists::Text;
 use t32_base::streams::NoMemory;
 
-/// Runs the clusters of a system text, where its system is one whose clusters are run yet. The reply tells
-/// of the run, also of its log where that is asked for.
+/// Runs the clusters of a system text. The reply tells of the run, also of its log where that is asked for.
 pub fn simulate(
     alloc: Global,
     bytes: &[u8],
@@ -50,11 +48,8 @@ fn run_system(
 ) -> Result<(Reply, Option<Ran>), NoMemory>
     requires valid { is_system system ≡ true }
     requires seed { pick < 2 ^ 31 }
-    ensures { IfOk result (λ r. Simulates system (is_simulated_system system) log r.0.status r.0.text r.1) }
+    ensures { IfOk result (λ r. TellsOfRun system log r.0.status r.0.text r.1) }
 {
-    if !is_simulated(&system) {
-        return Ok((not_yet(alloc)?, None));
-    }
     let system = Arc::new(alloc, system)?;
     let ran = sim(alloc, &system, pick)?;
     let text = run_text(alloc, &system, &ran.run, log)?;

@@ -1,18 +1,10 @@
 use Rattle.std.proofs.Common.{ap, subst, sym}
-use Rattle.std.specs.Prelude.{length, ◌==◌}
 use Rattle.std.specs.Arc.{arc_value}
-use Rattle.std.proofs.lemmas.Bool.{and_parts}
 use Rattle.t32_base.specs.declared.process.ClusterNo.{ClusterNo}
 use Rattle.sys_text.specs.declared.system.System.{System}
 use Rattle.cluster_core.specs.Calls.{IsFirst}
-use Rattle.cluster_run.specs.Simulated.{homes_differ}
-use Rattle.cluster_run.proofs.Together.{none_there, one_at_home, one_started}
+use Rattle.cluster_run.proofs.Together.{one_started}
 use Rattle.cluster_run.proofs.booting.clusters_at_boot.Goals as goal
-
-pub boot-requires-clause-one : goal.boot-requires-clause-one
-boot-requires-clause-one c =
-    let system : System = arc_value c.args.system.now in
-    one_at_home c.loop-number.number system.roots (and_parts (length system.chans == 0) (homes_differ system.roots) c.requires.built).1
 
 pub loop-number-preserved : goal.loop-number-preserved
 loop-number-preserved c =
@@ -25,8 +17,3 @@ loop-number-preserved c =
       follows = c.in_ok-cluster.ensures.follows;
     })
     c.in_ok-push.ensures.items
-
-pub boot-requires-clause-unlinked : goal.boot-requires-clause-unlinked
-boot-requires-clause-unlinked c =
-    let system : System = arc_value c.args.system.now in
-    none_there system.chans (and_parts (length system.chans == 0) (homes_differ system.roots) c.requires.built).0

@@ -20,4 +20,4 @@ catch_up-requires-clause-open c = open_end c.args.bus.now c.args.«end» c.lengt
 pub loop-number-preserved : goal.loop-number-preserved
 loop-number-preserved c =
     one_caught c.args.bus.now c.args.«end» c.loop-number.number c.loop-number.clusters c.index-clusters-number.result c.catch_up.new.cluster c.loop-number.invariant
-    (rw c.loop-number.auto.clusters c.loop-number-test.true) c.catch_up.ensures.along c.catch_up.ensures.caught c.catch_up.ensures.number
+    (rw c.loop-number.auto.clusters c.loop-number-test.true) c.in_ok-catch_up.ensures.along c.in_ok-catch_up.ensures.caught c.in_ok-catch_up.ensures.number

@@ -14,4 +14,4 @@ returns-clause-along c =
 pub returns-clause-some : goal.returns-clause-some
 returns-clause-some c =
     let system : System = arc_value c.args.system.now in
-    omega (arith, c.in_ok-clusters.ensures.each, some_clusters system c.requires.valid)
+    omega (arith, c.in_ok-clusters.ensures.each, some_clusters system c.requires)

@@ -14,10 +14,10 @@ pub entries-preserved : goal.entries-preserved
 entries-preserved c =
     let next_open : IsOpenUpto c.args.bus.now (c.entries.cluster.cursor + 1) =
     open_below c.args.bus.now (c.entries.cluster.cursor + 1) c.args.upto c.length-legal.ensures.legal c.requires.«open» (omega (arith, c.entries-test.true, c.cursor.ensures)) in
-    let moved = cursor_taken c.args.bus.now c.entries.cluster c.take_next.new.cluster c.take_next.ensures in
+    let moved = cursor_taken c.args.bus.now c.entries.cluster c.take_next.new.cluster c.in_ok-take_next.ensures in
     record {
-      along = along_taken c.args.bus.now c.entries.cluster c.take_next.new.cluster c.entries.invariant.along c.length-legal.ensures.legal next_open c.take_next.ensures;
+      along = along_taken c.args.bus.now c.entries.cluster c.take_next.new.cluster c.entries.invariant.along c.length-legal.ensures.legal next_open c.in_ok-take_next.ensures;
       behind = omega (arith, moved.0, c.entries-test.true, c.cursor.ensures);
       number = moved.1 ∙ c.entries.invariant.number;
-      lighter = omega (arith, c.entries.invariant.lighter, load_taken c.args.bus.now c.entries.cluster c.take_next.new.cluster c.take_next.ensures);
+      lighter = omega (arith, c.entries.invariant.lighter, load_taken c.args.bus.now c.entries.cluster c.take_next.new.cluster c.in_ok-take_next.ensures);
     }

@@ -1,9 +1,8 @@
-use Rattle.std.proofs.Common.{◌≡◌, ◌∙◌, ap, sym, subst, arith, true, Some}
+use Rattle.std.proofs.Common.{◌∙◌, ap, sym, subst, Some}
 use Rattle.std.specs.Arc.{arc_value}
 use Rattle.sys_text.specs.declared.system.System.{System}
 use Rattle.plain_kernel.specs.Apply.{plain_run}
-use Rattle.cluster_run.specs.Simulated.{is_simulated}
-use Rattle.targon_cli.specs.Reply.{Simulates}
+use Rattle.targon_cli.specs.Reply.{TellsOfRun}
 use Rattle.targon_cli.proofs.Tales.{tells}
 use Rattle.targon_cli.proofs.simulated.run_system.Goals as goal
 
@@ -14,7 +13,6 @@ returns c =
     let told = c.in_ok-text.ensures in
     let same = c.in_ok-system.ensures.ok in
     let shared : System = arc_value c.in_ok-system.system in
-    let simulated : is_simulated c.args.system ≡ true = grind (arith, c.if-not-is_simulated.false, c.is_simulated.ensures) in
     let scheduled = ap (λ s. plain_run s ran.run.items) (sym c.deref.ensures) ∙ told.1 in
-    subst (λ s. Simulates s (is_simulated s) c.args.log 0 c.in_ok-text.text (Some ran)) same
-    (tells shared c.args.log c.in_ok-text.text ran (subst (λ s. is_simulated s ≡ true) (sym same) simulated) run.good run.finished run.withheld run.lived told.0 scheduled told.2)
+    subst (λ s. TellsOfRun s c.args.log 0 c.in_ok-text.text (Some ran)) same
+    (tells shared c.args.log c.in_ok-text.text ran run.good run.finished run.withheld run.lived told.0 scheduled told.2)
