@@ -1,5 +1,5 @@
 -- The processes of a cluster in their slots stay as they have to: what is kept over a write, a removal and one more.
-use Rattle.std.proofs.Common.{◌≡◌, ◌≢◌, ℕ, ◌+◌, ◌≤◌, ◌<◌, Bool, true, false, cond, not, ◌||◌, ◌&&◌, eqb, ltb, eqb-true, eq-eqb, ne_eqb, List, [], ◌∷◌, ◌++◌, map, find, length, refl, sym, ap, subst, ◌∙◌, arith, Option, Some, None, IsSome, is_some, option_map, true≢false, append_assoc}
+use Rattle.std.proofs.Common.{◌≡◌, ℕ, ◌+◌, ◌≤◌, ◌<◌, Bool, true, false, cond, not, ◌||◌, ◌&&◌, eqb, ltb, eqb-true, eq-eqb, ne_eqb, List, [], ◌∷◌, ◌++◌, map, find, length, refl, sym, ap, subst, ◌∙◌, arith, Option, Some, None, IsSome, is_some, true≢false, append_assoc}
 use Rattle.std.specs.Prelude.{filter, Result, Ok, Err, IfOk, OnOk, slice_get, slice_index_or, IfSome}
 use Rattle.std.specs.Borrow.{Bor}
 use Rattle.std.specs.BTreeMap.Range.{range_contains}
@@ -11,7 +11,6 @@ use Rattle.std.specs.Ordering.{nat_cmp}
 use Rattle.std.specs.declared.cmp.Ordering.TheVariants.{Less, Greater}
 use Rattle.std.specs.Map.{lookup, remove_entry}
 use Rattle.std.specs.BTreeMap.{insert_entry}
-use Rattle.std.proofs.lemmas.List.Sums.{sum_by-cons}
 use Rattle.std.proofs.lemmas.Bool.Decides.{nat_tests}
 use Rattle.std.proofs.lemmas.Bool.{false≢true}
 use Rattle.slab.specs.Slab.{Slab, get, Updates}
@@ -30,7 +29,7 @@ use Rattle.plain_kernel.specs.Maps.{at_key, pid_of}
 use Rattle.plain_kernel.proofs.Entries.{some_same}
 use Rattle.cert_sched.specs.Parts.{first_of}
 use Rattle.cert_sched.proofs.RisingLaws.{NoTwo}
-use Rattle.cluster_core.specs.Residents.{process_in, is_stuck, are_rising, are_stuck, pids_in, steps_in, load_in, next_ready}
+use Rattle.cluster_core.specs.Residents.{is_stuck, are_rising, are_stuck, pids_in, steps_in, load_in, next_ready}
 use Rattle.cluster_core.specs.Slots.{in_slot, stands_in, IsSlot, IsKept}
 use Rattle.t32_base.specs.declared.process.ClusterNo.{ClusterNo}
 use Rattle.t32_base.specs.declared.streams.NoMemory.{NoMemory}

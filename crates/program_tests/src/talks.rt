@@ -69,9 +69,13 @@ fn processes_talk_and_share_a_home(rt: HostRuntime) -> Result<(), Fail> {
         (THREE, THREE_ENDS, 10, THREE_ITEMS),
         (BUSY, BUSY_ENDS, 4, BUSY_ITEMS),
     ] {
-        let report =
-            format!(in alloc; "{ends}crash none\nbus {entries} syncs 0 withheld 0\n{items}")?;
-        assert_eq!(rt; answers(&rt, &["sim"], system.as_bytes(), report.as_str())?, 0);
+        let report = format!(in alloc;
+            "{ends}crash none\nbus {entries} syncs 0 withheld 0\n{items}"
+        )?;
+        assert_eq!(rt;
+            answers(&rt, &["sim"], system.as_bytes(), report.as_str())?,
+            0
+        );
 
         // The kernel without failures makes the same of the schedule, and also of its own order.
         let pasted = format!(in alloc; "{system}{items}")?;

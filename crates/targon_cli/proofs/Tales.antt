@@ -26,14 +26,16 @@ still system r kernel good ended runs =
 pub tells : (system : System) (log : Bool) (text : List ℕ) (ran : Ran) → IsGoodBuilt system ran.run → (ran.run).ended ≡ Finished → (ran.run).withheld ≡ 0
     → LivedBuilt system (ran.run).log ran.lives → (kernel : Kernel) → plain_run system (ran.run).items ≡ Some kernel → text ≡ run_text log kernel ran.run
     → TellsOfRun system log 0 text (Some ran)
-tells system log text ran good ended withheld lived kernel runs told =
-    (refl, record {
-      kernel = kernel;
-      scheduled = runs;
-      good = good;
-      ended = ended;
-      withheld = withheld;
-      still = still system ran.run kernel good ended runs;
-      lived = lived;
-      told = told;
-    })
+tells system log text ran good ended withheld lived kernel runs told = (
+  refl,
+  record {
+    kernel = kernel;
+    scheduled = runs;
+    good = good;
+    ended = ended;
+    withheld = withheld;
+    still = still system ran.run kernel good ended runs;
+    lived = lived;
+    told = told;
+  },
+)

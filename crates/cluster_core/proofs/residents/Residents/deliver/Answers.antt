@@ -34,11 +34,11 @@ pub returns-in_ok-copy-in-Some-get_mut-clause-ok : goal.returns-in_ok-copy-in-So
 returns-in_ok-copy-in-Some-get_mut-clause-ok c =
     on_ok c.deliver.result
     (λ is.
-      arrival c.self.inside.processes (with_value c.self.inside.processes c.in-Some.key.now c.deliver.new.self) (c.args.pid).0 c.in-Some.key.now c.in-Some-get_mut.process.now c.deliver.new.self c.args.letter.now c.self.inside.keys.entries c.self.inside.ready.keys c.args.self.now.here
-      c.self.invariant (sym c.in-Some.ensures.value) (sym c.in-Some-get_mut.ensures.value)
-      (Updates-with_value c.self.inside.processes c.in-Some.key.now c.deliver.new.self (ap is_some (sym c.in-Some-get_mut.ensures.value)))
-      (ap (λ (v : ResidentsView). v.here) c.self.view_is)
-      (arrived_is c.in-Some-get_mut.process.now c.deliver.new.self c.in_ok-copy-in-Some-get_mut.field-0 is c.deliver.ensures.rest ∙ ap (λ (l : Letter). arrived c.in-Some-get_mut.process.now l) c.in_ok-copy-in-Some-get_mut.ensures))
+    arrival c.self.inside.processes (with_value c.self.inside.processes c.in-Some.key.now c.deliver.new.self) (c.args.pid).0 c.in-Some.key.now c.in-Some-get_mut.process.now c.deliver.new.self c.args.letter.now c.self.inside.keys.entries c.self.inside.ready.keys c.args.self.now.here
+    c.self.invariant (sym c.in-Some.ensures.value) (sym c.in-Some-get_mut.ensures.value)
+    (Updates-with_value c.self.inside.processes c.in-Some.key.now c.deliver.new.self (ap is_some (sym c.in-Some-get_mut.ensures.value)))
+    (ap (λ (v : ResidentsView). v.here) c.self.view_is)
+    (arrived_is c.in-Some-get_mut.process.now c.deliver.new.self c.in_ok-copy-in-Some-get_mut.field-0 is c.deliver.ensures.rest ∙ ap (λ (l : Letter). arrived c.in-Some-get_mut.process.now l) c.in_ok-copy-in-Some-get_mut.ensures))
     c.deliver.ensures.ok
 
 pub returns-in-None-clause-ok : goal.returns-in-None-clause-ok

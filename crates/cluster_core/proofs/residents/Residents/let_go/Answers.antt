@@ -27,9 +27,9 @@ invariant_of-self-in-Some-2 c =
 pub returns-in-Some : goal.returns-in-Some
 returns-in-Some c =
     let after =
-      ap (stands_in c.try_remove.new.self) c.remove.ensures.entries
-      ∙ goes c.self.inside.processes c.try_remove.new.self (c.args.pid).0 c.in-Some.key c.self.inside.keys.entries c.self.inside.ready.keys c.self.invariant (sym c.in-Some.ensures.value) c.try_remove.ensures.updates
-      ∙ ap (λ (v : ResidentsView). filter (λ e. not (same_pid e.0 c.args.pid)) v.here) c.self.view_is
+    ap (stands_in c.try_remove.new.self) c.remove.ensures.entries
+    ∙ goes c.self.inside.processes c.try_remove.new.self (c.args.pid).0 c.in-Some.key c.self.inside.keys.entries c.self.inside.ready.keys c.self.invariant (sym c.in-Some.ensures.value) c.try_remove.ensures.updates
+    ∙ ap (λ (v : ResidentsView). filter (λ e. not (same_pid e.0 c.args.pid)) v.here) c.self.view_is
     in
     elim c.match-try_remove.branch [ in-Some-1 w ↦ ap (λ (v : ResidentsView). v.here) w.self-is ∙ after | in-None-1 w ↦ ap (λ (v : ResidentsView). v.here) w.self-is ∙ after ]
 

@@ -17,7 +17,7 @@ returns-in-None-clause-next c =
 pub returns-in-None-clause-stuck : goal.returns-in-None-clause-stuck
 returns-in-None-clause-stuck c = λ none.
     let next =
-      c.copied.ensures ∙ first_is c.first.result c.self.inside.ready.keys c.first.ensures.first c.first.ensures.variant.1
-      ∙ around_in c.self.inside.ready.keys c.range.result c.self.inside.last (c.range.ensures.between tt) c.in-None.ensures.steps.0
+    c.copied.ensures ∙ first_is c.first.result c.self.inside.ready.keys c.first.ensures.first c.first.ensures.variant.1
+    ∙ around_in c.self.inside.ready.keys c.range.result c.self.inside.last (c.range.ensures.between tt) c.in-None.ensures.steps.0
     in
     ap (λ (v : ResidentsView). are_stuck v.here) (sym c.self.view_is) ∙ none_next c.self.inside.processes c.self.inside.keys.entries c.self.inside.ready.keys c.self.inside.last c.self.invariant (sym next ∙ none)
