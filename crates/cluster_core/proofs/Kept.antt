@@ -293,7 +293,7 @@ all_after n (m ∷ ns) later = ap (λ b. b && list_all (λ m. ltb n m) ns) (less
     less_is : (n m : ℕ) → nat_cmp n m ≡ Less → ltb n m ≡ true
     less_is n m less = grind (arith, nat_tests)
 
-in_order : (ns : List ℕ) → IsStrictlySortedBy nat_cmp ns → are_rising ns ≡ true
+pub in_order : (ns : List ℕ) → IsStrictlySortedBy nat_cmp ns → are_rising ns ≡ true
 unfolding IsStrictlySortedBy
 in_order [] ordered = refl
 in_order (n ∷ ns) ordered = ap (λ b. b && are_rising ns) (all_after n ns ordered.0) ∙ in_order ns ordered.1
@@ -355,9 +355,8 @@ written_back slots new key was now (e ∷ es) there updates same =
 pub given_turn : (k : ClusterNo) (slots new : Slab Process) (n key : ℕ) (keys : List (ℕ × ℕ)) (ready : List ℕ) (was now : Process) (old : List (Pid × Process)) (r : Result Turn NoMemory)
     → IsKept slots keys ready → lookup (at_key n) keys ≡ Some key → get slots key ≡ Some was → Updates slots new key (Some now) → stands_in slots keys ≡ old → ProcessTurn k (pid_of n) was r now → GivenTurnIs k (pid_of n) old r (stands_in new keys)
 given_turn k slots new n key keys ready was now old (Ok Moved) kept found there updates same turn =
-    subst (λ old. TakesTurn k old Moved (stands_in new keys)) same
+    subst (λ old. TakesTurn k (pid_of n) old Moved (stands_in new keys)) same
     (record {
-      pid = pid_of n;
       was = was;
       now = now;
       there = process_there slots n key was keys found there;
@@ -365,9 +364,8 @@ given_turn k slots new n key keys ready was now old (Ok Moved) kept found there 
       here = written slots new n key was now (λ e. (pid_of n, now)) keys (one_key n key keys kept.ordered kept.apart found) there updates refl;
     })
 given_turn k slots new n key keys ready was now old (Ok (Posted post)) kept found there updates same turn =
-    subst (λ old. TakesTurn k old (Posted post) (stands_in new keys)) same
+    subst (λ old. TakesTurn k (pid_of n) old (Posted post) (stands_in new keys)) same
     (record {
-      pid = pid_of n;
       was = was;
       now = now;
       there = process_there slots n key was keys found there;

@@ -3,6 +3,7 @@ pub mod Quanta
 pub mod Here
 pub mod Slots
 pub mod Kept
+pub mod Choosing
 pub mod Homes
 pub mod Booted
 pub mod Following

@@ -13,7 +13,8 @@ use Rattle.cluster_core.specs.declared.turn.Turn.{Turn}
 use Rattle.cluster_core.specs.declared.turn.Turn.TheVariants.{Moved as TurnMoved, Posted, Rests as TurnRests}
 use Rattle.cluster_core.specs.declared.worked.Worked.TheVariants.{Moved, Queued, Rests}
 use Rattle.cluster_core.specs.View.{ClusterView, counted_once, load}
-use Rattle.cluster_core.specs.Residents.{load_in}
+use Rattle.plain_kernel.specs.Maps.{pid_of}
+use Rattle.cluster_core.specs.Residents.{ResidentsView, load_in}
 use Rattle.cluster_core.specs.Parts.{held_in, AllOwn}
 use Rattle.cluster_core.specs.Calls.{GoesOn, WorkIs}
 use Rattle.cluster_core.specs.Turn.{TurnIs}
@@ -37,12 +38,13 @@ built_no_birth (Done rests) h = refl
 built_no_birth Stop h = refl
 
 -- after a turn each process is its own
-pub own_turned : (cursor : ℕ) (k : ClusterNo) (old new : List (Pid × Process)) (turn : Turn) → AllOwn cursor old → TurnIs k old (Ok turn) new → AllOwn cursor new
+pub own_turned : (cursor : ℕ) (k : ClusterNo) (old new : ResidentsView) (turn : Turn) → AllOwn cursor old.here → TurnIs k old (Ok turn) new → AllOwn cursor new.here
 own_turned cursor k old new TurnMoved own turn =
-    subst (AllOwn cursor) (sym turn.here) (own_changed cursor turn.pid turn.now old own (own_moved cursor turn.pid turn.was turn.now (own_at cursor old turn.pid turn.was own turn.there) turn.turn_is))
+    subst (AllOwn cursor) (sym (turn.takes).here) (own_changed cursor (pid_of new.last) (turn.takes).now old.here own (own_moved cursor (pid_of new.last) (turn.takes).was (turn.takes).now (own_at cursor old.here (pid_of new.last) (turn.takes).was own (turn.takes).there) (turn.takes).turn_is))
 own_turned cursor k old new (Posted post) own turn =
-    subst (AllOwn cursor) (sym turn.here)
-    (own_changed cursor turn.pid turn.now old own (own_sent cursor turn.pid turn.was turn.now (turn.turn_is).emission (own_at cursor old turn.pid turn.was own turn.there) (turn.turn_is).runs))
+    let pid : Pid = pid_of new.last in
+    let takes = turn.takes in
+    subst (AllOwn cursor) (sym takes.here) (own_changed cursor pid takes.now old.here own (own_sent cursor pid takes.was takes.now (takes.turn_is).emission (own_at cursor old.here pid takes.was own takes.there) (takes.turn_is).runs))
 own_turned cursor k old new TurnRests own turn = subst (AllOwn cursor) (sym turn.1) own
 
 -- what holds of a turn in which one moved
@@ -50,11 +52,14 @@ pub record MovedTurn (c : ClusterView) (new : List (Pid × Process)) : Type 0 wh
   pub goes_on : GoesOn c (moved_view c new)
   pub work : WorkIs c Moved (moved_view c new)
 
-pub moved_turn : (c : ClusterView) (old new : List (Pid × Process)) → c.here ≡ held_in old → c.queue ≡ [] → TurnIs c.number old (Ok TurnMoved) new → MovedTurn c new
-moved_turn c old new here empty turn = subst (MovedTurn c) (sym turn.here) (record {
-  goes_on = moved_goes_on c old turn.pid turn.was turn.now here empty turn.there turn.turn_is;
-  work = moved_work c old turn.pid turn.was turn.now here turn.there turn.turn_is;
-})
+pub moved_turn : (c : ClusterView) (old new : ResidentsView) → c.here ≡ held_in old.here → c.queue ≡ [] → TurnIs c.number old (Ok TurnMoved) new → MovedTurn c new.here
+moved_turn c old new here empty turn =
+    let pid : Pid = pid_of new.last in
+    let takes = turn.takes in
+    subst (MovedTurn c) (sym takes.here) (record {
+      goes_on = moved_goes_on c old.here pid takes.was takes.now here empty takes.there takes.turn_is;
+      work = moved_work c old.here pid takes.was takes.now here takes.there takes.turn_is;
+    })
 
 -- what holds of a turn in which one posted something
 pub record PostedTurn (c : ClusterView) (new : List (Pid × Process)) (post : Post) : Type 0 where
@@ -63,20 +68,22 @@ pub record PostedTurn (c : ClusterView) (new : List (Pid × Process)) (post : Po
   pub own : is_from c.number post.by ≡ true
   pub built : is_built post.what ≡ true
 
-pub posted_turn : (c : ClusterView) (old new : List (Pid × Process)) (post : Post) → c.here ≡ held_in old → c.queue ≡ [] → AllOwn c.cursor old → pids_differ (c.places).placed ≡ true → (c.number).0 < (c.system).clusters
-    → TurnIs c.number old (Ok (Posted post)) new → PostedTurn c new post
+pub posted_turn : (c : ClusterView) (old new : ResidentsView) (post : Post) → c.here ≡ held_in old.here → c.queue ≡ [] → AllOwn c.cursor old.here → pids_differ (c.places).placed ≡ true → (c.number).0 < (c.system).clusters
+    → TurnIs c.number old (Ok (Posted post)) new → PostedTurn c new.here post
 posted_turn c old new post here empty own differ has turn =
-    let posts = turn.turn_is in
-    let mine = own_at c.cursor old turn.pid turn.was own turn.there in
-    subst (λ rs. PostedTurn c rs post) (sym turn.here) (record {
-      goes_on = posted_goes_on c old turn.pid turn.was turn.now post posts.emission posts.runs posts.post_is here empty turn.there mine differ has;
-      work = posted_work c old turn.pid turn.was turn.now post posts.emission posts.runs posts.post_is here empty turn.there mine;
-      own = posted_own c old turn.pid turn.was turn.now post posts.emission posts.runs posts.post_is here empty turn.there mine;
-      built = posted_built c old turn.pid turn.was turn.now post posts.emission posts.runs posts.post_is here empty turn.there mine;
+    let pid : Pid = pid_of new.last in
+    let takes = turn.takes in
+    let posts = takes.turn_is in
+    let mine = own_at c.cursor old.here pid takes.was own takes.there in
+    subst (λ rs. PostedTurn c rs post) (sym takes.here) (record {
+      goes_on = posted_goes_on c old.here pid takes.was takes.now post posts.emission posts.runs posts.post_is here empty takes.there mine differ has;
+      work = posted_work c old.here pid takes.was takes.now post posts.emission posts.runs posts.post_is here empty takes.there mine;
+      own = posted_own c old.here pid takes.was takes.now post posts.emission posts.runs posts.post_is here empty takes.there mine;
+      built = posted_built c old.here pid takes.was takes.now post posts.emission posts.runs posts.post_is here empty takes.there mine;
     })
 
-pub rested_turn : (c : ClusterView) (old new : List (Pid × Process)) → c.here ≡ held_in old → AllOwn c.cursor old → TurnIs c.number old (Ok TurnRests) new → (held_in new ≡ c.here) × GoesOn c (counted_once c) × WorkIs c Rests (counted_once c)
-rested_turn c old new here own turn = (ap held_in turn.1 ∙ sym here, goes_on_rested c, rested c old here own turn.0)
+pub rested_turn : (c : ClusterView) (old new : ResidentsView) → c.here ≡ held_in old.here → AllOwn c.cursor old.here → TurnIs c.number old (Ok TurnRests) new → (held_in new.here ≡ c.here) × GoesOn c (counted_once c) × WorkIs c Rests (counted_once c)
+rested_turn c old new here own turn = (ap held_in turn.1 ∙ sym here, goes_on_rested c, rested c old.here here own turn.0)
 
 -- ---- what is left to do
 

@@ -71,7 +71,7 @@ silently-plus n (suc m) s q t first then = by_case (silently m q) refl then (λ 
         ap (λ k. silently k s) count ∙ ap (option_and_then (λ q. silent_of (next_step q))) (before u is) ∙ last
 
 -- a process that makes a silent step has a step
-silent_has : (n : ℕ) (s t : ProcState) → silently (suc n) s ≡ Some t → has_step (next_step s) ≡ true
+pub silent_has : (n : ℕ) (s t : ProcState) → silently (suc n) s ≡ Some t → has_step (next_step s) ≡ true
 unfolding silently
 silent_has zero s t is = by_next (next_step s) is
   where
@@ -200,7 +200,7 @@ some_moves (e ∷ rs) p s there some = by_test (same_pid e.0 p) there (some_move
 not_resting : (c : ClusterView) (rs : List (Pid × Process)) (p : Pid) (s : Process) → c.here ≡ held_in rs → process_in rs p ≡ Some s → has_step (next_step (state_of s)) ≡ true → is_resting c ≡ false
 not_resting c rs p s here there some = ap are_at_rest here ∙ some_moves rs p s there some
 
-some_has : (most : ℕ) (s t : ProcState) → RunsSome most s t → has_step (next_step s) ≡ true
+pub some_has : (most : ℕ) (s t : ProcState) → RunsSome most s t → has_step (next_step s) ≡ true
 some_has most s t runs = by_steps runs.steps runs.some runs.silent
   where
     by_steps : (n : ℕ) → 1 ≤ n → silently n s ≡ Some t → has_step (next_step s) ≡ true

@@ -10,6 +10,7 @@ use Rattle.sys_calls.specs.Next.{next_step, has_step}
 use Rattle.bus_msg.specs.declared.entry.What.{What}
 use Rattle.bus_msg.specs.declared.entry.What.TheVariants.{Mail, Exit}
 use Rattle.bus_msg.specs.Places.{same_pid}
+use Rattle.plain_kernel.specs.Maps.{pid_of}
 use Rattle.cert_sched.specs.Deeds.{is_end_of}
 use Rattle.cert_sched.specs.Parts.{first_of}
 use Rattle.cluster_core.specs.View.{arrived}
@@ -48,6 +49,10 @@ are_stuck here = list_all (λ (e : Pid × Process). is_stuck e.1) here
 abbrev pub pids_in : List (Pid × Process) → List ℕ
 pids_in here = map (λ (e : Pid × Process). (e.0).0) here
 
+-- the pids of those that have a step
+abbrev pub pids_able : List (Pid × Process) → List ℕ
+pids_able here = pids_in (filter (λ (e : Pid × Process). not (is_stuck e.1)) here)
+
 -- each number is below those after it
 abbrev pub are_rising : List ℕ → Bool
 are_rising [] = true
@@ -61,6 +66,10 @@ steps_in here = map (λ (e : Pid × Process). (e.0, ((e.1).small).steps)) here
 abbrev pub load_in : List (Pid × Process) → ℕ
 load_in here = sum_by (λ (e : Pid × Process). weight (e.1).small) here
 
--- the next pid in rising order after the one that was chosen last, cyclically
+-- of these pids, the next in rising order after the one that was chosen last, cyclically
 abbrev pub next_ready : List ℕ → ℕ → Option ℕ
 next_ready ready last = option_or (find (λ n. nat_lt last n) ready) (first_of ready)
+
+-- the process with a pid is the next one that has a step, where it has one
+abbrev pub NextAble : ℕ → ResidentsView → Type 0
+NextAble n rs = (p : Process) → process_in rs.here (pid_of n) ≡ Some p → has_step (next_step (state_of p)) ≡ true → next_ready (pids_able rs.here) rs.last ≡ Some n

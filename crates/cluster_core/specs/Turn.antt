@@ -18,7 +18,8 @@ use Rattle.proc_state.specs.declared.process.Process.{Process}
 use Rattle.cluster_core.specs.declared.turn.Turn.{Turn}
 use Rattle.cluster_core.specs.declared.turn.Turn.TheVariants.{Moved, Posted, Rests}
 use Rattle.cluster_core.specs.Quantum.{RunsSome, RunsAndSends}
-use Rattle.cluster_core.specs.Residents.{process_in, with_changed, is_stuck, are_stuck, load_in}
+use Rattle.plain_kernel.specs.Maps.{pid_of}
+use Rattle.cluster_core.specs.Residents.{ResidentsView, process_in, with_changed, is_stuck, are_stuck, load_in, next_ready, pids_able}
 
 -- what is posted of an emission by the step `at`
 abbrev pub told_of : Pid → ℕ → Emission → What
@@ -49,21 +50,25 @@ LighterProcess Rests old new = ⊤
 
 -- ---- one of the processes of a cluster
 
--- one of the processes had a turn, and the others stayed
-pub record TakesTurn (k : ClusterNo) (old : List (Pid × Process)) (turn : Turn) (new : List (Pid × Process)) : Type 0 where
-  pub pid : Pid
+-- the process with a pid had a turn, and the others stayed
+pub record TakesTurn (k : ClusterNo) (pid : Pid) (old : List (Pid × Process)) (turn : Turn) (new : List (Pid × Process)) : Type 0 where
   pub was : Process
   pub now : Process
   pub there : process_in old pid ≡ Some was
   pub turn_is : ProcessTurn k pid was (Ok turn) now
   pub here : new ≡ with_changed pid now old
 
--- one of them moved or posted something, or none has a step; after want of memory nothing has changed
-abbrev pub TurnIs : ClusterNo → List (Pid × Process) → Result Turn NoMemory → List (Pid × Process) → Type 0
-TurnIs k old (Ok Moved) new = TakesTurn k old Moved new
-TurnIs k old (Ok (Posted post)) new = TakesTurn k old (Posted post) new
-TurnIs k old (Ok Rests) new = (are_stuck old ≡ true) × (new ≡ old)
-TurnIs k old (Err fault) new = new ≡ old
+-- the turn was that of the next process that has a step, in rising pid order after the one that was chosen last, cyclically
+pub record ChosenTurn (k : ClusterNo) (old : ResidentsView) (turn : Turn) (new : ResidentsView) : Type 0 where
+  pub chosen : next_ready (pids_able old.here) old.last ≡ Some new.last
+  pub takes : TakesTurn k (pid_of new.last) old.here turn new.here
+
+-- one of them moved or posted something, or none has a step; after want of memory no process has changed
+abbrev pub TurnIs : ClusterNo → ResidentsView → Result Turn NoMemory → ResidentsView → Type 0
+TurnIs k old (Ok Moved) new = ChosenTurn k old Moved new
+TurnIs k old (Ok (Posted post)) new = ChosenTurn k old (Posted post) new
+TurnIs k old (Ok Rests) new = (are_stuck old.here ≡ true) × (new.here ≡ old.here) × (new.last ≡ old.last)
+TurnIs k old (Err fault) new = new.here ≡ old.here
 
 -- of the steps that all have left at most, those that were made are gone
 abbrev pub LighterTurn : Turn → List (Pid × Process) → List (Pid × Process) → Type 0
@@ -79,7 +84,7 @@ is_stuck_at pid here = list_all (λ (e : Pid × Process). not (same_pid e.0 pid)
 
 -- the process with a pid moved or posted something, or has no step; after want of memory nothing has changed
 abbrev pub GivenTurnIs : ClusterNo → Pid → List (Pid × Process) → Result Turn NoMemory → List (Pid × Process) → Type 0
-GivenTurnIs k pid old (Ok Moved) new = TakesTurn k old Moved new
-GivenTurnIs k pid old (Ok (Posted post)) new = TakesTurn k old (Posted post) new
+GivenTurnIs k pid old (Ok Moved) new = TakesTurn k pid old Moved new
+GivenTurnIs k pid old (Ok (Posted post)) new = TakesTurn k pid old (Posted post) new
 GivenTurnIs k pid old (Ok Rests) new = (is_stuck_at pid old ≡ true) × (new ≡ old)
 GivenTurnIs k pid old (Err fault) new = new ≡ old

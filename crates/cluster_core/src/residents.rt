@@ -1,9 +1,9 @@
 //! The processes at home in a cluster.
-ghost use Rattle.std.specs.Prelude.{◌≡◌, ◌+◌, ◌++◌, ◌∷◌, [], IfOk, OnOk, OnErr, Some, None, nat_lt, true, length, filter, map, not, if◌then◌else◌};
+ghost use Rattle.std.specs.Prelude.{ℕ, ◌≡◌, ◌+◌, ◌++◌, ◌∷◌, [], IfOk, OnOk, OnErr, Some, None, nat_lt, true, length, filter, map, not, if◌then◌else◌};
 ghost use Rattle.std.specs.List.{list_all, list_any};
 ghost use Rattle.bus_msg.specs.Places.{same_pid};
 ghost use Rattle.plain_kernel.specs.Maps.{at_key, pid_of};
-ghost use Rattle.cluster_core.specs.Residents.{HasRoom, are_rising, are_stuck, next_ready, pids_in, residents_after, steps_in};
+ghost use Rattle.cluster_core.specs.Residents.{HasRoom, NextAble, are_rising, are_stuck, next_ready, pids_in, residents_after, steps_in};
 ghost use Rattle.cluster_core.specs.Turn.{GivenTurnIs, is_stuck_at, LighterTurn, TurnIs};
 ghost use Rattle.cluster_core.specs.View.{arrived};
 
@@ -70,7 +70,7 @@ impl Residents {
     /// Lets the next process that has a step run for a quantum: the next one in rising pid order after the
     /// one that was chosen last, cyclically. After want of memory no process has changed.
     pub fn take_turn(&mut self, alloc: Global, number: ClusterNo) -> Result<Turn, NoMemory>
-        ensures turn { TurnIs number self.old.here result self.new.here }
+        ensures turn { TurnIs number self.old result self.new }
         ensures lighter { IfOk result (λ turn. LighterTurn turn self.old.here self.new.here) }
     {
         'choices: while let Some(pid) = self.next() {
@@ -89,6 +89,7 @@ impl Residents {
     fn next(&self) -> Option<u32>
         ensures next { result ≡ next_ready self.now.ready self.now.last }
         ensures stuck { result ≡ None → are_stuck self.now.here ≡ true }
+        ensures able { (pid : ℕ) → result ≡ Some pid → NextAble pid self.now }
     {
         let above = (Bound::Excluded(self.last), Bound::Unbounded);
         match self.ready.range(above).next() {
@@ -103,6 +104,7 @@ impl Residents {
         ensures turn { GivenTurnIs number (pid_of pid) self.old.here result self.new.here }
         ensures lighter { IfOk result (λ turn. LighterTurn turn self.old.here self.new.here) }
         ensures ready { self.new.ready ≡ self.old.ready }
+        ensures last { self.new.last ≡ self.old.last }
     {
         match self.keys.get(&pid) {
             Some(key) => match self.processes.get_mut(*key) {
@@ -119,6 +121,7 @@ impl Residents {
         requires there { list_any (at_key pid) self.old.ready ≡ true }
         ensures here { self.new.here ≡ self.old.here }
         ensures fewer { length self.new.ready + 1 ≡ length self.old.ready }
+        ensures last { self.new.last ≡ self.old.last }
     {
         self.ready.remove(&pid);
     }

@@ -1,0 +1,242 @@
+-- Which process is chosen: among the pids of those that may have a step, the first that has one is the first of all that have one.
+use Rattle.std.proofs.Common.{◌≡◌, ℕ, refl, sym, ◌∙◌, ap, subst, List, [], ◌∷◌, arith, Bool, true, false, cond, Ok, zero, suc, not, ◌&&◌, ◌||◌, ltb, eqb-true, eq-eqb, Option, Some, None, true≢false}
+use Rattle.std.specs.Prelude.{filter, find, option_map}
+use Rattle.std.specs.List.{list_all, list_any, AllByRecursion}
+use Rattle.std.specs.Option.{option_or}
+use Rattle.std.proofs.lemmas.Bool.{and_parts}
+use Rattle.std.proofs.lemmas.Bool.Decides.{nat_tests}
+use Rattle.slab.specs.Slab.{Slab, get}
+use Rattle.t32_base.specs.declared.process.Pid.{Pid}
+use Rattle.t32_base.specs.declared.process.ClusterNo.{ClusterNo}
+use Rattle.proc_state.specs.declared.process.Process.{Process}
+use Rattle.proc_state.specs.State.{ProcState, state_of}
+use Rattle.sys_calls.specs.declared.steps.Emission.{Emission}
+use Rattle.sys_calls.specs.Next.{next_step, has_step, silently}
+use Rattle.bus_msg.specs.Places.{same_pid}
+use Rattle.plain_kernel.specs.Maps.{at_key, pid_of}
+use Rattle.plain_kernel.proofs.Entries.{some_same}
+use Rattle.cert_sched.specs.Parts.{first_of}
+use Rattle.cluster_core.specs.declared.turn.Turn.{Turn}
+use Rattle.cluster_core.specs.declared.turn.Turn.TheVariants.{Moved, Posted, Rests}
+use Rattle.cluster_core.specs.Quantum.{RunsAndSends}
+use Rattle.cluster_core.specs.Residents.{ResidentsView, NextAble, process_in, is_stuck, are_rising, pids_in, pids_able, next_ready}
+use Rattle.cluster_core.specs.Slots.{in_slot, stands_in, IsSlot, IsKept}
+use Rattle.cluster_core.specs.Turn.{TurnIs, TakesTurn, GivenTurnIs}
+use Rattle.cluster_core.proofs.Slots.{at_key_is}
+use Rattle.cluster_core.proofs.Working.{silent_has, some_has}
+
+-- ---- the first that passes, among numbers that rise
+
+first_is_least : (t : ℕ → Bool) (xs : List ℕ) (n : ℕ) → are_rising xs ≡ true → find t xs ≡ Some n → (q : ℕ) → list_any (at_key q) xs ≡ true → t q ≡ true → ltb q n ≡ false
+first_is_least t [] n rise found q there passes = cc
+first_is_least t (x ∷ xs) n rise found q there passes = by_tests (t x) (at_key q x) refl refl found there (first_is_least t xs n parts.1)
+  where
+    parts : (list_all (λ m. ltb x m) xs ≡ true) × (are_rising xs ≡ true)
+    parts = and_parts (list_all (λ m. ltb x m) xs) (are_rising xs) rise
+
+    not_below : (n : ℕ) → ltb n n ≡ false
+    not_below n = grind (arith, nat_tests)
+
+    later_not : (x q n : ℕ) → ltb x q ≡ true → x ≡ n → ltb q n ≡ false
+    later_not x q n later same = grind (arith, nat_tests)
+
+    above : (xs : List ℕ) → list_all (λ m. ltb x m) xs ≡ true → list_any (at_key q) xs ≡ true → ltb x q ≡ true
+    above [] all any = cc
+    above (y ∷ ys) all any = by_test (at_key q y) refl any (above ys (and_parts (ltb x y) (list_all (λ m. ltb x m) ys) all).1)
+      where
+        by_test : (b : Bool) → at_key q y ≡ b → (b || list_any (at_key q) ys) ≡ true → (list_any (at_key q) ys ≡ true → ltb x q ≡ true) → ltb x q ≡ true
+        by_test true is any more = ap (ltb x) (sym (eqb-true y q (sym (at_key_is q y) ∙ is))) ∙ (and_parts (ltb x y) (list_all (λ m. ltb x m) ys) all).0
+        by_test false is any more = more any
+
+    by_tests : (b c : Bool) → t x ≡ b → at_key q x ≡ c → cond b (Some x) (find t xs) ≡ Some n → (c || list_any (at_key q) xs) ≡ true
+        → (find t xs ≡ Some n → (q : ℕ) → list_any (at_key q) xs ≡ true → t q ≡ true → ltb q n ≡ false) → ltb q n ≡ false
+    by_tests true true is at found there more = (λ i. ltb (sym (eqb-true x q (sym (at_key_is q x) ∙ at)) i) n) ∙ ap (ltb x) (sym (some_same x n found)) ∙ not_below x
+    by_tests true false is at found there more = later_not x q n (above xs parts.0 there) (some_same x n found)
+    by_tests false true is at found there more = absurd (true≢false (sym passes ∙ ap t (sym (eqb-true x q (sym (at_key_is q x) ∙ at))) ∙ is))
+    by_tests false false is at found there more = more found q there passes
+
+-- none passes where none is found
+none_passes : (t : ℕ → Bool) (xs : List ℕ) → find t xs ≡ None → (q : ℕ) → list_any (at_key q) xs ≡ true → t q ≡ false
+none_passes t [] none q there = cc
+none_passes t (x ∷ xs) none q there = by_tests (t x) (at_key q x) refl refl none there (none_passes t xs)
+  where
+    by_tests : (b c : Bool) → t x ≡ b → at_key q x ≡ c → cond b (Some x) (find t xs) ≡ None → (c || list_any (at_key q) xs) ≡ true
+        → (find t xs ≡ None → (q : ℕ) → list_any (at_key q) xs ≡ true → t q ≡ false) → t q ≡ false
+    by_tests true c is at none there more = cc
+    by_tests false true is at none there more = ap t (sym (eqb-true x q (sym (at_key_is q x) ∙ at))) ∙ is
+    by_tests false false is at none there more = more none q there
+
+-- a number that passes, and below which no other passes, is found first
+found_first : (t : ℕ → Bool) (xs : List ℕ) (n : ℕ) → are_rising xs ≡ true → list_any (at_key n) xs ≡ true → t n ≡ true → ((q : ℕ) → list_any (at_key q) xs ≡ true → t q ≡ true → ltb q n ≡ false) → find t xs ≡ Some n
+found_first t [] n rise there passes least = cc
+found_first t (x ∷ xs) n rise there passes least = by_tests (t x) (at_key n x) refl refl there (λ any. found_first t xs n parts.1 any passes (λ q there. least q (later q there)))
+  where
+    parts : (list_all (λ m. ltb x m) xs ≡ true) × (are_rising xs ≡ true)
+    parts = and_parts (list_all (λ m. ltb x m) xs) (are_rising xs) rise
+
+    or_true : (b : Bool) → (b || true) ≡ true
+    or_true true = refl
+    or_true false = refl
+
+    later : (q : ℕ) → list_any (at_key q) xs ≡ true → list_any (at_key q) (x ∷ xs) ≡ true
+    later q any = ap (λ b. at_key q x || b) any ∙ or_true (at_key q x)
+
+    first : list_any (at_key x) (x ∷ xs) ≡ true
+    first = ap (λ b. b || list_any (at_key x) xs) (at_key_is x x ∙ eq-eqb x x refl)
+
+    above : (xs : List ℕ) → list_all (λ m. ltb x m) xs ≡ true → list_any (at_key n) xs ≡ true → ltb x n ≡ true
+    above [] all any = cc
+    above (y ∷ ys) all any = by_test (at_key n y) refl any (above ys (and_parts (ltb x y) (list_all (λ m. ltb x m) ys) all).1)
+      where
+        by_test : (b : Bool) → at_key n y ≡ b → (b || list_any (at_key n) ys) ≡ true → (list_any (at_key n) ys ≡ true → ltb x n ≡ true) → ltb x n ≡ true
+        by_test true is any more = ap (ltb x) (sym (eqb-true y n (sym (at_key_is n y) ∙ is))) ∙ (and_parts (ltb x y) (list_all (λ m. ltb x m) ys) all).0
+        by_test false is any more = more any
+
+    by_tests : (b c : Bool) → t x ≡ b → at_key n x ≡ c → (c || list_any (at_key n) xs) ≡ true → (list_any (at_key n) xs ≡ true → find t xs ≡ Some n) → cond b (Some x) (find t xs) ≡ Some n
+    by_tests true true is at there more = ap Some (eqb-true x n (sym (at_key_is n x) ∙ at))
+    by_tests true false is at there more = absurd (true≢false (sym (above xs parts.0 there) ∙ least x first is))
+    by_tests false true is at there more = absurd (true≢false (sym passes ∙ ap t (sym (eqb-true x n (sym (at_key_is n x) ∙ at))) ∙ is))
+    by_tests false false is at there more = more there
+
+always : ℕ → Bool
+always n = true
+
+first_found : (xs : List ℕ) → find always xs ≡ first_of xs
+unfolding always
+first_found [] = refl
+first_found (x ∷ xs) = refl
+
+always_passes : (n : ℕ) → always n ≡ true
+unfolding always
+always_passes n = refl
+
+-- ---- the next of some numbers among which the chosen one is
+
+pub next_of_those : (ready able : List ℕ) (last n : ℕ) → are_rising ready ≡ true → are_rising able ≡ true → ((q : ℕ) → list_any (at_key q) able ≡ true → list_any (at_key q) ready ≡ true) → next_ready ready last ≡ Some n
+    → list_any (at_key n) able ≡ true → next_ready able last ≡ Some n
+next_of_those ready able last n rise rise_able among next there = by_case (find (λ m. ltb last m) ready) refl next
+  where
+    passes : (m : ℕ) → find (λ m. ltb last m) ready ≡ Some m → ltb last m ≡ true
+    passes m is = found_passes ready is
+      where
+        found_passes : (xs : List ℕ) → find (λ m. ltb last m) xs ≡ Some m → ltb last m ≡ true
+        found_passes [] found = cc
+        found_passes (x ∷ xs) found = by_test (ltb last x) refl found (found_passes xs)
+          where
+            by_test : (b : Bool) → ltb last x ≡ b → cond b (Some x) (find (λ m. ltb last m) xs) ≡ Some m → (find (λ m. ltb last m) xs ≡ Some m → ltb last m ≡ true) → ltb last m ≡ true
+            by_test true is found more = ap (ltb last) (sym (some_same x m found)) ∙ is
+            by_test false is found more = more found
+
+    none_able : (xs : List ℕ) → ((q : ℕ) → list_any (at_key q) xs ≡ true → ltb last q ≡ false) → find (λ m. ltb last m) xs ≡ None
+    none_able [] none = refl
+    none_able (x ∷ xs) none =
+        ap (λ b. cond b (Some x) (find (λ m. ltb last m) xs)) (none x (ap (λ b. b || list_any (at_key x) xs) (at_key_is x x ∙ eq-eqb x x refl)))
+        ∙ none_able xs (λ q any. none q (ap (λ b. at_key q x || b) any ∙ or_true (at_key q x)))
+      where
+        or_true : (b : Bool) → (b || true) ≡ true
+        or_true true = refl
+        or_true false = refl
+
+    by_case : (o : Option ℕ) → find (λ m. ltb last m) ready ≡ o → option_or o (first_of ready) ≡ Some n → next_ready able last ≡ Some n
+    by_case (Some m) is found =
+        let same : m ≡ n = some_same m n found in
+        let at : find (λ m. ltb last m) ready ≡ Some n = is ∙ found in
+        ap (λ o. option_or o (first_of able))
+        (found_first (λ m. ltb last m) able n rise_able there (passes n at) (λ q any above. first_is_least (λ m. ltb last m) ready n rise at q (among q any) above))
+    by_case None is found =
+        let none = none_able able (λ q any. none_passes (λ m. ltb last m) ready is q (among q any)) in
+        let at : find always ready ≡ Some n = first_found ready ∙ found in
+        ap (λ o. option_or o (first_of able)) none ∙ sym (first_found able)
+        ∙ found_first always able n rise_able there (always_passes n) (λ q any above. first_is_least always ready n rise at q (among q any) above)
+
+-- ---- those that have a step
+
+fewer_rise : (here : List (Pid × Process)) → are_rising (pids_in here) ≡ true → are_rising (pids_able here) ≡ true
+fewer_rise [] rise = refl
+fewer_rise (e ∷ here) rise = by_test (not (is_stuck e.1)) (fewer_rise here parts.1)
+  where
+    parts : (list_all (λ m. ltb (e.0).0 m) (pids_in here) ≡ true) × (are_rising (pids_in here) ≡ true)
+    parts = and_parts (list_all (λ m. ltb (e.0).0 m) (pids_in here)) (are_rising (pids_in here)) rise
+
+    all_fewer : (here : List (Pid × Process)) → list_all (λ m. ltb (e.0).0 m) (pids_in here) ≡ true → list_all (λ m. ltb (e.0).0 m) (pids_able here) ≡ true
+    all_fewer [] all = refl
+    all_fewer (f ∷ here) all = by_stuck (not (is_stuck f.1)) (and_parts (ltb (e.0).0 (f.0).0) (list_all (λ m. ltb (e.0).0 m) (pids_in here)) all) (all_fewer here)
+      where
+        by_stuck : (b : Bool) → (ltb (e.0).0 (f.0).0 ≡ true) × (list_all (λ m. ltb (e.0).0 m) (pids_in here) ≡ true)
+            → (list_all (λ m. ltb (e.0).0 m) (pids_in here) ≡ true → list_all (λ m. ltb (e.0).0 m) (pids_able here) ≡ true)
+            → list_all (λ m. ltb (e.0).0 m) (pids_in (cond b (f ∷ filter (λ (e : Pid × Process). not (is_stuck e.1)) here) (filter (λ (e : Pid × Process). not (is_stuck e.1)) here))) ≡ true
+        by_stuck true both more = ap (λ b. b && list_all (λ m. ltb (e.0).0 m) (pids_able here)) both.0 ∙ more both.1
+        by_stuck false both more = more both.1
+
+    by_test : (b : Bool) → are_rising (pids_able here) ≡ true → are_rising (pids_in (cond b (e ∷ filter (λ (e : Pid × Process). not (is_stuck e.1)) here) (filter (λ (e : Pid × Process). not (is_stuck e.1)) here))) ≡ true
+    by_test true more = ap (λ b. b && are_rising (pids_able here)) (all_fewer here parts.0) ∙ more
+    by_test false more = more
+
+-- each of them is ready
+able_ready : (slots : Slab Process) (ready : List ℕ) (es : List (ℕ × ℕ)) → AllByRecursion (IsSlot slots ready) es → (q : ℕ) → list_any (at_key q) (pids_able (stands_in slots es)) ≡ true → list_any (at_key q) ready ≡ true
+able_ready slots ready [] kept q any = cc
+able_ready slots ready (e ∷ es) kept q any = in_front (get slots e.1) (λ p is steps. (kept.0).stepping p is steps) any (able_ready slots ready es kept.1 q)
+  where
+    by_step : (p : Process) (b c : Bool) → has_step (next_step (state_of p)) ≡ b → at_key q e.0 ≡ c → (b ≡ true → list_any (at_key e.0) ready ≡ true)
+        → list_any (at_key q) (pids_in (cond (not (not b)) ((pid_of e.0, p) ∷ filter (λ (e : Pid × Process). not (is_stuck e.1)) (stands_in slots es)) (filter (λ (e : Pid × Process). not (is_stuck e.1)) (stands_in slots es)))) ≡ true
+        → (list_any (at_key q) (pids_able (stands_in slots es)) ≡ true → list_any (at_key q) ready ≡ true) → list_any (at_key q) ready ≡ true
+    by_step p true true steps at ready_if any more = ap (λ n. list_any (at_key n) ready) (sym (eqb-true e.0 q (sym (at_key_is q e.0) ∙ at))) ∙ ready_if refl
+    by_step p true false steps at ready_if any more = more (sym (ap (λ b. b || list_any (at_key q) (pids_able (stands_in slots es))) at) ∙ any)
+    by_step p false c steps at ready_if any more = more any
+
+    in_front : (o : Option Process) → ((p : Process) → o ≡ Some p → has_step (next_step (state_of p)) ≡ true → list_any (at_key e.0) ready ≡ true) → list_any (at_key q) (pids_able (in_slot (pid_of e.0) o (stands_in slots es))) ≡ true
+        → (list_any (at_key q) (pids_able (stands_in slots es)) ≡ true → list_any (at_key q) ready ≡ true) → list_any (at_key q) ready ≡ true
+    in_front None ready_if any more = more any
+    in_front (Some p) ready_if any more = by_step p (has_step (next_step (state_of p))) (at_key q e.0) refl refl (ready_if p refl) any more
+
+-- the process with a pid is one of them, where it has a step
+able_there : (n : ℕ) (here : List (Pid × Process)) (p : Process) → process_in here (pid_of n) ≡ Some p → has_step (next_step (state_of p)) ≡ true → list_any (at_key n) (pids_able here) ≡ true
+able_there n [] p there steps = cc
+able_there n (e ∷ here) p there steps = by_tests (same_pid e.0 (pid_of n)) (has_step (next_step (state_of e.1))) refl refl there (able_there n here p)
+  where
+    or_true : (b : Bool) → (b || true) ≡ true
+    or_true true = refl
+    or_true false = refl
+
+    by_tests : (b c : Bool) → same_pid e.0 (pid_of n) ≡ b → has_step (next_step (state_of e.1)) ≡ c
+        → option_map (λ (e : Pid × Process). e.1) (cond b (Some e) (find (λ (e : Pid × Process). same_pid e.0 (pid_of n)) here)) ≡ Some p
+        → (process_in here (pid_of n) ≡ Some p → has_step (next_step (state_of p)) ≡ true → list_any (at_key n) (pids_able here) ≡ true)
+        → list_any (at_key n) (pids_in (cond (not (not c)) (e ∷ filter (λ (e : Pid × Process). not (is_stuck e.1)) here) (filter (λ (e : Pid × Process). not (is_stuck e.1)) here))) ≡ true
+    by_tests true true at has there more = ap (λ b. b || list_any (at_key n) (pids_able here)) (at_key_is n (e.0).0 ∙ at)
+    by_tests true false at has there more =
+        let same : e.1 ≡ p = some_same e.1 p there in
+        absurd (true≢false (sym steps ∙ ap (λ (x : Process). has_step (next_step (state_of x))) (sym same) ∙ has))
+    by_tests false true at has there more = ap (λ b. at_key n (e.0).0 || b) (more there steps) ∙ or_true (at_key n (e.0).0)
+    by_tests false false at has there more = more there steps
+
+-- where the next of those that are ready has a step, it is the next of those that have one
+pub next_able : (slots : Slab Process) (keys : List (ℕ × ℕ)) (ready : List ℕ) (last n : ℕ) (p : Process) → IsKept slots keys ready → are_rising ready ≡ true → are_rising (pids_in (stands_in slots keys)) ≡ true → next_ready ready last ≡ Some n
+    → process_in (stands_in slots keys) (pid_of n) ≡ Some p → has_step (next_step (state_of p)) ≡ true → next_ready (pids_able (stands_in slots keys)) last ≡ Some n
+next_able slots keys ready last n p kept rise rise_here next there steps =
+    next_of_those ready (pids_able (stands_in slots keys)) last n rise (fewer_rise (stands_in slots keys) rise_here) (able_ready slots ready keys kept.each) next (able_there n (stands_in slots keys) p there steps)
+
+-- ---- the turn of the one that was chosen
+
+sends_has : (most : ℕ) (s t : ProcState) (e : Emission) → RunsAndSends most s e t → has_step (next_step s) ≡ true
+unfolding silently
+sends_has most s t e runs = by_steps runs.steps runs.silent
+  where
+    by_steps : (n : ℕ) → silently n s ≡ Some runs.before → has_step (next_step s) ≡ true
+    by_steps zero silent =
+        let same : s ≡ runs.before = some_same s runs.before silent in
+        ap (λ (q : ProcState). has_step (next_step q)) same ∙ ap has_step runs.sends
+    by_steps (suc n) silent = silent_has n s runs.before silent
+
+-- what a turn of the process with a pid makes is the turn of the one that was chosen
+pub chosen_turn : (k : ClusterNo) (n : ℕ) (was old given new : ResidentsView) (turn : Turn) → old.here ≡ was.here → old.last ≡ was.last → NextAble n old → GivenTurnIs k (pid_of n) old.here (Ok turn) given.here → (turn ≡ Rests → ⊥)
+    → new.here ≡ given.here → new.last ≡ n → TurnIs k was (Ok turn) new
+chosen_turn k n was old given new Moved here last able takes ran now chosen = record {
+  chosen = (λ i. next_ready (pids_able (sym here i)) (sym last i)) ∙ able takes.was takes.there (some_has 64 (state_of takes.was) (state_of takes.now) takes.turn_is) ∙ ap Some (sym chosen);
+  takes = subst (λ m. TakesTurn k (pid_of m) was.here Moved new.here) (sym chosen) (subst (λ hs. TakesTurn k (pid_of n) hs Moved new.here) here (subst (λ hs. TakesTurn k (pid_of n) old.here Moved hs) (sym now) takes));
+}
+chosen_turn k n was old given new (Posted post) here last able takes ran now chosen = record {
+  chosen = (λ i. next_ready (pids_able (sym here i)) (sym last i)) ∙ able takes.was takes.there (sends_has 64 (state_of takes.was) (state_of takes.now) (takes.turn_is).emission (takes.turn_is).runs) ∙ ap Some (sym chosen);
+  takes = subst (λ m. TakesTurn k (pid_of m) was.here (Posted post) new.here) (sym chosen)
+      (subst (λ hs. TakesTurn k (pid_of n) hs (Posted post) new.here) here (subst (λ hs. TakesTurn k (pid_of n) old.here (Posted post) hs) (sym now) takes));
+}
+chosen_turn k n was old given new Rests here last able takes ran now chosen = absurd (ran refl)
