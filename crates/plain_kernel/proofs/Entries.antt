@@ -160,6 +160,7 @@ state_before old new pid was now c = lookup_state pid old ∙ ap (option_map sta
 pub load_after : (old new : List (ℕ × Process)) (pid : ℕ) (was now : Process) → Changes old new pid was now → total_load new + load was ≡ total_load old + load now
 load_after old new pid was now c = ap (λ es. total_load es + load was) c.entries ∙ sum_by-set_value load (at_key pid) old was now c.found
 
+-- the others are as they were
 pub others_stay : (old new : List (ℕ × Process)) (pid : ℕ) (was now : Process) → Changes old new pid was now → SameBut (at_key pid) old new
 others_stay old new pid was now c = λ q other. ap (lookup (at_key q)) c.entries ∙ written_other pid q old now other
 

@@ -78,23 +78,26 @@ covers_less es pid ready less asked keeps covers = λ q p found steps. by_test q
 
 -- ---- a turn
 
-pub turn_listed : (pid : ℕ) (es : List (ℕ × Process)) (ready : List ℕ) → IsStrictlySortedBy nat_cmp (keys es) → IsTurn (Some pid) es → Covers es ready → list_any (at_key pid) ready ≡ true
+turn_listed : (pid : ℕ) (es : List (ℕ × Process)) (ready : List ℕ) → IsStrictlySortedBy nat_cmp (keys es) → IsTurn (Some pid) es → Covers es ready → list_any (at_key pid) ready ≡ true
 turn_listed pid es ready ordered turn covers =
     let h = has_turn pid es turn in
     covers pid h.process (found_at (λ (e : ℕ × Process). able e.1) es (pid, h.process) ordered h.first) (first_able (λ (e : ℕ × Process). able e.1) es (pid, h.process) h.first)
 
--- the process changed no other
-pub covers_went : (ps qs rs : List (ℕ × Process)) (ready : List ℕ) (pid n : ℕ) → list_any (at_key pid) ready ≡ true → RunsAt ps qs pid n → SameBut (at_key pid) qs rs → Covers ps ready → Covers rs ready
-covers_went ps qs rs ready pid n listed r same covers = covers_one pid qs rs ready same listed (covers_one pid ps qs ready (others_stay ps qs pid r.was r.now r.changes) listed covers)
+-- the process that has the turn changed no other
+pub covers_went : (ps qs rs : List (ℕ × Process)) (ready : List ℕ) (pid n : ℕ) → IsStrictlySortedBy nat_cmp (keys ps) → IsTurn (Some pid) ps → RunsAt ps qs pid n → SameBut (at_key pid) qs rs → Covers ps ready → Covers rs ready
+covers_went ps qs rs ready pid n ordered turn r same covers =
+    let listed = turn_listed pid ps ready ordered turn covers in
+    covers_one pid qs rs ready same listed (covers_one pid ps qs ready (others_stay ps qs pid r.was r.now r.changes) listed covers)
 
 -- it was stuck
-pub covers_stuck : (ps qs rs : List (ℕ × Process)) (ready : List ℕ) (pid n : ℕ) → list_any (at_key pid) ready ≡ true → RunsAt ps qs pid n → rs ≡ qs → Covers ps ready → Covers rs ready
-covers_stuck ps qs rs ready pid n listed r same covers = covers_went ps qs rs ready pid n listed r (λ q other. ap (lookup (at_key q)) same) covers
+pub covers_stuck : (ps qs rs : List (ℕ × Process)) (ready : List ℕ) (pid n : ℕ) → IsStrictlySortedBy nat_cmp (keys ps) → IsTurn (Some pid) ps → RunsAt ps qs pid n → rs ≡ qs → Covers ps ready → Covers rs ready
+covers_stuck ps qs rs ready pid n ordered turn r same covers = covers_went ps qs rs ready pid n ordered turn r (λ q other. ap (lookup (at_key q)) same) covers
 
 -- it sent a letter to one that was put among them
-pub covers_sent : (ps qs rs : List (ℕ × Process)) (ready more : List ℕ) (pid to n : ℕ) → list_any (at_key pid) ready ≡ true → RunsAt ps qs pid n → SameBut (λ q. at_key pid q || at_key to q) qs rs
+pub covers_sent : (ps qs rs : List (ℕ × Process)) (ready more : List ℕ) (pid to n : ℕ) → IsStrictlySortedBy nat_cmp (keys ps) → IsTurn (Some pid) ps → RunsAt ps qs pid n → SameBut (λ q. at_key pid q || at_key to q) qs rs
     → HasOneMore to ready more → list_any (at_key to) more ≡ true → Covers ps ready → Covers rs more
-covers_sent ps qs rs ready more pid to n listed r same puts receiver covers =
+covers_sent ps qs rs ready more pid to n ordered turn r same puts receiver covers =
+    let listed = turn_listed pid ps ready ordered turn covers in
     covers_two pid to qs rs more same (listed_more to ready more puts pid listed) receiver
     (covers_more qs to ready more puts (covers_one pid ps qs ready (others_stay ps qs pid r.was r.now r.changes) listed covers))
 

@@ -1,6 +1,6 @@
 use Rattle.std.proofs.Common.{arith}
 use Rattle.plain_kernel.proofs.Entries.{there_after}
-use Rattle.plain_kernel.proofs.Ready.{turn_listed, covers_went, covers_sent, covers_stuck}
+use Rattle.plain_kernel.proofs.Ready.{covers_went, covers_sent, covers_stuck}
 use Rattle.plain_kernel.proofs.Turns.{turn_there, turns, turns_stuck, less}
 use Rattle.plain_kernel.proofs.running.take_turn.Goals as goal
 
@@ -21,8 +21,7 @@ returns-in-Went-clause-turns c =
 pub returns-in-Went-clause-covers : goal.returns-in-Went-clause-covers
 returns-in-Went-clause-covers c =
     let moves = rw c.in-Went.is at c.in_ok-make_step.ensures in
-    let listed = turn_listed c.args.pid c.args.processes.now.entries c.args.ready.now.keys c.len-count.ensures.ordered c.requires.turn c.requires.covers in
-    covers_went c.args.processes.now.entries c.run_at.new.processes.entries c.make_step.new.processes.entries c.args.ready.now.keys c.args.pid _ listed c.run_at.ensures.runs moves.1 c.requires.covers
+    covers_went c.args.processes.now.entries c.run_at.new.processes.entries c.make_step.new.processes.entries c.args.ready.now.keys c.args.pid _ c.len-count.ensures.ordered c.requires.turn c.run_at.ensures.runs moves.1 c.requires.covers
 
 pub returns-in_ok-insert-in-Sent-clause-turns : goal.returns-in_ok-insert-in-Sent-clause-turns
 returns-in_ok-insert-in-Sent-clause-turns c =
@@ -32,9 +31,8 @@ returns-in_ok-insert-in-Sent-clause-turns c =
 pub returns-in_ok-insert-in-Sent-clause-covers : goal.returns-in_ok-insert-in-Sent-clause-covers
 returns-in_ok-insert-in-Sent-clause-covers c =
     let moves = rw c.in-Sent.is at c.in_ok-make_step.ensures in
-    let listed = turn_listed c.args.pid c.args.processes.now.entries c.args.ready.now.keys c.len-count.ensures.ordered c.requires.turn c.requires.covers in
     let put = c.in_ok-insert-in-Sent.ensures.updates in
-    covers_sent c.args.processes.now.entries c.run_at.new.processes.entries c.make_step.new.processes.entries c.args.ready.now.keys c.insert.new.self.keys c.args.pid c.in-Sent.to _ listed c.run_at.ensures.runs moves.1 put.0 put.1 c.requires.covers
+    covers_sent c.args.processes.now.entries c.run_at.new.processes.entries c.make_step.new.processes.entries c.args.ready.now.keys c.insert.new.self.keys c.args.pid c.in-Sent.to _ c.len-count.ensures.ordered c.requires.turn c.run_at.ensures.runs moves.1 put.0 put.1 c.requires.covers
 
 pub returns-in-Stuck-clause-turns : goal.returns-in-Stuck-clause-turns
 returns-in-Stuck-clause-turns c =
@@ -44,5 +42,4 @@ returns-in-Stuck-clause-turns c =
 pub returns-in-Stuck-clause-covers : goal.returns-in-Stuck-clause-covers
 returns-in-Stuck-clause-covers c =
     let moves = rw c.in-Stuck.is at c.in_ok-make_step.ensures in
-    let listed = turn_listed c.args.pid c.args.processes.now.entries c.args.ready.now.keys c.len-count.ensures.ordered c.requires.turn c.requires.covers in
-    covers_stuck c.args.processes.now.entries c.run_at.new.processes.entries c.make_step.new.processes.entries c.args.ready.now.keys c.args.pid _ listed c.run_at.ensures.runs moves.1 c.requires.covers
+    covers_stuck c.args.processes.now.entries c.run_at.new.processes.entries c.make_step.new.processes.entries c.args.ready.now.keys c.args.pid _ c.len-count.ensures.ordered c.requires.turn c.run_at.ensures.runs moves.1 c.requires.covers
