@@ -1,5 +1,5 @@
 -- One step of a process, and the delivery of its letter.
-use Rattle.std.proofs.Common.{◌≡◌, ℕ, ◌+◌, ◌≤◌, Bool, true, false, cond, List, map, refl, sym, ap, ◌∙◌, subst, arith, Some, None, IsSome, Result, Ok, Err, option_map}
+use Rattle.std.proofs.Common.{◌≡◌, ℕ, ◌+◌, ◌≤◌, Bool, true, false, cond, ◌||◌, List, map, refl, sym, ap, ◌∙◌, subst, arith, Some, None, IsSome, Result, Ok, Err, option_map}
 use Rattle.std.specs.Prelude.{OnOk, OnErr}
 use Rattle.std.specs.Map.{lookup}
 use Rattle.std.specs.FinMap.{find, put}
@@ -18,8 +18,8 @@ use Rattle.sys_calls.specs.Steps.{Makes, Shorter}
 use Rattle.sys_calls.proofs.Counting.{silent_counts, emits_counts}
 use Rattle.plain_kernel.specs.Kernel.{pid_cmp, deliver, letter_put, with_process}
 use Rattle.plain_kernel.specs.Apply.{after_step, one_step}
-use Rattle.plain_kernel.specs.Maps.{at_key, pid_of, processes_of, kernel_of, load, total_load, Changes, StepsAt, Restores, Advances, Alone, Lighter, Receives}
-use Rattle.plain_kernel.proofs.Entries.{some_same, written_same, put_state, lookup_state, there_before, there_after, found_after, put_after, state_before, load_after, changes_again, changed_back, same_keys}
+use Rattle.plain_kernel.specs.Maps.{at_key, pid_of, processes_of, kernel_of, load, total_load, Changes, StepsAt, Restores, Advances, Lighter, Receives, SameBut}
+use Rattle.plain_kernel.proofs.Entries.{some_same, written_same, put_state, lookup_state, there_before, there_after, found_after, put_after, state_before, load_after, changes_again, changed_back, same_keys, others_stay}
 
 -- ---- a letter to a process
 
@@ -74,24 +74,24 @@ put_kernel ps qs ts pid was now c = ap (λ l. record { processes = l; ttys = ts 
 keys_stay : (ps qs : List (ℕ × Process)) (pid : ℕ) (was now : Process) → Changes ps qs pid was now → map (λ (e : ℕ × Process). e.0) qs ≡ map (λ (e : ℕ × Process). e.0) ps
 keys_stay ps qs pid was now c = ap (map (λ (e : ℕ × Process). e.0)) c.entries ∙ same_keys (at_key pid) ps now
 
-pub stepped_silent : (ps qs : List (ℕ × Process)) (ts : List (ℕ × List ℕ)) (pid : ℕ) → StepsAt ps qs pid (Ok WasSilent) → Advances pid ps qs ts ts × Alone pid ps qs
+pub stepped_silent : (ps qs : List (ℕ × Process)) (ts : List (ℕ × List ℕ)) (pid : ℕ) → StepsAt ps qs pid (Ok WasSilent) → Advances pid ps qs ts ts × SameBut (at_key pid) ps qs
 stepped_silent ps qs ts pid s = (
   record {
     one = by_next ps qs ts pid s.was s.now _ s.changes s.makes ∙ ap Some (put_kernel ps qs ts pid s.was s.now s.changes);
     lighter = omega (arith, load_after ps qs pid s.was s.now s.changes, s.lighter);
     keys = keys_stay ps qs pid s.was s.now s.changes;
   },
-  record { was = s.was; now = s.now; changes = s.changes },
+  others_stay ps qs pid s.was s.now s.changes,
 )
 
-pub stepped_exit : (ps qs : List (ℕ × Process)) (ts : List (ℕ × List ℕ)) (pid : ℕ) (end : End) → StepsAt ps qs pid (Ok (Emit (Exit end))) → Advances pid ps qs ts ts × Alone pid ps qs
+pub stepped_exit : (ps qs : List (ℕ × Process)) (ts : List (ℕ × List ℕ)) (pid : ℕ) (end : End) → StepsAt ps qs pid (Ok (Emit (Exit end))) → Advances pid ps qs ts ts × SameBut (at_key pid) ps qs
 stepped_exit ps qs ts pid end s = (
   record {
     one = by_next ps qs ts pid s.was s.now _ s.changes s.makes ∙ ap Some (put_kernel ps qs ts pid s.was s.now s.changes);
     lighter = omega (arith, load_after ps qs pid s.was s.now s.changes, s.lighter);
     keys = keys_stay ps qs pid s.was s.now s.changes;
   },
-  record { was = s.was; now = s.now; changes = s.changes },
+  others_stay ps qs pid s.was s.now s.changes,
 )
 
 pub stepped_mail : (ps qs rs : List (ℕ × Process)) (ts us : List (ℕ × List ℕ)) (pid : ℕ) (letter : Letter) → StepsAt ps qs pid (Ok (Emit (Mail letter)))
@@ -102,8 +102,19 @@ stepped_mail ps qs rs ts us pid letter s sent more keys = record {
   keys = keys ∙ keys_stay ps qs pid s.was s.now s.changes;
 }
 
-pub stepped_alone : (ps qs rs : List (ℕ × Process)) (pid : ℕ) (r : Result Step NoMemory) → StepsAt ps qs pid r → rs ≡ qs → Alone pid ps rs
-stepped_alone ps qs rs pid r s same = subst (Alone pid ps) (sym same) (record { was = s.was; now = s.now; changes = s.changes })
+-- no other process changed
+pub stepped_alone : (ps qs rs : List (ℕ × Process)) (pid : ℕ) (r : Result Step NoMemory) → StepsAt ps qs pid r → rs ≡ qs → SameBut (at_key pid) ps rs
+stepped_alone ps qs rs pid r s same = subst (SameBut (at_key pid) ps) (sym same) (others_stay ps qs pid s.was s.now s.changes)
+
+-- nor did any but that to which the letter went
+pub stepped_two : (ps qs rs : List (ℕ × Process)) (pid to : ℕ) (r : Result Step NoMemory) → StepsAt ps qs pid r → SameBut (at_key to) qs rs → SameBut (λ q. at_key pid q || at_key to q) ps rs
+stepped_two ps qs rs pid to r s sent = λ q other.
+    let parts = neither (at_key pid q) (at_key to q) other in
+    sent q parts.1 ∙ others_stay ps qs pid s.was s.now s.changes q parts.0
+  where
+    neither : (b c : Bool) → (b || c) ≡ false → (b ≡ false) × (c ≡ false)
+    neither true c none = cc
+    neither false c none = (refl, none)
 
 pub less_to_send : (ps qs : List (ℕ × Process)) (pid : ℕ) (letter : Letter) → StepsAt ps qs pid (Ok (Emit (Mail letter))) → total_load qs + 2 ≤ total_load ps
 less_to_send ps qs pid letter s = omega (arith, load_after ps qs pid s.was s.now s.changes, s.lighter)

@@ -17,7 +17,7 @@ use Rattle.std.specs.Cmp.{tied_itself}
 use Rattle.proc_state.specs.declared.process.Process.{Process}
 use Rattle.proc_state.specs.State.{state_of}
 use Rattle.plain_kernel.specs.Kernel.{pid_cmp}
-use Rattle.plain_kernel.specs.Maps.{at_key, pid_of, processes_of, load, total_load, Changes}
+use Rattle.plain_kernel.specs.Maps.{at_key, pid_of, processes_of, load, total_load, Changes, SameBut}
 
 pub some_same : {X : Type 0} → (x y : X) → Some x ≡ Some y → x ≡ y
 some_same x y e = ap (λ o. unwrap_or o x) e
@@ -112,6 +112,17 @@ written_there t (e ∷ es) v w h = by_test (t e.0) refl h (λ later. written_the
     by_test true is h ih = rw (is, is) refl
     by_test false is h ih = rw (is, is) (ih h)
 
+other_key : (k q x : ℕ) → at_key k q ≡ false → at_key k x ≡ true → at_key q x ≡ false
+other_key k q x other same = grind (arith, nat_tests)
+
+pub written_other : {X : Type 0} → (k q : ℕ) (es : List (ℕ × X)) (w : X) → at_key k q ≡ false → lookup (at_key q) (set_value (at_key k) es w) ≡ lookup (at_key q) es
+written_other k q [] w other = refl
+written_other k q (e ∷ es) w other = by_test (at_key k e.0) refl (written_other k q es w other)
+  where
+    by_test : (b : Bool) → at_key k e.0 ≡ b → lookup (at_key q) (set_value (at_key k) es w) ≡ lookup (at_key q) es → lookup (at_key q) (set_value (at_key k) (e ∷ es) w) ≡ lookup (at_key q) (e ∷ es)
+    by_test true is ih = rw (is, other_key k q e.0 other is) refl
+    by_test false is ih = rw is (ap (λ r. cond (at_key q e.0) (Some e.1) r) ih)
+
 pub same_keys : {X : Type 0} → (t : ℕ → Bool) (es : List (ℕ × X)) (w : X) → keys (set_value t es w) ≡ keys es
 same_keys t [] w = refl
 same_keys t (e ∷ es) w = elim (t e.0) as (λ b. keys (cond b ((e.0, w) ∷ es) (e ∷ set_value t es w)) ≡ e.0 ∷ keys es) [ true ↦ refl | false ↦ ap (λ r. e.0 ∷ r) (same_keys t es w) ]
@@ -148,6 +159,10 @@ state_before old new pid was now c = lookup_state pid old ∙ ap (option_map sta
 
 pub load_after : (old new : List (ℕ × Process)) (pid : ℕ) (was now : Process) → Changes old new pid was now → total_load new + load was ≡ total_load old + load now
 load_after old new pid was now c = ap (λ es. total_load es + load was) c.entries ∙ sum_by-set_value load (at_key pid) old was now c.found
+
+-- the others are as they were
+pub others_stay : (old new : List (ℕ × Process)) (pid : ℕ) (was now : Process) → Changes old new pid was now → SameBut (at_key pid) old new
+others_stay old new pid was now c = λ q other. ap (lookup (at_key q)) c.entries ∙ written_other pid q old now other
 
 -- a second change of the same process is one change
 pub changes_again : (old mid new : List (ℕ × Process)) (pid : ℕ) (was then now : Process) → Changes old mid pid was then → (again : Process) → Changes mid new pid again now → Changes old new pid was now

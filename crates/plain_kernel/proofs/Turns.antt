@@ -34,7 +34,7 @@ use Rattle.plain_kernel.specs.Answers.{Applies, StopsAt, runs_pid}
 use Rattle.std.proofs.lemmas.Bool.Decides.{nat_tests}
 use Rattle.plain_kernel.specs.Apply.{after_step, one_step, steps, apply}
 use Rattle.plain_kernel.specs.Still.{can_act, lowest, default_item, default_step, default_after, Reaches}
-use Rattle.plain_kernel.specs.Maps.{at_key, pid_of, processes_of, kernel_of, total_load, Changes, RunsAt, Advances, Alone, lowest_of, IsTurn, RunsSteps, Turns}
+use Rattle.plain_kernel.specs.Maps.{at_key, pid_of, processes_of, kernel_of, total_load, Changes, RunsAt, Advances, lowest_of, IsTurn, RunsSteps, Turns}
 use Rattle.plain_kernel.proofs.Entries.{some_same, tied, later_no_key, later_above, lookup_state, put_state, written_same, found_after, put_after, load_after}
 use Rattle.plain_kernel.proofs.Laws.{steps_one, steps_joined, steps_more, steps_stuck, one_silent, silent_steps, last_silent, no_silent, default_joined, default_one, default_none}
 
@@ -52,7 +52,7 @@ found_above p x (y ∷ es) e a f = by_test (p y) f (λ later. found_above p x es
     by_test false f ih = ih f
 
 -- it is the one at its key
-found_at : {X : Type 0} → (p : ℕ × X → Bool) (es : List (ℕ × X)) (e : ℕ × X) → IsStrictlySortedBy nat_cmp (keys es) → find p es ≡ Some e → lookup (at_key e.0) es ≡ Some e.1
+pub found_at : {X : Type 0} → (p : ℕ × X → Bool) (es : List (ℕ × X)) (e : ℕ × X) → IsStrictlySortedBy nat_cmp (keys es) → find p es ≡ Some e → lookup (at_key e.0) es ≡ Some e.1
 unfolding IsStrictlySortedBy
 found_at p [] e s f = cc
 found_at p (x ∷ es) e s f = by_test (p x) f (λ later. found_at p es e s.1 later)
@@ -108,7 +108,7 @@ has_turn pid es e = by_case (lowest_of es) refl e
 pub turn_there : (pid : ℕ) (es : List (ℕ × Process)) → IsStrictlySortedBy nat_cmp (keys es) → IsTurn (Some pid) es → IsSome (lookup (at_key pid) es)
 turn_there pid es s turn = let h = has_turn pid es turn in ap is_some (found_at _ es (pid, h.process) s h.first)
 
-first_able : {X : Type 0} → (p : X → Bool) (es : List X) (e : X) → find p es ≡ Some e → p e ≡ true
+pub first_able : {X : Type 0} → (p : X → Bool) (es : List X) (e : X) → find p es ≡ Some e → p e ≡ true
 first_able p [] e f = cc
 first_able p (x ∷ es) e f = by_test (p x) refl f (λ later. first_able p es e later)
   where
@@ -250,23 +250,13 @@ advanced ps qs rs ts us pid n turn r a =
 pub less : (ps qs : List (ℕ × Process)) (pid n : ℕ) → RunsAt ps qs pid n → total_load qs + 2 * n ≡ total_load ps
 less ps qs pid n r = omega (arith, load_after ps qs pid r.was r.now r.changes, r.lighter)
 
--- a step was made, and the lowest process that has a step is next
-pub turns : (ps qs rs : List (ℕ × Process)) (ts us : List (ℕ × List ℕ)) (pid n : ℕ) (next : Option ℕ) → IsTurn (Some pid) ps → RunsAt ps qs pid n → Advances pid qs rs ts us → IsTurn next rs → Turns next ps rs ts us
-turns ps qs rs ts us pid n next turn r a then = record {
+-- a step was made
+pub turns : (ps qs rs : List (ℕ × Process)) (ts us : List (ℕ × List ℕ)) (pid n : ℕ) → IsTurn (Some pid) ps → RunsAt ps qs pid n → Advances pid qs rs ts us → Turns ps rs ts us
+turns ps qs rs ts us pid n turn r a = record {
   items = n + 1;
   made = advanced ps qs rs ts us pid n turn r a;
   lighter = omega (arith, less ps qs pid n r, a.lighter);
-  turn = then;
 }
-
--- the process that made a step alone keeps the turn where it has another
-pub stays : (ps qs rs : List (ℕ × Process)) (ts us : List (ℕ × List ℕ)) (pid n : ℕ) → IsTurn (Some pid) ps → RunsAt ps qs pid n → Advances pid qs rs ts us → Alone pid qs rs
-    → (p : Process) → lookup (at_key pid) rs ≡ Some p → has_step (next_step (state_of p)) ≡ true → IsTurn (Some pid) rs
-stays ps qs rs ts us pid n turn r a alone p found more =
-    let first = keeps_turn ps qs pid r.was r.now turn r.changes (able ps qs rs ts us pid n r a) in
-    let turn_of_qs : IsTurn (Some pid) qs = ap (option_map (λ (e : ℕ × Process). e.0)) (sym first) in
-    let same : alone.now ≡ p = some_same _ _ (sym (found_after qs rs pid alone.was alone.now alone.changes) ∙ found) in
-    ap (option_map (λ (e : ℕ × Process). e.0)) (sym (keeps_turn qs rs pid alone.was alone.now turn_of_qs alone.changes (ap (λ (q : Process). has_step (next_step (state_of q))) same ∙ more)))
 
 -- a process that had the turn made a step at least before it was stuck
 stuck_later : (ps qs : List (ℕ × Process)) (ts : List (ℕ × List ℕ)) (pid n : ℕ) → IsTurn (Some pid) ps → RunsAt ps qs pid n → one_step (pid_of pid) (kernel_of qs ts) ≡ None → 1 ≤ n
@@ -277,13 +267,11 @@ stuck_later ps qs ts pid zero turn r none =
     absurd (some_step (kernel_of qs ts) (pid_of pid) (next_step (state_of r.now)) (ap (λ s. has_step (next_step s)) (sym same) ∙ was_able) (no_fork ((r.now).small).status (state_of r.now)) (sym (next_of ps qs ts pid r.was r.now r.changes) ∙ none))
 stuck_later ps qs ts pid (suc n) turn r none = omega arith
 
-pub turns_stuck : (ps qs rs : List (ℕ × Process)) (ts us : List (ℕ × List ℕ)) (pid n : ℕ) (next : Option ℕ) → IsTurn (Some pid) ps → RunsAt ps qs pid n → one_step (pid_of pid) (kernel_of qs ts) ≡ None → rs ≡ qs → us ≡ ts
-    → IsTurn next rs → Turns next ps rs ts us
-turns_stuck ps qs rs ts us pid n next turn r none same same_ttys then = record {
+pub turns_stuck : (ps qs rs : List (ℕ × Process)) (ts us : List (ℕ × List ℕ)) (pid n : ℕ) → IsTurn (Some pid) ps → RunsAt ps qs pid n → one_step (pid_of pid) (kernel_of qs ts) ≡ None → rs ≡ qs → us ≡ ts → Turns ps rs ts us
+turns_stuck ps qs rs ts us pid n turn r none same same_ttys = record {
   items = n;
   made = ran ps qs ts pid n turn r ∙ ap (λ es. Some (kernel_of es ts)) (sym same) ∙ ap (λ t. Some (kernel_of rs t)) (sym same_ttys);
   lighter = omega (arith, less ps qs pid n r, stuck_later ps qs ts pid n turn r none, ap total_load same);
-  turn = then;
 }
 
 -- ---- a run to the end

@@ -1,8 +1,8 @@
 -- The maps that hold a kernel, and what of it is still to come.
-use Rattle.std.specs.Prelude.{ℕ, ◌≡◌, ◌+◌, ◌*◌, ◌^◌, ◌≤◌, ◌<◌, Bool, if◌then◌else◌, List, [], fold, find, length, map, slice_get, option_map, Option, Some, None, Result, Ok, Err}
+use Rattle.std.specs.Prelude.{ℕ, ◌≡◌, ◌+◌, ◌*◌, ◌^◌, ◌≤◌, ◌<◌, Bool, true, false, ◌||◌, if◌then◌else◌, List, [], fold, find, length, map, slice_get, option_map, Option, Some, None, Result, Ok, Err}
 use Rattle.std.specs.Ordering.{nat_cmp, is_eq}
 use Rattle.std.specs.List.Sorted.{IsStrictlySortedBy}
-use Rattle.std.specs.List.{sum_by}
+use Rattle.std.specs.List.{list_any, sum_by}
 use Rattle.std.specs.Map.{values_of, lookup, set_value}
 use Rattle.t32_base.specs.declared.process.Pid.{Pid}
 use Rattle.proc_state.specs.declared.process.Process.{Process}
@@ -55,6 +55,15 @@ pub record Changes (old new : List (ℕ × Process)) (pid : ℕ) (was now : Proc
   pub entries : new ≡ set_value (at_key pid) old now
   pub ordered : IsStrictlySortedBy nat_cmp (map (λ (e : ℕ × Process). e.0) old)
 
+-- each process whose pid does not pass a test is as it was
+abbrev pub SameBut : (ℕ → Bool) → List (ℕ × Process) → List (ℕ × Process) → Type 0
+SameBut touched old new = (q : ℕ) → touched q ≡ false → lookup (at_key q) new ≡ lookup (at_key q) old
+
+-- a letter went to the process with a pid, and no other changed; or it went to none
+abbrev pub GoesTo : Option ℕ → List (ℕ × Process) → List (ℕ × Process) → Type 0
+GoesTo None old new = new ≡ old
+GoesTo (Some to) old new = SameBut (at_key to) old new
+
 -- one more end of the process with a pid was linked, which leaves as much to come
 pub record Links (old new : List (ℕ × Process)) (pid : ℕ) (peer : Pid) (far : ℕ) : Type 0 where
   pub states : processes_of new ≡ with_end_linked (processes_of old) (pid_of pid) peer far
@@ -97,16 +106,10 @@ pub record Advances (pid : ℕ) (ps qs : List (ℕ × Process)) (ts us : List (�
   pub lighter : total_load qs + 1 ≤ total_load ps
   pub keys : map (λ (e : ℕ × Process). e.0) qs ≡ map (λ (e : ℕ × Process). e.0) ps
 
--- the process changed alone
-pub record Alone (pid : ℕ) (ps qs : List (ℕ × Process)) : Type 0 where
-  pub was : Process
-  pub now : Process
-  pub changes : Changes ps qs pid was now
-
--- what one step of a process makes of a kernel: a step that changes no other process, one that may, or none
+-- what one step of a process makes of a kernel: a step that changes no other process, one that changes no other but that to which its letter went, or none
 abbrev pub Moves : Result Made NoMemory → ℕ → List (ℕ × Process) → List (ℕ × Process) → List (ℕ × List ℕ) → List (ℕ × List ℕ) → Type 0
-Moves (Ok Went) pid ps qs ts us = Advances pid ps qs ts us × Alone pid ps qs
-Moves (Ok Sent) pid ps qs ts us = Advances pid ps qs ts us
+Moves (Ok Went) pid ps qs ts us = Advances pid ps qs ts us × SameBut (at_key pid) ps qs
+Moves (Ok (Sent to)) pid ps qs ts us = Advances pid ps qs ts us × SameBut (λ q. at_key pid q || at_key to q) ps qs
 Moves (Ok Stuck) pid ps qs ts us = (one_step (pid_of pid) (kernel_of ps ts) ≡ None) × (qs ≡ ps) × (us ≡ ts)
 Moves (Err e) pid ps qs ts us = (qs ≡ ps) × (us ≡ ts)
 
@@ -129,12 +132,15 @@ lowest_of es = find (λ (e : ℕ × Process). has_step (next_step (state_of e.1)
 abbrev pub IsTurn : Option ℕ → List (ℕ × Process) → Type 0
 IsTurn next es = next ≡ option_map (λ (e : ℕ × Process). e.0) (lowest_of es)
 
--- items of the default schedule were made, one at least, and another process has the turn
-pub record Turns (next : Option ℕ) (ps qs : List (ℕ × Process)) (ts us : List (ℕ × List ℕ)) : Type 0 where
+-- each process that has a step has its pid in a list
+abbrev pub Covers : List (ℕ × Process) → List ℕ → Type 0
+Covers es ready = (q : ℕ) (p : Process) → lookup (at_key q) es ≡ Some p → has_step (next_step (state_of p)) ≡ true → list_any (at_key q) ready ≡ true
+
+-- items of the default schedule were made, one at least
+pub record Turns (ps qs : List (ℕ × Process)) (ts us : List (ℕ × List ℕ)) : Type 0 where
   pub items : ℕ
   pub made : default_after items (kernel_of ps ts) ≡ Some (kernel_of qs us)
   pub lighter : total_load qs + 1 ≤ total_load ps
-  pub turn : IsTurn next qs
 
 -- ---- boot, one map at a time
 

@@ -5,11 +5,11 @@ ghost use Rattle.std.specs.BTreeMap.{get, keys};
 ghost use Rattle.std.specs.Ordering.{nat_cmp};
 ghost use Rattle.proc_state.specs.State.{state_of};
 ghost use Rattle.sys_calls.specs.Next.{has_step, next_step};
-ghost use Rattle.plain_kernel.specs.Maps.{pid_of, RunsAt, StepsAt};
+ghost use Rattle.plain_kernel.specs.Maps.{pid_of, Covers, RunsAt, StepsAt};
 
 use proc_state::process::Process;
 use std::alloc::Global;
-use std::collections::BTreeMap;
+use std::collections::{BTreeMap, BTreeSet};
 use sys_calls::stepping::{can_step, run_instructions, step};
 use sys_calls::steps::Step;
 use t32_base::lists::List;
@@ -72,6 +72,17 @@ pub fn pids_of(alloc: Global, processes: &BTreeMap<u32, Process>) -> Result<List
     let mut pids = List::new(alloc);
     for pid in processes.keys() {
         pids.push(Pid(*pid))?;
+    }
+    Ok(pids)
+}
+
+/// The set of every pid.
+pub fn pid_set(alloc: Global, processes: &BTreeMap<u32, Process>) -> Result<BTreeSet<u32>, NoMemory>
+    ensures { IfOk result (λ pids. Covers processes.now.entries pids.keys) }
+{
+    let mut pids = BTreeSet::new(alloc);
+    for pid in processes.keys() {
+        pids.insert(*pid)?;
     }
     Ok(pids)
 }

@@ -1,16 +1,16 @@
 //! Many steps of a kernel: those of one process, and those of the default schedule.
-ghost use Rattle.std.specs.Prelude.{◌≡◌, ◌≤◌, ◌<◌, ◌^◌, ◌+◌, IsSome, OnOk, IfOk, IfErr, Some, None, option_map, ℕ};
+ghost use Rattle.std.specs.Prelude.{◌≤◌, ◌<◌, ◌^◌, IsSome, OnOk, Some};
 ghost use Rattle.std.specs.BTreeMap.{get};
 ghost use Rattle.std.specs.Ordering.{nat_cmp};
-ghost use Rattle.plain_kernel.specs.Maps.{kernel_of, total_load, IsTurn, RunsSteps, Turns};
+ghost use Rattle.plain_kernel.specs.Maps.{kernel_of, total_load, Covers, IsTurn, RunsSteps, Turns};
 ghost use Rattle.plain_kernel.specs.Still.{Reaches};
 
 use crate::item::NotApplied;
-use crate::processes::{can_step_at, lowest, run_at};
+use crate::processes::{can_step_at, pid_set, run_at};
 use crate::sending::{Made, make_step};
 use proc_state::process::Process;
 use std::alloc::Global;
-use std::collections::BTreeMap;
+use std::collections::{BTreeMap, BTreeSet};
 use t32_base::lists::Bytes;
 use t32_base::streams::NoMemory;
 
@@ -32,7 +32,7 @@ pub fn run_steps(
         if done < most {
             match make_step(alloc, processes, ttys, pid) {
                 Ok(Made::Went) => done += 1,
-                Ok(Made::Sent) => done += 1,
+                Ok(Made::Sent(_)) => done += 1,
                 Ok(Made::Stuck) => return Err(NotApplied::Disabled { done }),
                 Err(NoMemory) => return Err(NotApplied::NoMemory { done }),
             }
@@ -49,6 +49,9 @@ fn at_most(count: u64) -> u32
 }
 
 /// Makes the steps of the default schedule until none is left. After want of memory nothing is said.
+///
+/// A process that was asked for a step and has none is not asked again before a letter comes to it, so no
+/// turn walks over the processes that wait.
 pub fn run_to_end(
     alloc: Global,
     processes: &mut BTreeMap<u32, Process>,
@@ -58,49 +61,55 @@ pub fn run_to_end(
     ensures reaches { OnOk result (Reaches (kernel_of processes.old.entries ttys.old.entries) (kernel_of processes.new.entries ttys.new.entries)) }
     ensures room { OnOk result (total_load processes.new.entries < 2 ^ 64) }
 {
-    let mut next = lowest(processes);
-    'turns: loop {
-        match next {
-            Some(pid) => next = take_turn(alloc, processes, ttys, pid)?,
-            None => return Ok(()),
-        }
+    let mut ready = pid_set(alloc, processes)?;
+    'turns: while let Some(pid) = next_turn(processes, &mut ready) {
+        take_turn(alloc, processes, ttys, &mut ready, pid)?;
     }
+    Ok(())
 }
 
-// The process that has the turn makes instructions and one more step; answers which process is next.
+// The lowest pid that has a step, which is among those that may have one. Those that were asked in vain
+// are taken out.
+fn next_turn(processes: &BTreeMap<u32, Process>, ready: &mut BTreeSet<u32>) -> Option<u32>
+    requires { Covers processes.now.entries ready.old.keys }
+    ensures turn { IsTurn result processes.now.entries }
+    ensures covers { Covers processes.now.entries ready.new.keys }
+{
+    // A map tells with its length that its keys are in order.
+    let _count = processes.len();
+    'asked: while let Some(pid) = ready.first().copied() {
+        if can_step_at(processes, pid) {
+            return Some(pid);
+        }
+        ready.remove(&pid);
+    }
+    None
+}
+
+// The process that has the turn makes instructions and one more step. One to which it sent a letter may
+// have a step then.
 fn take_turn(
     alloc: Global,
     processes: &mut BTreeMap<u32, Process>,
     ttys: &mut BTreeMap<u8, Bytes>,
+    ready: &mut BTreeSet<u32>,
     pid: u32,
-) -> Result<Option<u32>, NoMemory>
+) -> Result<(), NoMemory>
     requires turn { IsTurn (Some pid) processes.old.entries }
     requires room { total_load processes.old.entries < 2 ^ 64 }
-    ensures { IfOk result (λ next. Turns next processes.old.entries processes.new.entries ttys.old.entries ttys.new.entries) }
+    requires covers { Covers processes.old.entries ready.old.keys }
+    ensures turns { OnOk result (Turns processes.old.entries processes.new.entries ttys.old.entries ttys.new.entries) }
+    ensures covers { OnOk result (Covers processes.new.entries ready.new.keys) }
 {
     // A map tells with its length that its keys are in order, so the process that was found is there.
     let _count = processes.len();
     run_at(processes, pid, u32::MAX);
     match make_step(alloc, processes, ttys, pid)? {
-        Made::Went => Ok(stays_or_next(processes, pid)),
-        Made::Sent => Ok(lowest(processes)),
-        Made::Stuck => Ok(lowest(processes)),
-    }
-}
-
-ghost use Rattle.std.specs.Prelude.{true};
-ghost use Rattle.proc_state.specs.State.{state_of};
-ghost use Rattle.proc_state.specs.declared.process.Process.{Process as Running};
-ghost use Rattle.sys_calls.specs.Next.{has_step, next_step};
-
-// A process keeps the turn where it still has a step; else the lowest one that has a step is next.
-fn stays_or_next(processes: &BTreeMap<u32, Process>, pid: u32) -> Option<u32>
-    requires { (p : Running) → get nat_cmp processes.now pid ≡ Some p → has_step (next_step (state_of p)) ≡ true → IsTurn (Some pid) processes.now.entries }
-    ensures { IsTurn result processes.now.entries }
-{
-    if can_step_at(processes, pid) {
-        Some(pid)
-    } else {
-        lowest(processes)
+        Made::Went => Ok(()),
+        Made::Sent(to) => {
+            ready.insert(to)?;
+            Ok(())
+        }
+        Made::Stuck => Ok(()),
     }
 }

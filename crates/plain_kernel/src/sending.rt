@@ -1,10 +1,10 @@
 //! One step of a process in its kernel: the letter that it sends is delivered at once.
-ghost use Rattle.std.specs.Prelude.{◌≡◌, ◌≤◌, ◌<◌, ◌^◌, ◌+◌, ◌-◌, IsSome, OnOk, OnErr, IfOk, Some, option_map, false};
+ghost use Rattle.std.specs.Prelude.{◌≡◌, ◌≤◌, ◌<◌, ◌^◌, ◌+◌, ◌-◌, IsSome, OnOk, OnErr, IfOk, Some, option_map};
 ghost use Rattle.std.specs.BTreeMap.{get, keys};
 ghost use Rattle.std.specs.Ordering.{nat_cmp};
 ghost use Rattle.std.specs.FinMap.{find};
 ghost use Rattle.plain_kernel.specs.Kernel.{bytes_said, deliver as delivered_in, letter_put, pid_cmp, text_put};
-ghost use Rattle.plain_kernel.specs.Maps.{kernel_of, pid_of, processes_of, total_load, Moves, Restores};
+ghost use Rattle.plain_kernel.specs.Maps.{at_key, kernel_of, pid_of, processes_of, total_load, GoesTo, Moves, Restores, SameBut};
 
 use crate::processes::step_at;
 use proc_state::process::Process;
@@ -17,11 +17,11 @@ use t32_base::process::{Small, Status};
 use t32_base::streams::NoMemory;
 
 /// What one step of a process made of its kernel: it changed no other process, or it sent a letter to
-/// one; or it has no step, and nothing was changed.
+/// the process with a pid and changed no other; or it has no step, and nothing was changed.
 #[derive(Clone, Copy, PartialEq, Eq, Debug)]
 pub enum Made {
     Went,
-    Sent,
+    Sent(u32),
     Stuck,
 }
 
@@ -42,8 +42,8 @@ pub fn make_step(
         Ok(Step::Silent) => Ok(Made::Went),
         Ok(Step::Emit(Emission::Exit(_))) => Ok(Made::Went),
         Ok(Step::Emit(Emission::Mail(letter))) => match send(processes, ttys, letter) {
-            Ok(false) => Ok(Made::Went),
-            Ok(true) => Ok(Made::Sent),
+            Ok(None) => Ok(Made::Went),
+            Ok(Some(to)) => Ok(Made::Sent(to)),
             Err(refused) => {
                 restore(processes, pid, before);
                 Err(refused)
@@ -78,28 +78,28 @@ fn restore(processes: &mut BTreeMap<u32, Process>, pid: u32, before: Small)
     }
 }
 
-// Delivers a letter, and answers whether it went to a process.
+// Delivers a letter, and answers the pid of the process to which it went, if it went to one.
 fn send(
     processes: &mut BTreeMap<u32, Process>,
     ttys: &mut BTreeMap<u8, Bytes>,
     letter: Letter,
-) -> Result<bool, NoMemory>
+) -> Result<Option<u32>, NoMemory>
     requires { total_load processes.old.entries < 2 ^ 64 - 1 }
     ensures ok { OnOk result (kernel_of processes.new.entries ttys.new.entries ≡ delivered_in (kernel_of processes.old.entries ttys.old.entries) letter) }
     ensures load { total_load processes.new.entries ≤ total_load processes.old.entries + 1 }
     ensures keys { keys processes.new ≡ keys processes.old }
-    ensures alone { IfOk result (λ to_process. to_process ≡ false → processes.new.entries ≡ processes.old.entries) }
+    ensures goes { IfOk result (λ to. GoesTo to processes.old.entries processes.new.entries) }
     ensures same_processes { OnErr result (processes.new.entries ≡ processes.old.entries) }
     ensures same_ttys { OnErr result (ttys.new.entries ≡ ttys.old.entries) }
 {
     match letter.to {
         To::Tty(tty) => {
             append(ttys, tty, said(&letter.body))?;
-            Ok(false)
+            Ok(None)
         }
         To::Proc(pid, _) => {
             receive(processes, pid.0, letter)?;
-            Ok(true)
+            Ok(Some(pid.0))
         }
     }
 }
@@ -135,6 +135,7 @@ fn receive(processes: &mut BTreeMap<u32, Process>, pid: u32, letter: Letter) -> 
     ensures ok { OnOk result (processes_of processes.new.entries ≡ letter_put letter (pid_of pid) (find pid_cmp (pid_of pid) (processes_of processes.old.entries)) (processes_of processes.old.entries)) }
     ensures load { total_load processes.new.entries ≤ total_load processes.old.entries + 1 }
     ensures keys { keys processes.new ≡ keys processes.old }
+    ensures others { SameBut (at_key pid) processes.old.entries processes.new.entries }
     ensures err { OnErr result (processes.new.entries ≡ processes.old.entries) }
 {
     match processes.get_mut(&pid) {

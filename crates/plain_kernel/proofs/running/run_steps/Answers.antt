@@ -30,9 +30,9 @@ steps-preserved-in-Ok-Sent c =
     let moves = rw (c.in-Ok-Sent.is, c.in-Ok-Sent.field-0-is) at c.make_step.ensures in
     record {
       within = omega arith;
-      made = more_made c.steps.done _ _ _ _ _ _ c.args.pid _ c.steps.invariant.made r moves;
-      there = still_there c.args.pid _ _ moves.keys (there_after _ _ c.args.pid r.was r.now r.changes);
-      lighter = omega (arith, less _ _ c.args.pid _ r, moves.lighter, c.steps.invariant.lighter);
+      made = more_made c.steps.done _ _ _ _ _ _ c.args.pid _ c.steps.invariant.made r moves.0;
+      there = still_there c.args.pid _ _ (moves.0).keys (there_after _ _ c.args.pid r.was r.now r.changes);
+      lighter = omega (arith, less _ _ c.args.pid _ r, (moves.0).lighter, c.steps.invariant.lighter);
     }
 
 pub steps-preserved : goal.steps-preserved

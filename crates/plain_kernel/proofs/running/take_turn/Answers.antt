@@ -1,6 +1,7 @@
 use Rattle.std.proofs.Common.{arith}
 use Rattle.plain_kernel.proofs.Entries.{there_after}
-use Rattle.plain_kernel.proofs.Turns.{turn_there, turns, turns_stuck, stays, less}
+use Rattle.plain_kernel.proofs.Ready.{covers_went, covers_sent, covers_stuck}
+use Rattle.plain_kernel.proofs.Turns.{turn_there, turns, turns_stuck, less}
 use Rattle.plain_kernel.proofs.running.take_turn.Goals as goal
 
 pub run_at-requires : goal.run_at-requires
@@ -12,22 +13,33 @@ make_step-requires-clause-there c = let r = c.run_at.ensures.runs in there_after
 pub make_step-requires-clause-room : goal.make_step-requires-clause-room
 make_step-requires-clause-room c = omega (arith, less _ _ c.args.pid _ c.run_at.ensures.runs, c.requires.room)
 
-pub stays_or_next-requires : goal.stays_or_next-requires
-stays_or_next-requires c =
+pub returns-in-Went-clause-turns : goal.returns-in-Went-clause-turns
+returns-in-Went-clause-turns c =
     let moves = rw c.in-Went.is at c.in_ok-make_step.ensures in
-    stays _ _ _ _ _ c.args.pid _ c.requires.turn c.run_at.ensures.runs moves.0 moves.1
+    turns _ _ _ _ _ c.args.pid _ c.requires.turn c.run_at.ensures.runs moves.0
 
-pub returns-in-Went : goal.returns-in-Went
-returns-in-Went c =
+pub returns-in-Went-clause-covers : goal.returns-in-Went-clause-covers
+returns-in-Went-clause-covers c =
     let moves = rw c.in-Went.is at c.in_ok-make_step.ensures in
-    turns _ _ _ _ _ c.args.pid _ _ c.requires.turn c.run_at.ensures.runs moves.0 c.stays_or_next.ensures
+    covers_went c.args.processes.now.entries c.run_at.new.processes.entries c.make_step.new.processes.entries c.args.ready.now.keys c.args.pid _ c.len-count.ensures.ordered c.requires.turn c.run_at.ensures.runs moves.1 c.requires.covers
 
-pub returns-in-Sent : goal.returns-in-Sent
-returns-in-Sent c =
+pub returns-in_ok-insert-in-Sent-clause-turns : goal.returns-in_ok-insert-in-Sent-clause-turns
+returns-in_ok-insert-in-Sent-clause-turns c =
     let moves = rw c.in-Sent.is at c.in_ok-make_step.ensures in
-    turns _ _ _ _ _ c.args.pid _ _ c.requires.turn c.run_at.ensures.runs moves c.lowest.ensures
+    turns _ _ _ _ _ c.args.pid _ c.requires.turn c.run_at.ensures.runs moves.0
 
-pub returns-in-Stuck : goal.returns-in-Stuck
-returns-in-Stuck c =
+pub returns-in_ok-insert-in-Sent-clause-covers : goal.returns-in_ok-insert-in-Sent-clause-covers
+returns-in_ok-insert-in-Sent-clause-covers c =
+    let moves = rw c.in-Sent.is at c.in_ok-make_step.ensures in
+    let put = c.in_ok-insert-in-Sent.ensures.updates in
+    covers_sent c.args.processes.now.entries c.run_at.new.processes.entries c.make_step.new.processes.entries c.args.ready.now.keys c.insert.new.self.keys c.args.pid c.in-Sent.to _ c.len-count.ensures.ordered c.requires.turn c.run_at.ensures.runs moves.1 put.0 put.1 c.requires.covers
+
+pub returns-in-Stuck-clause-turns : goal.returns-in-Stuck-clause-turns
+returns-in-Stuck-clause-turns c =
     let moves = rw c.in-Stuck.is at c.in_ok-make_step.ensures in
-    turns_stuck _ _ _ _ _ c.args.pid _ _ c.requires.turn c.run_at.ensures.runs moves.0 moves.1 moves.2 c.lowest-in-Stuck.ensures
+    turns_stuck _ _ _ _ _ c.args.pid _ c.requires.turn c.run_at.ensures.runs moves.0 moves.1 moves.2
+
+pub returns-in-Stuck-clause-covers : goal.returns-in-Stuck-clause-covers
+returns-in-Stuck-clause-covers c =
+    let moves = rw c.in-Stuck.is at c.in_ok-make_step.ensures in
+    covers_stuck c.args.processes.now.entries c.run_at.new.processes.entries c.make_step.new.processes.entries c.args.ready.now.keys c.args.pid _ c.len-count.ensures.ordered c.requires.turn c.run_at.ensures.runs moves.1 c.requires.covers

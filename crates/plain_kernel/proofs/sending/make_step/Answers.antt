@@ -1,5 +1,5 @@
 use Rattle.std.proofs.Common.{arith, refl}
-use Rattle.plain_kernel.proofs.Delivery.{stepped_silent, stepped_exit, stepped_mail, stepped_alone, less_to_send, there_stepped, undone, stuck_blocked, stuck_over, refused_back}
+use Rattle.plain_kernel.proofs.Delivery.{stepped_silent, stepped_exit, stepped_mail, stepped_alone, stepped_two, less_to_send, there_stepped, undone, stuck_blocked, stuck_over, refused_back}
 use Rattle.plain_kernel.proofs.sending.make_step.Goals as goal
 
 pub send-requires : goal.send-requires
@@ -16,15 +16,16 @@ returns-in-Ok-Silent c = stepped_silent _ _ _ c.args.pid (rw (c.in-Ok-Silent.is,
 pub returns-in-Ok-Emit-Exit : goal.returns-in-Ok-Emit-Exit
 returns-in-Ok-Emit-Exit c = stepped_exit _ _ _ c.args.pid _ (rw (c.in-Ok-Emit-Exit.is, c.in-Ok-Emit-Exit.field-0-is, c.in-Ok-Emit-Exit.field-0-0-is) at c.step_at.ensures)
 
-pub returns-in-Ok-true : goal.returns-in-Ok-true
-returns-in-Ok-true c =
+pub returns-in-Ok-Some : goal.returns-in-Ok-Some
+returns-in-Ok-Some c =
     let s = rw (c.in-Ok-Emit-Mail.is, c.in-Ok-Emit-Mail.field-0-is, c.in-Ok-Emit-Mail.field-0-0-is) at c.step_at.ensures in
-    stepped_mail _ _ _ _ _ c.args.pid _ s c.in-Ok-true.ensures.ok c.in-Ok-true.ensures.load c.in-Ok-true.ensures.keys
+    let two = stepped_two c.args.processes.now.entries c.step_at.new.processes.entries c.send.new.processes.entries c.args.pid c.in-Ok-Some.to _ s (rw c.in-Ok-Some.field-0-is at c.in-Ok-Some.ensures.goes) in
+    (stepped_mail _ _ _ _ _ c.args.pid _ s c.in-Ok-Some.ensures.ok c.in-Ok-Some.ensures.load c.in-Ok-Some.ensures.keys, rw c.in-Ok-Some.field-0-is two)
 
-pub returns-in-Ok-false : goal.returns-in-Ok-false
-returns-in-Ok-false c =
+pub returns-in-Ok-None : goal.returns-in-Ok-None
+returns-in-Ok-None c =
     let s = rw (c.in-Ok-Emit-Mail.is, c.in-Ok-Emit-Mail.field-0-is, c.in-Ok-Emit-Mail.field-0-0-is) at c.step_at.ensures in
-    (stepped_mail _ _ _ _ _ c.args.pid _ s c.in-Ok-false.ensures.ok c.in-Ok-false.ensures.load c.in-Ok-false.ensures.keys, stepped_alone _ _ _ c.args.pid _ s (c.in-Ok-false.ensures.alone c.in-Ok-false.field-0-test))
+    (stepped_mail _ _ _ _ _ c.args.pid _ s c.in-Ok-None.ensures.ok c.in-Ok-None.ensures.load c.in-Ok-None.ensures.keys, stepped_alone _ _ _ c.args.pid _ s (rw c.in-Ok-None.field-0-is at c.in-Ok-None.ensures.goes))
 
 pub returns-in-Err-send : goal.returns-in-Err-send
 returns-in-Err-send c =

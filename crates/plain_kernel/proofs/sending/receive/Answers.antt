@@ -1,5 +1,6 @@
 use Rattle.std.proofs.Common.{sym, ap, ◌∙◌}
 use Rattle.plain_kernel.specs.Maps.{processes_of}
+use Rattle.plain_kernel.proofs.Entries.{others_stay}
 use Rattle.plain_kernel.proofs.Delivery.{received, received_load, not_received, nobody}
 use Rattle.plain_kernel.proofs.sending.receive.Goals as goal
 
@@ -8,6 +9,9 @@ returns-in-Some-clause-ok c = received c.take_in.result c.args.letter _ _ c.args
 
 pub returns-in-Some-clause-load : goal.returns-in-Some-clause-load
 returns-in-Some-clause-load c = received_load c.take_in.result c.args.letter _ _ c.args.pid _ _ (record { found = sym c.in-Some.ensures.value; entries = (c.get_mut.follows.holds c.take_in.new.process).0; ordered = c.get_mut.ensures.ordered }) c.take_in.ensures
+
+pub returns-in-Some-clause-others : goal.returns-in-Some-clause-others
+returns-in-Some-clause-others c = others_stay _ _ c.args.pid _ _ (record { found = sym c.in-Some.ensures.value; entries = (c.get_mut.follows.holds c.take_in.new.process).0; ordered = c.get_mut.ensures.ordered })
 
 pub returns-in-Some-clause-err : goal.returns-in-Some-clause-err
 returns-in-Some-clause-err c = not_received c.take_in.result c.args.letter _ _ c.args.pid _ _ (record { found = sym c.in-Some.ensures.value; entries = (c.get_mut.follows.holds c.take_in.new.process).0; ordered = c.get_mut.ensures.ordered }) c.take_in.ensures
