@@ -1,4 +1,5 @@
 //! The program by its words, as the tests call it.
+use cluster_run::life::Ran;
 use std::alloc::Global;
 use std::process::Abort;
 use std::sync::Wait;
@@ -13,8 +14,8 @@ use targon_cli::top::targon;
 // More than any of the tests writes.
 const ROOM: u32 = 20000;
 
-/// The words of a call.
-pub fn words(alloc: Global, list: &[&str]) -> Result<Vec<Text>, NoMemory> {
+// The words of a call.
+fn words(alloc: Global, list: &[&str]) -> Result<Vec<Text>, NoMemory> {
     let mut words = Vec::new(alloc);
     for word in list {
         words.push(Bytes::copy_of(alloc, word.as_bytes())?)?;
@@ -32,6 +33,20 @@ pub fn sink(alloc: Global) -> Result<MemSink, NoMemory> {
     MemSink::new(alloc, ROOM, List::new(alloc), 7)
 }
 
+/// Calls the program with these words over a source and a sink: the status, and the run that it handed out.
+pub fn call<R: Abort + AllocGlobal + Threads + Wait + Sync>(
+    rt: &R,
+    list: &[&str],
+    input: &mut MemSource,
+    output: &mut MemSink,
+) -> Result<(u8, Option<Ran>), Fail> {
+    let alloc = rt.alloc();
+    let list = words(alloc, list)?;
+    let mut ran = None;
+    let status = targon(rt, alloc, &list, input, output, &OpenGate, &mut ran);
+    Ok((status, ran))
+}
+
 /// What the program answers to these words and this input: the status, where it wrote just this.
 pub fn answers<R: Abort + AllocGlobal + Threads + Wait + Sync>(
     rt: &R,
@@ -42,17 +57,7 @@ pub fn answers<R: Abort + AllocGlobal + Threads + Wait + Sync>(
     let alloc = rt.alloc();
     let mut input = source(alloc, text)?;
     let mut output = sink(alloc)?;
-    let list = words(alloc, list)?;
-    let mut ran = None;
-    let status = targon(
-        rt,
-        alloc,
-        &list,
-        &mut input,
-        &mut output,
-        &OpenGate,
-        &mut ran,
-    );
+    let (status, _ran) = call(rt, list, &mut input, &mut output)?;
     assert_eq!(rt; output.bytes.as_slice(), written.as_bytes());
     Ok(status)
 }

@@ -1,23 +1,13 @@
-//! Tests of the whole: systems that run, the statuses of the program, and one happy path of each public
-//! call of the kernel. The expected values come from the worked examples of the formats.
+//! Tests of the program by its words, its input and its output: what each command prints, and the status with which
+//! it ends. The expected values come from the worked examples of the formats, or follow from the programs by hand.
 #![tactic(auto)]
 
 #[cfg(test)]
 mod calls;
 #[cfg(test)]
-mod kernel;
-#[cfg(test)]
 mod program;
 #[cfg(test)]
-mod reads;
-#[cfg(test)]
-mod refusals;
-#[cfg(test)]
-mod reports;
-#[cfg(test)]
 mod simulated;
-#[cfg(test)]
-mod steps;
 #[cfg(test)]
 mod systems;
 #[cfg(test)]

@@ -1,15 +1,13 @@
 //! The program by its words, its input and its output.
-use crate::calls::{answers, sink, source, words};
+use crate::calls::{answers, call, sink, source};
 use crate::systems::{
     BAD, CHANNEL, CHANNEL_SCHEDULE, COMMENTED, CUT, HI, HI_PROGRAM, HI_WORDS, LINKED, MISSING,
     NO_STEPS, PAIR, SAME, SPIN, TOO_MANY_STEPS, WAIT, WHOLE,
 };
 use std::test::Fail;
-use t32_base::gate::OpenGate;
 use t32_base::lists::{Bytes, List};
 use t32_base::memory::{MemSink, MemSource};
 use t32_base::streams::{Sink, Source};
-use targon_cli::top::targon;
 
 // One byte more than is read.
 const LARGE: usize = 4194305;
@@ -104,17 +102,7 @@ fn a_long_input_is_refused(rt: HostRuntime) -> Result<(), Fail> {
         let text = vec![in alloc; 32u8; LARGE]?;
         let mut input = MemSource::new(Bytes::from_vec(text), List::new(alloc), 1000000);
         let mut output = sink(alloc)?;
-        let list = words(alloc, &[word])?;
-        let mut ran = None;
-        let status = targon(
-            &rt,
-            alloc,
-            &list,
-            &mut input,
-            &mut output,
-            &OpenGate,
-            &mut ran,
-        );
+        let (status, ran) = call(&rt, &[word], &mut input, &mut output)?;
         assert!(rt; ran.is_none());
         assert_eq!(rt;
             output.bytes.as_slice(),
@@ -138,17 +126,7 @@ fn other_words_are_usage(rt: HostRuntime) -> Result<(), Fail> {
     for list in lists {
         let mut input = source(alloc, HI.as_bytes())?;
         let mut output = sink(alloc)?;
-        let list = words(alloc, list)?;
-        let mut ran = None;
-        let status = targon(
-            &rt,
-            alloc,
-            &list,
-            &mut input,
-            &mut output,
-            &OpenGate,
-            &mut ran,
-        );
+        let (status, ran) = call(&rt, list, &mut input, &mut output)?;
         assert!(rt; ran.is_none());
         assert_eq!(rt; output.bytes.as_slice(), b"t32: usage\n".as_slice());
         assert_eq!(rt; status, 1);
@@ -160,42 +138,22 @@ fn other_words_are_usage(rt: HostRuntime) -> Result<(), Fail> {
 #[test]
 fn a_fault_of_the_outside_is_told(rt: HostRuntime) -> Result<(), Fail> {
     let alloc = rt.alloc();
-    let list = words(alloc, &["plain"])?;
-
     // A sink that takes five bytes and then fails keeps what it took.
     let mut input = source(alloc, HI.as_bytes())?;
     let failing = List::from_vec(vec![in alloc; 1u64]?);
     let mut output = MemSink::new(alloc, 1000, failing, 5)?;
-    let mut ran = None;
-    let status = targon(
-        &rt,
-        alloc,
-        &list,
-        &mut input,
-        &mut output,
-        &OpenGate,
-        &mut ran,
-    );
+    let (status, ran) = call(&rt, &["plain"], &mut input, &mut output)?;
     assert!(rt; ran.is_none());
     assert_eq!(rt; output.bytes.as_slice(), b"tty 0".as_slice());
     assert_eq!(rt; status, 5);
     assert_eq!(rt; output.faults(), 1);
 
     // A source that fails at its first call, or in mid-stream.
-    for call in [0u64, 1] {
-        let failing = List::from_vec(vec![in alloc; call]?);
+    for failing_call in [0u64, 1] {
+        let failing = List::from_vec(vec![in alloc; failing_call]?);
         let mut input = MemSource::new(Bytes::copy_of(alloc, HI.as_bytes())?, failing, 100);
         let mut output = sink(alloc)?;
-        let mut ran = None;
-        let status = targon(
-            &rt,
-            alloc,
-            &list,
-            &mut input,
-            &mut output,
-            &OpenGate,
-            &mut ran,
-        );
+        let (status, ran) = call(&rt, &["plain"], &mut input, &mut output)?;
         assert!(rt; ran.is_none());
         assert_eq!(rt; output.bytes.as_slice(), b"t32: read fault\n".as_slice());
         assert_eq!(rt; status, 4);

@@ -2,18 +2,16 @@
 //! handed out.
 ghost use Rattle.std.specs.Prelude.{◌<◌};
 
-use crate::calls::{answers, sink, source, words};
+use crate::calls::{answers, call, sink, source};
 use crate::systems::{BAD, CUT, HI, SPIN};
 use plain_kernel::item::Item;
 use report_text::run::Ended;
 use std::alloc::{AllocError, Global};
 use std::test::Fail;
-use t32_base::gate::OpenGate;
 use t32_base::lists::List;
 use t32_base::memory::MemSink;
 use t32_base::process::Pid;
 use t32_base::streams::Sink;
-use targon_cli::top::targon;
 
 const HI_REPORT: &str =
     "tty 0 3\nhi\n\npid 16 exit 0\ncrash none\nbus 3 syncs 0 withheld 0\nschedule 2\nrun 16 6\nrun 16 4\n";
@@ -182,19 +180,9 @@ fn a_system_is_refused(rt: HostRuntime) -> Result<(), Fail> {
 #[test]
 fn the_run_is_handed_out(rt: HostRuntime) -> Result<(), Fail> {
     let alloc = rt.alloc();
-    let list = words(alloc, &["sim"])?;
     let mut input = source(alloc, HI.as_bytes())?;
     let mut output = sink(alloc)?;
-    let mut ran = None;
-    let status = targon(
-        &rt,
-        alloc,
-        &list,
-        &mut input,
-        &mut output,
-        &OpenGate,
-        &mut ran,
-    );
+    let (status, ran) = call(&rt, &["sim"], &mut input, &mut output)?;
     assert_eq!(rt; status, 0);
     match ran {
         Some(ran) => {
@@ -211,16 +199,7 @@ fn the_run_is_handed_out(rt: HostRuntime) -> Result<(), Fail> {
     let mut input = source(alloc, HI.as_bytes())?;
     let failing = List::from_vec(vec![in alloc; 1u64]?);
     let mut output = MemSink::new(alloc, 1000, failing, 5)?;
-    let mut ran = None;
-    let status = targon(
-        &rt,
-        alloc,
-        &list,
-        &mut input,
-        &mut output,
-        &OpenGate,
-        &mut ran,
-    );
+    let (status, ran) = call(&rt, &["sim"], &mut input, &mut output)?;
     assert_eq!(rt; output.bytes.as_slice(), b"tty 0".as_slice());
     assert_eq!(rt; status, 5);
     assert_eq!(rt; output.faults(), 1);
@@ -238,19 +217,9 @@ fn without_a_run_none_is_handed_out(rt: HostRuntime) -> Result<(), Fail> {
         (&["sim", "--"], HI, 1),
     ];
     for (list, text, answer) in calls {
-        let list = words(alloc, list)?;
         let mut input = source(alloc, text.as_bytes())?;
         let mut output = sink(alloc)?;
-        let mut ran = None;
-        let status = targon(
-            &rt,
-            alloc,
-            &list,
-            &mut input,
-            &mut output,
-            &OpenGate,
-            &mut ran,
-        );
+        let (status, ran) = call(&rt, list, &mut input, &mut output)?;
         assert_eq!(rt; status, answer);
         assert!(rt; ran.is_none());
     }
