@@ -8,6 +8,7 @@ use Rattle.t32_base.specs.declared.process.ClusterNo.{ClusterNo}
 use Rattle.sys_text.specs.declared.system.System.{System}
 use Rattle.bus_msg.specs.declared.entry.Entry.{Entry}
 use Rattle.bus_msg.specs.Places.{cluster_no}
+use Rattle.cert_sched.proofs.RisingLaws.{either_not}
 use Rattle.bus_order.specs.declared.marks.Mark.{Mark}
 use Rattle.bus_order.specs.View.{mark_in, no_marks, MarkHolds}
 
@@ -86,10 +87,6 @@ replicate-more n = last n ∙ ap (λ m. replicate {A = Option Mark} m None) (let
 pub any_cluster : (t : ClusterNo → Bool) (ns : List ℕ) → list_any t (map cluster_no ns) ≡ list_any (λ n. t (cluster_no n)) ns
 any_cluster t [] = refl
 any_cluster t (n ∷ ns) = ap (λ b. t (cluster_no n) || b) (any_cluster t ns)
-
-either_not : (a b : Bool) → (a || b) ≡ false → (a ≡ false) × (b ≡ false)
-either_not true b h = absurd (true≢false h)
-either_not false b h = (refl, h)
 
 pub none_in_range : (t : ℕ → Bool) (a len : ℕ) → list_any t (range_with_len a len) ≡ false → (k : ℕ) → a ≤ k → k < a + len → t k ≡ false
 none_in_range t a zero none k low high = absurd (omega arith)

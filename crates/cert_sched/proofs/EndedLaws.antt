@@ -14,7 +14,8 @@ use Rattle.sys_calls.proofs.Counting.{last_sent, exit_ends, letter_goes_on}
 use Rattle.plain_kernel.specs.Kernel.{Kernel, boot, boot_roots, empty, process_at, with_process, with_root, root_process}
 use Rattle.plain_kernel.proofs.Entries.{some_same}
 use Rattle.plain_kernel.proofs.Laws.{process_at-same}
-use Rattle.plain_kernel.proofs.Others.{chans-keep, process_at-other}
+use Rattle.plain_kernel.proofs.AtBoot.{boot-each, chans-keep}
+use Rattle.plain_kernel.proofs.Others.{process_at-other}
 use Rattle.bus_msg.specs.declared.entry.What.{What}
 use Rattle.bus_msg.specs.declared.entry.What.TheVariants.{Mail, Birth, Exit, Page, Sync, Fetch, PageIs, Crash, Return, Rebackup, Done, Stop}
 use Rattle.bus_msg.specs.declared.entry.By.{By}
@@ -173,30 +174,9 @@ built_ended system log legal = plain_ended BuiltMayFollow built_is_plain system 
 abbrev pub RunsOn : System → List Entry → Type 0
 RunsOn system log = (q : Pid) (s : ProcState) → process_after system log q ≡ Some s → is_some (unended_at (placement system log) q) ≡ true → has_ended (s.small).status ≡ false
 
-abbrev none_ended : Kernel → Type 0
-none_ended k = (q : Pid) (s : ProcState) → process_at k q ≡ Some s → has_ended (s.small).status ≡ false
-
-put_open : (k : Kernel) (p : Pid) (t : ProcState) → has_ended (t.small).status ≡ false → none_ended k → none_ended (with_process k p t)
-put_open k p t open_still none q s there = by_pid (same_pid q p) refl
-  where
-    by_pid : (b : Bool) → same_pid q p ≡ b → has_ended (s.small).status ≡ false
-    by_pid true is =
-        let same : t ≡ s = some_same t s (sym (process_at-same k p t) ∙ sym (ap (process_at (with_process k p t)) (same_of q p (eqb-true q.0 p.0 is))) ∙ there) in
-        ap (λ (s : ProcState). has_ended (s.small).status) (sym same) ∙ open_still
-    by_pid false is = none q s (sym (process_at-other k p t q (λ same. true≢false (sym (eq-eqb q.0 p.0 same) ∙ is))) ∙ there)
-
-roots_open : (system : System) (k : Kernel) (roots : List (Pid × Root)) → none_ended k → none_ended (fold (with_root system) k roots)
-roots_open system k [] none = none
-roots_open system k (r ∷ roots) none = roots_open system (with_root system k r) roots (put_open k r.0 (root_process system r.0 r.1) refl none)
-
 open_at_boot : (system : System) → RunsOn system []
-unfolding plain_after boot
-open_at_boot system q s there placed =
-    chans-keep none_ended (λ k p s peer far there none. put_open k p (linked_to s peer far) (none p s there) none) system (boot_roots system) system.chans
-    (roots_open system empty (roots_of system) none_there) q s there
-  where
-    none_there : none_ended empty
-    none_there q s h = cc
+unfolding plain_after
+open_at_boot system q s there placed = boot-each (λ p s. has_ended (s.small).status ≡ false) system (λ p r. refl) (λ p s peer far runs. runs) q s there
 
 -- what sends a letter has not ended
 pub letter_told : (system : System) (log : List Entry) (p : Pid) (at : ℕ) (letter : Letter) (t : ProcState) → emission_at system log p at ≡ Some (Sent letter, t) → has_ended (t.small).status ≡ false

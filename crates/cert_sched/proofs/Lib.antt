@@ -20,6 +20,7 @@ pub mod DoneLaws
 pub mod HomesLaws
 pub mod CertLaws
 pub mod RootPids
+pub mod BootPids
 mod Rows
 pub mod Systems
 mod WorkedLogs

@@ -24,7 +24,8 @@ use Rattle.plain_kernel.specs.Kernel.{Kernel, pid_cmp, process_at, with_process,
 use Rattle.plain_kernel.specs.Apply.{apply_all}
 use Rattle.plain_kernel.proofs.Entries.{some_same}
 use Rattle.plain_kernel.proofs.Laws.{process_at-with_process, process_at-same, last_silent, no_silent}
-use Rattle.plain_kernel.proofs.Others.{process_at-other, chans-keep}
+use Rattle.plain_kernel.proofs.AtBoot.{boot-each}
+use Rattle.plain_kernel.proofs.Others.{process_at-other}
 use Rattle.bus_msg.specs.declared.entry.What.{What}
 use Rattle.bus_msg.specs.declared.entry.What.TheVariants.{Mail, Birth, Exit, Page, Sync, Fetch, PageIs, Crash, Return, Rebackup, Done, Stop}
 use Rattle.bus_msg.specs.declared.entry.Entry.{Entry}
@@ -356,26 +357,9 @@ entry_within system log e n kind plain within at_end = by_what (what e) refl kin
 
 -- ---- the start
 
-abbrev none_arrived : Kernel → Type 0
-none_arrived k = (q : Pid) (s : ProcState) → process_at k q ≡ Some s → s.next ≡ 0
-
-put_fresh : (k : Kernel) (p : Pid) (s : ProcState) → s.next ≡ 0 → none_arrived k → none_arrived (with_process k p s)
-put_fresh k p s fresh none q t there = by_test (eq_by_cmp pid_cmp q p) (sym (process_at-with_process k p s q) ∙ there)
-  where
-    by_test : (b : Bool) → cond b (Some s) (process_at k q) ≡ Some t → t.next ≡ 0
-    by_test true e = ap (λ (x : ProcState). x.next) (sym (some_same s t e)) ∙ fresh
-    by_test false e = none q t e
-
-fresh_from : (system : System) (k : Kernel) (roots : List (Pid × Root)) → none_arrived k → none_arrived (fold (with_root system) k roots)
-fresh_from system k [] none = none
-fresh_from system k (r ∷ roots) none = fresh_from system (with_root system k r) roots (put_fresh k r.0 (root_process system r.0 r.1) refl none)
-
 -- no letter has arrived anywhere before the first entry
 pub boot_arrived : (system : System) (q : Pid) (s : ProcState) → process_at (boot system) q ≡ Some s → s.next ≡ 0
-unfolding boot
-boot_arrived system =
-    chans-keep none_arrived (λ k p s peer far there none. put_fresh k p (linked_to s peer far) (none p s there) none) system (boot_roots system) system.chans
-    (fresh_from system empty (roots_of system) (λ q s there. cc))
+boot_arrived system q s there = boot-each (λ p s. s.next ≡ 0) system (λ p r. refl) (λ p s peer far none. none) q s there
 
 pub none_within : (system : System) → ArrivedWithin system [] 0
 unfolding plain_after

@@ -17,7 +17,7 @@ use Rattle.cert_sched.specs.Schedule.{done, run_upto, runs_of, plain_after}
 use Rattle.cert_sched.specs.Steps.{silent_upto}
 use Rattle.cert_sched.proofs.LogLaws.{apply_all-append}
 use Rattle.cert_sched.proofs.StepLaws.{apply_run}
-use Rattle.cert_sched.proofs.RisingLaws.{NoTwo}
+use Rattle.cert_sched.proofs.RisingLaws.{NoTwo, either_not}
 
 -- ---- one run
 
@@ -104,10 +104,6 @@ as_before k i j p [] others none are = tt
 as_before k i j p (r ∷ rs) others none are =
     let parts = either_not (eqb (r.0).0 p.0) (list_any (λ m. eqb m p.0) (rest_pids rs)) none in
     (others r.0 (λ e. true≢false (sym (eq-eqb (r.0).0 p.0 e) ∙ parts.0)) ∙ are.0, as_before k i j p rs others parts.1 are.1)
-  where
-    either_not : (a b : Bool) → (a || b) ≡ false → (a ≡ false) × (b ≡ false)
-    either_not true b h = absurd (true≢false h)
-    either_not false b h = (refl, h)
 
 pub record RunsTo (k i : Kernel) (rs : List (Pid × ℕ)) : Type 0 where
   pub to : Kernel

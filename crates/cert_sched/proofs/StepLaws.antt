@@ -17,7 +17,9 @@ use Rattle.plain_kernel.specs.Kernel.{Kernel, boot, process_at, with_process, em
 use Rattle.plain_kernel.specs.Apply.{one_step, steps, apply_all}
 use Rattle.plain_kernel.proofs.Entries.{some_same}
 use Rattle.plain_kernel.proofs.Laws.{process_at-same}
-use Rattle.plain_kernel.proofs.Others.{small_at, steps-here, steps-other, steps-small, steps-sent, is_outward, process_at-outward, process_at-other, HasPids, pids_in, boot-pids, boot-steps, one_step-pids, apply_all-keeps, HasOwnPids, one_step-own, boot-own, silently-made, silently-here, silently-other}
+use Rattle.plain_kernel.proofs.AtBoot.{boot-own, boot-pids, boot-steps}
+use Rattle.plain_kernel.proofs.Others.{small_at, steps-here, steps-other, steps-small, steps-sent, is_outward, process_at-outward, process_at-other, apply_all-keeps, silently-made, silently-here, silently-other}
+use Rattle.plain_kernel.proofs.Pids.{HasOwnPids, HasPids, one_step-own, one_step-pids, pids_in}
 use Rattle.bus_msg.specs.declared.entry.What.{What}
 use Rattle.bus_msg.specs.declared.entry.What.TheVariants.{Mail, Birth, Exit, Page, Sync, Fetch, PageIs, Crash, Return, Rebackup, Done, Stop}
 use Rattle.bus_msg.specs.declared.entry.Entry.{Entry}

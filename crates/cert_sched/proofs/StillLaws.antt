@@ -13,7 +13,7 @@ use Rattle.sys_calls.specs.Next.{next_step, has_step}
 use Rattle.plain_kernel.specs.Kernel.{Kernel, pid_cmp, process_at}
 use Rattle.plain_kernel.specs.Still.{can_act, is_still}
 use Rattle.plain_kernel.proofs.Laws.{pid_cmp_total}
-use Rattle.plain_kernel.proofs.Others.{IsRising}
+use Rattle.plain_kernel.proofs.Pids.{IsRising}
 
 left : (a b : Bool) → T (a && b) → T a
 left true b x = tt

@@ -28,7 +28,7 @@ use Rattle.bus_msg.specs.Places.{same_pid}
 use Rattle.plain_kernel.specs.Maps.{at_key, pid_of}
 use Rattle.plain_kernel.proofs.Entries.{some_same}
 use Rattle.cert_sched.specs.Parts.{first_of}
-use Rattle.cert_sched.proofs.RisingLaws.{NoTwo}
+use Rattle.cert_sched.proofs.RisingLaws.{NoTwo, either_not}
 use Rattle.cluster_core.specs.Residents.{is_stuck, are_rising, are_stuck, pids_in, steps_in, load_in, next_ready}
 use Rattle.cluster_core.specs.Slots.{in_slot, stands_in, IsSlot, IsKept}
 use Rattle.t32_base.specs.declared.process.ClusterNo.{ClusterNo}
@@ -36,7 +36,7 @@ use Rattle.t32_base.specs.declared.streams.NoMemory.{NoMemory}
 use Rattle.cluster_core.specs.declared.turn.Turn.{Turn}
 use Rattle.cluster_core.specs.declared.turn.Turn.TheVariants.{Moved, Posted, Rests}
 use Rattle.cluster_core.specs.Turn.{is_stuck_at, ProcessTurn, TakesTurn, GivenTurnIs, LighterProcess, LighterTurn}
-use Rattle.cluster_core.proofs.Slots.{IsOne, all_more, all_put_last, all_removed, all_with, at_key_is, both_true, either_not, entry_goes, later_is_other, load_written, no_entry, nobody_changed, none_not_some, not_true, one_key, pids, process_there, slot_keys, taken_out, turned, written}
+use Rattle.cluster_core.proofs.Slots.{IsOne, all_more, all_put_last, all_removed, all_with, at_key_is, both_true, entry_goes, later_is_other, load_written, no_entry, nobody_changed, none_not_some, not_true, one_key, pids, process_there, slot_keys, taken_out, turned, written}
 
 -- ---- what is kept
 

@@ -5,6 +5,7 @@ pub mod Slots
 pub mod Kept
 pub mod Choosing
 pub mod Homes
+pub mod Passing
 pub mod Booted
 pub mod Following
 pub mod Owning

@@ -16,7 +16,7 @@ use Rattle.sys_calls.specs.Small.{weight}
 use Rattle.bus_msg.specs.Places.{same_pid}
 use Rattle.plain_kernel.specs.Maps.{at_key, pid_of}
 use Rattle.plain_kernel.proofs.Entries.{some_same}
-use Rattle.cert_sched.proofs.RisingLaws.{NoTwo}
+use Rattle.cert_sched.proofs.RisingLaws.{NoTwo, either_not}
 use Rattle.cluster_core.specs.Residents.{process_in, is_stuck, load_in}
 use Rattle.cluster_core.specs.Slots.{in_slot, stands_in}
 use Rattle.cluster_core.specs.Turn.{is_stuck_at}
@@ -37,10 +37,6 @@ turned m n apart = grind (arith, nat_tests)
 
 pub later_is_other : (x m n : ℕ) → nat_cmp x m ≡ Less → x ≡ n → eqb m n ≡ false
 later_is_other x m n later same = grind (arith, nat_tests)
-
-pub either_not : (a b : Bool) → (a || b) ≡ false → (a ≡ false) × (b ≡ false)
-either_not true b h = absurd (true≢false h)
-either_not false b h = (refl, h)
 
 pub both_true : (a b : Bool) → (a && b) ≡ true → (a ≡ true) × (b ≡ true)
 both_true true b h = (refl, h)
