@@ -13,7 +13,6 @@ use Rattle.sys_calls.specs.declared.steps.Emission.TheVariants.{Mail as Sent, Ex
 use Rattle.sys_calls.proofs.Counting.{last_sent, exit_ends, letter_goes_on}
 use Rattle.plain_kernel.specs.Kernel.{Kernel, boot, boot_roots, empty, process_at, with_process, with_root, root_process}
 use Rattle.plain_kernel.proofs.Entries.{some_same}
-use Rattle.plain_kernel.proofs.Laws.{process_at-same}
 use Rattle.plain_kernel.proofs.AtBoot.{boot-each, chans-keep}
 use Rattle.plain_kernel.proofs.Others.{process_at-other}
 use Rattle.bus_msg.specs.declared.entry.What.{What}

@@ -1,7 +1,6 @@
 -- Laws of letters between processes: what an entry that tells of an emission makes of the process that sent it and of every other, also where they run ahead of the log.
 use Rattle.std.proofs.Common.{◌≡◌, ℕ, zero, suc, ◌+◌, ◌-◌, ◌≤◌, add-one, refl, sym, ◌∙◌, ap, subst, arith, List, [], ◌∷◌, ◌++◌, Bool, true, false, cond, not, eqb, eqb-true, eq-eqb, Option, Some, None, length, length-append, map, is_some, true≢false}
-use Rattle.std.specs.Prelude.{◌≢◌, max, if◌then◌else◌, fold, option_and_then, option_map}
-use Rattle.std.specs.Ordering.{eq_by_cmp}
+use Rattle.std.specs.Prelude.{◌≢◌, max, if◌then◌else◌, option_and_then, option_map}
 use Rattle.std.specs.FinMap.{find, put}
 use Rattle.std.proofs.lemmas.Bool.{and_parts}
 use Rattle.t32_base.specs.declared.process.Pid.{Pid}
@@ -9,10 +8,8 @@ use Rattle.t32_base.specs.declared.letter.Letter.{Letter}
 use Rattle.t32_base.specs.declared.letter.To.{To}
 use Rattle.t32_base.specs.declared.letter.To.TheVariants.{Proc, Tty}
 use Rattle.sys_text.specs.declared.system.System.{System}
-use Rattle.sys_text.specs.declared.system.Root.{Root}
-use Rattle.sys_text.specs.Boot.{roots_of}
 use Rattle.sys_text.specs.Valid.{is_system}
-use Rattle.proc_state.specs.State.{ProcState, delivered, has_ended, linked_to}
+use Rattle.proc_state.specs.State.{ProcState, delivered, has_ended}
 use Rattle.sys_calls.specs.declared.steps.Emission.{Emission}
 use Rattle.sys_calls.specs.declared.steps.Emission.TheVariants.{Mail as Sent, Exit as Ended}
 use Rattle.sys_calls.specs.Calls.{Next, Silent, Emits, Over}
@@ -20,10 +17,10 @@ use Rattle.sys_calls.specs.Next.{next_step, silently, last_emission}
 use Rattle.sys_calls.proofs.Counting.{last_sent, last_counts, silently_counts, silent_goes_on, ended_is_over}
 use Rattle.sys_calls.proofs.Quiet.{sends_none, sends_no_signal}
 use Rattle.sys_calls.proofs.RunLemma.{silently-delivered, last_emission-delivered}
-use Rattle.plain_kernel.specs.Kernel.{Kernel, pid_cmp, process_at, with_process, with_root, root_process, empty, boot_roots, boot, letter_put, letter_to, emitted}
+use Rattle.plain_kernel.specs.Kernel.{Kernel, pid_cmp, process_at, with_process, boot, letter_put, letter_to, emitted}
 use Rattle.plain_kernel.specs.Apply.{apply_all}
 use Rattle.plain_kernel.proofs.Entries.{some_same}
-use Rattle.plain_kernel.proofs.Laws.{process_at-with_process, process_at-same, last_silent, no_silent}
+use Rattle.plain_kernel.proofs.Laws.{process_at-same, last_silent, no_silent}
 use Rattle.plain_kernel.proofs.AtBoot.{boot-each}
 use Rattle.plain_kernel.proofs.Others.{process_at-other}
 use Rattle.bus_msg.specs.declared.entry.What.{What}

@@ -1,15 +1,9 @@
 -- What a cluster has at boot is what it holds of the empty log.
-use Rattle.std.proofs.Common.{◌≡◌, ℕ, ◌+◌, ◌*◌, ◌<◌, Bool, true, false, ◌&&◌, ◌||◌, cond, eqb, List, [], ◌∷◌, ◌++◌, length, map, refl, sym, ap, subst, ◌∙◌, arith, Option, Some, None, T, is_some, eqb-true, eq-eqb, true≢false}
-use Rattle.std.specs.Prelude.{◌%◌, filter, find, fold, option_map}
+use Rattle.std.proofs.Common.{◌≡◌, ℕ, ◌+◌, ◌*◌, ◌<◌, Bool, true, false, ◌&&◌, cond, eqb, List, [], ◌∷◌, ◌++◌, length, map, refl, sym, ap, subst, ◌∙◌, arith, Option, Some, None, eqb-true, eq-eqb, true≢false}
+use Rattle.std.specs.Prelude.{◌%◌, filter, find, option_map}
 use Rattle.std.specs.List.{count_by, list_any}
 use Rattle.std.specs.Map.{lookup}
-use Rattle.std.specs.Ordering.{is_eq, is_lt, nat_cmp, eq_by_cmp}
-use Rattle.std.specs.declared.cmp.Ordering.{Ordering}
-use Rattle.std.specs.declared.cmp.Ordering.TheVariants.{Less, Equal, Greater}
-use Rattle.std.specs.FinMap.{put, is_sorted}
 use Rattle.std.specs.FinMap as finmap
-use Rattle.std.specs.FinMap.Entries.{by_order, below_all, is_sorted-put}
-use Rattle.std.proofs.lemmas.Bool.Decides.{nat_tests}
 use Rattle.t32_base.specs.declared.process.Pid.{Pid}
 use Rattle.t32_base.specs.declared.process.ClusterNo.{ClusterNo}
 use Rattle.sys_text.specs.declared.system.System.{System}
@@ -19,27 +13,24 @@ use Rattle.sys_text.specs.Boot.{roots_of, with_pids}
 use Rattle.sys_text.proofs.Bounds.{root_tests, system_bounds, tests}
 use Rattle.proc_state.specs.declared.process.Process.{Process}
 use Rattle.proc_state.specs.Mail.{is_signal}
-use Rattle.proc_state.specs.State.{ProcState, linked_to, state_of}
-use Rattle.plain_kernel.specs.Kernel.{Kernel, boot, boot_roots, empty, pid_cmp, process_at, root_process, with_process, with_root}
+use Rattle.proc_state.specs.State.{ProcState, state_of}
+use Rattle.plain_kernel.specs.Kernel.{Kernel, boot, pid_cmp, process_at}
 use Rattle.plain_kernel.specs.Maps.{at_key, booted_ttys, linked_processes}
-use Rattle.plain_kernel.specs.Maps.{processes_of as states_of}
 use Rattle.plain_kernel.proofs.Entries.{lookup_state, some_same}
-use Rattle.plain_kernel.proofs.Laws.{pid_cmp_total, process_at-with_process}
 use Rattle.plain_kernel.proofs.AtBoot.{boot-each}
 use Rattle.plain_kernel.proofs.Roots.{booted}
 use Rattle.bus_msg.specs.declared.placed.Placed.{Placed}
 use Rattle.bus_msg.specs.Places.{same_pid, is_at_home}
-use Rattle.cert_sched.specs.Parts.{put_rising, rising}
+use Rattle.cert_sched.specs.Parts.{rising}
 use Rattle.cert_sched.specs.Rests.{home_pids}
 use Rattle.cert_sched.specs.Schedule.{next_pid, placed_root, places_at_boot, placement, plain_after}
 use Rattle.cert_sched.specs.Steps.{silent_upto}
 use Rattle.cert_sched.proofs.BootPids.{boot_apart, boot_numbers, root_pids, state_pids}
 use Rattle.cert_sched.proofs.MailLaws.{boot_arrived}
-use Rattle.cert_sched.proofs.PidLaws.{apart_of, placed_pids}
-use Rattle.cert_sched.proofs.RisingLaws.{NoTwo, put_all, put_all-none, put_all-put, put_rising-swap, rising-any, rising-same}
-use Rattle.cert_sched.proofs.RootPids.{HomesFit, homes_fit, root_pids_differ}
+use Rattle.cert_sched.proofs.RisingLaws.{NoTwo, rising-same}
+use Rattle.cert_sched.proofs.RootPids.{HomesFit, homes_fit}
 use Rattle.cert_sched.proofs.StepLaws.{process_after-own}
-use Rattle.cluster_core.specs.Booting.{AreBooted, belongs_to, with_pid}
+use Rattle.cluster_core.specs.Booting.{AreBooted, belongs_to}
 use Rattle.cluster_core.specs.Follows.{FollowsBuilt}
 use Rattle.cluster_core.specs.Holds.{IsHeldAs}
 use Rattle.cluster_core.specs.Parts.{AllOwn, IsOwn, held_in}

@@ -1,5 +1,5 @@
 -- The processes of a map whose pids pass a test.
-use Rattle.std.proofs.Common.{◌≡◌, ℕ, Bool, true, false, ◌||◌, cond, eqb, List, [], ◌∷◌, map, refl, sym, ap, ◌∙◌, Option, Some, None, eqb-true}
+use Rattle.std.proofs.Common.{◌≡◌, ℕ, Bool, true, false, ◌||◌, cond, eqb, List, [], ◌∷◌, map, refl, sym, ap, ◌∙◌, Some, None, eqb-true}
 use Rattle.std.specs.Prelude.{filter, find, option_map}
 use Rattle.std.specs.List.{list_any}
 use Rattle.std.specs.Map.{lookup}

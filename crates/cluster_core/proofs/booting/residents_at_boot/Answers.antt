@@ -8,7 +8,7 @@ use Rattle.std.proofs.lemmas.Bool.Decides.{nat_tests}
 use Rattle.t32_base.specs.declared.process.Pid.{Pid}
 use Rattle.proc_state.specs.declared.process.Process.{Process}
 use Rattle.cluster_core.specs.Booting.{belongs_to, with_pid}
-use Rattle.cluster_core.proofs.Booted.{passing}
+use Rattle.cluster_core.proofs.Passing.{passing}
 use Rattle.cluster_core.proofs.booting.residents_at_boot.Goals as goal
 
 less_is : (n m : ℕ) → nat_cmp n m ≡ Less → ltb n m ≡ true

@@ -4,7 +4,7 @@ use Rattle.std.specs.Ordering.{nat_cmp}
 use Rattle.plain_kernel.specs.Maps.{linked_processes}
 use Rattle.plain_kernel.specs.Maps.{processes_of as states_of}
 use Rattle.cluster_core.specs.Booting.{belongs_to}
-use Rattle.cluster_core.proofs.Booted.{passing}
+use Rattle.cluster_core.proofs.Passing.{passing}
 use Rattle.cluster_core.proofs.booting.residents_at_boot.Given as goal
 
 abbrev pub invariant-loop-pid : goal.invariant-loop-pid
