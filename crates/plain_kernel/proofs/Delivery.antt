@@ -18,7 +18,7 @@ use Rattle.sys_calls.specs.Steps.{Makes, Shorter}
 use Rattle.sys_calls.proofs.Counting.{silent_counts, emits_counts}
 use Rattle.plain_kernel.specs.Kernel.{pid_cmp, deliver, letter_put, with_process}
 use Rattle.plain_kernel.specs.Apply.{after_step, one_step}
-use Rattle.plain_kernel.specs.Maps.{at_key, pid_of, processes_of, kernel_of, load, total_load, Changes, StepsAt, Restores, Advances, Lighter, Receives, SameBut}
+use Rattle.plain_kernel.specs.Maps.{at_key, pid_of, processes_of, kernel_of, load, total_load, Changes, ChangesSmall, StepsAt, Restores, Advances, Lighter, Receives, SameBut}
 use Rattle.plain_kernel.proofs.Entries.{some_same, written_same, put_state, lookup_state, there_before, there_after, found_after, put_after, state_before, load_after, changes_again, changed_back, same_keys, others_stay}
 
 -- ---- a letter to a process
@@ -119,19 +119,26 @@ stepped_two ps qs rs pid to r s sent = λ q other.
 pub less_to_send : (ps qs : List (ℕ × Process)) (pid : ℕ) (letter : Letter) → StepsAt ps qs pid (Ok (Emit (Mail letter))) → total_load qs + 2 ≤ total_load ps
 less_to_send ps qs pid letter s = omega (arith, load_after ps qs pid s.was s.now s.changes, s.lighter)
 
-pub there_stepped : (ps qs rs : List (ℕ × Process)) (pid : ℕ) (r : Result Step NoMemory) → StepsAt ps qs pid r → rs ≡ qs → IsSome (lookup (at_key pid) rs)
-there_stepped ps qs rs pid r s same = subst (λ es. IsSome (lookup (at_key pid) es)) (sym same) (there_after ps qs pid s.was s.now s.changes)
+-- where the letter was not delivered, nothing else has changed
+pub not_sent : (ps qs rs : List (ℕ × Process)) (pid : ℕ) (letter : Letter) → StepsAt ps qs pid (Ok (Emit (Mail letter))) → rs ≡ qs → ChangesSmall ps rs pid
+not_sent ps qs rs pid letter s same = subst (λ es. ChangesSmall ps es pid) (sym same) (record { was = s.was; now = s.now; changes = s.changes; rest = s.touches })
 
--- the state before the step was put back, so all is as it was
-pub undone : (ps qs rs os : List (ℕ × Process)) (pid : ℕ) (letter : Letter) (before : SmallState) → StepsAt ps qs pid (Ok (Emit (Mail letter))) → option_map (λ (p : Process). p.small) (lookup (at_key pid) ps) ≡ Some before
-    → rs ≡ qs → Restores rs os pid before → os ≡ ps
-undone ps qs rs os pid letter before s saved same back =
+-- nor has it where the step was not made
+pub not_made : (ps qs : List (ℕ × Process)) (pid : ℕ) (e : NoMemory) → StepsAt ps qs pid (Err e) → ChangesSmall ps qs pid
+not_made ps qs pid e s = record { was = s.was; now = s.now; changes = s.changes; rest = s.touches ∙ ap (λ b. record (s.was) { small = b }) (ap (λ (p : Process). p.small) (sym s.touches)) }
+
+pub there_small : (ps qs : List (ℕ × Process)) (pid : ℕ) → ChangesSmall ps qs pid → IsSome (lookup (at_key pid) qs)
+there_small ps qs pid s = there_after ps qs pid s.was s.now s.changes
+
+-- the small state before was put back, so all is as it was
+pub undone : (ps qs os : List (ℕ × Process)) (pid : ℕ) (before : SmallState) → ChangesSmall ps qs pid → option_map (λ (p : Process). p.small) (lookup (at_key pid) ps) ≡ Some before
+    → Restores qs os pid before → os ≡ ps
+undone ps qs os pid before s saved back =
     let small : (s.was).small ≡ before = some_same _ before (ap (option_map (λ (p : Process). p.small)) (sym s.changes.found) ∙ saved) in
-    let again : Changes qs os pid back.was (record (back.was) { small = before }) = subst (λ es. Changes es os pid back.was (record (back.was) { small = before })) same back.changes in
-    let stood : back.was ≡ s.now = some_same _ _ (sym again.found ∙ found_after ps qs pid s.was s.now s.changes) in
+    let stood : back.was ≡ s.now = some_same _ _ (sym back.changes.found ∙ found_after ps qs pid s.was s.now s.changes) in
     let put_back : record (back.was) { small = before } ≡ s.was =
-    ap (λ (p : Process). record p { small = before }) (stood ∙ s.touches) ∙ ap (λ b. record (s.was) { small = b }) (sym small) in
-    changed_back ps os pid s.was _ (changes_again ps qs os pid s.was s.now _ s.changes back.was again) put_back
+    ap (λ (p : Process). record p { small = before }) (stood ∙ s.rest) ∙ ap (λ b. record (s.was) { small = b }) (sym small) in
+    changed_back ps os pid s.was _ (changes_again ps qs os pid s.was s.now _ s.changes back.was back.changes) put_back
 
 stuck : (ps qs : List (ℕ × Process)) (ts : List (ℕ × List ℕ)) (pid : ℕ) (was now : Process) (next : Next) → Changes ps qs pid was now → next_step (state_of was) ≡ next → now ≡ was → after_step (kernel_of ps ts) (pid_of pid) next ≡ None
     → (one_step (pid_of pid) (kernel_of ps ts) ≡ None) × (qs ≡ ps) × (ts ≡ ts)
@@ -145,6 +152,3 @@ stuck_blocked ps qs ts pid s = stuck ps qs ts pid s.was s.now Blocked s.changes 
 
 pub stuck_forks : (ps qs : List (ℕ × Process)) (ts : List (ℕ × List ℕ)) (pid : ℕ) → StepsAt ps qs pid (Ok WouldFork) → (one_step (pid_of pid) (kernel_of ps ts) ≡ None) × (qs ≡ ps) × (ts ≡ ts)
 stuck_forks ps qs ts pid s = stuck ps qs ts pid s.was s.now Forks s.changes s.makes.0 s.touches refl
-
-pub refused_back : (ps qs : List (ℕ × Process)) (pid : ℕ) (e : NoMemory) → StepsAt ps qs pid (Err e) → qs ≡ ps
-refused_back ps qs pid e s = changed_back ps qs pid s.was s.now s.changes s.touches

@@ -113,6 +113,18 @@ Moves (Ok (Sent to)) pid ps qs ts us = Advances pid ps qs ts us × SameBut (λ q
 Moves (Ok Stuck) pid ps qs ts us = (one_step (pid_of pid) (kernel_of ps ts) ≡ None) × (qs ≡ ps) × (us ≡ ts)
 Moves (Err e) pid ps qs ts us = (qs ≡ ps) × (us ≡ ts)
 
+-- the process with a pid has another small state at most, and nothing else has changed
+pub record ChangesSmall (old new : List (ℕ × Process)) (pid : ℕ) : Type 0 where
+  pub was : Process
+  pub now : Process
+  pub changes : Changes old new pid was now
+  pub rest : now ≡ record was { small = now.small }
+
+-- what the step makes where nothing puts the process back after want of memory
+abbrev pub GoesOn : Result Made NoMemory → ℕ → List (ℕ × Process) → List (ℕ × Process) → List (ℕ × List ℕ) → List (ℕ × List ℕ) → Type 0
+GoesOn (Ok made) pid ps qs ts us = Moves (Ok made) pid ps qs ts us
+GoesOn (Err e) pid ps qs ts us = ChangesSmall ps qs pid × (us ≡ ts)
+
 -- A letter is last in the mailbox, unless the process has ended. After want of memory nothing is changed.
 abbrev pub Receives : Result (Unit {0}) NoMemory → Letter → Process → Process → Type 0
 Receives (Ok done) letter old new = (state_of new ≡ (if has_ended (old.small).status then state_of old else delivered (state_of old) letter)) × (load new ≤ load old + 1)

@@ -7,7 +7,7 @@ ghost use Rattle.plain_kernel.specs.Still.{Reaches};
 
 use crate::item::NotApplied;
 use crate::processes::{can_step_at, pid_set, run_at};
-use crate::sending::{Made, make_step};
+use crate::sending::{Made, go_on, make_step};
 use proc_state::process::Process;
 use std::alloc::Global;
 use std::collections::{BTreeMap, BTreeSet};
@@ -104,7 +104,7 @@ fn take_turn(
     // A map tells with its length that its keys are in order, so the process that was found is there.
     let _count = processes.len();
     run_at(processes, pid, u32::MAX);
-    match make_step(alloc, processes, ttys, pid)? {
+    match go_on(alloc, processes, ttys, pid)? {
         Made::Went => Ok(()),
         Made::Sent(to) => {
             ready.insert(to)?;

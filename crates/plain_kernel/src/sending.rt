@@ -4,7 +4,7 @@ ghost use Rattle.std.specs.BTreeMap.{get, keys};
 ghost use Rattle.std.specs.Ordering.{nat_cmp};
 ghost use Rattle.std.specs.FinMap.{find};
 ghost use Rattle.plain_kernel.specs.Kernel.{bytes_said, deliver as delivered_in, letter_put, pid_cmp, text_put};
-ghost use Rattle.plain_kernel.specs.Maps.{at_key, kernel_of, pid_of, processes_of, total_load, GoesTo, Moves, Restores, SameBut};
+ghost use Rattle.plain_kernel.specs.Maps.{at_key, kernel_of, pid_of, processes_of, total_load, GoesOn, GoesTo, Moves, Restores, SameBut};
 
 use crate::processes::step_at;
 use proc_state::process::Process;
@@ -38,16 +38,34 @@ pub fn make_step(
     ensures { Moves result pid processes.old.entries processes.new.entries ttys.old.entries ttys.new.entries }
 {
     let before = small_at(processes, pid);
+    match go_on(alloc, processes, ttys, pid) {
+        Ok(made) => Ok(made),
+        Err(refused) => {
+            restore(processes, pid, before);
+            Err(refused)
+        }
+    }
+}
+
+/// The same without a way back, and so without a copy of the state: after want of memory that of the
+/// process with the pid may have changed, and nothing else has.
+pub fn go_on(
+    alloc: Global,
+    processes: &mut BTreeMap<u32, Process>,
+    ttys: &mut BTreeMap<u8, Bytes>,
+    pid: u32,
+) -> Result<Made, NoMemory>
+    requires there { IsSome (get nat_cmp processes.old pid) }
+    requires room { total_load processes.old.entries < 2 ^ 64 }
+    ensures { GoesOn result pid processes.old.entries processes.new.entries ttys.old.entries ttys.new.entries }
+{
     match step_at(alloc, processes, pid) {
         Ok(Step::Silent) => Ok(Made::Went),
         Ok(Step::Emit(Emission::Exit(_))) => Ok(Made::Went),
         Ok(Step::Emit(Emission::Mail(letter))) => match send(processes, ttys, letter) {
             Ok(None) => Ok(Made::Went),
             Ok(Some(to)) => Ok(Made::Sent(to)),
-            Err(refused) => {
-                restore(processes, pid, before);
-                Err(refused)
-            }
+            Err(refused) => Err(refused),
         },
         Ok(Step::Blocked) => Ok(Made::Stuck),
         Ok(Step::Forks) => Ok(Made::Stuck),
