@@ -7,7 +7,6 @@ use Rattle.std.proofs.lemmas.Bool.{and_parts}
 use Rattle.std.proofs.lemmas.Bool.Decides.{nat_tests}
 use Rattle.slab.specs.Slab.{Slab, get}
 use Rattle.t32_base.specs.declared.process.Pid.{Pid}
-use Rattle.t32_base.specs.declared.process.ClusterNo.{ClusterNo}
 use Rattle.proc_state.specs.declared.process.Process.{Process}
 use Rattle.proc_state.specs.State.{ProcState, state_of}
 use Rattle.sys_calls.specs.declared.steps.Emission.{Emission}
@@ -17,7 +16,7 @@ use Rattle.plain_kernel.specs.Maps.{at_key, pid_of}
 use Rattle.plain_kernel.proofs.Entries.{some_same}
 use Rattle.cert_sched.specs.Parts.{first_of}
 use Rattle.cluster_core.specs.declared.turn.Turn.{Turn}
-use Rattle.cluster_core.specs.declared.turn.Turn.TheVariants.{Moved, Posted, Rests}
+use Rattle.cluster_core.specs.declared.turn.Turn.TheVariants.{Moved, Sends, Rests}
 use Rattle.cluster_core.specs.Quantum.{RunsAndSends}
 use Rattle.cluster_core.specs.Residents.{ResidentsView, NextAble, process_in, is_stuck, are_rising, pids_in, pids_able, next_ready}
 use Rattle.cluster_core.specs.Slots.{in_slot, stands_in, IsSlot, IsKept}
@@ -228,15 +227,15 @@ sends_has most s t e runs = by_steps runs.steps runs.silent
     by_steps (suc n) silent = silent_has n s runs.before silent
 
 -- what a turn of the process with a pid makes is the turn of the one that was chosen
-pub chosen_turn : (k : ClusterNo) (n : ℕ) (was old given new : ResidentsView) (turn : Turn) → old.here ≡ was.here → old.last ≡ was.last → NextAble n old → GivenTurnIs k (pid_of n) old.here (Ok turn) given.here → (turn ≡ Rests → ⊥)
-    → new.here ≡ given.here → new.last ≡ n → TurnIs k was (Ok turn) new
-chosen_turn k n was old given new Moved here last able takes ran now chosen = record {
+pub chosen_turn : (n : ℕ) (was old given new : ResidentsView) (turn : Turn) → old.here ≡ was.here → old.last ≡ was.last → NextAble n old → GivenTurnIs (pid_of n) old.here (Ok turn) given.here → (turn ≡ Rests → ⊥)
+    → new.here ≡ given.here → new.last ≡ n → TurnIs was (Ok turn) new
+chosen_turn n was old given new Moved here last able takes ran now chosen = record {
   chosen = (λ i. next_ready (pids_able (sym here i)) (sym last i)) ∙ able takes.was takes.there (some_has 64 (state_of takes.was) (state_of takes.now) takes.turn_is) ∙ ap Some (sym chosen);
-  takes = subst (λ m. TakesTurn k (pid_of m) was.here Moved new.here) (sym chosen) (subst (λ hs. TakesTurn k (pid_of n) hs Moved new.here) here (subst (λ hs. TakesTurn k (pid_of n) old.here Moved hs) (sym now) takes));
+  takes = subst (λ m. TakesTurn (pid_of m) was.here Moved new.here) (sym chosen) (subst (λ hs. TakesTurn (pid_of n) hs Moved new.here) here (subst (λ hs. TakesTurn (pid_of n) old.here Moved hs) (sym now) takes));
 }
-chosen_turn k n was old given new (Posted post) here last able takes ran now chosen = record {
-  chosen = (λ i. next_ready (pids_able (sym here i)) (sym last i)) ∙ able takes.was takes.there (sends_has 64 (state_of takes.was) (state_of takes.now) (takes.turn_is).emission (takes.turn_is).runs) ∙ ap Some (sym chosen);
-  takes = subst (λ m. TakesTurn k (pid_of m) was.here (Posted post) new.here) (sym chosen)
-      (subst (λ hs. TakesTurn k (pid_of n) hs (Posted post) new.here) here (subst (λ hs. TakesTurn k (pid_of n) old.here (Posted post) hs) (sym now) takes));
+chosen_turn n was old given new (Sends sending) here last able takes ran now chosen = record {
+  chosen = (λ i. next_ready (pids_able (sym here i)) (sym last i)) ∙ able takes.was takes.there (sends_has 64 (state_of takes.was) (state_of takes.now) sending.emission (takes.turn_is).runs) ∙ ap Some (sym chosen);
+  takes = subst (λ m. TakesTurn (pid_of m) was.here (Sends sending) new.here) (sym chosen)
+      (subst (λ hs. TakesTurn (pid_of n) hs (Sends sending) new.here) here (subst (λ hs. TakesTurn (pid_of n) old.here (Sends sending) hs) (sym now) takes));
 }
-chosen_turn k n was old given new Rests here last able takes ran now chosen = absurd (ran refl)
+chosen_turn n was old given new Rests here last able takes ran now chosen = absurd (ran refl)

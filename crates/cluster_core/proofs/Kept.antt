@@ -31,10 +31,9 @@ use Rattle.cert_sched.specs.Parts.{first_of}
 use Rattle.cert_sched.proofs.RisingLaws.{NoTwo, either_not}
 use Rattle.cluster_core.specs.Residents.{is_stuck, are_rising, are_stuck, pids_in, steps_in, load_in, next_ready}
 use Rattle.cluster_core.specs.Slots.{in_slot, stands_in, IsSlot, IsKept}
-use Rattle.t32_base.specs.declared.process.ClusterNo.{ClusterNo}
 use Rattle.t32_base.specs.declared.streams.NoMemory.{NoMemory}
 use Rattle.cluster_core.specs.declared.turn.Turn.{Turn}
-use Rattle.cluster_core.specs.declared.turn.Turn.TheVariants.{Moved, Posted, Rests}
+use Rattle.cluster_core.specs.declared.turn.Turn.TheVariants.{Moved, Sends, Rests}
 use Rattle.cluster_core.specs.Turn.{is_stuck_at, ProcessTurn, TakesTurn, GivenTurnIs, LighterProcess, LighterTurn}
 use Rattle.cluster_core.proofs.Slots.{IsOne, all_more, all_put_last, all_removed, all_with, at_key_is, both_true, entry_goes, later_is_other, load_written, no_entry, nobody_changed, none_not_some, not_true, one_key, pids, process_there, slot_keys, taken_out, turned, written}
 
@@ -352,10 +351,10 @@ written_back slots new key was now (e ∷ es) there updates same =
     by_test false is = updates.others e.1 (λ same. true≢false (sym (eq-eqb e.1 key same) ∙ is))
 
 -- a process had its turn
-pub given_turn : (k : ClusterNo) (slots new : Slab Process) (n key : ℕ) (keys : List (ℕ × ℕ)) (ready : List ℕ) (was now : Process) (old : List (Pid × Process)) (r : Result Turn NoMemory)
-    → IsKept slots keys ready → lookup (at_key n) keys ≡ Some key → get slots key ≡ Some was → Updates slots new key (Some now) → stands_in slots keys ≡ old → ProcessTurn k (pid_of n) was r now → GivenTurnIs k (pid_of n) old r (stands_in new keys)
-given_turn k slots new n key keys ready was now old (Ok Moved) kept found there updates same turn =
-    subst (λ old. TakesTurn k (pid_of n) old Moved (stands_in new keys)) same
+pub given_turn : (slots new : Slab Process) (n key : ℕ) (keys : List (ℕ × ℕ)) (ready : List ℕ) (was now : Process) (old : List (Pid × Process)) (r : Result Turn NoMemory)
+    → IsKept slots keys ready → lookup (at_key n) keys ≡ Some key → get slots key ≡ Some was → Updates slots new key (Some now) → stands_in slots keys ≡ old → ProcessTurn (pid_of n) was r now → GivenTurnIs (pid_of n) old r (stands_in new keys)
+given_turn slots new n key keys ready was now old (Ok Moved) kept found there updates same turn =
+    subst (λ old. TakesTurn (pid_of n) old Moved (stands_in new keys)) same
     (record {
       was = was;
       now = now;
@@ -363,8 +362,8 @@ given_turn k slots new n key keys ready was now old (Ok Moved) kept found there 
       turn_is = turn;
       here = written slots new n key was now (λ e. (pid_of n, now)) keys (one_key n key keys kept.ordered kept.apart found) there updates refl;
     })
-given_turn k slots new n key keys ready was now old (Ok (Posted post)) kept found there updates same turn =
-    subst (λ old. TakesTurn k (pid_of n) old (Posted post) (stands_in new keys)) same
+given_turn slots new n key keys ready was now old (Ok (Sends sending)) kept found there updates same turn =
+    subst (λ old. TakesTurn (pid_of n) old (Sends sending) (stands_in new keys)) same
     (record {
       was = was;
       now = now;
@@ -372,9 +371,9 @@ given_turn k slots new n key keys ready was now old (Ok (Posted post)) kept foun
       turn_is = turn;
       here = written slots new n key was now (λ e. (pid_of n, now)) keys (one_key n key keys kept.ordered kept.apart found) there updates refl;
     })
-given_turn k slots new n key keys ready was now old (Ok Rests) kept found there updates same turn =
+given_turn slots new n key keys ready was now old (Ok Rests) kept found there updates same turn =
     (ap (is_stuck_at (pid_of n)) (sym same) ∙ stuck_there slots n key was keys (one_key n key keys kept.ordered kept.apart found) there turn.0, written_back slots new key was now keys there updates turn.1 ∙ same)
-given_turn k slots new n key keys ready was now old (Err fault) kept found there updates same turn = written_back slots new key was now keys there updates turn ∙ same
+given_turn slots new n key keys ready was now old (Err fault) kept found there updates same turn = written_back slots new key was now keys there updates turn ∙ same
 
 less_load : (slots new : Slab Process) (n key : ℕ) (keys : List (ℕ × ℕ)) (ready : List ℕ) (was now : Process) (old : List (Pid × Process)) → IsKept slots keys ready → lookup (at_key n) keys ≡ Some key → get slots key ≡ Some was → Updates slots new key (Some now)
     → stands_in slots keys ≡ old → weight now.small + 1 ≤ weight was.small → load_in (stands_in new keys) + 1 ≤ load_in old
@@ -384,7 +383,7 @@ less_load slots new n key keys ready was now old kept found there updates same l
 pub given_lighter : (slots new : Slab Process) (n key : ℕ) (keys : List (ℕ × ℕ)) (ready : List ℕ) (was now : Process) (old : List (Pid × Process)) (r : Result Turn NoMemory)
     → IsKept slots keys ready → lookup (at_key n) keys ≡ Some key → get slots key ≡ Some was → Updates slots new key (Some now) → stands_in slots keys ≡ old → IfOk r (λ turn. LighterProcess turn was now) → IfOk r (λ turn. LighterTurn turn old (stands_in new keys))
 given_lighter slots new n key keys ready was now old (Ok Moved) kept found there updates same lighter = less_load slots new n key keys ready was now old kept found there updates same lighter
-given_lighter slots new n key keys ready was now old (Ok (Posted post)) kept found there updates same lighter = less_load slots new n key keys ready was now old kept found there updates same lighter
+given_lighter slots new n key keys ready was now old (Ok (Sends sending)) kept found there updates same lighter = less_load slots new n key keys ready was now old kept found there updates same lighter
 given_lighter slots new n key keys ready was now old (Ok Rests) kept found there updates same lighter = tt
 given_lighter slots new n key keys ready was now old (Err fault) kept found there updates same lighter = tt
 

@@ -1,7 +1,9 @@
 -- What a turn of its processes makes of a cluster.
-use Rattle.std.proofs.Common.{◌≡◌, ℕ, ◌+◌, ◌<◌, ◌≤◌, refl, sym, ◌∙◌, ap, subst, arith, List, [], true, false, Ok}
+use Rattle.std.proofs.Common.{◌≡◌, ℕ, ◌+◌, ◌<◌, ◌≤◌, refl, sym, ◌∙◌, ap, subst, arith, List, [], true, false, Ok, eq-eqb}
 use Rattle.t32_base.specs.declared.process.Pid.{Pid}
 use Rattle.proc_state.specs.declared.process.Process.{Process}
+use Rattle.sys_calls.specs.declared.steps.Emission.{Emission}
+use Rattle.sys_calls.specs.declared.steps.Emission.TheVariants.{Mail as SentMail, Exit as SentExit}
 use Rattle.bus_msg.specs.declared.entry.What.{What}
 use Rattle.bus_msg.specs.declared.entry.What.TheVariants.{Mail, Birth, Exit, Page, Sync, Fetch, PageIs, Crash, Return, Rebackup, Done, Stop}
 use Rattle.bus_msg.specs.declared.entry.Post.{Post}
@@ -9,18 +11,19 @@ use Rattle.channel_table.specs.Changes.{is_birth, pids_differ}
 use Rattle.cert_sched.specs.Built.{is_built}
 use Rattle.cert_sched.specs.Losses.{is_from}
 use Rattle.t32_base.specs.declared.process.ClusterNo.{ClusterNo}
+use Rattle.cluster_core.specs.declared.turn.Sending.{Sending}
 use Rattle.cluster_core.specs.declared.turn.Turn.{Turn}
-use Rattle.cluster_core.specs.declared.turn.Turn.TheVariants.{Moved as TurnMoved, Posted, Rests as TurnRests}
+use Rattle.cluster_core.specs.declared.turn.Turn.TheVariants.{Moved as TurnMoved, Sends, Rests as TurnRests}
 use Rattle.cluster_core.specs.declared.worked.Worked.TheVariants.{Moved, Queued, Rests}
 use Rattle.cluster_core.specs.View.{ClusterView, counted_once, load}
 use Rattle.plain_kernel.specs.Maps.{pid_of}
 use Rattle.cluster_core.specs.Residents.{ResidentsView, load_in}
 use Rattle.cluster_core.specs.Parts.{held_in, AllOwn}
 use Rattle.cluster_core.specs.Calls.{GoesOn, WorkIs}
-use Rattle.cluster_core.specs.Turn.{TurnIs}
+use Rattle.cluster_core.specs.Turn.{TurnIs, post_told}
 use Rattle.cluster_core.proofs.Here.{load_same}
 use Rattle.cluster_core.proofs.Owning.{own_at, own_changed, own_moved, own_sent}
-use Rattle.cluster_core.proofs.Working.{moved_view, posted_view, moved_goes_on, moved_work, posted_goes_on, posted_work, posted_built, posted_own, goes_on_rested, rested}
+use Rattle.cluster_core.proofs.Working.{moved_view, posted_view, moved_goes_on, moved_work, posted_goes_on, posted_work, goes_on_rested, rested}
 
 -- an entry of a kind that is built is no birth
 pub built_no_birth : (w : What) → is_built w ≡ true → is_birth w ≡ false
@@ -38,21 +41,21 @@ built_no_birth (Done rests) h = refl
 built_no_birth Stop h = refl
 
 -- after a turn each process is its own
-pub own_turned : (cursor : ℕ) (k : ClusterNo) (old new : ResidentsView) (turn : Turn) → AllOwn cursor old.here → TurnIs k old (Ok turn) new → AllOwn cursor new.here
-own_turned cursor k old new TurnMoved own turn =
+pub own_turned : (cursor : ℕ) (old new : ResidentsView) (turn : Turn) → AllOwn cursor old.here → TurnIs old (Ok turn) new → AllOwn cursor new.here
+own_turned cursor old new TurnMoved own turn =
     subst (AllOwn cursor) (sym (turn.takes).here) (own_changed cursor (pid_of new.last) (turn.takes).now old.here own (own_moved cursor (pid_of new.last) (turn.takes).was (turn.takes).now (own_at cursor old.here (pid_of new.last) (turn.takes).was own (turn.takes).there) (turn.takes).turn_is))
-own_turned cursor k old new (Posted post) own turn =
+own_turned cursor old new (Sends sending) own turn =
     let pid : Pid = pid_of new.last in
     let takes = turn.takes in
-    subst (AllOwn cursor) (sym takes.here) (own_changed cursor pid takes.now old.here own (own_sent cursor pid takes.was takes.now (takes.turn_is).emission (own_at cursor old.here pid takes.was own takes.there) (takes.turn_is).runs))
-own_turned cursor k old new TurnRests own turn = subst (AllOwn cursor) (sym turn.1) own
+    subst (AllOwn cursor) (sym takes.here) (own_changed cursor pid takes.now old.here own (own_sent cursor pid takes.was takes.now sending.emission (own_at cursor old.here pid takes.was own takes.there) (takes.turn_is).runs))
+own_turned cursor old new TurnRests own turn = subst (AllOwn cursor) (sym turn.1) own
 
 -- what holds of a turn in which one moved
 pub record MovedTurn (c : ClusterView) (new : List (Pid × Process)) : Type 0 where
   pub goes_on : GoesOn c (moved_view c new)
   pub work : WorkIs c Moved (moved_view c new)
 
-pub moved_turn : (c : ClusterView) (old new : ResidentsView) → c.here ≡ held_in old.here → c.queue ≡ [] → TurnIs c.number old (Ok TurnMoved) new → MovedTurn c new.here
+pub moved_turn : (c : ClusterView) (old new : ResidentsView) → c.here ≡ held_in old.here → c.queue ≡ [] → TurnIs old (Ok TurnMoved) new → MovedTurn c new.here
 moved_turn c old new here empty turn =
     let pid : Pid = pid_of new.last in
     let takes = turn.takes in
@@ -61,28 +64,30 @@ moved_turn c old new here empty turn =
       work = moved_work c old.here pid takes.was takes.now here takes.there takes.turn_is;
     })
 
+-- what is posted is the cluster's own, and of a kind that is built
+pub told_sound : (k : ClusterNo) (p : Pid) (at : ℕ) (e : Emission) → (is_from k (post_told k p at e).by ≡ true) × (is_built (post_told k p at e).what ≡ true)
+told_sound k p at (SentMail letter) = (eq-eqb k.0 k.0 refl, refl)
+told_sound k p at (SentExit end) = (eq-eqb k.0 k.0 refl, refl)
+
 -- what holds of a turn in which one posted something
 pub record PostedTurn (c : ClusterView) (new : List (Pid × Process)) (post : Post) : Type 0 where
   pub goes_on : GoesOn c (posted_view c new post)
   pub work : WorkIs c Queued (posted_view c new post)
-  pub own : is_from c.number post.by ≡ true
-  pub built : is_built post.what ≡ true
 
-pub posted_turn : (c : ClusterView) (old new : ResidentsView) (post : Post) → c.here ≡ held_in old.here → c.queue ≡ [] → AllOwn c.cursor old.here → pids_differ (c.places).placed ≡ true → (c.number).0 < (c.system).clusters
-    → TurnIs c.number old (Ok (Posted post)) new → PostedTurn c new.here post
-posted_turn c old new post here empty own differ has turn =
+pub posted_turn : (c : ClusterView) (old new : ResidentsView) (sending : Sending) (post : Post) → post ≡ post_told c.number sending.pid sending.at sending.emission
+    → c.here ≡ held_in old.here → c.queue ≡ [] → AllOwn c.cursor old.here → pids_differ (c.places).placed ≡ true → (c.number).0 < (c.system).clusters → TurnIs old (Ok (Sends sending)) new → PostedTurn c new.here post
+posted_turn c old new sending post told here empty own differ has turn =
     let pid : Pid = pid_of new.last in
     let takes = turn.takes in
-    let posts = takes.turn_is in
+    let sends = takes.turn_is in
     let mine = own_at c.cursor old.here pid takes.was own takes.there in
+    let is : post ≡ post_told c.number pid ((takes.now).small).steps sending.emission = told ∙ (λ i. post_told c.number (sends.pid_is i) (sends.at_is i) sending.emission) in
     subst (λ rs. PostedTurn c rs post) (sym takes.here) (record {
-      goes_on = posted_goes_on c old.here pid takes.was takes.now post posts.emission posts.runs posts.post_is here empty takes.there mine differ has;
-      work = posted_work c old.here pid takes.was takes.now post posts.emission posts.runs posts.post_is here empty takes.there mine;
-      own = posted_own c old.here pid takes.was takes.now post posts.emission posts.runs posts.post_is here empty takes.there mine;
-      built = posted_built c old.here pid takes.was takes.now post posts.emission posts.runs posts.post_is here empty takes.there mine;
+      goes_on = posted_goes_on c old.here pid takes.was takes.now post sending.emission sends.runs is here empty takes.there mine differ has;
+      work = posted_work c old.here pid takes.was takes.now post sending.emission sends.runs is here empty takes.there mine;
     })
 
-pub rested_turn : (c : ClusterView) (old new : ResidentsView) → c.here ≡ held_in old.here → AllOwn c.cursor old.here → TurnIs c.number old (Ok TurnRests) new → (held_in new.here ≡ c.here) × GoesOn c (counted_once c) × WorkIs c Rests (counted_once c)
+pub rested_turn : (c : ClusterView) (old new : ResidentsView) → c.here ≡ held_in old.here → AllOwn c.cursor old.here → TurnIs old (Ok TurnRests) new → (held_in new.here ≡ c.here) × GoesOn c (counted_once c) × WorkIs c Rests (counted_once c)
 rested_turn c old new here own turn = (ap held_in turn.1 ∙ sym here, goes_on_rested c, rested c old.here here own turn.0)
 
 -- ---- what is left to do

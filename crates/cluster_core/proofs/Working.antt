@@ -333,10 +333,7 @@ module _ (c : ClusterView) (rs : List (Pid × Process)) (p : Pid) (was now : Pro
   emission_is : (log : List Entry) → FollowsBuilt c.system log c → emission_at c.system log p at ≡ Some (e, state_of now)
   emission_is log f = ahead_sent c.system log p (state_of was) runs.before (state_of now) runs.steps e (held_before c log rs p was here empty f there) runs.silent runs.sends
 
-  pub posted_built : is_built post.what ≡ true
-  posted_built = ap (λ (p : Post). is_built p.what) post_is ∙ built_of p at e
-
-  pub posted_own : is_from c.number post.by ≡ true
+  posted_own : is_from c.number post.by ≡ true
   posted_own = ap (λ (p : Post). is_from c.number p.by) post_is ∙ eq-eqb (c.number).0 (c.number).0 refl
 
   may_follow : (log : List Entry) → IsOpen BuiltMayFollow c.system log → FollowsBuilt c.system log c → pids_differ (c.places).placed ≡ true → (c.number).0 < (c.system).clusters → BuiltMayFollow c.system log (entry_of c.system log (post_told c.number p at e))

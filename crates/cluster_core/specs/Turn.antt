@@ -15,8 +15,9 @@ use Rattle.bus_msg.specs.declared.entry.By.TheVariants.{Cluster}
 use Rattle.bus_msg.specs.declared.entry.Post.{Post}
 use Rattle.bus_msg.specs.Places.{same_pid}
 use Rattle.proc_state.specs.declared.process.Process.{Process}
+use Rattle.cluster_core.specs.declared.turn.Sending.{Sending}
 use Rattle.cluster_core.specs.declared.turn.Turn.{Turn}
-use Rattle.cluster_core.specs.declared.turn.Turn.TheVariants.{Moved, Posted, Rests}
+use Rattle.cluster_core.specs.declared.turn.Turn.TheVariants.{Moved, Sends, Rests}
 use Rattle.cluster_core.specs.Quantum.{RunsSome, RunsAndSends}
 use Rattle.plain_kernel.specs.Maps.{pid_of}
 use Rattle.cluster_core.specs.Residents.{ResidentsView, process_in, with_changed, is_stuck, are_stuck, load_in, next_ready, pids_able}
@@ -29,51 +30,51 @@ told_of pid at (Ended end) = Exit pid at end
 abbrev pub post_told : ClusterNo → Pid → ℕ → Emission → Post
 post_told k pid at e = record { by = Cluster k; what = told_of pid at e }
 
--- a process sent something, which is posted
-pub record Posts (k : ClusterNo) (pid : Pid) (old : Process) (post : Post) (new : Process) : Type 0 where
-  pub emission : Emission
-  pub runs : RunsAndSends 64 (state_of old) emission (state_of new)
-  pub post_is : post ≡ post_told k pid (new.small).steps emission
+-- a process sent something by its last step
+pub record HasSent (pid : Pid) (old : Process) (sending : Sending) (new : Process) : Type 0 where
+  pub runs : RunsAndSends 64 (state_of old) sending.emission (state_of new)
+  pub pid_is : sending.pid ≡ pid
+  pub at_is : sending.at ≡ (new.small).steps
 
--- what a process did in its turn: it moved, posted something, or had no step; after want of memory nothing has changed
-abbrev pub ProcessTurn : ClusterNo → Pid → Process → Result Turn NoMemory → Process → Type 0
-ProcessTurn k pid old (Ok Moved) new = RunsSome 64 (state_of old) (state_of new)
-ProcessTurn k pid old (Ok (Posted post)) new = Posts k pid old post new
-ProcessTurn k pid old (Ok Rests) new = (has_step (next_step (state_of old)) ≡ false) × (new ≡ old)
-ProcessTurn k pid old (Err fault) new = new ≡ old
+-- what a process did in its turn: it moved, sent something, or had no step; after want of memory nothing has changed
+abbrev pub ProcessTurn : Pid → Process → Result Turn NoMemory → Process → Type 0
+ProcessTurn pid old (Ok Moved) new = RunsSome 64 (state_of old) (state_of new)
+ProcessTurn pid old (Ok (Sends sending)) new = HasSent pid old sending new
+ProcessTurn pid old (Ok Rests) new = (has_step (next_step (state_of old)) ≡ false) × (new ≡ old)
+ProcessTurn pid old (Err fault) new = new ≡ old
 
 -- of the steps that the process has left at most, those that it made are gone
 abbrev pub LighterProcess : Turn → Process → Process → Type 0
 LighterProcess Moved old new = weight new.small + 1 ≤ weight old.small
-LighterProcess (Posted post) old new = weight new.small + 1 ≤ weight old.small
+LighterProcess (Sends sending) old new = weight new.small + 1 ≤ weight old.small
 LighterProcess Rests old new = ⊤
 
 -- ---- one of the processes of a cluster
 
 -- the process with a pid had a turn, and the others stayed
-pub record TakesTurn (k : ClusterNo) (pid : Pid) (old : List (Pid × Process)) (turn : Turn) (new : List (Pid × Process)) : Type 0 where
+pub record TakesTurn (pid : Pid) (old : List (Pid × Process)) (turn : Turn) (new : List (Pid × Process)) : Type 0 where
   pub was : Process
   pub now : Process
   pub there : process_in old pid ≡ Some was
-  pub turn_is : ProcessTurn k pid was (Ok turn) now
+  pub turn_is : ProcessTurn pid was (Ok turn) now
   pub here : new ≡ with_changed pid now old
 
 -- the turn was that of the next process that has a step, in rising pid order after the one that was chosen last, cyclically
-pub record ChosenTurn (k : ClusterNo) (old : ResidentsView) (turn : Turn) (new : ResidentsView) : Type 0 where
+pub record ChosenTurn (old : ResidentsView) (turn : Turn) (new : ResidentsView) : Type 0 where
   pub chosen : next_ready (pids_able old.here) old.last ≡ Some new.last
-  pub takes : TakesTurn k (pid_of new.last) old.here turn new.here
+  pub takes : TakesTurn (pid_of new.last) old.here turn new.here
 
--- one of them moved or posted something, or none has a step; after want of memory no process has changed
-abbrev pub TurnIs : ClusterNo → ResidentsView → Result Turn NoMemory → ResidentsView → Type 0
-TurnIs k old (Ok Moved) new = ChosenTurn k old Moved new
-TurnIs k old (Ok (Posted post)) new = ChosenTurn k old (Posted post) new
-TurnIs k old (Ok Rests) new = (are_stuck old.here ≡ true) × (new.here ≡ old.here) × (new.last ≡ old.last)
-TurnIs k old (Err fault) new = new.here ≡ old.here
+-- one of them moved or sent something, or none has a step; after want of memory no process has changed
+abbrev pub TurnIs : ResidentsView → Result Turn NoMemory → ResidentsView → Type 0
+TurnIs old (Ok Moved) new = ChosenTurn old Moved new
+TurnIs old (Ok (Sends sending)) new = ChosenTurn old (Sends sending) new
+TurnIs old (Ok Rests) new = (are_stuck old.here ≡ true) × (new.here ≡ old.here) × (new.last ≡ old.last)
+TurnIs old (Err fault) new = new.here ≡ old.here
 
 -- of the steps that all have left at most, those that were made are gone
 abbrev pub LighterTurn : Turn → List (Pid × Process) → List (Pid × Process) → Type 0
 LighterTurn Moved old new = load_in new + 1 ≤ load_in old
-LighterTurn (Posted post) old new = load_in new + 1 ≤ load_in old
+LighterTurn (Sends sending) old new = load_in new + 1 ≤ load_in old
 LighterTurn Rests old new = ⊤
 
 -- ---- the process with a pid
@@ -82,9 +83,9 @@ LighterTurn Rests old new = ⊤
 abbrev pub is_stuck_at : Pid → List (Pid × Process) → Bool
 is_stuck_at pid here = list_all (λ (e : Pid × Process). not (same_pid e.0 pid) || is_stuck e.1) here
 
--- the process with a pid moved or posted something, or has no step; after want of memory nothing has changed
-abbrev pub GivenTurnIs : ClusterNo → Pid → List (Pid × Process) → Result Turn NoMemory → List (Pid × Process) → Type 0
-GivenTurnIs k pid old (Ok Moved) new = TakesTurn k pid old Moved new
-GivenTurnIs k pid old (Ok (Posted post)) new = TakesTurn k pid old (Posted post) new
-GivenTurnIs k pid old (Ok Rests) new = (is_stuck_at pid old ≡ true) × (new ≡ old)
-GivenTurnIs k pid old (Err fault) new = new ≡ old
+-- the process with a pid moved or sent something, or has no step; after want of memory nothing has changed
+abbrev pub GivenTurnIs : Pid → List (Pid × Process) → Result Turn NoMemory → List (Pid × Process) → Type 0
+GivenTurnIs pid old (Ok Moved) new = TakesTurn pid old Moved new
+GivenTurnIs pid old (Ok (Sends sending)) new = TakesTurn pid old (Sends sending) new
+GivenTurnIs pid old (Ok Rests) new = (is_stuck_at pid old ≡ true) × (new ≡ old)
+GivenTurnIs pid old (Err fault) new = new ≡ old

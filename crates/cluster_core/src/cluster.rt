@@ -9,7 +9,7 @@ ghost use Rattle.cluster_core.specs.Calls.{Absorbs, absorbed, FollowsSome, GoesO
 
 use crate::booting::residents_at_boot;
 use crate::residents::Residents;
-use crate::turn::Turn;
+use crate::turn::{Turn, post_of};
 use crate::worked::Worked;
 use bus_msg::entry::{Entry, Post};
 use cert_sched::start::placement_at_boot;
@@ -167,12 +167,12 @@ impl Cluster {
         ensures place { OnOk result (KeepsPlace self.old self.new) }
     {
         let _count = self.places.len();
-        let turn = self.here.take_turn(self.alloc, self.number)?;
+        let turn = self.here.take_turn(self.alloc)?;
         self.count_step();
         match turn {
             Turn::Moved => Ok(Worked::Moved),
-            Turn::Posted(post) => {
-                self.queue = Some(post);
+            Turn::Sends(sending) => {
+                self.queue = Some(post_of(self.number, sending));
                 Ok(Worked::Queued)
             }
             Turn::Rests => Ok(Worked::Rests),

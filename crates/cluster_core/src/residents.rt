@@ -18,7 +18,7 @@ use std::ops::Bound;
 use sys_calls::stepping::can_step;
 use t32_base::letter::{Letter, To};
 use t32_base::lists::List;
-use t32_base::process::{ClusterNo, Pid};
+use t32_base::process::Pid;
 use t32_base::streams::NoMemory;
 
 /// The processes at home in a cluster, by pid. One that has no step, but may get one by a letter, is
@@ -69,12 +69,12 @@ impl Residents {
 
     /// Lets the next process that has a step run for a quantum: the next one in rising pid order after the
     /// one that was chosen last, cyclically. After want of memory no process has changed.
-    pub fn take_turn(&mut self, alloc: Global, number: ClusterNo) -> Result<Turn, NoMemory>
-        ensures turn { TurnIs number self.old result self.new }
+    pub fn take_turn(&mut self, alloc: Global) -> Result<Turn, NoMemory>
+        ensures turn { TurnIs self.old result self.new }
         ensures lighter { IfOk result (λ turn. LighterTurn turn self.old.here self.new.here) }
     {
         'choices: while let Some(pid) = self.next() {
-            match self.give_turn(alloc, number, pid)? {
+            match self.give_turn(alloc, pid)? {
                 Turn::Rests => self.rest(pid),
                 turn => {
                     self.choose(pid);
@@ -99,16 +99,16 @@ impl Residents {
     }
 
     // Lets the process with a pid run for a quantum, if it is here.
-    fn give_turn(&mut self, alloc: Global, number: ClusterNo, pid: u32) -> Result<Turn, NoMemory>
+    fn give_turn(&mut self, alloc: Global, pid: u32) -> Result<Turn, NoMemory>
         requires { list_any (at_key pid) self.old.ready ≡ true }
-        ensures turn { GivenTurnIs number (pid_of pid) self.old.here result self.new.here }
+        ensures turn { GivenTurnIs (pid_of pid) self.old.here result self.new.here }
         ensures lighter { IfOk result (λ turn. LighterTurn turn self.old.here self.new.here) }
         ensures ready { self.new.ready ≡ self.old.ready }
         ensures last { self.new.last ≡ self.old.last }
     {
         match self.keys.get(&pid) {
             Some(key) => match self.processes.get_mut(*key) {
-                Some(process) => process_turn(alloc, number, Pid(pid), process),
+                Some(process) => process_turn(alloc, Pid(pid), process),
                 None => unreachable!(),
             },
             None => Ok(Turn::Rests),

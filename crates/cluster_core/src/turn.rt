@@ -10,29 +10,33 @@ use sys_calls::steps::Emission;
 use t32_base::process::{ClusterNo, Pid, Small};
 use t32_base::streams::NoMemory;
 
-/// What a process did: it made silent steps, sent something, which is to be posted, or had no step.
+/// What a process did: it made silent steps, sent something by its last one, or had no step.
 #[derive(Drop)]
 pub enum Turn {
     Moved,
-    Posted(Post),
+    Sends(Sending),
     Rests,
 }
 
+/// What a process sent by its step `at`. It becomes a post where it is queued: a post is large, and most turns
+/// send nothing.
+#[derive(Drop)]
+pub struct Sending {
+    pub pid: Pid,
+    pub at: u64,
+    pub emission: Emission,
+}
+
 /// Lets a process run for a quantum. After want of memory nothing has changed.
-pub fn process_turn(
-    alloc: Global,
-    number: ClusterNo,
-    pid: Pid,
-    process: &mut Process,
-) -> Result<Turn, NoMemory>
-    ensures turn { ProcessTurn number pid process.old result process.new }
+pub fn process_turn(alloc: Global, pid: Pid, process: &mut Process) -> Result<Turn, NoMemory>
+    ensures turn { ProcessTurn pid process.old result process.new }
     ensures lighter { IfOk result (λ turn. LighterProcess turn process.old process.new) }
 {
     match run_quantum(alloc, process)? {
         Quantum::Moved => Ok(Turn::Moved),
         Quantum::Sent(emission) => {
             let at = steps_of(process);
-            Ok(Turn::Posted(post_of(number, pid, at, emission)))
+            Ok(Turn::Sends(Sending { pid, at, emission }))
         }
         Quantum::Stuck => Ok(Turn::Rests),
     }
@@ -51,10 +55,11 @@ fn steps_in(small: &Small) -> u64
     small.steps
 }
 
-// The post of something that a process sent by its step `at`.
-fn post_of(number: ClusterNo, pid: Pid, at: u64, emission: Emission) -> Post
-    ensures { result ≡ post_told number pid at emission }
+/// The post of something that a process of the cluster with a number sent. Takes no memory.
+pub fn post_of(number: ClusterNo, sending: Sending) -> Post
+    ensures { result ≡ post_told number sending.pid sending.at sending.emission }
 {
+    let Sending { pid, at, emission } = sending;
     let what = match emission {
         Emission::Mail(letter) => What::Mail { at, letter },
         Emission::Exit(end) => What::Exit { pid, at, end },

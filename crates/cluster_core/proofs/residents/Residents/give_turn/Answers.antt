@@ -20,7 +20,7 @@ invariant_of-self c =
 
 pub returns-in-Some-get_mut-clause-turn : goal.returns-in-Some-get_mut-clause-turn
 returns-in-Some-get_mut-clause-turn c =
-    given_turn c.args.number c.self.inside.processes (with_value c.self.inside.processes c.in-Some.key.now c.process_turn.new.process) c.args.pid c.in-Some.key.now c.self.inside.keys.entries c.self.inside.ready.keys
+    given_turn c.self.inside.processes (with_value c.self.inside.processes c.in-Some.key.now c.process_turn.new.process) c.args.pid c.in-Some.key.now c.self.inside.keys.entries c.self.inside.ready.keys
     c.in-Some-get_mut.process.now c.process_turn.new.process c.args.self.now.here c.process_turn.result c.self.invariant (sym c.in-Some.ensures.value) (sym c.in-Some-get_mut.ensures.value)
     (Updates-with_value c.self.inside.processes c.in-Some.key.now c.process_turn.new.process (ap is_some (sym c.in-Some-get_mut.ensures.value))) (ap (λ (v : ResidentsView). v.here) c.self.view_is) c.process_turn.ensures.turn
 
