@@ -45,7 +45,8 @@ impl Model for Residents {
 impl Residents {
     /// No process.
     pub fn none(alloc: Global) -> Residents
-        ensures { result.here ≡ [] }
+        ensures here { result.here ≡ [] }
+        ensures last { result.last ≡ 0 }
     {
         Residents {
             processes: Slab::new(alloc),
@@ -59,7 +60,8 @@ impl Residents {
     /// said but that the value can be dropped.
     pub fn add(&mut self, pid: Pid, process: Process) -> Result<(), NoMemory>
         requires { list_all (λ e. nat_lt e.0.0 pid.0) self.old.here ≡ true }
-        ensures { OnOk result (self.new.here ≡ self.old.here ++ (pid, process) ∷ []) }
+        ensures here { OnOk result (self.new.here ≡ self.old.here ++ (pid, process) ∷ []) }
+        ensures last { OnOk result (self.new.last ≡ self.old.last) }
     {
         self.ready.insert(pid.0)?;
         let key = self.processes.insert(process)?;
@@ -135,11 +137,12 @@ impl Residents {
     }
 
     /// Takes in an entry: a letter arrives at the process whose end it is for, and a process that ended is
-    /// let go. After want of memory no process has changed.
+    /// let go. Which process was chosen last stays. After want of memory no process has changed.
     pub fn take_in(&mut self, what: &What) -> Result<(), NoMemory>
         requires { HasRoom self.old.here }
         ensures ok { OnOk result (self.new.here ≡ residents_after what.now self.old.here) }
         ensures err { OnErr result (self.new.here ≡ self.old.here) }
+        ensures last { self.new.last ≡ self.old.last }
     {
         match what {
             What::Mail { letter, .. } => match letter.to {
@@ -159,6 +162,7 @@ impl Residents {
         requires { HasRoom self.old.here }
         ensures ok { OnOk result (self.new.here ≡ map (λ e. if same_pid pid e.0 then (e.0, arrived e.1 letter.now) else e) self.old.here) }
         ensures err { OnErr result (self.new.here ≡ self.old.here) }
+        ensures last { self.new.last ≡ self.old.last }
     {
         match self.keys.get(&pid.0) {
             Some(key) => {
@@ -174,7 +178,8 @@ impl Residents {
 
     // Lets the process with a pid go, if it is here. Takes no memory.
     fn let_go(&mut self, pid: Pid)
-        ensures { self.new.here ≡ filter (λ e. not (same_pid e.0 pid)) self.old.here }
+        ensures here { self.new.here ≡ filter (λ e. not (same_pid e.0 pid)) self.old.here }
+        ensures last { self.new.last ≡ self.old.last }
     {
         if let Some(key) = self.keys.remove(&pid.0) {
             self.ready.remove(&pid.0);

@@ -33,8 +33,8 @@ invariant_of-self-2 c =
     (kept_beside c.self.inside.processes c.insert-2.new.self c.in_ok-key.key (Some c.args.process) c.self.inside.keys.entries c.insert.new.self.keys c.in_ok-key.ensures.was_vacant c.in_ok-key.ensures.updates
     (ready_put c.self.inside.processes c.self.inside.keys.entries (c.args.pid).0 c.self.inside.ready.keys c.insert.new.self.keys c.in_ok-insert.ensures.updates.0 c.self.invariant)))
 
-pub returns : goal.returns
-returns c =
+pub returns-clause-here : goal.returns-clause-here
+returns-clause-here c =
     let below = all_below c.self.inside.processes c.self.inside.ready.keys (c.args.pid).0 c.self.inside.keys.entries c.self.invariant.each (ap (λ (v : ResidentsView). list_all (λ e. ltb (e.0).0 (c.args.pid).0) v.here) c.self.view_is ∙ c.requires) in
     ap (stands_in c.insert-2.new.self) (c.in_ok-insert-2.ensures.entries ∙ put_last (c.args.pid).0 c.in_ok-key.key c.self.inside.keys.entries below)
     ∙ one_more c.insert-2.new.self (c.args.pid).0 c.in_ok-key.key c.args.process c.self.inside.keys.entries c.in_ok-key.ensures.updates.changed

@@ -24,8 +24,8 @@ invariant_of-self-in-Some-2 c =
     (sym c.in-Some.ensures.value) c.try_remove.ensures.updates (λ q other. c.remove-in-Some.ensures.updates.2 q other)
     (subst (λ (es : List (ℕ × ℕ)). IsStrictlySortedBy nat_cmp (map (λ (e : ℕ × ℕ). e.0) es)) c.remove.ensures.entries c.remove.ensures.ordered) c.self.invariant)
 
-pub returns-in-Some : goal.returns-in-Some
-returns-in-Some c =
+pub returns-in-Some-clause-here : goal.returns-in-Some-clause-here
+returns-in-Some-clause-here c =
     let after =
     ap (stands_in c.try_remove.new.self) c.remove.ensures.entries
     ∙ goes c.self.inside.processes c.try_remove.new.self (c.args.pid).0 c.in-Some.key c.self.inside.keys.entries c.self.inside.ready.keys c.self.invariant (sym c.in-Some.ensures.value) c.try_remove.ensures.updates
@@ -33,8 +33,8 @@ returns-in-Some c =
     in
     elim c.match-try_remove.branch [ in-Some-1 w ↦ ap (λ (v : ResidentsView). v.here) w.self-is ∙ after | in-None-1 w ↦ ap (λ (v : ResidentsView). v.here) w.self-is ∙ after ]
 
-pub returns-in_default : goal.returns-in_default
-returns-in_default c =
+pub returns-in_default-clause-here : goal.returns-in_default-clause-here
+returns-in_default-clause-here c =
     ap (stands_in c.self.inside.processes) c.in_default.ensures.unchanged
     ∙ sym (nobody_goes c.self.inside.processes (c.args.pid).0 c.self.inside.keys.entries (no_entry (c.args.pid).0 c.self.inside.keys.entries (sym c.in_default.ensures.value)))
     ∙ ap (λ (v : ResidentsView). filter (λ e. not (same_pid e.0 c.args.pid)) v.here) c.self.view_is
