@@ -1,5 +1,5 @@
-//! Tests of the kernels, of the bus and of what is printed of a run, by one happy path of each public call and by
-//! the refusals. The expected values come from the worked examples of the formats.
+//! Tests of the kernel without failures, call by call, of what the bus refuses, and of what is printed of a run and of
+//! its log. The expected values come from the worked examples of the formats.
 #![tactic(auto)]
 
 #[cfg(test)]
