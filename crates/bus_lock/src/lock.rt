@@ -227,6 +227,18 @@ impl<V: LogValue> LogLock<V> {
         unreachable!()
     }
 
+    /// How long the list is at some moment. Waits for nobody and does not take the turn.
+    ///
+    /// The seat is told that length, and nothing else that it knows changes.
+    pub fn length_now(&self, seat: &mut LogSeat<V>) -> u64
+        requires of { IsOf self.now seat.old }
+        ensures of { IsOf self.now seat.new }
+        ensures told { (result ≤ told seat.new) × (told seat.old ≤ told seat.new) }
+        ensures same { view_of seat.new ≡ retold (view_of seat.old) (told seat.new) }
+    {
+        self.load_count(seat)
+    }
+
     /// Joins another seat of this lock into a seat. Waits for nobody.
     ///
     /// The seat then holds the numbers of both and has seen the longer of what both had seen, which begins

@@ -5,3 +5,7 @@ mod Shutting
 mod Waiting
 pub mod Counting
 pub mod Quiet
+pub mod Leaving
+pub mod Taking
+pub mod Clean
+pub mod ForkLaws
