@@ -1,7 +1,7 @@
 use Rattle.std.proofs.Common.{◌∙◌, subst}
 use Rattle.plain_kernel.specs.Answers.{BadAt}
 use Rattle.cert_sched.proofs.Applied.{no_bad_item}
-use Rattle.targon_cli.proofs.simulated.run_text.Goals as goal
+use Rattle.targon_cli.proofs.runs.run_text.Goals as goal
 
 pub unreachable-requires : goal.unreachable-requires
 unreachable-requires c =
