@@ -36,7 +36,7 @@ pub fn simulate(
     requires { pick < 2 ^ 31 }
     ensures { IfOk result (λ r. MakesRun (system_reading bytes.now) log r.0.status r.0.text r.1) }
 {
-    match read(alloc, bytes)? {
+    match system_in(alloc, bytes)? {
         Read::System(system) => {
             let ran = sim(alloc, &system, pick)?;
             tell(alloc, &system, ran, log)
@@ -56,7 +56,7 @@ pub fn run_threads<R: Threads + Wait + Sync, G: Gate + Sync>(
 ) -> Result<(Reply, Option<Ran>), NoMemory>
     ensures { IfOk result (λ r. MakesRun (system_reading bytes.now) log r.0.status r.0.text r.1) }
 {
-    match read(alloc, bytes)? {
+    match system_in(alloc, bytes)? {
         Read::System(system) => {
             let ran = run(rt, alloc, &system, gate)?;
             tell(alloc, &system, ran, log)
@@ -73,7 +73,7 @@ pub enum Read {
 }
 
 // Reads the system of a text.
-fn read(alloc: Global, bytes: &[u8]) -> Result<Read, NoMemory>
+fn system_in(alloc: Global, bytes: &[u8]) -> Result<Read, NoMemory>
     ensures { IfOk result (IsRead (system_reading bytes.now)) }
 {
     match read_system(alloc, bytes) {
