@@ -1,7 +1,7 @@
 -- Counting the threads that sleep keeps the rule, which says nothing of that word.
 use Rattle.std.proofs.Common.{◌≡◌, ℕ, true, List, get_or, set, Option, refl, ◌∙◌, arith, length-set, get_or-set_other}
 use mathlib.Core.Option.{none}
-use Rattle.atomic_table.specs.Table.{State, Me, step, keeps, Allows}
+use Rattle.atomic_table.specs.Table.{Me, step, keeps, Allows}
 use Rattle.bus_lock.specs.declared.view.View.{View}
 use Rattle.bus_lock.specs.Rule.{Fits, Kept}
 use Rattle.bus_lock.specs.Steps.{stays}
