@@ -130,7 +130,11 @@ fn take_turns<R: Wait>(
 }
 
 // Two threads wait for each other so often. Answers how many notes there then are.
-fn alternate<R: Threads + Wait + Sync>(rt: &R, alloc: Global, rounds: u32) -> Result<u64, NoMemory> {
+fn alternate<R: Threads + Wait + Sync>(
+    rt: &R,
+    alloc: Global,
+    rounds: u32,
+) -> Result<u64, NoMemory> {
     let (lock, a, b) = open_two(alloc, 0)?;
     let shared = &lock;
     let ((mut a, a_done), (_b, b_done)) = join(
