@@ -1,7 +1,7 @@
 //! What a record keeps of what it was told, and what it hands over.
 ghost use Rattle.std.specs.Prelude.{◌≡◌};
 ghost use Rattle.t32_base.specs.declared.letter.To.TheVariants.{Proc};
-ghost use Rattle.t32_base.specs.declared.letter.Body.TheVariants.{EndOf, Signal};
+ghost use Rattle.t32_base.specs.declared.letter.Body.TheVariants.{EndOf};
 
 use super::{Record, RecordParts};
 use proc_state::mailbox::Mailbox;
@@ -56,9 +56,9 @@ fn a_new_record_has_the_state_and_nothing_else(rt: HostRuntime) -> Result<(), Fa
 fn what_a_record_is_told_is_handed_over(rt: HostRuntime) -> Result<(), Fail> {
     let alloc = rt.alloc();
     let mut rec = Record::new(alloc, Pid(16), None);
-    for end in [1, 2, 1] {
-        rec.save(letter_to(end))?;
-    }
+    rec.save(letter_to(1))?;
+    rec.save(letter_to(2))?;
+    rec.save(letter_to(1))?;
     rec.count(&sent());
     rec.count(&sent());
     rec.add_birth(Pid(32))?;
