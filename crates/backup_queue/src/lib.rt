@@ -1,6 +1,7 @@
 //! The letters that a backup saves for a process, until a synchronisation says which of them it has read.
 #![tactic(auto)]
 
+pub mod record;
 #[cfg(test)]
 mod tests;
 

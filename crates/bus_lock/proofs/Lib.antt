@@ -2,6 +2,7 @@ pub mod Lists
 pub mod Views
 pub mod Turns
 pub mod Loads
+pub mod Sleeps
 pub mod Takes
 pub mod Raises
 pub mod Gives

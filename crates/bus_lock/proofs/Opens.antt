@@ -19,7 +19,7 @@ module _ {Value Entry Origin : Type 0} (list_of : Value → List Entry) (origin_
 
   -- The table at the start.
   pub opens : (value : Value) → list_of value ≡ [] → origin_of value ≡ made_from → 0 < seats
-      → Rule record { words = 0 ∷ 0 ∷ []; homes = some (Some value) ∷ []; views = first_view seats made_from ∷ [] }
+      → Rule record { words = 0 ∷ 0 ∷ 0 ∷ []; homes = some (Some value) ∷ []; views = first_view seats made_from ∷ [] }
   opens value empty is some_seat = record {
     log = [];
     words = refl;
@@ -58,6 +58,6 @@ module _ {Value Entry Origin : Type 0} (list_of : Value → List Entry) (origin_
     first_at (suc i) u e = absurd (some-ne-none u (sym e))
 
   -- The table at the start, by what fills its slots.
-  pub opens_with : (value : Value) (xs : List (Option Value)) → xs ≡ Some value ∷ [] → list_of value ≡ [] → origin_of value ≡ made_from → 0 < seats → Kept list_of origin_of author seats made_from (opening (0 ∷ 0 ∷ []) xs (first_view seats made_from))
-  opens_with value xs e empty is some_seat = subst (λ (l : List (Option Value)). Kept list_of origin_of author seats made_from (opening (0 ∷ 0 ∷ []) l (first_view seats made_from))) (sym e)
+  pub opens_with : (value : Value) (xs : List (Option Value)) → xs ≡ Some value ∷ [] → list_of value ≡ [] → origin_of value ≡ made_from → 0 < seats → Kept list_of origin_of author seats made_from (opening (0 ∷ 0 ∷ 0 ∷ []) xs (first_view seats made_from))
+  opens_with value xs e empty is some_seat = subst (λ (l : List (Option Value)). Kept list_of origin_of author seats made_from (opening (0 ∷ 0 ∷ 0 ∷ []) l (first_view seats made_from))) (sym e)
       (opens value empty is some_seat)

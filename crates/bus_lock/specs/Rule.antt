@@ -1,5 +1,5 @@
 -- The rule of the lock's table: at each moment there is one list, and every view is a part of it.
--- Word 0 is 0 while no seat has the turn; word 1 is the length of the list; the one slot has the value.
+-- Word 0 is 0 while no seat has the turn; word 1 is the length of the list; of word 2 nothing is said; the one slot has the value.
 use Rattle.std.specs.Prelude.{◌+◌, ◌≡◌, ◌≢◌, ℕ, ◌<◌, ◌≤◌, ◌⊎◌, true, false, List, [], ◌∷◌, length, slice_index, Option, Some}
 use mathlib.Core.Option.{some}
 use mathlib.Core.List.{IsPrefix}
@@ -57,7 +57,7 @@ module _ {Value Entry Origin : Type 0} (list_of : Value → List Entry) (origin_
   -- The rule.
   pub record Kept (table : State (Option Value) (View Entry Origin)) : Type 0 where
     pub log : List Entry
-    pub words : length table.words ≡ 2
+    pub words : length table.words ≡ 3
     pub slots : length table.homes ≡ 1
     pub count : slice_index table.words 1 ≡ length log
     pub turn : Free log table ⊎ Taken log table

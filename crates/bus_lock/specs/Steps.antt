@@ -18,6 +18,10 @@ module _ {Value Entry Origin : Type 0} where
   abbrev pub gives_turn : Step (Option Value) → Me (Option Value) (View Entry Origin) → ℕ → Me (Option Value) (View Entry Origin) → Type 0
   gives_turn step old found new = new ≡ (gone old.0, rest old.1)
 
+  -- The seat stays as it is.
+  abbrev pub stays : Step (Option Value) → Me (Option Value) (View Entry Origin) → ℕ → Me (Option Value) (View Entry Origin) → Type 0
+  stays step old found new = new ≡ old
+
   -- The seat is told the count, and that what it knew at its last join stands.
   abbrev pub loads_count : (Entry → Option ℕ) → Step (Option Value) → Me (Option Value) (View Entry Origin) → ℕ → Me (Option Value) (View Entry Origin) → Type 0
   loads_count author step old found new = (new ≡ (informed old.0 found, old.1)) × Remembers author old.0 old.0.left × Remembers author old.0 old.0.right

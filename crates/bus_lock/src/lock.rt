@@ -7,7 +7,7 @@ ghost use Rattle.bus_lock.specs.Views.{Shows, Joined, Remembers, new_view, enter
 
 use crate::rule::{OneList, Place, Terms};
 use crate::seat::LogSeat;
-use crate::steps::{Both, GiveFirst, GiveTurn, LoadCount, RaiseCount, TakeTurn};
+use crate::steps::{Both, CountSleeper, GiveFirst, GiveTurn, LoadCount, RaiseCount, TakeTurn};
 use crate::value::LogValue;
 use crate::view::View;
 use atomic_table::{Refused, Table};
@@ -23,11 +23,20 @@ const TURN: usize = 0;
 // Word 1: the length of the list.
 const COUNT: usize = 1;
 
+// Word 2: how many threads sleep in `wait_past`, or are about to.
+//
+// No wake-up is lost, since all steps on the words stand in one order. Who is to sleep raises this word, looks
+// at COUNT and then sleeps; who makes the list longer raises COUNT, looks at this word and then wakes. If the
+// first does not see the new count, it looked before COUNT was raised, and so had raised this word before the
+// other looks at it; it lowers it only after its sleep. So it is woken, or it was still on its way to sleep: then
+// the operating system, which compares COUNT once more, does not let it sleep.
+const SLEEPERS: usize = 2;
+
 /// A lock round a value. Every thread that is to use it holds a seat of it.
 #[derive(Drop)]
 pub struct LogLock<V: LogValue> {
     table: Table<Option<V>, View<V::Entry, V::Origin>, Terms<V>, OneList<V>, Global>,
-    ghost shape: { (table.shared.table_id.words ≡ 2) × (table.shared.table_id.slots ≡ 1) },
+    ghost shape: { (table.shared.table_id.words ≡ 3) × (table.shared.table_id.slots ≡ 1) },
 }
 
 // Puts a value last.
@@ -123,7 +132,7 @@ impl<V: LogValue> LogLock<V> {
         if turn == 2 {
             shared.wake_one(TURN);
         }
-        if before != length {
+        if before != length && shared.peek(SLEEPERS) != 0 {
             shared.wake_all(COUNT);
         }
     }
@@ -154,7 +163,7 @@ impl<V: LogValue> LogLock<V> {
             first: Snapshot::of(&value),
         };
         let slots = alone(alloc, Some(value))?;
-        match Table::new(alloc, &[0, 0], slots, &terms) {
+        match Table::new(alloc, &[0, 0, 0], slots, &terms) {
             Ok((table, seat)) => Ok((LogLock { table }, LogSeat { seat })),
             Err(Refused { slots: _ }) => Err(NoMemory),
         }
@@ -215,14 +224,20 @@ impl<V: LogValue> LogLock<V> {
         ensures told { (result ≤ told seat.new) × (told seat.old ≤ told seat.new) }
         ensures same { view_of seat.new ≡ retold (view_of seat.old) (told seat.new) }
     {
+        let seen = self.load_count(seat);
+        if seen > length {
+            return seen;
+        }
+        let shared = &self.table.shared;
+        shared.fetch_add::<CountSleeper>(&mut seat.seat, SLEEPERS, 1);
         for _ in rt.forever() {
             let count = self.load_count(seat);
             if count > length {
+                // The one way on from here: what was raised is lowered.
+                shared.fetch_sub::<CountSleeper>(&mut seat.seat, SLEEPERS, 1);
                 return count;
             }
-            self.table
-                .shared
-                .park(rt, COUNT, (count % (1 << 32)) as u32);
+            shared.park(rt, COUNT, (count % (1 << 32)) as u32);
         }
         unreachable!()
     }

@@ -30,6 +30,15 @@ impl<W, E, O> Play<Option<W>, View<E, O>> for GiveTurn {
     ghost then = { gives_turn };
 }
 
+/// A thread that sleeps until the list is longer is counted, or counted no more.
+pub(crate) struct CountSleeper;
+
+impl<W, E, O> Play<Option<W>, View<E, O>> for CountSleeper {
+    ghost use Rattle.bus_lock.specs.Steps.{stays};
+
+    ghost then = { stays };
+}
+
 /// The count is read.
 pub(crate) struct LoadCount;
 

@@ -103,3 +103,58 @@ fn a_waiter_sees_what_it_waited_for(rt: HostRuntime) -> Result<(), Fail> {
     assert!(rt; found == 3 || found == 4);
     Ok(())
 }
+
+// Adds a note each time that the other thread has added one: the thread of name 0 begins.
+fn take_turns<R: Wait>(
+    rt: &R,
+    lock: &LogLock<Notes>,
+    seat: LogSeat<Notes>,
+    me: u64,
+    rounds: u32,
+) -> (LogSeat<Notes>, Result<(), NoMemory>)
+    requires of { IsOf lock.now seat × (has_entered seat ≡ false) }
+    requires me { (name seat ≡ me) × (me < 2) }
+    ensures { IsOf lock.now result.0 }
+{
+    let mut mine = seat;
+    for round in 0..rounds {
+        let before = 2 * round as u64 + me;
+        if before > 0 {
+            lock.wait_past(rt, &mut mine, before - 1);
+        }
+        if let Err(refused) = add_one(rt, lock, &mut mine, me, round as u64) {
+            return (mine, Err(refused));
+        }
+    }
+    (mine, Ok(()))
+}
+
+// Two threads wait for each other so often. Answers how many notes there then are.
+fn alternate<R: Threads + Wait + Sync>(
+    rt: &R,
+    alloc: Global,
+    rounds: u32,
+) -> Result<u64, NoMemory> {
+    let (lock, a, b) = open_two(alloc, 0)?;
+    let shared = &lock;
+    let ((mut a, a_done), (_b, b_done)) = join(
+        rt,
+        || -> (LogSeat<Notes>, Result<(), NoMemory>)
+            requires { IsOf shared.now a × (has_entered a ≡ false) × (name a ≡ 0) }
+            ensures { IsOf shared.entry.now result.0 }
+        { take_turns(rt, shared, a, 0, rounds) },
+        || -> (LogSeat<Notes>, Result<(), NoMemory>)
+            requires { IsOf shared.now b × (has_entered b ≡ false) × (name b ≡ 1) }
+        { take_turns(rt, shared, b, 1, rounds) },
+    );
+    a_done?;
+    b_done?;
+    Ok(lock.length_now(&mut a))
+}
+
+#[test]
+fn threads_that_wait_for_each_other_miss_no_wake_up(rt: HostRuntime) -> Result<(), Fail> {
+    let found = alternate(&rt, rt.alloc(), 5000).ok().ok_or("memory")?;
+    assert_eq!(rt; found, 10000);
+    Ok(())
+}

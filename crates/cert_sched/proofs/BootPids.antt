@@ -31,7 +31,7 @@ root_pids roots = placed_pids (map placed_root roots)
 
 -- ---- the channels leave them
 
-numbers_are : (ps : List (Pid × ProcState)) → map (λ (p : Pid). p.0) (map (λ (e : Pid × ProcState). e.0) ps) ≡ state_pids ps
+pub numbers_are : (ps : List (Pid × ProcState)) → map (λ (p : Pid). p.0) (map (λ (e : Pid × ProcState). e.0) ps) ≡ state_pids ps
 numbers_are [] = refl
 numbers_are (e ∷ ps) = ap (λ ns. (e.0).0 ∷ ns) (numbers_are ps)
 

@@ -90,10 +90,10 @@ received-all letter p s goes_on = received-goes_on (Sent letter) p s goes_on ∙
     by_to (Tty t) = refl
     by_to (Proc q e) = by_test (same_pid q p)
 
-same_of : (p q : Pid) → same_pid p q ≡ true → p ≡ q
+pub same_of : (p q : Pid) → same_pid p q ≡ true → p ≡ q
 same_of p q is i = record { 0 = eqb-true p.0 q.0 is i }
 
-apart_from : (p q : Pid) → same_pid p q ≡ false → q.0 ≢ p.0
+pub apart_from : (p q : Pid) → same_pid p q ≡ false → q.0 ≢ p.0
 apart_from p q is same = true≢false (sym (eq-eqb p.0 q.0 (sym same)) ∙ is)
 
 -- an entry that tells of no emission, and one that tells of a birth

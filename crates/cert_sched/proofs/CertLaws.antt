@@ -22,7 +22,8 @@ use Rattle.cert_sched.specs.Rules.{ends_run, is_over}
 use Rattle.cert_sched.specs.CertAfter.{CertView, StartsSchedule, KeepsSchedule, steps_of, added, count_in, raised, raised_at, cert_after}
 use Rattle.cert_sched.proofs.ListLaws.{last_of-snoc}
 use Rattle.cert_sched.proofs.LogLaws.{schedule_of-snoc, told-snoc, told_last}
-use Rattle.cert_sched.proofs.StepLaws.{applied, done_kernel, done_after-snoc, done_after-none}
+use Rattle.cert_sched.proofs.StepLaws.{applied, done_kernel, done_after-snoc, done_after-none, raised_same}
+use Rattle.cert_sched.proofs.BuiltLaws.{is_over-snoc}
 
 -- ---- the items
 
@@ -60,9 +61,6 @@ raised_done (Some r) counts q =
     by_test true = refl
     by_test false = refl
 
-same_raised : (o : Option (Pid × ℕ)) (f g : Pid → ℕ) (q : Pid) → ((p : Pid) → f p ≡ g p) → raised_at o f q ≡ raised_at o g q
-same_raised o f g q same = ap (λ h. raised_at o h q) (λ i p. same p i)
-
 -- ---- the end
 
 ends_by_done : (places : Places) (w : What) → ends_run places w ≡ false → is_done w ≡ false
@@ -78,12 +76,6 @@ ends_by_done places (Return c) runs = refl
 ends_by_done places (Rebackup to fresh recs) runs = refl
 ends_by_done places (Done rests) runs = runs
 ends_by_done places Stop runs = refl
-
--- whether a log is over is said by its last entry
-pub is_over-snoc : (system : System) (log : List Entry) (e : Entry) → is_over system (log ++ e ∷ []) ≡ ends_run (placement system log) (what e)
-unfolding is_over
-is_over-snoc system log e = ap (λ ts. option_map_or (λ (t : Told). ends_run t.places (what t.entry)) (last_of ts) false) (told-snoc system log e)
-    ∙ ap (λ o. option_map_or (λ (t : Told). ends_run t.places (what t.entry)) o false) (last_of-snoc (told system log) (told_last system log e))
 
 -- ---- the whole
 
@@ -104,7 +96,7 @@ after_keeps c e system log is stands =
           ∙ ap (λ items. schedule_of system log ++ items) (same_added (steps_of c.done) (done a.old) (what e) kernel ∙ added_is a.old (what e) ∙ ap (λ k. items_in k e) (sym a.before))
           ∙ sym (schedule_of-snoc system log e);
       steps = λ over p.
-          raised_done (count_in (what e)) c.done p ∙ same_raised (count_in (what e)) (steps_of c.done) (done_after system log) p counts
+          raised_done (count_in (what e)) c.done p ∙ raised_same (count_in (what e)) (steps_of c.done) (done_after system log) p counts
           ∙ sym (done_after-snoc system log e p (ends_by_done (placement system log) (what e) (sym (is_over-snoc system log e) ∙ over)) stands.applies);
     }
 

@@ -29,7 +29,7 @@ use Rattle.cert_sched.proofs.BuiltLaws.{legal_induction}
 use Rattle.cert_sched.proofs.CameLaws.{IsStandingRule}
 use Rattle.cert_sched.proofs.ThereLaws.{found_among}
 use Rattle.cert_sched.proofs.FreshLaws.{BornRightly, born_rightly, child_new}
-use Rattle.cert_sched.proofs.FamilyLaws.{Pair, Member, none_of, among, In, not_in, Families, families, families_at_boot, families_more, births_more, was_unsynced, StaysSynced, Keeps, unended_map, sync_keeps, sync_synced, loss_keeps, loss_synced, backup_keeps, backup_synced, exit_there, exit_elsewhere, found_born}
+use Rattle.cert_sched.proofs.FamilyLaws.{Pair, Member, none_of, among, In, not_in, Families, families, families_at_boot, families_more, births_more, was_unsynced, StaysSynced, Keeps, unended_map, sync_keeps, sync_synced, loss_keeps, loss_synced, backup_keeps, backup_synced, exit_there, exit_elsewhere, found_born, or_right, or_left}
 
 module _ (system : System) (log : List Entry) (e : Entry) (stands : Stands system log e) (all : Families system log) where
   by_change : (f : Placed → Placed) → Keeps f → StaysSynced f → (w : What) → (placed_after (placement system log) w).placed ≡ map f (placement system log).placed → (p : Pid) → is_unsynced (placed_after (placement system log) w) p ≡ true → is_unsynced (placement system log) p ≡ true
@@ -98,15 +98,6 @@ Recorded system log = (b : Pair) → Member b (births_of log) → is_unsynced (p
 
 births_more_in : (x y : List Deed) → births_in (x ++ y) ≡ births_in x ++ births_in y
 births_more_in x y = flat_map-append child_in x y
-
-or_left : (a b : Bool) → a ≡ true → (a || b) ≡ true
-or_left true b h = refl
-or_left false b h = absurd (true≢false (sym h))
-
-or_right : (a b : Bool) → b ≡ true → (a || (b || false)) ≡ true
-or_right true b h = refl
-or_right false true h = refl
-or_right false false h = h
 
 module _ (system : System) (log : List Entry) (e : Entry) (stands : Stands system log e) (all : Families system log) (before : Recorded system log) where
   unsynced_before : (p : Pid) → In p.0 (placement system log) → is_unsynced (placement system (log ++ e ∷ [])) p ≡ true → is_unsynced (placement system log) p ≡ true

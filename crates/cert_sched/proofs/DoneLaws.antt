@@ -37,6 +37,7 @@ use Rattle.cert_sched.proofs.PidLaws.{placed_pids, apart_of, apart_fewer}
 use Rattle.cert_sched.proofs.RunsLaws.{rest_pids, led, led-silent_upto, after_runs, RunsTo, runs_made}
 use Rattle.cert_sched.proofs.EndedLaws.{EndsTold, built_ended}
 use Rattle.cert_sched.proofs.StillLaws.{still_where_none_acts}
+use Rattle.cert_sched.proofs.Applied.{legal_applies}
 
 -- The processes that have not ended, once and rising, with counts at which they are idle. None of them is owed a backup.
 pub record AllRest (system : System) (log : List Entry) (rests : List (Pid × ℕ)) : Type 0 where
@@ -74,10 +75,6 @@ unnamed (q ∷ qs) p none = by_tests q.ended (same_pid q.pid p) refl none (unnam
     by_tests false false is e more = more (sym (ap (λ b. b || list_any (λ m. eqb m p.0) (placed_pids (filter (λ (q : Placed). not q.ended) qs))) is) ∙ e)
 
 -- ---- the kernel
-
-plain_some : (system : System) (log : List Entry) → IsLegalBy BuiltMayFollow system log → is_some (plain_after system log) ≡ true
-unfolding plain_after
-plain_some system log legal = legal_induction BuiltMayFollow system (λ log. is_some (plain_after system log) ≡ true) refl (λ log e before may. (may.stands).applies) log legal
 
 idle_no_step : (s : ProcState) → is_idle s ≡ true → has_step (next_step s) ≡ false
 idle_no_step s idle = by_test (has_step (next_step s)) idle
@@ -117,7 +114,7 @@ idle_reached system log r idle =
     (and_parts _ (is_some (silent_upto system log r.0 r.1)) halves.0).1
 
 done_kernel : (system : System) (log : List Entry) (rests : List (Pid × ℕ)) → is_system system ≡ true → IsLegalBy BuiltMayFollow system log → AllRest system log rests → DoneKernel system log rests
-done_kernel system log rests valid legal rest = by_kernel (plain_after system log) refl (plain_some system log legal)
+done_kernel system log rests valid legal rest = by_kernel (plain_after system log) refl (legal_applies system log legal)
   where
     two : NoTwo (rest_pids rests)
     two = subst NoTwo (sym rest.named) (rising-apart (placed_pids (unended_in (placement system log))) (apart_fewer (λ (q : Placed). not q.ended) (placement system log).placed (built_apart system log valid legal)))

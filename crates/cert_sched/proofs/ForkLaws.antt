@@ -8,7 +8,7 @@ use Rattle.sys_calls.specs.Next.{next_step, is_blocked}
 use Rattle.sys_calls.specs.Fork.{fork_parent, fork_child, before_fork}
 use Rattle.sys_calls.proofs.RunLemma.{with_after, next_step-delivered, all_delivered}
 use Rattle.roll_forward.specs.Deeds.{Deed, Sends, Bears}
-use Rattle.cert_sched.proofs.ReplayLaws.{Replays, ReplaysBy, replays_delivered, replays_silently, fork_after}
+use Rattle.cert_sched.proofs.ReplayLaws.{Replays, ReplaysBy, replays_delivered, replays_silently, fork_after, not_blocked}
 
 -- what a step and those after it fork
 abbrev pub forked_by : ProcState → (ProcState → List Deed → List ProcState) → Next → List Deed → List ProcState
@@ -50,13 +50,6 @@ forked_on (suc n) m s t ds es first =
     ∙ step_on s (λ x r. Replays n x r t) (λ x r. forked n x r) (λ x r. forked (n + m) x r) es (forked m t es) (next_step s) ds first (λ x r h. forked_on n m x t r es h)
 
 -- ---- letters that arrive
-
-not_blocked : (s : ProcState) (After : ProcState → List Deed → Type 0) (next : Next) (ds : List Deed) → ReplaysBy s After next ds → is_blocked next ≡ false
-not_blocked s After (Silent t) ds h = refl
-not_blocked s After Blocked ds h = absurd h
-not_blocked s After Forks ds h = refl
-not_blocked s After (Emits e t) ds h = refl
-not_blocked s After Over ds h = refl
 
 step_delivered : (s : ProcState) (l : Letter) (After : ProcState → List Deed → Type 0) (f : ProcState → List Deed → List ProcState) (next : Next) (ds : List Deed) → ReplaysBy s After next ds
     → ((x : ProcState) (r : List Deed) → After x r → f (delivered x l) r ≡ f x r) → forked_by (delivered s l) f (with_after (λ t. delivered t l) next) ds ≡ forked_by s f next ds

@@ -14,6 +14,7 @@ use Rattle.cert_sched.specs.Schedule.{after_entry, plain_after, items_in, items_
 use Rattle.cert_sched.specs.Told.{Told, told, told_from}
 use Rattle.cert_sched.specs.Account.{account_step, account_after, account_at_boot}
 use Rattle.cert_sched.specs.Legal.{IsLegalBy, IsLegalFrom}
+use Rattle.plain_kernel.proofs.Laws.{apply_all-append}
 
 pub plain_after-snoc : (system : System) (log : List Entry) (e : Entry) → plain_after system (log ++ e ∷ []) ≡ after_entry (plain_after system log) e
 unfolding plain_after
@@ -22,15 +23,6 @@ plain_after-snoc system log e = fold-append after_entry (Some (boot system)) log
 pub placement-snoc : (system : System) (log : List Entry) (e : Entry) → placement system (log ++ e ∷ []) ≡ placed_after (placement system log) (what e)
 unfolding placement
 placement-snoc system log e = fold-append (λ (places : Places) (e : Entry). placed_after places (what e)) (places_at_boot system) log (e ∷ [])
-
--- items in two parts
-pub apply_all-append : (xs ys : List Item) (k : Kernel) → apply_all (xs ++ ys) k ≡ option_and_then (apply_all ys) (apply_all xs k)
-apply_all-append [] ys k = refl
-apply_all-append (x ∷ xs) ys k =
-    elim (apply k x) as (λ o. option_and_then (apply_all (xs ++ ys)) o ≡ option_and_then (apply_all ys) (option_and_then (apply_all xs) o)) [
-      | None ↦ refl
-      | Some l ↦ apply_all-append xs ys l
-    ]
 
 -- the schedule goes on by the items of the entry
 schedule_from-append : (k : Option Kernel) (log more : List Entry) → schedule_from k (log ++ more) ≡ schedule_from k log ++ schedule_from (fold after_entry k log) more

@@ -106,7 +106,7 @@ replays_forked n s q child is = by_case (silently n s) refl is
 
 -- ---- letters that arrive
 
-not_blocked : (s : ProcState) (After : ProcState → List Deed → Type 0) (next : Next) (ds : List Deed) → ReplaysBy s After next ds → is_blocked next ≡ false
+pub not_blocked : (s : ProcState) (After : ProcState → List Deed → Type 0) (next : Next) (ds : List Deed) → ReplaysBy s After next ds → is_blocked next ≡ false
 not_blocked s After (Silent t) ds h = refl
 not_blocked s After Blocked ds h = absurd h
 not_blocked s After Forks ds h = refl

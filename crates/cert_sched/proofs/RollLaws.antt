@@ -21,7 +21,7 @@ use Rattle.cert_sched.specs.Rolling.{refilled, replay_from, RollsForward}
 use Rattle.cert_sched.specs.Legal.{IsLegalBy, IsLegal, MayFollow, Stands}
 use Rattle.cert_sched.specs.Built.{is_built, BuiltMayFollow}
 use Rattle.cert_sched.proofs.ListLaws.{after_last-snoc}
-use Rattle.cert_sched.proofs.RecordLaws.{start_of-snoc, since-snoc, saved_letters-start, saved_letters-other, arrived_count-other}
+use Rattle.cert_sched.proofs.RecordLaws.{start_of-snoc, since-snoc, saved_letters-start, saved_letters-other, arrived_count-other, letters_started}
 use Rattle.cert_sched.proofs.RisingLaws.{NoTwo}
 use Rattle.cert_sched.proofs.PidLaws.{placed_pids}
 use Rattle.cert_sched.proofs.BuiltLaws.{legal_induction}
@@ -62,9 +62,6 @@ rolls-forward system log p now there r =
 
 -- ---- the letters since some kind of entry
 
-letters_anew : (t : Entry → Bool) (log : List Entry) (e : Entry) (p : Pid) → t e ≡ true → letters_to p (after_last t (log ++ e ∷ [])) ≡ []
-letters_anew t log e p h = ap (letters_to p) (after_last-snoc t log e ∙ ap (λ b. cond b [] (after_last t log ++ e ∷ [])) h)
-
 letters_more : (t : Entry → Bool) (log : List Entry) (e : Entry) (p : Pid) → t e ≡ false → letters_to p (after_last t (log ++ e ∷ [])) ≡ letters_to p (after_last t log) ++ letter_for p (what e)
 letters_more t log e p h =
     ap (letters_to p) (after_last-snoc t log e ∙ ap (λ b. cond b [] (after_last t log ++ e ∷ [])) h)
@@ -76,7 +73,7 @@ module _ (system : System) (log : List Entry) (e : Entry) (p : Pid) where
   -- where the process starts anew it has made nothing since
   started_anew : (now : ProcState) → process_after system (log ++ e ∷ []) p ≡ Some now → starts p e ≡ true → arrived_count (log ++ e ∷ []) p ≡ now.next → Rolls system (log ++ e ∷ []) p now
   started_anew now there starting count =
-      let none : letters_to p (after_last (starts p) (log ++ e ∷ [])) ≡ [] = letters_anew (starts p) log e p starting in
+      let none : letters_to p (after_last (starts p) (log ++ e ∷ [])) ≡ [] = letters_started (starts p) log e p starting in
       let mail = saved_letters-start log e p now starting in
       record {
         start = now;
@@ -129,7 +126,7 @@ module _ (system : System) (log : List Entry) (e : Entry) (p : Pid) where
   -- a birth: it starts from there, and no letter has come to it
   after_birth : (now : ProcState) → process_after system (log ++ e ∷ []) p ≡ Some now → is_birth_of p (what e) ≡ true → now.next ≡ 0 → Rolls system (log ++ e ∷ []) p now
   after_birth now there birth none =
-      started_anew now there (ap (λ b. is_cut p (what e) || b) birth ∙ or_else (is_cut p (what e))) (ap length (letters_anew (λ f. is_birth_of p (what f)) log e p birth) ∙ sym none)
+      started_anew now there (ap (λ b. is_cut p (what e) || b) birth ∙ or_else (is_cut p (what e))) (ap length (letters_started (λ f. is_birth_of p (what f)) log e p birth) ∙ sym none)
 
   -- the letters of the entry are the last of those saved
   pub refilled_more : (start : ProcState) → starts p e ≡ false → is_birth_of p (what e) ≡ false → arrived_count log p ≡ start.next + length (letters_to p (after_last (starts p) log))

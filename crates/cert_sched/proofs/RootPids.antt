@@ -34,7 +34,7 @@ homes_fit s few (r ∷ roots) all =
 -- ---- pids
 
 -- two pids of one number have one home and one serial
-same_parts : (h k m n : ℕ) → h < 16 → k < 16 → h + 16 * m ≡ k + 16 * n → (h ≡ k) × (m ≡ n)
+pub same_parts : (h k m n : ℕ) → h < 16 → k < 16 → h + 16 * m ≡ k + 16 * n → (h ≡ k) × (m ≡ n)
 same_parts h k m n p q e = (omega arith, omega arith)
 
 more_of : (home : ℕ) (earlier : List Root) (r : Root) → count_by (has_home home) (earlier ++ r ∷ []) ≡ count_by (has_home home) earlier + cond (has_home home r) 1 0

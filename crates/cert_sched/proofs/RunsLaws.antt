@@ -15,7 +15,7 @@ use Rattle.bus_msg.specs.declared.entry.Entry.{Entry}
 use Rattle.bus_msg.specs.Places.{same_pid}
 use Rattle.cert_sched.specs.Schedule.{done, run_upto, runs_of, plain_after}
 use Rattle.cert_sched.specs.Steps.{silent_upto}
-use Rattle.cert_sched.proofs.LogLaws.{apply_all-append}
+use Rattle.plain_kernel.proofs.Laws.{apply_all-append}
 use Rattle.cert_sched.proofs.StepLaws.{apply_run}
 use Rattle.cert_sched.proofs.RisingLaws.{NoTwo, either_not}
 

@@ -30,7 +30,8 @@ use Rattle.cert_sched.specs.Steps.{silent_upto, emission_at}
 use Rattle.cert_sched.specs.Kinds.{IsSent}
 use Rattle.cert_sched.specs.Scripted.{is_done}
 use Rattle.cert_sched.specs.CertAfter.{count_in, raised_at}
-use Rattle.cert_sched.proofs.LogLaws.{plain_after-snoc, apply_all-append}
+use Rattle.cert_sched.proofs.LogLaws.{plain_after-snoc}
+use Rattle.plain_kernel.proofs.Laws.{apply_all-append}
 
 -- ---- the run of one process
 
@@ -130,7 +131,7 @@ counts_after (Rebackup to false recs) k j q other made = ap (λ i. done i q) (sy
 counts_after (Done rests) k j q other made = absurd (true≢false other)
 counts_after Stop k j q other made = ap (λ i. done i q) (sym (some_same k j made))
 
-raised_same : (o : Option (Pid × ℕ)) (f g : Pid → ℕ) (q : Pid) → ((p : Pid) → f p ≡ g p) → raised_at o f q ≡ raised_at o g q
+pub raised_same : (o : Option (Pid × ℕ)) (f g : Pid → ℕ) (q : Pid) → ((p : Pid) → f p ≡ g p) → raised_at o f q ≡ raised_at o g q
 raised_same o f g q same = ap (λ h. raised_at o h q) (λ i p. same p i)
 
 -- the count of a process after an entry of every kind but Done: the process that the entry tells of has the greater of that count and its old one, and every other its old one

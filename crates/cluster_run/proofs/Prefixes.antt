@@ -13,14 +13,9 @@ use Rattle.cert_sched.specs.Built.{BuiltMayFollow}
 use Rattle.cert_sched.specs.Losses.{is_crash_of}
 use Rattle.cert_sched.proofs.LogLaws.{IsLegal-last}
 use Rattle.cert_sched.proofs.BuiltLaws.{built_unlost}
+use Rattle.bus_order.proofs.LogParts.{take_one}
 
 -- ---- lists
-
--- the part before the next element, and the part from it on
-pub take_next : {X : Type 0} (xs : List X) (n : ℕ) (x : X) → slice_get xs n ≡ Some x → take (suc n) xs ≡ take n xs ++ x ∷ []
-take_next [] n x is = cc
-take_next (y ∷ xs) zero x is = let same : y ≡ x = cc in ap (λ z. z ∷ []) same
-take_next (y ∷ xs) (suc n) x is = ap (λ zs. y ∷ zs) (take_next xs n x is)
 
 pub drop_next : {X : Type 0} (xs : List X) (n : ℕ) (x : X) → slice_get xs n ≡ Some x → drop n xs ≡ x ∷ drop (suc n) xs
 drop_next [] n x is = cc
@@ -54,14 +49,14 @@ legal_prefix May system log n legal = legal_from May system [] log n legal
 -- the log before an entry of it goes on
 pub goes_on_before : (system : System) (log : List Entry) (n : ℕ) (e : Entry) → IsLegalBy BuiltMayFollow system log → slice_get log n ≡ Some e → is_over system (take n log) ≡ false
 goes_on_before system log n e legal at =
-    let more : IsLegalBy BuiltMayFollow system (take n log ++ e ∷ []) = subst (IsLegalBy BuiltMayFollow system) (take_next log n e at) (legal_prefix BuiltMayFollow system log (suc n) legal) in
+    let more : IsLegalBy BuiltMayFollow system (take n log ++ e ∷ []) = subst (IsLegalBy BuiltMayFollow system) (take_one log n e at) (legal_prefix BuiltMayFollow system log (suc n) legal) in
     let may = IsLegal-last BuiltMayFollow system (take n log) e more in
     ((may.stands).placed).2
 
 -- no entry of it is a crash
 pub no_crash : (system : System) (log : List Entry) (n : ℕ) (e : Entry) (k : ClusterNo) → IsLegalBy BuiltMayFollow system log → slice_get log n ≡ Some e → is_crash_of k (what e) ≡ false
 no_crash system log n e k legal at =
-    let more : IsLegalBy BuiltMayFollow system (take n log ++ e ∷ []) = subst (IsLegalBy BuiltMayFollow system) (take_next log n e at) (legal_prefix BuiltMayFollow system log (suc n) legal) in
+    let more : IsLegalBy BuiltMayFollow system (take n log ++ e ∷ []) = subst (IsLegalBy BuiltMayFollow system) (take_one log n e at) (legal_prefix BuiltMayFollow system log (suc n) legal) in
     let none = sym (list_any-append (λ (e : Entry). is_crash_of k (what e)) (take n log) (e ∷ [])) ∙ built_unlost system (take n log ++ e ∷ []) k more in
     (either (is_crash_of k (what e)) false (either (list_any (λ (e : Entry). is_crash_of k (what e)) (take n log)) (is_crash_of k (what e) || false) none).1).0
 

@@ -119,6 +119,6 @@ pub record LivedBy (Follow : System → List Entry → ClusterView → Type 0) (
 abbrev pub Lived : System → List ScriptWord → List Entry → List Life → Type 0
 Lived system script log lives = LivedBy Follows system script log lives
 
--- the same of the lines and the entries that are built so far, for the empty script
-abbrev pub LivedBuilt : System → List Entry → List Life → Type 0
-LivedBuilt system log lives = LivedBy FollowsBuilt system [] log lives
+-- the same of the lines and the entries that are built so far
+abbrev pub LivedBuilt : System → List ScriptWord → List Entry → List Life → Type 0
+LivedBuilt system script log lives = LivedBy FollowsBuilt system script log lives

@@ -1,9 +1,11 @@
-//! The clusters of a system at their start.
-ghost use Rattle.std.specs.Prelude.{◌≡◌, IfOk, true};
+//! The bus of a system and its clusters, at their start.
+ghost use Rattle.std.specs.Prelude.{◌≡◌, ◌<◌, IfOk, length, true, []};
 ghost use Rattle.std.specs.Arc.{arc_value};
 ghost use Rattle.sys_text.specs.Valid.{is_system};
+ghost use Rattle.cluster_run.specs.Along.{AllAlong};
 ghost use Rattle.cluster_run.specs.Started.{AllStarted};
 
+use bus_order::bus::Bus;
 use cluster_core::cluster::Cluster;
 use std::alloc::Global;
 use std::sync::Arc;
@@ -11,8 +13,21 @@ use sys_text::system::System;
 use t32_base::process::ClusterNo;
 use t32_base::streams::NoMemory;
 
-/// The clusters of a system at their start, each at the place of its number.
-pub fn clusters_at_boot(alloc: Global, system: &Arc<System>) -> Result<Vec<Cluster>, NoMemory>
+/// The bus of a system and its clusters, at their start.
+pub fn start(alloc: Global, system: &Arc<System>) -> Result<(Bus, Vec<Cluster>), NoMemory>
+    requires { is_system (arc_value system.now) ≡ true }
+    ensures along { IfOk result (λ started. AllAlong started.0 started.1.items) }
+    ensures some { IfOk result (λ started. 0 < length started.1.items) }
+    ensures system { IfOk result (λ started. started.0.system ≡ arc_value system.now) }
+    ensures none { IfOk result (λ started. started.0.log ≡ []) }
+{
+    let bus = Bus::boot(alloc, system)?;
+    let clusters = clusters_at_boot(alloc, system)?;
+    Ok((bus, clusters))
+}
+
+// The clusters of a system at their start, each at the place of its number.
+fn clusters_at_boot(alloc: Global, system: &Arc<System>) -> Result<Vec<Cluster>, NoMemory>
     requires { is_system (arc_value system.now) ≡ true }
     ensures { IfOk result (λ clusters. AllStarted (arc_value system.now) (arc_value system.now).clusters clusters.items) }
 {

@@ -3,7 +3,8 @@ ghost use Rattle.std.specs.Prelude.{◌≡◌, ◌∷◌, ◌≤◌, [], true, l
 ghost use Rattle.std.specs.Arc.{arc_value};
 ghost use Rattle.bus_msg.specs.declared.entry.Post.{Post as APost};
 ghost use Rattle.cert_sched.specs.Rules.{is_over};
-ghost use Rattle.bus_lock.specs.Seats.{seat_origin, seen};
+ghost use Rattle.bus_lock.specs.Seats.{IsOf, seat_origin, seen, told, view_of};
+ghost use Rattle.bus_lock.specs.Views.{retold};
 ghost use Rattle.bus_order.specs.Log.{open_length};
 ghost use Rattle.cluster_core.specs.Calls.{is_resting};
 ghost use Rattle.cluster_run.specs.Along.{IsBeside};
@@ -12,6 +13,7 @@ ghost use Rattle.cluster_run.specs.Seated.{FollowsAs, HasFollowed, IsFollowing, 
 
 use crate::locked::{look, offer, stop, tell};
 use crate::offers::{News, Offered};
+use crate::sleepers::Sleepers;
 use bus_lock::{LogLock, LogSeat};
 use bus_msg::entry::Entry;
 use bus_order::marks::Mark;
@@ -31,6 +33,7 @@ pub fn follow<R: Wait, G: Gate>(
     seat: LogSeat<SharedBus>,
     cluster: Cluster,
     gate: &G,
+    sleepers: &Sleepers,
 ) -> (LogSeat<SharedBus>, Option<Cluster>)
     requires { IsFollowing lock.now seat cluster }
     ensures seat { IsSeatOf lock.now cluster.number result.0 }
@@ -41,10 +44,14 @@ pub fn follow<R: Wait, G: Gate>(
     let number = cluster.number();
     let mut mine = seat;
     let mut cluster = cluster;
-    match follow_on(rt, lock, &mut mine, &mut cluster, gate) {
-        Ok(()) => (mine, Some(cluster)),
+    match follow_on(rt, lock, &mut mine, &mut cluster, gate, sleepers) {
+        Ok(()) => {
+            sleepers.wake_all();
+            (mine, Some(cluster))
+        }
         Err(NoMemory) => {
             stop(rt, lock, &mut mine, number);
+            sleepers.wake_all();
             (mine, None)
         }
     }
@@ -57,6 +64,7 @@ fn follow_on<R: Wait, G: Gate>(
     seat: &mut LogSeat<SharedBus>,
     cluster: &mut Cluster,
     gate: &G,
+    sleepers: &Sleepers,
 ) -> Result<(), NoMemory>
     requires { IsFollowing lock.now seat.old cluster.old }
     ensures seat { IsSeatOf lock.now cluster.old.number seat.new }
@@ -65,7 +73,7 @@ fn follow_on<R: Wait, G: Gate>(
     ensures followed { OnOk result (HasFollowed lock.now seat.new cluster.new) }
 {
     for _ in rt.forever() {
-        if take_turn(rt, lock, seat, cluster, gate)? {
+        if take_turn(rt, lock, seat, cluster, gate, sleepers)? {
             return Ok(());
         }
     }
@@ -79,6 +87,7 @@ fn take_turn<R: Wait, G: Gate>(
     seat: &mut LogSeat<SharedBus>,
     cluster: &mut Cluster,
     gate: &G,
+    sleepers: &Sleepers,
 ) -> Result<bool, NoMemory>
     requires { IsFollowing lock.now seat.old cluster.old }
     ensures seat { IsSeatOf lock.now cluster.old.number seat.new }
@@ -87,12 +96,12 @@ fn take_turn<R: Wait, G: Gate>(
     ensures follows { IfOk result (λ over. FollowsAs over lock.now seat.new cluster.new) }
 {
     if cluster.head().is_some() {
-        return send(rt, lock, seat, cluster, gate);
+        return send(rt, lock, seat, cluster, gate, sleepers);
     }
     match cluster.work()? {
         Worked::Moved => glance(rt, lock, seat, cluster),
-        Worked::Queued => send(rt, lock, seat, cluster, gate),
-        Worked::Rests => rest(rt, lock, seat, cluster),
+        Worked::Queued => send(rt, lock, seat, cluster, gate, sleepers),
+        Worked::Rests => rest(rt, lock, seat, cluster, sleepers),
         Worked::Waits => unreachable!(),
     }
 }
@@ -104,6 +113,7 @@ fn send<R: Wait, G: Gate>(
     seat: &mut LogSeat<SharedBus>,
     cluster: &mut Cluster,
     gate: &G,
+    sleepers: &Sleepers,
 ) -> Result<bool, NoMemory>
     requires follows { IsFollowing lock.now seat.old cluster.old }
     requires post { (post : APost) × (cluster.old.queue ≡ post ∷ []) }
@@ -115,7 +125,10 @@ fn send<R: Wait, G: Gate>(
     cluster.tried();
     gate.before(cluster.number(), cluster.cursor());
     match offer(rt, lock, seat, cluster)? {
-        Offered::Sent(entry) => {
+        Offered::Sent { entry, receiver } => {
+            if let Some(receiver) = receiver {
+                sleepers.wake(receiver);
+            }
             cluster.sent();
             cluster.absorb(&entry)?;
             Ok(false)
@@ -124,12 +137,13 @@ fn send<R: Wait, G: Gate>(
     }
 }
 
-// Tells that nothing can move in a cluster. Where nothing is new, it waits until something is.
+// Tells that nothing can move in a cluster. Where nothing is new, it sleeps until it is woken.
 fn rest<R: Wait>(
     rt: &R,
     lock: &LogLock<SharedBus>,
     seat: &mut LogSeat<SharedBus>,
     cluster: &mut Cluster,
+    sleepers: &Sleepers,
 ) -> Result<bool, NoMemory>
     requires follows { IsFollowing lock.now seat.old cluster.old }
     requires empty { cluster.old.queue ≡ [] }
@@ -141,10 +155,31 @@ fn rest<R: Wait>(
 {
     let news = tell(rt, lock, seat, cluster, mark_of(cluster)?)?;
     if news.entries.is_empty() && !news.is_over {
-        lock.wait_past(rt, seat, cluster.cursor());
+        sleep(rt, lock, seat, cluster, sleepers);
         return catch_up(rt, lock, seat, cluster);
     }
     take_news(lock, seat, cluster, &news)
+}
+
+// Sleeps until woken, unless the log has grown since the cluster looked at it.
+fn sleep<R: Wait>(
+    rt: &R,
+    lock: &LogLock<SharedBus>,
+    seat: &mut LogSeat<SharedBus>,
+    cluster: &Cluster,
+    sleepers: &Sleepers,
+)
+    requires of { IsOf lock.now seat.old }
+    ensures of { IsOf lock.now seat.new }
+    ensures same { view_of seat.new ≡ retold (view_of seat.old) (told seat.new) }
+{
+    let number = cluster.number();
+    sleepers.lie_down(number);
+    if lock.length_now(seat) == cluster.cursor() {
+        sleepers.sleep(rt, number);
+    } else {
+        sleepers.get_up(number);
+    }
 }
 
 // What a cluster in which nothing can move tells of itself.

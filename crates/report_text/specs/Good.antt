@@ -40,6 +40,6 @@ pub record IsGoodBy (May : System → List Entry → Entry → Type 0) (enough :
 abbrev pub IsGood : System → List ScriptWord → Run → Type 0
 IsGood system script r = IsGoodBy MayFollow has_counted system script r
 
--- the same of the entries that are built so far, for the empty script
-abbrev pub IsGoodBuilt : System → Run → Type 0
-IsGoodBuilt system r = IsGoodBy BuiltMayFollow has_counted_built system [] r
+-- the same of the entries that are built so far
+abbrev pub IsGoodBuilt : System → List ScriptWord → Run → Type 0
+IsGoodBuilt system script r = IsGoodBy BuiltMayFollow has_counted_built system script r

@@ -1,8 +1,7 @@
 -- The lines of a program by themselves, and the labels that they define.
-use Rattle.std.specs.Prelude.{◌≡◌, ℕ, ◌+◌, List, [], ◌∷◌, ◌++◌, length, Option, Some, None, Result, Ok, Err, if◌then◌else◌}
+use Rattle.std.specs.Prelude.{ℕ, ◌+◌, List, [], ◌∷◌, ◌++◌, length, Option, Some, None, Result, Ok, Err, if◌then◌else◌}
 use Rattle.std.specs.Int.{div_ceil}
 use Rattle.text_parts.specs.Lines.{lines_of}
-use Rattle.text_parts.specs.Table.{lookup}
 use Rattle.rv_asm.specs.declared.refusal.Rule.{Rule}
 use Rattle.rv_asm.specs.declared.labels.Place.{Place}
 use Rattle.rv_asm.specs.Line.{label_of, statement_of, is_label}
@@ -55,7 +54,3 @@ labels_from n words (line ∷ lines) = entry_at n words (defined_in line) ++ lab
 
 abbrev pub labels_of : List ℕ → List (List ℕ × Place)
 labels_of text = labels_from 1 0 (lines_of text)
-
--- the same place for each name: where a name stands twice, its first place
-abbrev pub AreLabels : List (List ℕ × Place) → List (List ℕ × Place) → Type 0
-AreLabels labels rows = (name : List ℕ) → lookup labels name ≡ lookup rows name

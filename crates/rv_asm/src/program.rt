@@ -1,7 +1,8 @@
 //! From a text to its words.
 ghost use Rattle.std.specs.Prelude.{◌≡◌, ◌+◌, ◌++◌, ◌≤◌, ◌<◌, ◌^◌, IfOk, IfErr, IsOkUnless, OnOk, length};
 ghost use Rattle.text_parts.specs.Lines.{lines_of};
-ghost use Rattle.rv_asm.specs.Labels.{AreLabels, labels_of, entry_at, defined_in, line_size, line_code};
+ghost use Rattle.text_parts.specs.Table.{FindSame};
+ghost use Rattle.rv_asm.specs.Labels.{labels_of, entry_at, defined_in, line_size, line_code};
 ghost use Rattle.rv_asm.specs.Program.{reading_of, broken_by, words_at, address_after};
 ghost use Rattle.rv_asm.specs.Answers.{Answers, LineAnswers};
 ghost use Rattle.rv_asm.specs.RuleByRule.{AreWordsOf, HasCause};
@@ -22,7 +23,7 @@ fn add_label<'a>(
     words: u64,
     line: &'a [u8],
 ) -> Result<u64, AsmRefused>
-    ensures label { OnOk result (AreLabels labels.new (labels.old ++ entry_at number words (defined_in line.now))) }
+    ensures label { OnOk result (FindSame labels.new (labels.old ++ entry_at number words (defined_in line.now))) }
     ensures words { IfOk result (λ after. after ≡ words + line_size line.now) }
     ensures memory { IsOkUnless result AsmRefused.NoMemory }
 {
@@ -41,7 +42,7 @@ fn add_label<'a>(
 
 /// The labels of a text.
 fn label_table(alloc: Global, text: &[u8]) -> Result<Labels<'_>, AsmRefused>
-    ensures labels { IfOk result (λ labels. AreLabels labels (labels_of text.now)) }
+    ensures labels { IfOk result (λ labels. FindSame labels (labels_of text.now)) }
     ensures memory { IsOkUnless result AsmRefused.NoMemory }
 {
     let mut labels = Labels::new(alloc);

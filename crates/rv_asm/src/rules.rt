@@ -19,7 +19,7 @@ fn defined_before(labels: &Labels<'_>, number: u64, name: Option<&[u8]>) -> bool
     ensures { result ≡ is_defined_before labels.now number (option_copied name.entry) }
 {
     match name {
-        Some(name) => match labels.place(name) {
+        Some(name) => match labels.value(name) {
             Some(place) => place.line < number,
             None => false,
         },
@@ -32,7 +32,7 @@ fn is_undefined(labels: &Labels<'_>, name: Option<&[u8]>) -> bool
     ensures { result ≡ is_undefined_in labels.now (option_copied name.entry) }
 {
     match name {
-        Some(name) => labels.place(name).is_none(),
+        Some(name) => labels.value(name).is_none(),
         None => false,
     }
 }
@@ -67,7 +67,7 @@ fn is_too_far(labels: &Labels<'_>, statement: Statement<'_>, here: u64, name: Op
     ensures { result ≡ is_too_far labels.now (seen statement.entry) (address_after here) (option_copied name.entry) }
 {
     match name {
-        Some(name) => match labels.place(name) {
+        Some(name) => match labels.value(name) {
             Some(place) => !reaches(statement, here, place.words),
             None => false,
         },

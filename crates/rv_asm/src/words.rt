@@ -52,7 +52,7 @@ fn words_before(labels: &Labels<'_>, name: &[u8]) -> u64
     requires { IsFalse (is_undefined labels.now (Some name.now)) }
     ensures { address_of (lookup_in labels.now name.now) ≡ address_after result }
 {
-    match labels.place(name) {
+    match labels.value(name) {
         Some(place) => place.words,
         None => unreachable!(),
     }

@@ -3,6 +3,7 @@ mod Blocks
 pub mod Bounds
 mod Examples
 mod Headed
+mod ImagePlaces
 mod Imaged
 mod Keeping
 mod Leading

@@ -4,12 +4,12 @@ ghost use Rattle.sys_text.specs.declared.stage.Keyword.TheVariants.{Clusters, Pa
 ghost use Rattle.sys_text.specs.Kinds.{texts, number as number_in, field_at};
 ghost use Rattle.sys_text.specs.Rules.{cluster_in, words_in, image_in, root_in, opened, closed, no_image, lowest_with, add, HasRoom};
 ghost use Rattle.sys_text.specs.Numbers.{NumbersFit};
+ghost use Rattle.sys_text.specs.ImageNames.{KnowsImages};
 
 use crate::kinds::{field_at, mode_named, number_or_0};
-use crate::rules::place_of;
 use crate::stage::{Keyword, Stage};
-use crate::state::State;
-use crate::system::{Image, Root, System};
+use crate::state::{Reader, State};
+use crate::system::{Image, Root};
 use std::alloc::{AllocError, Global};
 use std::mem;
 use t32_base::lists::{Bytes, List};
@@ -75,19 +75,20 @@ fn image_of_header(alloc: Global, fields: &[&[u8]]) -> Result<Image, NoMemory>
     })
 }
 
-fn root_of_line(system: &System, fields: &[&[u8]]) -> Root
+fn root_of_line(reader: &Reader<'_>, fields: &[&[u8]]) -> Root
+    requires known { KnowsImages reader.now }
     requires home { number_in (field_at 0 (texts fields.now)) ≤ 255 }
     requires backup { number_in (field_at 1 (texts fields.now)) ≤ 255 }
     requires limit { number_in (field_at 4 (texts fields.now)) ≤ 100000 }
     requires births { number_in (field_at 5 (texts fields.now)) ≤ 255 }
     requires tty { number_in (field_at 6 (texts fields.now)) ≤ 255 }
-    ensures { result ≡ root_in system.now (texts fields.now) }
+    ensures { result ≡ root_in reader.now.state.system (texts fields.now) }
 {
     Root {
         home: cluster(field_at(0, fields)),
         backup: cluster(field_at(1, fields)),
         mode: mode_named(field_at(2, fields)).unwrap_or(Mode::Quarter),
-        image: place_of(system.images.as_slice(), field_at(3, fields)).unwrap_or(0) as u64,
+        image: reader.place(field_at(3, fields)).unwrap_or(0),
         limit: large(field_at(4, fields)),
         births: small(field_at(5, fields)),
         tty: small(field_at(6, fields)),
@@ -95,12 +96,17 @@ fn root_of_line(system: &System, fields: &[&[u8]]) -> Root
 }
 
 /// Closes the open block.
-pub fn close_image(alloc: Global, state: &mut State) -> Result<(), AllocError>
-    ensures { OnOk result (state.new ≡ closed state.old state.old.open_image.words) }
+pub fn close_image(alloc: Global, reader: &mut Reader<'_>) -> Result<(), AllocError>
+    requires { KnowsImages reader.old }
+    ensures added { OnOk result (reader.new.state ≡ closed reader.old.state reader.old.state.open_image.words) }
+    ensures known { OnOk result (KnowsImages reader.new) }
 {
-    let image = mem::replace(&mut state.open_image, empty_image(alloc));
-    state.system.images.push(image)?;
-    state.stage = Stage::Images;
+    let place = reader.state.system.images.len() as u64;
+    reader.places.define(reader.open_name, place)?;
+    let image = mem::replace(&mut reader.state.open_image, empty_image(alloc));
+    reader.state.system.images.push(image)?;
+    reader.open_name = &[];
+    reader.state.stage = Stage::Images;
     Ok(())
 }
 
@@ -139,22 +145,31 @@ fn add_syncsteps(state: &mut State, fields: &[&[u8]])
     state.stage = Stage::Images;
 }
 
-fn open_image(alloc: Global, state: &mut State, fields: &[&[u8]]) -> Result<(), NoMemory>
-    requires { number_in (field_at 1 (texts fields.now)) ≤ 256 }
-    ensures { OnOk result (state.new ≡ opened state.old (texts fields.now)) }
+fn open_image<'a>(
+    alloc: Global,
+    reader: &mut Reader<'a>,
+    fields: &[&'a [u8]],
+) -> Result<(), NoMemory>
+    requires pages { number_in (field_at 1 (texts fields.now)) ≤ 256 }
+    requires known { KnowsImages reader.old }
+    ensures added { OnOk result (reader.new.state ≡ opened reader.old.state (texts fields.now)) }
+    ensures known { OnOk result (KnowsImages reader.new) }
 {
-    state.open_image = image_of_header(alloc, fields)?;
-    state.stage = Stage::InImage;
+    reader.state.open_image = image_of_header(alloc, fields)?;
+    reader.open_name = field_at(0, fields);
+    reader.state.stage = Stage::InImage;
     Ok(())
 }
 
-fn add_root(state: &mut State, fields: &[&[u8]]) -> Result<(), AllocError>
-    requires { NumbersFit ARoot (texts fields.now) }
-    ensures { OnOk result (state.new ≡ add state.old ARoot (texts fields.now)) }
+fn add_root(reader: &mut Reader<'_>, fields: &[&[u8]]) -> Result<(), AllocError>
+    requires numbers { NumbersFit ARoot (texts fields.now) }
+    requires known { KnowsImages reader.old }
+    ensures added { OnOk result (reader.new.state ≡ add reader.old.state ARoot (texts fields.now)) }
+    ensures known { OnOk result (KnowsImages reader.new) }
 {
-    let root = root_of_line(&state.system, fields);
-    state.system.roots.push(root)?;
-    state.stage = Stage::Roots;
+    let root = root_of_line(reader, fields);
+    reader.state.system.roots.push(root)?;
+    reader.state.stage = Stage::Roots;
     Ok(())
 }
 
@@ -171,25 +186,27 @@ fn add_chan(state: &mut State, fields: &[&[u8]]) -> Result<(), AllocError>
 }
 
 /// Adds what a line says that breaks no rule.
-pub fn add_line(
+pub fn add_line<'a>(
     alloc: Global,
-    state: &mut State,
+    reader: &mut Reader<'a>,
     keyword: Keyword,
-    fields: &[&[u8]],
+    fields: &[&'a [u8]],
 ) -> Result<(), NoMemory>
-    requires { NumbersFit keyword (texts fields.now) }
-    ensures { OnOk result (state.new ≡ add state.old keyword (texts fields.now)) }
+    requires numbers { NumbersFit keyword (texts fields.now) }
+    requires known { KnowsImages reader.old }
+    ensures added { OnOk result (reader.new.state ≡ add reader.old.state keyword (texts fields.now)) }
+    ensures known { OnOk result (KnowsImages reader.new) }
 {
     match keyword {
-        Keyword::Clusters => add_clusters(state, fields),
-        Keyword::Pager => add_pager(state, fields),
-        Keyword::Syncreads => add_syncreads(state, fields),
-        Keyword::Syncsteps => add_syncsteps(state, fields),
-        Keyword::Image | Keyword::Asm => open_image(alloc, state, fields)?,
-        Keyword::Words => push_words(&mut state.open_image.words, fields)?,
-        Keyword::End => close_image(alloc, state)?,
-        Keyword::Root => add_root(state, fields)?,
-        Keyword::Chan => add_chan(state, fields)?,
+        Keyword::Clusters => add_clusters(&mut reader.state, fields),
+        Keyword::Pager => add_pager(&mut reader.state, fields),
+        Keyword::Syncreads => add_syncreads(&mut reader.state, fields),
+        Keyword::Syncsteps => add_syncsteps(&mut reader.state, fields),
+        Keyword::Image | Keyword::Asm => open_image(alloc, reader, fields)?,
+        Keyword::Words => push_words(&mut reader.state.open_image.words, fields)?,
+        Keyword::End => close_image(alloc, reader)?,
+        Keyword::Root => add_root(reader, fields)?,
+        Keyword::Chan => add_chan(&mut reader.state, fields)?,
     }
     Ok(())
 }

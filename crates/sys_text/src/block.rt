@@ -4,12 +4,13 @@ ghost use Rattle.std.specs.Str.{bytes_eq};
 ghost use Rattle.text_parts.specs.Lines.{lines_of, fields_of};
 ghost use Rattle.rv_asm.specs.Program.{reading_of_lines};
 ghost use Rattle.sys_text.specs.Rules.{HasRoom};
+ghost use Rattle.sys_text.specs.ImageNames.{KnowsImages};
 ghost use Rattle.sys_text.specs.Reading.{InBlock, reading_from, is_end, ended_in_block, close_block, lines_before_end};
 ghost use Rattle.sys_text.specs.Answers.{IsRefusal, RefusesBlock, IsCounted, ClosesBlock, TakesLines};
 
 use crate::adding::close_image;
 use crate::refusal::{Rule, SystemRefused};
-use crate::state::State;
+use crate::state::Reader;
 use rv_asm::{AsmRefused, assemble};
 use std::alloc::Global;
 use t32_base::lists::List;
@@ -79,23 +80,25 @@ fn ended_in_block(header: u64, block: &[u8]) -> SystemRefused
 /// Gives the image of a block its words, if they fit its pages.
 fn close_with(
     alloc: Global,
-    state: &mut State,
+    reader: &mut Reader<'_>,
     header: u64,
     number: u64,
     words: List<u32>,
 ) -> Result<(), SystemRefused>
-    requires { HasRoom state.old }
-    ensures step { ClosesBlock result state.new (close_block state.old header number (Ok words)) }
-    ensures room { OnOk result (HasRoom state.new) }
+    requires room { HasRoom reader.old.state }
+    requires known { KnowsImages reader.old }
+    ensures step { ClosesBlock result reader.new.state (close_block reader.old.state header number (Ok words)) }
+    ensures room { OnOk result (HasRoom reader.new.state) }
+    ensures known { OnOk result (KnowsImages reader.new) }
 {
-    if words.len() > 64 * usize::from(state.open_image.pages) {
+    if words.len() > 64 * usize::from(reader.state.open_image.pages) {
         return Err(SystemRefused::BadLine {
             line: number,
             rule: Rule::Room.number(),
         });
     }
-    state.open_image.words = words;
-    close_image(alloc, state)?;
+    reader.state.open_image.words = words;
+    close_image(alloc, reader)?;
     Ok(())
 }
 
@@ -116,19 +119,21 @@ fn block_refused(header: u64, refused: AsmRefused) -> SystemRefused
 /// Assembles a block that line `number` ends.
 fn close_block(
     alloc: Global,
-    state: &mut State,
+    reader: &mut Reader<'_>,
     header: u64,
     number: u64,
     block: &[u8],
 ) -> Result<(), SystemRefused>
-    requires room { HasRoom state.old }
+    requires room { HasRoom reader.old.state }
+    requires known { KnowsImages reader.old }
     requires few { header + length block.now < 2 ^ 64 }
-    ensures step { ClosesBlock result state.new (close_block state.old header number (reading_of_lines (lines_of block.now))) }
-    ensures room { OnOk result (HasRoom state.new) }
+    ensures step { ClosesBlock result reader.new.state (close_block reader.old.state header number (reading_of_lines (lines_of block.now))) }
+    ensures room { OnOk result (HasRoom reader.new.state) }
+    ensures known { OnOk result (KnowsImages reader.new) }
 {
     match assemble(alloc, block) {
         Err(refused) => Err(block_refused(header, refused)),
-        Ok(words) => close_with(alloc, state, header, number, words),
+        Ok(words) => close_with(alloc, reader, header, number, words),
     }
 }
 
@@ -136,14 +141,16 @@ fn close_block(
 /// last line, and the text after it.
 pub fn take_block<'a>(
     alloc: Global,
-    state: &mut State,
+    reader: &mut Reader<'_>,
     header: u64,
     text: &'a [u8],
 ) -> Result<(u64, &'a [u8]), SystemRefused>
-    requires room { HasRoom state.old }
+    requires room { HasRoom reader.old.state }
+    requires known { KnowsImages reader.old }
     requires few { header + length text.now < 2 ^ 64 }
-    ensures read { TakesLines result state.new (reading_from (InBlock state.old header []) header (lines_of text.now)) }
-    ensures room { OnOk result (HasRoom state.new) }
+    ensures read { TakesLines result reader.new.state (reading_from (InBlock reader.old.state header []) header (lines_of text.now)) }
+    ensures room { OnOk result (HasRoom reader.new.state) }
+    ensures known { OnOk result (KnowsImages reader.new) }
     ensures left { IfOk result (λ after. after.0 + length after.1.now ≤ header + length text.now) }
     ensures shorter { IfOk result (λ after. length after.1.now < length text.now) }
 {
@@ -153,7 +160,7 @@ pub fn take_block<'a>(
     let (block, rest) = split_lines(text, count);
     let (_end, after) = first_line(rest);
     let number = header + count + 1;
-    match close_block(alloc, state, header, number, block) {
+    match close_block(alloc, reader, header, number, block) {
         Ok(()) => Ok((number, after)),
         Err(refused) => Err(refused),
     }

@@ -3,6 +3,7 @@ ghost use Rattle.std.specs.Prelude.{◌≡◌, ◌+◌, ◌≤◌, ◌<◌, ◌^
 ghost use Rattle.text_parts.specs.Lines.{lines_of};
 ghost use Rattle.sys_text.specs.Kinds.{texts};
 ghost use Rattle.sys_text.specs.Rules.{HasRoom};
+ghost use Rattle.sys_text.specs.ImageNames.{KnowsImages};
 ghost use Rattle.sys_text.specs.Numbers.{LineFits};
 ghost use Rattle.sys_text.specs.Reading.{Outside, reading_from, reading_of, step_outside, is_asm, may_end, last_line, ended, nothing_yet, kept};
 ghost use Rattle.sys_text.specs.declared.system.System.{System as Described};
@@ -17,14 +18,14 @@ use crate::kinds::fields;
 use crate::refusal::{Rule, SystemRefused};
 use crate::rules::{begins_comment, broken_rule, keyword_in_stage};
 use crate::stage::{Keyword, Stage};
-use crate::state::State;
+use crate::state::{Reader, State};
 use crate::system::System;
 use crate::types::{all_numbers_fit, all_words_fit};
 use std::alloc::Global;
 use t32_base::lists::List;
 use t32_base::process::ClusterNo;
 use t32_base::streams::NoMemory;
-use text_parts::first_line;
+use text_parts::{Names, first_line};
 
 /// Does the line open an assembler block?
 fn opens_block(keyword: Keyword) -> bool
@@ -37,9 +38,15 @@ fn opens_block(keyword: Keyword) -> bool
 }
 
 /// Adds what a line says that breaks no rule. Does it open an assembler block?
-fn keep_line(alloc: Global, state: &mut State, fields: &[&[u8]]) -> Result<bool, NoMemory>
-    requires { LineFits state.old (texts fields.now) }
-    ensures { IfOk result (λ opens. kept state.old (texts fields.now) ≡ (state.new, opens)) }
+fn keep_line<'a>(
+    alloc: Global,
+    reader: &mut Reader<'a>,
+    fields: &[&'a [u8]],
+) -> Result<bool, NoMemory>
+    requires numbers { LineFits reader.old.state (texts fields.now) }
+    requires known { KnowsImages reader.old }
+    ensures added { IfOk result (λ opens. kept reader.old.state (texts fields.now) ≡ (reader.new.state, opens)) }
+    ensures known { OnOk result (KnowsImages reader.new) }
 {
     match fields.split_first() {
         None => Ok(false),
@@ -47,10 +54,10 @@ fn keep_line(alloc: Global, state: &mut State, fields: &[&[u8]]) -> Result<bool,
             if begins_comment(first) {
                 return Ok(false);
             }
-            match keyword_in_stage(state.stage, first) {
+            match keyword_in_stage(reader.state.stage, first) {
                 None => Ok(false),
                 Some(keyword) => {
-                    add_line(alloc, state, keyword, others)?;
+                    add_line(alloc, reader, keyword, others)?;
                     Ok(opens_block(keyword))
                 }
             }
@@ -59,24 +66,26 @@ fn keep_line(alloc: Global, state: &mut State, fields: &[&[u8]]) -> Result<bool,
 }
 
 /// Takes line `number`, outside assembler blocks. Does it open one?
-fn take_line(
+fn take_line<'a>(
     alloc: Global,
-    state: &mut State,
+    reader: &mut Reader<'a>,
     number: u64,
-    line: &[u8],
+    line: &'a [u8],
 ) -> Result<bool, SystemRefused>
-    requires { HasRoom state.old }
-    ensures step { TakesLine result state.new number (step_outside state.old number line.now) }
-    ensures room { OnOk result (HasRoom state.new) }
+    requires room { HasRoom reader.old.state }
+    requires known { KnowsImages reader.old }
+    ensures step { TakesLine result reader.new.state number (step_outside reader.old.state number line.now) }
+    ensures room { OnOk result (HasRoom reader.new.state) }
+    ensures known { OnOk result (KnowsImages reader.new) }
 {
     let fields = fields(alloc, line)?;
-    match broken_rule(state, line, &fields) {
+    match broken_rule(reader, line, &fields) {
         Some(rule) => Err(SystemRefused::BadLine {
             line: number,
             rule: rule.number(),
         }),
         None => {
-            let opens = keep_line(alloc, state, &fields)?;
+            let opens = keep_line(alloc, reader, &fields)?;
             Ok(opens)
         }
     }
@@ -85,22 +94,24 @@ fn take_line(
 /// Takes the next line, and the whole of a block that it opens.
 fn take_next<'a>(
     alloc: Global,
-    state: &mut State,
+    reader: &mut Reader<'a>,
     number: u64,
     text: &'a [u8],
 ) -> Result<(u64, &'a [u8]), SystemRefused>
     requires some { 0 < length text.now }
-    requires room { HasRoom state.old }
+    requires room { HasRoom reader.old.state }
+    requires known { KnowsImages reader.old }
     requires few { number + length text.now < 2 ^ 64 }
-    ensures read { TakesLines result state.new (reading_from (Outside state.old) number (lines_of text.now)) }
-    ensures room { OnOk result (HasRoom state.new) }
+    ensures read { TakesLines result reader.new.state (reading_from (Outside reader.old.state) number (lines_of text.now)) }
+    ensures room { OnOk result (HasRoom reader.new.state) }
+    ensures known { OnOk result (KnowsImages reader.new) }
     ensures left { IfOk result (λ after. after.0 + length after.1.now ≤ number + length text.now) }
     ensures shorter { IfOk result (λ after. length after.1.now < length text.now) }
 {
     let (line, after) = first_line(text);
     let next = number + 1;
-    if take_line(alloc, state, next, line)? {
-        take_block(alloc, state, next, after)
+    if take_line(alloc, reader, next, line)? {
+        take_block(alloc, reader, next, after)
     } else {
         Ok((next, after))
     }
@@ -142,6 +153,19 @@ fn last_line(lines: u64) -> u64
     if lines == 0 { 1 } else { lines }
 }
 
+/// The reading before its first line.
+fn new_reader<'a>(alloc: Global) -> Reader<'a>
+    ensures state { result.state ≡ nothing_yet }
+    ensures room { HasRoom result.state }
+    ensures known { KnowsImages result }
+{
+    Reader {
+        state: nothing_yet(alloc),
+        places: Names::new(alloc),
+        open_name: &[],
+    }
+}
+
 /// The system, where the text may end.
 fn ended(state: State, lines: u64) -> Result<System, SystemRefused>
     ensures { Answers result (ended state.stage state.system lines) }
@@ -161,15 +185,15 @@ fn ended(state: State, lines: u64) -> Result<System, SystemRefused>
 fn read_lines(alloc: Global, text: &[u8]) -> Result<System, SystemRefused>
     ensures { Answers result (reading_of text.now) }
 {
-    let mut state = nothing_yet(alloc);
+    let mut reader = new_reader(alloc);
     let mut rest = text;
     let mut number = 0u64;
     while !rest.is_empty() {
-        let (next, after) = take_next(alloc, &mut state, number, rest)?;
+        let (next, after) = take_next(alloc, &mut reader, number, rest)?;
         number = next;
         rest = after;
     }
-    ended(state, number)
+    ended(reader.state, number)
 }
 
 /// The system of a text, or the first line that breaks a rule and the lowest rule that it breaks.

@@ -278,3 +278,39 @@ fn long_texts_are_read(rt: HostRuntime) -> Result<(), Fail> {
     );
     Ok(())
 }
+
+/// Puts empty images with the names a0, a1, .. last.
+fn push_images(alloc: Global, text: &mut Vec<u8>, count: u32) -> Result<(), Fail> {
+    for number in 0..count {
+        let block = format!(in alloc; "image a{number} 1\nend\n")?;
+        text.extend_from_slice(block.as_bytes())?;
+    }
+    Ok(())
+}
+
+#[test]
+fn many_images_are_found_by_their_names(rt: HostRuntime) -> Result<(), Fail> {
+    let alloc = rt.alloc();
+    let mut images = Vec::new(alloc);
+    images.extend_from_slice(FRONT.as_bytes())?;
+    push_images(alloc, &mut images, 80_000)?;
+    let mut text = images.clone()?;
+    text.extend_from_slice(b"root 0 1 full a79999 1 0 0\nroot 0 1 full a0 1 0 0\n")?;
+    let system = read_system(alloc, text.as_slice())?;
+    assert_eq!(rt; system.images.len(), 80_000);
+    let mut places = Vec::new(alloc);
+    for root in system.roots.as_slice() {
+        places.push(root.image)?;
+    }
+    assert_eq!(rt; places.as_slice(), [79_999, 0].as_slice());
+    for (last, what) in [
+        ("image a0 1\n", "the first name again"),
+        ("asm a40000 1\n", "a name amid the others again"),
+        ("root 0 1 full a80000 1 0 0\n", "an unknown name"),
+    ] {
+        let mut text = images.clone()?;
+        text.extend_from_slice(last.as_bytes())?;
+        assert_refused(&rt, text.as_slice(), 160_005, 7, what);
+    }
+    Ok(())
+}

@@ -3,13 +3,14 @@ ghost use Rattle.std.specs.Prelude.{◌≡◌, ◌≤◌, ◌+◌, length, nat_l
 ghost use Rattle.text_parts.specs.Lines.{fields_of};
 ghost use Rattle.sys_text.specs.Kinds.{texts};
 ghost use Rattle.sys_text.specs.Valid.{births_of};
-ghost use Rattle.sys_text.specs.Rules.{may_stand, keyword_in, begins_comment, breaks_same, has_root, place_of, breaks_name, places_with, is_full, breaks_room, lowest_with, broken_by, HasRoom};
+ghost use Rattle.sys_text.specs.Rules.{may_stand, keyword_in, begins_comment, breaks_same, has_root, breaks_name, places_with, is_full, breaks_room, lowest_with, broken_by, HasRoom};
+ghost use Rattle.sys_text.specs.ImageNames.{KnowsImages};
 
 use crate::kinds::{are_kinds, count_fits, field_at, keep_limits, keyword_named, number_or_0};
 use crate::refusal::Rule;
 use crate::stage::{Keyword, Stage};
-use crate::state::State;
-use crate::system::{Image, System};
+use crate::state::{Reader, State};
+use crate::system::System;
 use crate::valid::{births, links};
 use text_parts::are_printable;
 
@@ -58,32 +59,16 @@ fn has_root(system: &System, root: u64) -> bool
     1 <= root && root <= system.roots.len() as u64
 }
 
-/// The place of the first image with this name.
-pub fn place_of(images: &[Image], name: &[u8]) -> Option<usize>
-    ensures { result ≡ place_of images.now name.now }
-{
-    for (i, image) in images.iter().enumerate() {
-        if image.name.as_slice() == name {
-            return Some(i);
-        }
-    }
-    None
-}
-
-fn is_named(system: &System, name: &[u8]) -> Option<usize>
-    ensures { result ≡ place_of system.now.images name.now }
-{
-    place_of(system.images.as_slice(), name)
-}
-
 /// Is an image name used twice, or something not there?
-fn breaks_name(system: &System, keyword: Keyword, fields: &[&[u8]]) -> bool
-    ensures { result ≡ breaks_name system.now keyword (texts fields.now) }
+fn breaks_name(reader: &Reader<'_>, keyword: Keyword, fields: &[&[u8]]) -> bool
+    requires { KnowsImages reader.now }
+    ensures { result ≡ breaks_name reader.now.state.system keyword (texts fields.now) }
 {
     match keyword {
-        Keyword::Image | Keyword::Asm => is_named(system, field_at(0, fields)).is_some(),
-        Keyword::Root => is_named(system, field_at(3, fields)).is_none(),
+        Keyword::Image | Keyword::Asm => reader.place(field_at(0, fields)).is_some(),
+        Keyword::Root => reader.place(field_at(3, fields)).is_none(),
         Keyword::Chan => {
+            let system = &reader.state.system;
             !has_root(system, number_or_0(field_at(0, fields)))
                 || !has_root(system, number_or_0(field_at(1, fields)))
         }
@@ -135,21 +120,22 @@ fn breaks_room(state: &State, keyword: Keyword, fields: &[&[u8]]) -> bool
 }
 
 /// The lowest rule that the fields after a keyword break.
-fn broken_with(state: &State, keyword: Keyword, fields: &[&[u8]]) -> Option<Rule>
-    requires { HasRoom state.now }
-    ensures { result ≡ lowest_with state.now keyword (texts fields.now) }
+fn broken_with(reader: &Reader<'_>, keyword: Keyword, fields: &[&[u8]]) -> Option<Rule>
+    requires room { HasRoom reader.now.state }
+    requires known { KnowsImages reader.now }
+    ensures { result ≡ lowest_with reader.now.state keyword (texts fields.now) }
 {
     if !count_fits(keyword, fields) {
         Some(Rule::FieldCount)
     } else if !are_kinds(keyword, fields) {
         Some(Rule::FieldKind)
-    } else if !keep_limits(u64::from(state.system.clusters), keyword, fields) {
+    } else if !keep_limits(u64::from(reader.state.system.clusters), keyword, fields) {
         Some(Rule::Limit)
     } else if breaks_same(keyword, fields) {
         Some(Rule::Same)
-    } else if breaks_name(&state.system, keyword, fields) {
+    } else if breaks_name(reader, keyword, fields) {
         Some(Rule::Name)
-    } else if breaks_room(state, keyword, fields) {
+    } else if breaks_room(&reader.state, keyword, fields) {
         Some(Rule::Room)
     } else {
         None
@@ -167,10 +153,11 @@ pub fn begins_comment(field: &[u8]) -> bool
 }
 
 /// The lowest rule that a line outside assembler blocks breaks.
-pub fn broken_rule(state: &State, line: &[u8], fields: &[&[u8]]) -> Option<Rule>
-    requires room { HasRoom state.now }
+pub fn broken_rule(reader: &Reader<'_>, line: &[u8], fields: &[&[u8]]) -> Option<Rule>
+    requires room { HasRoom reader.now.state }
+    requires known { KnowsImages reader.now }
     requires fields { texts fields.now ≡ fields_of line.now }
-    ensures { result ≡ broken_by state.now line.now }
+    ensures { result ≡ broken_by reader.now.state line.now }
 {
     if !are_printable(line) {
         return Some(Rule::ForeignByte);
@@ -181,9 +168,9 @@ pub fn broken_rule(state: &State, line: &[u8], fields: &[&[u8]]) -> Option<Rule>
             if begins_comment(first) {
                 None
             } else {
-                match keyword_in_stage(state.stage, first) {
+                match keyword_in_stage(reader.state.stage, first) {
                     None => Some(Rule::Misplaced),
-                    Some(keyword) => broken_with(state, keyword, others),
+                    Some(keyword) => broken_with(reader, keyword, others),
                 }
             }
         }

@@ -199,3 +199,10 @@ answered words status old new ended before after ran usage unran command = recor
 
     run_at : (k : ℕ) → k ≡ 0 → (k ≡ 0 → IsReplied words k old new ended before after ran) → is_some ran ≡ makes_run (command_of words)
     run_at k e at = run_there words old new ended before after ran (subst (λ k. IsReplied words k old new ended before after ran) e (at e))
+
+-- and from what one command answers, where the words are that one
+pub answered_as : (words : List (List ℕ)) (command : Command) (status : ℕ) (old new : In) (ended : Bool) (before after : Out) (ran : Option Ran) → command_of words ≡ Some command
+    → Answers command status old new ended before after ran → Answered words status old new ended before after ran
+answered_as words command status old new ended before after ran is answers =
+    answered words status old new ended before after ran (λ none. cc) (λ none. cc)
+    (λ other w. let same : command ≡ other = cc in subst (λ (c : Command). Answers c status old new ended before after ran) same answers)

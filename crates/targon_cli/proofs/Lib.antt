@@ -1,4 +1,5 @@
 mod Causes
+mod Handing
 mod Parts
 mod Picks
 mod Replies

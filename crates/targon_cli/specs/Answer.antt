@@ -1,8 +1,10 @@
--- What the program answers: its status, what it wrote, what it took of its input, and the run of `sim`.
-use Rattle.std.specs.Prelude.{ℕ, ◌≡◌, ◌≤◌, ◌<◌, ◌⊎◌, Bool, true, List, length, take, codes, Option, Some, None, is_some}
+-- What the program answers: its status, what it wrote, what it took of its input, and the run of `sim` or `run`.
+use Rattle.std.specs.Prelude.{ℕ, ◌≡◌, ◌≤◌, ◌<◌, ◌⊎◌, Bool, true, List, length, take, codes, Option, Some, None, is_some, Result, Ok, Err}
 use Rattle.std.specs.Io.KnownBytes.{Consumes, Keeps, Appends}
 use Rattle.t32_base.specs.Streams.{Rose}
+use Rattle.t32_base.specs.declared.streams.NoMemory.{NoMemory}
 use Rattle.targon_cli.specs.declared.command.Command.{Command}
+use Rattle.targon_cli.specs.declared.reply.Reply.{Reply}
 use Rattle.targon_cli.specs.Command.{command_of, makes_run}
 use Rattle.cluster_run.specs.declared.life.Ran.{Ran}
 use Rattle.targon_cli.specs.Reply.{Makes}
@@ -65,6 +67,15 @@ pub data Answers (command : Command) (status : ℕ) (old new : In) (ended : Bool
       → Answers command status old new ended before after ran
   OutOfMemory : status ≡ 6 → Keeps before.holds after.holds → ran ≡ None → Answers command status old new ended before after ran
 
+-- the input could not be read whole, and any command answers so
+abbrev pub IsUnread : (status : ℕ) → (old new : In) → Bool → (before after : Out) → Type 0
+IsUnread status old new ended before after = (command : Command) → Answers command status old new ended before after None
+
+-- what was made is written, and its run is handed out; or nothing could be made
+abbrev pub HandsOut : Result (Reply × Option Ran) NoMemory → (status : ℕ) → (before after : Out) → Option Ran → Type 0
+HandsOut (Ok made) status before after ran = Says (made.0).status (made.0).text status before after × (ran ≡ made.1)
+HandsOut (Err e) status before after ran = (status ≡ 6) × Keeps before.holds after.holds × (ran ≡ None)
+
 -- A command made this of all the bytes of the input, under its status, and the whole text was written.
 pub record IsReplied (words : List (List ℕ)) (status : ℕ) (old new : In) (ended : Bool) (before after : Out) (ran : Option Ran) : Type 0 where
   pub command : Command
@@ -113,7 +124,7 @@ pub record Answered (words : List (List ℕ)) (status : ℕ) (old new : In) (end
   -- where neither side fails, what a command makes of its input is written, unless memory is refused
   pub complete : (command : Command) → command_of words ≡ Some command → (Rose old.faults new.faults → ⊥) → (Rose before.faults after.faults → ⊥)
       → (bytes : List ℕ) → old.left ≡ Some bytes → length bytes ≤ input_limit → Completes command bytes status before after ran ⊎ (status ≡ 6)
-  -- a run is handed out exactly where all was done and it was `sim` that did it, or where its report could not be written whole
+  -- a run is handed out exactly where all was done and it was `sim` or `run` that did it, or where its report could not be written whole
   pub ran_0 : status ≡ 0 → is_some ran ≡ makes_run (command_of words)
   pub ran_5 : status ≡ 5 → is_some ran ≡ true → IsCutOff words old new ended before after ran
   pub no_run : (status ≡ 0 → ⊥) → (status ≡ 5 → ⊥) → ran ≡ None

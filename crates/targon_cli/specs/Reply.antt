@@ -1,12 +1,16 @@
--- What a command makes of the bytes of its input: the status, the text that is written, and for `sim` the run that it tells of.
+-- What a command makes of the bytes of its input: the status, the text that is written, and for `sim` and `run` the run that it tells of.
 use Rattle.std.specs.Prelude.{ℕ, ◌≡◌, Bool, true, false, ◌==◌, List, [], ◌∷◌, ◌++◌, length, codes, Option, Some, None, Result, Ok, Err}
 use Rattle.std.specs.Fmt.{decimal}
+use Rattle.std.specs.Arc.{arc_value}
 use Rattle.targon_cli.specs.declared.command.Command.{Command}
 use Rattle.targon_cli.specs.declared.command.Command.TheVariants as commands
+use Rattle.targon_cli.specs.declared.runs.Read.{Read}
+use Rattle.targon_cli.specs.declared.runs.Read.TheVariants.{System as AsSystem, Refused as AsRefused}
 use Rattle.sys_text.specs.declared.system.System.{System}
 use Rattle.sys_text.specs.Text.{system_text}
 use Rattle.sys_text.specs.Reading.{Answer, reading_of as system_reading, system_of_lines}
 use Rattle.sys_text.specs.Refusal.{number_of_rule as system_rule}
+use Rattle.sys_text.specs.Valid.{is_system}
 use Rattle.rv_asm.specs.declared.refusal.Rule.{Rule as AsmRule}
 use Rattle.rv_asm.specs.Program.{reading_of as asm_reading}
 use Rattle.rv_asm.specs.Printing.{words_text_of}
@@ -14,17 +18,16 @@ use Rattle.rv_asm.specs.Refusal.{number_of_rule as asm_rule}
 use Rattle.plain_kernel.specs.Kernel.{Kernel}
 use Rattle.plain_kernel.specs.Still.{IsDefaultRun, is_still}
 use Rattle.plain_kernel.specs.declared.item.Item.{Item}
+use Rattle.cert_sched.specs.declared.script.ScriptWord.{ScriptWord}
 use Rattle.plain_kernel.specs.Apply.{plain_run}
 use Rattle.plain_kernel.specs.Answers.{BadAt}
 use Rattle.text_parts.specs.Lines.{lines_of}
 use Rattle.targon_cli.specs.Sections.{system_part, section_part, items_of_lines}
 use Rattle.report_text.specs.Report.{plain_report}
 use Rattle.report_text.specs.declared.run.Run.{Run}
-use Rattle.report_text.specs.declared.run.Ended.TheVariants.{Finished}
 use Rattle.report_text.specs.RunReport.{report_of, log_text_of}
-use Rattle.report_text.specs.Good.{IsGoodBuilt}
 use Rattle.cluster_run.specs.declared.life.Ran.{Ran}
-use Rattle.cluster_run.specs.Lived.{LivedBuilt}
+use Rattle.cluster_run.specs.Completed.{IsCompleted}
 
 -- a refused text, with its line and its rule
 abbrev pub system_line : (line rule : ℕ) → List ℕ
@@ -72,31 +75,37 @@ abbrev pub run_text : (log : Bool) → Kernel → Run → List ℕ
 run_text false kernel r = report_of kernel r
 run_text true kernel r = report_of kernel r ++ log_text_of r.log
 
--- The run is good and came to its end: nothing was to be withheld, and nothing can move in the kernel of its schedule. Its clusters did its work, and it is what is written.
-pub record TellsOf (system : System) (log : Bool) (text : List ℕ) (ran : Ran) : Type 0 where
+-- The run is what its system and its script allow, and came to its end; its clusters did its work. Its schedule leads to a kernel in which nothing
+-- can move, and of this kernel and of the run the text tells.
+pub record TellsOf (system : System) (script : List ScriptWord) (log : Bool) (text : List ℕ) (ran : Ran) : Type 0 where
+  pub completed : IsCompleted system script ran
   pub kernel : Kernel
   pub scheduled : plain_run system (ran.run).items ≡ Some kernel
-  pub good : IsGoodBuilt system ran.run
-  pub ended : (ran.run).ended ≡ Finished
-  pub withheld : (ran.run).withheld ≡ 0
   pub still : is_still kernel ≡ true
-  pub lived : LivedBuilt system (ran.run).log ran.lives
   pub told : text ≡ run_text log kernel ran.run
 
-abbrev pub TellsOfRun : System → (log : Bool) → (status : ℕ) → (text : List ℕ) → Option Ran → Type 0
-TellsOfRun system log status text None = ⊥
-TellsOfRun system log status text (Some ran) = (status ≡ 0) × TellsOf system log text ran
+abbrev pub TellsOfRun : System → List ScriptWord → (log : Bool) → (status : ℕ) → (text : List ℕ) → Option Ran → Type 0
+TellsOfRun system script log status text None = ⊥
+TellsOfRun system script log status text (Some ran) = (status ≡ 0) × TellsOf system script log text ran
 
--- each system is run and told of
-abbrev pub MakesSim : Answer → (log : Bool) → (status : ℕ) → (text : List ℕ) → Option Ran → Type 0
-MakesSim (Ok system) log status text ran = TellsOfRun system log status text ran
-MakesSim (Err refused) log status text ran = (status ≡ 2) × (text ≡ system_line refused.0 (system_rule refused.1)) × (ran ≡ None)
+-- a text was read as its system, or refused
+abbrev pub IsRead : Answer → Read → Type 0
+IsRead (Ok system) (AsSystem shared) = (arc_value shared ≡ system) × (is_system system ≡ true)
+IsRead (Ok system) (AsRefused reply) = ⊥
+IsRead (Err refused) (AsSystem shared) = ⊥
+IsRead (Err refused) (AsRefused reply) = (reply.status ≡ 2) × (reply.text ≡ system_line refused.0 (system_rule refused.1))
+
+-- each system is run and told of, on one thread or on many; no word names a loss yet, so the script is empty
+abbrev pub MakesRun : Answer → (log : Bool) → (status : ℕ) → (text : List ℕ) → Option Ran → Type 0
+MakesRun (Ok system) log status text ran = TellsOfRun system [] log status text ran
+MakesRun (Err refused) log status text ran = (status ≡ 2) × (text ≡ system_line refused.0 (system_rule refused.1)) × (ran ≡ None)
 
 -- ---- any command
 
--- only `sim` makes a run
+-- only `sim` and `run` make a run
 abbrev pub Makes : Command → (bytes : List ℕ) → (status : ℕ) → (text : List ℕ) → Option Ran → Type 0
 Makes commands.Plain bytes status text ran = MakesPlain (system_of_lines (system_part (lines_of bytes))) (section_part (lines_of bytes)) status text × (ran ≡ None)
 Makes commands.Check bytes status text ran = MakesCheck (system_reading bytes) status text × (ran ≡ None)
 Makes commands.Asm bytes status text ran = MakesAsm (asm_reading bytes) status text × (ran ≡ None)
-Makes (commands.Sim pick log) bytes status text ran = MakesSim (system_reading bytes) log status text ran
+Makes (commands.Sim pick log) bytes status text ran = MakesRun (system_reading bytes) log status text ran
+Makes (commands.Run log) bytes status text ran = MakesRun (system_reading bytes) log status text ran

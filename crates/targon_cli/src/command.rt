@@ -1,6 +1,6 @@
 //! The commands, by their words.
 ghost use Rattle.std.specs.Prelude.{◌≡◌, IfSome, true};
-ghost use Rattle.targon_cli.specs.Command.{command_alone as command_alone_of, command_of as command_of_words, commands_by_name, has_pick, sim_by};
+ghost use Rattle.targon_cli.specs.Command.{command_alone as command_alone_of, command_of as command_of_words, commands_by_name, has_pick, run_by, sim_by};
 ghost use Rattle.text_parts.specs.Table.{lookup as lookup_in};
 
 use crate::options::{Options, options_of};
@@ -8,14 +8,15 @@ use t32_base::lists::Text;
 use text_parts::lookup;
 
 /// What the program is told to do: to run a system without failures, to print a system text in canonical
-/// form, to assemble a text, or to run the clusters of a system on one thread, each round beginning where
-/// the pick says, and to print the log of that run or not.
+/// form, to assemble a text, or to run the clusters of a system, and to print the log of that run or not: on
+/// one thread, each round beginning where the pick says, or on a thread for each cluster.
 #[derive(Clone, Copy, PartialEq, Eq, Debug)]
 pub enum Command {
     Plain,
     Check,
     Asm,
     Sim { pick: u32, log: bool },
+    Run { log: bool },
 }
 
 const COMMANDS: [(&[u8], Command); 3] = [
@@ -33,6 +34,7 @@ pub fn command_of(words: &[Text]) -> Option<Command>
         [word, options @ ..] if word.as_slice() == b"sim".as_slice() => {
             Some(sim(options_of(options)?))
         }
+        [word, options @ ..] if word.as_slice() == b"run".as_slice() => run(options_of(options)?),
         [word] => command_named(word.as_slice()),
         _ => None,
     }
@@ -44,6 +46,16 @@ fn sim(options: Options) -> Command
     Command::Sim {
         pick: options.pick.unwrap_or(0),
         log: options.log,
+    }
+}
+
+// `run` has no turns, so no pick.
+fn run(options: Options) -> Option<Command>
+    ensures { result ≡ run_by options }
+{
+    match options.pick {
+        Some(_) => None,
+        None => Some(Command::Run { log: options.log }),
     }
 }
 

@@ -6,6 +6,6 @@ pub mod input;
 pub mod options;
 pub mod output;
 pub mod reply;
+mod runs;
 mod sections;
-mod simulated;
 pub mod top;

@@ -1,4 +1,4 @@
-//! The options of `sim`, by their words.
+//! The options of `sim` and `run`, by their words.
 ghost use Rattle.std.specs.Prelude.{◌≡◌, IfSome, true};
 ghost use Rattle.targon_cli.specs.Options.{no_options, options_after as options_after_words, pick_of as pick_of_text, with_log as with_log_of, with_pick as with_pick_of, with_word as with_word_of};
 
@@ -8,7 +8,7 @@ use text_parts::number;
 /// The greatest pick.
 pub const MOST_PICK: u64 = 2147483647;
 
-/// What the options of `sim` say: the pick, where it is given, and whether the log is printed.
+/// What the options of `sim` and `run` say: the pick, where it is given, and whether the log is printed.
 #[derive(Clone, Copy, PartialEq, Eq, Debug)]
 pub struct Options {
     pub pick: Option<u32>,

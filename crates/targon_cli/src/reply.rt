@@ -1,5 +1,5 @@
 //! What a command makes of the bytes of its input.
-ghost use Rattle.std.specs.Prelude.{◌≡◌, IfOk, true};
+ghost use Rattle.std.specs.Prelude.{◌≡◌, IfOk, Some, false, true};
 ghost use Rattle.plain_kernel.specs.Kernel.{Kernel};
 ghost use Rattle.plain_kernel.specs.Still.{IsDefaultRun};
 ghost use Rattle.report_text.specs.Report.{plain_report as plain_report_of};
@@ -8,12 +8,12 @@ ghost use Rattle.sys_text.specs.Reading.{reading_of as system_reading, system_of
 ghost use Rattle.text_parts.specs.Lines.{lines_of};
 ghost use Rattle.targon_cli.specs.Sections.{section_part, system_part};
 ghost use Rattle.sys_text.specs.Valid.{is_system};
-ghost use Rattle.targon_cli.specs.Command.{has_pick};
+ghost use Rattle.targon_cli.specs.Command.{has_pick, needs_threads};
 ghost use Rattle.targon_cli.specs.Reply.{asm_line, Follows, Makes, MakesAsm, MakesCheck, MakesPlain, RunsBy, schedule_line, system_line};
 
 use crate::command::Command;
 use crate::sections::split_at_section;
-use crate::simulated::simulate;
+use crate::runs::simulate;
 use cert_sched::{ItemsRefused, read_items};
 use cluster_run::life::Ran;
 use plain_kernel::item::{Item, RunRefused};
@@ -43,13 +43,15 @@ pub struct Reply {
     pub text: Text,
 }
 
-/// What a command makes of the bytes of its input, and for `sim` the run that the text tells of.
+/// What a command that needs no threads makes of the bytes of its input, and for `sim` the run that the text
+/// tells of.
 pub fn carry_out(
     alloc: Global,
     command: Command,
     bytes: &[u8],
 ) -> Result<(Reply, Option<Ran>), NoMemory>
-    requires { has_pick command ≡ true }
+    requires pick { has_pick command ≡ true }
+    requires alone { needs_threads (Some command) ≡ false }
     ensures { IfOk result (λ r. Makes command bytes.now r.0.status r.0.text r.1) }
 {
     match command {
@@ -57,6 +59,7 @@ pub fn carry_out(
         Command::Check => Ok((check(alloc, bytes)?, None)),
         Command::Asm => Ok((asm(alloc, bytes)?, None)),
         Command::Sim { pick, log } => simulate(alloc, bytes, pick, log),
+        Command::Run { .. } => unreachable!(),
     }
 }
 

@@ -1,19 +1,20 @@
 //! The top call: what the program does with its words, its input and its output.
-ghost use Rattle.std.specs.Prelude.{◌≡◌, None, Some, true};
-ghost use Rattle.targon_cli.specs.Answer.{Says, usage_line, Answers, Answered};
-ghost use Rattle.targon_cli.specs.Command.{command_of as command_of_words, has_pick};
+ghost use Rattle.std.specs.Prelude.{◌≡◌, None, Some, false, true, IfErr, IfOk, OnOk};
+ghost use Rattle.targon_cli.specs.Answer.{Says, usage_line, Answers, Answered, HandsOut, IsUnread, ReadsAll};
+ghost use Rattle.targon_cli.specs.Command.{command_of as command_of_words, has_pick, needs_threads};
 ghost use Rattle.targon_cli.specs.declared.command.Command.{Command as ACommand};
 
 use crate::command::{Command, command_of};
 use crate::input::{Input, read_input};
 use crate::output::say;
-use crate::reply::carry_out;
+use crate::reply::{Reply, carry_out};
+use crate::runs::run_threads;
 use cluster_run::life::Ran;
 use std::alloc::Global;
 use std::sync::Wait;
 use std::thread::Threads;
 use t32_base::gate::Gate;
-use t32_base::lists::Text;
+use t32_base::lists::{Bytes, Text};
 use t32_base::streams::{NoMemory, Sink, Source, TakeFault};
 
 // The statuses with which the program ends, but for those of a reply and that of a write fault.
@@ -29,15 +30,16 @@ const TOO_LONG: u8 = 8;
 /// where a command was carried out, 1 where the words are no command, 2 where the command refuses its
 /// input, 3 where an item of the schedule cannot be read or applied, 4 where the input could not be read, 5
 /// where the output could not be written, 6 where memory was refused and nothing was written, and 8 where
-/// the input is longer than is read. After 0 `ran` is the run that `sim` made, and after 5 the run whose
-/// report was being written; else it is none. The threads of `rt` and the gate are used by no command yet.
+/// the input is longer than is read. After 0 `ran` is the run that `sim` or `run` made, and after 5 the run
+/// whose report was being written; else it is none. For `run` each cluster has a thread, which calls the gate
+/// before it tries to send; it may wait, so that no return is promised.
 pub fn targon<R: Threads + Wait + Sync, S: Source, K: Sink, G: Gate + Sync>(
-    _rt: &R,
+    rt: &R,
     alloc: Global,
     words: &[Text],
     input: &mut S,
     output: &mut K,
-    _gate: &G,
+    gate: &G,
     ran: &mut Option<Ran>,
 ) -> u8
     requires { ran.old ≡ None }
@@ -47,7 +49,10 @@ pub fn targon<R: Threads + Wait + Sync, S: Source, K: Sink, G: Gate + Sync>(
         (record { holds = K.holds output.old; faults = K.fault_count output.old })
         (record { holds = K.holds output.new; faults = K.fault_count output.new }) ran.new }
 {
-    targon_alone(alloc, words, input, output, ran)
+    match command_of(words) {
+        Some(Command::Run { log }) => answer_run(rt, alloc, log, input, output, gate, ran),
+        _ => targon_alone(alloc, words, input, output, ran),
+    }
 }
 
 /// The same for the words that need no threads. It takes no runtime, so it always returns where its
@@ -59,7 +64,8 @@ pub fn targon_alone<S: Source, K: Sink>(
     output: &mut K,
     ran: &mut Option<Ran>,
 ) -> u8
-    requires { ran.old ≡ None }
+    requires unran { ran.old ≡ None }
+    requires alone { needs_threads (command_of_words words.now) ≡ false }
     ensures { Answered words.now result
         (record { left = S.left input.old; faults = S.fault_count input.old })
         (record { left = S.left input.new; faults = S.fault_count input.new }) (S.ended input.new)
@@ -77,7 +83,8 @@ fn answer_words<S: Source, K: Sink>(
     output: &mut K,
     ran: &mut Option<Ran>,
 ) -> u8
-    requires { ran.old ≡ None }
+    requires unran { ran.old ≡ None }
+    requires alone { needs_threads (command_of_words words.now) ≡ false }
     // The words are no command.
     ensures usage { command_of_words words.now ≡ None → Says 1 usage_line result
         (record { holds = K.holds output.old; faults = K.fault_count output.old })
@@ -97,7 +104,7 @@ fn answer_words<S: Source, K: Sink>(
     }
 }
 
-// What a command answers.
+// What a command that needs no threads answers.
 fn answer<S: Source, K: Sink>(
     alloc: Global,
     command: Command,
@@ -106,6 +113,7 @@ fn answer<S: Source, K: Sink>(
     ran: &mut Option<Ran>,
 ) -> u8
     requires pick { has_pick command ≡ true }
+    requires alone { needs_threads (Some command) ≡ false }
     requires unran { ran.old ≡ None }
     ensures { Answers command result
         (record { left = S.left input.old; faults = S.fault_count input.old })
@@ -113,16 +121,78 @@ fn answer<S: Source, K: Sink>(
         (record { holds = K.holds output.old; faults = K.fault_count output.old })
         (record { holds = K.holds output.new; faults = K.fault_count output.new }) ran.new }
 {
+    match read_whole(alloc, input, output) {
+        Ok(bytes) => hand_out(carry_out(alloc, command, bytes.as_slice()), output, ran),
+        Err(status) => status,
+    }
+}
+
+// What `run` answers.
+fn answer_run<R: Threads + Wait + Sync, S: Source, K: Sink, G: Gate + Sync>(
+    rt: &R,
+    alloc: Global,
+    log: bool,
+    input: &mut S,
+    output: &mut K,
+    gate: &G,
+    ran: &mut Option<Ran>,
+) -> u8
+    requires { ran.old ≡ None }
+    ensures { Answers (ACommand.Run log) result
+        (record { left = S.left input.old; faults = S.fault_count input.old })
+        (record { left = S.left input.new; faults = S.fault_count input.new }) (S.ended input.new)
+        (record { holds = K.holds output.old; faults = K.fault_count output.old })
+        (record { holds = K.holds output.new; faults = K.fault_count output.new }) ran.new }
+{
+    match read_whole(alloc, input, output) {
+        Ok(bytes) => {
+            let made = run_threads(rt, alloc, bytes.as_slice(), log, gate);
+            hand_out(made, output, ran)
+        }
+        Err(status) => status,
+    }
+}
+
+// The whole input; or the status with which the program ends without it, once that is said.
+fn read_whole<S: Source, K: Sink>(
+    alloc: Global,
+    input: &mut S,
+    output: &mut K,
+) -> Result<Bytes, u8>
+    ensures read { IfOk result (ReadsAll (record { left = S.left input.old; faults = S.fault_count input.old })
+        (record { left = S.left input.new; faults = S.fault_count input.new }) (S.ended input.new)) }
+    ensures kept { OnOk result (K.holds output.new ≡ K.holds output.old) }
+    ensures counted { OnOk result (K.fault_count output.new ≡ K.fault_count output.old) }
+    ensures unread { IfErr result (λ status. IsUnread status
+        (record { left = S.left input.old; faults = S.fault_count input.old })
+        (record { left = S.left input.new; faults = S.fault_count input.new }) (S.ended input.new)
+        (record { holds = K.holds output.old; faults = K.fault_count output.old })
+        (record { holds = K.holds output.new; faults = K.fault_count output.new })) }
+{
     match read_input(alloc, input) {
-        Ok(Input::Whole(bytes)) => match carry_out(alloc, command, bytes.as_slice()) {
-            Ok((reply, made)) => {
-                *ran = made;
-                say(output, reply.text.as_slice(), reply.status)
-            }
-            Err(NoMemory) => NO_MEMORY,
-        },
-        Ok(Input::TooLong) => say(output, b"t32: input too long\n", TOO_LONG),
-        Err(TakeFault::Failed) => say(output, b"t32: read fault\n", READ_FAULT),
-        Err(TakeFault::NoMemory) => NO_MEMORY,
+        Ok(Input::Whole(bytes)) => Ok(bytes),
+        Ok(Input::TooLong) => Err(say(output, b"t32: input too long\n", TOO_LONG)),
+        Err(TakeFault::Failed) => Err(say(output, b"t32: read fault\n", READ_FAULT)),
+        Err(TakeFault::NoMemory) => Err(NO_MEMORY),
+    }
+}
+
+// Writes what a command made of its input, and hands out its run.
+fn hand_out<K: Sink>(
+    made: Result<(Reply, Option<Ran>), NoMemory>,
+    output: &mut K,
+    ran: &mut Option<Ran>,
+) -> u8
+    requires { ran.old ≡ None }
+    ensures { HandsOut made result
+        (record { holds = K.holds output.old; faults = K.fault_count output.old })
+        (record { holds = K.holds output.new; faults = K.fault_count output.new }) ran.new }
+{
+    match made {
+        Ok((reply, made)) => {
+            *ran = made;
+            say(output, reply.text.as_slice(), reply.status)
+        }
+        Err(NoMemory) => NO_MEMORY,
     }
 }

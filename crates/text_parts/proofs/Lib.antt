@@ -2,3 +2,4 @@ pub mod Splitting
 pub mod Numerals
 pub mod Tables
 pub mod Parting
+pub mod NameTables

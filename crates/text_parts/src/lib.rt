@@ -2,6 +2,7 @@
 #![tactic(auto)]
 
 mod lines;
+mod names;
 mod numbers;
 mod table;
 #[cfg(test)]
@@ -11,5 +12,6 @@ pub use lines::{
     are_printable, cut_at, first_field, first_line, is_printable, split_lines, trim, trim_end,
     trim_start,
 };
+pub use names::Names;
 pub use numbers::{MOST, number, numbers_read_back, numeral, word};
 pub use table::lookup;

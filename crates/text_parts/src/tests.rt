@@ -28,3 +28,25 @@ fn numbers_and_words_are_read(rt: HostRuntime) {
     assert_eq!(&rt; word(b"dEAdbeef"), Some(0xdead_beef));
     assert_eq!(&rt; word(b"0xdeadbe"), None);
 }
+
+#[test]
+fn a_name_keeps_its_first_value(rt: HostRuntime) -> Result<(), std::test::Fail> {
+    let mut names = Names::new(rt.alloc());
+    for (name, value) in [
+        (b"pong".as_slice(), 1u64),
+        (b"ping", 2),
+        (b"pin", 3),
+        (b"pong", 4),
+    ] {
+        names.define(name, value)?;
+    }
+    for (name, value) in [
+        (b"pong".as_slice(), Some(1)),
+        (b"ping", Some(2)),
+        (b"pin", Some(3)),
+        (b"pi", None),
+    ] {
+        assert_eq!(&rt; names.value(name), value);
+    }
+    Ok(())
+}

@@ -1,11 +1,12 @@
 use Rattle.std.proofs.Common.{◌+◌, ◌++◌, ◌≤◌, length}
 use Rattle.text_parts.specs.Lines.{lines_of}
-use Rattle.rv_asm.specs.Labels.{AreLabels, labels_from, labels_of}
+use Rattle.text_parts.specs.Table.{FindSame}
+use Rattle.rv_asm.specs.Labels.{labels_from, labels_of}
 use Rattle.rv_asm.proofs.program.label_table.Given as goal
 
 abbrev pub invariant-loop-rest : goal.invariant-loop-rest
 invariant-loop-rest l = record {
-  labels : AreLabels (l.labels ++ labels_from l.number l.words (lines_of l.rest)) (labels_of l.text);
+  labels : FindSame (l.labels ++ labels_from l.number l.words (lines_of l.rest)) (labels_of l.text);
   number : l.number + length l.rest ≤ length l.text + 1;
 }
 

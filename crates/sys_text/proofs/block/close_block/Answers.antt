@@ -6,4 +6,4 @@ pub block_refused-requires : goal.block_refused-requires
 block_refused-requires c = refused_is_counted c.args.header c.args.block.now c.in-Err.refused c.in-Err.ensures.exact c.requires.few
 
 pub returns-in-Err-clause-step : goal.returns-in-Err-clause-step
-returns-in-Err-clause-step c = refused_closes c.args.state.now c.args.header c.args.number (lines_of c.args.block.now) c.in-Err.refused c.block_refused.result c.in-Err.ensures.exact c.block_refused.ensures
+returns-in-Err-clause-step c = refused_closes c.args.reader.now.state c.args.header c.args.number (lines_of c.args.block.now) c.in-Err.refused c.block_refused.result c.in-Err.ensures.exact c.block_refused.ensures

@@ -5,5 +5,5 @@ use Rattle.sys_text.proofs.block.close_with.Goals as goal
 
 pub returns-then-len-from-clause-step : goal.returns-then-len-from-clause-step
 returns-then-len-from-clause-step c =
-    let many : 64 * c.args.state.now.open_image.pages < length c.args.words = omega (arith, c.if-len-from.true, c.len.ensures, c.from.ensures) in
-    (Room, words_too_many c.args.state.now c.args.header c.args.number c.args.words many, c.number.ensures)
+    let many : 64 * c.args.reader.now.state.open_image.pages < length c.args.words = omega (arith, c.if-len-from.true, c.len.ensures, c.from.ensures) in
+    (Room, words_too_many c.args.reader.now.state c.args.header c.args.number c.args.words many, c.number.ensures)

@@ -3,7 +3,7 @@ use Rattle.sys_text.specs.Kinds.{texts}
 use Rattle.sys_text.proofs.Taking.{line_fit_at}
 use Rattle.sys_text.proofs.reading.keep_line.Goals as goal
 
-pub add_line-requires : goal.add_line-requires
-add_line-requires c =
+pub add_line-requires-clause-numbers : goal.add_line-requires-clause-numbers
+add_line-requires-clause-numbers c =
     let cut : texts c.args.fields.now ≡ c.in-Some.first.now.now ∷ texts c.in-Some.others.now = search rules in
-    line_fit_at c.args.state.now (texts c.args.fields.now) c.in-Some.first.now.now (texts c.in-Some.others.now) c.in-Some-keyword_in_stage.keyword c.requires cut (sym c.begins_comment.ensures ∙ c.if-begins_comment.false) (sym c.keyword_in_stage.ensures ∙ c.in-Some-keyword_in_stage.is)
+    line_fit_at c.args.reader.now.state (texts c.args.fields.now) c.in-Some.first.now.now (texts c.in-Some.others.now) c.in-Some-keyword_in_stage.keyword c.requires.numbers cut (sym c.begins_comment.ensures ∙ c.if-begins_comment.false) (sym c.keyword_in_stage.ensures ∙ c.in-Some-keyword_in_stage.is)

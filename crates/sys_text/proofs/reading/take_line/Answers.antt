@@ -6,14 +6,14 @@ use Rattle.sys_text.specs.Reading.{kept}
 use Rattle.sys_text.proofs.Taking.{taken_keeps, line_fits}
 use Rattle.sys_text.proofs.reading.take_line.Goals as goal
 
-pub keep_line-requires : goal.keep_line-requires
-keep_line-requires c =
-    let none : broken_by c.args.state.now c.args.line.now ≡ None = sym c.in-None.ensures in
-    let fit : LineFits c.args.state.now (fields_of c.args.line.now) = line_fits c.args.state.now c.args.line.now none c.requires in
+pub keep_line-requires-clause-numbers : goal.keep_line-requires-clause-numbers
+keep_line-requires-clause-numbers c =
+    let none : broken_by c.args.reader.now.state c.args.line.now ≡ None = sym c.in-None.ensures in
+    let fit : LineFits c.args.reader.now.state (fields_of c.args.line.now) = line_fits c.args.reader.now.state c.args.line.now none c.requires.room in
     rw (c.deref-in-None.ensures.value, c.in_ok-fields.ensures) fit
 
 pub returns-clause-room : goal.returns-clause-room
 returns-clause-room c =
-    let none : broken_by c.args.state.now c.args.line.now ≡ None = sym c.in-None.ensures in
-    let is : kept c.args.state.now (fields_of c.args.line.now) ≡ (c.keep_line.new.state, c.in_ok-opens-in-None.opens) = rw (c.deref-in-None.ensures.value, c.in_ok-fields.ensures) at c.in_ok-opens-in-None.ensures in
-    taken_keeps c.args.state.now c.keep_line.new.state c.args.line.now c.in_ok-opens-in-None.opens none is c.requires
+    let none : broken_by c.args.reader.now.state c.args.line.now ≡ None = sym c.in-None.ensures in
+    let is : kept c.args.reader.now.state (fields_of c.args.line.now) ≡ (c.keep_line.new.reader.state, c.in_ok-opens-in-None.opens) = rw (c.deref-in-None.ensures.value, c.in_ok-fields.ensures) at c.in_ok-opens-in-None.ensures.added in
+    taken_keeps c.args.reader.now.state c.keep_line.new.reader.state c.args.line.now c.in_ok-opens-in-None.opens none is c.requires.room

@@ -1,0 +1,139 @@
+//! What a backup keeps of a process.
+#[cfg(test)]
+mod tests;
+
+ghost use Rattle.std.specs.Prelude.{◌≡◌, ◌+◌, ◌-◌, ◌^◌, ◌<◌, [], ◌∷◌, ◌++◌, OnOk, OnErr};
+ghost use Rattle.std.specs.Option.{option_copied};
+ghost use Rattle.backup_queue.specs.Queue.{saved_with};
+ghost use Rattle.backup_queue.specs.Record.{record_of};
+ghost use Rattle.write_count.specs.Counting.{count_for, no_counts, raised};
+
+use proc_state::mailbox::Mailbox;
+use std::alloc::Global;
+use std::marker::Model;
+use t32_base::letter::Letter;
+use t32_base::lists::List;
+use t32_base::process::{Counts, Pid, Small};
+use t32_base::streams::NoMemory;
+use write_count::count;
+
+/// The parts of a record, for who takes the process over: the saved letters lie in the queues from which
+/// the process reads them.
+#[derive(Drop)]
+pub struct RecordParts {
+    pub pid: Pid,
+    pub state: Option<Small>,
+    pub saved: Mailbox,
+    pub counts: Counts,
+    pub births: List<Pid>,
+}
+
+/// What a backup keeps of a process: its state at the last synchronisation, if it had one; the letters that
+/// were saved, and how many have arrived; what it sent since, and the children born since, in order.
+#[derive(Drop)]
+pub struct Record {
+    parts: RecordParts,
+}
+
+impl Model for Record {
+    ghost use Rattle.t32_base.specs.declared.letter.BackRec.{BackRec};
+    ghost use Rattle.backup_queue.specs.Record.{record_of};
+
+    ghost Value = { BackRec };
+
+    ghost view = { λ r. record_of r.parts };
+}
+
+impl Record {
+    /// The record of a process of which nothing was saved yet, with the state of its last synchronisation, if
+    /// it had one. Takes no memory.
+    pub fn new(alloc: Global, pid: Pid, state: Option<Small>) -> Self
+        ensures { result ≡ record { pid = pid; state = state; saved = []; next = 0; counts = no_counts; births = [] } }
+    {
+        Record {
+            parts: RecordParts {
+                pid,
+                state,
+                saved: Mailbox::new(alloc),
+                counts: Counts {
+                    ends: [0; 32],
+                    signals: 0,
+                },
+                births: List::new(alloc),
+            },
+        }
+    }
+
+    /// Saves a letter: it is put last, with the number `next`, which is then one more. After want of memory
+    /// the record is as it was, and the letter is dropped.
+    pub fn save(&mut self, letter: Letter) -> Result<(), NoMemory>
+        requires { self.old.next < 2 ^ 64 - 1 }
+        ensures ok { OnOk result (self.new ≡ record self.old {
+          saved = saved_with self.old.saved letter self.old.next;
+          next = self.old.next + 1;
+        }) }
+        ensures err { OnErr result (self.new ≡ self.old) }
+    {
+        self.parts.saved.receive(letter)
+    }
+
+    /// Counts a letter that the process sent, by the end that it left from, or as a signal. Takes no memory.
+    pub fn count(&mut self, letter: &Letter)
+        requires end { letter.now.out < 32 }
+        requires room { count_for self.old.counts letter.now < 2 ^ 32 - 1 }
+        ensures { self.new ≡ record self.old { counts = raised self.old.counts letter.now } }
+    {
+        count(&mut self.parts.counts, letter);
+    }
+
+    /// Puts a child last that was born. After want of memory the record is as it was.
+    pub fn add_birth(&mut self, child: Pid) -> Result<(), NoMemory>
+        ensures ok { OnOk result (self.new ≡ record self.old { births = self.old.births ++ child ∷ [] }) }
+        ensures err { OnErr result (self.new ≡ self.old) }
+    {
+        self.parts.births.push(child)?;
+        Ok(())
+    }
+
+    /// The process that it is the record of.
+    pub fn pid(&self) -> Pid
+        ensures { result ≡ self.now.pid }
+    {
+        self.parts.pid
+    }
+
+    /// The state of its last synchronisation, if it had one.
+    pub fn state(&self) -> Option<&Small>
+        ensures { option_copied result ≡ self.now.state }
+    {
+        self.parts.state.as_ref()
+    }
+
+    /// The number of letters that have arrived, which the next one gets as its number.
+    pub fn next(&self) -> u64
+        ensures { result ≡ self.now.next }
+    {
+        self.parts.saved.next()
+    }
+
+    /// The counts of the letters that it sent since.
+    pub fn counts(&self) -> &Counts
+        ensures { result.now ≡ self.now.counts }
+    {
+        &self.parts.counts
+    }
+
+    /// The children born since, in order.
+    pub fn births(&self) -> &[Pid]
+        ensures { result.now ≡ self.now.births }
+    {
+        self.parts.births.as_slice()
+    }
+
+    /// Its parts, for who takes the process over. Takes no memory.
+    pub fn into_parts(self) -> RecordParts
+        ensures { record_of result ≡ self }
+    {
+        self.parts
+    }
+}

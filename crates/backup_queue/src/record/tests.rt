@@ -1,0 +1,78 @@
+//! What a record keeps of what it was told, and what it hands over.
+ghost use Rattle.std.specs.Prelude.{◌≡◌};
+ghost use Rattle.t32_base.specs.declared.letter.To.TheVariants.{Proc};
+ghost use Rattle.t32_base.specs.declared.letter.Body.TheVariants.{EndOf};
+
+use super::{Record, RecordParts};
+use proc_state::mailbox::Mailbox;
+use proc_state::process::Process;
+use std::test::Fail;
+use t32_base::letter::{Body, Letter, To};
+use t32_base::process::Pid;
+
+// A letter from the process 17 to an end of the process 16.
+fn letter_to(end: u8) -> Letter {
+    Letter {
+        from: Pid(17),
+        out: 1,
+        to: To::Proc(Pid(16), end),
+        body: Body::EndOf,
+    }
+}
+
+// A letter that the process 16 sent from its end 2.
+fn sent() -> Letter
+    ensures { result ≡ record { from = record { 0 = 16 }; out = 2; to = Proc (record { 0 = 17 }) 1; body = EndOf } }
+{
+    Letter {
+        from: Pid(16),
+        out: 2,
+        to: To::Proc(Pid(17), 1),
+        body: Body::EndOf,
+    }
+}
+
+// The numbers of the letters for an end, which are taken out.
+fn take_number(saved: &mut Mailbox, end: u8) -> Option<u64> {
+    Some(saved.take_on(end)?.number)
+}
+
+#[test]
+fn a_new_record_has_the_state_and_nothing_else(rt: HostRuntime) -> Result<(), Fail> {
+    let alloc = rt.alloc();
+    let Process { small, .. } = Process::root(alloc, Pid(16), 1, &[], 1000, 3, 0)?;
+    let rec = Record::new(alloc, Pid(16), Some(small));
+    assert_eq!(rt; rec.pid(), Pid(16));
+    let limit = rec.state().ok_or("no state")?.left;
+    assert_eq!(rt; limit, 1000);
+    assert_eq!(rt; rec.next(), 0);
+    assert_eq!(rt; rec.counts().ends, [0; 32]);
+    assert_eq!(rt; rec.births().len(), 0);
+    assert!(rt; Record::new(alloc, Pid(17), None).state().is_none());
+    Ok(())
+}
+
+#[test]
+fn what_a_record_is_told_is_handed_over(rt: HostRuntime) -> Result<(), Fail> {
+    let alloc = rt.alloc();
+    let mut rec = Record::new(alloc, Pid(16), None);
+    rec.save(letter_to(1))?;
+    rec.save(letter_to(2))?;
+    rec.save(letter_to(1))?;
+    rec.count(&sent());
+    rec.count(&sent());
+    rec.add_birth(Pid(32))?;
+    rec.add_birth(Pid(48))?;
+    assert_eq!(rt; rec.next(), 3);
+    assert_eq!(rt; rec.counts().ends[2], 2);
+    assert_eq!(rt; rec.births(), [Pid(32), Pid(48)].as_slice());
+    let RecordParts { mut saved, counts, births, .. } = rec.into_parts();
+    assert_eq!(rt; saved.next(), 3);
+    assert_eq!(rt; take_number(&mut saved, 1), Some(0));
+    assert_eq!(rt; take_number(&mut saved, 1), Some(2));
+    assert_eq!(rt; take_number(&mut saved, 2), Some(1));
+    assert!(rt; saved.is_empty());
+    assert_eq!(rt; counts.ends[2], 2);
+    assert_eq!(rt; births.as_slice(), [Pid(32), Pid(48)].as_slice());
+    Ok(())
+}

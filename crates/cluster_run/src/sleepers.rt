@@ -1,0 +1,91 @@
+//! The clusters of a run that sleep, and who wakes them. No clause rests on it: a cluster that is woken for nothing
+//! looks, and sleeps again.
+use std::alloc::Global;
+use std::sync::Wait;
+use std::sync::atomic::{AtomicU64, Ordering};
+use std::thread::Parker;
+use t32_base::process::ClusterNo;
+use t32_base::streams::NoMemory;
+
+/// Which clusters sleep. A letter wakes the home of its receiver alone; a cluster that sleeps on takes in what it missed
+/// when it is woken next. The last one that lies down wakes all others, since the run ends when each has told that
+/// nothing can move in it; the end of the log wakes all.
+///
+/// No wake-up is lost, since all steps on these words and on the length of the log stand in one order: who is to sleep
+/// lies down first and then looks at the length once more, and who adds an entry looks only then who sleeps.
+#[derive(Drop)]
+pub struct Sleepers {
+    // A bit for each cluster that sleeps, or is about to.
+    asleep: AtomicU64,
+    all: u64,
+    parkers: Vec<Parker>,
+}
+
+impl Sleepers {
+    /// No cluster of so many sleeps.
+    pub fn new(alloc: Global, clusters: u8) -> Result<Sleepers, NoMemory> {
+        let mut parkers = Vec::new(alloc);
+        let mut all = 0;
+        for number in 0..clusters {
+            parkers.push(Parker::new())?;
+            all |= bit_of(ClusterNo(number));
+        }
+        Ok(Sleepers {
+            asleep: AtomicU64::new(0),
+            all,
+            parkers,
+        })
+    }
+
+    /// A cluster is to sleep: whoever adds an entry for it from now on wakes it.
+    pub fn lie_down(&self, number: ClusterNo) {
+        let bit = bit_of(number);
+        let before = self.asleep.fetch_or(bit, Ordering::SeqCst);
+        if before | bit == self.all {
+            self.wake_these(self.all ^ bit);
+        }
+    }
+
+    /// Sleeps until woken, after `lie_down`.
+    pub fn sleep<R: Wait>(&self, rt: &R, number: ClusterNo) {
+        if let Some(parker) = self.parkers.get(usize::from(number.0)) {
+            parker.park(rt);
+        }
+    }
+
+    /// A cluster that lay down does not sleep after all.
+    pub fn get_up(&self, number: ClusterNo) {
+        self.asleep.fetch_and(!bit_of(number), Ordering::SeqCst);
+    }
+
+    /// Wakes a cluster, if it sleeps.
+    pub fn wake(&self, number: ClusterNo) {
+        let bit = bit_of(number);
+        if self.asleep.load(Ordering::SeqCst) & bit != 0 {
+            self.wake_these(bit);
+        }
+    }
+
+    /// Wakes each cluster that sleeps.
+    pub fn wake_all(&self) {
+        self.wake_these(self.all);
+    }
+
+    // Wakes those of these that sleep.
+    fn wake_these(&self, these: u64) {
+        let woken = self.asleep.fetch_and(!these, Ordering::SeqCst) & these;
+        for (place, parker) in self.parkers.iter().enumerate() {
+            if woken & bit_at(place) != 0 {
+                parker.unpark();
+            }
+        }
+    }
+}
+
+fn bit_of(number: ClusterNo) -> u64 {
+    bit_at(usize::from(number.0))
+}
+
+fn bit_at(place: usize) -> u64 {
+    1u64 << (place % 64)
+}
