@@ -233,7 +233,7 @@ impl<V: LogValue> LogLock<V> {
         for _ in rt.forever() {
             let count = self.load_count(seat);
             if count > length {
-                // The one way on from here: what was raised is lowered.
+                // The one way out after the raise.
                 shared.fetch_sub::<CountSleeper>(&mut seat.seat, SLEEPERS, 1);
                 return count;
             }
