@@ -40,14 +40,19 @@ after_word (x ∷ rest) word o after some w test e =
     let all : take (length (x ∷ rest) - 1) rest ≡ rest = take_all (length (x ∷ rest) - 1) rest (omega arith) in
     ap (λ ws. options_after ws after) all ∙ sym (options_after-word x rest o test ∙ rw e refl)
 
--- one word that is not `sim`
-pub one_word : (words : List (List ℕ)) (word same : List ℕ) → 1 ≤ length words → length words < 2 → word ≡ get_or words 0 word → same ≡ get_or words 0 same →
-    bytes_eq word (codes "sim") ≡ false → lookup commands_by_name same ≡ command_of words
-one_word [] word same some few w s test = absurd (omega arith)
-one_word (x ∷ []) word same some few w s test =
-    let test : bytes_eq x (codes "sim") ≡ false = subst (λ (v : List ℕ). bytes_eq v (codes "sim") ≡ false) w test in
-    ap (lookup commands_by_name) s ∙ rw test refl
-one_word (x ∷ y ∷ rest) word same some few w s test = absurd (omega arith)
+-- ---- the first word
+
+pub sim_words : (words : List (List ℕ)) (word : List ℕ) (rest : List (List ℕ)) → words ≡ word ∷ rest → bytes_eq word (codes "sim") ≡ true
+    → command_of words ≡ option_map sim_by (options_after rest no_options)
+sim_words words word rest is test = ap command_of is ∙ rw test refl
+
+pub run_words : (words : List (List ℕ)) (word : List ℕ) (rest : List (List ℕ)) → words ≡ word ∷ rest → bytes_eq word (codes "sim") ≡ false → bytes_eq word (codes "run") ≡ true
+    → command_of words ≡ option_and_then run_by (options_after rest no_options)
+run_words words word rest is no test = ap command_of is ∙ rw (no, test) refl
+
+pub other_words : (words : List (List ℕ)) (word : List ℕ) (rest : List (List ℕ)) → words ≡ word ∷ rest → bytes_eq word (codes "sim") ≡ false → bytes_eq word (codes "run") ≡ false
+    → command_of words ≡ command_alone word rest
+other_words words word rest is no none = ap command_of is ∙ rw (no, none) refl
 
 -- ---- the pick is a number of 31 bits
 

@@ -1,6 +1,7 @@
 -- What is told of a run.
 use Rattle.std.proofs.Common.{◌≡◌, ◌∙◌, sym, refl, ap, subst, ℕ, Bool, true, List, [], Option, Some, None, Global}
-use Rattle.std.specs.Prelude.{Ok, Err}
+use Rattle.std.specs.Prelude.{Result, Ok, Err, IfOk}
+use Rattle.t32_base.specs.declared.streams.NoMemory.{NoMemory}
 use Rattle.std.specs.Arc.{arc_value}
 use Rattle.std.specs.declared.sync.Arc.{Arc}
 use Rattle.sys_text.specs.declared.system.System.{System}
@@ -49,10 +50,16 @@ read_valid (Ok system) shared is = subst (λ (s : System). is_system s ≡ true)
 read_valid (Err refused) shared is = absurd is
 
 -- what is told of it is what the text makes
-pub read_makes : (reading : Answer) (shared : Arc System Global) (log : Bool) (status : ℕ) (text : List ℕ) (ran : Option Ran) → IsRead reading (AsSystem shared)
+read_makes : (reading : Answer) (shared : Arc System Global) (log : Bool) (status : ℕ) (text : List ℕ) (ran : Option Ran) → IsRead reading (AsSystem shared)
     → TellsOfRun (arc_value shared) [] log status text ran → MakesRun reading log status text ran
 read_makes (Ok system) shared log status text ran is told = subst (λ (s : System). TellsOfRun s [] log status text ran) is.0 told
 read_makes (Err refused) shared log status text ran is told = absurd is
+
+-- also where nothing could be told
+pub told_makes : (reading : Answer) (shared : Arc System Global) (log : Bool) (told : Result (Reply × Option Ran) NoMemory) → IsRead reading (AsSystem shared)
+    → IfOk told (λ (r : Reply × Option Ran). TellsOfRun (arc_value shared) [] log (r.0).status (r.0).text r.1) → IfOk told (λ (r : Reply × Option Ran). MakesRun reading log (r.0).status (r.0).text r.1)
+told_makes reading shared log (Ok r) is tells = read_makes reading shared log (r.0).status (r.0).text r.1 is tells
+told_makes reading shared log (Err e) is tells = tt
 
 -- a refusal is what the text makes
 pub refusal_makes : (reading : Answer) (reply : Reply) (log : Bool) → IsRead reading (AsRefused reply) → MakesRun reading log reply.status reply.text None

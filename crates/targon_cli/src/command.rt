@@ -30,13 +30,18 @@ pub fn command_of(words: &[Text]) -> Option<Command>
     ensures command { result ≡ command_of_words words.now }
     ensures pick { IfSome result (λ c. has_pick c ≡ true) }
 {
-    match words {
-        [word, options @ ..] if word.as_slice() == b"sim".as_slice() => {
-            Some(sim(options_of(options)?))
-        }
-        [word, options @ ..] if word.as_slice() == b"run".as_slice() => run(options_of(options)?),
-        [word] => command_named(word.as_slice()),
-        _ => None,
+    let (first, rest) = words.split_first()?;
+    let word = first.as_slice();
+    if word == b"sim".as_slice() {
+        return Some(sim(options_of(rest)?));
+    }
+    if word == b"run".as_slice() {
+        return run(options_of(rest)?);
+    }
+    if rest.is_empty() {
+        command_named(word)
+    } else {
+        None
     }
 }
 

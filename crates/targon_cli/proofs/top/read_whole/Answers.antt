@@ -1,0 +1,13 @@
+use Rattle.std.proofs.Common.{refl}
+use Rattle.targon_cli.specs.Answer.{TooLong, ReadFault}
+use Rattle.targon_cli.proofs.top.read_whole.Goals as goal
+
+pub returns-in-Ok-TooLong-clause-unread : goal.returns-in-Ok-TooLong-clause-unread
+returns-in-Ok-TooLong-clause-unread g c = λ command.
+    let read = rw c.in-Ok-TooLong.field-0-is at c.in-Ok-TooLong.ensures in
+    TooLong read.0 read.1 c.say.ensures refl
+
+pub returns-in-Err-Failed-clause-unread : goal.returns-in-Err-Failed-clause-unread
+returns-in-Err-Failed-clause-unread g c = λ command.
+    let read = rw c.in-Err-Failed.field-0-is at c.in-Err-Failed.ensures in
+    ReadFault read c.say-in-Err-Failed.ensures refl
