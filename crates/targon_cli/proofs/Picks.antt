@@ -5,10 +5,9 @@ use Rattle.std.specs.Option.{option_map_or}
 use Rattle.std.specs.Str.{bytes_eq}
 use Rattle.std.proofs.lemmas.List.{take_all}
 use Rattle.text_parts.specs.Numbers.{number_of}
-use Rattle.text_parts.specs.Table.{lookup}
 use Rattle.targon_cli.specs.declared.options.Options.{Options}
-use Rattle.targon_cli.specs.Command.{command_of, commands_by_name, has_pick, sim_by}
-use Rattle.targon_cli.specs.Options.{is_pick, pick_of, with_pick, with_log, with_word, options_after}
+use Rattle.targon_cli.specs.Command.{command_alone, command_of, has_pick, run_by, sim_by}
+use Rattle.targon_cli.specs.Options.{is_pick, no_options, pick_of, with_pick, with_log, with_word, options_after}
 
 and_then_some : (x : Option Options) → option_and_then Some x ≡ x
 and_then_some None = refl

@@ -12,8 +12,8 @@ ghost use Rattle.targon_cli.specs.Command.{has_pick, needs_threads};
 ghost use Rattle.targon_cli.specs.Reply.{asm_line, Follows, Makes, MakesAsm, MakesCheck, MakesPlain, RunsBy, schedule_line, system_line};
 
 use crate::command::Command;
-use crate::sections::split_at_section;
 use crate::runs::simulate;
+use crate::sections::split_at_section;
 use cert_sched::{ItemsRefused, read_items};
 use cluster_run::life::Ran;
 use plain_kernel::item::{Item, RunRefused};

@@ -154,11 +154,7 @@ fn answer_run<R: Threads + Wait + Sync, S: Source, K: Sink, G: Gate + Sync>(
 }
 
 // The whole input; or the status with which the program ends without it, once that is said.
-fn read_whole<S: Source, K: Sink>(
-    alloc: Global,
-    input: &mut S,
-    output: &mut K,
-) -> Result<Bytes, u8>
+fn read_whole<S: Source, K: Sink>(alloc: Global, input: &mut S, output: &mut K) -> Result<Bytes, u8>
     ensures read { IfOk result (ReadsAll (record { left = S.left input.old; faults = S.fault_count input.old })
         (record { left = S.left input.new; faults = S.fault_count input.new }) (S.ended input.new)) }
     ensures kept { OnOk result (K.holds output.new ≡ K.holds output.old) }
