@@ -6,7 +6,8 @@ use Rattle.std.specs.Str.{bytes_eq}
 use Rattle.std.proofs.lemmas.List.{take_all}
 use Rattle.text_parts.specs.Numbers.{number_of}
 use Rattle.targon_cli.specs.declared.options.Options.{Options}
-use Rattle.targon_cli.specs.Command.{command_alone, command_of, has_pick, run_by, sim_by}
+use Rattle.text_parts.specs.Table.{lookup}
+use Rattle.targon_cli.specs.Command.{command_alone, command_of, commands_by_name, has_pick, run_by, sim_by}
 use Rattle.targon_cli.specs.Options.{is_pick, no_options, pick_of, with_pick, with_log, with_word, options_after}
 
 and_then_some : (x : Option Options) → option_and_then Some x ≡ x
@@ -41,17 +42,15 @@ after_word (x ∷ rest) word o after some w test e =
 
 -- ---- the first word
 
-pub sim_words : (words : List (List ℕ)) (word : List ℕ) (rest : List (List ℕ)) → words ≡ word ∷ rest → bytes_eq word (codes "sim") ≡ true
-    → command_of words ≡ option_map sim_by (options_after rest no_options)
-sim_words words word rest is test = ap command_of is ∙ rw test refl
-
-pub run_words : (words : List (List ℕ)) (word : List ℕ) (rest : List (List ℕ)) → words ≡ word ∷ rest → bytes_eq word (codes "sim") ≡ false → bytes_eq word (codes "run") ≡ true
-    → command_of words ≡ option_and_then run_by (options_after rest no_options)
-run_words words word rest is no test = ap command_of is ∙ rw (no, test) refl
-
-pub other_words : (words : List (List ℕ)) (word : List ℕ) (rest : List (List ℕ)) → words ≡ word ∷ rest → bytes_eq word (codes "sim") ≡ false → bytes_eq word (codes "run") ≡ false
+-- it is not one that has options
+other_words : (words : List (List ℕ)) (word : List ℕ) (rest : List (List ℕ)) → words ≡ word ∷ rest → bytes_eq word (codes "sim") ≡ false → bytes_eq word (codes "run") ≡ false
     → command_of words ≡ command_alone word rest
-other_words words word rest is no none = ap command_of is ∙ rw (no, none) refl
+other_words words word rest is other unlike = ap command_of is ∙ rw (other, unlike) refl
+
+pub one_word : (words : List (List ℕ)) (word : List ℕ) (rest : List (List ℕ)) → words ≡ word ∷ rest → bytes_eq word (codes "sim") ≡ false → bytes_eq word (codes "run") ≡ false
+    → length rest ≡ 0 → command_of words ≡ lookup commands_by_name word
+one_word words word [] is other unlike none = other_words words word [] is other unlike
+one_word words word (x ∷ rest) is other unlike none = absurd (omega (arith, none))
 
 -- ---- the pick is a number of 31 bits
 
