@@ -32,7 +32,7 @@ fn sent() -> Letter
     }
 }
 
-// The numbers of the letters for an end, which are taken out.
+// The number of the first letter for an end, which is taken out.
 fn take_number(saved: &mut Mailbox, end: u8) -> Option<u64> {
     Some(saved.take_on(end)?.number)
 }
@@ -66,7 +66,12 @@ fn what_a_record_is_told_is_handed_over(rt: HostRuntime) -> Result<(), Fail> {
     assert_eq!(rt; rec.next(), 3);
     assert_eq!(rt; rec.counts().ends[2], 2);
     assert_eq!(rt; rec.births(), [Pid(32), Pid(48)].as_slice());
-    let RecordParts { mut saved, counts, births, .. } = rec.into_parts();
+    let RecordParts {
+        mut saved,
+        counts,
+        births,
+        ..
+    } = rec.into_parts();
     assert_eq!(rt; saved.next(), 3);
     assert_eq!(rt; take_number(&mut saved, 1), Some(0));
     assert_eq!(rt; take_number(&mut saved, 1), Some(2));
