@@ -1,4 +1,4 @@
-//! The letters that a backup saves for a process, until a synchronisation says which of them it has read.
+//! What a backup keeps of a process, and the letters that it saves until a synchronisation says which of them were read.
 #![tactic(auto)]
 
 pub mod record;

@@ -32,7 +32,7 @@ fn sent() -> Letter
     }
 }
 
-// The numbers of the letters for an end, which are taken out.
+// The number of the first letter for an end, which is taken out.
 fn take_number(saved: &mut Mailbox, end: u8) -> Option<u64> {
     Some(saved.take_on(end)?.number)
 }
