@@ -45,10 +45,9 @@ impl<'a, V: Copy> Names<'a, V> {
     pub fn define(&mut self, name: &'a [u8], value: V) -> Result<(), AllocError>
         ensures { OnOk result (FindSame self.new (self.old ++ (name.now, value) ∷ [])) }
     {
-        if self.values.contains_key(name) {
-            return Ok(());
+        if let Some(first) = self.values.insert(name, value)? {
+            self.values.insert(name, first)?;
         }
-        self.values.insert(name, value)?;
         Ok(())
     }
 }
