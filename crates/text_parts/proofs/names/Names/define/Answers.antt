@@ -1,4 +1,4 @@
-use Rattle.std.proofs.Common.{◌≡◌, ℕ, List, Some, None, refl, sym, ◌∙◌, rules}
+use Rattle.std.proofs.Common.{◌≡◌, ℕ, List, Some, None, sym, ◌∙◌, rules}
 use Rattle.text_parts.specs.Table.{lookup, rows_in}
 use Rattle.text_parts.proofs.NameTables.{lookup_entries, lookups_after, defined_again, defined_now}
 use denote.Ref.{Bor}
