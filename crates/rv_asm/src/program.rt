@@ -59,11 +59,11 @@ fn label_table(alloc: Global, text: &[u8]) -> Result<Labels<'_>, AsmRefused>
 }
 
 /// Puts the words of a line behind those of the lines before it.
-fn assemble_line(
+fn assemble_line<'a>(
     alloc: Global,
-    labels: &Labels<'_>,
+    labels: &Labels<'a>,
     number: u64,
-    line: &[u8],
+    line: &'a [u8],
     words: &mut List<u32>,
 ) -> Result<(), AsmRefused>
     requires room { length words.old ≤ 16384 }

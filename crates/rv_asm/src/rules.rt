@@ -15,7 +15,7 @@ use crate::statement::Statement;
 use text_parts::are_printable;
 
 /// Is the label defined before this line?
-fn defined_before(labels: &Labels<'_>, number: u64, name: Option<&[u8]>) -> bool
+fn defined_before<'a>(labels: &Labels<'a>, number: u64, name: Option<&'a [u8]>) -> bool
     ensures { result ≡ is_defined_before labels.now number (option_copied name.entry) }
 {
     match name {
@@ -28,7 +28,7 @@ fn defined_before(labels: &Labels<'_>, number: u64, name: Option<&[u8]>) -> bool
 }
 
 /// Is it a label that no line defines?
-fn is_undefined(labels: &Labels<'_>, name: Option<&[u8]>) -> bool
+fn is_undefined<'a>(labels: &Labels<'a>, name: Option<&'a [u8]>) -> bool
     ensures { result ≡ is_undefined_in labels.now (option_copied name.entry) }
 {
     match name {
@@ -63,7 +63,12 @@ fn reaches(statement: Statement<'_>, here: u64, there: u64) -> bool
 }
 
 /// Is the label too far from the statement?
-fn is_too_far(labels: &Labels<'_>, statement: Statement<'_>, here: u64, name: Option<&[u8]>) -> bool
+fn is_too_far<'a>(
+    labels: &Labels<'a>,
+    statement: Statement<'a>,
+    here: u64,
+    name: Option<&'a [u8]>,
+) -> bool
     ensures { result ≡ is_too_far labels.now (seen statement.entry) (address_after here) (option_copied name.entry) }
 {
     match name {
@@ -76,12 +81,12 @@ fn is_too_far(labels: &Labels<'_>, statement: Statement<'_>, here: u64, name: Op
 }
 
 /// The lowest rule that a line breaks.
-pub fn broken_rule(
-    labels: &Labels<'_>,
+pub fn broken_rule<'a>(
+    labels: &Labels<'a>,
     number: u64,
     words: u64,
     line: &[u8],
-    parsed: Parsed<'_>,
+    parsed: Parsed<'a>,
 ) -> Option<Rule>
     requires room { words ≤ 16384 }
     requires label { option_copied parsed.label ≡ label_of line.now }

@@ -48,7 +48,7 @@ fn address(words: u64) -> u32
 }
 
 /// The words before a label that is defined.
-fn words_before(labels: &Labels<'_>, name: &[u8]) -> u64
+fn words_before<'a>(labels: &Labels<'a>, name: &'a [u8]) -> u64
     requires { IsFalse (is_undefined labels.now (Some name.now)) }
     ensures { address_of (lookup_in labels.now name.now) ≡ address_after result }
 {
@@ -59,7 +59,12 @@ fn words_before(labels: &Labels<'_>, name: &[u8]) -> u64
 }
 
 /// A branch to a label, from after so many words.
-fn branch_word(labels: &Labels<'_>, here: u64, branch: (BranchInsn, u8, u8), name: &[u8]) -> u32
+fn branch_word<'a>(
+    labels: &Labels<'a>,
+    here: u64,
+    branch: (BranchInsn, u8, u8),
+    name: &'a [u8],
+) -> u32
     requires registers { IsRegister branch.1 × IsRegister branch.2 }
     requires defined { IsFalse (is_undefined labels.now (Some name.now)) }
     requires near { IsFalse (is_far (BranchTo branch.0 branch.1 branch.2 name.now) (address_after here) (lookup_in labels.now name.now)) }
@@ -71,7 +76,7 @@ fn branch_word(labels: &Labels<'_>, here: u64, branch: (BranchInsn, u8, u8), nam
 }
 
 /// A jump to a label, from after so many words.
-fn jump_word(labels: &Labels<'_>, here: u64, rd: u8, name: &[u8]) -> u32
+fn jump_word<'a>(labels: &Labels<'a>, here: u64, rd: u8, name: &'a [u8]) -> u32
     requires rd { IsRegister rd }
     requires defined { IsFalse (is_undefined labels.now (Some name.now)) }
     requires near { IsFalse (is_far (JumpTo rd name.now) (address_after here) (lookup_in labels.now name.now)) }
@@ -108,10 +113,10 @@ fn push_bytes(out: &mut List<u32>, bytes: &[u8]) -> Result<(), AllocError>
 }
 
 /// Puts the words of a statement behind the words so far.
-pub fn push_words(
+pub fn push_words<'a>(
     alloc: Global,
-    labels: &Labels<'_>,
-    statement: Statement<'_>,
+    labels: &Labels<'a>,
+    statement: Statement<'a>,
     out: &mut List<u32>,
 ) -> Result<(), AllocError>
     requires fits { FieldsFit statement }

@@ -75,7 +75,7 @@ fn image_of_header(alloc: Global, fields: &[&[u8]]) -> Result<Image, NoMemory>
     })
 }
 
-fn root_of_line(reader: &Reader<'_>, fields: &[&[u8]]) -> Root
+fn root_of_line<'a>(reader: &Reader<'a>, fields: &[&'a [u8]]) -> Root
     requires known { KnowsImages reader.now }
     requires home { number_in (field_at 0 (texts fields.now)) ≤ 255 }
     requires backup { number_in (field_at 1 (texts fields.now)) ≤ 255 }
@@ -161,7 +161,7 @@ fn open_image<'a>(
     Ok(())
 }
 
-fn add_root(reader: &mut Reader<'_>, fields: &[&[u8]]) -> Result<(), AllocError>
+fn add_root<'a>(reader: &mut Reader<'a>, fields: &[&'a [u8]]) -> Result<(), AllocError>
     requires numbers { NumbersFit ARoot (texts fields.now) }
     requires known { KnowsImages reader.old }
     ensures added { OnOk result (reader.new.state ≡ add reader.old.state ARoot (texts fields.now)) }

@@ -60,7 +60,7 @@ fn has_root(system: &System, root: u64) -> bool
 }
 
 /// Is an image name used twice, or something not there?
-fn breaks_name(reader: &Reader<'_>, keyword: Keyword, fields: &[&[u8]]) -> bool
+fn breaks_name<'a>(reader: &Reader<'a>, keyword: Keyword, fields: &[&'a [u8]]) -> bool
     requires { KnowsImages reader.now }
     ensures { result ≡ breaks_name reader.now.state.system keyword (texts fields.now) }
 {
@@ -120,7 +120,7 @@ fn breaks_room(state: &State, keyword: Keyword, fields: &[&[u8]]) -> bool
 }
 
 /// The lowest rule that the fields after a keyword break.
-fn broken_with(reader: &Reader<'_>, keyword: Keyword, fields: &[&[u8]]) -> Option<Rule>
+fn broken_with<'a>(reader: &Reader<'a>, keyword: Keyword, fields: &[&'a [u8]]) -> Option<Rule>
     requires room { HasRoom reader.now.state }
     requires known { KnowsImages reader.now }
     ensures { result ≡ lowest_with reader.now.state keyword (texts fields.now) }
@@ -153,7 +153,7 @@ pub fn begins_comment(field: &[u8]) -> bool
 }
 
 /// The lowest rule that a line outside assembler blocks breaks.
-pub fn broken_rule(reader: &Reader<'_>, line: &[u8], fields: &[&[u8]]) -> Option<Rule>
+pub fn broken_rule<'a>(reader: &Reader<'a>, line: &[u8], fields: &[&'a [u8]]) -> Option<Rule>
     requires room { HasRoom reader.now.state }
     requires known { KnowsImages reader.now }
     requires fields { texts fields.now ≡ fields_of line.now }

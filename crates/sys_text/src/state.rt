@@ -25,7 +25,7 @@ pub struct Reader<'a> {
 
 impl<'a> Reader<'a> {
     /// The place of the first image with this name.
-    pub fn place(&self, name: &[u8]) -> Option<u64>
+    pub fn place(&self, name: &'a [u8]) -> Option<u64>
         requires { KnowsImages self.now }
         ensures { result ≡ place_of self.now.state.system.images name.now }
     {
