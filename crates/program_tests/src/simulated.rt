@@ -1,5 +1,5 @@
-//! Runs of clusters by the word `sim`: what is printed of them, in which order they went, and which run is
-//! handed out.
+//! Runs of clusters by the words `sim` and `run`: what is printed of them, in which order they went, and which run
+//! is handed out.
 ghost use Rattle.std.specs.Prelude.{◌<◌};
 
 use crate::calls::{answers, call, sink, source};
@@ -75,8 +75,10 @@ fn a_run_is_printed_with_its_log_or_without(rt: HostRuntime) -> Result<(), Fail>
     let alloc = rt.alloc();
     let whole = format!(in alloc; "{HI_REPORT}{HI_LOG}")?;
     let with_log = whole.as_str();
-    let calls: [(&[&str], &str, &str); 7] = [
+    let calls: [(&[&str], &str, &str); 9] = [
         (&["sim", "--log"], HI, with_log),
+        (&["run", "--log"], HI, with_log),
+        (&["run"], BAD, BAD_REPORT),
         (&["sim"], HI, HI_REPORT),
         (&["sim"], BAD, BAD_REPORT),
         (&["sim"], SPIN, SPIN_REPORT),
@@ -127,7 +129,7 @@ fn a_pick_says_where_each_round_begins(rt: HostRuntime) -> Result<(), Fail> {
 
 #[test]
 fn what_is_no_option_is_usage(rt: HostRuntime) -> Result<(), Fail> {
-    let lists: [&[&str]; 24] = [
+    let lists: [&[&str]; 27] = [
         &["sim", "--pick"],
         &["sim", "--pick="],
         &["sim", "--pick", ""],
@@ -151,6 +153,9 @@ fn what_is_no_option_is_usage(rt: HostRuntime) -> Result<(), Fail> {
         &["sim", "7"],
         &["sim", "crash:0@bus:0"],
         &["--log", "sim"],
+        &["run", "--pick", "1"],
+        &["run", "--log", "--log"],
+        &["run", "7"],
         &["plain", "--log"],
     ];
     for list in lists {
@@ -199,7 +204,7 @@ fn the_run_is_handed_out(rt: HostRuntime) -> Result<(), Fail> {
     let mut input = source(alloc, HI.as_bytes())?;
     let failing = List::from_vec(vec![in alloc; 1u64]?);
     let mut output = MemSink::new(alloc, 1000, failing, 5)?;
-    let (status, ran) = call(&rt, &["sim"], &mut input, &mut output)?;
+    let (status, ran) = call(&rt, &["run"], &mut input, &mut output)?;
     assert_eq!(rt; output.bytes.as_slice(), b"tty 0".as_slice());
     assert_eq!(rt; status, 5);
     assert_eq!(rt; output.faults(), 1);
@@ -210,10 +215,11 @@ fn the_run_is_handed_out(rt: HostRuntime) -> Result<(), Fail> {
 #[test]
 fn without_a_run_none_is_handed_out(rt: HostRuntime) -> Result<(), Fail> {
     let alloc = rt.alloc();
-    let calls: [(&[&str], &str, u8); 4] = [
+    let calls: [(&[&str], &str, u8); 5] = [
         (&["plain"], HI, 0),
         (&["check"], HI, 0),
         (&["sim"], CUT, 2),
+        (&["run"], CUT, 2),
         (&["sim", "--"], HI, 1),
     ];
     for (list, text, answer) in calls {
