@@ -46,7 +46,8 @@ impl Sleepers {
         }
     }
 
-    /// Sleeps until woken, after `lie_down`.
+    /// Sleeps until woken, after `lie_down`. A wake-up that came too late for an earlier sleep ends this one at once; the
+    /// cluster then stays noted as asleep, and is woken for nothing.
     pub fn sleep<R: Wait>(&self, rt: &R, number: ClusterNo) {
         if let Some(parker) = self.parkers.get(usize::from(number.0)) {
             parker.park(rt);

@@ -124,7 +124,7 @@ pub record Answered (words : List (List ℕ)) (status : ℕ) (old new : In) (end
   -- where neither side fails, what a command makes of its input is written, unless memory is refused
   pub complete : (command : Command) → command_of words ≡ Some command → (Rose old.faults new.faults → ⊥) → (Rose before.faults after.faults → ⊥)
       → (bytes : List ℕ) → old.left ≡ Some bytes → length bytes ≤ input_limit → Completes command bytes status before after ran ⊎ (status ≡ 6)
-  -- a run is handed out exactly where all was done and it was `sim` or `run` that did it, or where its report could not be written whole
+  -- a run is handed out exactly where all was done and it was `sim` or `run` that did it, and besides at most where a front of its report was written
   pub ran_0 : status ≡ 0 → is_some ran ≡ makes_run (command_of words)
   pub ran_5 : status ≡ 5 → is_some ran ≡ true → IsCutOff words old new ended before after ran
   pub no_run : (status ≡ 0 → ⊥) → (status ≡ 5 → ⊥) → ran ≡ None

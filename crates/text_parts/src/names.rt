@@ -52,7 +52,8 @@ impl<'a, V: Copy> Names<'a, V> {
         self.values.get(&(end_of(name), name)).copied()
     }
 
-    /// Adds a name with its value. A name that is there keeps its first value.
+    /// Adds a name with its value. A name that is there keeps its first value. After want of memory nothing is said
+    /// of the value of this name.
     pub fn define(&mut self, name: &'a [u8], value: V) -> Result<(), AllocError>
         ensures { OnOk result (FindSame self.new (self.old ++ (name.now, value) ∷ [])) }
     {
