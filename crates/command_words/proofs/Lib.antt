@@ -1,0 +1,4 @@
+pub mod Lexical
+pub mod Rows
+pub mod Turns
+pub mod Walked

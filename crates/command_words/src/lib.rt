@@ -1,0 +1,4 @@
+//! The words of the program.
+#![tactic(auto)]
+
+pub mod options;
