@@ -31,36 +31,36 @@ has_row-row_at id (r ∷ rows) = go (bytes_eq r.id id) (has_row-row_at id rows)
 
 -- ---- rows with more values of an argument
 
-abbrev fresh : Text → Reading → List Text → Row
-fresh id how values = record { id = id; values = values; count = None; source = Some CommandLine; reading = how }
+abbrev pub fresh : Text → Reading → ValueSource → List Text → Row
+fresh id how s values = record { id = id; values = values; count = None; source = Some s; reading = how }
 
-abbrev grown : List Text → Row → Row
-grown values r = record r { values = r.values ++ values; source = Some (stronger r.source CommandLine) }
+abbrev pub grown : ValueSource → List Text → Row → Row
+grown s values r = record r { values = r.values ++ values; source = Some (stronger r.source s) }
 
-pub row_at-values : (id : Text) (how : Reading) (values : List Text) (rows : List Row) → bytes_eq id id ≡ true
-    → row_at id (with_values id how CommandLine values rows) ≡ Some (option_map_or (grown values) (row_at id rows) (fresh id how values))
-row_at-values id how values [] same = ap (λ b. cond b (Some (fresh id how values)) None) same
-row_at-values id how values (r ∷ rows) same = go (bytes_eq r.id id) refl (row_at-values id how values rows same)
+pub row_at-values : (id : Text) (how : Reading) (s : ValueSource) (values : List Text) (rows : List Row) → bytes_eq id id ≡ true
+    → row_at id (with_values id how s values rows) ≡ Some (option_map_or (grown s values) (row_at id rows) (fresh id how s values))
+row_at-values id how s values [] same = ap (λ b. cond b (Some (fresh id how s values)) None) same
+row_at-values id how s values (r ∷ rows) same = go (bytes_eq r.id id) refl (row_at-values id how s values rows same)
   where
-    go : (b : Bool) → bytes_eq r.id id ≡ b → row_at id (with_values id how CommandLine values rows) ≡ Some (option_map_or (grown values) (row_at id rows) (fresh id how values))
-        → row_at id (cond b (grown values r ∷ [] ++ rows) (r ∷ with_values id how CommandLine values rows))
-        ≡ Some (option_map_or (grown values) (cond b (Some r) (row_at id rows)) (fresh id how values))
-    go true e rest = ap (λ b. cond b (Some (grown values r)) (row_at id rows)) e
-    go false e rest = ap (λ b. cond b (Some r) (row_at id (with_values id how CommandLine values rows))) e ∙ rest
+    go : (b : Bool) → bytes_eq r.id id ≡ b → row_at id (with_values id how s values rows) ≡ Some (option_map_or (grown s values) (row_at id rows) (fresh id how s values))
+        → row_at id (cond b (grown s values r ∷ [] ++ rows) (r ∷ with_values id how s values rows))
+        ≡ Some (option_map_or (grown s values) (cond b (Some r) (row_at id rows)) (fresh id how s values))
+    go true e rest = ap (λ b. cond b (Some (grown s values r)) (row_at id rows)) e
+    go false e rest = ap (λ b. cond b (Some r) (row_at id (with_values id how s values rows))) e ∙ rest
 
 other_id : (a id other : Text) → bytes_eq a id ≡ true → bytes_eq id other ≡ false → bytes_eq a other ≡ false
 other_id a id other is e = ap (λ t. bytes_eq t other) (same_text a id (sym is)) ∙ e
 
-pub row_at-values_other : (id other : Text) (how : Reading) (values : List Text) (rows : List Row) → bytes_eq id other ≡ false
-    → row_at other (with_values id how CommandLine values rows) ≡ row_at other rows
-row_at-values_other id other how values [] e = ap (λ b. cond b (Some (fresh id how values)) None) e
-row_at-values_other id other how values (r ∷ rows) e = go (bytes_eq r.id id) refl (row_at-values_other id other how values rows e)
+pub row_at-values_other : (id other : Text) (how : Reading) (s : ValueSource) (values : List Text) (rows : List Row) → bytes_eq id other ≡ false
+    → row_at other (with_values id how s values rows) ≡ row_at other rows
+row_at-values_other id other how s values [] e = ap (λ b. cond b (Some (fresh id how s values)) None) e
+row_at-values_other id other how s values (r ∷ rows) e = go (bytes_eq r.id id) refl (row_at-values_other id other how s values rows e)
   where
-    go : (b : Bool) → bytes_eq r.id id ≡ b → row_at other (with_values id how CommandLine values rows) ≡ row_at other rows
-        → row_at other (cond b (grown values r ∷ [] ++ rows) (r ∷ with_values id how CommandLine values rows)) ≡ row_at other (r ∷ rows)
+    go : (b : Bool) → bytes_eq r.id id ≡ b → row_at other (with_values id how s values rows) ≡ row_at other rows
+        → row_at other (cond b (grown s values r ∷ [] ++ rows) (r ∷ with_values id how s values rows)) ≡ row_at other (r ∷ rows)
     go true is rest =
         let no = other_id r.id id other is e in
-        ap (λ b. cond b (Some (grown values r)) (row_at other rows)) no ∙ sym (ap (λ b. cond b (Some r) (row_at other rows)) no)
+        ap (λ b. cond b (Some (grown s values r)) (row_at other rows)) no ∙ sym (ap (λ b. cond b (Some r) (row_at other rows)) no)
     go false is rest = ap (λ o. cond (bytes_eq r.id other) (Some r) o) rest
 
 -- an argument with no row has none to take out
@@ -76,14 +76,14 @@ without-none id (r ∷ rows) e = go (bytes_eq r.id id) (without-none id rows) e
 -- ---- the rows that show what was given
 
 abbrev pub flag_row : Row
-flag_row = fresh (codes "flag") AsWritten (codes "true" ∷ [])
+flag_row = fresh (codes "flag") AsWritten CommandLine (codes "true" ∷ [])
 
 abbrev pub pick_row : Text → Row
-pick_row value = fresh (codes "pick") AsWritten (value ∷ [])
+pick_row value = fresh (codes "pick") AsWritten CommandLine (value ∷ [])
 
 abbrev pub words_row : List Text → Option Row
 words_row [] = None
-words_row (word ∷ words) = Some (fresh (codes "words") AsWritten (word ∷ words))
+words_row (word ∷ words) = Some (fresh (codes "words") AsWritten CommandLine (word ∷ words))
 
 pub record Shows (rows : List Row) (g : Given) : Type 0 where
   pub flag : row_at (codes "flag") rows ≡ (if g.flag then Some flag_row else None)
@@ -112,23 +112,23 @@ used_again id rows has = ap (λ b. or_else (if b && not false then kind.Argument
 used_first : (id : Text) (rows : List Row) → has_row id rows ≡ false → or_else (repeat_fault false id rows) [] ≡ []
 used_first id rows has = ap (λ b. or_else (if b && not false then kind.ArgumentConflict ∷ [] else []) []) has
 
-no_row : (id : Text) (rows : List Row) → row_at id rows ≡ None → has_row id rows ≡ false
+pub no_row : (id : Text) (rows : List Row) → row_at id rows ≡ None → has_row id rows ≡ false
 no_row id rows none = has_row-row_at id rows ∙ ap is_some none
 
-some_row : (id : Text) (r : Row) (rows : List Row) → row_at id rows ≡ Some r → has_row id rows ≡ true
+pub some_row : (id : Text) (r : Row) (rows : List Row) → row_at id rows ≡ Some r → has_row id rows ≡ true
 some_row id r rows some = has_row-row_at id rows ∙ ap is_some some
 
 -- the rows after the first use of an argument
 first_row : (id : Text) (values : List Text) (rows : List Row) → bytes_eq id id ≡ true → row_at id rows ≡ None
-    → row_at id (with_values id AsWritten CommandLine values (without id rows)) ≡ Some (fresh id AsWritten values)
+    → row_at id (with_values id AsWritten CommandLine values (without id rows)) ≡ Some (fresh id AsWritten CommandLine values)
 first_row id values rows same none =
-    ap (λ rs. row_at id (with_values id AsWritten CommandLine values rs)) (without-none id rows none) ∙ row_at-values id AsWritten values rows same
-    ∙ ap (λ o. Some (option_map_or (grown values) o (fresh id AsWritten values))) none
+    ap (λ rs. row_at id (with_values id AsWritten CommandLine values rs)) (without-none id rows none) ∙ row_at-values id AsWritten CommandLine values rows same
+    ∙ ap (λ o. Some (option_map_or (grown CommandLine values) o (fresh id AsWritten CommandLine values))) none
 
 row_beside : (id other : Text) (values : List Text) (rows : List Row) → bytes_eq id other ≡ false → row_at id rows ≡ None
     → row_at other (with_values id AsWritten CommandLine values (without id rows)) ≡ row_at other rows
 row_beside id other values rows differs none =
-    ap (λ rs. row_at other (with_values id AsWritten CommandLine values rs)) (without-none id rows none) ∙ row_at-values_other id other AsWritten values rows differs
+    ap (λ rs. row_at other (with_values id AsWritten CommandLine values rs)) (without-none id rows none) ∙ row_at-values_other id other AsWritten CommandLine values rows differs
 
 module _ (flag : Text) (rows : List Row) (g : Given) (shows : Shows rows g) where
   pub flag_used : Leads (use_fault false (flag_rule flag) [] rows) (used (flag_rule flag) [] rows) (with_flag g)
@@ -165,11 +165,11 @@ module _ (flag : Text) (rows : List Row) (g : Given) (shows : Shows rows g) wher
 
   pub word_used : (word : Text) → Leads (use_fault false words_rule (word ∷ []) rows) (used words_rule (word ∷ []) rows) (Some (with_plain word g))
   word_used word = (refl, record {
-    flag = row_at-values_other (codes "words") (codes "flag") AsWritten (word ∷ []) rows refl ∙ shows.flag;
-    pick = row_at-values_other (codes "words") (codes "pick") AsWritten (word ∷ []) rows refl ∙ shows.pick;
-    plain = row_at-values (codes "words") AsWritten (word ∷ []) rows refl ∙ ap (λ o. Some (option_map_or (grown (word ∷ [])) o (fresh (codes "words") AsWritten (word ∷ [])))) shows.plain ∙ more g.plain;
+    flag = row_at-values_other (codes "words") (codes "flag") AsWritten CommandLine (word ∷ []) rows refl ∙ shows.flag;
+    pick = row_at-values_other (codes "words") (codes "pick") AsWritten CommandLine (word ∷ []) rows refl ∙ shows.pick;
+    plain = row_at-values (codes "words") AsWritten CommandLine (word ∷ []) rows refl ∙ ap (λ o. Some (option_map_or (grown CommandLine (word ∷ [])) o (fresh (codes "words") AsWritten CommandLine (word ∷ [])))) shows.plain ∙ more g.plain;
   })
     where
-      more : (words : List Text) → Some (option_map_or (grown (word ∷ [])) (words_row words) (fresh (codes "words") AsWritten (word ∷ []))) ≡ words_row (words ++ word ∷ [])
+      more : (words : List Text) → Some (option_map_or (grown CommandLine (word ∷ [])) (words_row words) (fresh (codes "words") AsWritten CommandLine (word ∷ []))) ≡ words_row (words ++ word ∷ [])
       more [] = refl
       more (w ∷ ws) = refl

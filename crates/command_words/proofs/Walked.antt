@@ -13,6 +13,7 @@ use Rattle.clap.specs.Kinds.{Kinds, or_else}
 use Rattle.clap.specs.Faults.{bundle_fault, flag_word_fault, settle_fault, turn_fault, use_fault, walk_fault}
 use Rattle.clap.specs.declared.error.kind.ErrorKind.TheVariants as kind
 use Rattle.command_words.specs.Options.{Text, Given, begins_with_hyphen, given_after, with_flag, with_pick, with_option, with_plain, with_word}
+use Rattle.command_words.specs.Parsed.{AreFine, IsFine}
 use Rattle.command_words.proofs.Lexical.{named_pick, no_end, no_long, no_short, pick_named, whole_name}
 use Rattle.command_words.proofs.Rows.{Leads, Shows, pick_used}
 use Rattle.command_words.proofs.Turns.{Arrives, Settles, Stepped, at, fault_here, flag_stepped, flag_valued, held, is_between, letter_unknown, long_flag, long_none, long_pick, met_here, name_unknown, pick_by_id, pick_stepped, pick_waits, plain_stepped, rules_with, shape_with, turn_is}
@@ -48,16 +49,6 @@ both false b e = absurd (true≢false (sym e))
 
 right : (a b : Bool) → (a && b) ≡ true → b ≡ true
 right a b e = (both a b e).1
-
--- a word that the words before `--` may hold: a text that is no hyphen alone and not `--`
-pub record IsFine (word : Text) : Type 0 where
-  pub text : IsUtf8 word
-  pub no_hyphen : bytes_eq word (codes "-") ≡ false
-  pub no_end : bytes_eq word (codes "--") ≡ false
-
-abbrev pub AreFine : List Text → Type 0
-AreFine [] = Unit {0}
-AreFine (word ∷ words) = IsFine word × AreFine words
 
 module _ (flag : Text) (picks : Bool) (no_equals : has_byte 61 flag ≡ false) (no_pick : bytes_eq flag (codes "pick") ≡ false) where
   -- what an option adds, where it is known which it is

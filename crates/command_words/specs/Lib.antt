@@ -1,2 +1,3 @@
 pub mod Options
 pub mod Grammar
+pub mod Parsed
