@@ -1,3 +1,5 @@
 pub mod Options
 pub mod Grammar
 pub mod Parsed
+pub mod Parts
+pub mod Script

@@ -62,6 +62,14 @@ given_after flag picks (word ∷ next ∷ words) g =
 abbrev pub nothing_given : Given
 nothing_given = record { flag = false; pick = None; plain = [] }
 
--- what the words of a command give, before any `--`
+-- a hyphen alone
+abbrev pub is_hyphen : Text → Bool
+is_hyphen word = bytes_eq word (codes "-")
+
+-- the word behind which every word is a script word
+abbrev pub is_end : Text → Bool
+is_end word = bytes_eq word (codes "--")
+
+-- what the words of a command before `--` give
 abbrev pub given_of : Form → List Text → Option Given
 given_of form words = given_after (flag_of form) (takes_pick form) words nothing_given

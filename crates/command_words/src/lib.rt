@@ -1,4 +1,5 @@
-//! The words of the program.
+//! The words of the program, read once: the command that they are, and its script of failures.
 #![tactic(auto)]
 
-pub mod options;
+mod options;
+pub mod script;

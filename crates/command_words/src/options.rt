@@ -1,11 +1,18 @@
 //! The options of a command and its other words, read by `clap`.
-ghost use Rattle.std.specs.Prelude.{◌≡◌, IfOk};
+ghost use Rattle.std.specs.Prelude.{◌≡◌, IfOk, false, option_map, true};
+ghost use Rattle.std.specs.List.{list_all, list_any};
+ghost use Rattle.std.specs.Str.{is_utf8};
+ghost use Rattle.clap.specs.Walk.{texts};
 ghost use Rattle.clap.specs.Words.{app_of};
-ghost use Rattle.command_words.specs.Options.{flag_of, takes_pick};
+ghost use Rattle.command_words.specs.Options.{Given, flag_of, given_of, is_end, is_hyphen, takes_pick};
 ghost use Rattle.command_words.specs.Grammar.{app_for, pick_added};
+ghost use Rattle.command_words.specs.Parts.{given_by};
+ghost use Rattle.command_words.specs.Parsed.{AreFine, IsParsedAs, Tells};
 
-use clap::{Arg, ArgAction, Command};
+use clap::error::ErrorKind;
+use clap::{Arg, ArgAction, ArgMatches, Command};
 use std::alloc::{AllocError, Global};
+use t32_base::streams::NoMemory;
 
 /// A command that takes words: its options are a flag, and `--pick` or not.
 #[derive(Clone, Copy, PartialEq, Eq, Debug)]
@@ -32,8 +39,58 @@ impl Form {
     }
 }
 
+/// What the words of a command before `--` give: whether its flag stands there, the value of `--pick`, and
+/// the words that are no options.
+#[derive(Drop)]
+pub struct Parts<'a> {
+    pub flag: bool,
+    pub pick: Option<&'a str>,
+    pub plain: Vec<&'a str>,
+}
+
+/// What words give to a command, where they are its words. None of them is `--`.
+pub fn parts_of<'a>(
+    alloc: Global,
+    form: Form,
+    words: &'a [&'a str],
+) -> Result<Option<Parts<'a>>, NoMemory>
+    requires text { list_all is_utf8 (texts words.now) ≡ true }
+    requires no_end { list_any is_end (texts words.now) ≡ false }
+    ensures { IfOk result (λ r. option_map given_by r ≡ given_of form (texts words.now)) }
+{
+    if has_hyphen(words) {
+        return Ok(None);
+    }
+    let Some(matches) = parsed(alloc, form, words)? else {
+        return Ok(None);
+    };
+    Ok(Some(told(alloc, &matches)?))
+}
+
+// Is a word a hyphen alone? `clap` would take it for a word that is no option.
+fn has_hyphen(words: &[&str]) -> bool
+    ensures { result ≡ list_any (λ word. is_hyphen word.now) words.now }
+{
+    words.iter().any(|word| *word == "-")
+}
+
+// What the matches of a parse tell.
+fn told<'a>(alloc: Global, matches: &ArgMatches<'a>) -> Result<Parts<'a>, NoMemory>
+    ensures { IfOk result (λ r. (g : Given) → Tells matches.now g → given_by r ≡ g) }
+{
+    let mut plain = Vec::new(alloc);
+    if let Some(words) = matches.get_strs("words") {
+        plain.extend_from_slice(words)?;
+    }
+    Ok(Parts {
+        flag: matches.get_flag("flag"),
+        pick: matches.get_str("pick"),
+        plain,
+    })
+}
+
 // The grammar of the words before `--`: no word asks for help, and a word that is no option is one of `words`.
-fn grammar(alloc: Global, form: Form) -> Result<Command<'static>, AllocError>
+fn grammar<'a>(alloc: Global, form: Form) -> Result<Command<'a>, AllocError>
     ensures { IfOk result (λ c. app_of c ≡ app_for form) }
 {
     let flag = Arg::new(alloc, "flag")
@@ -48,7 +105,7 @@ fn grammar(alloc: Global, form: Form) -> Result<Command<'static>, AllocError>
 }
 
 // The command with `--pick`, where the form takes it.
-fn with_pick(alloc: Global, form: Form, command: Command<'static>) -> Result<Command<'static>, AllocError>
+fn with_pick<'a>(alloc: Global, form: Form, command: Command<'a>) -> Result<Command<'a>, AllocError>
     ensures { IfOk result (λ c. app_of c ≡ pick_added (takes_pick form) (app_of command.entry)) }
 {
     if !form.takes_pick() {
@@ -56,4 +113,24 @@ fn with_pick(alloc: Global, form: Form, command: Command<'static>) -> Result<Com
     }
     let pick = Arg::new(alloc, "pick").long("pick").action(ArgAction::Set);
     command.arg(pick)
+}
+
+// The matches of the words before `--`, where they are those of the command.
+fn parsed<'a>(
+    alloc: Global,
+    form: Form,
+    words: &'a [&'a str],
+) -> Result<Option<ArgMatches<'a>>, NoMemory>
+    requires { AreFine (texts words.now) }
+    ensures { IfOk result (IsParsedAs (given_of form (texts words.now))) }
+{
+    match grammar(alloc, form)?.try_get_matches_from(words) {
+        Ok(matches) => Ok(Some(matches)),
+        Err(error) => {
+            if error.kind() == ErrorKind::OutOfMemory {
+                return Err(NoMemory);
+            }
+            Ok(None)
+        }
+    }
 }
