@@ -1,4 +1,6 @@
+pub mod Ends
 pub mod Fine
+pub mod Forms
 pub mod Lexical
 pub mod Rows
 pub mod Turns

@@ -1,12 +1,12 @@
 -- The script words of texts, one text more at a time.
-use Rattle.std.proofs.Common.{◌≡◌, ◌∙◌, ◌<◌, ◌+◌, refl, sym, ap, arith, ℕ, zero, suc, List, [], ◌∷◌, ◌++◌, length, take, Option, Some, None, option_map}
+use Rattle.std.proofs.Common.{◌≡◌, ◌∙◌, ◌<◌, ◌+◌, refl, sym, ap, ap₂, arith, ℕ, zero, suc, List, [], ◌∷◌, ◌++◌, length, take, Option, Some, None, option_map}
 use Rattle.std.specs.List.{slice_index_or}
 use Rattle.std.specs.Option.{option_and_then}
 use Rattle.std.specs.Borrow.{Bor}
 use Rattle.std.proofs.lemmas.List.{map-append, take_more}
 use Rattle.clap.specs.Walk.{Text, texts}
 use Rattle.cert_sched.specs.declared.script.ScriptWord.{ScriptWord}
-use Rattle.command_words.specs.Script.{script_word, script_words}
+use Rattle.command_words.specs.Script.{checked, script_of, script_word, script_words}
 
 -- words put before others
 abbrev onto : List ScriptWord → Option (List ScriptWord) → Option (List ScriptWord)
@@ -55,3 +55,8 @@ script_words_none (x ∷ xs) (suc i) d below none = go (script_word x.now) (scri
     go : (o : Option ScriptWord) → script_words (texts xs) ≡ None → option_and_then (λ w. option_map (λ more. w ∷ more) (script_words (texts xs))) o ≡ None
     go None e = refl
     go (Some w) e = ap (option_map (λ more. w ∷ more)) e
+
+-- the script of the texts of two lists, by the words of each
+pub script_of_both : (front back : List Text) (a b : Option (List ScriptWord)) → a ≡ script_words front → b ≡ script_words back
+    → option_and_then checked (option_and_then (λ words. option_map (λ more. words ++ more) b) a) ≡ script_of (front ++ back)
+script_of_both front back a b first second = sym (ap (option_and_then checked) (script_words-append front back ∙ ap₂ joined (sym first) (sym second)))

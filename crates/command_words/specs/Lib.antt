@@ -3,3 +3,4 @@ pub mod Grammar
 pub mod Parsed
 pub mod Parts
 pub mod Script
+pub mod Command

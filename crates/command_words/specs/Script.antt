@@ -63,9 +63,12 @@ is_return _ = false
 abbrev pub is_script : List ScriptWord → Bool
 is_script words = nat_le (count_by is_loss words) 1 && nat_le (count_by is_return words) 1
 
+abbrev pub checked : List ScriptWord → Option (List ScriptWord)
+checked words = if is_script words then Some words else None
+
 -- the script that texts are
 abbrev pub script_of : List (List ℕ) → Option (List ScriptWord)
-script_of texts = option_and_then (λ words. if is_script words then Some words else None) (script_words texts)
+script_of texts = option_and_then checked (script_words texts)
 
 -- ---- whether a system has the clusters of a script
 

@@ -1,5 +1,6 @@
 //! The words of the program, read once: the command that they are, and its script of failures.
 #![tactic(auto)]
 
+pub mod command;
 mod options;
 pub mod script;

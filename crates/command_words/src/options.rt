@@ -52,7 +52,7 @@ pub struct Parts<'a> {
 pub fn parts_of<'a>(
     alloc: Global,
     form: Form,
-    words: &'a [&'a str],
+    words: &'a [&str],
 ) -> Result<Option<Parts<'a>>, NoMemory>
     requires text { list_all is_utf8 (texts words.now) ≡ true }
     requires no_end { list_any is_end (texts words.now) ≡ false }
@@ -119,7 +119,7 @@ fn with_pick<'a>(alloc: Global, form: Form, command: Command<'a>) -> Result<Comm
 fn parsed<'a>(
     alloc: Global,
     form: Form,
-    words: &'a [&'a str],
+    words: &'a [&str],
 ) -> Result<Option<ArgMatches<'a>>, NoMemory>
     requires { AreFine (texts words.now) }
     ensures { IfOk result (IsParsedAs (given_of form (texts words.now))) }

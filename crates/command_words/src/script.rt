@@ -1,7 +1,7 @@
 //! The words of a script, by their texts.
-ghost use Rattle.std.specs.Prelude.{◌≡◌, IfOk, count_by, drop, option_and_then, option_map};
+ghost use Rattle.std.specs.Prelude.{◌≡◌, ◌++◌, IfOk, count_by, drop, option_and_then, option_map};
 ghost use Rattle.clap.specs.Walk.{texts as texts_of};
-ghost use Rattle.command_words.specs.Script.{are_allowed, behind as behind_of, cluster_and_place as cluster_and_place_of, cluster_of as cluster_of_text, is_allowed as is_allowed_in, is_loss as loses, is_return as returns_cluster, is_script as is_script_of, number_below as number_below_of, place_of as place_of_text, script_of as script_of_texts, script_word as script_word_of, script_words as script_words_of};
+ghost use Rattle.command_words.specs.Script.{are_allowed, behind as behind_of, checked as checked_of, cluster_and_place as cluster_and_place_of, cluster_of as cluster_of_text, is_allowed as is_allowed_in, is_loss as loses, is_return as returns_cluster, is_script as is_script_of, number_below as number_below_of, place_of as place_of_text, script_of as script_of_texts, script_word as script_word_of, script_words as script_words_of};
 
 use cert_sched::script::{Script, ScriptWord};
 use std::alloc::Global;
@@ -127,17 +127,41 @@ fn script_words(alloc: Global, texts: &[&str]) -> Result<Option<Script>, NoMemor
     Ok(Some(words))
 }
 
-/// The script that texts are: each is a script word, at most one loses a cluster, and at most one returns one.
-pub fn script_of(alloc: Global, texts: &[&str]) -> Result<Option<Script>, NoMemory>
-    ensures { IfOk result (λ r. r ≡ script_of_texts (texts_of texts.now)) }
+// The words, and behind them more.
+fn joined(words: Script, more: &Script) -> Result<Script, NoMemory>
+    ensures { IfOk result (λ script. script ≡ words ++ more.now) }
 {
-    let Some(script) = script_words(alloc, texts)? else {
+    let mut items = words.into_vec();
+    items.extend_from_slice(more.as_slice())?;
+    Ok(List::from_vec(items))
+}
+
+/// The script that the texts are: each is a script word, at most one loses a cluster, and at most one
+/// returns one.
+pub fn script_of(
+    alloc: Global,
+    texts: &[&str],
+    more: &[&str],
+) -> Result<Option<Script>, NoMemory>
+    ensures { IfOk result (λ r. r ≡ script_of_texts (texts_of texts.now ++ texts_of more.now)) }
+{
+    let Some(front) = script_words(alloc, texts)? else {
         return Ok(None);
     };
-    if !is_script(script.as_slice()) {
+    let Some(back) = script_words(alloc, more)? else {
         return Ok(None);
+    };
+    Ok(checked(joined(front, &back)?))
+}
+
+fn checked(words: Script) -> Option<Script>
+    ensures { result ≡ checked_of words }
+{
+    if is_script(words.as_slice()) {
+        Some(words)
+    } else {
+        None
     }
-    Ok(Some(script))
 }
 
 fn is_allowed(word: &ScriptWord, clusters: u8, pager: (ClusterNo, ClusterNo)) -> bool
