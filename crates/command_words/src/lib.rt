@@ -4,3 +4,8 @@
 pub mod command;
 mod options;
 pub mod script;
+#[cfg(test)]
+mod tests;
+
+pub use command::{Command, command_of};
+pub use script::allowed;
