@@ -1,14 +1,12 @@
 -- The words before the first `--`.
-use Rattle.std.proofs.Common.{◌≡◌, ◌∙◌, refl, sym, ap, ap₂, cond, Bool, true, false, not, ◌&&◌, ◌||◌, ℕ, zero, suc, ◌+◌, ◌-◌, length-drop, List, [], ◌∷◌, ◌++◌, take, drop, length, ◌<◌, ◌≤◌, arith, Option, Some, None, true≢false}
+use Rattle.std.proofs.Common.{◌≡◌, ◌∙◌, refl, sym, ap, ap₂, cond, Bool, true, false, not, ◌&&◌, ◌||◌, ℕ, zero, suc, ◌+◌, ◌-◌, length-drop, List, [], ◌∷◌, ◌++◌, take, drop, length, ◌<◌, ◌≤◌, arith, Some, None, true≢false}
 use Rattle.std.specs.List.{slice_index_or, after_first, before_first, list_all, list_any, position, position_or_len}
 use Rattle.std.specs.Borrow.{Bor}
 use Rattle.std.specs.Prelude.{nat_lt}
 use Rattle.std.proofs.lemmas.Bool.{ltb-false, ltb-true}
 use Rattle.std.proofs.lemmas.List.{drop_all, map-append, take_all, take_more}
 use Rattle.clap.specs.Walk.{Text, texts}
-
-one_more : (n : ℕ) → 1 + n ≡ suc n
-one_more n = omega arith
+use Rattle.command_words.proofs.Lexical.{one_more}
 
 position_of_texts : (p : Text → Bool) (words : List (Bor Text)) → position_or_len (λ word. p word.now) words ≡ position_or_len p (texts words)
 position_of_texts p [] = refl

@@ -1,22 +1,15 @@
 -- Words that may stand before `--`.
-use Rattle.std.proofs.Common.{◌≡◌, ◌∙◌, refl, sym, subst, ap, cond, Bool, true, false, ◌&&◌, ◌||◌, ℕ, List, [], ◌∷◌, take, drop, Option, Some, None, codes, true≢false}
+use Rattle.std.proofs.Common.{◌≡◌, ◌∙◌, refl, sym, subst, ap, cond, Bool, true, false, ◌&&◌, ◌||◌, List, [], ◌∷◌, Option, Some, None, codes, true≢false}
 use Rattle.std.specs.List.{list_all, list_any}
 use Rattle.std.specs.Option.{option_and_then}
-use Rattle.std.specs.Str.{IsUtf8, bytes_eq, is_utf8}
+use Rattle.std.specs.Str.{bytes_eq, is_utf8}
 use Rattle.std.specs.Borrow.{Bor}
 use Rattle.std.specs.Cmp.Lexicographic.{same_text}
 use Rattle.std.proofs.lemmas.Str.{IsUtf8-from_is_utf8}
 use Rattle.clap.specs.Walk.{texts}
-use Rattle.command_words.specs.Options.{Text, Given, begins_with_hyphen, given_after, is_end, is_hyphen, with_option, with_pick, with_word}
-use Rattle.command_words.specs.Parsed.{AreFine, IsFine}
-
-both : (a b : Bool) → (a && b) ≡ true → (a ≡ true) × (b ≡ true)
-both true b e = (refl, e)
-both false b e = absurd (true≢false (sym e))
-
-neither : (a b : Bool) → (a || b) ≡ false → (a ≡ false) × (b ≡ false)
-neither true b e = absurd (true≢false e)
-neither false b e = (refl, e)
+use Rattle.command_words.specs.Options.{Text, Given, begins_with_hyphen, given_after, is_end, is_hyphen, with_pick, with_word}
+use Rattle.command_words.specs.Parsed.{AreFine}
+use Rattle.command_words.proofs.Booleans.{and_false, both, neither}
 
 any_text : (words : List (Bor Text)) → list_any (λ word. is_hyphen word.now) words ≡ list_any is_hyphen (texts words)
 any_text [] = refl
@@ -37,10 +30,6 @@ words_fine words text no_end no_hyphen = are_fine (texts words) text no_end (sym
 -- ---- a hyphen alone gives nothing
 
 module _ (flag : Text) (picks : Bool) where
-  and_false : (b : Bool) → (b && false) ≡ false
-  and_false true = refl
-  and_false false = refl
-
   hyphen_adds : (word : Text) → is_hyphen word ≡ true → (g : Given) → with_word flag picks word g ≡ None
   hyphen_adds word e g =
       let family : Text → Type 0 = λ w. with_word flag picks w g ≡ None in

@@ -1,5 +1,5 @@
 -- What `clap` sees in a word, by its first bytes.
-use Rattle.std.proofs.Common.{◌≡◌, ◌∙◌, ◌≢◌, ◌<◌, ◌+◌, refl, sym, ap, arith, cond, Bool, true, false, not, ◌&&◌, ◌||◌, ℕ, suc, List, [], ◌∷◌, ◌++◌, length, take, drop, Option, Some, None, codes, true≢false}
+use Rattle.std.proofs.Common.{◌≡◌, ◌∙◌, ◌+◌, refl, sym, ap, arith, cond, Bool, true, false, not, ◌&&◌, ◌||◌, ℕ, suc, List, [], ◌∷◌, ◌++◌, take, drop, Some, None, codes, true≢false}
 use Rattle.std.specs.Prelude.{◌==◌, slice_get}
 use Rattle.std.specs.List.{after_first, before_first, position_or_len}
 use Rattle.std.specs.Option.{option_and_then}
@@ -39,7 +39,7 @@ no_end (b ∷ bs) e = ap (λ x. x && bytes_eq bs (codes "-")) e
 
 -- ---- `--name` and `--name=value`
 
-one_more : (n : ℕ) → 1 + n ≡ suc n
+pub one_more : (n : ℕ) → 1 + n ≡ suc n
 one_more n = omega arith
 
 two_more : (n : ℕ) → 1 + n + 1 ≡ suc (n + 1)

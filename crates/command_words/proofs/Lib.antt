@@ -1,3 +1,4 @@
+pub mod Booleans
 pub mod Ends
 pub mod Fine
 pub mod Forms

@@ -1,18 +1,16 @@
 -- A whole parse: it fails exactly where nothing is given, and else its matches tell what is given.
-use Rattle.std.proofs.Common.{◌≡◌, ◌∙◌, ◌⊎◌, refl, sym, subst, ap, ap₂, cond, Bool, true, false, not, ◌&&◌, ◌||◌, ℕ, List, [], ◌∷◌, ◌++◌, fold, Option, Some, None, codes, is_some, option_map, MatchOption, true≢false, ⊎_elim}
+use Rattle.std.proofs.Common.{◌≡◌, ◌∙◌, refl, sym, subst, ap, cond, Bool, true, false, ◌||◌, List, [], ◌∷◌, Option, Some, None, codes, is_some, option_map, ⊎_elim}
 use Rattle.std.specs.Prelude.{if◌then◌else◌, slice_get, unwrap_or}
-use Rattle.std.specs.List.{find}
 use Rattle.std.specs.Option.{option_and_then, option_map_or}
 use Rattle.std.specs.Str.{bytes_eq}
 use Rattle.clap.specs.Lexer.{has_byte}
-use Rattle.clap.specs.Matches.{found_of, matched_of, raw_values}
+use Rattle.clap.specs.Matches.{found_of}
 use Rattle.clap.specs.Values.{kind_of}
-use Rattle.clap.specs.Walk.{Held, Row, Rule, Walk, all_of, finished, first_of, has_row, nothing_held, one_of, row_text, rows_of, settled, walk, walk_from, with_default, with_values, idle}
-use Rattle.clap.specs.Simple.{App, argument_words, built, entered, is_simple, matches_of, names_of}
+use Rattle.clap.specs.Walk.{Held, Row, all_of, finished, first_of, has_row, nothing_held, one_of, row_text, rows_of, settled, walk, walk_from, with_default, with_values, idle}
+use Rattle.clap.specs.Simple.{App, entered, is_simple, matches_of}
 use Rattle.clap.specs.Kinds.{HasKind, IsAmong, Kinds, or_else}
 use Rattle.clap.specs.Faults.{built_fault, check_fault, default_fault, defaults_fault, entered_fault, fault_of, is_simple_and_free, level_fault, settle_fault, walk_fault}
 use Rattle.clap.specs.declared.error.Error.{Error}
-use Rattle.clap.specs.declared.error.kind.ErrorKind.{ErrorKind}
 use Rattle.clap.specs.declared.error.kind.ErrorKind.TheVariants as kind
 use Rattle.clap.specs.declared.parser.matches.ArgMatches.{ArgMatches}
 use Rattle.clap.specs.declared.builder.value_parser.Reading.TheVariants.{AsWritten}
@@ -20,12 +18,12 @@ use Rattle.clap.specs.declared.parser.matches.ValueSource.TheVariants.{DefaultVa
 use Rattle.clap.proofs.WalkLemmas.{first_value-rows, one_text-rows, raw_values-rows}
 use Rattle.command_words.specs.declared.options.Form.{Form}
 use Rattle.command_words.specs.declared.options.Form.TheVariants.{Sim, Run, Load}
-use Rattle.command_words.specs.Options.{Text, Given, flag_of, given_after, given_of, nothing_given, takes_pick}
+use Rattle.command_words.specs.Options.{Text, Given, flag_of, given_of, nothing_given, takes_pick}
 use Rattle.command_words.specs.Grammar.{app_for, app_with}
-use Rattle.command_words.specs.Parsed.{AreFine, IsParsedAs, Tells}
+use Rattle.command_words.specs.Parsed.{AreFine, IsParsedAs}
 use Rattle.command_words.proofs.Rows.{Leads, Shows, flag_row, flag_rule, fresh, grown, no_row, pick_row, pick_rule, row_at, row_at-values, row_at-values_other, some_row, words_row, words_rule}
-use Rattle.command_words.proofs.Turns.{at, built_is, rules_with, shape_with}
-use Rattle.command_words.proofs.Walked.{Ends, words_end}
+use Rattle.command_words.proofs.Turns.{or_else-nil, rules_with, shape_with}
+use Rattle.command_words.proofs.Walked.{words_end}
 
 abbrev no_kinds : Kinds
 no_kinds = []
@@ -43,10 +41,6 @@ nothing_twice false = refl
 nothing_left : (b : Bool) (k : Kinds) → (if b || true then no_kinds else k) ≡ no_kinds
 nothing_left true k = refl
 nothing_left false k = refl
-
-or_else-nil : (k : Kinds) → or_else k [] ≡ k
-or_else-nil [] = refl
-or_else-nil (x ∷ xs) = refl
 
 flag_default : (flag : Text) (rows : List Row) → default_fault rows (flag_rule flag) ≡ []
 flag_default flag rows = nothing_twice (has_row (codes "flag") rows || false)
@@ -153,12 +147,12 @@ module _ (flag : Text) (rows : List Row) (g : Given) (shows : Shows rows g) wher
           let is = default_is false (no_row (codes "flag") rows none) in
           subst (λ (rs : List Row). RowsTell rs g) (sym is) (record {
             flag = ap (option_and_then row_text) (row_at-values (codes "flag") AsWritten DefaultValue (codes "false" ∷ []) rows refl
-            ∙ ap (λ o. Some (option_map_or (grown DefaultValue (codes "false" ∷ [])) o (fresh (codes "flag") AsWritten DefaultValue (codes "false" ∷ [])))) none)
-            ∙ ap (λ x. Some (cond x (codes "true") (codes "false"))) (sym e);
+                ∙ ap (λ o. Some (option_map_or (grown DefaultValue (codes "false" ∷ [])) o (fresh (codes "flag") AsWritten DefaultValue (codes "false" ∷ [])))) none)
+                ∙ ap (λ x. Some (cond x (codes "true") (codes "false"))) (sym e);
             pick = pick_is (row_at (codes "pick") (with_values (codes "flag") AsWritten DefaultValue (codes "false" ∷ []) rows)) g.pick
-            (row_at-values_other (codes "flag") (codes "pick") AsWritten DefaultValue (codes "false" ∷ []) rows refl ∙ shows.pick);
+                (row_at-values_other (codes "flag") (codes "pick") AsWritten DefaultValue (codes "false" ∷ []) rows refl ∙ shows.pick);
             plain = words_are (row_at (codes "words") (with_values (codes "flag") AsWritten DefaultValue (codes "false" ∷ []) rows)) g.plain
-            (row_at-values_other (codes "flag") (codes "words") AsWritten DefaultValue (codes "false" ∷ []) rows refl ∙ shows.plain);
+                (row_at-values_other (codes "flag") (codes "words") AsWritten DefaultValue (codes "false" ∷ []) rows refl ∙ shows.plain);
           })
 
 -- ---- the whole parse

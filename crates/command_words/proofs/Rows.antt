@@ -1,11 +1,11 @@
 -- The rows of the flag, of `--pick` and of the other words, as a parse adds to them.
-use Rattle.std.proofs.Common.{◌≡◌, ◌∙◌, refl, sym, ap, cond, Bool, true, false, not, ◌&&◌, ◌||◌, ℕ, List, [], ◌∷◌, ◌++◌, Option, Some, None, codes, is_some, option_map, MatchOption, true≢false}
+use Rattle.std.proofs.Common.{◌≡◌, ◌∙◌, refl, sym, ap, cond, Bool, true, false, not, ◌&&◌, ◌||◌, List, [], ◌∷◌, ◌++◌, Option, Some, None, codes, is_some, option_map, MatchOption, true≢false}
 use Rattle.std.specs.Prelude.{if◌then◌else◌}
 use Rattle.std.specs.List.{find}
 use Rattle.std.specs.Option.{option_map_or}
 use Rattle.std.specs.Str.{bytes_eq}
 use Rattle.std.specs.Cmp.Lexicographic.{same_text}
-use Rattle.clap.specs.Walk.{Row, Rule, at_row, has_row, more_values, reading_by, stronger, used, with_values, without}
+use Rattle.clap.specs.Walk.{Row, Rule, has_row, stronger, used, with_values, without}
 use Rattle.clap.specs.Kinds.{Kinds, or_else}
 use Rattle.clap.specs.Faults.{repeat_fault, use_fault}
 use Rattle.clap.specs.Simple.{filled, with_index}
@@ -140,12 +140,14 @@ module _ (flag : Text) (rows : List Row) (g : Given) (shows : Shows rows g) wher
       go : (b : Bool) → g.flag ≡ b → Leads (use_fault false (flag_rule flag) [] rows) (used (flag_rule flag) [] rows) (cond b None (Some (record g { flag = true })))
       go true e = λ h. let bad : kind.ArgumentConflict ∷ [] ≡ [] = sym (used_again (codes "flag") rows (some_row (codes "flag") flag_row rows (row_is true e))) ∙ h in cc
       go false e =
-          let none = row_is false e in
-          (used_first (codes "flag") rows (no_row (codes "flag") rows none), record {
-            flag = first_row (codes "flag") (codes "true" ∷ []) rows refl none;
-            pick = row_beside (codes "flag") (codes "pick") (codes "true" ∷ []) rows refl none ∙ shows.pick;
-            plain = row_beside (codes "flag") (codes "words") (codes "true" ∷ []) rows refl none ∙ shows.plain;
-          })
+          let none = row_is false e in (
+            used_first (codes "flag") rows (no_row (codes "flag") rows none),
+            record {
+              flag = first_row (codes "flag") (codes "true" ∷ []) rows refl none;
+              pick = row_beside (codes "flag") (codes "pick") (codes "true" ∷ []) rows refl none ∙ shows.pick;
+              plain = row_beside (codes "flag") (codes "words") (codes "true" ∷ []) rows refl none ∙ shows.plain;
+            },
+          )
 
   pub pick_used : (value : Text) → Leads (use_fault false pick_rule (value ∷ []) rows) (used pick_rule (value ∷ []) rows) (with_pick value g)
   pick_used value = go g.pick refl
@@ -156,19 +158,24 @@ module _ (flag : Text) (rows : List Row) (g : Given) (shows : Shows rows g) wher
       go : (o : Option Text) → g.pick ≡ o → Leads (use_fault false pick_rule (value ∷ []) rows) (used pick_rule (value ∷ []) rows) (cond (is_some o) None (Some (record g { pick = Some value })))
       go (Some v) e = λ h. let bad : kind.ArgumentConflict ∷ [] ≡ [] = sym (used_again (codes "pick") rows (some_row (codes "pick") (pick_row v) rows (row_is (Some v) e))) ∙ h in cc
       go None e =
-          let none = row_is None e in
-          (used_first (codes "pick") rows (no_row (codes "pick") rows none), record {
-            flag = row_beside (codes "pick") (codes "flag") (value ∷ []) rows refl none ∙ shows.flag;
-            pick = first_row (codes "pick") (value ∷ []) rows refl none;
-            plain = row_beside (codes "pick") (codes "words") (value ∷ []) rows refl none ∙ shows.plain;
-          })
+          let none = row_is None e in (
+            used_first (codes "pick") rows (no_row (codes "pick") rows none),
+            record {
+              flag = row_beside (codes "pick") (codes "flag") (value ∷ []) rows refl none ∙ shows.flag;
+              pick = first_row (codes "pick") (value ∷ []) rows refl none;
+              plain = row_beside (codes "pick") (codes "words") (value ∷ []) rows refl none ∙ shows.plain;
+            },
+          )
 
   pub word_used : (word : Text) → Leads (use_fault false words_rule (word ∷ []) rows) (used words_rule (word ∷ []) rows) (Some (with_plain word g))
-  word_used word = (refl, record {
-    flag = row_at-values_other (codes "words") (codes "flag") AsWritten CommandLine (word ∷ []) rows refl ∙ shows.flag;
-    pick = row_at-values_other (codes "words") (codes "pick") AsWritten CommandLine (word ∷ []) rows refl ∙ shows.pick;
-    plain = row_at-values (codes "words") AsWritten CommandLine (word ∷ []) rows refl ∙ ap (λ o. Some (option_map_or (grown CommandLine (word ∷ [])) o (fresh (codes "words") AsWritten CommandLine (word ∷ [])))) shows.plain ∙ more g.plain;
-  })
+  word_used word = (
+    refl,
+    record {
+      flag = row_at-values_other (codes "words") (codes "flag") AsWritten CommandLine (word ∷ []) rows refl ∙ shows.flag;
+      pick = row_at-values_other (codes "words") (codes "pick") AsWritten CommandLine (word ∷ []) rows refl ∙ shows.pick;
+      plain = row_at-values (codes "words") AsWritten CommandLine (word ∷ []) rows refl ∙ ap (λ o. Some (option_map_or (grown CommandLine (word ∷ [])) o (fresh (codes "words") AsWritten CommandLine (word ∷ [])))) shows.plain ∙ more g.plain;
+    },
+  )
     where
       more : (words : List Text) → Some (option_map_or (grown CommandLine (word ∷ [])) (words_row words) (fresh (codes "words") AsWritten CommandLine (word ∷ []))) ≡ words_row (words ++ word ∷ [])
       more [] = refl

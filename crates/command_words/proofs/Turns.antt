@@ -1,18 +1,19 @@
 -- One word of a parse, and what it leads to.
-use Rattle.std.proofs.Common.{◌≡◌, ◌∙◌, refl, sym, subst, ap, ap₂, cond, Bool, true, false, not, ◌&&◌, ◌||◌, ℕ, suc, List, [], ◌∷◌, ◌++◌, length, take, drop, Option, Some, None, codes, is_some, MatchOption, true≢false}
-use Rattle.std.specs.Prelude.{if◌then◌else◌, ◌==◌, slice_get, encode_utf8}
-use Rattle.std.specs.List.{after_first, before_first, find}
+use Rattle.std.proofs.Common.{◌≡◌, ◌∙◌, refl, sym, subst, ap, ap₂, cond, Bool, true, false, not, ◌&&◌, ◌||◌, ℕ, List, [], ◌∷◌, length, drop, Option, Some, None, codes, is_some, MatchOption, true≢false}
+use Rattle.std.specs.Prelude.{encode_utf8}
+use Rattle.std.specs.List.{find}
 use Rattle.std.specs.Option.{option_and_then, option_map_or}
-use Rattle.std.specs.Str.{IsUtf8, bytes_eq, chars}
-use Rattle.clap.specs.Lexer.{has_byte, long_of, name_and_value, short_of}
-use Rattle.clap.specs.Walk.{Held, Outcome, Row, Rule, Step, Waiting, Walk, after_flag, after_step, arg_by_id, arg_by_index, arg_by_long, arg_by_short, has_long, idle, is_pending, long_met, long_or_other, next, option, plain_word, positional, positional_held, pushed, reacted, settled, settled_rows, subcommand_met, short_or_plain, subcommand_or_other, to_positional, used_by_id, takes_several, trailing, used, value, walked, word_met}
-use Rattle.clap.specs.Simple.{App, Shape, built, names_of, new_shape}
+use Rattle.std.specs.Str.{IsUtf8, bytes_eq}
+use Rattle.clap.specs.Lexer.{long_of, short_of}
+use Rattle.clap.specs.Walk.{Held, Outcome, Row, Rule, Step, Waiting, Walk, after_flag, after_step, arg_by_id, arg_by_index, arg_by_long, arg_by_short, has_long, idle, is_pending, long_met, long_or_other, option, plain_word, positional, pushed, settled, settled_rows, subcommand_met, short_or_plain, subcommand_or_other, to_positional, used_by_id, trailing, value, walked, word_met}
+use Rattle.clap.specs.Simple.{Shape, built, new_shape}
 use Rattle.clap.specs.Kinds.{Kinds, or_else}
-use Rattle.clap.specs.Faults.{bundle_fault, bundle_step_fault, flag_word_fault, flags_fault, long_fault, other_fault, positional_fault, react_fault, settle_fault, short_fault, step_fault, stray_fault, turn_fault, use_fault, word_fault}
+use Rattle.clap.specs.Faults.{bundle_fault, bundle_step_fault, flag_word_fault, flags_fault, long_fault, other_fault, positional_fault, settle_fault, short_fault, step_fault, stray_fault, turn_fault, use_fault, word_fault}
 use Rattle.clap.specs.declared.error.kind.ErrorKind.TheVariants as kind
-use Rattle.command_words.specs.Options.{Text, Given, begins_with_hyphen, with_flag, with_pick, with_plain, with_word}
+use Rattle.command_words.specs.Options.{Text, Given, begins_with_hyphen, with_flag, with_pick, with_plain}
 use Rattle.command_words.specs.Grammar.{app_with}
-use Rattle.command_words.proofs.Lexical.{behind_hyphen, first_char, named_pick, no_end, no_long, no_short, parted, pick_named, whole_name}
+use Rattle.command_words.proofs.Booleans.{and_false}
+use Rattle.command_words.proofs.Lexical.{behind_hyphen, first_char, no_end, no_long, no_short}
 use Rattle.command_words.proofs.Rows.{Leads, Shows, flag_rule, flag_used, pick_rule, pick_used, word_used, words_rule}
 
 -- ---- the command as it is built
@@ -51,7 +52,7 @@ no_subcommand idle word = refl
 no_subcommand (option id) word = refl
 no_subcommand positional word = refl
 
-or_else-nil : (k : Kinds) → or_else k [] ≡ k
+pub or_else-nil : (k : Kinds) → or_else k [] ≡ k
 or_else-nil [] = refl
 or_else-nil (x ∷ xs) = refl
 
@@ -103,10 +104,6 @@ long_none flag true name e unnamed =
 long_none flag false name e unnamed =
     ap (λ b. cond (b || false) (Some (flag_rule flag)) (find (λ a. not (is_some a.index) && has_long a name) (words_rule ∷ []))) e
 
-and-false : (b : Bool) → (b && false) ≡ false
-and-false true = refl
-and-false false = refl
-
 abbrev flag_read : List Rule → Waiting → Text → Held × Outcome → Held × Step
 flag_read rules waiting word met = after_flag rules waiting word met.0 met.1
 
@@ -141,14 +138,17 @@ module _ (flag : Text) (picks : Bool) where
   stepped_used : (w : Walk) (word : Text) (fault : Kinds) (after : List Row) (o : Option Given) → turn_fault (shape_with flag picks) [] w word ≡ fault
       → walked (rules_with flag picks) [] w word ≡ at after None idle → Leads fault after o → Stepped w word o
   stepped_used w word fault after None faults walks led = λ h. led (sym faults ∙ h)
-  stepped_used w word fault after (Some g) faults walks led = (faults ∙ led.0, record {
-    rows = after;
-    pending = None;
-    waiting = idle;
-    is = walks;
-    between = refl;
-    settled = (refl, led.1);
-  })
+  stepped_used w word fault after (Some g) faults walks led = (
+    faults ∙ led.0,
+    record {
+      rows = after;
+      pending = None;
+      waiting = idle;
+      is = walks;
+      between = refl;
+      settled = (refl, led.1);
+    },
+  )
 
   stepped_refused : (w : Walk) (word : Text) (k : Kinds) → turn_fault (shape_with flag picks) [] w word ≡ k → (k ≡ [] → ⊥) → Stepped w word None
   stepped_refused w word k faults some h = some (sym faults ∙ h)
@@ -251,7 +251,7 @@ module _ (flag : Text) (picks : Bool) where
         (met_here (no_end word no_hyphen) ∙ ap (λ l. long_or_other (rules_with flag picks) waiting word l (held rows pending)) (no_long word no_hyphen)
         ∙ ap (λ l. short_or_plain (rules_with flag picks) waiting word l (held rows pending)) (no_short word no_hyphen)
         ∙ plain_value (rules_with flag picks) waiting word (held rows pending) between) in
-        let several = and-false (is_pending words_rule pending) in
+        let several = and_false (is_pending words_rule pending) in
         let fault = turn.0 ∙ ap (λ f. option_map_or (λ a. positional_fault (rules_with flag picks) false a (held rows pending)) f (stray_fault (shape_with flag picks))) (index_one flag picks)
         ∙ ap (λ b. cond b [] (settle_fault (rules_with flag picks) false (held rows pending))) several in
         let walk = turn.1 ∙ ap (λ f. to_positional (rules_with flag picks) f word (at rows pending waiting) (held rows pending)) (index_one flag picks)
@@ -269,11 +269,14 @@ module _ (flag : Text) (picks : Bool) where
             → walked (rules_with flag picks) [] (at rows pending waiting) word ≡ at (settled_rows (rules_with flag picks) pending rows) (Some (codes "words", word ∷ [])) positional
             → Settles rows pending o → Stepped (at rows pending waiting) word (option_and_then (λ g. Some (with_plain word g)) o)
         go None fault walk fails = λ h. fails (sym fault ∙ h)
-        go (Some g) fault walk led = (fault ∙ led.0, record {
-          rows = settled_rows (rules_with flag picks) pending rows;
-          pending = Some (codes "words", word ∷ []);
-          waiting = positional;
-          is = walk;
-          between = refl;
-          settled = used_next g led.1;
-        })
+        go (Some g) fault walk led = (
+          fault ∙ led.0,
+          record {
+            rows = settled_rows (rules_with flag picks) pending rows;
+            pending = Some (codes "words", word ∷ []);
+            waiting = positional;
+            is = walk;
+            between = refl;
+            settled = used_next g led.1;
+          },
+        )

@@ -1,5 +1,5 @@
 -- A parse of words gives what the words give.
-use Rattle.std.proofs.Common.{◌≡◌, ◌∙◌, refl, sym, subst, ap, ap₂, cond, Bool, true, false, not, ◌&&◌, ◌||◌, ℕ, suc, List, [], ◌∷◌, ◌++◌, length, take, drop, fold, Option, Some, None, codes, is_some, MatchOption, true≢false}
+use Rattle.std.proofs.Common.{◌≡◌, ◌∙◌, refl, sym, subst, ap, ap₂, cond, Bool, true, false, ◌&&◌, ℕ, List, [], ◌∷◌, ◌++◌, take, drop, fold, Option, Some, None, codes, is_some, true≢false}
 use Rattle.std.specs.Prelude.{if◌then◌else◌, ◌==◌}
 use Rattle.std.specs.List.{after_first, before_first}
 use Rattle.std.specs.Option.{option_and_then, option_map_or}
@@ -7,26 +7,19 @@ use Rattle.std.specs.Str.{IsUtf8, bytes_eq}
 use Rattle.std.specs.Cmp.Lexicographic.{same_text}
 use Rattle.std.proofs.lemmas.Bool.{eqb-true}
 use Rattle.std.proofs.lemmas.Slice.Eq.{bytes_eq-Decides}
-use Rattle.clap.specs.Lexer.{has_byte, long_of, long_of_rest, name_and_value, short_of, short_of_rest, strip_byte}
+use Rattle.clap.specs.Lexer.{has_byte, long_of_rest, name_and_value}
 use Rattle.clap.specs.Walk.{Held, Row, Rule, Waiting, Walk, idle, long_or_other, next, option, option_word, settled, short_or_plain, settled_rows, used_by_id, walked}
 use Rattle.clap.specs.Kinds.{Kinds, or_else}
 use Rattle.clap.specs.Faults.{bundle_fault, flag_word_fault, settle_fault, turn_fault, use_fault, walk_fault}
 use Rattle.clap.specs.declared.error.kind.ErrorKind.TheVariants as kind
 use Rattle.command_words.specs.Options.{Text, Given, begins_with_hyphen, given_after, with_flag, with_pick, with_option, with_plain, with_word}
 use Rattle.command_words.specs.Parsed.{AreFine, IsFine}
+use Rattle.command_words.proofs.Booleans.{and_false, both, is_false}
 use Rattle.command_words.proofs.Lexical.{named_pick, no_end, no_long, no_short, pick_named, whole_name}
 use Rattle.command_words.proofs.Rows.{Leads, Shows, pick_used}
-use Rattle.command_words.proofs.Turns.{Arrives, Settles, Stepped, at, fault_here, flag_stepped, flag_valued, held, is_between, letter_unknown, long_flag, long_none, long_pick, met_here, name_unknown, pick_by_id, pick_stepped, pick_waits, plain_stepped, rules_with, shape_with, turn_is}
+use Rattle.command_words.proofs.Turns.{Settles, Stepped, at, fault_here, flag_stepped, flag_valued, held, is_between, letter_unknown, long_flag, long_none, long_pick, met_here, name_unknown, pick_by_id, pick_stepped, pick_waits, plain_stepped, rules_with, shape_with, turn_is}
 
 -- ---- tests
-
-and_false : (b : Bool) → (b && false) ≡ false
-and_false true = refl
-and_false false = refl
-
-is_false : (b : Bool) → (b ≡ true → ⊥) → b ≡ false
-is_false true h = absurd (h refl)
-is_false false h = refl
 
 same : (a b : Text) → a ≡ b → bytes_eq a b ≡ true
 same a b e = (bytes_eq-Decides a b).1 e
@@ -42,13 +35,6 @@ then_same (Some g) j k e = e g
 then_none : (o : Option Given) → option_and_then {T = Given} {U = Given} (λ g. None) o ≡ None
 then_none None = refl
 then_none (Some g) = refl
-
-both : (a b : Bool) → (a && b) ≡ true → (a ≡ true) × (b ≡ true)
-both true b e = (refl, e)
-both false b e = absurd (true≢false (sym e))
-
-right : (a b : Bool) → (a && b) ≡ true → b ≡ true
-right a b e = (both a b e).1
 
 module _ (flag : Text) (picks : Bool) (no_equals : has_byte 61 flag ≡ false) (no_pick : bytes_eq flag (codes "pick") ≡ false) where
   -- what an option adds, where it is known which it is
@@ -69,7 +55,7 @@ module _ (flag : Text) (picks : Bool) (no_equals : has_byte 61 flag ≡ false) (
 
   -- where the value of `--pick` is attached, the name says so
   no_value : (body : Text) (name : Text) → name_and_value body ≡ (name, None) → (picks && bytes_eq (take 5 body) (codes "pick=")) ≡ false
-  no_value body name is = is_false _ (λ t. true≢false (sym (ap (λ (p : Text × Option Text). is_some p.1) (sym is ∙ pick_named body (right picks _ t)))))
+  no_value body name is = is_false _ (λ t. true≢false (sym (ap (λ (p : Text × Option Text). is_some p.1) (sym is ∙ pick_named body (both picks _ t).1))))
 
   other_name : (body name : Text) (v : Option Text) → name_and_value body ≡ (name, v) → (picks && bytes_eq (codes "pick") name) ≡ false
       → (picks && bytes_eq (take 5 body) (codes "pick=")) ≡ false
@@ -77,7 +63,7 @@ module _ (flag : Text) (picks : Bool) (no_equals : has_byte 61 flag ≡ false) (
     where
       go : (b : Bool) → (b && bytes_eq (codes "pick") name) ≡ false → (b && bytes_eq (take 5 body) (codes "pick=")) ≡ false
       go false e = refl
-      go true e = is_false _ (λ t. true≢false (sym (same (codes "pick") name (sym (ap (λ p. p.0) (sym is ∙ pick_named body t) ))) ∙ e))
+      go true e = is_false _ (λ t. true≢false (sym (same (codes "pick") name (sym (ap (λ p. p.0) (sym is ∙ pick_named body t)))) ∙ e))
 
   module _ (rows : List Row) (pending : Option (Text × List Text)) (waiting : Waiting) (o : Option Given) (settles : Settles flag picks rows pending o) where
     -- a word `--` and a body, by the name in the body
@@ -176,7 +162,7 @@ module _ (flag : Text) (picks : Bool) (no_equals : has_byte 61 flag ≡ false) (
             second true e =
                 let is : 45 ≡ b = sym (eqb-true b 45 e) in
                 let family : ℕ → Type 0 = λ c. IsFine (45 ∷ c ∷ bs) → (picks && bytes_eq (45 ∷ c ∷ bs) (codes "--pick")) ≡ false
-                    → Stepped flag picks (at rows pending waiting) (45 ∷ c ∷ bs) (option_and_then (with_word flag picks (45 ∷ c ∷ bs)) o) in
+                → Stepped flag picks (at rows pending waiting) (45 ∷ c ∷ bs) (option_and_then (with_word flag picks (45 ∷ c ∷ bs)) o) in
                 subst family is (two bs) fine unpicked
 
         go : (x : Bool) → (a == 45) ≡ x → Stepped flag picks (at rows pending waiting) (a ∷ rest) (option_and_then (with_word flag picks (a ∷ rest)) o)
@@ -187,7 +173,7 @@ module _ (flag : Text) (picks : Bool) (no_equals : has_byte 61 flag ≡ false) (
         go true e =
             let is : 45 ≡ a = sym (eqb-true a 45 e) in
             let family : ℕ → Type 0 = λ c. IsFine (c ∷ rest) → (picks && bytes_eq (c ∷ rest) (codes "--pick")) ≡ false
-                → Stepped flag picks (at rows pending waiting) (c ∷ rest) (option_and_then (with_word flag picks (c ∷ rest)) o) in
+            → Stepped flag picks (at rows pending waiting) (c ∷ rest) (option_and_then (with_word flag picks (c ∷ rest)) o) in
             subst family is (hyphen rest) fine unpicked
 
   -- ---- all the words
@@ -213,8 +199,8 @@ module _ (flag : Text) (picks : Bool) (no_equals : has_byte 61 flag ≡ false) (
   passed_first w after word words o fault walks ends =
       let at_walk : Ends (walked (rules_with flag picks) [] w word) words o = subst (λ (v : Walk). Ends v words o) (sym walks) ends in
       let family : Kinds → Type 0 = λ k. Leads (or_else (or_else k (walk_fault (shape_with flag picks) [] (walked (rules_with flag picks) [] w word) words))
-          (settle_fault (rules_with flag picks) false (fold (walked (rules_with flag picks) []) w (word ∷ words)).held))
-          (settled (rules_with flag picks) (fold (walked (rules_with flag picks) []) w (word ∷ words)).held).rows o in
+      (settle_fault (rules_with flag picks) false (fold (walked (rules_with flag picks) []) w (word ∷ words)).held))
+      (settled (rules_with flag picks) (fold (walked (rules_with flag picks) []) w (word ∷ words)).held).rows o in
       subst family (sym fault) at_walk
 
   -- what is to be shown of the words from a place on
@@ -240,12 +226,12 @@ module _ (flag : Text) (picks : Bool) (no_equals : has_byte 61 flag ≡ false) (
       let parts = both picks _ e in
       let is : codes "--pick" ≡ word = sym (same_text word (codes "--pick") (sym parts.1)) in
       let family : Text → Type 0 = λ w. (turn_fault (shape_with flag picks) [] (at rows pending waiting) w ≡ settle_fault (rules_with flag picks) false (held rows pending))
-          × (walked (rules_with flag picks) [] (at rows pending waiting) w ≡ at (settled_rows (rules_with flag picks) pending rows) (Some (codes "pick", [])) (option (codes "pick"))) in
+      × (walked (rules_with flag picks) [] (at rows pending waiting) w ≡ at (settled_rows (rules_with flag picks) pending rows) (Some (codes "pick", [])) (option (codes "pick"))) in
       subst family is (pick_waits flag picks rows pending waiting (codes "--pick") (codes "pick") refl refl (long_pick flag picks (codes "pick") no_pick (ap (λ x. x && true) parts.0)))
 
   pick_alone : (word : Text) → (picks && bytes_eq word (codes "--pick")) ≡ true → (g : Given) → with_word flag picks word g ≡ None
   pick_alone word e g =
-      let is : codes "--pick" ≡ word = sym (same_text word (codes "--pick") (sym (right picks _ e))) in
+      let is : codes "--pick" ≡ word = sym (same_text word (codes "--pick") (sym (both picks _ e).1)) in
       let family : Text → Type 0 = λ w. with_word flag picks w g ≡ None in
       subst family is (adds_none (codes "--pick") (turned flag (codes "pick") false no_pick) (and_false picks) g)
 

@@ -1,5 +1,5 @@
 -- The grammar of a command's words, as `clap` is given it.
-use Rattle.std.specs.Prelude.{Bool, true, false, List, [], ◌∷◌, codes, Some, if◌then◌else◌}
+use Rattle.std.specs.Prelude.{Bool, true, codes, Some, if◌then◌else◌}
 use Rattle.clap.specs.Words.{App, Rule, new_app, new_rule, with_rule}
 use Rattle.clap.specs.Simple.{on_top}
 use Rattle.clap.specs.declared.builder.action.ArgAction.TheVariants as action

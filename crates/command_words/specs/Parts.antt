@@ -1,6 +1,5 @@
 -- The parts of a command's words, as the code holds them.
-use Rattle.std.specs.Prelude.{Bool, option_map, codes}
-use Rattle.std.specs.Str.{bytes_eq}
+use Rattle.std.specs.Prelude.{option_map}
 use Rattle.clap.specs.Walk.{texts}
 use Rattle.command_words.specs.declared.options.Parts.{Parts}
 use Rattle.command_words.specs.Options.{Given}

@@ -16,7 +16,8 @@ use t32_base::streams::NoMemory;
 
 /// What the program is told to do: to run a system without failures, to print a system text in canonical
 /// form, to assemble a text, to run the clusters of a system on one thread or each on its own, or to run a
-/// workload of a size. The words of a script say which clusters are lost and return.
+/// workload of a size. `pick` says where each round begins. A script says which clusters are lost and return;
+/// that the system has these clusters is another question, `allowed`.
 #[derive(Drop)]
 pub enum Command {
     Plain,
@@ -42,7 +43,11 @@ const PICKS: u64 = 0x8000_0000;
 
 const SIZES: u64 = 1001;
 
-/// The command that the words are, if they are one.
+/// The command that the words are, or `None` where they are none. The first word names the command, and its
+/// options and script words follow in any order. `plain`, `check` and `asm` take no words. `sim` takes `--log`,
+/// `--pick N` or `--pick=N` with a number of 31 bits, and script words; `run` takes `--log` and script words;
+/// `load` takes its size, 1 to 1000, as the first word that is no option, and `--text` and script words. Each
+/// option stands once at most, and behind `--` every word is a script word. The only error is want of memory.
 pub fn command_of(alloc: Global, words: &[Text]) -> Result<Option<Command>, NoMemory>
     ensures { IfOk result (λ c. c ≡ command_of_words words.now) }
 {
@@ -107,11 +112,7 @@ fn sim(alloc: Global, words: &[&str]) -> Result<Option<Command>, NoMemory>
     sim_with(alloc, &parts, behind)
 }
 
-fn sim_with(
-    alloc: Global,
-    parts: &Parts<'_>,
-    behind: &[&str],
-) -> Result<Option<Command>, NoMemory>
+fn sim_with(alloc: Global, parts: &Parts<'_>, behind: &[&str]) -> Result<Option<Command>, NoMemory>
     ensures { IfOk result (λ c. c ≡ sim_by (texts_of behind.now) (given_by parts.now)) }
 {
     let Some(pick) = pick_of(parts.pick) else {
@@ -149,11 +150,7 @@ fn run(alloc: Global, words: &[&str]) -> Result<Option<Command>, NoMemory>
     run_with(alloc, &parts, behind)
 }
 
-fn run_with(
-    alloc: Global,
-    parts: &Parts<'_>,
-    behind: &[&str],
-) -> Result<Option<Command>, NoMemory>
+fn run_with(alloc: Global, parts: &Parts<'_>, behind: &[&str]) -> Result<Option<Command>, NoMemory>
     ensures { IfOk result (λ c. c ≡ run_by (texts_of behind.now) (given_by parts.now)) }
 {
     let Some(script) = script_of(alloc, parts.plain.as_slice(), behind)? else {

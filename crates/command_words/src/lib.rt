@@ -1,9 +1,9 @@
 //! The words of the program, read once: the command that they are, and its script of failures.
 #![tactic(auto)]
 
-pub mod command;
+mod command;
 mod options;
-pub mod script;
+mod script;
 #[cfg(test)]
 mod tests;
 

@@ -1,4 +1,6 @@
-//! The options of a command and its other words, read by `clap`.
+//! The options of a command and its other words, read by `clap`. It gets the words before `--` alone, since
+//! behind it each word is a script word, which `clap` would not tell from the size of a workload; and no
+//! hyphen alone, which it would take for a word that is no option.
 ghost use Rattle.std.specs.Prelude.{◌≡◌, IfOk, false, option_map, true};
 ghost use Rattle.std.specs.List.{list_all, list_any};
 ghost use Rattle.std.specs.Str.{is_utf8};
@@ -67,7 +69,7 @@ pub fn parts_of<'a>(
     Ok(Some(told(alloc, &matches)?))
 }
 
-// Is a word a hyphen alone? `clap` would take it for a word that is no option.
+// Is a word a hyphen alone?
 fn has_hyphen(words: &[&str]) -> bool
     ensures { result ≡ list_any (λ word. is_hyphen word.now) words.now }
 {

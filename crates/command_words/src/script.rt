@@ -10,7 +10,7 @@ use t32_base::process::ClusterNo;
 use t32_base::streams::NoMemory;
 use text_parts::{cut_at, number};
 
-/// How a cluster's number above 255 is held: as this, which no system has.
+/// A number of a cluster above this is held as this: no system has either.
 const NO_CLUSTER: u64 = 255;
 
 const PLACES: u64 = 0x1_0000_0000;
@@ -138,11 +138,7 @@ fn joined(words: Script, more: &Script) -> Result<Script, NoMemory>
 
 /// The script that the texts are: each is a script word, at most one loses a cluster, and at most one
 /// returns one.
-pub fn script_of(
-    alloc: Global,
-    texts: &[&str],
-    more: &[&str],
-) -> Result<Option<Script>, NoMemory>
+pub fn script_of(alloc: Global, texts: &[&str], more: &[&str]) -> Result<Option<Script>, NoMemory>
     ensures { IfOk result (λ r. r ≡ script_of_texts (texts_of texts.now ++ texts_of more.now)) }
 {
     let Some(front) = script_words(alloc, texts)? else {

@@ -199,26 +199,58 @@ static SCRIPTS: [(&[u8], Read, &[ScriptWord]); 53] = [
     (b"load 5 disk:2@9", Read::Load(5, false), &[DISK_AT]),
     (b"sim -- crash:2@bus:9", Read::Sim(0, false), &[CRASH_AT]),
     (b"sim crash:2@bus:9 --", Read::Sim(0, false), &[CRASH_AT]),
-    (b"sim --log crash:2@bus:9 --pick 3", Read::Sim(3, true), &[CRASH_AT]),
+    (
+        b"sim --log crash:2@bus:9 --pick 3",
+        Read::Sim(3, true),
+        &[CRASH_AT],
+    ),
     (b"run crash:2@bus:9 --log", Read::Run(true), &[CRASH_AT]),
-    (b"load 5 -- crash:2@bus:9", Read::Load(5, false), &[CRASH_AT]),
-    (b"load 5 disk:2@9 --text --", Read::Load(5, true), &[DISK_AT]),
+    (
+        b"load 5 -- crash:2@bus:9",
+        Read::Load(5, false),
+        &[CRASH_AT],
+    ),
+    (
+        b"load 5 disk:2@9 --text --",
+        Read::Load(5, true),
+        &[DISK_AT],
+    ),
     (b"load crash:2@bus:9 5", Read::Usage, &[]),
     (b"load crash:2@bus:9", Read::Usage, &[]),
-    (b"sim crash:2@bus:9 return:3@bus:10", Read::Sim(0, false), &[CRASH_AT, LATER_RETURN]),
-    (b"sim crash:2@bus:9 -- return:3@bus:10", Read::Sim(0, false), &[CRASH_AT, LATER_RETURN]),
-    (b"run return:3@bus:10 -- disk:2@9", Read::Run(false), &[LATER_RETURN, DISK_AT]),
+    (
+        b"sim crash:2@bus:9 return:3@bus:10",
+        Read::Sim(0, false),
+        &[CRASH_AT, LATER_RETURN],
+    ),
+    (
+        b"sim crash:2@bus:9 -- return:3@bus:10",
+        Read::Sim(0, false),
+        &[CRASH_AT, LATER_RETURN],
+    ),
+    (
+        b"run return:3@bus:10 -- disk:2@9",
+        Read::Run(false),
+        &[LATER_RETURN, DISK_AT],
+    ),
     (b"sim crash:2@bus:9 crash:3@bus:10", Read::Usage, &[]),
     (b"sim crash:2@bus:9 -- crash:2@step:9", Read::Usage, &[]),
     (b"sim crash:2@bus:9 disk:2@9", Read::Usage, &[]),
     (b"run return:2@bus:9 return:2@bus:9", Read::Usage, &[]),
     (b"sim crash:2@bus:9 crash", Read::Usage, &[]),
     (b"sim crash:2@bus:9 plain", Read::Usage, &[]),
-    (b"sim crash:0000000002@bus:0000000009", Read::Sim(0, false), &[CRASH_AT]),
+    (
+        b"sim crash:0000000002@bus:0000000009",
+        Read::Sim(0, false),
+        &[CRASH_AT],
+    ),
     (b"sim crash:00000000002@bus:9", Read::Usage, &[]),
     (b"sim crash:2@bus:00000000009", Read::Usage, &[]),
     (b"sim crash:300@bus:4294967295", Read::Sim(0, false), &[FAR]),
-    (b"sim crash:9999999999@bus:4294967295", Read::Sim(0, false), &[FAR]),
+    (
+        b"sim crash:9999999999@bus:4294967295",
+        Read::Sim(0, false),
+        &[FAR],
+    ),
     (b"sim crash:10000000000@bus:4294967295", Read::Usage, &[]),
     (b"sim crash:2@bus:4294967296", Read::Usage, &[]),
     (b"sim crash:2@step:4294967296", Read::Usage, &[]),
@@ -250,7 +282,10 @@ static SCRIPTS: [(&[u8], Read, &[ScriptWord]); 53] = [
 fn script_words_are_read(rt: HostRuntime) -> Result<(), Fail> {
     for (line, expected, words) in SCRIPTS {
         let (command, script) = read_line(rt.alloc(), line)?;
-        assert!(&rt; command == expected && script.as_slice() == words, "at {line:?}");
+        assert!(&rt;
+            command == expected && script.as_slice() == words,
+            "at {line:?}"
+        );
     }
     Ok(())
 }

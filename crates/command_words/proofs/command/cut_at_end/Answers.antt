@@ -1,7 +1,7 @@
-use Rattle.std.proofs.Common.{◌≡◌, ◌∙◌, ◌+◌, sym, ap, Bool, true, false, List, length}
+use Rattle.std.proofs.Common.{◌∙◌, ◌+◌, ap}
 use Rattle.std.specs.List.{list_all, list_any}
 use Rattle.std.specs.Str.{is_utf8}
-use Rattle.clap.specs.Walk.{Text, texts}
+use Rattle.clap.specs.Walk.{texts}
 use Rattle.command_words.specs.Options.{is_end}
 use Rattle.command_words.proofs.Ends.{all_before, all_before_none, all_taken, before_found, behind_found, none_before, none_behind, none_left, rest_all}
 use Rattle.command_words.proofs.command.cut_at_end.Goals as goal

@@ -1,13 +1,10 @@
-use Rattle.std.proofs.Common.{◌≡◌, ◌∙◌, sym, ap, subst, Bool, true, false, refl}
-use Rattle.std.specs.Str.{IsUtf8, is_utf8}
+use Rattle.std.proofs.Common.{◌∙◌, sym, ap}
+use Rattle.std.specs.Str.{is_utf8}
 use Rattle.std.proofs.lemmas.Str.{IsUtf8-from_is_utf8, is_utf8-from_IsUtf8}
-use Rattle.clap.specs.Walk.{Text, texts}
+use Rattle.clap.specs.Walk.{texts}
+use Rattle.command_words.proofs.Booleans.{is_false}
 use Rattle.command_words.proofs.Ends.{all_more, not_all, texts_more}
 use Rattle.command_words.proofs.command.texts.Goals as goal
-
-is_false : (b : Bool) → (b ≡ true → ⊥) → b ≡ false
-is_false true h = absurd (h refl)
-is_false false h = refl
 
 pub returns-in_default : goal.returns-in_default
 returns-in_default c =
@@ -17,7 +14,8 @@ returns-in_default c =
 
 pub loop-word-preserved : goal.loop-word-preserved
 loop-word-preserved c =
-    let word = c.as_slice.ensures ∙ c.word-item.is in
-    (ap texts c.in_ok-push.ensures.items
-    ∙ texts_more c.loop-word.texts.items c.args.words.now c.loop-word.word-index _ c.in-Ok.text c.loop-word-test.true c.loop-word.invariant.0 (c.in-Ok.ensures.cases.0 ∙ word),
-    all_more is_utf8 c.args.words.now c.loop-word.word-index _ c.loop-word-test.true c.loop-word.invariant.1 (ap is_utf8 (sym word) ∙ is_utf8-from_IsUtf8 _ c.in-Ok.ensures.cases.1))
+    let word = c.as_slice.ensures ∙ c.word-item.is in (
+      ap texts c.in_ok-push.ensures.items
+          ∙ texts_more c.loop-word.texts.items c.args.words.now c.loop-word.word-index _ c.in-Ok.text c.loop-word-test.true c.loop-word.invariant.0 (c.in-Ok.ensures.cases.0 ∙ word),
+      all_more is_utf8 c.args.words.now c.loop-word.word-index _ c.loop-word-test.true c.loop-word.invariant.1 (ap is_utf8 (sym word) ∙ is_utf8-from_IsUtf8 _ c.in-Ok.ensures.cases.1),
+    )

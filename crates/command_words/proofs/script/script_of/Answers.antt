@@ -1,4 +1,4 @@
-use Rattle.std.proofs.Common.{◌≡◌, ◌∙◌, refl, sym, ap, Some, None}
+use Rattle.std.proofs.Common.{◌∙◌, refl, sym, ap, Some, None}
 use Rattle.clap.specs.Walk.{texts}
 use Rattle.command_words.specs.Script.{checked, script_words}
 use Rattle.command_words.proofs.ScriptTexts.{script_of_both}

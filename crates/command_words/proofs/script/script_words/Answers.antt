@@ -1,4 +1,4 @@
-use Rattle.std.proofs.Common.{◌≡◌, ◌∙◌, sym, ap, Some}
+use Rattle.std.proofs.Common.{◌∙◌, sym, ap, Some}
 use Rattle.command_words.specs.Script.{script_word}
 use Rattle.command_words.proofs.ScriptTexts.{script_words_more, script_words_none}
 use Rattle.command_words.proofs.script.script_words.Goals as goal
