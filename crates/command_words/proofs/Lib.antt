@@ -1,0 +1,10 @@
+pub mod Booleans
+pub mod Ends
+pub mod Fine
+pub mod Forms
+pub mod Lexical
+pub mod Rows
+pub mod Turns
+pub mod Walked
+pub mod Parses
+pub mod ScriptTexts

@@ -1,0 +1,6 @@
+pub mod Options
+pub mod Grammar
+pub mod Parsed
+pub mod Parts
+pub mod Script
+pub mod Command

@@ -1,0 +1,11 @@
+//! The words of the program, read once: the command that they are, and its script of failures.
+#![tactic(auto)]
+
+mod command;
+mod options;
+mod script;
+#[cfg(test)]
+mod tests;
+
+pub use command::{Command, command_of};
+pub use script::allowed;
