@@ -1,5 +1,5 @@
 -- What the runs of several processes make of a kernel, where each is of silent steps.
-use Rattle.std.proofs.Common.{◌≡◌, ℕ, ◌-◌, refl, sym, ◌∙◌, ap, List, [], ◌∷◌, map, Bool, true, false, cond, ◌||◌, eqb, eqb-true, eq-eqb, Option, Some, None, is_some, true≢false}
+use Rattle.std.proofs.Common.{◌≡◌, ℕ, zero, suc, ◌-◌, refl, sym, ◌∙◌, ap, subst, List, [], ◌∷◌, map, Bool, true, false, cond, ◌||◌, eqb, eqb-true, eq-eqb, Option, Some, None, is_some, true≢false}
 use Rattle.std.specs.Prelude.{◌≢◌, option_and_then}
 use Rattle.std.specs.List.{list_any, list_all}
 use Rattle.std.specs.Option.{option_map_or}
@@ -8,9 +8,10 @@ use Rattle.t32_base.specs.declared.process.Pid.{Pid}
 use Rattle.sys_text.specs.declared.system.System.{System}
 use Rattle.proc_state.specs.State.{ProcState}
 use Rattle.sys_calls.specs.Next.{silently}
-use Rattle.plain_kernel.specs.Kernel.{Kernel, process_at}
+use Rattle.plain_kernel.specs.Kernel.{Kernel, process_at, with_process}
 use Rattle.plain_kernel.specs.Apply.{steps, apply_all}
-use Rattle.plain_kernel.proofs.Others.{silently-made, silently-here, silently-other}
+use Rattle.plain_kernel.proofs.Entries.{some_same}
+use Rattle.plain_kernel.proofs.Others.{no_step, silent_more, silently-made, silently-here, silently-other}
 use Rattle.bus_msg.specs.declared.entry.Entry.{Entry}
 use Rattle.bus_msg.specs.Places.{same_pid}
 use Rattle.cert_sched.specs.Schedule.{done, run_upto, runs_of, plain_after}
@@ -18,6 +19,28 @@ use Rattle.cert_sched.specs.Steps.{silent_upto}
 use Rattle.plain_kernel.proofs.Laws.{apply_all-append}
 use Rattle.cert_sched.proofs.StepLaws.{apply_run}
 use Rattle.cert_sched.proofs.RisingLaws.{NoTwo, either_not}
+
+-- ---- silent steps
+
+-- silent steps of processes, as the kernel then has them, lead from one kernel to another
+pub data Quietly (to : Kernel) : Kernel → Type 0 where
+  Same : (k : Kernel) → k ≡ to → Quietly to k
+  More : (k : Kernel) (p : Pid) (n : ℕ) (s t : ProcState) → process_at k p ≡ Some s → silently n s ≡ Some t → Quietly to (with_process k p t) → Quietly to k
+
+pub quietly_on : (to j i : Kernel) → Quietly j i → Quietly to j → Quietly to i
+quietly_on to j i (Same k same) rest = subst (Quietly to) (sym same) rest
+quietly_on to j i (More k p n s t there silent more) rest = More k p n s t there silent (quietly_on to j (with_process k p t) more rest)
+
+-- what one such change keeps, all keep
+pub quietly_keeps : (P : Kernel → Type 0) → ((k : Kernel) (p : Pid) (n : ℕ) (s t : ProcState) → process_at k p ≡ Some s → silently n s ≡ Some t → P k → P (with_process k p t))
+    → (to k : Kernel) → Quietly to k → P k → P to
+quietly_keeps P one to k (Same i same) has = subst P same has
+quietly_keeps P one to k (More i p n s t there silent more) has = quietly_keeps P one to (with_process i p t) more (one i p n s t there silent has)
+
+quiet_steps : (n : ℕ) (k j : Kernel) (p : Pid) (s t : ProcState) → process_at k p ≡ Some s → silently n s ≡ Some t → steps n p k ≡ Some j → Quietly j k
+quiet_steps zero k j p s t there silent made = Same k (no_step p k j made)
+quiet_steps (suc n) k j p s t there silent made =
+    More k p (suc n) s t there silent (Same (with_process k p t) (some_same (with_process k p t) j (sym (silent_more n k p s t there silent) ∙ made)))
 
 -- ---- one run
 
@@ -49,13 +72,14 @@ led_parts k r some = by_process (process_at k r.0) refl some
     by_process (Some s) there e = by_end s (silently (r.1 - done k r.0) s) there refl e
 
 -- the kernel i after that run, where it has the process as the kernel k has it
-record RunTo (k i : Kernel) (r : Pid × ℕ) : Type 0 where
+pub record RunTo (k i : Kernel) (r : Pid × ℕ) : Type 0 where
   pub to : Kernel
   pub made : apply_all (run_upto k r.0 r.1) i ≡ Some to
   pub here : process_at to r.0 ≡ led k r
   pub others : (q : Pid) → q.0 ≢ (r.0).0 → process_at to q ≡ process_at i q
+  pub quiet : Quietly to i
 
-run_made : (k i : Kernel) (r : Pid × ℕ) → is_some (led k r) ≡ true → process_at i r.0 ≡ process_at k r.0 → RunTo k i r
+pub run_made : (k i : Kernel) (r : Pid × ℕ) → is_some (led k r) ≡ true → process_at i r.0 ≡ process_at k r.0 → RunTo k i r
 run_made k i r some same = by_led (led_parts k r some)
   where
     by_led : Led k r → RunTo k i r
@@ -68,6 +92,7 @@ run_made k i r some same = by_led (led_parts k r some)
           made = apply_run r.0 (r.1 - done k r.0) i ∙ is;
           here = silently-here (r.1 - done k r.0) i j r.0 l.was l.to (same ∙ l.there) l.silent is ∙ sym l.is;
           others = λ q apart. silently-other (r.1 - done k r.0) i j r.0 l.was l.to q (same ∙ l.there) l.silent is apart;
+          quiet = quiet_steps (r.1 - done k r.0) i j r.0 l.was l.to (same ∙ l.there) l.silent is;
         }
 
 -- ---- many runs
@@ -109,9 +134,10 @@ pub record RunsTo (k i : Kernel) (rs : List (Pid × ℕ)) : Type 0 where
   pub to : Kernel
   pub made : apply_all (runs_of k rs) i ≡ Some to
   pub are : (q : Pid) → process_at to q ≡ after_runs k rs (process_at i q) q
+  pub quiet : Quietly to i
 
 runs_from : (k i : Kernel) (rs : List (Pid × ℕ)) → NoTwo (rest_pids rs) → list_all (λ r. is_some (led k r)) rs ≡ true → AreAs k i rs → RunsTo k i rs
-runs_from k i [] two some same = record { to = i; made = refl; are = λ q. refl }
+runs_from k i [] two some same = record { to = i; made = refl; are = λ q. refl; quiet = Same i refl }
 runs_from k i (r ∷ rs) two some same =
     let parts = and_parts (is_some (led k r)) (list_all (λ r. is_some (led k r)) rs) some in
     let first = run_made k i r parts.0 same.0 in
@@ -120,6 +146,7 @@ runs_from k i (r ∷ rs) two some same =
       to = rest.to;
       made = apply_all-append (run_upto k r.0 r.1) (runs_of k rs) i ∙ ap (option_and_then (apply_all (runs_of k rs))) first.made ∙ rest.made;
       are = λ q. rest.are q ∙ at_pid first.to q first.here first.others two.0 (same_pid r.0 q) refl;
+      quiet = quietly_on rest.to first.to i first.quiet rest.quiet;
     }
   where
     at_pid : (j : Kernel) (q : Pid) → process_at j r.0 ≡ led k r → ((q : Pid) → q.0 ≢ (r.0).0 → process_at j q ≡ process_at i q) → list_any (λ m. eqb m (r.0).0) (rest_pids rs) ≡ false

@@ -90,6 +90,9 @@ boot-own system p small there = by_process (process_at (boot system) p) refl the
 with_root_rising : (system : System) (k : Kernel) (r : Pid × Root) → IsRising k → IsRising (with_root system k r)
 with_root_rising system k r rising = is_sorted-put pid_cmp pid_cmp_total r.0 (root_process system r.0 r.1) k.processes rising
 
+pub roots-rising : (system : System) → IsRising (boot_roots system)
+roots-rising system = roots_keep IsRising system (with_root_rising system) empty (roots_of system) tt
+
 pub boot-rising : (system : System) → IsRising (boot system)
 boot-rising system =
     boot-keeps IsRising system tt (with_root_rising system) (λ k p s peer far there rising. is_sorted-put pid_cmp pid_cmp_total p (linked_to s peer far) k.processes rising)
@@ -102,4 +105,4 @@ pub boot-root_pids : (system : System) → pids_in (boot system) ≡ pids_in (bo
 unfolding boot
 boot-root_pids system =
     (chans-keep (HasPids (pids_in (boot_roots system))) (λ k p s peer far there has. put_process (pids_in (boot_roots system)) k p s (linked_to s peer far) has there) system (boot_roots system) system.chans
-    (record { rising = roots_keep IsRising system (with_root_rising system) empty (roots_of system) tt; are = refl })).are
+    (record { rising = roots-rising system; are = refl })).are

@@ -49,7 +49,7 @@ is_below Greater x = absurd x
 below_both : (x y z : ℕ) → nat_cmp x y ≡ Less → nat_cmp y z ≡ Less → is_eq (nat_cmp x z) ≡ false
 below_both x y z a b = grind (arith, nat_tests)
 
-not_found : (p x : Pid) (es : List (Pid × ProcState)) → pid_cmp p x ≡ Less → T (below_all pid_cmp x es) → find pid_cmp p es ≡ None
+pub not_found : (p x : Pid) (es : List (Pid × ProcState)) → pid_cmp p x ≡ Less → T (below_all pid_cmp x es) → find pid_cmp p es ≡ None
 not_found p x [] under rising = refl
 not_found p x (e ∷ es) under rising =
     let first : is_eq (pid_cmp p e.0) ≡ false = below_both p.0 x.0 (e.0).0 under (is_below _ (left_true _ _ rising)) in

@@ -1,1 +1,4 @@
 mod Ttys
+mod Told
+mod Outcomes
+mod OutcomeText

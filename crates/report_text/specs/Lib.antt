@@ -1,3 +1,4 @@
 pub mod Report
 pub mod RunReport
 pub mod Good
+pub mod Outcome

@@ -53,11 +53,13 @@ abbrev pub bus_part : ℕ → ℕ → ℕ → List ℕ
 bus_part entries syncs withheld =
     codes "bus " ++ (decimal entries ++ (codes " syncs " ++ (decimal syncs ++ (codes " withheld " ++ (decimal withheld ++ newline)))))
 
--- the kernel, the losses, how many entries of which kind, and the schedule
+-- the losses, how many entries of which kind, and the schedule
+abbrev pub run_part : Run → List ℕ
+run_part r = losses_part r.log ++ lost_part r.ended ++ bus_part (length r.log) (count_by (λ (e : Entry). is_sync (what e)) r.log) r.withheld ++ items_text_of r.items
+
+-- the kernel, and the run
 abbrev pub report_of : Kernel → Run → List ℕ
-report_of k r =
-    plain_report k ++ losses_part r.log ++ lost_part r.ended
-    ++ bus_part (length r.log) (count_by (λ (e : Entry). is_sync (what e)) r.log) r.withheld ++ items_text_of r.items
+report_of k r = plain_report k ++ run_part r
 
 -- the number of entries, and a line for each
 abbrev pub log_lines : List Entry → List ℕ

@@ -43,7 +43,8 @@ fn put_tty_of(alloc: Global, text: &mut Text, plain: &Plain, tty: u8) -> Result<
     }
 }
 
-fn put_tty(alloc: Global, text: &mut Text, tty: u8, bytes: &[u8]) -> Result<(), NoMemory>
+/// The line of a terminal with its number of bytes, the bytes, and a line feed.
+pub fn put_tty(alloc: Global, text: &mut Text, tty: u8, bytes: &[u8]) -> Result<(), NoMemory>
     ensures { OnOk result (text.new ≡ text.old ++ tty_part tty (Some bytes.now)) }
 {
     let count = bytes.len();

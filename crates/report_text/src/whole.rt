@@ -1,11 +1,19 @@
 //! What is printed of a run.
-ghost use Rattle.std.specs.Prelude.{◌≡◌, ◌++◌, OnOk, IfOk, count_by, length, string_bytes};
+ghost use Rattle.std.specs.Prelude.{◌≡◌, ◌++◌, OnOk, IfOk, Some, count_by, length, string_bytes, true};
 ghost use Rattle.std.specs.List.{flat_map, list_any};
 ghost use Rattle.bus_msg.specs.PlacedAfter.{what as says};
 ghost use Rattle.bus_msg.specs.Text.{line_of};
+ghost use Rattle.sys_text.specs.Valid.{is_system};
+ghost use Rattle.plain_kernel.specs.Apply.{plain_run};
+ghost use Rattle.plain_kernel.specs.Kernel.{Kernel};
+ghost use Rattle.cert_sched.specs.Built.{BuiltMayFollow};
+ghost use Rattle.cert_sched.specs.Legal.{IsLegalBy};
+ghost use Rattle.cert_sched.specs.Schedule.{schedule_of};
+ghost use Rattle.cert_sched.specs.Scripted.{is_finished};
 ghost use Rattle.report_text.specs.Report.{newline};
-ghost use Rattle.report_text.specs.RunReport.{at_place, loss_part, is_crash as is_crash_of, losses_part, lost_part, no_crash, is_sync as is_sync_of, bus_part, report_of, log_lines, log_text_of};
+ghost use Rattle.report_text.specs.RunReport.{at_place, loss_part, run_part, is_crash as is_crash_of, losses_part, lost_part, no_crash, is_sync as is_sync_of, bus_part, report_of, log_lines, log_text_of};
 
+use crate::outcome::Outcome;
 use crate::plain::plain_report;
 use crate::run::{Ended, Run};
 use bus_msg::entry::{Entry, What};
@@ -13,6 +21,7 @@ use bus_msg::text::put_entry;
 use cert_sched::items_text;
 use plain_kernel::plain::Plain;
 use std::alloc::Global;
+use sys_text::system::System;
 use t32_base::lists::{Bytes, Text};
 use t32_base::process::ClusterNo;
 use t32_base::streams::NoMemory;
@@ -23,12 +32,34 @@ pub fn report(alloc: Global, plain: &Plain, run: &Run) -> Result<Text, NoMemory>
     ensures { IfOk result (λ text. text ≡ report_of plain.now run.now) }
 {
     let mut text = plain_report(alloc, plain)?;
-    put_losses(alloc, &mut text, run.log.as_slice())?;
-    put_lost(alloc, &mut text, run.ended)?;
-    put_bus(alloc, &mut text, run)?;
-    let items = items_text(alloc, run.items.as_slice())?;
-    text.extend(items.as_slice())?;
+    put_run(alloc, &mut text, run)?;
     Ok(text)
+}
+
+/// The report of a run that came to its end, by its log alone, without running the schedule again: nothing can
+/// move in the kernel that the schedule leads to, so the log tells what that holds.
+pub fn finished_report(alloc: Global, system: &System, run: &Run) -> Result<Text, NoMemory>
+    requires valid { is_system system.now ≡ true }
+    requires legal { IsLegalBy BuiltMayFollow system.now run.now.log }
+    requires items { run.now.items ≡ schedule_of system.now run.now.log }
+    requires finished { is_finished run.now.log ≡ true }
+    ensures { IfOk result (λ text. (kernel : Kernel) × (plain_run system.now run.now.items ≡ Some kernel) × (text ≡ report_of kernel run.now)) }
+{
+    let outcome = Outcome::of(alloc, system, run.log.as_slice())?;
+    let mut text = outcome.report(alloc)?;
+    put_run(alloc, &mut text, run)?;
+    Ok(text)
+}
+
+// What is printed of a run behind the terminals and the processes.
+fn put_run(alloc: Global, text: &mut Text, run: &Run) -> Result<(), NoMemory>
+    ensures { OnOk result (text.new ≡ text.old ++ run_part run.now) }
+{
+    put_losses(alloc, text, run.log.as_slice())?;
+    put_lost(alloc, text, run.ended)?;
+    put_bus(alloc, text, run)?;
+    let items = items_text(alloc, run.items.as_slice())?;
+    text.extend(items.as_slice())
 }
 
 /// A log as a text: the number of its entries, and a line for each.

@@ -31,7 +31,7 @@ pub record CountsOne (s t : ProcState) : Type 0 where
 -- what each kind of step does: a letter is the process's own, and its exit alone ends it
 abbrev pub Sends : ProcState → Emission → ProcState → Type 0
 Sends s (Mail letter) t = (letter.from ≡ (s.small).pid) × (has_ended (t.small).status ≡ false)
-Sends s (Exit end) t = has_ended (t.small).status ≡ true
+Sends s (Exit end) t = (t.small).status ≡ Ended end
 
 abbrev pub Counts : ProcState → Next → Type 0
 Counts s (Silent t) = CountsOne s t × (has_ended (t.small).status ≡ false)
@@ -128,9 +128,12 @@ letter_is_own s t letter is = (subst (Counts s) is (next_counts s)).1.0
 pub letter_goes_on : (s t : ProcState) (letter : Letter) → next_step s ≡ Emits (Mail letter) t → has_ended (t.small).status ≡ false
 letter_goes_on s t letter is = (subst (Counts s) is (next_counts s)).1.1
 
--- an exit leaves one that has
+-- an exit leaves one that has, by this end
+pub exit_status : (s t : ProcState) (end : End) → next_step s ≡ Emits (Exit end) t → (t.small).status ≡ Ended end
+exit_status s t end is = (subst (Counts s) is (next_counts s)).1
+
 pub exit_ends : (s t : ProcState) (end : End) → next_step s ≡ Emits (Exit end) t → has_ended (t.small).status ≡ true
-exit_ends s t end is = (subst (Counts s) is (next_counts s)).1
+exit_ends s t end is = ap has_ended (exit_status s t end is)
 
 -- a process that has ended makes no step
 pub ended_is_over : (s : ProcState) → has_ended (s.small).status ≡ true → next_step s ≡ Over
