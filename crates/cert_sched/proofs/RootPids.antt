@@ -73,7 +73,7 @@ root_pids_differ system valid =
 
 -- ---- one root more
 
-pids-snoc : (earlier roots : List Root) (r : Root) → with_pids earlier (roots ++ r ∷ []) ≡ with_pids earlier roots ++ (next_pid (earlier ++ roots) r, r) ∷ []
+pub pids-snoc : (earlier roots : List Root) (r : Root) → with_pids earlier (roots ++ r ∷ []) ≡ with_pids earlier roots ++ (next_pid (earlier ++ roots) r, r) ∷ []
 pids-snoc earlier [] r = rw (append-nil earlier) refl
 pids-snoc earlier (q ∷ roots) r =
     ap (λ rest. (next_pid earlier q, q) ∷ rest)

@@ -37,7 +37,7 @@ abbrev NoneActs : List (Pid × ProcState) → Type 0
 NoneActs es = (q : Pid) (s : ProcState) → find pid_cmp q es ≡ Some s → has_step (next_step s) ≡ false
 
 -- a process that is found among the later ones is found
-found_later : (e : Pid × ProcState) (es : List (Pid × ProcState)) (q : Pid) (s : ProcState) → T (below_all pid_cmp e.0 es) → find pid_cmp q es ≡ Some s → find pid_cmp q (e ∷ es) ≡ Some s
+pub found_later : (e : Pid × ProcState) (es : List (Pid × ProcState)) (q : Pid) (s : ProcState) → T (below_all pid_cmp e.0 es) → find pid_cmp q es ≡ Some s → find pid_cmp q (e ∷ es) ≡ Some s
 found_later e es q s below there = by_order (pid_cmp q e.0) refl
   where
     by_order : (o : Ordering) → pid_cmp q e.0 ≡ o → cond (is_eq o) (Some e.1) (find pid_cmp q es) ≡ Some s

@@ -7,4 +7,4 @@ mod linking;
 pub mod plain;
 mod processes;
 mod running;
-mod sending;
+pub mod sending;

@@ -122,8 +122,8 @@ fn send(
     }
 }
 
-// The bytes that a letter says.
-fn said(body: &Body) -> &[u8]
+/// The bytes that a letter says. Takes no memory.
+pub fn said(body: &Body) -> &[u8]
     ensures { result.now ≡ bytes_said body.now }
 {
     match body {
@@ -133,8 +133,8 @@ fn said(body: &Body) -> &[u8]
     }
 }
 
-// Puts bytes after what a terminal was sent, if a root names it.
-fn append(ttys: &mut BTreeMap<u8, Bytes>, tty: u8, bytes: &[u8]) -> Result<(), NoMemory>
+/// Puts bytes after what a terminal was sent, if a root names it. After want of memory nothing has changed.
+pub fn append(ttys: &mut BTreeMap<u8, Bytes>, tty: u8, bytes: &[u8]) -> Result<(), NoMemory>
     ensures ok { OnOk result (ttys.new.entries ≡ text_put tty bytes.now (get nat_cmp ttys.old tty) ttys.old.entries) }
     ensures err { OnErr result (ttys.new.entries ≡ ttys.old.entries) }
 {

@@ -1,4 +1,5 @@
 mod Ttys
+mod RootEnds
 mod Told
 mod Outcomes
 mod OutcomeText

@@ -1,7 +1,7 @@
 -- Where nothing can move, what is printed of a kernel is what is printed of what it tells.
 use Rattle.std.proofs.Common.{◌≡◌, ℕ, refl, sym, ◌∙◌, ap, List, [], ◌∷◌, ◌++◌, map, Bool, true, false, not, ◌||◌, cond, T, Some, Option}
 use Rattle.std.specs.Prelude.{codes}
-use Rattle.std.specs.List.{flat_map, list_any}
+use Rattle.std.specs.List.{flat_map, list_any, range_with_len}
 use Rattle.std.specs.Fmt.{decimal}
 use Rattle.std.specs.Ordering.{is_eq}
 use Rattle.std.specs.Cmp.{tied_itself}
@@ -28,7 +28,7 @@ use Rattle.cert_sched.proofs.LogLaws.{plain_run-schedule_of}
 use Rattle.cert_sched.proofs.RisingLaws.{either_not}
 use Rattle.cert_sched.proofs.StepLaws.{plain_after-pids}
 use Rattle.cert_sched.proofs.StillLaws.{found_later}
-use Rattle.report_text.specs.Report.{newline, pid_part, pids_report, plain_report, status_text}
+use Rattle.report_text.specs.Report.{newline, pid_part, pids_report, plain_report, status_text, ttys_report}
 use Rattle.report_text.specs.Outcome.{end_part, outcome_of, outcome_report, standing_text}
 use Rattle.report_text.proofs.Told.{end_of, numbered, told_by}
 use Rattle.report_text.proofs.Outcomes.{outcome-is}
@@ -57,17 +57,16 @@ none_acts true h = sym h
 none_acts false h = refl
 
 pub still_report : (k : Kernel) → IsRising k → is_still k ≡ true → plain_report k ≡ outcome_report (told_by k)
-still_report k rising still = ap (λ lines. _ ++ lines) (lines_are k k.processes (λ q s found. found) rising (none_acts (list_any can_act k.processes) still))
+still_report k rising still = ap (λ lines. ttys_report k (range_with_len 0 16) ++ lines) (lines_are k k.processes (λ q s found. found) rising (none_acts (list_any can_act k.processes) still))
 
 -- what a log that came to its end tells is printed as the kernel after its schedule is
 pub finished_report : (system : System) (log : List Entry) → is_system system ≡ true → IsLegalBy BuiltMayFollow system log → is_finished log ≡ true
     → (kernel : Kernel) × (plain_run system (schedule_of system log) ≡ Some kernel) × (plain_report kernel ≡ outcome_report (outcome_of system log))
 finished_report system log valid legal finished =
     let runs = legal_runs system log legal in
-    let after : plain_after system log ≡ Some runs.0 = sym (plain_run-schedule_of system log) ∙ runs.1 in
-    (
+    let after : plain_after system log ≡ Some runs.0 = sym (plain_run-schedule_of system log) ∙ runs.1 in (
       runs.0,
       runs.1,
       still_report runs.0 (plain_after-pids system log runs.0 after).rising (finished_kernel_still system log runs.0 legal finished runs.1)
-      ∙ ap outcome_report (outcome-is BuiltMayFollow (λ system log e may. may.stands) system log valid legal runs.0 after),
+          ∙ ap outcome_report (outcome-is BuiltMayFollow (λ system log e may. may.stands) system log valid legal runs.0 after),
     )

@@ -1,12 +1,10 @@
 //! How a run ended, read from its log: what each terminal was sent, and how each process stands.
 ghost use Rattle.std.specs.Prelude.{◌≡◌, ◌++◌, OnOk, IfOk, Some, string_bytes, true};
 ghost use Rattle.std.specs.List.{flat_map, range_with_len};
-ghost use Rattle.std.specs.BTreeMap.{get};
 ghost use Rattle.std.specs.FinMap.{find};
 ghost use Rattle.std.specs.Ordering.{nat_cmp};
 ghost use Rattle.sys_text.specs.Boot.{roots_of};
 ghost use Rattle.sys_text.specs.Valid.{is_system};
-ghost use Rattle.plain_kernel.specs.Kernel.{bytes_said, text_put};
 ghost use Rattle.bus_msg.specs.PlacedAfter.{what as says};
 ghost use Rattle.report_text.specs.Report.{tty_part};
 ghost use Rattle.report_text.specs.Outcome.{end_part, ends_of as ends_of_roots, none_told, outcome_of as outcome_of_log, outcome_report, standing_text, told_after, ttys_with};
@@ -15,11 +13,12 @@ use crate::plain::put_tty;
 use bus_msg::entry::{Entry, What};
 use bus_msg::text::end_line;
 use plain_kernel::booting::{pid_after, ttys_of};
+use plain_kernel::sending::{append, said};
 use std::alloc::{AllocError, Global};
 use std::collections::BTreeMap;
 use std::marker::Model;
 use sys_text::system::System;
-use t32_base::letter::{Body, Letter, To};
+use t32_base::letter::{Letter, To};
 use t32_base::lists::{Bytes, Text};
 use t32_base::process::End;
 use t32_base::streams::NoMemory;
@@ -114,25 +113,6 @@ fn put_letter(ttys: &mut BTreeMap<u8, Bytes>, letter: &Letter) -> Result<(), NoM
     match letter.to {
         To::Tty(tty) => append(ttys, tty, said(&letter.body)),
         To::Proc(_, _) => Ok(()),
-    }
-}
-
-// The bytes that a letter says.
-fn said(body: &Body) -> &[u8]
-    ensures { result.now ≡ bytes_said body.now }
-{
-    match body {
-        Body::Said(bytes) => bytes.as_slice(),
-        Body::EndOf | Body::Signal(_) => &[],
-    }
-}
-
-fn append(ttys: &mut BTreeMap<u8, Bytes>, tty: u8, bytes: &[u8]) -> Result<(), NoMemory>
-    ensures { OnOk result (ttys.new.entries ≡ text_put tty bytes.now (find nat_cmp tty ttys.old.entries) ttys.old.entries) }
-{
-    match ttys.get_mut(&tty) {
-        Some(text) => text.extend(bytes),
-        None => Ok(()),
     }
 }
 
