@@ -1,5 +1,5 @@
 -- When the end of a run may stand next.
-use Rattle.std.proofs.Common.{◌≡◌, ℕ, refl, sym, ◌∙◌, ap, subst, List, [], ◌∷◌, ◌++◌, map, Bool, true, false, cond, not, ◌&&◌, ◌||◌, eqb, Option, Some, None, is_some, is_none, true≢false}
+use Rattle.std.proofs.Common.{◌≡◌, ℕ, refl, sym, ◌∙◌, ap, subst, List, [], ◌∷◌, ◌++◌, map, Bool, true, false, cond, not, ◌&&◌, ◌||◌, eqb, Option, Some, None, is_some, true≢false}
 use Rattle.std.specs.Prelude.{find, filter, option_map, option_and_then}
 use Rattle.std.specs.List.{list_any, list_all}
 use Rattle.std.specs.Option.{option_map_or}
@@ -17,7 +17,6 @@ use Rattle.bus_msg.specs.declared.entry.By.TheVariants.{Bus}
 use Rattle.bus_msg.specs.declared.entry.Entry.{Entry}
 use Rattle.bus_msg.specs.declared.placed.Placed.{Placed}
 use Rattle.bus_msg.specs.Places.{same_pid, unended_in}
-use Rattle.bus_msg.specs.NewBackup.{next_backup}
 use Rattle.cert_sched.specs.Parts.{rising}
 use Rattle.cert_sched.specs.Schedule.{plain_after, after_entry, placement, places_at_boot}
 use Rattle.cert_sched.specs.Steps.{silent_upto}
@@ -31,7 +30,7 @@ use Rattle.cert_sched.proofs.ListLaws.{list_all-weaker}
 use Rattle.cert_sched.proofs.LogLaws.{plain_after-snoc}
 use Rattle.cert_sched.proofs.StepLaws.{plain_after-pids}
 use Rattle.cert_sched.proofs.RootPids.{root_pids_differ}
-use Rattle.cert_sched.proofs.BuiltLaws.{Kept, kept, built_kept, legal_induction}
+use Rattle.cert_sched.proofs.BuiltLaws.{Kept, kept, built_kept}
 use Rattle.cert_sched.proofs.RisingLaws.{NoTwo, rising-any, rising-apart}
 use Rattle.cert_sched.proofs.PidLaws.{placed_pids, apart_of, apart_fewer}
 use Rattle.cert_sched.proofs.RunsLaws.{rest_pids, led, led-silent_upto, after_runs, RunsTo, runs_made}
@@ -39,11 +38,10 @@ use Rattle.cert_sched.proofs.EndedLaws.{EndsTold, built_ended}
 use Rattle.cert_sched.proofs.StillLaws.{still_where_none_acts}
 use Rattle.cert_sched.proofs.Applied.{legal_applies}
 
--- The processes that have not ended, once and rising, with counts at which they are idle. None of them is owed a backup.
+-- The processes that have not ended, once and rising, with counts at which they are idle.
 pub record AllRest (system : System) (log : List Entry) (rests : List (Pid × ℕ)) : Type 0 where
   pub named : rest_pids rests ≡ rising (map (λ (q : Placed). (q.pid).0) (unended_in (placement system log)))
   pub idle : list_all (is_idle_at system log) rests ≡ true
-  pub backed : list_all (λ q. is_none (next_backup (placement system log) q)) (placement system log).placed ≡ true
 
 -- ---- the pids
 
@@ -158,7 +156,6 @@ done_may_follow system log rests valid legal goes_on rest =
           named = rest.named;
           silent = list_all-weaker (is_idle_at system log) (is_silent_rest system log) (λ r idle. (and_parts (is_silent_rest system log r) (option_map_or is_idle (silent_upto system log r.0 r.1) false) idle).0) rests rest.idle;
           still = ap (option_map is_still) d.after ∙ ap Some (done_still system log rests legal goes_on rest d);
-          backed = rest.backed;
         };
       };
       built = refl;

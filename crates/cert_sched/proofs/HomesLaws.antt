@@ -20,7 +20,8 @@ use Rattle.bus_msg.specs.Places.{ClusterPlace, boot_cluster, cluster_no, is_at_h
 use Rattle.bus_msg.specs.NewBackup.{next_backup, backup_by_mode}
 use Rattle.cert_sched.specs.Parts.{rising, put_rising}
 use Rattle.cert_sched.specs.Schedule.{placement, places_at_boot, placed_root}
-use Rattle.cert_sched.specs.Rests.{IsRestOf, is_idle_at}
+use Rattle.cert_sched.specs.Rules.{owes_no_backup}
+use Rattle.cert_sched.specs.Rests.{IsRestOf, is_idle_at, owes_no_backup_at}
 use Rattle.cert_sched.specs.Legal.{IsLegalBy}
 use Rattle.cert_sched.specs.Built.{BuiltMayFollow}
 use Rattle.cert_sched.proofs.BuiltLaws.{Kept, kept, built_kept, built_clusters}
@@ -161,8 +162,12 @@ all_rest system log rests_in rests valid legal rest merges = record {
       ∙ rising-parts (pids_at (placement system log).placed) (range_with_len 0 system.clusters)
       ∙ rising_homes system.clusters (placement system log).placed (built_homes system log valid legal);
   idle = merges.each (is_idle_at system log) (all_parts (is_idle_at system log) rests_in 0 system.clusters (λ k within. (rest k (omega (arith, within))).idle));
-  backed =
-      all_placed (λ q. is_none (next_backup (placement system log) q)) system.clusters (placement system log).placed
-      (λ q ended. ap (λ b. is_none (cond (b || is_some q.backup) None (backup_by_mode (placement system log) q q.mode))) ended)
-      (built_homes system log valid legal) (λ k within. (rest k within).backed);
 }
+
+-- where no process at home in any cluster is owed a backup, none is
+pub none_owed : (system : System) (log : List Entry) → is_system system ≡ true → IsLegalBy BuiltMayFollow system log
+    → ((k : ℕ) → k < system.clusters → owes_no_backup_at system log (cluster_no k) ≡ true) → owes_no_backup (placement system log) ≡ true
+none_owed system log valid legal each =
+    all_placed (λ q. is_none (next_backup (placement system log) q)) system.clusters (placement system log).placed
+    (λ q ended. ap (λ b. is_none (cond (b || is_some q.backup) None (backup_by_mode (placement system log) q q.mode))) ended)
+    (built_homes system log valid legal) each

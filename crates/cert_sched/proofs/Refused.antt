@@ -15,8 +15,8 @@ use Rattle.cert_sched.specs.Account.{account_after, page_in}
 use Rattle.cert_sched.specs.Steps.{silent_upto, emission_at, before_fork_at}
 use Rattle.cert_sched.specs.Rules.{is_over}
 use Rattle.cert_sched.specs.Legal.{MayFollow}
-use Rattle.cert_sched.proofs.Systems.{cluster, two_words, hi_system, two_system, store_system, full_system, half_system}
-use Rattle.cert_sched.proofs.WorkedLogs.{pid, entry, by_cluster, writes, process_upto, page_upto, image_page, to_list, hi_0, hi_1, hi_2, two_0, later_0, later_1, later_2, later_3, store_0, halfway_0, halfway_1, halfway_2, full_0, full_1, half_0, half_1}
+use Rattle.cert_sched.proofs.Systems.{cluster, two_words, hi_system, two_system, store_system, full_system, half_system, wait_system}
+use Rattle.cert_sched.proofs.WorkedLogs.{pid, entry, by_cluster, writes, process_upto, page_upto, image_page, to_list, hi_0, hi_1, hi_2, two_0, later_0, later_1, later_2, later_3, store_0, halfway_0, halfway_1, halfway_2, full_0, full_1, half_0, half_1, wait_0, wait_1}
 
 -- two large lists are told apart by one byte
 zero_is_not_one : ◌≡◌ {A = Option ℕ} (Some 0) (Some 1) → ⊥
@@ -144,3 +144,8 @@ return_of_the_living h = let e = h.stands.kind in cc
 return_of_none : MayFollow half_system (half_0 ∷ half_1 ∷ []) (entry 2 Bus 14 None (Return (cluster 3))) → ⊥
 unfolding boot one_step steps silently plain_after schedule_of placement told is_over silent_upto emission_at before_fork_at backup_record account_after
 return_of_none h = let e = h.stands.kind in cc
+
+-- the end while a fullback that was moved is owed its new backup
+owed_at_the_end : MayFollow wait_system (wait_0 ∷ []) wait_1 → ⊥
+unfolding boot one_step steps silently plain_after schedule_of placement told is_over silent_upto emission_at before_fork_at backup_record account_after
+owed_at_the_end h = let e = h.backup in cc

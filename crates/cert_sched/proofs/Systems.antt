@@ -70,3 +70,14 @@ full_system = system 3 (0, 1) 4096 two_words (root 0 1 Full 1000)
 
 abbrev pub half_system : System
 half_system = system 3 (1, 2) 4096 two_words (root 0 1 Half 1000)
+
+-- reads its end 1
+abbrev pub wait_words : List ℕ
+wait_words = 0x00300893 ∷ 0x00100513 ∷ 0x000105b7 ∷ 0x00100613 ∷ 0x00000073 ∷ []
+
+-- two such roots, linked to each other, of which the first is a fullback
+abbrev pub wait_system : System
+wait_system = record (system 3 (0, 1) 4096 wait_words (root 0 1 Full 1000)) {
+  roots = root 0 1 Full 1000 ∷ root 1 2 Quarter 1000 ∷ [];
+  chans = (1, 2) ∷ [];
+}

@@ -28,8 +28,8 @@ use Rattle.cert_sched.specs.Counted.{counted}
 use Rattle.cert_sched.specs.Rolling.{RollsForward}
 use Rattle.cert_sched.specs.Steps.{silent_upto, emission_at, before_fork_at}
 use Rattle.cert_sched.specs.Rules.{is_over}
-use Rattle.cert_sched.specs.Legal.{IsLegal, IsLegalBy, MayFollow}
-use Rattle.cert_sched.proofs.Systems.{cluster, two_words, store_words, hi_system, two_system, bad_system, spin_system, store_system, full_system, half_system}
+use Rattle.cert_sched.specs.Legal.{IsLegal, IsLegalBy, MayFollow, Stands}
+use Rattle.cert_sched.proofs.Systems.{cluster, two_words, store_words, hi_system, two_system, bad_system, spin_system, store_system, full_system, half_system, wait_system}
 
 abbrev pub pid : ℕ → Pid
 pid n = record { 0 = n }
@@ -88,7 +88,7 @@ hi_follows_1 = record { stands = record { placed = (refl, refl, refl); by_right 
 
 hi_follows_2 : MayFollow hi_system (hi_0 ∷ hi_1 ∷ []) hi_2
 unfolding boot one_step steps silently plain_after schedule_of placement told is_over silent_upto emission_at before_fork_at backup_record account_after
-hi_follows_2 = record { stands = record { placed = (refl, refl, refl); by_right = refl; applies = refl; kind = record { named = refl; silent = refl; still = refl; backed = refl } }; limits = refl; backup = refl; new_page = refl; pages = refl }
+hi_follows_2 = record { stands = record { placed = (refl, refl, refl); by_right = refl; applies = refl; kind = record { named = refl; silent = refl; still = refl } }; limits = refl; backup = refl; new_page = refl; pages = refl }
 
 pub hi_legal : IsLegal hi_system hi_log
 unfolding IsLegalBy
@@ -119,7 +119,7 @@ bad_follows_0 = record { stands = record { placed = (refl, refl, refl); by_right
 
 bad_follows_1 : MayFollow bad_system (bad_0 ∷ []) bad_1
 unfolding boot one_step steps silently plain_after schedule_of placement told is_over silent_upto emission_at before_fork_at backup_record account_after
-bad_follows_1 = record { stands = record { placed = (refl, refl, refl); by_right = refl; applies = refl; kind = record { named = refl; silent = refl; still = refl; backed = refl } }; limits = refl; backup = refl; new_page = refl; pages = refl }
+bad_follows_1 = record { stands = record { placed = (refl, refl, refl); by_right = refl; applies = refl; kind = record { named = refl; silent = refl; still = refl } }; limits = refl; backup = refl; new_page = refl; pages = refl }
 
 pub bad_legal : IsLegal bad_system bad_log
 unfolding IsLegalBy
@@ -150,7 +150,7 @@ spin_follows_0 = record { stands = record { placed = (refl, refl, refl); by_righ
 
 spin_follows_1 : MayFollow spin_system (spin_0 ∷ []) spin_1
 unfolding boot one_step steps silently plain_after schedule_of placement told is_over silent_upto emission_at before_fork_at backup_record account_after
-spin_follows_1 = record { stands = record { placed = (refl, refl, refl); by_right = refl; applies = refl; kind = record { named = refl; silent = refl; still = refl; backed = refl } }; limits = refl; backup = refl; new_page = refl; pages = refl }
+spin_follows_1 = record { stands = record { placed = (refl, refl, refl); by_right = refl; applies = refl; kind = record { named = refl; silent = refl; still = refl } }; limits = refl; backup = refl; new_page = refl; pages = refl }
 
 pub spin_legal : IsLegal spin_system spin_log
 unfolding IsLegalBy
@@ -195,7 +195,7 @@ two_follows_2 = record { stands = record { placed = (refl, refl, refl); by_right
 
 two_follows_3 : MayFollow two_system (two_0 ∷ two_1 ∷ two_2 ∷ []) two_3
 unfolding boot one_step steps silently plain_after schedule_of placement told is_over silent_upto emission_at before_fork_at backup_record account_after
-two_follows_3 = record { stands = record { placed = (refl, refl, refl); by_right = refl; applies = refl; kind = record { named = refl; silent = refl; still = refl; backed = refl } }; limits = refl; backup = refl; new_page = refl; pages = refl }
+two_follows_3 = record { stands = record { placed = (refl, refl, refl); by_right = refl; applies = refl; kind = record { named = refl; silent = refl; still = refl } }; limits = refl; backup = refl; new_page = refl; pages = refl }
 
 pub two_legal : IsLegal two_system two_log
 unfolding IsLegalBy
@@ -269,7 +269,7 @@ first_follows_5 = record { stands = record { placed = (refl, refl, refl); by_rig
 
 first_follows_6 : MayFollow two_system (first_0 ∷ first_1 ∷ first_2 ∷ first_3 ∷ first_4 ∷ first_5 ∷ []) first_6
 unfolding boot one_step steps silently plain_after schedule_of placement told is_over silent_upto emission_at before_fork_at backup_record account_after
-first_follows_6 = record { stands = record { placed = (refl, refl, refl); by_right = refl; applies = refl; kind = record { named = refl; silent = refl; still = refl; backed = refl } }; limits = refl; backup = refl; new_page = refl; pages = refl }
+first_follows_6 = record { stands = record { placed = (refl, refl, refl); by_right = refl; applies = refl; kind = record { named = refl; silent = refl; still = refl } }; limits = refl; backup = refl; new_page = refl; pages = refl }
 
 pub first_legal : IsLegal two_system first_log
 unfolding IsLegalBy
@@ -343,7 +343,7 @@ later_follows_5 = record { stands = record { placed = (refl, refl, refl); by_rig
 
 later_follows_6 : MayFollow two_system (later_0 ∷ later_1 ∷ later_2 ∷ later_3 ∷ later_4 ∷ later_5 ∷ []) later_6
 unfolding boot one_step steps silently plain_after schedule_of placement told is_over silent_upto emission_at before_fork_at backup_record account_after
-later_follows_6 = record { stands = record { placed = (refl, refl, refl); by_right = refl; applies = refl; kind = record { named = refl; silent = refl; still = refl; backed = refl } }; limits = refl; backup = refl; new_page = refl; pages = refl }
+later_follows_6 = record { stands = record { placed = (refl, refl, refl); by_right = refl; applies = refl; kind = record { named = refl; silent = refl; still = refl } }; limits = refl; backup = refl; new_page = refl; pages = refl }
 
 pub later_legal : IsLegal two_system later_log
 unfolding IsLegalBy
@@ -417,7 +417,7 @@ last_follows_5 = record { stands = record { placed = (refl, refl, refl); by_righ
 
 last_follows_6 : MayFollow two_system (last_0 ∷ last_1 ∷ last_2 ∷ last_3 ∷ last_4 ∷ last_5 ∷ []) last_6
 unfolding boot one_step steps silently plain_after schedule_of placement told is_over silent_upto emission_at before_fork_at backup_record account_after
-last_follows_6 = record { stands = record { placed = (refl, refl, refl); by_right = refl; applies = refl; kind = record { named = refl; silent = refl; still = refl; backed = refl } }; limits = refl; backup = refl; new_page = refl; pages = refl }
+last_follows_6 = record { stands = record { placed = (refl, refl, refl); by_right = refl; applies = refl; kind = record { named = refl; silent = refl; still = refl } }; limits = refl; backup = refl; new_page = refl; pages = refl }
 
 pub last_legal : IsLegal two_system last_log
 unfolding IsLegalBy
@@ -470,7 +470,7 @@ store_follows_2 = record { stands = record { placed = (refl, refl, refl); by_rig
 
 store_follows_3 : MayFollow store_system (store_0 ∷ store_1 ∷ store_2 ∷ []) store_3
 unfolding boot one_step steps silently plain_after schedule_of placement told is_over silent_upto emission_at before_fork_at backup_record account_after
-store_follows_3 = record { stands = record { placed = (refl, refl, refl); by_right = refl; applies = refl; kind = record { named = refl; silent = refl; still = refl; backed = refl } }; limits = refl; backup = refl; new_page = refl; pages = refl }
+store_follows_3 = record { stands = record { placed = (refl, refl, refl); by_right = refl; applies = refl; kind = record { named = refl; silent = refl; still = refl } }; limits = refl; backup = refl; new_page = refl; pages = refl }
 
 pub store_legal : IsLegal store_system store_log
 unfolding IsLegalBy
@@ -551,7 +551,7 @@ halfway_follows_6 = record { stands = record { placed = (refl, refl, refl); by_r
 
 halfway_follows_7 : MayFollow store_system (halfway_0 ∷ halfway_1 ∷ halfway_2 ∷ halfway_3 ∷ halfway_4 ∷ halfway_5 ∷ halfway_6 ∷ []) halfway_7
 unfolding boot one_step steps silently plain_after schedule_of placement told is_over silent_upto emission_at before_fork_at backup_record account_after
-halfway_follows_7 = record { stands = record { placed = (refl, refl, refl); by_right = refl; applies = refl; kind = record { named = refl; silent = refl; still = refl; backed = refl } }; limits = refl; backup = refl; new_page = refl; pages = refl }
+halfway_follows_7 = record { stands = record { placed = (refl, refl, refl); by_right = refl; applies = refl; kind = record { named = refl; silent = refl; still = refl } }; limits = refl; backup = refl; new_page = refl; pages = refl }
 
 pub halfway_legal : IsLegal store_system halfway_log
 unfolding IsLegalBy
@@ -617,7 +617,7 @@ synced_follows_5 = record { stands = record { placed = (refl, refl, refl); by_ri
 
 synced_follows_6 : MayFollow store_system (synced_0 ∷ synced_1 ∷ synced_2 ∷ synced_3 ∷ synced_4 ∷ synced_5 ∷ []) synced_6
 unfolding boot one_step steps silently plain_after schedule_of placement told is_over silent_upto emission_at before_fork_at backup_record account_after
-synced_follows_6 = record { stands = record { placed = (refl, refl, refl); by_right = refl; applies = refl; kind = record { named = refl; silent = refl; still = refl; backed = refl } }; limits = refl; backup = refl; new_page = refl; pages = refl }
+synced_follows_6 = record { stands = record { placed = (refl, refl, refl); by_right = refl; applies = refl; kind = record { named = refl; silent = refl; still = refl } }; limits = refl; backup = refl; new_page = refl; pages = refl }
 
 pub synced_legal : IsLegal store_system synced_log
 unfolding IsLegalBy
@@ -690,7 +690,7 @@ full_follows_6 = record { stands = record { placed = (refl, refl, refl); by_righ
 
 full_follows_7 : MayFollow full_system (full_0 ∷ full_1 ∷ full_2 ∷ full_3 ∷ full_4 ∷ full_5 ∷ full_6 ∷ []) full_7
 unfolding boot one_step steps silently plain_after schedule_of placement told is_over silent_upto emission_at before_fork_at backup_record account_after
-full_follows_7 = record { stands = record { placed = (refl, refl, refl); by_right = refl; applies = refl; kind = record { named = refl; silent = refl; still = refl; backed = refl } }; limits = refl; backup = refl; new_page = refl; pages = refl }
+full_follows_7 = record { stands = record { placed = (refl, refl, refl); by_right = refl; applies = refl; kind = record { named = refl; silent = refl; still = refl } }; limits = refl; backup = refl; new_page = refl; pages = refl }
 
 pub full_legal : IsLegal full_system full_log
 unfolding IsLegalBy
@@ -770,7 +770,7 @@ half_follows_7 = record { stands = record { placed = (refl, refl, refl); by_righ
 
 half_follows_8 : MayFollow half_system (half_0 ∷ half_1 ∷ half_2 ∷ half_3 ∷ half_4 ∷ half_5 ∷ half_6 ∷ half_7 ∷ []) half_8
 unfolding boot one_step steps silently plain_after schedule_of placement told is_over silent_upto emission_at before_fork_at backup_record account_after
-half_follows_8 = record { stands = record { placed = (refl, refl, refl); by_right = refl; applies = refl; kind = record { named = refl; silent = refl; still = refl; backed = refl } }; limits = refl; backup = refl; new_page = refl; pages = refl }
+half_follows_8 = record { stands = record { placed = (refl, refl, refl); by_right = refl; applies = refl; kind = record { named = refl; silent = refl; still = refl } }; limits = refl; backup = refl; new_page = refl; pages = refl }
 
 pub half_legal : IsLegal half_system half_log
 unfolding IsLegalBy
@@ -783,3 +783,15 @@ half_schedule = refl
 half_counted : counted half_system half_log ≡ 1
 unfolding boot one_step steps silently plain_after schedule_of placement told is_over silent_upto emission_at before_fork_at backup_record account_after
 half_counted = refl
+
+-- ---- wait: a fullback that was moved and waits for ever; but for the rule of new backups the end may stand without one
+
+abbrev pub wait_0 : Entry
+wait_0 = entry 0 Bus 7 None (Crash (cluster 0) Place)
+
+abbrev pub wait_1 : Entry
+wait_1 = entry 1 Bus 6 None (Done ((pid 16, 4) ∷ (pid 17, 4) ∷ []))
+
+wait_stands_1 : Stands wait_system (wait_0 ∷ []) wait_1
+unfolding boot one_step steps silently plain_after schedule_of placement told is_over silent_upto emission_at before_fork_at backup_record account_after
+wait_stands_1 = record { placed = (refl, refl, refl); by_right = refl; applies = refl; kind = record { named = refl; silent = refl; still = refl } }

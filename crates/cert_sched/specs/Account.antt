@@ -1,9 +1,10 @@
--- The two accounts of the pages of a process, which the page servers keep.
-use Rattle.std.specs.Prelude.{ℕ, zero, suc, ◌+◌, ◌/◌, Bool, false, if◌then◌else◌, List, [], ◌∷◌, fold, length, take, drop, Option}
+-- The two accounts of the pages of a process, which the page servers keep, after a log.
+use Rattle.std.specs.Prelude.{ℕ, zero, suc, ◌+◌, ◌/◌, Bool, false, if◌then◌else◌, List, [], ◌∷◌, fold, length, take, drop}
 use Rattle.std.specs.Option.{option_map_or}
 use Rattle.std.specs.Ordering.{nat_cmp}
-use Rattle.std.specs.FinMap.{find, put}
+use Rattle.std.specs.FinMap.{put}
 use Rattle.t32_base.specs.declared.process.Pid.{Pid}
+pub use Rattle.t32_base.specs.Account.{Account, no_pages, page_in, committed, reverted}
 use Rattle.sys_text.specs.declared.system.System.{System}
 use Rattle.proc_state.specs.State.{ProcState}
 use Rattle.plain_kernel.specs.Kernel.{boot, process_at}
@@ -15,11 +16,6 @@ use Rattle.bus_msg.specs.PlacedAfter.{what}
 use Rattle.cert_sched.specs.Told.{Told, told, moves}
 use Rattle.cert_sched.specs.Deeds.{is_cut}
 
--- pages by rising page number: those that came last, and those of the last cut
-pub record Account : Type 0 where
-  pub now : List (ℕ × List ℕ)
-  pub kept : List (ℕ × List ℕ)
-
 -- so many pages of bytes, numbered from i on
 abbrev pub pages_from : ℕ → ℕ → List ℕ → List (ℕ × List ℕ)
 pages_from i zero bytes = []
@@ -28,9 +24,6 @@ pages_from i (suc n) bytes = (i, take 256 bytes) ∷ pages_from (i + 1) n (drop 
 -- every page of a memory
 abbrev pub all_pages : List ℕ → List (ℕ × List ℕ)
 all_pages bytes = pages_from 0 (length bytes / 256) bytes
-
-abbrev pub no_pages : Account
-no_pages = record { now = []; kept = [] }
 
 abbrev pub image_pages : ProcState → Account
 image_pages s = record { now = all_pages s.memory; kept = all_pages s.memory }
@@ -51,13 +44,10 @@ is_exit_of p _ = false
 abbrev pub account_step : Pid → Account → Told → Account
 account_step p a t =
     if is_exit_of p (what t.entry) then no_pages
-    else if is_cut p (what t.entry) then record { now = a.now; kept = a.now }
-    else if moves p t then record { now = a.kept; kept = a.kept }
+    else if is_cut p (what t.entry) then committed a
+    else if moves p t then reverted a
     else record { now = page_put p (what t.entry) a.now; kept = a.kept }
 
 -- both accounts after a log
 unfoldable pub account_after : System → List Entry → Pid → Account
 account_after system log p = fold (account_step p) (account_at_boot system p) (told system log)
-
-abbrev pub page_in : List (ℕ × List ℕ) → ℕ → Option (List ℕ)
-page_in pages i = find nat_cmp i pages

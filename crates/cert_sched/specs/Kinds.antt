@@ -1,5 +1,5 @@
 -- What a legal log asks of each kind of entry.
-use Rattle.std.specs.Prelude.{ℕ, ◌≡◌, ◌<◌, ◌≤◌, Bool, true, false, not, ◌&&◌, ◌||◌, ◌==◌, nat_le, List, [], ◌∷◌, ◌++◌, map, Option, Some, None, is_some, is_none, option_map, ⊤}
+use Rattle.std.specs.Prelude.{ℕ, ◌≡◌, ◌<◌, ◌≤◌, Bool, true, false, not, ◌&&◌, ◌||◌, ◌==◌, nat_le, List, [], ◌∷◌, ◌++◌, map, Option, Some, None, is_some, option_map, ⊤}
 use Rattle.std.specs.List.{list_all}
 use Rattle.std.specs.Option.{option_map_or}
 use Rattle.t32_base.specs.declared.process.Pid.{Pid}
@@ -22,7 +22,7 @@ use Rattle.bus_msg.specs.declared.entry.Entry.{Entry}
 use Rattle.bus_msg.specs.declared.placed.Placed.{Placed}
 use Rattle.bus_msg.specs.Places.{Places, same_pid, lives_in, is_lost_in, unended_at, unended_in, next_serial_in}
 use Rattle.bus_msg.specs.PlacedAfter.{what}
-use Rattle.bus_msg.specs.NewBackup.{next_backup, next_backup_at}
+use Rattle.bus_msg.specs.NewBackup.{next_backup_at}
 use Rattle.cert_sched.specs.Parts.{first_of, rising}
 use Rattle.cert_sched.specs.Schedule.{plain_after, done_after, placement}
 use Rattle.cert_sched.specs.Record.{has_state, backup_record}
@@ -139,12 +139,11 @@ RebackupHolds system log e to false recs (Some r) = StandingHolds system log r.p
 abbrev pub is_silent_rest : System → List Entry → Pid × ℕ → Bool
 is_silent_rest system log r = nat_le (done_after system log r.0) r.1 && is_some (silent_upto system log r.0 r.1)
 
--- it names each process that has not ended, once and rising, with a count that silent steps reach; after these nothing can move, and no backup is owed
+-- it names each process that has not ended, once and rising, with a count that silent steps reach; after these nothing can move
 pub record DoneHolds (system : System) (log : List Entry) (e : Entry) (rests : List (Pid × ℕ)) : Type 0 where
   pub named : map (λ (r : Pid × ℕ). (r.0).0) rests ≡ rising (map (λ (q : Placed). (q.pid).0) (unended_in (placement system log)))
   pub silent : list_all (is_silent_rest system log) rests ≡ true
   pub still : option_map is_still (plain_after system (log ++ e ∷ [])) ≡ Some true
-  pub backed : list_all (λ q. is_none (next_backup (placement system log) q)) (placement system log).placed ≡ true
 
 -- ---- the whole table
 

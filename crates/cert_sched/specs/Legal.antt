@@ -5,7 +5,7 @@ use Rattle.bus_msg.specs.declared.entry.Entry.{Entry}
 use Rattle.bus_msg.specs.PlacedAfter.{what}
 use Rattle.cert_sched.specs.Schedule.{plain_after, placement}
 use Rattle.cert_sched.specs.Steps.{process_of}
-use Rattle.cert_sched.specs.Rules.{IsPlaced, is_by_right, holds_of, is_limited, awaits_backup, awaits_pages, is_within_limits, has_awaited_backup, is_new_page, has_its_pages}
+use Rattle.cert_sched.specs.Rules.{IsPlaced, is_by_right, holds_of, is_limited, awaits_pages, is_within_limits, keeps_backups, is_new_page, has_its_pages}
 use Rattle.cert_sched.specs.Kinds.{KindHolds}
 
 -- What every entry keeps: its place and destinations, who sends it, its items can be applied, and what its kind asks holds.
@@ -15,11 +15,11 @@ pub record Stands (system : System) (log : List Entry) (e : Entry) : Type 0 wher
   pub applies : is_some (plain_after system (log ++ e ∷ [])) ≡ true
   pub kind : KindHolds system log e (what e)
 
--- An entry may stand next in a log: it stands, and its process keeps the limits between two cuts and has waited for its new backup and its pages.
+-- An entry may stand next in a log: it stands, and keeps the limits between two cuts, the rule of new backups and the waits for pages.
 pub record MayFollow (system : System) (log : List Entry) (e : Entry) : Type 0 where
   pub stands : Stands system log e
   pub limits : holds_of (is_limited (what e)) (process_of (what e)) (is_within_limits system log (what e)) ≡ true
-  pub backup : holds_of (awaits_backup (what e)) (process_of (what e)) (has_awaited_backup system log) ≡ true
+  pub backup : keeps_backups system log (what e) ≡ true
   pub new_page : is_new_page system log (what e) ≡ true
   pub pages : holds_of (awaits_pages (what e)) (process_of (what e)) (has_its_pages system log) ≡ true
 

@@ -1,5 +1,5 @@
 -- The rules of a legal log that are the same for several kinds of entries.
-use Rattle.std.specs.Prelude.{◌≡◌, Bool, true, false, not, ◌&&◌, ◌||◌, nat_le, List, [], ◌∷◌, ◌++◌, map, length, Option, Some, None, option_map, option_and_then}
+use Rattle.std.specs.Prelude.{◌≡◌, Bool, true, false, not, ◌&&◌, ◌||◌, nat_le, List, [], ◌∷◌, ◌++◌, map, length, Option, Some, None, is_none, option_map, option_and_then}
 use Rattle.std.specs.List.{list_any, list_all, range_with_len}
 use Rattle.std.specs.Option.{option_map_or}
 use Rattle.t32_base.specs.declared.process.Pid.{Pid}
@@ -16,6 +16,7 @@ use Rattle.bus_msg.specs.declared.entry.Entry.{Entry}
 use Rattle.bus_msg.specs.declared.placed.Placed.{Placed}
 use Rattle.bus_msg.specs.Places.{Places, same_cluster, lives_in, unended_at, servers_in, is_covered, all_clusters}
 use Rattle.bus_msg.specs.PlacedAfter.{what}
+use Rattle.bus_msg.specs.NewBackup.{next_backup}
 use Rattle.bus_msg.specs.Route.{route}
 use Rattle.cert_sched.specs.Parts.{last_of, first_of}
 use Rattle.cert_sched.specs.Schedule.{placement}
@@ -146,6 +147,15 @@ has_awaited_backup system log p =
     not (is_moved_fullback system log p)
     || any_since_moved system log p (names p)
     || list_any (is_alone p) (places_since_moved system log p)
+
+-- no process is owed a backup
+abbrev pub owes_no_backup : Places → Bool
+owes_no_backup places = list_all (λ q. is_none (next_backup places q)) places.placed
+
+-- The rule of new backups: a fullback that a crash moved waits for its new backup, and at the end none is owed.
+abbrev pub keeps_backups : System → List Entry → What → Bool
+keeps_backups system log (Done rests) = owes_no_backup (placement system log)
+keeps_backups system log w = holds_of (awaits_backup w) (process_of w) (has_awaited_backup system log)
 
 -- ---- pages
 

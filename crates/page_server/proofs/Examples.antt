@@ -1,7 +1,8 @@
 -- Small accounts and lists, by which the definitions can be compared with their comments.
 use Rattle.std.proofs.Common.{◌≡◌, ℕ, true, false, List, [], ◌∷◌, None, Some, refl}
 use Rattle.t32_base.specs.declared.process.Pid.{Pid}
-use Rattle.page_server.specs.Disk.{written, one_more, Fails}
+use Rattle.t32_base.specs.Streams.{one_more}
+use Rattle.page_server.specs.Disk.{written, Fails}
 use Rattle.page_server.specs.Account.{Account, no_pages, page_in, with_page, committed, reverted, fetches_without, fetches_but}
 
 -- Page 3 was committed as p and put again as q, and page 1 was put: the committed account has p alone.

@@ -1,34 +1,12 @@
--- The two accounts of a process: the pages that were put, and those of its last commit.
-use Rattle.std.specs.Prelude.{ℕ, ◌≡◌, ◌==◌, ◌&&◌, not, if◌then◌else◌, filter, List, [], Option, unwrap_or, Result, Ok, Err}
+-- What a page server holds: the two accounts of each process, and the fetches that wait.
+use Rattle.std.specs.Prelude.{ℕ, ◌≡◌, ◌==◌, ◌&&◌, not, if◌then◌else◌, filter, List, unwrap_or, Result, Ok, Err}
 use Rattle.std.specs.declared.cmp.Ordering.{Ordering}
 use Rattle.std.specs.Ordering.{nat_cmp}
-use Rattle.std.specs.FinMap.{find, put}
+use Rattle.std.specs.FinMap.{find}
 use Rattle.t32_base.specs.declared.process.Pid.{Pid}
+pub use Rattle.t32_base.specs.Account.{Account, no_pages, page_in, with_page, committed, reverted}
 use Rattle.page_server.specs.declared.disk.DiskRefused.{DiskRefused}
 use Rattle.page_server.specs.Disk.{Counts}
-
--- pages by rising page number: those that were put, and those that were committed
-pub record Account : Type 0 where
-  pub now : List (ℕ × List ℕ)
-  pub kept : List (ℕ × List ℕ)
-
-abbrev pub no_pages : Account
-no_pages = record { now = []; kept = [] }
-
-abbrev pub page_in : List (ℕ × List ℕ) → ℕ → Option (List ℕ)
-page_in pages i = find nat_cmp i pages
-
--- a page was put
-abbrev pub with_page : ℕ → List ℕ → Account → Account
-with_page i page a = record { now = put nat_cmp i page a.now; kept = a.kept }
-
--- what was put is kept
-abbrev pub committed : Account → Account
-committed a = record { now = a.now; kept = a.now }
-
--- back to what was kept
-abbrev pub reverted : Account → Account
-reverted a = record { now = a.kept; kept = a.kept }
 
 -- the accounts of the processes that have any, the fetches that wait, the earliest first, and the counts of the disk
 pub record PagerState : Type 0 where

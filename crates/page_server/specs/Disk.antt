@@ -1,7 +1,7 @@
 -- What a page disk keeps, and when a call of it may fail.
-use Rattle.std.specs.Prelude.{ℕ, ◌≡◌, ◌+◌, ◌-◌, ◌^◌, ◌≤◌, ◌==◌, min, Bool, true, false, if◌then◌else◌, List, Option, Some, None, Result, Ok, Err}
+use Rattle.std.specs.Prelude.{ℕ, ◌≡◌, ◌≤◌, ◌==◌, Bool, true, false, if◌then◌else◌, List, Option, Some, None, Result, Ok, Err}
 use Rattle.std.specs.List.{list_any}
-use Rattle.t32_base.specs.Streams.{Rose}
+use Rattle.t32_base.specs.Streams.{Rose, one_more}
 use Rattle.page_server.specs.declared.disk.DiskFault.{DiskFault}
 use Rattle.page_server.specs.declared.disk.DiskRefused.{DiskRefused}
 use Rattle.page_server.specs.declared.disk.DiskRefused.TheVariants.{Fault, NoMemory}
@@ -19,10 +19,6 @@ pub record Counts : Type 0 where
   pub calls : ℕ
   pub faults : ℕ
   pub failing : Option (List ℕ)
-
--- one more; a count stays at the greatest u64 once it is there
-abbrev pub one_more : ℕ → ℕ
-one_more n = min (n + 1) (2 ^ 64 - 1)
 
 -- whether the call with this number fails, where the disk tells it
 abbrev pub Fails : Option (List ℕ) → ℕ → Bool → Type 0

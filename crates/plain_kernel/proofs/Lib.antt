@@ -1,5 +1,6 @@
 mod Channels
 mod Delivery
+mod Examples
 pub mod AtBoot
 pub mod Entries
 pub mod Laws

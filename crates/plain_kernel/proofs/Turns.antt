@@ -360,7 +360,7 @@ not_none most k p some = ap (λ b. cond b None (steps most p k)) (tested most so
 
 -- a run of no steps is no item
 pub applies_none : (p : Pid) (most : ℕ) (k : Kernel) → most ≡ 0 → Applies (Run p most) (Err (Disabled 0)) k k
-applies_none p most k none = (ap (λ n. apply k (Run p n)) none, no_steps p k, inl none)
+applies_none p most k none = (ap (λ n. apply k (Run p n)) none, no_steps p k, inl (none, refl))
 
 pub applies_nobody : (p : Pid) (most : ℕ) (k : Kernel) → (most ≡ 0 → ⊥) → one_step p k ≡ None → Applies (Run p most) (Err (Disabled 0)) k k
 applies_nobody p most k some none =
@@ -372,7 +372,7 @@ pub applies_run : (r : Result (Unit {0}) NotApplied) (pid most : ℕ) (ps qs : L
 applies_run (Ok all) pid most ps qs ts us some runs = not_none most (kernel_of ps ts) (pid_of pid) some ∙ runs.0
 applies_run (Err (Disabled done)) pid most ps qs ts us some runs =
     (not_none most (kernel_of ps ts) (pid_of pid) some ∙ steps_stuck done most (pid_of pid) (kernel_of ps ts) (kernel_of qs us) runs.0 runs.3 runs.2, runs.0, inr (runs.2, runs.3))
-applies_run (Err (NoStepMemory done)) pid most ps qs ts us some runs = runs.0
+applies_run (Err (NoStepMemory done)) pid most ps qs ts us some runs = (runs.0, runs.2)
 
 pub no_longer : (r : Result (Unit {0}) NotApplied) (pid most : ℕ) (ps qs : List (ℕ × Process)) (ts us : List (ℕ × List ℕ)) → RunsSteps r pid most ps qs ts us → total_load qs ≤ total_load ps
 no_longer (Ok all) pid most ps qs ts us runs = runs.1

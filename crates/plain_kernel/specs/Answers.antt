@@ -17,9 +17,15 @@ runs_pid (Run p n) = p
 runs_pid (Fork p c) = p
 runs_pid (Take p) = p
 
+-- so many steps are not yet all of an item: a run has more, and a fork and a take have none to count
+abbrev pub IsWithin : Item → ℕ → Type 0
+IsWithin (Run p n) done = done < n
+IsWithin (Fork p c) done = done ≡ 0
+IsWithin (Take p) done = done ≡ 0
+
 -- the next step of an item cannot be made: it is a run of more steps, and the process makes none; no other item has steps, nor has a run of none
 abbrev pub StopsAt : Item → ℕ → Kernel → Type 0
-StopsAt (Run p n) done k = (n ≡ 0) ⊎ ((done < n) × (one_step p k ≡ None))
+StopsAt (Run p n) done k = ((n ≡ 0) × (done ≡ 0)) ⊎ ((done < n) × (one_step p k ≡ None))
 StopsAt (Fork p c) done k = done ≡ 0
 StopsAt (Take p) done k = done ≡ 0
 
@@ -27,7 +33,7 @@ StopsAt (Take p) done k = done ≡ 0
 abbrev pub Applies : Item → Result (Unit {0}) NotApplied → Kernel → Kernel → Type 0
 Applies item (Ok all) old new = apply old item ≡ Some new
 Applies item (Err (Disabled done)) old new = (apply old item ≡ None) × (steps done (runs_pid item) old ≡ Some new) × StopsAt item done new
-Applies item (Err (NoMemory done)) old new = steps done (runs_pid item) old ≡ Some new
+Applies item (Err (NoMemory done)) old new = (steps done (runs_pid item) old ≡ Some new) × IsWithin item done
 
 -- the items before this one apply, and it does not
 pub record BadAt (system : System) (items : List Item) (index : ℕ) : Type 0 where

@@ -135,7 +135,7 @@ abbrev pub RunsSteps : Result (Unit {0}) NotApplied → ℕ → ℕ → List (�
 RunsSteps (Ok all) pid most ps qs ts us = (steps most (pid_of pid) (kernel_of ps ts) ≡ Some (kernel_of qs us)) × (total_load qs ≤ total_load ps)
 RunsSteps (Err (Disabled done)) pid most ps qs ts us =
     (steps done (pid_of pid) (kernel_of ps ts) ≡ Some (kernel_of qs us)) × (total_load qs ≤ total_load ps) × (done < most) × (one_step (pid_of pid) (kernel_of qs us) ≡ None)
-RunsSteps (Err (NoStepMemory done)) pid most ps qs ts us = (steps done (pid_of pid) (kernel_of ps ts) ≡ Some (kernel_of qs us)) × (total_load qs ≤ total_load ps)
+RunsSteps (Err (NoStepMemory done)) pid most ps qs ts us = (steps done (pid_of pid) (kernel_of ps ts) ≡ Some (kernel_of qs us)) × (total_load qs ≤ total_load ps) × (done < most)
 
 -- the process with the lowest pid that has a step, if one has
 abbrev pub lowest_of : List (ℕ × Process) → Option (ℕ × Process)

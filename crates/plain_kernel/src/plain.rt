@@ -58,7 +58,8 @@ impl Plain {
     }
 
     /// Applies an item. `Disabled { done }` comes exactly where the item cannot be applied after `done` of
-    /// its steps. After it, and after want of memory, the kernel stands after those steps.
+    /// its steps. After it, and after want of memory, the kernel stands after those steps: fewer than a run
+    /// asks for, and none where it asks for none or the item is no run.
     pub fn apply(&mut self, item: &Item) -> Result<(), NotApplied>
         ensures { Applies item.now result self.old self.new }
     {

@@ -1,3 +1,4 @@
+pub mod Account
 pub mod Registers
 pub mod Small
 pub mod Streams

@@ -1,6 +1,6 @@
 //! A source and a sink over bytes in memory, which fail at the calls of a list.
 ghost use Rattle.std.specs.Prelude.{◌≡◌, ◌≤◌, ◌+◌, ◌^◌, [], ◌∷◌, ◌++◌, length, drop, false, Some, IfOk, IsErr, IsErrOf, IsTrue, Contains, ◌↔◌, ◌⊎◌, vec_len, vec_capacity};
-ghost use Rattle.t32_base.specs.Streams.{Took, is_end, TakeCause, Gave, GiveCause};
+ghost use Rattle.t32_base.specs.Streams.{one_more, Took, is_end, TakeCause, Gave, GiveCause};
 
 use crate::lists::{Bytes, List};
 use crate::streams::{Failed, NoMemory, Sink, Source, TakeFault, Taken};
@@ -58,6 +58,8 @@ impl Source for MemSource {
         ensures end { self.new.at_end ≡ is_end result }
         ensures cause { TakeCause self.old.fault_calls self.new.fault_calls result }
         ensures listed { IsErrOf result TakeFault.Failed ↔ Contains self.old.failing self.old.calls }
+        ensures calls { self.new.calls ≡ one_more self.old.calls }
+        ensures kept { (self.new.bytes ≡ self.old.bytes) × (self.new.failing ≡ self.old.failing) × (self.new.most ≡ self.old.most) }
     {
         let call = self.calls;
         self.calls = call.saturating_add(1);
@@ -140,6 +142,8 @@ impl Sink for MemSink {
         ensures bytes { Gave piece.now (Some self.old.bytes.items) (Some self.new.bytes.items) result }
         ensures cause { GiveCause self.old.fault_calls self.new.fault_calls result }
         ensures listed { IsErr result ↔ (Contains self.old.failing self.old.calls ⊎ (length self.old.bytes.items ≡ self.old.room)) }
+        ensures calls { self.new.calls ≡ one_more self.old.calls }
+        ensures kept { (self.new.failing ≡ self.old.failing) × (self.new.room ≡ self.old.room) × (self.new.most ≡ self.old.most) }
     {
         let refuses = self.refuses();
         self.calls = self.calls.saturating_add(1);

@@ -61,4 +61,5 @@ returns-in-Err c =
     let moves = rw c.in-Err.is at c.make_step.ensures in (
       stood _ _ _ _ _ _ _ (more_ran c.steps.done _ _ _ _ c.args.pid _ c.steps.invariant.made r) moves.0 moves.1,
       omega (arith, less _ _ c.args.pid _ r, ap total_load moves.0, c.steps.invariant.lighter),
+      omega arith,
     )

@@ -1,0 +1,138 @@
+-- Scripts beside logs, by computation: two words for one place, a word for a step, one for a disk call, and what each rule refuses.
+use Rattle.std.proofs.Common.{◌≡◌, refl, sym, ◌∙◌, ap, List, [], ◌∷◌, ◌++◌, length, Bool, true, false, cond, Some, None, true≢false}
+use Rattle.std.specs.List.{list_any}
+use Rattle.bus_msg.specs.declared.entry.What.TheVariants.{Crash, Return}
+use Rattle.bus_msg.specs.declared.entry.Cause.TheVariants.{Place, Step, Disk}
+use Rattle.bus_msg.specs.declared.entry.By.TheVariants.{Bus}
+use Rattle.bus_msg.specs.declared.entry.Entry.{Entry}
+use Rattle.bus_msg.specs.Places.{Places, lives_in}
+use Rattle.bus_msg.specs.PlacedAfter.{what}
+use Rattle.cert_sched.specs.declared.script.ScriptWord.{ScriptWord}
+use Rattle.cert_sched.specs.declared.script.ScriptWord.TheVariants.{CrashAt, CrashStep, DiskAt, ReturnAt}
+use Rattle.cert_sched.specs.Schedule.{placement}
+use Rattle.cert_sched.specs.Looked.{Looked, at_start, gives_nothing, gives, goes_on, none_reached, is_reached, first_reached, given_by, waits_for_no_word}
+use Rattle.cert_sched.specs.Losses.{is_scripted_loss}
+use Rattle.cert_sched.specs.Scripted.{IsScripted, is_unused_rightly}
+use Rattle.cert_sched.proofs.Systems.{cluster, hi_system, two_system}
+use Rattle.cert_sched.proofs.WorkedLogs.{entry, hi_0, hi_log, later_0, later_1}
+
+-- ---- words for a place
+
+-- a loss and a return of one cluster at one place, in both orders
+abbrev lost_then_back : List ScriptWord
+lost_then_back = CrashAt (cluster 0) 1 ∷ ReturnAt (cluster 0) 1 ∷ []
+
+abbrev back_then_lost : List ScriptWord
+back_then_lost = ReturnAt (cluster 0) 1 ∷ CrashAt (cluster 0) 1 ∷ []
+
+abbrev back_2 : Entry
+back_2 = entry 2 Bus 3 None (Return (cluster 0))
+
+-- both are reached when the letter stands: the loss is looked at first, and then the return, which has its effect
+both_in_order : Looked two_system lost_then_back (later_0 ∷ later_1 ∷ back_2 ∷ []) []
+unfolding placement
+both_in_order = gives (gives (none_reached at_start later_0 refl refl) (CrashAt (cluster 0) 1) later_1 refl refl) (ReturnAt (cluster 0) 1) back_2 refl refl
+
+-- the return is looked at first, while the cluster lives, and so has no effect
+return_of_the_living : Looked two_system back_then_lost (later_0 ∷ later_1 ∷ []) []
+unfolding placement
+return_of_the_living = gives (gives_nothing (none_reached at_start later_0 refl refl) (ReturnAt (cluster 0) 1) refl refl) (CrashAt (cluster 0) 1) later_1 refl refl
+
+-- ---- a letter at a place at which a word was not looked at
+
+abbrev at_once : List ScriptWord
+at_once = CrashAt (cluster 0) 0 ∷ []
+
+not_empty : (log : List Entry) (e : Entry) → log ++ e ∷ [] ≡ [] → ⊥
+not_empty [] e is = cc
+not_empty (x ∷ log) e is = cc
+
+record Single (log : List Entry) (e only : Entry) : Type 0 where
+  pub before : log ≡ []
+  pub entry_is : e ≡ only
+
+single : (log : List Entry) (e only : Entry) → log ++ e ∷ [] ≡ only ∷ [] → Single log e only
+single [] e only is = record { before = refl; entry_is = cc }
+single (x ∷ log) e only is = absurd (not_empty log e (let rest : log ++ e ∷ [] ≡ [] = cc in rest))
+
+-- its look gives the loss
+not_nothing : (log : List Entry) (left : List ScriptWord) (w : ScriptWord) → log ≡ [] → left ≡ at_once → first_reached log left ≡ Some w → given_by (placement two_system log) w ≡ None → ⊥
+unfolding placement
+not_nothing log left w none all first nothing =
+    let word : Some (CrashAt (cluster 0) 0) ≡ Some w = sym (λ i. first_reached (none i) (all i)) ∙ first in
+    let same : CrashAt (cluster 0) 0 ≡ w = cc in
+    let given : Some (Crash (cluster 0) Place) ≡ None = (λ i. given_by (placement two_system (sym none i)) (same i)) ∙ nothing in
+    cc
+
+-- before the first entry it is still to be looked at
+still_left : {log : List Entry} {left : List ScriptWord} → Looked two_system at_once log left → log ≡ [] → left ≡ at_once
+still_left at_start none = refl
+still_left (gives_nothing {log = l} {left = s} h w first nothing) none = absurd (not_nothing l s w none (still_left h none) first nothing)
+still_left (gives {log = l} h w e first gave) none = absurd (not_empty l e none)
+still_left (goes_on {log = l} h e no_word) none = absurd (not_empty l e none)
+still_left (none_reached {log = l} h e words passed) none = absurd (not_empty l e none)
+
+no_word_gives_a_letter : (places : Places) (w : ScriptWord) → given_by places w ≡ Some (what later_0) → ⊥
+no_word_gives_a_letter places (CrashAt k place) is = by_test (lives_in places k) is
+  where
+    by_test : (b : Bool) → cond b (Some (Crash k Place)) None ≡ Some (what later_0) → ⊥
+    by_test true is = cc
+    by_test false is = cc
+no_word_gives_a_letter places (CrashStep k step) is = cc
+no_word_gives_a_letter places (DiskAt k call) is = cc
+no_word_gives_a_letter places (ReturnAt k place) is = by_test (lives_in places k) is
+  where
+    by_test : (b : Bool) → cond b None (Some (Return k)) ≡ Some (what later_0) → ⊥
+    by_test true is = cc
+    by_test false is = cc
+
+word_passed_over : {log : List Entry} {left : List ScriptWord} → Looked two_system at_once log left → log ≡ later_0 ∷ [] → ⊥
+word_passed_over at_start is = cc
+word_passed_over (gives_nothing h w first nothing) is = word_passed_over h is
+word_passed_over (gives {log = l} h w e first gave) is =
+    no_word_gives_a_letter (placement two_system l) w (gave ∙ ap (λ e. Some (what e)) (single l e later_0 is).entry_is)
+word_passed_over (goes_on {log = l} h e no_word) is = true≢false (sym no_word ∙ ap (λ e. waits_for_no_word (what e)) (single l e later_0 is).entry_is)
+word_passed_over (none_reached {log = l} {left = s} h e words passed) is =
+    let one = single l e later_0 is in
+    true≢false ((λ i. list_any (is_reached (length (sym one.before i))) (sym (still_left h one.before) i)) ∙ passed)
+
+-- ---- a word for a step, and one for a disk call
+
+-- after its letter, a cluster may be lost at step 2, by a word for that step, once
+step_lost : is_scripted_loss hi_system (CrashStep (cluster 0) 2 ∷ []) (hi_0 ∷ []) (Crash (cluster 0) (Step 2)) ≡ true
+step_lost = refl
+
+step_without_its_word : is_scripted_loss hi_system (CrashStep (cluster 0) 2 ∷ []) (hi_0 ∷ []) (Crash (cluster 0) (Step 3)) ≡ false
+step_without_its_word = refl
+
+step_a_second_time : is_scripted_loss hi_system (CrashStep (cluster 0) 2 ∷ []) (hi_0 ∷ entry 1 Bus 3 None (Crash (cluster 0) (Step 2)) ∷ []) (Crash (cluster 0) (Step 2)) ≡ false
+step_a_second_time = refl
+
+-- but not before it made the step by which the letter was sent
+step_before_the_letter : is_scripted_loss hi_system (CrashStep (cluster 0) 0 ∷ []) (hi_0 ∷ []) (Crash (cluster 0) (Step 0)) ≡ false
+step_before_the_letter = refl
+
+-- the call 0 of a disk puts the page of the root: at it a cluster may be lost that has sent nothing, and no other
+disk_lost : is_scripted_loss hi_system (DiskAt (cluster 1) 0 ∷ []) (hi_0 ∷ []) (Crash (cluster 1) (Disk 0)) ≡ true
+disk_lost = refl
+
+disk_lost_too_late : is_scripted_loss hi_system (DiskAt (cluster 0) 0 ∷ []) (hi_0 ∷ []) (Crash (cluster 0) (Disk 0)) ≡ false
+disk_lost_too_late = refl
+
+-- ---- words that were not reached, by clusters that made 7 and 5 steps and one disk call each
+
+step_not_reached : is_unused_rightly hi_log (7 ∷ 5 ∷ []) (1 ∷ 1 ∷ []) (CrashStep (cluster 0) 7) ≡ true
+step_not_reached = refl
+
+step_reached : is_unused_rightly hi_log (7 ∷ 5 ∷ []) (1 ∷ 1 ∷ []) (CrashStep (cluster 0) 6) ≡ false
+step_reached = refl
+
+call_not_reached : is_unused_rightly hi_log (7 ∷ 5 ∷ []) (1 ∷ 1 ∷ []) (DiskAt (cluster 1) 1) ≡ true
+call_not_reached = refl
+
+call_reached : is_unused_rightly hi_log (7 ∷ 5 ∷ []) (1 ∷ 1 ∷ []) (DiskAt (cluster 1) 0) ≡ false
+call_reached = refl
+
+-- counts that are not told of each cluster
+counts_left_out : IsScripted hi_system hi_log (CrashStep (cluster 1) 6 ∷ []) (7 ∷ []) (1 ∷ []) → ⊥
+counts_left_out h = let each = h.each.0 in cc
