@@ -3,8 +3,9 @@ use crate::{drop_read, save};
 use std::alloc::Global;
 use std::test::Fail;
 use t32_base::letter::{Arrived, Body, Letter, To};
-use t32_base::lists::{Bytes, List};
+use t32_base::lists::List;
 use t32_base::process::Pid;
+use t32_base::shared_bytes::SharedBytes;
 use t32_base::streams::NoMemory;
 
 // A letter of some bytes from end 1 of the process 17 to end 1 of the process 16.
@@ -13,7 +14,7 @@ fn said(alloc: Global, bytes: &[u8]) -> Result<Letter, NoMemory> {
         from: Pid(17),
         out: 1,
         to: To::Proc(Pid(16), 1),
-        body: Body::Said(Bytes::copy_of(alloc, bytes)?),
+        body: Body::Said(SharedBytes::copy_of(alloc, bytes)?),
     })
 }
 

@@ -42,7 +42,7 @@ impl What {
                 pid: *pid,
                 at: *at,
                 index: *index,
-                bytes: *bytes,
+                bytes: bytes.copy()?,
             }),
             What::Sync {
                 pid,
@@ -51,7 +51,7 @@ impl What {
                 took,
             } => Ok(What::Sync {
                 pid: *pid,
-                small: small.copy(),
+                small: small.copy()?,
                 read: copied_numbers(read)?,
                 took: *took,
             }),
@@ -62,7 +62,7 @@ impl What {
             What::PageIs { pid, index, bytes } => Ok(What::PageIs {
                 pid: *pid,
                 index: *index,
-                bytes: *bytes,
+                bytes: bytes.copy()?,
             }),
             What::Crash { k, cause } => Ok(What::Crash {
                 k: *k,

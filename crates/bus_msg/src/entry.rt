@@ -1,4 +1,5 @@
 //! An entry of the bus's log, and its parts.
+use crate::shared::Shared;
 use t32_base::letter::{BackRec, Letter};
 use t32_base::lists::List;
 use t32_base::process::{ClusterNo, End, Pid, Small};
@@ -38,13 +39,13 @@ pub enum What {
         pid: Pid,
         at: u64,
         index: u16,
-        bytes: [u8; 256],
+        bytes: Shared<[u8; 256]>,
     },
     /// A process synchronised: its state, the numbers of the letters that it read since the last time,
     /// and the signal that it took, if it took one.
     Sync {
         pid: Pid,
-        small: Small,
+        small: Shared<Small>,
         read: List<u64>,
         took: Option<u8>,
     },
@@ -57,7 +58,7 @@ pub enum What {
     PageIs {
         pid: Pid,
         index: u16,
-        bytes: [u8; 256],
+        bytes: Shared<[u8; 256]>,
     },
     /// A cluster is lost.
     Crash {

@@ -1,5 +1,6 @@
 //! The line of an entry of each kind, and copies.
 use crate::entry::{By, Cause, Dests, Entry, Post, What};
+use crate::shared::Shared;
 use crate::text::{end_line, entry_text, put_entry};
 use std::alloc::{AllocError, Global};
 use std::process::Abort;
@@ -7,6 +8,7 @@ use std::test::Fail;
 use t32_base::letter::{Arrived, BackRec, Body, Letter, To};
 use t32_base::lists::{Bytes, List};
 use t32_base::process::{ClusterNo, Counts, End, EndState, Pid, Regs, Small, Status};
+use t32_base::shared_bytes::SharedBytes;
 use t32_base::streams::NoMemory;
 
 fn entry_of(place: u64, by: By, what: What) -> Entry {
@@ -45,7 +47,7 @@ fn small_of(steps: u32) -> Small {
 }
 
 fn record_of(alloc: Global, pid: Pid, state: Option<Small>) -> Result<BackRec, NoMemory> {
-    let said = Bytes::copy_of(alloc, b"hi")?;
+    let said = SharedBytes::copy_of(alloc, b"hi")?;
     let letter = letter_of(To::Proc(pid, 2), Body::Said(said));
     let mut saved = List::new(alloc);
     saved.push(Arrived { number: 6, letter })?;
@@ -78,13 +80,20 @@ fn rests_of(alloc: Global) -> Result<List<(Pid, u64)>, AllocError> {
     Ok(rests)
 }
 
-fn sync_of(alloc: Global, took: Option<u8>) -> Result<What, AllocError> {
+// A page whose last byte alone is not 0.
+fn page_of(alloc: Global, last: u8) -> Result<Shared<[u8; 256]>, NoMemory> {
+    let mut bytes = [0; 256];
+    bytes[255] = last;
+    Shared::new(alloc, bytes)
+}
+
+fn sync_of(alloc: Global, took: Option<u8>) -> Result<What, NoMemory> {
     let mut read = List::new(alloc);
     read.push(5)?;
     read.push(3)?;
     Ok(What::Sync {
         pid: Pid(16),
-        small: small_of(40),
+        small: Shared::new(alloc, small_of(40))?,
         read,
         took,
     })
@@ -114,12 +123,12 @@ fn letters_are_printed(rt: HostRuntime) -> Result<(), Fail> {
     for (to, body, line) in [
         (
             To::Tty(15),
-            Body::Said(Bytes::copy_of(rt.alloc(), bytes.as_slice())?),
+            Body::Said(SharedBytes::copy_of(rt.alloc(), bytes.as_slice())?),
             b"7 1 mail 17 at 9 out 1 tty 15 00689fff".as_slice(),
         ),
         (
             To::Proc(Pid(16), 2),
-            Body::Said(Bytes::copy_of(rt.alloc(), bytes.as_slice())?),
+            Body::Said(SharedBytes::copy_of(rt.alloc(), bytes.as_slice())?),
             b"7 1 mail 17 at 9 out 1 to 16 end 2 00689fff".as_slice(),
         ),
         (
@@ -144,7 +153,6 @@ fn what_clusters_send_is_printed(rt: HostRuntime) -> Result<(), Fail> {
     let alloc = rt.alloc();
     let pid = Pid(16);
     let index = 3;
-    let bytes = [7; 256];
     for (what, line) in [
         (
             What::Birth {
@@ -160,7 +168,7 @@ fn what_clusters_send_is_printed(rt: HostRuntime) -> Result<(), Fail> {
                 pid,
                 at: 40,
                 index,
-                bytes,
+                bytes: page_of(alloc, 7)?,
             },
             b"7 12 page 16 at 40 3".as_slice(),
         ),
@@ -174,7 +182,11 @@ fn what_clusters_send_is_printed(rt: HostRuntime) -> Result<(), Fail> {
         ),
         (What::Fetch { pid, index }, b"7 12 fetch 16 3".as_slice()),
         (
-            What::PageIs { pid, index, bytes },
+            What::PageIs {
+                pid,
+                index,
+                bytes: page_of(alloc, 7)?,
+            },
             b"7 12 pageis 16 3".as_slice(),
         ),
     ] {
@@ -301,7 +313,7 @@ fn a_post_is_copied_with_what_is_not_printed(rt: HostRuntime) -> Result<(), Fail
         ..
     } = &copy.what
     {
-        assert_eq!(&rt; small.handler, 65600);
+        assert_eq!(&rt; small.get().handler, 65600);
         assert_eq!(&rt; read.as_slice(), [5, 3].as_slice());
         assert_eq!(&rt; *took, Some(10));
     } else {
@@ -345,8 +357,7 @@ fn records_and_pages_are_copied(rt: HostRuntime) -> Result<(), Fail> {
     } else {
         assert!(&rt; false, "no new backup");
     }
-    let mut bytes = [0; 256];
-    bytes[255] = 9;
+    let bytes = page_of(alloc, 9)?;
     let what = What::PageIs {
         pid: Pid(16),
         index: 2,
@@ -354,8 +365,8 @@ fn records_and_pages_are_copied(rt: HostRuntime) -> Result<(), Fail> {
     };
     let copy = Post { by: By::Bus, what }.copy()?;
     if let What::PageIs { bytes, .. } = &copy.what {
-        assert_eq!(&rt; bytes[0], 0);
-        assert_eq!(&rt; bytes[255], 9);
+        assert_eq!(&rt; bytes.get()[0], 0);
+        assert_eq!(&rt; bytes.get()[255], 9);
     } else {
         assert!(&rt; false, "no page");
     }

@@ -93,7 +93,7 @@ fn said(alloc: Global, what: &What) -> Result<String, AllocError>
             ..
         } => {
             let Pid(pid) = *pid;
-            let at = small.steps;
+            let at = small.get().steps;
             let took = signal_taken(alloc, *took)?;
             format!(in alloc; "sync {pid} at {at}{took}")
         }

@@ -9,8 +9,8 @@ use std::test::Fail;
 use sys_calls::stepping::{can_step, step};
 use sys_calls::steps::{Emission, Step};
 use t32_base::letter::{Body, Letter, To};
-use t32_base::lists::Bytes;
 use t32_base::process::{EndState, Pid, Small};
+use t32_base::shared_bytes::SharedBytes;
 use t32_base::streams::NoMemory;
 
 const REFUSED_END: u32 = 0xfffffff7;
@@ -22,7 +22,7 @@ fn say(alloc: Global, p: &mut Process, end: u8, bytes: &[u8]) -> Result<(), NoMe
     requires { p.old.mail.next < 100 }
     ensures { OnOk result (p.new.mail.next ≡ p.old.mail.next + 1) }
 {
-    let said = Bytes::copy_of(alloc, bytes)?;
+    let said = SharedBytes::copy_of(alloc, bytes)?;
     arrive(p, end, Body::Said(said))
 }
 

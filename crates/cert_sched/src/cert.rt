@@ -129,7 +129,7 @@ fn push_items(items: &mut Vec<Item>, done: &BTreeMap<u32, u64>, what: &What) -> 
             took,
             ..
         } => {
-            push_run(items, done, *pid, steps_made(small))?;
+            push_run(items, done, *pid, steps_made(small.get()))?;
             push_take(items, *pid, *took)
         }
         What::Rebackup { fresh, recs, .. } => {
@@ -157,7 +157,7 @@ fn count_of(what: &What) -> Option<(Pid, u64)>
         What::Mail { at, letter } => Some((letter.from, *at)),
         What::Birth { parent, at, .. } => Some((*parent, *at)),
         What::Exit { pid, at, .. } => Some((*pid, *at)),
-        What::Sync { pid, small, .. } => Some((*pid, steps_made(small))),
+        What::Sync { pid, small, .. } => Some((*pid, steps_made(small.get()))),
         What::Rebackup { fresh, recs, .. } => {
             if *fresh {
                 count_in_first(recs.as_slice())

@@ -1,13 +1,15 @@
 use super::*;
 use crate::cert::Cert;
 use bus_msg::entry::{By, Cause, Dests, Entry, Post, What};
+use bus_msg::shared::Shared;
 use plain_kernel::item::Item;
 use std::alloc::{AllocError, Global};
 use std::process::Abort;
 use std::test::Fail;
 use t32_base::letter::{BackRec, Body, Letter, To};
-use t32_base::lists::{Bytes, List};
+use t32_base::lists::List;
 use t32_base::process::{ClusterNo, Counts, End, EndState, Pid, Regs, Small, Status};
+use t32_base::shared_bytes::SharedBytes;
 use t32_base::streams::NoMemory;
 
 fn assert_read(rt: &(impl Abort + AllocGlobal), text: &[u8], wanted: &[Item]) -> Result<(), Fail> {
@@ -115,7 +117,7 @@ fn mail(alloc: Global, pid: u32, at: u64) -> Result<What, NoMemory> {
             from: Pid(pid),
             out: 0,
             to: To::Tty(0),
-            body: Body::Said(Bytes::copy_of(alloc, b"hi\n")?),
+            body: Body::Said(SharedBytes::copy_of(alloc, b"hi\n")?),
         },
     })
 }
@@ -153,13 +155,13 @@ fn small(pid: u32, steps: u32) -> Small {
     }
 }
 
-fn sync(alloc: Global, pid: u32, steps: u32, took: Option<u8>) -> What {
-    What::Sync {
+fn sync(alloc: Global, pid: u32, steps: u32, took: Option<u8>) -> Result<What, NoMemory> {
+    Ok(What::Sync {
         pid: Pid(pid),
-        small: small(pid, steps),
+        small: Shared::new(alloc, small(pid, steps))?,
         read: List::new(alloc),
         took,
-    }
+    })
 }
 
 /// A new backup for a process, with its state after so many steps.
@@ -230,7 +232,7 @@ fn a_process_that_writes_and_exits_has_two_runs(rt: HostRuntime) -> Result<(), F
 fn a_synchronisation_is_a_run_and_a_crash_is_none(rt: HostRuntime) -> Result<(), Fail> {
     let alloc = rt.alloc();
     let mut cert = Cert::none(alloc);
-    add(&mut cert, sync(alloc, 16, 64, None))?;
+    add(&mut cert, sync(alloc, 16, 64, None)?)?;
     add(&mut cert, crash())?;
     add(&mut cert, exit(16, 102))?;
     add(&mut cert, done(alloc, &[])?)?;
@@ -310,7 +312,7 @@ fn a_birth_is_a_run_and_a_fork(rt: HostRuntime) -> Result<(), Fail> {
 fn a_signal_that_was_taken_stands_after_the_run(rt: HostRuntime) -> Result<(), Fail> {
     let alloc = rt.alloc();
     let mut cert = Cert::none(alloc);
-    add(&mut cert, sync(alloc, 16, 9, Some(11)))?;
+    add(&mut cert, sync(alloc, 16, 9, Some(11))?)?;
     add(&mut cert, mail(alloc, 16, 15)?)?;
     add(&mut cert, exit(16, 21))?;
     assert_eq!(rt;

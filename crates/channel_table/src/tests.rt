@@ -4,11 +4,13 @@ ghost use Rattle.channel_table.specs.Changes.{CanBeAbsorbed, IsRoutable};
 use crate::placement::Placement;
 use bus_msg::entry::{By, Cause, Dests, Entry, Post, What};
 use bus_msg::placed::Placed;
+use bus_msg::shared::Shared;
 use std::alloc::Global;
 use std::test::Fail;
 use t32_base::letter::{BackRec, Body, Letter, To};
-use t32_base::lists::{Bytes, List};
+use t32_base::lists::List;
 use t32_base::process::{ClusterNo, Counts, End, EndState, Mode, Pid, Regs, Small, Status};
+use t32_base::shared_bytes::SharedBytes;
 use t32_base::streams::NoMemory;
 
 // The first root, at home in cluster 0 with its backup in cluster 1.
@@ -109,7 +111,7 @@ fn sync(alloc: Global, places: &mut Placement, pid: Pid) -> Result<(), NoMemory>
         places,
         What::Sync {
             pid,
-            small: small(pid),
+            small: Shared::new(alloc, small(pid))?,
             read: List::new(alloc),
             took: None,
         },
@@ -317,7 +319,7 @@ fn mail(alloc: Global, places: &Placement, from: u32, to: To) -> Result<Dests, N
         from: Pid(from),
         out: 0,
         to,
-        body: Body::Said(Bytes::copy_of(alloc, b"x")?),
+        body: Body::Said(SharedBytes::copy_of(alloc, b"x")?),
     };
     Ok(routes(places, What::Mail { at: 1, letter }))
 }
@@ -347,19 +349,20 @@ fn letters_go_to_homes_and_backups(rt: HostRuntime) -> Result<(), Fail> {
 }
 
 // Where a page, a page that is asked for, one that is answered and a synchronisation go.
-fn page_routes(alloc: Global, places: &Placement, pid: Pid) -> [Dests; 4] {
+fn page_routes(alloc: Global, places: &Placement, pid: Pid) -> Result<[Dests; 4], NoMemory> {
     let index = 0;
     let at = 1;
-    let bytes = [0; 256];
-    let (small, read, took) = (small(pid), List::new(alloc), None);
-    [
+    let bytes = Shared::new(alloc, [0; 256])?;
+    let small = Shared::new(alloc, small(pid))?;
+    let (read, took) = (List::new(alloc), None);
+    Ok([
         routes(
             places,
             What::Page {
                 pid,
                 at,
                 index,
-                bytes,
+                bytes: bytes.copy()?,
             },
         ),
         routes(places, What::Fetch { pid, index }),
@@ -373,7 +376,7 @@ fn page_routes(alloc: Global, places: &Placement, pid: Pid) -> [Dests; 4] {
                 took,
             },
         ),
-    ]
+    ])
 }
 
 #[test]
@@ -386,7 +389,7 @@ fn pages_and_synchronisations_go_to_the_servers(rt: HostRuntime) -> Result<(), F
         (9, 16, [0b010, 0b010, 0b010, 0b011]),
     ] {
         let places = after(alloc, steps)?;
-        assert_eq!(rt; page_routes(alloc, &places, Pid(pid)), clusters.map(to));
+        assert_eq!(rt; page_routes(alloc, &places, Pid(pid))?, clusters.map(to));
     }
     Ok(())
 }

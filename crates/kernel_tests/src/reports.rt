@@ -9,8 +9,9 @@ use std::alloc::Global;
 use std::test::Fail;
 use sys_text::read_system;
 use t32_base::letter::{Body, Letter, To};
-use t32_base::lists::{Bytes, List};
+use t32_base::lists::List;
 use t32_base::process::{ClusterNo, End, Pid};
+use t32_base::shared_bytes::SharedBytes;
 use t32_base::streams::NoMemory;
 
 const WHOLE: &str =
@@ -37,7 +38,7 @@ fn log_of_hi(alloc: Global) -> Result<List<Entry>, NoMemory> {
         from: Pid(16),
         out: 0,
         to: To::Tty(0),
-        body: Body::Said(Bytes::copy_of(alloc, b"hi\n")?),
+        body: Body::Said(SharedBytes::copy_of(alloc, b"hi\n")?),
     };
     log.push(entry(0, By::Cluster(ClusterNo(0)), What::Mail { at: 6, letter }))?;
     let exit = What::Exit {

@@ -34,6 +34,7 @@ pub enum Did {
 
 /// Makes the instruction at `pc`, on the registers and the memory of a process (RISC-V unprivileged
 /// specification, RV32I). A store marks the page that it writes to. Takes no memory.
+#[inline(always)]
 pub fn exec(regs: &mut Regs, ram: &mut Ram) -> Did
     ensures did { result ≡ did_of (exec regs.old ram.old.bytes) }
     ensures regs { regs.new ≡ regs_after (exec regs.old ram.old.bytes) regs.old }

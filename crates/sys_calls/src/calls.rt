@@ -16,8 +16,8 @@ use proc_state::process::Process;
 use rv_cpu::registers::read;
 use std::alloc::Global;
 use t32_base::letter::{Body, Letter, To};
-use t32_base::lists::Bytes;
 use t32_base::process::{End, EndState, Status};
+use t32_base::shared_bytes::SharedBytes;
 use t32_base::streams::NoMemory;
 
 /// The most bytes of one letter.
@@ -95,7 +95,7 @@ fn write(alloc: Global, p: &mut Process) -> Result<Step, NoMemory>
         answer(&mut p.small, 0);
         return Ok(Step::Silent);
     }
-    let said = Bytes::copy_of(alloc, p.ram.part(ptr, len))?;
+    let said = SharedBytes::copy_of(alloc, p.ram.part(ptr, len))?;
     let letter = Letter {
         from: p.small.pid,
         out: end as u8,

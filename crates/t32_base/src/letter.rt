@@ -1,15 +1,16 @@
 //! Letters, and the record that a backup keeps of a process.
 ghost use Rattle.std.specs.Prelude.{◌≡◌, IfOk, ◌∷◌, [], ◌++◌, take};
 
-use crate::lists::{Bytes, List};
+use crate::lists::List;
 use crate::process::{Counts, Pid, Small};
+use crate::shared_bytes::SharedBytes;
 use crate::streams::NoMemory;
 use std::alloc::Global;
 
 /// What a letter says: some bytes, that its sender's end is shut, or a signal's number.
 #[derive(Drop)]
 pub enum Body {
-    Said(Bytes),
+    Said(SharedBytes),
     EndOf,
     Signal(u8),
 }
@@ -62,7 +63,7 @@ impl Body {
 }
 
 impl Letter {
-    /// An equal letter, over the allocator of this one's bytes.
+    /// An equal letter. Takes no memory.
     pub fn copy(&self) -> Result<Self, NoMemory>
         ensures { IfOk result (λ c. c ≡ self.now) }
     {
@@ -76,7 +77,7 @@ impl Letter {
 }
 
 impl Arrived {
-    /// An equal letter with the same arrival number.
+    /// An equal letter with the same arrival number. Takes no memory.
     pub fn copy(&self) -> Result<Self, NoMemory>
         ensures { IfOk result (λ c. c ≡ self.now) }
     {

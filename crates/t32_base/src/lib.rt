@@ -6,6 +6,7 @@ pub mod letter;
 pub mod lists;
 pub mod memory;
 pub mod process;
+pub mod shared_bytes;
 pub mod standard;
 pub mod streams;
 #[cfg(test)]

@@ -3,6 +3,7 @@ use crate::letter::{Arrived, BackRec, Body, Letter, To};
 use crate::lists::{Bytes, List};
 use crate::memory::{MemSink, MemSource};
 use crate::process::{Counts, Pid};
+use crate::shared_bytes::SharedBytes;
 use crate::standard::{StdSink, StdSource};
 use crate::streams::{Failed, NoMemory, Sink, Source, TakeFault, Taken};
 use std::alloc::Global;
@@ -117,7 +118,7 @@ fn a_record_is_copied_with_its_letters(rt: HostRuntime) -> Result<(), Fail> {
     let alloc = rt.alloc();
     let mut saved = List::new(alloc);
     for (number, body) in [
-        (7, Body::Said(Bytes::copy_of(alloc, b"hi")?)),
+        (7, Body::Said(SharedBytes::copy_of(alloc, b"hi")?)),
         (8, Body::EndOf),
         (9, Body::Signal(3)),
     ] {
@@ -153,6 +154,18 @@ fn a_record_is_copied_with_its_letters(rt: HostRuntime) -> Result<(), Fail> {
     }
     for (arrived, size) in copy.saved.as_slice().iter().zip([Some(2), None, None]) {
         assert_eq!(rt; size_said(&arrived.letter.body), size);
+    }
+    Ok(())
+}
+
+#[test]
+fn short_and_long_bytes_are_copied(rt: HostRuntime) -> Result<(), Fail> {
+    let many = [7; 300];
+    for count in [0, 1, 22, 23, 300] {
+        let bytes = SharedBytes::copy_of(rt.alloc(), &many[..count])?;
+        let copy = bytes.copy()?;
+        assert_eq!(rt; copy.as_slice(), &many[..count]);
+        assert_eq!(rt; (copy.len(), copy.is_empty()), (count, count == 0));
     }
     Ok(())
 }

@@ -3,8 +3,8 @@ use crate::{count, is_zero, total, withhold};
 use std::alloc::Global;
 use std::test::Fail;
 use t32_base::letter::{Body, Letter, To};
-use t32_base::lists::Bytes;
 use t32_base::process::{Counts, Pid};
+use t32_base::shared_bytes::SharedBytes;
 use t32_base::streams::NoMemory;
 
 const NONE: Counts = Counts {
@@ -18,7 +18,7 @@ fn line(alloc: Global, text: &[u8]) -> Result<Letter, NoMemory> {
         from: Pid(16),
         out: 0,
         to: To::Tty(0),
-        body: Body::Said(Bytes::copy_of(alloc, text)?),
+        body: Body::Said(SharedBytes::copy_of(alloc, text)?),
     })
 }
 
