@@ -1,6 +1,7 @@
 -- Scripts beside logs, by computation: two words for one place, a word for a step, one for a disk call, and what each rule refuses.
-use Rattle.std.proofs.Common.{◌≡◌, refl, sym, ◌∙◌, ap, List, [], ◌∷◌, ◌++◌, length, Bool, true, false, cond, Some, None, true≢false}
+use Rattle.std.proofs.Common.{◌≡◌, refl, sym, ◌∙◌, ap, List, [], ◌∷◌, ◌++◌, length, Bool, true, false, cond, Some, None, true≢false, inl, inr, ◌⊎◌}
 use Rattle.std.specs.List.{list_any}
+use Rattle.bus_msg.specs.declared.entry.What.{What}
 use Rattle.bus_msg.specs.declared.entry.What.TheVariants.{Crash, Return}
 use Rattle.bus_msg.specs.declared.entry.Cause.TheVariants.{Place, Step, Disk}
 use Rattle.bus_msg.specs.declared.entry.By.TheVariants.{Bus}
@@ -10,7 +11,7 @@ use Rattle.bus_msg.specs.PlacedAfter.{what}
 use Rattle.cert_sched.specs.declared.script.ScriptWord.{ScriptWord}
 use Rattle.cert_sched.specs.declared.script.ScriptWord.TheVariants.{CrashAt, CrashStep, DiskAt, ReturnAt}
 use Rattle.cert_sched.specs.Schedule.{placement}
-use Rattle.cert_sched.specs.Looked.{Looked, at_start, gives_nothing, gives, goes_on, none_reached, is_reached, first_reached, given_by, waits_for_no_word}
+use Rattle.cert_sched.specs.Looked.{Looked, at_start, gives_nothing, gives, goes_on, none_reached, is_reached, first_reached, given_by, without_reached, waits_for_no_word, waits_for_words}
 use Rattle.cert_sched.specs.Losses.{is_scripted_loss}
 use Rattle.cert_sched.specs.Scripted.{IsScripted, is_unused_rightly}
 use Rattle.cert_sched.proofs.Systems.{cluster, hi_system, two_system}
@@ -47,13 +48,18 @@ not_empty : (log : List Entry) (e : Entry) → log ++ e ∷ [] ≡ [] → ⊥
 not_empty [] e is = cc
 not_empty (x ∷ log) e is = cc
 
-record Single (log : List Entry) (e only : Entry) : Type 0 where
-  pub before : log ≡ []
-  pub entry_is : e ≡ only
+record EndAlike (log before : List Entry) (e last : Entry) : Type 0 where
+  pub before_is : log ≡ before
+  pub last_is : e ≡ last
 
-single : (log : List Entry) (e only : Entry) → log ++ e ∷ [] ≡ only ∷ [] → Single log e only
-single [] e only is = record { before = refl; entry_is = cc }
-single (x ∷ log) e only is = absurd (not_empty log e (let rest : log ++ e ∷ [] ≡ [] = cc in rest))
+end_alike : (log before : List Entry) (e last : Entry) → log ++ e ∷ [] ≡ before ++ last ∷ [] → EndAlike log before e last
+end_alike [] [] e last is = record { before_is = refl; last_is = cc }
+end_alike [] (y ∷ before) e last is = absurd (not_empty before last (let rest : before ++ last ∷ [] ≡ [] = cc in rest))
+end_alike (x ∷ log) [] e last is = absurd (not_empty log e (let rest : log ++ e ∷ [] ≡ [] = cc in rest))
+end_alike (x ∷ log) (y ∷ before) e last is =
+    let first : x ≡ y = cc in
+    let rest = end_alike log before e last (let rest : log ++ e ∷ [] ≡ before ++ last ∷ [] = cc in rest) in
+    record { before_is = λ i. first i ∷ rest.before_is i; last_is = rest.last_is }
 
 -- its look gives the loss
 not_nothing : (log : List Entry) (left : List ScriptWord) (w : ScriptWord) → log ≡ [] → left ≡ at_once → first_reached log left ≡ Some w → given_by (placement two_system log) w ≡ None → ⊥
@@ -90,11 +96,73 @@ word_passed_over : {log : List Entry} {left : List ScriptWord} → Looked two_sy
 word_passed_over at_start is = cc
 word_passed_over (gives_nothing h w first nothing) is = word_passed_over h is
 word_passed_over (gives {log = l} h w e first gave) is =
-    no_word_gives_a_letter (placement two_system l) w (gave ∙ ap (λ e. Some (what e)) (single l e later_0 is).entry_is)
-word_passed_over (goes_on {log = l} h e no_word) is = true≢false (sym no_word ∙ ap (λ e. waits_for_no_word (what e)) (single l e later_0 is).entry_is)
+    no_word_gives_a_letter (placement two_system l) w (gave ∙ ap (λ e. Some (what e)) (end_alike l [] e later_0 is).last_is)
+word_passed_over (goes_on {log = l} h e no_word) is = true≢false (sym no_word ∙ ap (λ e. waits_for_no_word (what e)) (end_alike l [] e later_0 is).last_is)
 word_passed_over (none_reached {log = l} {left = s} h e words passed) is =
-    let one = single l e later_0 is in
-    true≢false ((λ i. list_any (is_reached (length (sym one.before i))) (sym (still_left h one.before) i)) ∙ passed)
+    let one = end_alike l [] e later_0 is in
+    true≢false ((λ i. list_any (is_reached (length (sym one.before_is i))) (sym (still_left h one.before_is) i)) ∙ passed)
+
+-- ---- a return that comes first in the script and last in the log
+
+-- before the first entry none was looked at
+all_left : {log : List Entry} {left : List ScriptWord} → Looked two_system back_then_lost log left → log ≡ [] → left ≡ back_then_lost
+all_left at_start none = refl
+all_left (gives_nothing {log = l} {left = s} h w first nothing) none =
+    absurd (let found : None ≡ Some w = sym (λ i. first_reached (none i) (all_left h none i)) ∙ first in cc)
+all_left (gives {log = l} h w e first gave) none = absurd (not_empty l e none)
+all_left (goes_on {log = l} h e no_word) none = absurd (not_empty l e none)
+all_left (none_reached {log = l} h e words passed) none = absurd (not_empty l e none)
+
+-- what the two words give where the letter stands last
+not_given : (log : List Entry) (left : List ScriptWord) (w : ScriptWord) → log ≡ later_0 ∷ [] → left ≡ CrashAt (cluster 0) 1 ∷ [] → first_reached log left ≡ Some w → given_by (placement two_system log) w ≡ None → ⊥
+unfolding placement
+not_given log left w here one first nothing =
+    let word : Some (CrashAt (cluster 0) 1) ≡ Some w = sym (λ i. first_reached (here i) (one i)) ∙ first in
+    let same : CrashAt (cluster 0) 1 ≡ w = cc in
+    let given : Some (Crash (cluster 0) Place) ≡ None = (λ i. given_by (placement two_system (sym here i)) (same i)) ∙ nothing in
+    cc
+
+gives_none : (log : List Entry) (left : List ScriptWord) (w : ScriptWord) (v : What) → log ≡ later_0 ∷ [] → left ≡ back_then_lost → first_reached log left ≡ Some w → given_by (placement two_system log) w ≡ Some v → ⊥
+unfolding placement
+gives_none log left w v here both first gave =
+    let word : Some (ReturnAt (cluster 0) 1) ≡ Some w = sym (λ i. first_reached (here i) (both i)) ∙ first in
+    let same : ReturnAt (cluster 0) 1 ≡ w = cc in
+    let given : None ≡ Some v = (λ i. given_by (placement two_system (sym here i)) (same i)) ∙ gave in
+    cc
+
+-- behind the letter both are left, or the loss alone
+after_letter : {log : List Entry} {left : List ScriptWord} → Looked two_system back_then_lost log left → log ≡ later_0 ∷ [] → (left ≡ back_then_lost) ⊎ (left ≡ CrashAt (cluster 0) 1 ∷ [])
+after_letter at_start is = cc
+after_letter (gives_nothing {log = l} {left = s} h w first nothing) is = elim (after_letter h is) [
+  | inl both ↦ inr (λ i. without_reached (is i) (both i))
+  | inr one ↦ absurd (not_given l s w is one first nothing)
+]
+after_letter (gives {log = l} h w e first gave) is =
+    absurd (no_word_gives_a_letter (placement two_system l) w (gave ∙ ap (λ e. Some (what e)) (end_alike l [] e later_0 is).last_is))
+after_letter (goes_on {log = l} h e no_word) is = absurd (true≢false (sym no_word ∙ ap (λ e. waits_for_no_word (what e)) (end_alike l [] e later_0 is).last_is))
+after_letter (none_reached {log = l} h e words passed) is = inl (all_left h (end_alike l [] e later_0 is).before_is)
+
+-- behind the loss none is left
+after_loss : {log : List Entry} {left : List ScriptWord} → Looked two_system back_then_lost log left → log ≡ later_0 ∷ later_1 ∷ [] → left ≡ []
+after_loss at_start is = cc
+after_loss (gives_nothing {log = l} h w first nothing) is = absurd (let found : None ≡ Some w = sym (ap (first_reached l) (after_loss h is)) ∙ first in cc)
+after_loss (gives {log = l} {left = s} h w e first gave) is =
+    let alike = end_alike l (later_0 ∷ []) e later_1 is in
+    elim (after_letter h alike.before_is) [
+      | inl both ↦ absurd (gives_none l s w (what e) alike.before_is both first gave)
+      | inr one ↦ λ i. without_reached (alike.before_is i) (one i)
+    ]
+after_loss (goes_on {log = l} h e no_word) is = absurd (true≢false (sym no_word ∙ ap (λ e. waits_for_no_word (what e)) (end_alike l (later_0 ∷ []) e later_1 is).last_is))
+after_loss (none_reached {log = l} h e words passed) is = absurd (true≢false (sym words ∙ ap (λ e. waits_for_words (what e)) (end_alike l (later_0 ∷ []) e later_1 is).last_is))
+
+return_out_of_order : {log : List Entry} {left : List ScriptWord} → Looked two_system back_then_lost log left → log ≡ later_0 ∷ later_1 ∷ back_2 ∷ [] → ⊥
+return_out_of_order at_start is = cc
+return_out_of_order (gives_nothing h w first nothing) is = return_out_of_order h is
+return_out_of_order (gives {log = l} h w e first gave) is =
+    let found : None ≡ Some w = sym (ap (first_reached l) (after_loss h (end_alike l (later_0 ∷ later_1 ∷ []) e back_2 is).before_is)) ∙ first in
+    cc
+return_out_of_order (goes_on {log = l} h e no_word) is = true≢false (sym no_word ∙ ap (λ e. waits_for_no_word (what e)) (end_alike l (later_0 ∷ later_1 ∷ []) e back_2 is).last_is)
+return_out_of_order (none_reached {log = l} h e words passed) is = true≢false (sym words ∙ ap (λ e. waits_for_words (what e)) (end_alike l (later_0 ∷ later_1 ∷ []) e back_2 is).last_is)
 
 -- ---- a word for a step, and one for a disk call
 

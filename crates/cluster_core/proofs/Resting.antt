@@ -1,6 +1,6 @@
 -- What a cluster tells where nothing in it can move.
 use Rattle.std.proofs.Common.{◌≡◌, ℕ, refl, sym, ◌∙◌, ap, subst, arith, Result, Ok, Err, List, [], ◌∷◌, map, Bool, true, false, cond, ◌&&◌, ◌||◌, eqb, eqb-true, ltb, Option, Some, None, true≢false}
-use Rattle.std.specs.Prelude.{IfOk, IfSome, filter, find, is_some, is_none, nat_le, option_map}
+use Rattle.std.specs.Prelude.{IfOk, IfSome, find, is_some, nat_le, option_map}
 use Rattle.std.specs.List.{list_any, list_all}
 use Rattle.std.proofs.lemmas.Bool.{le-leb}
 use Rattle.std.proofs.lemmas.Bool.Decides.{nat_tests}
@@ -8,20 +8,12 @@ use Rattle.std.specs.Option.{option_map_or}
 use Rattle.std.proofs.lemmas.Bool.{and_parts, and_from}
 use Rattle.t32_base.specs.declared.process.Pid.{Pid}
 use Rattle.sys_text.specs.declared.system.System.{System}
-use Rattle.sys_text.specs.declared.system.Root.{Root}
-use Rattle.sys_text.specs.Boot.{roots_of}
 use Rattle.proc_state.specs.State.{ProcState, state_of}
 use Rattle.bus_msg.specs.declared.entry.Entry.{Entry}
-use Rattle.bus_msg.specs.declared.placed.Placed.{Placed}
-use Rattle.bus_msg.specs.Places.{Places}
-use Rattle.bus_msg.specs.NewBackup.{next_backup, backup_by_mode}
 use Rattle.cert_sched.specs.Parts.{rising, put_rising}
-use Rattle.cert_sched.specs.Schedule.{placed_root, placement, done_after}
+use Rattle.cert_sched.specs.Schedule.{done_after}
 use Rattle.cert_sched.specs.Steps.{silent_upto}
 use Rattle.cert_sched.specs.Rests.{is_idle, is_idle_at}
-use Rattle.cert_sched.specs.Legal.{IsLegalBy}
-use Rattle.cert_sched.specs.Built.{BuiltMayFollow}
-use Rattle.cert_sched.proofs.BuiltLaws.{Kept, kept, built_kept}
 use Rattle.proc_state.specs.declared.process.Process.{Process}
 use Rattle.cluster_core.specs.View.{ClusterView}
 use Rattle.bus_msg.specs.Places.{same_pid}
@@ -32,32 +24,6 @@ use Rattle.cluster_core.specs.Parts.{held_in, AllOwn}
 use Rattle.cluster_core.specs.Calls.{RestsIn, are_at_rest, is_resting, rests_in, rests_of}
 use Rattle.cluster_core.proofs.Owning.{stuck_rest}
 use Rattle.cluster_core.proofs.Working.{ahead, held_before}
-
--- ---- no process is owed a backup
-
-abbrev have_backups : List Kept → Bool
-have_backups ks = list_all (λ (k : Kept). is_some k.backup) ks
-
-boot_backups : (roots : List (Pid × Root)) → have_backups (map kept (map placed_root roots)) ≡ true
-boot_backups [] = refl
-boot_backups (r ∷ roots) = boot_backups roots
-
-none_owed : (places : Places) (test : Placed → Bool) (qs : List Placed) → have_backups (map kept qs) ≡ true → list_all (λ q. is_none (next_backup places q)) (filter test qs) ≡ true
-none_owed places test [] have = refl
-none_owed places test (q ∷ qs) have = by_test (test q) (of_one q.ended (is_some q.backup) (and_parts (is_some q.backup) (have_backups (map kept qs)) have).0) (none_owed places test qs (and_parts (is_some q.backup) (have_backups (map kept qs)) have).1)
-  where
-    of_one : (ended some : Bool) → some ≡ true → is_none (cond (ended || some) None (backup_by_mode places q q.mode)) ≡ true
-    of_one true some is = refl
-    of_one false true is = refl
-    of_one false false is = absurd (true≢false (sym is))
-
-    by_test : (b : Bool) → is_none (next_backup places q) ≡ true → list_all (λ q. is_none (next_backup places q)) (filter test qs) ≡ true → list_all (λ q. is_none (next_backup places q)) (cond b (q ∷ filter test qs) (filter test qs)) ≡ true
-    by_test true here rest = (λ i. here i && list_all (λ q. is_none (next_backup places q)) (filter test qs)) ∙ rest
-    by_test false here rest = rest
-
--- in such a log each process has its backup
-backed : (system : System) (log : List Entry) (test : Placed → Bool) → IsLegalBy BuiltMayFollow system log → list_all (λ q. is_none (next_backup (placement system log) q)) (filter test (placement system log).placed) ≡ true
-backed system log test legal = none_owed (placement system log) test (placement system log).placed (ap have_backups (built_kept system log legal) ∙ boot_backups (roots_of system))
 
 -- ---- a process at rest
 
@@ -118,7 +84,6 @@ pub rests_told : (c : ClusterView) (rs : List (Pid × Process)) → c.here ≡ h
 rests_told c rs here ordered at_rest empty log now f = record {
   named = same_pids rs ∙ sym (rises (pids_in rs) ordered) ∙ ap rising (sym (pids_same rs)) ∙ ap (λ hs. rising (pids_held hs)) (sym here) ∙ f.each_once;
   idle = ap (list_all (is_idle_at c.system log)) (same_rests rs) ∙ each_idle c log rs (λ p s there. held_before c log rs p s here empty f there) (apart (pids_in rs) ordered) at_rest;
-  backed = backed c.system log _ now.0;
 }
   where
     same_pids : (rs : List (Pid × Process)) → map (λ (r : Pid × ℕ). (r.0).0) (steps_in rs) ≡ pids_in rs
