@@ -1,15 +1,21 @@
 -- What a run leaves that came to its end.
-use Rattle.std.specs.Prelude.{◌≡◌, List}
+use Rattle.std.specs.Prelude.{ℕ, ◌≡◌, true, List, slice_get, Some, None}
 use Rattle.sys_text.specs.declared.system.System.{System}
 use Rattle.cert_sched.specs.declared.script.ScriptWord.{ScriptWord}
 use Rattle.report_text.specs.declared.run.Ended.TheVariants.{Finished}
 use Rattle.report_text.specs.Good.{IsGoodBuilt}
+use Rattle.cluster_run.specs.declared.life.Life.{Life}
 use Rattle.cluster_run.specs.declared.life.Ran.{Ran}
-use Rattle.cluster_run.specs.Lived.{LivedBuilt}
+use Rattle.cluster_run.specs.Lived.{ends_at_done, LivedBuilt}
 
--- The run is what its system and its script allow, and it came to its end: nothing was withheld, and its clusters did its work.
+-- the run has, for each life that ends with it and in which no disk failed, the kernel steps of that cluster
+abbrev pub HasStepsOf : Ran → Type 0
+HasStepsOf ran = (n : ℕ) (l : Life) → slice_get ran.lives n ≡ Some l → ends_at_done (ran.run).log l.cluster l.from ≡ true → (l.value).failed ≡ None → slice_get (ran.run).steps (l.cluster).0 ≡ Some (l.value).steps
+
+-- The run is what its system and its script allow, and it came to its end: nothing was withheld, its clusters did its work, and it has their steps.
 pub record IsCompleted (system : System) (script : List ScriptWord) (ran : Ran) : Type 0 where
   pub good : IsGoodBuilt system script ran.run
   pub ended : (ran.run).ended ≡ Finished
   pub withheld : (ran.run).withheld ≡ 0
   pub lived : LivedBuilt system script (ran.run).log ran.lives
+  pub steps : HasStepsOf ran
