@@ -2,11 +2,12 @@
 ghost use Rattle.std.specs.Prelude.{◌≡◌, ◌+◌, ◌<◌, ◌≤◌, ◌^◌, IsTrue, IsFalse};
 ghost use Rattle.std.specs.Option.{option_copied};
 ghost use Rattle.rv_asm.specs.Line.{label_of};
-ghost use Rattle.rv_asm.specs.Labels.{own_code};
+ghost use Rattle.rv_asm.specs.Labels.{own_code, entry_at, defined_in};
+ghost use Rattle.std.specs.List.{All, Contains};
 ghost use Rattle.rv_asm.specs.View.{seen, seen_result};
 ghost use Rattle.rv_asm.specs.Program.{address_after, is_near, reaches as reaches_in, defined_before as is_defined_before, is_undefined as is_undefined_in, is_far as is_far_in, too_far as is_too_far, broken_by};
 
-use crate::labels::Labels;
+use crate::labels::{Labels, Place};
 use crate::parsed::{
     Parsed, breaks_rule, defined, is_bad_label, size_of_statement, statement_or_nothing, target,
 };
@@ -14,15 +15,19 @@ use crate::refusal::Rule;
 use crate::statement::Statement;
 use text_parts::are_printable;
 
-/// Is the label defined before this line?
-fn defined_before<'a>(labels: &Labels<'a>, number: u64, name: Option<&'a [u8]>) -> bool
+/// Does an earlier line define the label that this line defines, which follows so many words?
+fn defined_before(labels: &Labels<'_>, number: u64, words: u64, name: Option<&[u8]>) -> bool
+    requires { All (Contains labels.now) (entry_at number words (option_copied name)) }
     ensures { result ≡ is_defined_before labels.now number (option_copied name.entry) }
 {
     match name {
-        Some(name) => match labels.value(name) {
-            Some(place) => place.line < number,
-            None => false,
-        },
+        Some(name) => labels.is_again(
+            name,
+            Place {
+                line: number,
+                words,
+            },
+        ),
         None => false,
     }
 }
@@ -89,6 +94,7 @@ pub fn broken_rule<'a>(
     parsed: Parsed<'a>,
 ) -> Option<Rule>
     requires room { words ≤ 16384 }
+    requires own { All (Contains labels.now) (entry_at number words (defined_in line.now)) }
     requires label { option_copied parsed.label ≡ label_of line.now }
     requires statement { seen_result parsed.statement ≡ own_code line.now }
     ensures { result ≡ broken_by labels.now number words line.now }
@@ -102,7 +108,7 @@ pub fn broken_rule<'a>(
         Some(Rule::BadForm)
     } else if breaks_rule(parsed.statement, Rule::NumberRange) {
         Some(Rule::NumberRange)
-    } else if defined_before(labels, number, defined(parsed.label)) {
+    } else if defined_before(labels, number, words, defined(parsed.label)) {
         Some(Rule::DefinedTwice)
     } else if is_undefined(labels, target(statement)) {
         Some(Rule::NeverDefined)
