@@ -1,6 +1,7 @@
 pub mod Rows
 pub mod Cuts
 pub mod LabelTables
+pub mod SortedLabels
 pub mod Signed
 pub mod QuotedTexts
 pub mod Reading

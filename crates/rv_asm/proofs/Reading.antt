@@ -69,11 +69,16 @@ module _ (labels : List (List ℕ × Place)) where
     pub same : with_front words (reading_from labels n (length words) lines) ≡ total
     pub room : length words ≤ 16384
 
+  -- and so many words
+  pub longer : (words new : List ℕ) (line : List ℕ) → new ≡ words ++ words_at labels (address_after (length words)) (line_code line) → length new ≡ length words + line_size line
+  longer words new line is =
+      ap length is ∙ length-append words (words_at labels (address_after (length words)) (line_code line)) ∙ ap (λ (k : ℕ). length words + k) (length-words_at labels (address_after (length words)) (line_code line))
+
   pub line_read : (total : Result (List ℕ) (ℕ × Rule)) (words new : List ℕ) (n : ℕ) (line : List ℕ) (lines : List (List ℕ)) → ReadsOn total words n (line ∷ lines) → broken_by labels n (length words) line ≡ None
       → new ≡ words ++ words_at labels (address_after (length words)) (line_code line) → ReadsOn total new (n + 1) lines
   line_read total words new n line lines reads none is =
       let added = words_at labels (address_after (length words)) (line_code line) in
-      let long : length new ≡ length words + line_size line = ap length is ∙ length-append words added ∙ ap (λ (k : ℕ). length words + k) (length-words_at labels (address_after (length words)) (line_code line)) in
+      let long = longer words new line is in
       record {
         same = rw (long, is) (sym (with_front_twice words added (reading_from labels (n + 1) (length words + line_size line) lines))
             ∙ ap (λ (o : Option Rule). with_front words (line_then n o added (reading_from labels (n + 1) (length words + line_size line) lines))) (sym none)

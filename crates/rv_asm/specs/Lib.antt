@@ -10,6 +10,7 @@ pub mod Statement
 pub mod Operands
 pub mod View
 pub mod Labels
+pub mod SortedLabels
 pub mod Program
 pub mod RuleByRule
 pub mod Answers

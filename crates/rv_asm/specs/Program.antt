@@ -1,5 +1,5 @@
 -- A program: the rules that its lines keep, and its words.
-use Rattle.std.specs.Prelude.{ℕ, ◌+◌, ◌*◌, ◌%◌, ◌^◌, Bool, true, false, not, List, [], ◌∷◌, ◌++◌, Option, Some, None, Result, Ok, Err, ℤ, pos, ◌-ℤ◌, nat_lt, nat_le, is_none, ◌&&◌, ◌||◌}
+use Rattle.std.specs.Prelude.{ℕ, ◌+◌, ◌*◌, ◌%◌, ◌^◌, Bool, true, false, not, List, [], ◌∷◌, ◌++◌, Option, Some, None, Result, Ok, Err, ℤ, pos, ◌-ℤ◌, nat_lt, nat_le, is_none, ◌&&◌, ◌||◌, if◌then◌else◌}
 use Rattle.std.specs.List.{find}
 use Rattle.text_parts.specs.Lines.{are_printable, lines_of}
 use Rattle.text_parts.specs.Table.{lookup}
@@ -78,6 +78,12 @@ is_far code here (Some place) = not (reaches code here (address_after place.word
 abbrev pub too_far : List (List ℕ × Place) → Code → ℕ → Option (List ℕ) → Bool
 too_far labels code here None = false
 too_far labels code here (Some name) = is_far code here (lookup labels name)
+
+-- the lower of the two rules on the label that the code names
+abbrev pub broken_target : List (List ℕ × Place) → Code → ℕ → Option Rule
+broken_target labels code here =
+    if is_undefined labels (target_of code) then Some NeverDefined
+    else (if too_far labels code here (target_of code) then Some TooFar else None)
 
 -- line n, which follows so many words, breaks the rule in a program with these labels
 abbrev pub breaks : List (List ℕ × Place) → (n words : ℕ) → (line : List ℕ) → Rule → Bool

@@ -1,7 +1,8 @@
 //! From a text to its words.
 ghost use Rattle.std.specs.Prelude.{◌≡◌, ◌+◌, ◌++◌, ◌≤◌, ◌<◌, ◌^◌, IfOk, IfErr, IsOkUnless, OnOk, length};
 ghost use Rattle.text_parts.specs.Lines.{lines_of};
-ghost use Rattle.text_parts.specs.Table.{FindSame};
+ghost use Rattle.std.specs.List.{All, Contains};
+ghost use Rattle.text_parts.specs.Table.{FindSame, rows_of};
 ghost use Rattle.rv_asm.specs.Labels.{labels_of, entry_at, defined_in, line_size, line_code};
 ghost use Rattle.rv_asm.specs.Program.{reading_of, broken_by, words_at, address_after};
 ghost use Rattle.rv_asm.specs.Answers.{Answers, LineAnswers};
@@ -18,12 +19,12 @@ use text_parts::first_line;
 
 /// Adds the label that a line defines, and counts its words.
 fn add_label<'a>(
-    labels: &mut Labels<'a>,
+    rows: &mut Vec<(&'a [u8], Place)>,
     number: u64,
     words: u64,
     line: &'a [u8],
 ) -> Result<u64, AsmRefused>
-    ensures label { OnOk result (FindSame labels.new (labels.old ++ entry_at number words (defined_in line.now))) }
+    ensures label { OnOk result (rows_of rows.new.items ≡ rows_of rows.old.items ++ entry_at number words (defined_in line.now)) }
     ensures words { IfOk result (λ after. after ≡ words + line_size line.now) }
     ensures memory { IsOkUnless result AsmRefused.NoMemory }
 {
@@ -34,7 +35,7 @@ fn add_label<'a>(
             line: number,
             words,
         };
-        labels.define(name, place)?;
+        rows.push((name, place))?;
     }
     // No text that memory holds has so many words.
     words.checked_add(size).ok_or(AsmRefused::NoMemory)
@@ -43,18 +44,20 @@ fn add_label<'a>(
 /// The labels of a text.
 fn label_table(alloc: Global, text: &[u8]) -> Result<Labels<'_>, AsmRefused>
     ensures labels { IfOk result (λ labels. FindSame labels (labels_of text.now)) }
+    ensures each { IfOk result (λ labels. All (Contains labels) (labels_of text.now)) }
     ensures memory { IsOkUnless result AsmRefused.NoMemory }
 {
-    let mut labels = Labels::new(alloc);
+    let mut rows = Vec::new(alloc);
     let mut rest = text;
     let mut number = 1u64;
     let mut words = 0u64;
     while !rest.is_empty() {
         let (line, after) = first_line(rest);
-        words = add_label(&mut labels, number, words, line)?;
+        words = add_label(&mut rows, number, words, line)?;
         number += 1;
         rest = after;
     }
+    let labels = Labels::sorted(rows)?;
     Ok(labels)
 }
 
@@ -67,6 +70,7 @@ fn assemble_line<'a>(
     words: &mut List<u32>,
 ) -> Result<(), AsmRefused>
     requires room { length words.old ≤ 16384 }
+    requires own { All (Contains labels.now) (entry_at number (length words.old) (defined_in line.now)) }
     ensures answer { LineAnswers result number (broken_by labels.now number (length words.old) line.now) }
     ensures words { OnOk result (words.new ≡ words.old ++ words_at labels.now (address_after (length words.old)) (line_code line.now)) }
 {

@@ -2,11 +2,12 @@
 ghost use Rattle.std.specs.Prelude.{◌≡◌, ◌+◌, ◌<◌, ◌≤◌, ◌^◌, IsTrue, IsFalse};
 ghost use Rattle.std.specs.Option.{option_copied};
 ghost use Rattle.rv_asm.specs.Line.{label_of};
-ghost use Rattle.rv_asm.specs.Labels.{own_code};
+ghost use Rattle.rv_asm.specs.Labels.{own_code, entry_at, defined_in};
+ghost use Rattle.std.specs.List.{All, Contains};
 ghost use Rattle.rv_asm.specs.View.{seen, seen_result};
-ghost use Rattle.rv_asm.specs.Program.{address_after, is_near, reaches as reaches_in, defined_before as is_defined_before, is_undefined as is_undefined_in, is_far as is_far_in, too_far as is_too_far, broken_by};
+ghost use Rattle.rv_asm.specs.Program.{address_after, is_near, reaches as reaches_in, defined_before as is_defined_before, broken_target, broken_by};
 
-use crate::labels::Labels;
+use crate::labels::{Labels, Place};
 use crate::parsed::{
     Parsed, breaks_rule, defined, is_bad_label, size_of_statement, statement_or_nothing, target,
 };
@@ -14,25 +15,19 @@ use crate::refusal::Rule;
 use crate::statement::Statement;
 use text_parts::are_printable;
 
-/// Is the label defined before this line?
-fn defined_before<'a>(labels: &Labels<'a>, number: u64, name: Option<&'a [u8]>) -> bool
+/// Does an earlier line define the label that this line defines, which follows so many words?
+fn defined_before(labels: &Labels<'_>, number: u64, words: u64, name: Option<&[u8]>) -> bool
+    requires { All (Contains labels.now) (entry_at number words (option_copied name)) }
     ensures { result ≡ is_defined_before labels.now number (option_copied name.entry) }
 {
     match name {
-        Some(name) => match labels.value(name) {
-            Some(place) => place.line < number,
-            None => false,
-        },
-        None => false,
-    }
-}
-
-/// Is it a label that no line defines?
-fn is_undefined<'a>(labels: &Labels<'a>, name: Option<&'a [u8]>) -> bool
-    ensures { result ≡ is_undefined_in labels.now (option_copied name.entry) }
-{
-    match name {
-        Some(name) => labels.value(name).is_none(),
+        Some(name) => labels.is_again(
+            name,
+            Place {
+                line: number,
+                words,
+            },
+        ),
         None => false,
     }
 }
@@ -62,21 +57,20 @@ fn reaches(statement: Statement<'_>, here: u64, there: u64) -> bool
     }
 }
 
-/// Is the label too far from the statement?
-fn is_too_far<'a>(
-    labels: &Labels<'a>,
-    statement: Statement<'a>,
-    here: u64,
-    name: Option<&'a [u8]>,
-) -> bool
-    ensures { result ≡ is_too_far labels.now (seen statement.entry) (address_after here) (option_copied name.entry) }
+/// The rule on its label that the statement breaks: no line defines it, or it is too far away.
+fn broken_target<'a>(labels: &Labels<'a>, statement: Statement<'a>, here: u64) -> Option<Rule>
+    ensures { result ≡ broken_target labels.now (seen statement.entry) (address_after here) }
 {
-    match name {
-        Some(name) => match labels.value(name) {
-            Some(place) => !reaches(statement, here, place.words),
-            None => false,
-        },
-        None => false,
+    let name = target(statement)?;
+    match labels.value(name) {
+        None => Some(Rule::NeverDefined),
+        Some(place) => {
+            if reaches(statement, here, place.words) {
+                None
+            } else {
+                Some(Rule::TooFar)
+            }
+        }
     }
 }
 
@@ -89,6 +83,7 @@ pub fn broken_rule<'a>(
     parsed: Parsed<'a>,
 ) -> Option<Rule>
     requires room { words ≤ 16384 }
+    requires own { All (Contains labels.now) (entry_at number words (defined_in line.now)) }
     requires label { option_copied parsed.label ≡ label_of line.now }
     requires statement { seen_result parsed.statement ≡ own_code line.now }
     ensures { result ≡ broken_by labels.now number words line.now }
@@ -102,12 +97,10 @@ pub fn broken_rule<'a>(
         Some(Rule::BadForm)
     } else if breaks_rule(parsed.statement, Rule::NumberRange) {
         Some(Rule::NumberRange)
-    } else if defined_before(labels, number, defined(parsed.label)) {
+    } else if defined_before(labels, number, words, defined(parsed.label)) {
         Some(Rule::DefinedTwice)
-    } else if is_undefined(labels, target(statement)) {
-        Some(Rule::NeverDefined)
-    } else if is_too_far(labels, statement, words, target(statement)) {
-        Some(Rule::TooFar)
+    } else if let Some(rule) = broken_target(labels, statement, words) {
+        Some(rule)
     } else if size_of_statement(statement) as u64 > 16384 - words {
         Some(Rule::TooLong)
     } else {

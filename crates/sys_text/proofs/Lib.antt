@@ -22,3 +22,4 @@ mod Standing
 mod Stepping
 mod Taking
 mod Words
+mod WordLines

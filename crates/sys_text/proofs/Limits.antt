@@ -5,7 +5,7 @@ use Rattle.sys_text.specs.declared.stage.Kind.TheVariants.{Word}
 use Rattle.sys_text.specs.declared.stage.Keyword.{Keyword}
 use Rattle.sys_text.specs.Kinds.{keeps_limit, each_field, may_repeat}
 
-words_within : (clusters : ℕ) (fields : List (List ℕ)) → true ≡ list_all (keeps_limit clusters Word) fields
+pub words_within : (clusters : ℕ) (fields : List (List ℕ)) → true ≡ list_all (keeps_limit clusters Word) fields
 words_within clusters [] = refl
 words_within clusters (field ∷ fields) = words_within clusters fields
 

@@ -4,6 +4,7 @@ pub mod Boot
 pub mod Refusal
 pub mod Kinds
 pub mod Rules
+pub mod WordLines
 pub mod ImageNames
 pub mod Reading
 pub mod Answers

@@ -17,6 +17,7 @@ pub mod system;
 mod tests;
 mod types;
 pub mod valid;
+mod word_lines;
 
 pub use reading::{read_system, systems_read_back};
 pub use refusal::{Rule, SystemRefused};

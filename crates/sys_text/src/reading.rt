@@ -9,7 +9,8 @@ ghost use Rattle.sys_text.specs.Reading.{Outside, reading_from, reading_of, step
 ghost use Rattle.sys_text.specs.declared.system.System.{System as Described};
 ghost use Rattle.sys_text.specs.Valid.{is_system};
 ghost use Rattle.sys_text.specs.Text.{system_text};
-ghost use Rattle.sys_text.specs.Answers.{Answers, TakesLine, TakesLines};
+ghost use Rattle.sys_text.specs.Answers.{Answers, ClosesBlock, TakesLine, TakesLines};
+ghost use Rattle.sys_text.specs.WordLines.{IsWordsLine};
 ghost use Rattle.sys_text.specs.RuleByRule.{IsSystemOf, HasCause};
 
 use crate::adding::{add_line, empty_image};
@@ -21,6 +22,7 @@ use crate::stage::{Keyword, Stage};
 use crate::state::{Reader, State};
 use crate::system::System;
 use crate::types::{all_numbers_fit, all_words_fit};
+use crate::word_lines::{after_words, read_words};
 use std::alloc::Global;
 use t32_base::lists::List;
 use t32_base::process::ClusterNo;
@@ -65,6 +67,25 @@ fn keep_line<'a>(
     }
 }
 
+/// Takes line `number`, a line of words with these fields.
+fn take_words(
+    reader: &mut Reader<'_>,
+    number: u64,
+    line: &[u8],
+    fields: &[u8],
+) -> Result<(), SystemRefused>
+    requires words { IsWordsLine reader.old.state.stage line.now fields.now }
+    requires room { HasRoom reader.old.state }
+    requires known { KnowsImages reader.old }
+    ensures step { ClosesBlock result reader.new.state (step_outside reader.old.state number line.now) }
+    ensures room { OnOk result (HasRoom reader.new.state) }
+    ensures known { OnOk result (KnowsImages reader.new) }
+{
+    let pages = reader.state.open_image.pages;
+    let words = &mut reader.state.open_image.words;
+    read_words(words, pages, number, fields)
+}
+
 /// Takes line `number`, outside assembler blocks. Does it open one?
 fn take_line<'a>(
     alloc: Global,
@@ -78,6 +99,12 @@ fn take_line<'a>(
     ensures room { OnOk result (HasRoom reader.new.state) }
     ensures known { OnOk result (KnowsImages reader.new) }
 {
+    if let Some(fields) = after_words(reader.state.stage, line) {
+        return match take_words(reader, number, line, fields) {
+            Ok(()) => Ok(false),
+            Err(refused) => Err(refused),
+        };
+    }
     let fields = fields(alloc, line)?;
     match broken_rule(reader, line, &fields) {
         Some(rule) => Err(SystemRefused::BadLine {

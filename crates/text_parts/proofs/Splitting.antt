@@ -1,5 +1,5 @@
 -- The first line of a text and the first field of a line.
-use Rattle.std.proofs.Common.{◌≡◌, ℕ, suc, ◌+◌, ◌-◌, ◌<◌, ◌≤◌, Bool, true, false, cond, not, List, [], ◌∷◌, ◌++◌, reverse, length, get_or, take, drop, refl, sym, ap, ◌∙◌, arith, append_assoc}
+use Rattle.std.proofs.Common.{◌≡◌, ℕ, zero, suc, ◌+◌, ◌-◌, ◌<◌, ◌≤◌, Bool, true, false, cond, not, List, [], ◌∷◌, ◌++◌, reverse, length, get_or, take, drop, refl, sym, ap, ◌∙◌, arith, append_assoc}
 use Rattle.std.specs.List.{slice_split, onto_first, filter}
 use Rattle.std.proofs.lemmas.List.{drop_more, drop_all, take_more, take_all, take_rest, append-nil, length-take, length-drop, reverse-append, reverse-reverse}
 use Rattle.text_parts.specs.Lines.{is_newline, is_space, is_empty, lines_of, fields_of, before, from, trim_start, trim_end}
@@ -58,6 +58,26 @@ scan_all p xs i le s =
       sym (append-nil xs) ∙ ap (λ (t : List ℕ). t ++ []) (sym (take_all i xs le)) ∙ ap (λ (t : List ℕ). take i xs ++ before p t) (sym d) ∙ s.front,
       sym (ap (from p) d) ∙ s.rest,
     )
+
+-- a cut at the first byte that passes, where a search found it
+not_true : (b : Bool) → (b ≡ true → ⊥) → b ≡ false
+not_true true h = absurd (h refl)
+not_true false h = refl
+
+pub cut_first : (p : ℕ → Bool) (xs : List ℕ) (k : ℕ) → k < length xs → p (get_or xs k 0) ≡ true → ((j : ℕ) → j < k → p (get_or xs j 0) ≡ true → ⊥) → (take k xs ≡ before p xs) × (drop k xs ≡ from p xs)
+cut_first p [] k lt passes none = absurd (omega arith)
+cut_first p (x ∷ xs) zero lt passes none = (sym (before-yes p x xs passes), sym (from-yes p x xs passes))
+cut_first p (x ∷ xs) (suc k) lt passes none =
+    let fails : p x ≡ false = not_true (p x) (none 0 (omega arith)) in
+    let r = cut_first p xs k (omega arith) passes (λ j l e. none (suc j) (omega arith) e) in
+    (ap (λ (t : List ℕ). x ∷ t) r.0 ∙ sym (before-no p x xs fails), r.1 ∙ sym (from-no p x xs fails))
+
+pub cut_none : (p : ℕ → Bool) (xs : List ℕ) → ((j : ℕ) → j < length xs → p (get_or xs j 0) ≡ true → ⊥) → (xs ≡ before p xs) × ([] ≡ from p xs)
+cut_none p [] none = (refl, refl)
+cut_none p (x ∷ xs) none =
+    let fails : p x ≡ false = not_true (p x) (none 0 (omega arith)) in
+    let r = cut_none p xs (λ j l e. none (suc j) (omega arith) e) in
+    (ap (λ (t : List ℕ). x ∷ t) r.0 ∙ sym (before-no p x xs fails), r.1 ∙ sym (from-no p x xs fails))
 
 -- ---- lines
 

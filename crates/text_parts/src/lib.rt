@@ -12,6 +12,6 @@ pub use lines::{
     are_printable, cut_at, first_field, first_line, is_printable, split_lines, trim, trim_end,
     trim_start,
 };
-pub use names::Names;
+pub use names::{Names, front_of};
 pub use numbers::{MOST, number, numbers_read_back, numeral, word};
 pub use table::lookup;

@@ -2,6 +2,8 @@
 ghost use Rattle.std.specs.Prelude.{◌≡◌, ◌<◌, ◌≤◌, ◌==◌, not, [], ◌∷◌, ◌++◌, length, take, drop, IfSome, MatchOption};
 ghost use Rattle.text_parts.specs.Lines.{is_newline, is_space, is_printable, are_printable, lines_of, fields_of, before, from, trim_start as trimmed, trim_end as trimmed_end, trim as trimmed_both};
 
+use memchr::memchr;
+
 /// Is the byte one from 0x20 to 0x7E?
 pub fn is_printable(byte: u8) -> bool
     ensures { result ≡ is_printable byte }
@@ -13,7 +15,12 @@ pub fn is_printable(byte: u8) -> bool
 pub fn are_printable(line: &[u8]) -> bool
     ensures { result ≡ are_printable line.now }
 {
-    line.iter().all(|b| is_printable(*b))
+    // No early exit, so that many bytes are tested at once.
+    let mut all = true;
+    for byte in line {
+        all &= is_printable(*byte);
+    }
+    all
 }
 
 /// The text cut before the first such byte, or at its end.
@@ -56,6 +63,17 @@ pub fn trim(text: &[u8]) -> &[u8]
     trim_end(trim_start(text))
 }
 
+/// The text cut before its first newline, or at its end.
+fn cut_at_newline(text: &[u8]) -> (&[u8], &[u8])
+    ensures before { result.0.now ≡ before is_newline text.now }
+    ensures from { result.1.now ≡ from is_newline text.now }
+{
+    match memchr(b'\n', text) {
+        Some(at) => text.split_at(at),
+        None => (text, &[]),
+    }
+}
+
 /// The first line of a text, without its end, and the text after it.
 pub fn first_line(text: &[u8]) -> (&[u8], &[u8])
     requires { 0 < length text.now }
@@ -64,7 +82,7 @@ pub fn first_line(text: &[u8]) -> (&[u8], &[u8])
     ensures rest { result.1.now ≡ drop 1 (from is_newline text.now) }
     ensures shorter { length result.1.now < length text.now }
 {
-    let (line, rest) = cut_at(text, b'\n');
+    let (line, rest) = cut_at_newline(text);
     match rest {
         [] => (line, rest),
         [_, after @ ..] => (line, after),

@@ -1,6 +1,6 @@
 //! Values that are found by their names.
 ghost use Rattle.std.specs.Prelude.{◌≡◌, [], ◌∷◌, ◌++◌, OnOk};
-ghost use Rattle.text_parts.specs.Table.{lookup, FindSame, end_of as end_of_name};
+ghost use Rattle.text_parts.specs.Table.{lookup, FindSame, end_of as end_of_name, front_of as front_of_name};
 
 use std::alloc::{AllocError, Global};
 use std::collections::BTreeMap;
@@ -15,6 +15,17 @@ fn end_of(name: &[u8]) -> u64
         end = end % 0x0100_0000_0000_0000 * 256 + u64::from(*byte);
     }
     end
+}
+
+/// The first eight bytes of a name as a number, which is compared fast.
+pub fn front_of(name: &[u8]) -> u64
+    ensures { result ≡ front_of_name name.now }
+{
+    if name.len() <= 8 {
+        end_of(name)
+    } else {
+        end_of(name.split_at(8).0)
+    }
 }
 
 /// Values by their names, seen as a table that is only looked up. It takes a map's time.

@@ -7,6 +7,7 @@ ghost use Rattle.text_parts.specs.Numbers.{numeral_of, number_of, word_of};
 pub const MOST: u64 = 0x100_0000_0000;
 
 /// The number that digits stand for, of which there are any number; `MOST` where it is more.
+#[inline(always)]
 pub fn numeral(text: &[u8], radix: u32) -> Option<u64>
     requires low { 2 ≤ radix }
     requires high { radix ≤ 16 }

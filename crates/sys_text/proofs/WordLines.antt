@@ -1,0 +1,146 @@
+-- A line of words, field by field.
+use Rattle.std.proofs.Common.{◌≡◌, ℕ, zero, suc, ◌+◌, ◌*◌, ◌<◌, ◌≤◌, Bool, true, false, ltb, leb, List, [], ◌∷◌, ◌++◌, length, Option, Some, None, Ok, Err, Result, refl, sym, ap, ◌∙◌, arith, append_assoc}
+use Rattle.std.specs.Prelude.{not, ◌&&◌, is_some, codes, nat_le, OnOk, IfErr}
+use Rattle.std.specs.List.{list_all, filter_map, find}
+use Rattle.std.proofs.lemmas.Bool.{le-leb, lt-leb}
+use Rattle.std.proofs.lemmas.List.{append-nil, length-append}
+use Rattle.std.proofs.lemmas.List.Elements.{filter_map-append}
+use Rattle.std.proofs.lemmas.List.Folds.{list_all-append}
+use Rattle.text_parts.specs.Lines.{are_printable, fields_of}
+use Rattle.text_parts.specs.Numbers.{word_of}
+use Rattle.sys_text.specs.declared.stage.Kind.TheVariants.{Word}
+use Rattle.sys_text.specs.declared.stage.Stage.TheVariants.{InImage}
+use Rattle.sys_text.specs.declared.stage.Keyword.TheVariants.{Words}
+use Rattle.sys_text.specs.declared.refusal.Rule.{Rule}
+use Rattle.sys_text.specs.declared.refusal.Rule.TheVariants.{FieldCount, FieldKind, Room}
+use Rattle.sys_text.specs.declared.refusal.SystemRefused.{SystemRefused}
+use Rattle.sys_text.specs.declared.refusal.SystemRefused.TheVariants as refusals
+use Rattle.sys_text.specs.declared.state.State.{State}
+use Rattle.sys_text.specs.Kinds.{is_kind, keeps_limit}
+use Rattle.sys_text.specs.Rules.{words_in, fit_pages, broken_by, add, HasRoom}
+use Rattle.sys_text.specs.Reading.{Goes, Outside, kept, step_outside}
+use Rattle.sys_text.specs.Answers.{RefusesStep, ClosesBlock}
+use Rattle.sys_text.specs.WordLines.{IsWordsLine, lowest_of_words, RefusesBy}
+use Rattle.sys_text.proofs.Limits.{words_within}
+use Rattle.sys_text.proofs.Taking.{taken_keeps}
+
+-- the fields so far are words, and stand behind the old ones
+pub record SoFar (old new rest : List ℕ) (all : List (List ℕ)) : Type 0 where
+  pub front : List (List ℕ)
+  pub cut : front ++ fields_of rest ≡ all
+  pub are : list_all (is_kind Word) front ≡ true
+  pub words : new ≡ old ++ words_in front
+
+pub so_far_none : (old text : List ℕ) → SoFar old old text (fields_of text)
+so_far_none old text = record { front = []; cut = refl; are = refl; words = sym (append-nil old) }
+
+one_field : (field : List ℕ) (w : ℕ) → word_of field ≡ Some w → words_in (field ∷ []) ≡ w ∷ []
+one_field field w e = rw e refl
+
+one_kind : (field : List ℕ) (w : ℕ) → word_of field ≡ Some w → list_all (is_kind Word) (field ∷ []) ≡ true
+one_kind field w e = rw e refl
+
+both_true : (a b : Bool) → a ≡ true → b ≡ true → (a && b) ≡ true
+both_true a b h k = rw (h, k) refl
+
+pub so_far_more : (old new next rest after : List ℕ) (all : List (List ℕ)) (field : List ℕ) (w : ℕ) → SoFar old new rest all → fields_of rest ≡ field ∷ fields_of after → word_of field ≡ Some w → next ≡ new ++ w ∷ [] → SoFar old next after all
+so_far_more old new next rest after all field w s cut_is e next_is = record {
+  front = s.front ++ field ∷ [];
+  cut = append_assoc s.front (field ∷ []) (fields_of after) ∙ ap (λ (t : List (List ℕ)). s.front ++ t) (sym cut_is) ∙ s.cut;
+  are = list_all-append (is_kind Word) s.front (field ∷ []) ∙ both_true (list_all (is_kind Word) s.front) (list_all (is_kind Word) (field ∷ [])) s.are (one_kind field w e);
+  words = next_is ∙ ap (λ (t : List ℕ). t ++ w ∷ []) s.words ∙ append_assoc old (words_in s.front) (w ∷ []) ∙ ap (λ (t : List ℕ). old ++ t) (sym (filter_map-append word_of s.front (field ∷ []) ∙ ap (λ (t : List ℕ). words_in s.front ++ t) (one_field field w e)));
+}
+
+-- ---- a field that is no word
+
+some_fields : (front more : List (List ℕ)) (field : List ℕ) → nat_le 1 (length (front ++ field ∷ more)) ≡ true
+some_fields front more field = le-leb 1 (length (front ++ field ∷ more)) (omega (arith, length-append front (field ∷ more)))
+
+no_kind : (front more : List (List ℕ)) (field : List ℕ) → word_of field ≡ None → list_all (is_kind Word) front ≡ true → list_all (is_kind Word) (front ++ field ∷ more) ≡ false
+no_kind front more field e are = list_all-append (is_kind Word) front (field ∷ more) ∙ rw (are, e) refl
+
+pub bad_word : (old new rest after : List ℕ) (all : List (List ℕ)) (field : List ℕ) (words pages : ℕ) → SoFar old new rest all → fields_of rest ≡ field ∷ fields_of after → word_of field ≡ None → lowest_of_words words pages all ≡ Some FieldKind
+bad_word old new rest after all field words pages s cut_is e =
+    let whole : s.front ++ field ∷ fields_of after ≡ all = ap (λ (t : List (List ℕ)). s.front ++ t) (sym cut_is) ∙ s.cut in
+    rw (← whole) (rw (some_fields s.front (fields_of after) field, no_kind s.front (fields_of after) field e s.are) refl)
+
+-- ---- all fields are words
+
+pub record Read (old new : List ℕ) (all : List (List ℕ)) : Type 0 where
+  pub are : list_all (is_kind Word) all ≡ true
+  pub words : new ≡ old ++ words_in all
+  pub size : length new ≡ length old + length all
+
+words_length : (fields : List (List ℕ)) → list_all (is_kind Word) fields ≡ true → length (words_in fields) ≡ length fields
+words_length [] h = refl
+words_length (field ∷ fields) h = by_word (λ k. words_length fields k) (word_of field) refl
+  where
+    by_word : (list_all (is_kind Word) fields ≡ true → length (words_in fields) ≡ length fields) → (o : Option ℕ) → word_of field ≡ o → length (words_in (field ∷ fields)) ≡ length (field ∷ fields)
+    by_word next None e = let f = rw e at h in absurd cc
+    by_word next (Some w) e = let f = rw e at h in rw e (omega (arith, next f))
+
+pub read_all : (old new rest : List ℕ) (all : List (List ℕ)) → SoFar old new rest all → fields_of rest ≡ [] → Read old new all
+read_all old new rest all s none =
+    let whole : s.front ≡ all = sym (append-nil s.front) ∙ ap (λ (t : List (List ℕ)). s.front ++ t) (sym none) ∙ s.cut in
+    let are : list_all (is_kind Word) all ≡ true = ap (list_all (is_kind Word)) (sym whole) ∙ s.are in
+    let words : new ≡ old ++ words_in all = s.words ∙ ap (λ (t : List (List ℕ)). old ++ words_in t) whole in
+    record { are = are; words = words; size = ap length words ∙ length-append old (words_in all) ∙ ap (λ (k : ℕ). length old + k) (words_length all are) }
+
+pub no_fields : (old new : List ℕ) (all : List (List ℕ)) (pages : ℕ) → Read old new all → length new ≡ length old → lowest_of_words (length old) pages all ≡ Some FieldCount
+no_fields old new all pages r same = by_fields all (omega (arith, r.size, same))
+  where
+    by_fields : (fields : List (List ℕ)) → length fields ≡ 0 → lowest_of_words (length old) pages fields ≡ Some FieldCount
+    by_fields [] e = refl
+    by_fields (field ∷ fields) e = absurd (omega (arith, e))
+
+some_of : (old new : List ℕ) (all : List (List ℕ)) → Read old new all → (length new ≡ length old → ⊥) → nat_le 1 (length all) ≡ true
+some_of old new all r differ = le-leb 1 (length all) (at_least (length all) refl)
+  where
+    at_least : (k : ℕ) → length all ≡ k → 1 ≤ k
+    at_least zero e = absurd (differ (r.size ∙ ap (λ (n : ℕ). length old + n) e ∙ omega arith))
+    at_least (suc k) e = omega arith
+
+pub no_room : (old new : List ℕ) (all : List (List ℕ)) (pages : ℕ) → Read old new all → (length new ≡ length old → ⊥) → 64 * pages < length new → lowest_of_words (length old) pages all ≡ Some Room
+no_room old new all pages r differ over =
+    let many : nat_le (length old + length all) (64 * pages) ≡ false = lt-leb (length old + length all) (64 * pages) (omega (arith, over, r.size)) in
+    rw (some_of old new all r differ, r.are, many) refl
+
+pub in_room : (old new : List ℕ) (all : List (List ℕ)) (pages : ℕ) → Read old new all → (length new ≡ length old → ⊥) → length new ≤ 64 * pages → lowest_of_words (length old) pages all ≡ None
+in_room old new all pages r differ fits =
+    let few : nat_le (length old + length all) (64 * pages) ≡ true = le-leb (length old + length all) (64 * pages) (omega (arith, fits, r.size)) in
+    rw (some_of old new all r differ, r.are, few) refl
+
+-- ---- what the line leads to
+
+pub words_rules : (state : State) (line rest : List ℕ) → IsWordsLine state.stage line rest → broken_by state line ≡ lowest_of_words (length state.open_image.words) state.open_image.pages (fields_of rest)
+words_rules state line rest w = rw (w.printable, w.fields, w.in_image, sym (words_within state.system.clusters (fields_of rest))) refl
+
+words_kept : (state : State) (line rest : List ℕ) → IsWordsLine state.stage line rest → kept state (fields_of line) ≡ (add state Words (fields_of rest), false)
+words_kept state line rest w = rw (w.fields, w.in_image) refl
+
+pub words_go : (state : State) (n : ℕ) (line rest : List ℕ) → IsWordsLine state.stage line rest → lowest_of_words (length state.open_image.words) state.open_image.pages (fields_of rest) ≡ None → step_outside state n line ≡ Goes (Outside (add state Words (fields_of rest)))
+words_go state n line rest w none =
+    let broken : broken_by state line ≡ None = words_rules state line rest w ∙ none in
+    rw (broken, words_kept state line rest w) refl
+
+pub words_refused : (state : State) (n : ℕ) (line rest : List ℕ) (refused : SystemRefused) → IsWordsLine state.stage line rest → RefusesBy refused n (lowest_of_words (length state.open_image.words) state.open_image.pages (fields_of rest)) → RefusesStep refused (step_outside state n line)
+words_refused state n line rest (refusals.BadLine at rule) w by =
+    let broken : broken_by state line ≡ Some by.0 = words_rules state line rest w ∙ by.1 in
+    (by.0, rw (broken, by.2) refl, by.3)
+words_refused state n line rest refusals.NoMemory w by = tt
+
+-- the state where the words of the open image are these
+abbrev pub with_words : State → List ℕ → State
+with_words state words = record { stage = state.stage; system = state.system; open_image = record { name = state.open_image.name; pages = state.open_image.pages; words = words } }
+
+pub words_step : (state : State) (n : ℕ) (line rest : List ℕ) (r : Result (Unit {0}) SystemRefused) (new : List ℕ) → IsWordsLine state.stage line rest
+    → OnOk r (new ≡ state.open_image.words ++ words_in (fields_of rest)) → OnOk r (lowest_of_words (length state.open_image.words) state.open_image.pages (fields_of rest) ≡ None)
+    → IfErr r (λ refused. RefusesBy refused n (lowest_of_words (length state.open_image.words) state.open_image.pages (fields_of rest))) → ClosesBlock r (with_words state new) (step_outside state n line)
+words_step state n line rest (Ok done) new w added none by = rw added (words_go state n line rest w none)
+words_step state n line rest (Err refused) new w added none by = words_refused state n line rest refused w by
+
+pub words_room : (state : State) (line rest : List ℕ) (r : Result (Unit {0}) SystemRefused) (new : List ℕ) → IsWordsLine state.stage line rest → HasRoom state
+    → OnOk r (new ≡ state.open_image.words ++ words_in (fields_of rest)) → OnOk r (lowest_of_words (length state.open_image.words) state.open_image.pages (fields_of rest) ≡ None) → OnOk r (HasRoom (with_words state new))
+words_room state line rest (Ok done) new w room added none =
+    rw added (taken_keeps state (add state Words (fields_of rest)) line false (words_rules state line rest w ∙ none) (words_kept state line rest w) room)
+words_room state line rest (Err refused) new w room added none = tt

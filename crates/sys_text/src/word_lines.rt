@@ -1,0 +1,70 @@
+//! Lines of words, of which a long text has most: each field is read once, as it is cut off.
+ghost use Rattle.std.specs.Prelude.{◌≡◌, ◌++◌, None, OnOk, IfErr, IfSome, length, codes};
+ghost use Rattle.std.specs.Str.{bytes_eq};
+ghost use Rattle.text_parts.specs.Lines.{fields_of};
+ghost use Rattle.sys_text.specs.Rules.{words_in};
+ghost use Rattle.sys_text.specs.WordLines.{IsWordsLine, lowest_of_words, RefusesBy};
+
+use crate::refusal::{Rule, SystemRefused};
+use crate::stage::Stage;
+use t32_base::lists::List;
+use text_parts::{are_printable, first_field, word};
+
+fn is_words(field: &[u8]) -> bool
+    ensures { result ≡ bytes_eq field.now (codes "words") }
+{
+    field == b"words".as_slice()
+}
+
+/// What stands after `words`, where the line is one of words in an open image.
+pub fn after_words<'a>(stage: Stage, line: &'a [u8]) -> Option<&'a [u8]>
+    ensures { IfSome result (λ rest. IsWordsLine stage line.now rest.now) }
+{
+    let Stage::InImage = stage else {
+        return None;
+    };
+    let (field, rest) = first_field(line)?;
+    if is_words(field) && are_printable(line) {
+        Some(rest)
+    } else {
+        None
+    }
+}
+
+/// Reads the words of line `number` behind those so far of an image of so many pages.
+pub fn read_words(
+    words: &mut List<u32>,
+    pages: u16,
+    number: u64,
+    fields: &[u8],
+) -> Result<(), SystemRefused>
+    ensures words { OnOk result (words.new ≡ words.old ++ words_in (fields_of fields.now)) }
+    ensures kept { OnOk result (lowest_of_words (length words.old) pages (fields_of fields.now) ≡ None) }
+    ensures refused { IfErr result (λ refused. RefusesBy refused number (lowest_of_words (length words.old) pages (fields_of fields.now))) }
+{
+    let before = words.len();
+    let mut rest = fields;
+    'fields: while let Some((field, after)) = first_field(rest) {
+        let Some(value) = word(field) else {
+            return Err(refused(number, Rule::FieldKind));
+        };
+        words.push(value)?;
+        rest = after;
+    }
+    if words.len() == before {
+        return Err(refused(number, Rule::FieldCount));
+    }
+    if words.len() > 64 * usize::from(pages) {
+        return Err(refused(number, Rule::Room));
+    }
+    Ok(())
+}
+
+fn refused(line: u64, rule: Rule) -> SystemRefused
+    ensures { RefusesBy result line (Some rule) }
+{
+    SystemRefused::BadLine {
+        line,
+        rule: rule.number(),
+    }
+}
