@@ -1,8 +1,7 @@
 -- The processes that are here, as they are held, and what an entry makes of them.
-use Rattle.std.proofs.Common.{◌≡◌, ℕ, ◌+◌, refl, sym, ◌∙◌, ap, List, [], ◌∷◌, map, Bool, true, false, cond, not, ◌||◌, eqb, eqb-true, eq-eqb, Option, Some, None, true≢false}
+use Rattle.std.proofs.Common.{◌≡◌, ℕ, refl, sym, ◌∙◌, ap, List, [], ◌∷◌, map, Bool, true, false, cond, not, ◌||◌, eqb, eqb-true, eq-eqb, Option, Some, None, true≢false}
 use Rattle.std.specs.Prelude.{filter, find, option_map}
-use Rattle.std.specs.List.{list_any, sum_by}
-use Rattle.std.proofs.lemmas.List.Sums.{sum_by-cons}
+use Rattle.std.specs.List.{list_any}
 use Rattle.t32_base.specs.declared.process.Pid.{Pid}
 use Rattle.t32_base.specs.declared.letter.Letter.{Letter}
 use Rattle.proc_state.specs.declared.process.Process.{Process}
@@ -15,8 +14,8 @@ use Rattle.bus_msg.specs.Places.{same_pid}
 use Rattle.cert_sched.specs.Deeds.{is_end_of}
 use Rattle.cert_sched.proofs.StepLaws.{Tells}
 use Rattle.cert_sched.proofs.MailLaws.{with_arrival}
-use Rattle.cluster_core.specs.View.{ClusterView, Held, Runs, arrived, arrived_held, held_at, held_load}
-use Rattle.cluster_core.specs.Residents.{process_in, with_changed, residents_after, load_in, pids_in}
+use Rattle.cluster_core.specs.View.{ClusterView, Held, Runs, arrived, arrived_held, held_at}
+use Rattle.cluster_core.specs.Residents.{process_in, with_changed, residents_after, pids_in}
 use Rattle.cluster_core.specs.Parts.{held_in}
 use Rattle.cluster_core.specs.Calls.{here_after}
 
@@ -306,10 +305,3 @@ found_changed p now (e ∷ rs) q s at = by_tests (same_pid e.0 p) (same_pid e.0 
     by_tests false false is other at more =
         let rest = more (sym (ap (λ b. option_map (λ (e : Pid × Process). e.1) (cond b (Some e) (find (λ (e : Pid × Process). same_pid e.0 q) (with_changed p now rs)))) other) ∙ at) in
         record { was = rest.was; there = skip (same_pid e.0 q) refl other ∙ rest.there; here = rest.here }
-
--- ---- what is left to do
-
-pub load_same : (rs : List (Pid × Process)) → sum_by (λ (e : Pid × Held). held_load e.1) (held_in rs) ≡ load_in rs
-load_same [] = refl
-load_same (e ∷ rs) =
-    sum_by-cons (λ (e : Pid × Held). held_load e.1) (e.0, Runs e.1) (held_in rs) ∙ ap (λ n. held_load (Runs e.1) + n) (load_same rs) ∙ sym (sum_by-cons (λ (e : Pid × Process). held_load (Runs e.1)) e rs)

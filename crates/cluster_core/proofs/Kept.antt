@@ -1,6 +1,6 @@
 -- The processes of a cluster in their slots stay as they have to: what is kept over a write, a removal and one more.
-use Rattle.std.proofs.Common.{◌≡◌, ℕ, ◌+◌, ◌≤◌, ◌<◌, Bool, true, false, cond, not, ◌||◌, ◌&&◌, eqb, ltb, eqb-true, eq-eqb, ne_eqb, List, [], ◌∷◌, ◌++◌, map, find, length, refl, sym, ap, subst, ◌∙◌, arith, Option, Some, None, IsSome, is_some, true≢false, append_assoc}
-use Rattle.std.specs.Prelude.{filter, Result, Ok, Err, IfOk, OnOk, slice_get, slice_index_or, IfSome}
+use Rattle.std.proofs.Common.{◌≡◌, ℕ, ◌<◌, Bool, true, false, cond, not, ◌||◌, ◌&&◌, eqb, ltb, eqb-true, eq-eqb, ne_eqb, List, [], ◌∷◌, ◌++◌, map, find, length, refl, sym, ap, subst, ◌∙◌, arith, Option, Some, None, IsSome, is_some, true≢false, append_assoc}
+use Rattle.std.specs.Prelude.{filter, Result, Ok, Err, OnOk, slice_get, slice_index_or, IfSome}
 use Rattle.std.specs.Borrow.{Bor}
 use Rattle.std.specs.BTreeMap.Range.{range_contains}
 use Rattle.std.specs.declared.ops.Bound.TheVariants.{Excluded, Unbounded}
@@ -22,20 +22,19 @@ use Rattle.t32_base.specs.declared.letter.To.{To}
 use Rattle.t32_base.specs.declared.letter.To.TheVariants.{Tty}
 use Rattle.cert_sched.specs.Deeds.{is_end_of}
 use Rattle.cluster_core.specs.View.{arrived}
-use Rattle.sys_calls.specs.Small.{weight}
 use Rattle.sys_calls.specs.Next.{next_step, has_step}
 use Rattle.bus_msg.specs.Places.{same_pid}
 use Rattle.plain_kernel.specs.Maps.{at_key, pid_of}
 use Rattle.plain_kernel.proofs.Entries.{some_same}
 use Rattle.cert_sched.specs.Parts.{first_of}
 use Rattle.cert_sched.proofs.RisingLaws.{NoTwo, either_not}
-use Rattle.cluster_core.specs.Residents.{is_stuck, are_rising, are_stuck, pids_in, steps_in, load_in, next_ready}
+use Rattle.cluster_core.specs.Residents.{is_stuck, are_rising, are_stuck, pids_in, steps_in, next_ready}
 use Rattle.cluster_core.specs.Slots.{in_slot, stands_in, IsSlot, IsKept}
 use Rattle.t32_base.specs.declared.streams.NoMemory.{NoMemory}
 use Rattle.cluster_core.specs.declared.turn.Turn.{Turn}
 use Rattle.cluster_core.specs.declared.turn.Turn.TheVariants.{Moved, Sends, Rests}
-use Rattle.cluster_core.specs.Turn.{is_stuck_at, ProcessTurn, TakesTurn, GivenTurnIs, LighterProcess, LighterTurn}
-use Rattle.cluster_core.proofs.Slots.{IsOne, all_more, all_put_last, all_removed, all_with, at_key_is, both_true, entry_goes, later_is_other, load_written, no_entry, nobody_changed, none_not_some, not_true, one_key, pids, process_there, slot_keys, taken_out, turned, written}
+use Rattle.cluster_core.specs.Turn.{is_stuck_at, ProcessTurn, TakesTurn, GivenTurnIs}
+use Rattle.cluster_core.proofs.Slots.{IsOne, all_more, all_put_last, all_removed, all_with, at_key_is, both_true, entry_goes, later_is_other, no_entry, nobody_changed, none_not_some, not_true, one_key, pids, process_there, slot_keys, taken_out, turned, written}
 
 -- ---- what is kept
 
@@ -374,18 +373,6 @@ given_turn slots new n key keys ready was now old (Ok (Sends sending)) kept foun
 given_turn slots new n key keys ready was now old (Ok Rests) kept found there updates same turn =
     (ap (is_stuck_at (pid_of n)) (sym same) ∙ stuck_there slots n key was keys (one_key n key keys kept.ordered kept.apart found) there turn.0, written_back slots new key was now keys there updates turn.1 ∙ same)
 given_turn slots new n key keys ready was now old (Err fault) kept found there updates same turn = written_back slots new key was now keys there updates turn ∙ same
-
-less_load : (slots new : Slab Process) (n key : ℕ) (keys : List (ℕ × ℕ)) (ready : List ℕ) (was now : Process) (old : List (Pid × Process)) → IsKept slots keys ready → lookup (at_key n) keys ≡ Some key → get slots key ≡ Some was → Updates slots new key (Some now)
-    → stands_in slots keys ≡ old → weight now.small + 1 ≤ weight was.small → load_in (stands_in new keys) + 1 ≤ load_in old
-less_load slots new n key keys ready was now old kept found there updates same lighter =
-    omega (arith, lighter, ap load_in same, load_written slots new n key was now keys found kept.apart there updates)
-
-pub given_lighter : (slots new : Slab Process) (n key : ℕ) (keys : List (ℕ × ℕ)) (ready : List ℕ) (was now : Process) (old : List (Pid × Process)) (r : Result Turn NoMemory)
-    → IsKept slots keys ready → lookup (at_key n) keys ≡ Some key → get slots key ≡ Some was → Updates slots new key (Some now) → stands_in slots keys ≡ old → IfOk r (λ turn. LighterProcess turn was now) → IfOk r (λ turn. LighterTurn turn old (stands_in new keys))
-given_lighter slots new n key keys ready was now old (Ok Moved) kept found there updates same lighter = less_load slots new n key keys ready was now old kept found there updates same lighter
-given_lighter slots new n key keys ready was now old (Ok (Sends sending)) kept found there updates same lighter = less_load slots new n key keys ready was now old kept found there updates same lighter
-given_lighter slots new n key keys ready was now old (Ok Rests) kept found there updates same lighter = tt
-given_lighter slots new n key keys ready was now old (Err fault) kept found there updates same lighter = tt
 
 -- a process goes with its entry
 pub goes : (slots new : Slab Process) (n key : ℕ) (keys : List (ℕ × ℕ)) (ready : List ℕ) → IsKept slots keys ready → lookup (at_key n) keys ≡ Some key → Updates slots new key None

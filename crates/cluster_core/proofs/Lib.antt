@@ -12,3 +12,5 @@ pub mod Owning
 pub mod Working
 pub mod Resting
 pub mod Turning
+pub mod Weighing
+pub mod Lightening

@@ -1,5 +1,5 @@
 -- What a turn of its processes makes of a cluster.
-use Rattle.std.proofs.Common.{◌≡◌, ℕ, ◌+◌, ◌<◌, ◌≤◌, refl, sym, ◌∙◌, ap, subst, arith, List, [], true, false, Ok, eq-eqb}
+use Rattle.std.proofs.Common.{◌≡◌, ℕ, ◌<◌, refl, sym, ◌∙◌, ap, subst, List, [], true, false, Ok, eq-eqb}
 use Rattle.t32_base.specs.declared.process.Pid.{Pid}
 use Rattle.proc_state.specs.declared.process.Process.{Process}
 use Rattle.sys_calls.specs.declared.steps.Emission.{Emission}
@@ -15,13 +15,12 @@ use Rattle.cluster_core.specs.declared.turn.Sending.{Sending}
 use Rattle.cluster_core.specs.declared.turn.Turn.{Turn}
 use Rattle.cluster_core.specs.declared.turn.Turn.TheVariants.{Moved as TurnMoved, Sends, Rests as TurnRests}
 use Rattle.cluster_core.specs.declared.worked.Worked.TheVariants.{Moved, Queued, Rests}
-use Rattle.cluster_core.specs.View.{ClusterView, counted_once, load}
+use Rattle.cluster_core.specs.View.{ClusterView, counted_once}
 use Rattle.plain_kernel.specs.Maps.{pid_of}
-use Rattle.cluster_core.specs.Residents.{ResidentsView, load_in}
+use Rattle.cluster_core.specs.Residents.{ResidentsView}
 use Rattle.cluster_core.specs.Parts.{held_in, AllOwn}
 use Rattle.cluster_core.specs.Calls.{GoesOn, WorkIs}
 use Rattle.cluster_core.specs.Turn.{TurnIs, post_told}
-use Rattle.cluster_core.proofs.Here.{load_same}
 use Rattle.cluster_core.proofs.Owning.{own_at, own_changed, own_moved, own_sent}
 use Rattle.cluster_core.proofs.Working.{moved_view, posted_view, moved_goes_on, moved_work, posted_goes_on, posted_work, goes_on_rested, rested}
 
@@ -89,11 +88,3 @@ posted_turn c old new sending post told here empty own differ has turn =
 
 pub rested_turn : (c : ClusterView) (old new : ResidentsView) → c.here ≡ held_in old.here → AllOwn c.cursor old.here → TurnIs old (Ok TurnRests) new → (held_in new.here ≡ c.here) × GoesOn c (counted_once c) × WorkIs c Rests (counted_once c)
 rested_turn c old new here own turn = (ap held_in turn.1 ∙ sym here, goes_on_rested c, rested c old.here here own turn.0)
-
--- ---- what is left to do
-
-pub lighter_view : (c : ClusterView) (old new : List (Pid × Process)) (d : ClusterView) → c.here ≡ held_in old → d.here ≡ held_in new → load_in new + 1 ≤ load_in old → load d + 1 ≤ load c
-lighter_view c old new d here now less =
-    let before : load c ≡ load_in old = ap (λ hs. load (record c { here = hs })) here ∙ load_same old in
-    let after : load d ≡ load_in new = ap (λ hs. load (record d { here = hs })) now ∙ load_same new in
-    omega (arith, before, after, less)

@@ -1,11 +1,9 @@
 -- A quantum of a process: silent steps, and at most one emission at their end.
-use Rattle.std.specs.Prelude.{ℕ, ◌+◌, ◌≤◌, ◌<◌, ◌≡◌, false, Some, Result, Ok, Err, ⊤}
+use Rattle.std.specs.Prelude.{ℕ, ◌≤◌, ◌<◌, ◌≡◌, false, Some, Result, Ok, Err}
 use Rattle.t32_base.specs.declared.streams.NoMemory.{NoMemory}
 use Rattle.proc_state.specs.declared.process.Process.{Process}
 use Rattle.proc_state.specs.State.{ProcState, state_of}
 use Rattle.sys_calls.specs.declared.steps.Emission.{Emission}
-use Rattle.t32_base.specs.Small.{SmallState}
-use Rattle.sys_calls.specs.Small.{weight}
 use Rattle.sys_calls.specs.Calls.{Emits}
 use Rattle.sys_calls.specs.Next.{next_step, has_step, silently}
 use Rattle.cluster_core.specs.declared.quantum.Quantum.{Quantum}
@@ -37,9 +35,3 @@ RunsQuantum most old (Err fault) new = new ≡ old
 abbrev pub MovesOrTells : ℕ → Result Quantum NoMemory → Type 0
 MovesOrTells made (Ok q) = (1 ≤ made) × (q ≡ Moved)
 MovesOrTells made (Err fault) = made ≡ 0
-
--- of the steps that a process has left at most, those that it made are gone
-abbrev pub IsLighter : Quantum → SmallState → SmallState → Type 0
-IsLighter Moved old new = weight new + 1 ≤ weight old
-IsLighter (Sent e) old new = weight new + 1 ≤ weight old
-IsLighter Stuck old new = ⊤

@@ -1,11 +1,10 @@
 -- The processes at home in a cluster, as its code keeps them.
 use Rattle.std.specs.Prelude.{ℕ, ◌≡◌, ◌<◌, ◌-◌, ◌^◌, Bool, true, not, ◌&&◌, nat_lt, if◌then◌else◌, List, [], ◌∷◌, map, filter, find, Option, Some, option_map}
-use Rattle.std.specs.List.{list_all, sum_by}
+use Rattle.std.specs.List.{list_all}
 use Rattle.std.specs.Option.{option_or}
 use Rattle.t32_base.specs.declared.process.Pid.{Pid}
 use Rattle.proc_state.specs.declared.process.Process.{Process}
 use Rattle.proc_state.specs.State.{state_of}
-use Rattle.sys_calls.specs.Small.{weight}
 use Rattle.sys_calls.specs.Next.{next_step, has_step}
 use Rattle.bus_msg.specs.declared.entry.What.{What}
 use Rattle.bus_msg.specs.declared.entry.What.TheVariants.{Mail, Exit}
@@ -61,10 +60,6 @@ are_rising (n ∷ ns) = list_all (λ m. nat_lt n m) ns && are_rising ns
 -- each with its steps
 abbrev pub steps_in : List (Pid × Process) → List (Pid × ℕ)
 steps_in here = map (λ (e : Pid × Process). (e.0, ((e.1).small).steps)) here
-
--- the most steps that they have left
-abbrev pub load_in : List (Pid × Process) → ℕ
-load_in here = sum_by (λ (e : Pid × Process). weight (e.1).small) here
 
 -- of these pids, the next in rising order after the one that was chosen last, cyclically
 abbrev pub next_ready : List ℕ → ℕ → Option ℕ

@@ -1,5 +1,5 @@
 -- A turn of one of the processes of a cluster.
-use Rattle.std.specs.Prelude.{ℕ, ◌+◌, ◌≤◌, ◌≡◌, Bool, true, false, not, ◌||◌, List, Some, Result, Ok, Err, ⊤}
+use Rattle.std.specs.Prelude.{ℕ, ◌≡◌, Bool, true, false, not, ◌||◌, List, Some, Result, Ok, Err}
 use Rattle.std.specs.List.{list_all}
 use Rattle.t32_base.specs.declared.process.Pid.{Pid}
 use Rattle.t32_base.specs.declared.process.ClusterNo.{ClusterNo}
@@ -7,7 +7,6 @@ use Rattle.t32_base.specs.declared.streams.NoMemory.{NoMemory}
 use Rattle.proc_state.specs.State.{state_of}
 use Rattle.sys_calls.specs.declared.steps.Emission.{Emission}
 use Rattle.sys_calls.specs.declared.steps.Emission.TheVariants.{Mail as Sent, Exit as Ended}
-use Rattle.sys_calls.specs.Small.{weight}
 use Rattle.sys_calls.specs.Next.{next_step, has_step}
 use Rattle.bus_msg.specs.declared.entry.What.{What}
 use Rattle.bus_msg.specs.declared.entry.What.TheVariants.{Mail, Exit}
@@ -20,7 +19,7 @@ use Rattle.cluster_core.specs.declared.turn.Turn.{Turn}
 use Rattle.cluster_core.specs.declared.turn.Turn.TheVariants.{Moved, Sends, Rests}
 use Rattle.cluster_core.specs.Quantum.{RunsSome, RunsAndSends}
 use Rattle.plain_kernel.specs.Maps.{pid_of}
-use Rattle.cluster_core.specs.Residents.{ResidentsView, process_in, with_changed, is_stuck, are_stuck, load_in, next_ready, pids_able}
+use Rattle.cluster_core.specs.Residents.{ResidentsView, process_in, with_changed, is_stuck, are_stuck, next_ready, pids_able}
 
 -- what is posted of an emission by the step `at`
 abbrev pub told_of : Pid → ℕ → Emission → What
@@ -43,12 +42,6 @@ ProcessTurn pid old (Ok (Sends sending)) new = HasSent pid old sending new
 ProcessTurn pid old (Ok Rests) new = (has_step (next_step (state_of old)) ≡ false) × (new ≡ old)
 ProcessTurn pid old (Err fault) new = new ≡ old
 
--- of the steps that the process has left at most, those that it made are gone
-abbrev pub LighterProcess : Turn → Process → Process → Type 0
-LighterProcess Moved old new = weight new.small + 1 ≤ weight old.small
-LighterProcess (Sends sending) old new = weight new.small + 1 ≤ weight old.small
-LighterProcess Rests old new = ⊤
-
 -- ---- one of the processes of a cluster
 
 -- the process with a pid had a turn, and the others stayed
@@ -70,12 +63,6 @@ TurnIs old (Ok Moved) new = ChosenTurn old Moved new
 TurnIs old (Ok (Sends sending)) new = ChosenTurn old (Sends sending) new
 TurnIs old (Ok Rests) new = (are_stuck old.here ≡ true) × (new.here ≡ old.here) × (new.last ≡ old.last)
 TurnIs old (Err fault) new = new.here ≡ old.here
-
--- of the steps that all have left at most, those that were made are gone
-abbrev pub LighterTurn : Turn → List (Pid × Process) → List (Pid × Process) → Type 0
-LighterTurn Moved old new = load_in new + 1 ≤ load_in old
-LighterTurn (Sends sending) old new = load_in new + 1 ≤ load_in old
-LighterTurn Rests old new = ⊤
 
 -- ---- the process with a pid
 

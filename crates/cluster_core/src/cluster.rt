@@ -5,7 +5,7 @@ ghost use Rattle.std.specs.Arc.{arc_value};
 ghost use Rattle.sys_text.specs.Valid.{is_system};
 ghost use Rattle.cluster_core.specs.View.{head_of, after_sent, counted_once, tried_once};
 ghost use Rattle.cluster_core.specs.Follows.{FollowsBuilt};
-ghost use Rattle.cluster_core.specs.Calls.{Absorbs, absorbed, FollowsSome, GoesOn, is_resting, IsFirst, KeepsPlace, Lightens, ReadyFor, RestsIn, rests_of, WorkIs};
+ghost use Rattle.cluster_core.specs.Calls.{Absorbs, absorbed, FollowsSome, GoesOn, is_resting, IsFirst, KeepsPlace, ReadyFor, RestsIn, rests_of, WorkIs};
 
 use crate::booting::residents_at_boot;
 use crate::residents::Residents;
@@ -163,7 +163,6 @@ impl Cluster {
         requires follows { FollowsSome self.old }
         ensures follows { OnOk result (GoesOn self.old self.new) }
         ensures work { IfOk result (λ worked. WorkIs self.old worked self.new) }
-        ensures lighter { IfOk result (λ worked. Lightens self.old worked self.new) }
         ensures place { OnOk result (KeepsPlace self.old self.new) }
     {
         let _count = self.places.len();

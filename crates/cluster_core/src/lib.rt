@@ -5,5 +5,6 @@ pub mod booting;
 pub mod cluster;
 pub mod quantum;
 pub mod residents;
+pub mod steps_left;
 pub mod turn;
 pub mod worked;

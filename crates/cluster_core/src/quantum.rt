@@ -1,6 +1,6 @@
 //! A quantum of a process.
-ghost use Rattle.std.specs.Prelude.{◌≡◌, ◌==◌, if◌then◌else◌, IfOk};
-ghost use Rattle.cluster_core.specs.Quantum.{IsLighter, MovesOrTells, RunsQuantum};
+ghost use Rattle.std.specs.Prelude.{◌≡◌, ◌==◌, if◌then◌else◌};
+ghost use Rattle.cluster_core.specs.Quantum.{MovesOrTells, RunsQuantum};
 
 use proc_state::process::Process;
 use std::alloc::Global;
@@ -22,8 +22,7 @@ pub const MOST: u32 = 64;
 /// Makes at most 64 steps of a process, up to one that sends something, or up to a read that waits. A later
 /// step for which memory is refused is not made; where it is the first, nothing has changed.
 pub fn run_quantum(alloc: Global, p: &mut Process) -> Result<Quantum, NoMemory>
-    ensures runs { RunsQuantum 64 p.old result p.new }
-    ensures lighter { IfOk result (λ q. IsLighter q p.old.small p.new.small) }
+    ensures { RunsQuantum 64 p.old result p.new }
 {
     let mut made = run_instructions(p, MOST);
     'steps: while made < MOST {

@@ -4,7 +4,7 @@ ghost use Rattle.std.specs.List.{list_all, list_any};
 ghost use Rattle.bus_msg.specs.Places.{same_pid};
 ghost use Rattle.plain_kernel.specs.Maps.{at_key, pid_of};
 ghost use Rattle.cluster_core.specs.Residents.{HasRoom, NextAble, are_rising, are_stuck, next_ready, pids_in, residents_after, steps_in};
-ghost use Rattle.cluster_core.specs.Turn.{GivenTurnIs, is_stuck_at, LighterTurn, TurnIs};
+ghost use Rattle.cluster_core.specs.Turn.{GivenTurnIs, is_stuck_at, TurnIs};
 ghost use Rattle.cluster_core.specs.View.{arrived};
 
 use crate::turn::{Turn, process_turn, steps_of};
@@ -72,8 +72,7 @@ impl Residents {
     /// Lets the next process that has a step run for a quantum: the next one in rising pid order after the
     /// one that was chosen last, cyclically. After want of memory no process has changed.
     pub fn take_turn(&mut self, alloc: Global) -> Result<Turn, NoMemory>
-        ensures turn { TurnIs self.old result self.new }
-        ensures lighter { IfOk result (λ turn. LighterTurn turn self.old.here self.new.here) }
+        ensures { TurnIs self.old result self.new }
     {
         'choices: while let Some(pid) = self.next() {
             match self.give_turn(alloc, pid)? {
@@ -104,7 +103,6 @@ impl Residents {
     fn give_turn(&mut self, alloc: Global, pid: u32) -> Result<Turn, NoMemory>
         requires { list_any (at_key pid) self.old.ready ≡ true }
         ensures turn { GivenTurnIs (pid_of pid) self.old.here result self.new.here }
-        ensures lighter { IfOk result (λ turn. LighterTurn turn self.old.here self.new.here) }
         ensures ready { self.new.ready ≡ self.old.ready }
         ensures last { self.new.last ≡ self.old.last }
     {

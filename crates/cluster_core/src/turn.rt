@@ -1,6 +1,6 @@
 //! A turn of a process.
-ghost use Rattle.std.specs.Prelude.{◌≡◌, IfOk};
-ghost use Rattle.cluster_core.specs.Turn.{LighterProcess, post_told, ProcessTurn};
+ghost use Rattle.std.specs.Prelude.{◌≡◌};
+ghost use Rattle.cluster_core.specs.Turn.{post_told, ProcessTurn};
 
 use crate::quantum::{Quantum, run_quantum};
 use bus_msg::entry::{By, Post, What};
@@ -29,8 +29,7 @@ pub struct Sending {
 
 /// Lets a process run for a quantum. After want of memory nothing has changed.
 pub fn process_turn(alloc: Global, pid: Pid, process: &mut Process) -> Result<Turn, NoMemory>
-    ensures turn { ProcessTurn pid process.old result process.new }
-    ensures lighter { IfOk result (λ turn. LighterProcess turn process.old process.new) }
+    ensures { ProcessTurn pid process.old result process.new }
 {
     match run_quantum(alloc, process)? {
         Quantum::Moved => Ok(Turn::Moved),
