@@ -88,7 +88,7 @@ homes_apart system log k valid legal =
 held_apart : (c : ClusterView) → is_system c.system ≡ true → FollowsSome c → NoTwo (pids_held c.here)
 held_apart c valid f =
     apart_unsorted (pids_held c.here)
-    (subst NoTwo (sym ((f.follows).each_once)) (rising-apart (home_pids c.system f.log c.number) (homes_apart c.system f.log c.number valid (f.open_log).0)))
+    (subst NoTwo (sym (((f.follows).processes).each_once)) (rising-apart (home_pids c.system f.log c.number) (homes_apart c.system f.log c.number valid (f.open_log).0)))
 
 -- ---- one of them has fewer steps left
 
