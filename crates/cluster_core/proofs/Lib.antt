@@ -14,3 +14,4 @@ pub mod Resting
 pub mod Turning
 pub mod Weighing
 pub mod Lightening
+pub mod WorkedViews
