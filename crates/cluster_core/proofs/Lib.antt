@@ -15,3 +15,4 @@ pub mod Turning
 pub mod Weighing
 pub mod Lightening
 pub mod WorkedViews
+pub mod Arriving

@@ -7,7 +7,8 @@ use Rattle.sys_calls.specs.declared.steps.Emission.TheVariants.{Mail as SentMail
 use Rattle.bus_msg.specs.declared.entry.What.{What}
 use Rattle.bus_msg.specs.declared.entry.What.TheVariants.{Mail, Birth, Exit, Page, Sync, Fetch, PageIs, Crash, Return, Rebackup, Done, Stop}
 use Rattle.bus_msg.specs.declared.entry.Post.{Post}
-use Rattle.channel_table.specs.Changes.{is_birth, pids_differ}
+use Rattle.sys_text.specs.Valid.{is_system}
+use Rattle.channel_table.specs.Changes.{is_birth}
 use Rattle.cert_sched.specs.Built.{is_built}
 use Rattle.cert_sched.specs.Losses.{is_from}
 use Rattle.t32_base.specs.declared.process.ClusterNo.{ClusterNo}
@@ -74,15 +75,15 @@ pub record PostedTurn (c : ClusterView) (new : List (Pid × Process)) (post : Po
   pub work : WorkIs c Queued (posted_view c new post)
 
 pub posted_turn : (c : ClusterView) (old new : ResidentsView) (sending : Sending) (post : Post) → post ≡ post_told c.number sending.pid sending.at sending.emission
-    → c.here ≡ held_in old.here → c.queue ≡ [] → AllOwn c.cursor old.here → pids_differ (c.places).placed ≡ true → (c.number).0 < (c.system).clusters → TurnIs old (Ok (Sends sending)) new → PostedTurn c new.here post
-posted_turn c old new sending post told here empty own differ has turn =
+    → c.here ≡ held_in old.here → c.queue ≡ [] → AllOwn c.cursor old.here → is_system c.system ≡ true → (c.number).0 < (c.system).clusters → TurnIs old (Ok (Sends sending)) new → PostedTurn c new.here post
+posted_turn c old new sending post told here empty own valid has turn =
     let pid : Pid = pid_of new.last in
     let takes = turn.takes in
     let sends = takes.turn_is in
     let mine = own_at c.cursor old.here pid takes.was own takes.there in
     let is : post ≡ post_told c.number pid ((takes.now).small).steps sending.emission = told ∙ (λ i. post_told c.number (sends.pid_is i) (sends.at_is i) sending.emission) in
     subst (λ rs. PostedTurn c rs post) (sym takes.here) (record {
-      goes_on = posted_goes_on c old.here pid takes.was takes.now post sending.emission sends.runs is here empty takes.there mine differ has;
+      goes_on = posted_goes_on c old.here pid takes.was takes.now post sending.emission sends.runs is here empty takes.there mine valid has;
       work = posted_work c old.here pid takes.was takes.now post sending.emission sends.runs is here empty takes.there mine;
     })
 

@@ -9,6 +9,7 @@ use Rattle.t32_base.specs.declared.process.Pid.{Pid}
 use Rattle.t32_base.specs.declared.process.ClusterNo.{ClusterNo}
 use Rattle.sys_text.specs.declared.system.System.{System}
 use Rattle.sys_text.specs.Boot.{roots_of}
+use Rattle.sys_text.specs.Valid.{is_system}
 use Rattle.proc_state.specs.declared.process.Process.{Process}
 use Rattle.proc_state.specs.State.{ProcState, state_of, can_take}
 use Rattle.sys_calls.specs.declared.steps.Emission.{Emission}
@@ -22,7 +23,6 @@ use Rattle.bus_msg.specs.declared.entry.Post.{Post}
 use Rattle.bus_msg.specs.declared.entry.Entry.{Entry}
 use Rattle.bus_msg.specs.declared.placed.Placed.{Placed}
 use Rattle.bus_msg.specs.Places.{Places, ClusterPlace, boot_cluster, same_pid, same_cluster}
-use Rattle.channel_table.specs.Changes.{pids_differ}
 use Rattle.cert_sched.specs.Parts.{rising}
 use Rattle.cert_sched.specs.Schedule.{placed_root, placement, process_after, done_after}
 use Rattle.cert_sched.specs.Steps.{silent_upto, emission_at, after_items}
@@ -48,7 +48,7 @@ use Rattle.cluster_core.proofs.Here.{found_changed, held_changed, held_here, is_
 use Rattle.cluster_core.proofs.Telling.{done_is}
 use Rattle.cluster_core.proofs.Quanta.{none_silent}
 use Rattle.cluster_core.proofs.Owning.{stuck_rest}
-use Rattle.cluster_core.proofs.Homes.{HomeHere, home_here}
+use Rattle.cluster_core.proofs.Homes.{HomeHere, differ_built, home_here}
 use Rattle.cluster_core.proofs.Following.{no_child}
 
 -- ---- kernel steps
@@ -330,9 +330,9 @@ module _ (c : ClusterView) (rs : List (Pid × Process)) (p : Pid) (was now : Pro
   posted_own : is_from c.number post.by ≡ true
   posted_own = ap (λ (p : Post). is_from c.number p.by) post_is ∙ eq-eqb (c.number).0 (c.number).0 refl
 
-  may_follow : (log : List Entry) → IsOpen BuiltMayFollow c.system log → FollowsBuilt c.system log c → pids_differ (c.places).placed ≡ true → (c.number).0 < (c.system).clusters → BuiltMayFollow c.system log (entry_of c.system log (post_told c.number p at e))
-  may_follow log go f differ has =
-      let home = home_here (placement c.system log) c.number (pids_held (held_in rs)) p (ap (λ (p : Places). pids_differ p.placed) (sym (f.log).places) ∙ differ) (ap (λ hs. rising (pids_held hs)) (sym here) ∙ (f.processes).each_once) (is_among rs p was there) in
+  may_follow : (log : List Entry) → IsOpen BuiltMayFollow c.system log → FollowsBuilt c.system log c → is_system c.system ≡ true → (c.number).0 < (c.system).clusters → BuiltMayFollow c.system log (entry_of c.system log (post_told c.number p at e))
+  may_follow log go f valid has =
+      let home = home_here (placement c.system log) c.number (pids_held (held_in rs)) p (differ_built c.system log valid go.0) (ap (λ hs. rising (pids_held hs)) (sym here) ∙ (f.processes).each_once) (is_among rs p was there) in
       record {
         stands = record {
           placed = (refl, refl, go.1);
@@ -343,8 +343,8 @@ module _ (c : ClusterView) (rs : List (Pid × Process)) (p : Pid) (was now : Pro
         built = built_of p at e;
       }
 
-  pub posted_goes_on : pids_differ (c.places).placed ≡ true → (c.number).0 < (c.system).clusters → GoesOn c (posted_view c (with_changed p now rs) post)
-  posted_goes_on differ has log go f = record {
+  pub posted_goes_on : is_system c.system ≡ true → (c.number).0 < (c.system).clusters → GoesOn c (posted_view c (with_changed p now rs) post)
+  posted_goes_on valid has log go f = record {
     log = record { cursor = (f.log).cursor; places = (f.log).places };
     processes = record {
       held =
@@ -356,7 +356,7 @@ module _ (c : ClusterView) (rs : List (Pid × Process)) (p : Pid) (was now : Pro
     };
     queue = record {
       own = ap (λ b. b && true) posted_own;
-      legal = (subst (λ (q : Post). BuiltMayFollow c.system log (entry_of c.system log q)) (sym post_is) (may_follow log go f differ has), tt);
+      legal = (subst (λ (q : Post). BuiltMayFollow c.system log (entry_of c.system log q)) (sym post_is) (may_follow log go f valid has), tt);
     };
     steps = record { counted = λ kept. more_counted (least_steps log log c.number + cond c.tried 1 0) c.steps ((f.steps).counted kept) };
   }

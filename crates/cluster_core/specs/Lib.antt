@@ -9,3 +9,4 @@ pub mod Quantum
 pub mod Booting
 pub mod Turn
 pub mod Slots
+pub mod Absorbing

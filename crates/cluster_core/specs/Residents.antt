@@ -3,6 +3,7 @@ use Rattle.std.specs.Prelude.{ℕ, ◌≡◌, ◌<◌, ◌-◌, ◌^◌, Bool, t
 use Rattle.std.specs.List.{list_all}
 use Rattle.std.specs.Option.{option_or}
 use Rattle.t32_base.specs.declared.process.Pid.{Pid}
+use Rattle.t32_base.specs.declared.letter.Letter.{Letter}
 use Rattle.proc_state.specs.declared.process.Process.{Process}
 use Rattle.proc_state.specs.State.{state_of}
 use Rattle.sys_calls.specs.Next.{next_step, has_step}
@@ -32,9 +33,13 @@ HasRoom here = (pid : Pid) (p : Process) → process_in here pid ≡ Some p → 
 abbrev pub with_changed : Pid → Process → List (Pid × Process) → List (Pid × Process)
 with_changed p now here = map (λ (e : Pid × Process). if same_pid e.0 p then (p, now) else e) here
 
--- what an entry makes of the processes: a letter arrives at the one whose end it is for, and one that ended is there no more
+-- a letter arrives at the process whose end it is for
+abbrev pub with_arrival : Letter → List (Pid × Process) → List (Pid × Process)
+with_arrival letter here = map (λ (e : Pid × Process). if is_end_of e.0 letter.to then (e.0, arrived e.1 letter) else e) here
+
+-- what an entry makes of the processes: a letter arrives, and one that ended is there no more
 abbrev pub residents_after : What → List (Pid × Process) → List (Pid × Process)
-residents_after (Mail at letter) here = map (λ (e : Pid × Process). if is_end_of e.0 letter.to then (e.0, arrived e.1 letter) else e) here
+residents_after (Mail at letter) here = with_arrival letter here
 residents_after (Exit pid at end) here = filter (λ (e : Pid × Process). not (same_pid e.0 pid)) here
 residents_after w here = here
 

@@ -7,6 +7,7 @@ ghost use Rattle.cluster_core.specs.View.{head_of, after_sent, counted_once, tri
 ghost use Rattle.cluster_core.specs.Follows.{FollowsBuilt};
 ghost use Rattle.cluster_core.specs.Calls.{Absorbs, absorbed, FollowsSome, GoesOn, is_resting, IsFirst, KeepsPlace, ReadyFor, RestsIn, rests_of, WorkIs};
 
+use crate::absorb::tell;
 use crate::booting::residents_at_boot;
 use crate::residents::Residents;
 use crate::turn::{Turn, post_of};
@@ -146,9 +147,7 @@ impl Cluster {
         ensures absorbed { OnOk result (self.new ≡ absorbed self.old entry.now) }
         ensures follows { OnOk result (Absorbs entry.now self.old self.new) }
     {
-        // A placement tells with its length that no two processes have one pid.
-        let _count = self.places.len();
-        self.here.take_in(&entry.post.what)?;
+        tell(self.number, &mut self.here, entry)?;
         self.cursor += 1;
         self.places.note(entry);
         self.count_step();
@@ -165,7 +164,6 @@ impl Cluster {
         ensures work { IfOk result (λ worked. WorkIs self.old worked self.new) }
         ensures place { OnOk result (KeepsPlace self.old self.new) }
     {
-        let _count = self.places.len();
         let turn = self.here.take_turn(self.alloc)?;
         self.count_step();
         match turn {

@@ -1,6 +1,7 @@
 //! A cluster, which follows the log and nothing else.
 #![tactic(auto)]
 
+pub mod absorb;
 pub mod booting;
 pub mod cluster;
 pub mod quantum;

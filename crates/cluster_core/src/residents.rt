@@ -3,12 +3,11 @@ ghost use Rattle.std.specs.Prelude.{ℕ, ◌≡◌, ◌+◌, ◌++◌, ◌∷◌
 ghost use Rattle.std.specs.List.{list_all, list_any};
 ghost use Rattle.bus_msg.specs.Places.{same_pid};
 ghost use Rattle.plain_kernel.specs.Maps.{at_key, pid_of};
-ghost use Rattle.cluster_core.specs.Residents.{HasRoom, NextAble, are_rising, are_stuck, next_ready, pids_in, residents_after, steps_in};
+ghost use Rattle.cluster_core.specs.Residents.{HasRoom, NextAble, are_rising, are_stuck, next_ready, pids_in, steps_in, with_arrival};
 ghost use Rattle.cluster_core.specs.Turn.{GivenTurnIs, is_stuck_at, TurnIs};
 ghost use Rattle.cluster_core.specs.View.{arrived};
 
 use crate::turn::{Turn, process_turn, steps_of};
-use bus_msg::entry::What;
 use proc_state::process::Process;
 use slab::Slab;
 use std::alloc::Global;
@@ -134,29 +133,22 @@ impl Residents {
         self.last = pid;
     }
 
-    /// Takes in an entry: a letter arrives at the process whose end it is for, and a process that ended is
-    /// let go. Which process was chosen last stays. After want of memory no process has changed.
-    pub fn take_in(&mut self, what: &What) -> Result<(), NoMemory>
+    /// A letter arrives at the process whose end it is for, if that is here. After want of memory no process
+    /// has changed.
+    pub fn deliver(&mut self, letter: &Letter) -> Result<(), NoMemory>
         requires { HasRoom self.old.here }
-        ensures ok { OnOk result (self.new.here ≡ residents_after what.now self.old.here) }
+        ensures ok { OnOk result (self.new.here ≡ with_arrival letter.now self.old.here) }
         ensures err { OnErr result (self.new.here ≡ self.old.here) }
         ensures last { self.new.last ≡ self.old.last }
     {
-        match what {
-            What::Mail { letter, .. } => match letter.to {
-                To::Proc(pid, _) => self.deliver(pid, letter),
-                To::Tty(_) => Ok(()),
-            },
-            What::Exit { pid, .. } => {
-                self.let_go(*pid);
-                Ok(())
-            }
-            _ => Ok(()),
+        match letter.to {
+            To::Proc(pid, _) => self.arrive(pid, letter),
+            To::Tty(_) => Ok(()),
         }
     }
 
     // A letter arrives at the process with a pid, if it is here.
-    fn deliver(&mut self, pid: Pid, letter: &Letter) -> Result<(), NoMemory>
+    fn arrive(&mut self, pid: Pid, letter: &Letter) -> Result<(), NoMemory>
         requires { HasRoom self.old.here }
         ensures ok { OnOk result (self.new.here ≡ map (λ e. if same_pid pid e.0 then (e.0, arrived e.1 letter.now) else e) self.old.here) }
         ensures err { OnErr result (self.new.here ≡ self.old.here) }
@@ -174,8 +166,8 @@ impl Residents {
         }
     }
 
-    // Lets the process with a pid go, if it is here. Takes no memory.
-    fn let_go(&mut self, pid: Pid)
+    /// Lets the process with a pid go, if it is here. Takes no memory.
+    pub fn let_go(&mut self, pid: Pid)
         ensures here { self.new.here ≡ filter (λ e. not (same_pid e.0 pid)) self.old.here }
         ensures last { self.new.last ≡ self.old.last }
     {

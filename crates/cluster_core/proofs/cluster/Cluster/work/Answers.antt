@@ -1,6 +1,6 @@
 use Rattle.std.proofs.Common.{◌&&◌, true, ◌≡◌, ◌<◌, ap, subst, sym, ◌∙◌, [], ◌∷◌}
 use Rattle.bus_msg.specs.declared.entry.Post.{Post}
-use Rattle.channel_table.specs.Changes.{pids_differ}
+use Rattle.sys_text.specs.Valid.{is_system}
 use Rattle.cert_sched.specs.Built.{is_built}
 use Rattle.cert_sched.specs.Losses.{is_from}
 use Rattle.cluster_core.specs.declared.worked.Worked.TheVariants.{Moved, Queued, Rests}
@@ -67,11 +67,11 @@ returns-in-Sends-clause-follows c =
     let turn = rw c.in-Sends.is at c.in_ok-turn.ensures in
     let own = subst (λ n. AllOwn n was.here) (ap (λ (v : ClusterView). v.cursor) c.self.view_is) c.self.invariant.residents in
     let has = subst (λ (v : ClusterView). (v.number).0 < (v.system).clusters) c.self.view_is c.self.invariant.has in
-    let differ = ap (λ (v : ClusterView). pids_differ (v.places).placed) (sym c.self.view_is) ∙ c.len-count.ensures.different in
+    let valid = subst (λ (v : ClusterView). is_system v.system ≡ true) c.self.view_is c.self.invariant.valid in
     let whole = c.self-2.view_is ∙ c.count_step.ensures ∙ ap (λ (v : ClusterView). moved_view v new.here) c.self.view_is in
     let sending : Sending = c.in-Sends.sending in
     let told = c.post_of.ensures ∙ ap (λ (v : ClusterView). post_told v.number sending.pid sending.at sending.emission) whole in
-    let posted = posted_turn old was new sending c.post_of.result told here c.requires.empty own differ has turn in
+    let posted = posted_turn old was new sending c.post_of.result told here c.requires.empty own valid has turn in
     subst (GoesOn old) (sym (ap (λ (v : ClusterView). record v { queue = c.post_of.result ∷ [] }) whole)) posted.goes_on
 
 pub returns-in-Sends-clause-work : goal.returns-in-Sends-clause-work
@@ -83,11 +83,11 @@ returns-in-Sends-clause-work c =
     let turn = rw c.in-Sends.is at c.in_ok-turn.ensures in
     let own = subst (λ n. AllOwn n was.here) (ap (λ (v : ClusterView). v.cursor) c.self.view_is) c.self.invariant.residents in
     let has = subst (λ (v : ClusterView). (v.number).0 < (v.system).clusters) c.self.view_is c.self.invariant.has in
-    let differ = ap (λ (v : ClusterView). pids_differ (v.places).placed) (sym c.self.view_is) ∙ c.len-count.ensures.different in
+    let valid = subst (λ (v : ClusterView). is_system v.system ≡ true) c.self.view_is c.self.invariant.valid in
     let whole = c.self-2.view_is ∙ c.count_step.ensures ∙ ap (λ (v : ClusterView). moved_view v new.here) c.self.view_is in
     let sending : Sending = c.in-Sends.sending in
     let told = c.post_of.ensures ∙ ap (λ (v : ClusterView). post_told v.number sending.pid sending.at sending.emission) whole in
-    let posted = posted_turn old was new sending c.post_of.result told here c.requires.empty own differ has turn in
+    let posted = posted_turn old was new sending c.post_of.result told here c.requires.empty own valid has turn in
     subst (WorkIs old Queued) (sym (ap (λ (v : ClusterView). record v { queue = c.post_of.result ∷ [] }) whole)) posted.work
 
 pub invariant_of-self-2 : goal.invariant_of-self-2
