@@ -28,12 +28,12 @@ use Rattle.plain_kernel.specs.Maps.{at_key, pid_of}
 use Rattle.plain_kernel.proofs.Entries.{some_same}
 use Rattle.cert_sched.specs.Parts.{first_of}
 use Rattle.cert_sched.proofs.RisingLaws.{NoTwo, either_not}
-use Rattle.cluster_core.specs.Residents.{is_stuck, are_rising, are_stuck, pids_in, steps_in, next_ready}
+use Rattle.cluster_core.specs.Residents.{is_stuck, are_rising, are_stuck, pids_in, steps_in, next_ready, is_stuck_at, TakesTurn, GivenTurnIs}
 use Rattle.cluster_core.specs.Slots.{in_slot, stands_in, IsSlot, IsKept}
 use Rattle.t32_base.specs.declared.streams.NoMemory.{NoMemory}
-use Rattle.cluster_core.specs.declared.turn.Turn.{Turn}
-use Rattle.cluster_core.specs.declared.turn.Turn.TheVariants.{Moved, Sends, Rests}
-use Rattle.cluster_core.specs.Turn.{is_stuck_at, ProcessTurn, TakesTurn, GivenTurnIs}
+use Rattle.cluster_core.specs.declared.quantum.Quantum.{Quantum}
+use Rattle.cluster_core.specs.declared.quantum.Quantum.TheVariants.{Moved, Sent, Stuck}
+use Rattle.cluster_core.specs.Quantum.{RunsQuantum}
 use Rattle.cluster_core.proofs.Slots.{IsOne, all_more, all_put_last, all_removed, all_with, at_key_is, both_true, entry_goes, later_is_other, no_entry, nobody_changed, none_not_some, not_true, one_key, pids, process_there, slot_keys, taken_out, turned, written}
 
 -- ---- what is kept
@@ -350,29 +350,25 @@ written_back slots new key was now (e ∷ es) there updates same =
     by_test false is = updates.others e.1 (λ same. true≢false (sym (eq-eqb e.1 key same) ∙ is))
 
 -- a process had its turn
-pub given_turn : (slots new : Slab Process) (n key : ℕ) (keys : List (ℕ × ℕ)) (ready : List ℕ) (was now : Process) (old : List (Pid × Process)) (r : Result Turn NoMemory)
-    → IsKept slots keys ready → lookup (at_key n) keys ≡ Some key → get slots key ≡ Some was → Updates slots new key (Some now) → stands_in slots keys ≡ old → ProcessTurn (pid_of n) was r now → GivenTurnIs (pid_of n) old r (stands_in new keys)
-given_turn slots new n key keys ready was now old (Ok Moved) kept found there updates same turn =
-    subst (λ old. TakesTurn (pid_of n) old Moved (stands_in new keys)) same
-    (record {
-      was = was;
-      now = now;
-      there = process_there slots n key was keys found there;
-      turn_is = turn;
-      here = written slots new n key was now (λ e. (pid_of n, now)) keys (one_key n key keys kept.ordered kept.apart found) there updates refl;
-    })
-given_turn slots new n key keys ready was now old (Ok (Sends sending)) kept found there updates same turn =
-    subst (λ old. TakesTurn (pid_of n) old (Sends sending) (stands_in new keys)) same
-    (record {
-      was = was;
-      now = now;
-      there = process_there slots n key was keys found there;
-      turn_is = turn;
-      here = written slots new n key was now (λ e. (pid_of n, now)) keys (one_key n key keys kept.ordered kept.apart found) there updates refl;
-    })
-given_turn slots new n key keys ready was now old (Ok Rests) kept found there updates same turn =
-    (ap (is_stuck_at (pid_of n)) (sym same) ∙ stuck_there slots n key was keys (one_key n key keys kept.ordered kept.apart found) there turn.0, written_back slots new key was now keys there updates turn.1 ∙ same)
-given_turn slots new n key keys ready was now old (Err fault) kept found there updates same turn = written_back slots new key was now keys there updates turn ∙ same
+module _ (slots new : Slab Process) (n key : ℕ) (keys : List (ℕ × ℕ)) (ready : List ℕ) (was now : Process) (old : List (Pid × Process)) (kept : IsKept slots keys ready) (found : lookup (at_key n) keys ≡ Some key)
+    (there : get slots key ≡ Some was) (updates : Updates slots new key (Some now)) (same : stands_in slots keys ≡ old) where
+  took : (quantum : Quantum) → RunsQuantum 64 was (Ok quantum) now → TakesTurn (pid_of n) old quantum (stands_in new keys)
+  took quantum ran =
+      subst (λ old. TakesTurn (pid_of n) old quantum (stands_in new keys)) same
+      (record {
+        was = was;
+        now = now;
+        there = process_there slots n key was keys found there;
+        ran = ran;
+        here = written slots new n key was now (λ e. (pid_of n, now)) keys (one_key n key keys kept.ordered kept.apart found) there updates refl;
+      })
+
+  pub given_turn : (r : Result Quantum NoMemory) → RunsQuantum 64 was r now → GivenTurnIs (pid_of n) old r (stands_in new keys)
+  given_turn (Ok Moved) ran = took Moved ran
+  given_turn (Ok (Sent sending)) ran = took (Sent sending) ran
+  given_turn (Ok Stuck) ran =
+      (ap (is_stuck_at (pid_of n)) (sym same) ∙ stuck_there slots n key was keys (one_key n key keys kept.ordered kept.apart found) there ran.0, written_back slots new key was now keys there updates ran.1 ∙ same)
+  given_turn (Err fault) ran = written_back slots new key was now keys there updates ran ∙ same
 
 -- a process goes with its entry
 pub goes : (slots new : Slab Process) (n key : ℕ) (keys : List (ℕ × ℕ)) (ready : List ℕ) → IsKept slots keys ready → lookup (at_key n) keys ≡ Some key → Updates slots new key None

@@ -15,9 +15,8 @@ use Rattle.bus_msg.specs.Places.{same_pid}
 use Rattle.plain_kernel.specs.Maps.{at_key, pid_of}
 use Rattle.plain_kernel.proofs.Entries.{some_same}
 use Rattle.cert_sched.proofs.RisingLaws.{NoTwo, either_not}
-use Rattle.cluster_core.specs.Residents.{process_in, is_stuck}
+use Rattle.cluster_core.specs.Residents.{process_in, is_stuck, is_stuck_at}
 use Rattle.cluster_core.specs.Slots.{in_slot, stands_in}
-use Rattle.cluster_core.specs.Turn.{is_stuck_at}
 
 abbrev pub pids : List (ℕ × ℕ) → List ℕ
 pids es = map (λ (e : ℕ × ℕ). e.0) es

@@ -42,8 +42,7 @@ use Rattle.cluster_core.specs.Queue.{move_of, taken_by, state_by, state_now}
 use Rattle.cluster_core.specs.Holds.{IsHeldAs}
 use Rattle.cluster_core.specs.Follows.{FollowsBuilt, IsOpen}
 use Rattle.cluster_core.specs.Calls.{GoesOn, WorkIs, is_resting, is_at_rest, are_at_rest}
-use Rattle.cluster_core.specs.Quantum.{RunsSome, RunsAndSends}
-use Rattle.cluster_core.specs.Turn.{told_of, post_told}
+use Rattle.cluster_core.specs.Quantum.{RunsSome, RunsAndSends, told_of, post_told}
 use Rattle.cluster_core.proofs.Here.{found_changed, held_changed, held_here, is_among, pid_same, pids_changed, pids_held, runs_here}
 use Rattle.cluster_core.proofs.Telling.{done_is}
 use Rattle.cluster_core.proofs.Quanta.{none_silent}

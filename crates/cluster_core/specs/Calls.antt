@@ -22,8 +22,7 @@ use Rattle.cert_sched.specs.Rests.{is_idle, IsRestOf}
 use Rattle.cluster_core.specs.declared.worked.Worked.{Worked}
 use Rattle.cluster_core.specs.declared.worked.Worked.TheVariants.{Moved, Queued, Waits as IsWaiting, Rests}
 use Rattle.cluster_core.specs.View.{ClusterView, Held, Runs, Rolls, Waits, arrived_held, held_at, next_count, counted_once}
-use Rattle.cluster_core.specs.Quantum.{RunsAndSends}
-use Rattle.cluster_core.specs.Turn.{post_told}
+use Rattle.cluster_core.specs.Quantum.{RunsAndSends, post_told}
 use Rattle.cluster_core.specs.Follows.{FollowsBuilt, IsOpen, StandsBetween}
 
 -- ---- the start

@@ -1,5 +1,5 @@
 -- The processes at home in a cluster, as its code keeps them.
-use Rattle.std.specs.Prelude.{ℕ, ◌≡◌, ◌<◌, ◌-◌, ◌^◌, Bool, true, not, ◌&&◌, nat_lt, if◌then◌else◌, List, [], ◌∷◌, map, filter, find, Option, Some, option_map}
+use Rattle.std.specs.Prelude.{ℕ, ◌≡◌, ◌<◌, ◌-◌, ◌^◌, Bool, true, not, ◌&&◌, nat_lt, if◌then◌else◌, List, [], ◌∷◌, map, filter, find, Option, Some, option_map, ◌||◌, Result, Ok, Err}
 use Rattle.std.specs.List.{list_all}
 use Rattle.std.specs.Option.{option_or}
 use Rattle.t32_base.specs.declared.process.Pid.{Pid}
@@ -13,6 +13,10 @@ use Rattle.bus_msg.specs.Places.{same_pid}
 use Rattle.plain_kernel.specs.Maps.{pid_of}
 use Rattle.cert_sched.specs.Deeds.{is_end_of}
 use Rattle.cert_sched.specs.Parts.{first_of}
+use Rattle.t32_base.specs.declared.streams.NoMemory.{NoMemory}
+use Rattle.cluster_core.specs.declared.quantum.Quantum.{Quantum}
+use Rattle.cluster_core.specs.declared.quantum.Quantum.TheVariants.{Moved, Sent, Stuck}
+use Rattle.cluster_core.specs.Quantum.{RunsQuantum}
 use Rattle.cluster_core.specs.View.{arrived}
 
 -- the processes by rising pid; the pids of those that may have a step, rising; and the pid that was chosen last, 0 before any was
@@ -73,3 +77,36 @@ next_ready ready last = option_or (find (λ n. nat_lt last n) ready) (first_of r
 -- the process with a pid is the next one that has a step, where it has one
 abbrev pub NextAble : ℕ → ResidentsView → Type 0
 NextAble n rs = (p : Process) → process_in rs.here (pid_of n) ≡ Some p → has_step (next_step (state_of p)) ≡ true → next_ready (pids_able rs.here) rs.last ≡ Some n
+
+-- ---- a turn
+
+-- the process with a pid had a quantum, and the others stayed
+pub record TakesTurn (pid : Pid) (old : List (Pid × Process)) (quantum : Quantum) (new : List (Pid × Process)) : Type 0 where
+  pub was : Process
+  pub now : Process
+  pub there : process_in old pid ≡ Some was
+  pub ran : RunsQuantum 64 was (Ok quantum) now
+  pub here : new ≡ with_changed pid now old
+
+-- it was the next process that has a step, in rising pid order after the one that was chosen last, cyclically
+pub record ChosenTurn (old : ResidentsView) (quantum : Quantum) (new : ResidentsView) : Type 0 where
+  pub chosen : next_ready (pids_able old.here) old.last ≡ Some new.last
+  pub takes : TakesTurn (pid_of new.last) old.here quantum new.here
+
+-- one of them moved or sent something, or none has a step; after want of memory no process has changed
+abbrev pub TurnIs : ResidentsView → Result Quantum NoMemory → ResidentsView → Type 0
+TurnIs old (Ok Moved) new = ChosenTurn old Moved new
+TurnIs old (Ok (Sent sending)) new = ChosenTurn old (Sent sending) new
+TurnIs old (Ok Stuck) new = (are_stuck old.here ≡ true) × (new.here ≡ old.here) × (new.last ≡ old.last)
+TurnIs old (Err fault) new = new.here ≡ old.here
+
+-- the process with a pid has no step, if it is there
+abbrev pub is_stuck_at : Pid → List (Pid × Process) → Bool
+is_stuck_at pid here = list_all (λ (e : Pid × Process). not (same_pid e.0 pid) || is_stuck e.1) here
+
+-- the process with a pid moved or sent something, or has no step; after want of memory nothing has changed
+abbrev pub GivenTurnIs : Pid → List (Pid × Process) → Result Quantum NoMemory → List (Pid × Process) → Type 0
+GivenTurnIs pid old (Ok Moved) new = TakesTurn pid old Moved new
+GivenTurnIs pid old (Ok (Sent sending)) new = TakesTurn pid old (Sent sending) new
+GivenTurnIs pid old (Ok Stuck) new = (is_stuck_at pid old ≡ true) × (new ≡ old)
+GivenTurnIs pid old (Err fault) new = new ≡ old

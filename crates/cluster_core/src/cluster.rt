@@ -9,8 +9,9 @@ ghost use Rattle.cluster_core.specs.Calls.{Absorbs, absorbed, FollowsSome, GoesO
 
 use crate::absorb::tell;
 use crate::booting::residents_at_boot;
+use crate::quantum::Quantum;
 use crate::residents::Residents;
-use crate::turn::{Turn, post_of};
+use crate::work::post_of;
 use crate::worked::Worked;
 use bus_msg::entry::{Entry, Post};
 use cert_sched::start::placement_at_boot;
@@ -164,15 +165,15 @@ impl Cluster {
         ensures work { IfOk result (λ worked. WorkIs self.old worked self.new) }
         ensures place { OnOk result (KeepsPlace self.old self.new) }
     {
-        let turn = self.here.take_turn(self.alloc)?;
+        let quantum = self.here.take_turn(self.alloc)?;
         self.count_step();
-        match turn {
-            Turn::Moved => Ok(Worked::Moved),
-            Turn::Sends(sending) => {
+        match quantum {
+            Quantum::Moved => Ok(Worked::Moved),
+            Quantum::Sent(sending) => {
                 self.queue = Some(post_of(self.number, sending));
                 Ok(Worked::Queued)
             }
-            Turn::Rests => Ok(Worked::Rests),
+            Quantum::Stuck => Ok(Worked::Rests),
         }
     }
 

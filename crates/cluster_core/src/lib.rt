@@ -7,5 +7,5 @@ pub mod cluster;
 pub mod quantum;
 pub mod residents;
 pub mod steps_left;
-pub mod turn;
+pub mod work;
 pub mod worked;

@@ -3,11 +3,10 @@ ghost use Rattle.std.specs.Prelude.{ℕ, ◌≡◌, ◌+◌, ◌++◌, ◌∷◌
 ghost use Rattle.std.specs.List.{list_all, list_any};
 ghost use Rattle.bus_msg.specs.Places.{same_pid};
 ghost use Rattle.plain_kernel.specs.Maps.{at_key, pid_of};
-ghost use Rattle.cluster_core.specs.Residents.{HasRoom, NextAble, are_rising, are_stuck, next_ready, pids_in, steps_in, with_arrival};
-ghost use Rattle.cluster_core.specs.Turn.{GivenTurnIs, is_stuck_at, TurnIs};
+ghost use Rattle.cluster_core.specs.Residents.{GivenTurnIs, HasRoom, NextAble, TurnIs, are_rising, are_stuck, is_stuck_at, next_ready, pids_in, steps_in, with_arrival};
 ghost use Rattle.cluster_core.specs.View.{arrived};
 
-use crate::turn::{Turn, process_turn, steps_of};
+use crate::quantum::{Quantum, run_quantum};
 use proc_state::process::Process;
 use slab::Slab;
 use std::alloc::Global;
@@ -17,7 +16,7 @@ use std::ops::Bound;
 use sys_calls::stepping::can_step;
 use t32_base::letter::{Letter, To};
 use t32_base::lists::List;
-use t32_base::process::Pid;
+use t32_base::process::{Pid, Small};
 use t32_base::streams::NoMemory;
 
 /// The processes at home in a cluster, by pid. One that has no step, but may get one by a letter, is
@@ -69,20 +68,20 @@ impl Residents {
     }
 
     /// Lets the next process that has a step run for a quantum: the next one in rising pid order after the
-    /// one that was chosen last, cyclically. After want of memory no process has changed.
-    pub fn take_turn(&mut self, alloc: Global) -> Result<Turn, NoMemory>
+    /// one that was chosen last, cyclically. `Stuck` is that of all. After want of memory no process has changed.
+    pub fn take_turn(&mut self, alloc: Global) -> Result<Quantum, NoMemory>
         ensures { TurnIs self.old result self.new }
     {
         'choices: while let Some(pid) = self.next() {
             match self.give_turn(alloc, pid)? {
-                Turn::Rests => self.rest(pid),
-                turn => {
+                Quantum::Stuck => self.rest(pid),
+                quantum => {
                     self.choose(pid);
-                    return Ok(turn);
+                    return Ok(quantum);
                 }
             }
         }
-        Ok(Turn::Rests)
+        Ok(Quantum::Stuck)
     }
 
     // The next of those that may have a step. Takes no memory.
@@ -99,7 +98,7 @@ impl Residents {
     }
 
     // Lets the process with a pid run for a quantum, if it is here.
-    fn give_turn(&mut self, alloc: Global, pid: u32) -> Result<Turn, NoMemory>
+    fn give_turn(&mut self, alloc: Global, pid: u32) -> Result<Quantum, NoMemory>
         requires { list_any (at_key pid) self.old.ready ≡ true }
         ensures turn { GivenTurnIs (pid_of pid) self.old.here result self.new.here }
         ensures ready { self.new.ready ≡ self.old.ready }
@@ -107,10 +106,10 @@ impl Residents {
     {
         match self.keys.get(&pid) {
             Some(key) => match self.processes.get_mut(*key) {
-                Some(process) => process_turn(alloc, Pid(pid), process),
+                Some(process) => run_quantum(alloc, process),
                 None => unreachable!(),
             },
-            None => Ok(Turn::Rests),
+            None => Ok(Quantum::Stuck),
         }
     }
 
@@ -196,4 +195,17 @@ impl Residents {
         }
         Ok(Some(rests))
     }
+}
+
+// The steps of a process. Takes no memory.
+fn steps_of(process: &Process) -> u64
+    ensures { result ≡ process.now.small.steps }
+{
+    steps_made(&process.small)
+}
+
+fn steps_made(small: &Small) -> u64
+    ensures { result ≡ small.now.steps }
+{
+    small.steps
 }

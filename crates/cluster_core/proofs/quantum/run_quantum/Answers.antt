@@ -1,5 +1,6 @@
-use Rattle.std.proofs.Common.{arith, ap, sym, ◌∙◌, subst, Ok}
-use Rattle.sys_calls.specs.Next.{has_step, silently_marked}
+use Rattle.std.proofs.Common.{◌≡◌, arith, ap, sym, ◌∙◌, subst, Ok}
+use Rattle.sys_calls.specs.Calls.{Emits}
+use Rattle.sys_calls.specs.Next.{has_step, next_step, silently_marked}
 use Rattle.sys_calls.proofs.Running.{silently-marked}
 use Rattle.sys_calls.specs.Steps.{marked}
 use Rattle.proc_state.specs.State.{state_of}
@@ -22,13 +23,19 @@ steps-preserved c = record {
 }
 
 pub returns-in-Ok-Emit : goal.returns-in-Ok-Emit
-returns-in-Ok-Emit c = record {
-  steps = c.steps.made;
-  before = state_of c.steps.p;
-  few = omega (arith, c.steps-test.true);
-  silent = c.steps.invariant.silent;
-  sends = rw c.in-Ok-Emit.field-0-is at c.in-Ok-Emit.ensures.makes;
-}
+returns-in-Ok-Emit c =
+    let sends : next_step (state_of c.steps.p) ≡ Emits c.in-Ok-Emit.emission (state_of c.step.new.p) = rw c.in-Ok-Emit.field-0-is at c.in-Ok-Emit.ensures.makes in
+    record {
+      runs = record {
+        steps = c.steps.made;
+        before = state_of c.steps.p;
+        few = omega (arith, c.steps-test.true);
+        silent = c.steps.invariant.silent;
+        sends = sends ∙ ap (λ e. Emits e (state_of c.step.new.p)) (sym c.sending_of.ensures.emission);
+      };
+      pid_is = c.sending_of.ensures.pid;
+      at_is = c.sending_of.ensures.at;
+    }
 
 pub returns-in-Err : goal.returns-in-Err
 returns-in-Err c = refused_then c.steps.made c.args.p.now c.steps.p c.step.new.p c.moved_or_refused.result c.steps.invariant.silent c.steps.invariant.few c.steps.invariant.unmoved c.in-Err.ensures.touches c.moved_or_refused.ensures
