@@ -13,12 +13,13 @@ use Rattle.sys_text.specs.declared.system.System.{System}
 use Rattle.sys_text.specs.Valid.{is_system}
 use Rattle.proc_state.specs.declared.process.Process.{Process}
 use Rattle.bus_msg.specs.declared.entry.What.{What}
-use Rattle.bus_msg.specs.declared.entry.What.TheVariants.{Mail, Birth, Exit, Page, Sync, Fetch, PageIs, Crash, Return, Rebackup, Done, Stop}
+use Rattle.bus_msg.specs.declared.entry.What.TheVariants.{Mail}
 use Rattle.bus_msg.specs.declared.entry.Entry.{Entry}
 use Rattle.bus_msg.specs.declared.placed.Placed.{Placed}
 use Rattle.bus_msg.specs.Places.{Places, lives_in, same_pid}
 use Rattle.bus_msg.specs.PlacedAfter.{what}
 use Rattle.bus_msg.specs.Route.{backup_of, bits_of, letter_dests, route}
+use Rattle.cert_sched.specs.Built.{is_built}
 use Rattle.cert_sched.specs.Deeds.{is_end_of}
 use Rattle.cert_sched.specs.Parts.{rising}
 use Rattle.cert_sched.specs.Rests.{home_pids}
@@ -31,6 +32,7 @@ use Rattle.cluster_core.specs.View.{ClusterView, arrived}
 use Rattle.cluster_core.proofs.Following.{Next, left_of, next_of}
 use Rattle.cluster_core.proofs.Here.{is_among, pid_same, pids_held, same_itself}
 use Rattle.cluster_core.proofs.Homes.{HomeHere, differ_built, home_here}
+use Rattle.cluster_core.proofs.ByKind.{by_kind}
 use Rattle.cluster_core.proofs.Working.{lives_built}
 
 -- ---- a letter that goes elsewhere
@@ -75,19 +77,10 @@ letter_comes : (places : Places) (k : ClusterNo) (from p : Pid) (to : To) → li
 letter_comes places k from p (Proc q end) lives home is = goes_home places from q end k (subst (λ r. HomeHere places r k) (sym (pid_same q p (eqb-true q.0 p.0 is))) home) lives
 letter_comes places k from p (Tty t) lives home is = absurd (true≢false (sym is))
 
-entry_comes : (places : Places) (k : ClusterNo) (p : Pid) (w : What) → lives_in places k ≡ true → HomeHere places p k → is_letter_for p w ≡ true → goes_to (route places w) k ≡ true
-entry_comes places k p (Mail at letter) lives home is = letter_comes places k letter.from p letter.to lives home is
-entry_comes places k p (Birth parent at child end) lives home is = absurd (true≢false (sym is))
-entry_comes places k p (Exit pid at end) lives home is = absurd (true≢false (sym is))
-entry_comes places k p (Page pid at index bytes) lives home is = absurd (true≢false (sym is))
-entry_comes places k p (Sync pid small read took) lives home is = absurd (true≢false (sym is))
-entry_comes places k p (Fetch pid index) lives home is = absurd (true≢false (sym is))
-entry_comes places k p (PageIs pid index bytes) lives home is = absurd (true≢false (sym is))
-entry_comes places k p (Crash j cause) lives home is = absurd (true≢false (sym is))
-entry_comes places k p (Return j) lives home is = absurd (true≢false (sym is))
-entry_comes places k p (Rebackup to fresh recs) lives home is = absurd (true≢false (sym is))
-entry_comes places k p (Done rests) lives home is = absurd (true≢false (sym is))
-entry_comes places k p Stop lives home is = absurd (true≢false (sym is))
+entry_comes : (places : Places) (k : ClusterNo) (p : Pid) (w : What) → lives_in places k ≡ true → HomeHere places p k → is_built w ≡ true → is_letter_for p w ≡ true → goes_to (route places w) k ≡ true
+entry_comes places k p w lives home =
+    by_kind (λ w. is_letter_for p w ≡ true → goes_to (route places w) k ≡ true)
+    (λ at letter is. letter_comes places k letter.from p letter.to lives home is) (λ pid at end is. absurd (true≢false (sym is))) (λ rests is. absurd (true≢false (sym is))) (λ is. absurd (true≢false (sym is))) w
 
 -- ---- the entry for which a cluster is ready
 
@@ -95,7 +88,7 @@ comes_of : (system : System) (log : List Entry) (e : Entry) (k : ClusterNo) (rs 
     → rising (pids_held (held_in rs)) ≡ rising (home_pids system log k) → ComesHere k e rs
 comes_of system log e k rs valid has n once p s there is =
     let home = home_here (placement system log) k (pids_held (held_in rs)) p (differ_built system log valid n.legal) once (is_among rs p s there) in
-    ap (λ dests. goes_to dests k) ((((n.may).stands).placed).1) ∙ entry_comes (placement system log) k p (what e) (lives_built system log k n.legal has) home is
+    ap (λ dests. goes_to dests k) ((((n.may).stands).placed).1) ∙ entry_comes (placement system log) k p (what e) (lives_built system log k n.legal has) home (n.may).built is
 
 pub comes_here : (c : ClusterView) (e : Entry) (rs : List (Pid × Process)) → is_system c.system ≡ true → (c.number).0 < (c.system).clusters → c.here ≡ held_in rs → ReadyFor e c → ComesHere c.number e rs
 comes_here c e rs valid has here r = by_case (next_of c.system r.log e r.open_log r.open_next) r.ready

@@ -16,3 +16,4 @@ pub mod Weighing
 pub mod Lightening
 pub mod WorkedViews
 pub mod Arriving
+pub mod ByKind

@@ -5,7 +5,6 @@ use Rattle.proc_state.specs.declared.process.Process.{Process}
 use Rattle.sys_calls.specs.declared.steps.Emission.{Emission}
 use Rattle.sys_calls.specs.declared.steps.Emission.TheVariants.{Mail as SentMail, Exit as SentExit}
 use Rattle.bus_msg.specs.declared.entry.What.{What}
-use Rattle.bus_msg.specs.declared.entry.What.TheVariants.{Mail, Birth, Exit, Page, Sync, Fetch, PageIs, Crash, Return, Rebackup, Done, Stop}
 use Rattle.bus_msg.specs.declared.entry.Post.{Post}
 use Rattle.sys_text.specs.Valid.{is_system}
 use Rattle.channel_table.specs.Changes.{is_birth}
@@ -23,22 +22,12 @@ use Rattle.cluster_core.specs.Parts.{held_in, AllOwn}
 use Rattle.cluster_core.specs.Calls.{GoesOn, WorkIs}
 use Rattle.cluster_core.specs.Quantum.{post_told}
 use Rattle.cluster_core.proofs.Owning.{own_at, own_changed, own_moved, own_sent}
+use Rattle.cluster_core.proofs.ByKind.{by_kind}
 use Rattle.cluster_core.proofs.Working.{moved_view, posted_view, moved_goes_on, moved_work, posted_goes_on, posted_work, goes_on_rested, rested}
 
 -- an entry of a kind that is built is no birth
 pub built_no_birth : (w : What) → is_built w ≡ true → is_birth w ≡ false
-built_no_birth (Mail at letter) h = refl
-built_no_birth (Birth parent at child end) h = sym h
-built_no_birth (Exit pid at end) h = refl
-built_no_birth (Page pid at index bytes) h = refl
-built_no_birth (Sync pid small read took) h = refl
-built_no_birth (Fetch pid index) h = refl
-built_no_birth (PageIs pid index bytes) h = refl
-built_no_birth (Crash k cause) h = refl
-built_no_birth (Return k) h = refl
-built_no_birth (Rebackup to fresh recs) h = refl
-built_no_birth (Done rests) h = refl
-built_no_birth Stop h = refl
+built_no_birth = by_kind (λ w. is_birth w ≡ false) (λ at letter. refl) (λ pid at end. refl) (λ rests. refl) refl
 
 -- after a turn each process is its own
 pub own_turned : (cursor : ℕ) (old new : ResidentsView) (quantum : Quantum) → AllOwn cursor old.here → TurnIs old (Ok quantum) new → AllOwn cursor new.here

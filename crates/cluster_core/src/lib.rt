@@ -1,11 +1,11 @@
 //! A cluster, which follows the log and nothing else.
 #![tactic(auto)]
 
-pub mod absorb;
-pub mod booting;
+mod absorb;
+mod booting;
 pub mod cluster;
-pub mod quantum;
-pub mod residents;
+mod quantum;
+mod residents;
 pub mod steps_left;
-pub mod work;
+mod work;
 pub mod worked;

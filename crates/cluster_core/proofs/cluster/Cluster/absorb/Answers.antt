@@ -5,12 +5,13 @@ use Rattle.proc_state.specs.declared.process.Process.{Process}
 use Rattle.bus_msg.specs.PlacedAfter.{what, placed_after}
 use Rattle.sys_text.specs.Valid.{is_system}
 use Rattle.sys_text.proofs.Bounds.{system_bounds}
-use Rattle.cert_sched.specs.Built.{BuiltMayFollow}
+use Rattle.bus_msg.specs.declared.entry.Entry.{Entry}
+use Rattle.cert_sched.specs.Built.{BuiltMayFollow, is_built}
 use Rattle.cert_sched.proofs.LogLaws.{IsLegal-last}
 use Rattle.cluster_core.specs.View.{ClusterView, next_count}
 use Rattle.cluster_core.specs.Residents.{residents_after}
 use Rattle.cluster_core.specs.Parts.{held_in, AllOwn}
-use Rattle.cluster_core.specs.Calls.{Absorbs, absorbed, here_after}
+use Rattle.cluster_core.specs.Calls.{Absorbs, ReadyFor, absorbed, here_after}
 use Rattle.cluster_core.specs.Absorbing.{ComesHere}
 use Rattle.cluster_core.proofs.Arriving.{comes_here}
 use Rattle.cluster_core.proofs.Here.{held_after}
@@ -19,12 +20,15 @@ use Rattle.cluster_core.proofs.Following.{absorbs, ready_quiet}
 use Rattle.cluster_core.proofs.Turning.{built_no_birth}
 use Rattle.cluster_core.proofs.cluster.Cluster.absorb.Goals as goal
 
+ready_built : (c : ClusterView) (e : Entry) → ReadyFor e c → is_built (what e) ≡ true
+ready_built c e r = (IsLegal-last BuiltMayFollow c.system r.log e (r.open_next).0).built
+
 pub tell-requires-clause-room : goal.tell-requires-clause-room
 tell-requires-clause-room c =
     has_room c.self.inside.cursor c.self.inside.here.here c.self.invariant.residents (subst (λ (v : ClusterView). v.cursor < 2 ^ 64 - 1) (sym c.self.view_is) c.requires.room)
 
 pub note-requires : goal.note-requires
-note-requires c = built_no_birth (what c.args.entry.now) (IsLegal-last BuiltMayFollow c.args.self.now.system c.requires.ready.log c.args.entry.now c.requires.ready.open_next.0).built
+note-requires c = built_no_birth (what c.args.entry.now) (ready_built c.args.self.now c.args.entry.now c.requires.ready)
 
 pub invariant_of-self-2 : goal.invariant_of-self-2
 invariant_of-self-2 c =
@@ -37,7 +41,7 @@ invariant_of-self-2 c =
     record {
       valid = c.self.invariant.valid;
       has = c.self.invariant.has;
-      residents = subst (AllOwn (c.self.inside.cursor + 1)) (sym taken) (own_after c.self.inside.cursor (what e) rs none c.self.invariant.residents);
+      residents = subst (AllOwn (c.self.inside.cursor + 1)) (sym taken) (own_after c.self.inside.cursor (what e) rs (ready_built old e ready) none c.self.invariant.residents);
       own = c.self.invariant.own;
       built = c.self.invariant.built;
     }
@@ -49,7 +53,7 @@ returns-clause-absorbed c =
     let rs : List (Pid × Process) = c.self.inside.here.here in
     let taken : c.tell.new.here.here ≡ residents_after (what e) rs = c.in_ok-tell.ensures.ok in
     let places : c.note.new.self ≡ placed_after old.places (what e) = c.note.ensures ∙ ap (λ (v : ClusterView). placed_after v.places (what e)) c.self.view_is in
-    let here : held_in c.tell.new.here.here ≡ here_after (what e) old.here = ap held_in taken ∙ held_after (what e) rs ∙ ap (λ (v : ClusterView). here_after (what e) v.here) c.self.view_is in
+    let here : held_in c.tell.new.here.here ≡ here_after (what e) old.here = ap held_in taken ∙ held_after (what e) rs (ready_built old e c.requires.ready) ∙ ap (λ (v : ClusterView). here_after (what e) v.here) c.self.view_is in
     let whole : c.count_step.new.self ≡ absorbed old e =
     c.count_step.ensures
     ∙ ap (λ (v : ClusterView). record v { cursor = v.cursor + 1; places = c.note.new.self; here = held_in c.tell.new.here.here; steps = next_count v.steps }) c.self.view_is
@@ -63,7 +67,7 @@ returns-clause-follows c =
     let rs : List (Pid × Process) = c.self.inside.here.here in
     let taken : c.tell.new.here.here ≡ residents_after (what e) rs = c.in_ok-tell.ensures.ok in
     let places : c.note.new.self ≡ placed_after old.places (what e) = c.note.ensures ∙ ap (λ (v : ClusterView). placed_after v.places (what e)) c.self.view_is in
-    let here : held_in c.tell.new.here.here ≡ here_after (what e) old.here = ap held_in taken ∙ held_after (what e) rs ∙ ap (λ (v : ClusterView). here_after (what e) v.here) c.self.view_is in
+    let here : held_in c.tell.new.here.here ≡ here_after (what e) old.here = ap held_in taken ∙ held_after (what e) rs (ready_built old e c.requires.ready) ∙ ap (λ (v : ClusterView). here_after (what e) v.here) c.self.view_is in
     let whole : c.count_step.new.self ≡ absorbed old e =
     c.count_step.ensures
     ∙ ap (λ (v : ClusterView). record v { cursor = v.cursor + 1; places = c.note.new.self; here = held_in c.tell.new.here.here; steps = next_count v.steps }) c.self.view_is
