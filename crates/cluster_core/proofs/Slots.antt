@@ -1,5 +1,5 @@
 -- The processes of a cluster in their slots: what a write, a removal and one more make of them.
-use Rattle.std.proofs.Common.{◌≡◌, ◌≢◌, ℕ, Bool, true, false, cond, not, ◌||◌, ◌&&◌, eqb, eqb-true, eq-eqb, List, [], ◌∷◌, ◌++◌, map, find, refl, sym, ap, subst, ◌∙◌, arith, Option, Some, None, IsSome, option_map, true≢false}
+use Rattle.std.proofs.Common.{◌≡◌, ◌≢◌, ℕ, Bool, true, false, cond, not, ◌||◌, ◌&&◌, eqb, eqb-true, eq-eqb, List, [], ◌∷◌, map, find, refl, sym, ap, subst, ◌∙◌, arith, Option, Some, None, IsSome, option_map, true≢false}
 use Rattle.std.specs.Prelude.{filter}
 use Rattle.std.specs.List.{list_any, AllByRecursion}
 use Rattle.std.specs.List.Sorted.{IsStrictlySortedBy}
@@ -56,10 +56,6 @@ all_with P Q R f (x ∷ xs) ps qs = (f x ps.0 qs.0, all_with P Q R f xs ps.1 qs.
 pub all_more : {X : Type 0} → (P R : X → Type 0) → ((x : X) → P x → R x) → (xs : List X) → AllByRecursion P xs → AllByRecursion R xs
 all_more P R f [] ps = tt
 all_more P R f (x ∷ xs) ps = (f x ps.0, all_more P R f xs ps.1)
-
-pub all_put_last : {X : Type 0} → (P : X → Type 0) (xs : List X) (y : X) → AllByRecursion P xs → P y → AllByRecursion P (xs ++ y ∷ [])
-all_put_last P [] y ps p = (p, tt)
-all_put_last P (x ∷ xs) y ps p = (ps.0, all_put_last P xs y ps.1 p)
 
 pub all_removed : (P : ℕ × ℕ → Type 0) (t : ℕ → Bool) (es : List (ℕ × ℕ)) → AllByRecursion P es → AllByRecursion P (remove_entry t es)
 all_removed P t [] ps = tt
@@ -237,12 +233,3 @@ entry_goes slots t key (e ∷ es) found none = by_test (t e.0) found (λ found. 
     by_test : (b : Bool) → cond b (Some e.1) (lookup t es) ≡ Some key → (lookup t es ≡ Some key → stands_in slots (remove_entry t es) ≡ stands_in slots es) → stands_in slots (cond b es (e ∷ remove_entry t es)) ≡ stands_in slots (e ∷ es)
     by_test true found more = ap (λ o. in_slot (pid_of e.0) o (stands_in slots es)) (sym (ap (get slots) (some_same e.1 key found) ∙ none))
     by_test false found more = ap (λ rest. in_slot (pid_of e.0) (get slots e.1) rest) (more found)
-
--- one more entry at the end
-pub one_more : (slots : Slab Process) (n key : ℕ) (p : Process) (es : List (ℕ × ℕ)) → get slots key ≡ Some p → stands_in slots (es ++ (n, key) ∷ []) ≡ stands_in slots es ++ (pid_of n, p) ∷ []
-one_more slots n key p [] there = ap (λ o. in_slot (pid_of n) o []) there
-one_more slots n key p (e ∷ es) there = in_front (get slots e.1) (one_more slots n key p es there)
-  where
-    in_front : (o : Option Process) → stands_in slots (es ++ (n, key) ∷ []) ≡ stands_in slots es ++ (pid_of n, p) ∷ [] → in_slot (pid_of e.0) o (stands_in slots (es ++ (n, key) ∷ [])) ≡ in_slot (pid_of e.0) o (stands_in slots es) ++ (pid_of n, p) ∷ []
-    in_front None more = more
-    in_front (Some q) more = ap (λ rest. (pid_of e.0, q) ∷ rest) more

@@ -33,6 +33,11 @@ process_in here p = option_map (λ (e : Pid × Process). e.1) (find (λ (e : Pid
 abbrev pub HasRoom : List (Pid × Process) → Type 0
 HasRoom here = (pid : Pid) (p : Process) → process_in here pid ≡ Some p → (p.mail).next < 2 ^ 64 - 1
 
+-- one process more, in its place by rising pid
+abbrev pub with_more : Pid → Process → List (Pid × Process) → List (Pid × Process)
+with_more pid p [] = (pid, p) ∷ []
+with_more pid p (e ∷ here) = if nat_lt pid.0 (e.0).0 then (pid, p) ∷ e ∷ here else e ∷ with_more pid p here
+
 -- the process with a pid is another one now
 abbrev pub with_changed : Pid → Process → List (Pid × Process) → List (Pid × Process)
 with_changed p now here = map (λ (e : Pid × Process). if same_pid e.0 p then (p, now) else e) here

@@ -10,7 +10,8 @@ use t32_base::process::ClusterNo;
 use t32_base::streams::NoMemory;
 
 /// Tells the parts of the cluster with a number what an entry changes in them; the placement is still the one
-/// before the entry. Only letters go to some clusters alone. After want of memory no process has changed.
+/// before the entry. A letter goes to some clusters only, and a process here gets one only where this is one
+/// of them. After want of memory no process has changed.
 pub fn tell(number: ClusterNo, here: &mut Residents, entry: &Entry) -> Result<(), NoMemory>
     requires number { number.0 < 16 }
     requires room { HasRoom here.old.here }

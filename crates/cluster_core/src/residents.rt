@@ -1,9 +1,9 @@
 //! The processes at home in a cluster.
-ghost use Rattle.std.specs.Prelude.{ℕ, ◌≡◌, ◌+◌, ◌++◌, ◌∷◌, [], IfOk, OnOk, OnErr, Some, None, nat_lt, true, length, filter, map, not, if◌then◌else◌};
-ghost use Rattle.std.specs.List.{list_all, list_any};
+ghost use Rattle.std.specs.Prelude.{ℕ, ◌≡◌, ◌+◌, [], IfOk, OnOk, OnErr, Some, None, true, length, filter, map, not, if◌then◌else◌, false};
+ghost use Rattle.std.specs.List.{list_any};
 ghost use Rattle.bus_msg.specs.Places.{same_pid};
 ghost use Rattle.plain_kernel.specs.Maps.{at_key, pid_of};
-ghost use Rattle.cluster_core.specs.Residents.{GivenTurnIs, HasRoom, NextAble, TurnIs, are_rising, are_stuck, is_stuck_at, next_ready, pids_in, steps_in, with_arrival};
+ghost use Rattle.cluster_core.specs.Residents.{GivenTurnIs, HasRoom, NextAble, TurnIs, are_rising, are_stuck, is_stuck_at, next_ready, pids_in, steps_in, with_arrival, with_more};
 ghost use Rattle.cluster_core.specs.View.{arrived};
 
 use crate::quantum::{Quantum, run_quantum};
@@ -54,11 +54,11 @@ impl Residents {
         }
     }
 
-    /// One process more, whose pid is above those of all that are here. After want of memory nothing is
-    /// said but that the value can be dropped.
+    /// One process more, whose pid none has that is here. After want of memory nothing is said but that the
+    /// value can be dropped.
     pub fn add(&mut self, pid: Pid, process: Process) -> Result<(), NoMemory>
-        requires { list_all (λ e. nat_lt e.0.0 pid.0) self.old.here ≡ true }
-        ensures here { OnOk result (self.new.here ≡ self.old.here ++ (pid, process) ∷ []) }
+        requires { list_any (λ e. same_pid e.0 pid) self.old.here ≡ false }
+        ensures here { OnOk result (self.new.here ≡ with_more pid process self.old.here) }
         ensures last { OnOk result (self.new.last ≡ self.old.last) }
     {
         self.ready.insert(pid.0)?;
