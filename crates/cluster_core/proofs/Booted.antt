@@ -168,11 +168,8 @@ held_as system number here is p h at = by_process (process_in here p) refl (sym 
 -- a cluster at boot follows the empty log
 pub boot_follows : (system : System) (number : ClusterNo) (here : List (Pid × Process)) → is_system system ≡ true → AreBooted system number here → FollowsBuilt system [] (boot_view system number here)
 boot_follows system number here valid is = record {
-  cursor = refl;
-  places = placed_at_boot system;
-  held = held_as system number here is;
-  each_once = once system number here valid is;
-  own = refl;
-  queue = tt;
-  counted = λ kept. omega arith;
+  log = record { cursor = refl; places = placed_at_boot system };
+  processes = record { held = held_as system number here is; each_once = once system number here valid is };
+  queue = record { own = refl; legal = tt };
+  steps = record { counted = λ kept. omega arith };
 }

@@ -15,12 +15,11 @@ use Rattle.bus_msg.specs.Places.{same_pid}
 use Rattle.plain_kernel.specs.Maps.{at_key, pid_of}
 use Rattle.plain_kernel.proofs.Entries.{some_same}
 use Rattle.cert_sched.specs.Parts.{first_of}
-use Rattle.cluster_core.specs.declared.turn.Turn.{Turn}
-use Rattle.cluster_core.specs.declared.turn.Turn.TheVariants.{Moved, Sends, Rests}
+use Rattle.cluster_core.specs.declared.quantum.Quantum.{Quantum}
+use Rattle.cluster_core.specs.declared.quantum.Quantum.TheVariants.{Moved, Sent, Stuck}
 use Rattle.cluster_core.specs.Quantum.{RunsAndSends}
-use Rattle.cluster_core.specs.Residents.{ResidentsView, NextAble, process_in, is_stuck, are_rising, pids_in, pids_able, next_ready}
+use Rattle.cluster_core.specs.Residents.{ResidentsView, NextAble, process_in, is_stuck, are_rising, pids_in, pids_able, next_ready, ChosenTurn, TurnIs, TakesTurn, GivenTurnIs}
 use Rattle.cluster_core.specs.Slots.{in_slot, stands_in, IsSlot, IsKept}
-use Rattle.cluster_core.specs.Turn.{TurnIs, TakesTurn, GivenTurnIs}
 use Rattle.cluster_core.proofs.Slots.{at_key_is}
 use Rattle.cluster_core.proofs.Working.{silent_has, some_has}
 
@@ -227,15 +226,15 @@ sends_has most s t e runs = by_steps runs.steps runs.silent
     by_steps (suc n) silent = silent_has n s runs.before silent
 
 -- what a turn of the process with a pid makes is the turn of the one that was chosen
-pub chosen_turn : (n : ℕ) (was old given new : ResidentsView) (turn : Turn) → old.here ≡ was.here → old.last ≡ was.last → NextAble n old → GivenTurnIs (pid_of n) old.here (Ok turn) given.here → (turn ≡ Rests → ⊥)
-    → new.here ≡ given.here → new.last ≡ n → TurnIs was (Ok turn) new
-chosen_turn n was old given new Moved here last able takes ran now chosen = record {
-  chosen = (λ i. next_ready (pids_able (sym here i)) (sym last i)) ∙ able takes.was takes.there (some_has 64 (state_of takes.was) (state_of takes.now) takes.turn_is) ∙ ap Some (sym chosen);
-  takes = subst (λ m. TakesTurn (pid_of m) was.here Moved new.here) (sym chosen) (subst (λ hs. TakesTurn (pid_of n) hs Moved new.here) here (subst (λ hs. TakesTurn (pid_of n) old.here Moved hs) (sym now) takes));
-}
-chosen_turn n was old given new (Sends sending) here last able takes ran now chosen = record {
-  chosen = (λ i. next_ready (pids_able (sym here i)) (sym last i)) ∙ able takes.was takes.there (sends_has 64 (state_of takes.was) (state_of takes.now) sending.emission (takes.turn_is).runs) ∙ ap Some (sym chosen);
-  takes = subst (λ m. TakesTurn (pid_of m) was.here (Sends sending) new.here) (sym chosen)
-      (subst (λ hs. TakesTurn (pid_of n) hs (Sends sending) new.here) here (subst (λ hs. TakesTurn (pid_of n) old.here (Sends sending) hs) (sym now) takes));
-}
-chosen_turn n was old given new Rests here last able takes ran now chosen = absurd (ran refl)
+module _ (n : ℕ) (was old given new : ResidentsView) (here : old.here ≡ was.here) (last : old.last ≡ was.last) (able : NextAble n old) (now : new.here ≡ given.here) (chosen : new.last ≡ n) where
+  took : (quantum : Quantum) (takes : TakesTurn (pid_of n) old.here quantum given.here) → has_step (next_step (state_of takes.was)) ≡ true → ChosenTurn was quantum new
+  took quantum takes steps = record {
+    chosen = (λ i. next_ready (pids_able (sym here i)) (sym last i)) ∙ able takes.was takes.there steps ∙ ap Some (sym chosen);
+    takes = subst (λ m. TakesTurn (pid_of m) was.here quantum new.here) (sym chosen)
+        (subst (λ hs. TakesTurn (pid_of n) hs quantum new.here) here (subst (λ hs. TakesTurn (pid_of n) old.here quantum hs) (sym now) takes));
+  }
+
+  pub chosen_turn : (quantum : Quantum) → GivenTurnIs (pid_of n) old.here (Ok quantum) given.here → (quantum ≡ Stuck → ⊥) → TurnIs was (Ok quantum) new
+  chosen_turn Moved takes ran = took Moved takes (some_has 64 (state_of takes.was) (state_of takes.now) takes.ran)
+  chosen_turn (Sent sending) takes ran = took (Sent sending) takes (sends_has 64 (state_of takes.was) (state_of takes.now) sending.emission (takes.ran).runs)
+  chosen_turn Stuck takes ran = absurd (ran refl)

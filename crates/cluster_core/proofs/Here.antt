@@ -1,8 +1,7 @@
 -- The processes that are here, as they are held, and what an entry makes of them.
-use Rattle.std.proofs.Common.{◌≡◌, ℕ, ◌+◌, refl, sym, ◌∙◌, ap, List, [], ◌∷◌, map, Bool, true, false, cond, not, ◌||◌, eqb, eqb-true, eq-eqb, Option, Some, None, true≢false}
+use Rattle.std.proofs.Common.{◌≡◌, ℕ, refl, sym, ◌∙◌, ap, List, [], ◌∷◌, map, Bool, true, false, cond, not, ◌||◌, eqb, eqb-true, eq-eqb, Option, Some, None, true≢false}
 use Rattle.std.specs.Prelude.{filter, find, option_map}
-use Rattle.std.specs.List.{list_any, sum_by}
-use Rattle.std.proofs.lemmas.List.Sums.{sum_by-cons}
+use Rattle.std.specs.List.{list_any}
 use Rattle.t32_base.specs.declared.process.Pid.{Pid}
 use Rattle.t32_base.specs.declared.letter.Letter.{Letter}
 use Rattle.proc_state.specs.declared.process.Process.{Process}
@@ -10,15 +9,17 @@ use Rattle.proc_state.specs.State.{state_of, delivered}
 use Rattle.sys_calls.specs.declared.steps.Emission.{Emission}
 use Rattle.sys_calls.specs.declared.steps.Emission.TheVariants.{Mail as Sent, Exit as Ended}
 use Rattle.bus_msg.specs.declared.entry.What.{What}
-use Rattle.bus_msg.specs.declared.entry.What.TheVariants.{Mail, Birth, Exit, Page, Sync, Fetch, PageIs, Crash, Return, Rebackup, Done, Stop}
+use Rattle.bus_msg.specs.declared.entry.What.TheVariants.{Mail}
 use Rattle.bus_msg.specs.Places.{same_pid}
+use Rattle.cert_sched.specs.Built.{is_built}
 use Rattle.cert_sched.specs.Deeds.{is_end_of}
 use Rattle.cert_sched.proofs.StepLaws.{Tells}
 use Rattle.cert_sched.proofs.MailLaws.{with_arrival}
-use Rattle.cluster_core.specs.View.{ClusterView, Held, Runs, arrived, arrived_held, held_at, held_load}
-use Rattle.cluster_core.specs.Residents.{process_in, with_changed, residents_after, load_in, pids_in}
+use Rattle.cluster_core.specs.View.{ClusterView, Held, Runs, arrived, arrived_held, held_at}
+use Rattle.cluster_core.specs.Residents.{process_in, with_changed, residents_after, pids_in}
 use Rattle.cluster_core.specs.Parts.{held_in}
 use Rattle.cluster_core.specs.Calls.{here_after}
+use Rattle.cluster_core.proofs.ByKind.{by_kind}
 
 pub pid_same : (p q : Pid) → p.0 ≡ q.0 → p ≡ q
 pid_same p q h = λ i. record { 0 = h i }
@@ -102,19 +103,8 @@ exit_held pid (e ∷ rs) = by_test (not (same_pid e.0 pid)) (exit_held pid rs)
     by_test false more = more
 
 -- what an entry makes of the processes it makes of what is held
-pub held_after : (w : What) (rs : List (Pid × Process)) → held_in (residents_after w rs) ≡ here_after w (held_in rs)
-held_after (Mail at letter) rs = letter_held letter rs
-held_after (Exit pid at end) rs = exit_held pid rs
-held_after (Birth parent at child end) rs = refl
-held_after (Page pid at index bytes) rs = refl
-held_after (Sync pid small read took) rs = refl
-held_after (Fetch pid index) rs = refl
-held_after (PageIs pid index bytes) rs = refl
-held_after (Crash k cause) rs = refl
-held_after (Return k) rs = refl
-held_after (Rebackup to fresh recs) rs = refl
-held_after (Done rests) rs = refl
-held_after Stop rs = refl
+pub held_after : (w : What) (rs : List (Pid × Process)) → is_built w ≡ true → held_in (residents_after w rs) ≡ here_after w (held_in rs)
+held_after w rs = by_kind (λ w. held_in (residents_after w rs) ≡ here_after w (held_in rs)) (λ at letter. letter_held letter rs) (λ pid at end. exit_held pid rs) (λ rests. refl) refl w
 
 -- ---- one process, after an entry
 
@@ -187,19 +177,14 @@ exit_found pid (e ∷ rs) p s at = by_exit (same_pid e.0 pid) refl at (exit_foun
 pub ended_gone : (pid : Pid) (rs : List (Pid × Process)) (p : Pid) (s : Process) → process_in (filter (λ (e : Pid × Process). not (same_pid e.0 pid)) rs) p ≡ Some s → same_pid p pid ≡ false
 ended_gone pid rs p s at = (exit_found pid rs p s at).1
 
-pub was_here : (w : What) (rs : List (Pid × Process)) (p : Pid) (s : Process) → process_in (residents_after w rs) p ≡ Some s → WasHere w rs p s
-was_here (Mail at letter) rs p s is = letter_was at letter rs p s (process_in rs p) refl (sym (letter_found letter rs p) ∙ is)
-was_here (Exit pid at end) rs p s is = record { was = s; there = (exit_found pid rs p s is).0; same = refl }
-was_here (Birth parent at child end) rs p s is = record { was = s; there = is; same = refl }
-was_here (Page pid at index bytes) rs p s is = record { was = s; there = is; same = refl }
-was_here (Sync pid small read took) rs p s is = record { was = s; there = is; same = refl }
-was_here (Fetch pid index) rs p s is = record { was = s; there = is; same = refl }
-was_here (PageIs pid index bytes) rs p s is = record { was = s; there = is; same = refl }
-was_here (Crash k cause) rs p s is = record { was = s; there = is; same = refl }
-was_here (Return k) rs p s is = record { was = s; there = is; same = refl }
-was_here (Rebackup to fresh recs) rs p s is = record { was = s; there = is; same = refl }
-was_here (Done rests) rs p s is = record { was = s; there = is; same = refl }
-was_here Stop rs p s is = record { was = s; there = is; same = refl }
+pub was_here : (w : What) (rs : List (Pid × Process)) (p : Pid) (s : Process) → is_built w ≡ true → process_in (residents_after w rs) p ≡ Some s → WasHere w rs p s
+was_here w rs p s =
+    by_kind (λ w. process_in (residents_after w rs) p ≡ Some s → WasHere w rs p s)
+    (λ at letter is. letter_was at letter rs p s (process_in rs p) refl (sym (letter_found letter rs p) ∙ is))
+    (λ pid at end is. record { was = s; there = (exit_found pid rs p s is).0; same = refl })
+    (λ rests is. record { was = s; there = is; same = refl })
+    (λ is. record { was = s; there = is; same = refl })
+    w
 
 -- its state is that of the kernel's process with the letter, where the entry tells of an emission
 pub arrival_state : (w : What) (q : Pid) (at : ℕ) (m : Emission) (p : Pid) (s : Process) → Tells q at m w → state_of (arrival_at w p s) ≡ with_arrival m p (state_of s)
@@ -211,23 +196,12 @@ arrival_state w q at (Sent letter) p s tells = ap (λ w. state_of (arrival_at w 
 arrival_state w q at (Ended end) p s tells = ap (λ w. state_of (arrival_at w p s)) tells
 
 -- a letter changes neither the steps nor the rest of the small state
-pub arrival_small : (w : What) (p : Pid) (s : Process) → (arrival_at w p s).small ≡ s.small
-arrival_small (Mail at letter) p s = by_test (is_end_of p letter.to)
+pub arrival_small : (w : What) (p : Pid) (s : Process) → is_built w ≡ true → (arrival_at w p s).small ≡ s.small
+arrival_small w p s = by_kind (λ w. (arrival_at w p s).small ≡ s.small) (λ at letter. by_test letter (is_end_of p letter.to)) (λ pid at end. refl) (λ rests. refl) refl w
   where
-    by_test : (b : Bool) → (cond b (arrived s letter) s).small ≡ s.small
-    by_test true = refl
-    by_test false = refl
-arrival_small (Exit pid at end) p s = refl
-arrival_small (Birth parent at child end) p s = refl
-arrival_small (Page pid at index bytes) p s = refl
-arrival_small (Sync pid small read took) p s = refl
-arrival_small (Fetch pid index) p s = refl
-arrival_small (PageIs pid index bytes) p s = refl
-arrival_small (Crash k cause) p s = refl
-arrival_small (Return k) p s = refl
-arrival_small (Rebackup to fresh recs) p s = refl
-arrival_small (Done rests) p s = refl
-arrival_small Stop p s = refl
+    by_test : (letter : Letter) (b : Bool) → (cond b (arrived s letter) s).small ≡ s.small
+    by_test letter true = refl
+    by_test letter false = refl
 
 -- ---- one process has changed
 
@@ -306,10 +280,3 @@ found_changed p now (e ∷ rs) q s at = by_tests (same_pid e.0 p) (same_pid e.0 
     by_tests false false is other at more =
         let rest = more (sym (ap (λ b. option_map (λ (e : Pid × Process). e.1) (cond b (Some e) (find (λ (e : Pid × Process). same_pid e.0 q) (with_changed p now rs)))) other) ∙ at) in
         record { was = rest.was; there = skip (same_pid e.0 q) refl other ∙ rest.there; here = rest.here }
-
--- ---- what is left to do
-
-pub load_same : (rs : List (Pid × Process)) → sum_by (λ (e : Pid × Held). held_load e.1) (held_in rs) ≡ load_in rs
-load_same [] = refl
-load_same (e ∷ rs) =
-    sum_by-cons (λ (e : Pid × Held). held_load e.1) (e.0, Runs e.1) (held_in rs) ∙ ap (λ n. held_load (Runs e.1) + n) (load_same rs) ∙ sym (sum_by-cons (λ (e : Pid × Process). held_load (Runs e.1)) e rs)

@@ -10,7 +10,15 @@ use Rattle.bus_msg.specs.Places.{Places, same_pid, same_cluster, is_at_home, une
 use Rattle.bus_msg.specs.PlacedAfter.{after_exit}
 use Rattle.channel_table.specs.Changes.{pids_differ}
 use Rattle.cert_sched.specs.Parts.{rising}
+use Rattle.sys_text.specs.declared.system.System.{System}
+use Rattle.sys_text.specs.Valid.{is_system}
+use Rattle.bus_msg.specs.declared.entry.Entry.{Entry}
+use Rattle.cert_sched.specs.Built.{BuiltMayFollow}
+use Rattle.cert_sched.specs.Legal.{IsLegalBy}
+use Rattle.cert_sched.specs.Schedule.{placement, places_at_boot}
+use Rattle.cert_sched.proofs.BuiltLaws.{Kept, built_kept, kept}
 use Rattle.cert_sched.proofs.RisingLaws.{rising-any}
+use Rattle.cert_sched.proofs.RootPids.{root_pids_differ}
 
 -- ---- the pids at home
 
@@ -83,6 +91,25 @@ home_here places k ns p differ same here =
     sym (rising-any (λ n. eqb n p.0) (pids_home k places.placed)) ∙ ap (list_any (λ n. eqb n p.0)) (sym same) ∙ rising-any (λ n. eqb n p.0) ns ∙ here in
     let f = found_here k places.placed p differ at_home in
     record { placed = f.0; found = f.1; home = f.2 }
+
+-- ---- that no pid stands twice
+
+abbrev differ_in : List Kept → Bool
+differ_in [] = true
+differ_in (k ∷ ks) = not (list_any (λ (j : Kept). same_pid j.pid k.pid) ks) && differ_in ks
+
+differ_kept : (qs : List Placed) → pids_differ qs ≡ differ_in (map kept qs)
+differ_kept [] = refl
+differ_kept (q ∷ qs) = λ i. not (any_kept q.pid qs i) && differ_kept qs i
+  where
+    any_kept : (p : Pid) (qs : List Placed) → list_any (λ (r : Placed). same_pid r.pid p) qs ≡ list_any (λ (j : Kept). same_pid j.pid p) (map kept qs)
+    any_kept p [] = refl
+    any_kept p (q ∷ qs) = ap (λ b. same_pid q.pid p || b) (any_kept p qs)
+
+-- so it is at boot, and no entry that is built places a process
+pub differ_built : (system : System) (log : List Entry) → is_system system ≡ true → IsLegalBy BuiltMayFollow system log → pids_differ (placement system log).placed ≡ true
+differ_built system log valid legal =
+    differ_kept (placement system log).placed ∙ ap differ_in (built_kept system log legal) ∙ sym (differ_kept (places_at_boot system).placed) ∙ root_pids_differ system valid
 
 -- ---- an exit
 

@@ -1,6 +1,6 @@
 -- The processes of a cluster in their slots stay as they have to: what is kept over a write, a removal and one more.
-use Rattle.std.proofs.Common.{◌≡◌, ℕ, ◌+◌, ◌≤◌, ◌<◌, Bool, true, false, cond, not, ◌||◌, ◌&&◌, eqb, ltb, eqb-true, eq-eqb, ne_eqb, List, [], ◌∷◌, ◌++◌, map, find, length, refl, sym, ap, subst, ◌∙◌, arith, Option, Some, None, IsSome, is_some, true≢false, append_assoc}
-use Rattle.std.specs.Prelude.{filter, Result, Ok, Err, IfOk, OnOk, slice_get, slice_index_or, IfSome}
+use Rattle.std.proofs.Common.{◌≡◌, ℕ, ◌<◌, Bool, true, false, cond, not, ◌||◌, ◌&&◌, eqb, ltb, eqb-true, eq-eqb, ne_eqb, List, [], ◌∷◌, ◌++◌, map, find, length, refl, sym, ap, subst, ◌∙◌, arith, Option, Some, None, IsSome, is_some, true≢false, append_assoc}
+use Rattle.std.specs.Prelude.{filter, Result, Ok, Err, OnOk, slice_get, slice_index_or, IfSome}
 use Rattle.std.specs.Borrow.{Bor}
 use Rattle.std.specs.BTreeMap.Range.{range_contains}
 use Rattle.std.specs.declared.ops.Bound.TheVariants.{Excluded, Unbounded}
@@ -22,20 +22,19 @@ use Rattle.t32_base.specs.declared.letter.To.{To}
 use Rattle.t32_base.specs.declared.letter.To.TheVariants.{Tty}
 use Rattle.cert_sched.specs.Deeds.{is_end_of}
 use Rattle.cluster_core.specs.View.{arrived}
-use Rattle.sys_calls.specs.Small.{weight}
 use Rattle.sys_calls.specs.Next.{next_step, has_step}
 use Rattle.bus_msg.specs.Places.{same_pid}
 use Rattle.plain_kernel.specs.Maps.{at_key, pid_of}
 use Rattle.plain_kernel.proofs.Entries.{some_same}
 use Rattle.cert_sched.specs.Parts.{first_of}
 use Rattle.cert_sched.proofs.RisingLaws.{NoTwo, either_not}
-use Rattle.cluster_core.specs.Residents.{is_stuck, are_rising, are_stuck, pids_in, steps_in, load_in, next_ready}
+use Rattle.cluster_core.specs.Residents.{is_stuck, are_rising, are_stuck, pids_in, steps_in, next_ready, is_stuck_at, TakesTurn, GivenTurnIs, with_more}
 use Rattle.cluster_core.specs.Slots.{in_slot, stands_in, IsSlot, IsKept}
 use Rattle.t32_base.specs.declared.streams.NoMemory.{NoMemory}
-use Rattle.cluster_core.specs.declared.turn.Turn.{Turn}
-use Rattle.cluster_core.specs.declared.turn.Turn.TheVariants.{Moved, Sends, Rests}
-use Rattle.cluster_core.specs.Turn.{is_stuck_at, ProcessTurn, TakesTurn, GivenTurnIs, LighterProcess, LighterTurn}
-use Rattle.cluster_core.proofs.Slots.{IsOne, all_more, all_put_last, all_removed, all_with, at_key_is, both_true, entry_goes, later_is_other, load_written, no_entry, nobody_changed, none_not_some, not_true, one_key, pids, process_there, slot_keys, taken_out, turned, written}
+use Rattle.cluster_core.specs.declared.quantum.Quantum.{Quantum}
+use Rattle.cluster_core.specs.declared.quantum.Quantum.TheVariants.{Moved, Sent, Stuck}
+use Rattle.cluster_core.specs.Quantum.{RunsQuantum}
+use Rattle.cluster_core.proofs.Slots.{IsOne, all_more, all_removed, all_with, at_key_is, both_true, entry_goes, later_is_other, no_entry, nobody_changed, none_not_some, not_true, one_key, pids, process_there, slot_keys, taken_out, turned, written}
 
 -- ---- what is kept
 
@@ -91,40 +90,81 @@ kept_beside slots new key o keys ready none updates k = record {
 
 -- ---- one more
 
-above : (x n : ℕ) → ltb x n ≡ true → nat_cmp n x ≡ Greater
-above x n below = grind (arith, nat_tests)
+before_it : (n x : ℕ) → ltb n x ≡ true → nat_cmp n x ≡ Less
+before_it n x is = grind (arith, nat_tests)
 
-some_before : (slots : Slab Process) (n : ℕ) (pid : ℕ) (o : Option Process) (rest : List (Pid × Process)) → IsSome o → list_all (λ (e : Pid × Process). ltb (e.0).0 n) (in_slot (pid_of pid) o rest) ≡ true
-    → (ltb pid n ≡ true) × (list_all (λ (e : Pid × Process). ltb (e.0).0 n) rest ≡ true)
-some_before slots n pid None rest there all = absurd (false≢true there)
-some_before slots n pid (Some p) rest there all = both_true (ltb pid n) (list_all (λ (e : Pid × Process). ltb (e.0).0 n) rest) all
+after_it : (n x : ℕ) → ltb n x ≡ false → eqb x n ≡ false → nat_cmp n x ≡ Greater
+after_it n x is other = grind (arith, nat_tests)
 
-pub all_below : (slots : Slab Process) (ready : List ℕ) (n : ℕ) (es : List (ℕ × ℕ)) → AllByRecursion (IsSlot slots ready) es → list_all (λ (e : Pid × Process). ltb (e.0).0 n) (stands_in slots es) ≡ true → AllByRecursion (λ (e : ℕ × ℕ). ltb e.0 n ≡ true) es
-all_below slots ready n [] kept all = tt
-all_below slots ready n (e ∷ es) kept all =
-    let parts = some_before slots n e.0 (get slots e.1) (stands_in slots es) (kept.0).filled all in
-    (parts.0, all_below slots ready n es kept.1 parts.1)
+abbrev OtherPids : ℕ → List (ℕ × ℕ) → Type 0
+OtherPids n es = AllByRecursion (λ (e : ℕ × ℕ). eqb e.0 n ≡ false) es
 
-pub put_last : (n key : ℕ) (es : List (ℕ × ℕ)) → AllByRecursion (λ (e : ℕ × ℕ). ltb e.0 n ≡ true) es → insert_entry nat_cmp es n key ≡ es ++ (n, key) ∷ []
-put_last n key [] below = refl
-put_last n key (e ∷ es) below = rw (above e.0 n below.0) (ap (λ rest. e ∷ rest) (put_last n key es below.1))
+-- an entry is put before the first with a higher pid
+put_first : (n key : ℕ) (e : ℕ × ℕ) (es : List (ℕ × ℕ)) → eqb e.0 n ≡ false → insert_entry nat_cmp (e ∷ es) n key ≡ cond (ltb n e.0) ((n, key) ∷ e ∷ es) (e ∷ insert_entry nat_cmp es n key)
+put_first n key e es other = by_test (ltb n e.0) refl
+  where
+    by_test : (b : Bool) → ltb n e.0 ≡ b → insert_entry nat_cmp (e ∷ es) n key ≡ cond b ((n, key) ∷ e ∷ es) (e ∷ insert_entry nat_cmp es n key)
+    by_test true is = rw (before_it n e.0 is) refl
+    by_test false is = rw (after_it n e.0 is other) refl
 
-any_last : (t : ℕ → Bool) (n key : ℕ) (es : List (ℕ × ℕ)) → list_any t (slot_keys es) ≡ false → t key ≡ false → list_any t (slot_keys (es ++ (n, key) ∷ [])) ≡ false
-any_last t n key [] none other = ap (λ b. b || false) other
-any_last t n key (e ∷ es) none other =
-    let parts = either_not (t e.1) (list_any t (slot_keys es)) none in
-    ap (λ b. b || list_any t (slot_keys (es ++ (n, key) ∷ []))) parts.0 ∙ any_last t n key es parts.1 other
+-- no entry has the pid of a process that is not here
+pub none_here : (slots : Slab Process) (ready : List ℕ) (n : ℕ) (es : List (ℕ × ℕ)) → AllByRecursion (IsSlot slots ready) es → list_any (λ (e : Pid × Process). same_pid e.0 (pid_of n)) (stands_in slots es) ≡ false → OtherPids n es
+none_here slots ready n [] kept none = tt
+none_here slots ready n (e ∷ es) kept none = let parts = in_front (get slots e.1) (kept.0).filled none in (parts.0, none_here slots ready n es kept.1 parts.1)
+  where
+    in_front : (o : Option Process) → IsSome o → list_any (λ (e : Pid × Process). same_pid e.0 (pid_of n)) (in_slot (pid_of e.0) o (stands_in slots es)) ≡ false
+        → (eqb e.0 n ≡ false) × (list_any (λ (e : Pid × Process). same_pid e.0 (pid_of n)) (stands_in slots es) ≡ false)
+    in_front None there none = absurd (false≢true there)
+    in_front (Some p) there none = either_not (eqb e.0 n) (list_any (λ (e : Pid × Process). same_pid e.0 (pid_of n)) (stands_in slots es)) none
 
-apart_last : (n key : ℕ) (es : List (ℕ × ℕ)) → NoTwo (slot_keys es) → AllByRecursion (λ (e : ℕ × ℕ). eqb e.1 key ≡ false) es → NoTwo (slot_keys (es ++ (n, key) ∷ []))
-apart_last n key [] apart others = (refl, tt)
-apart_last n key (e ∷ es) apart others = (any_last (λ m. eqb m e.1) n key es apart.0 (turned e.1 key others.0), apart_last n key es apart.1 others.1)
+pub stands_put : (slots : Slab Process) (ready : List ℕ) (n key : ℕ) (p : Process) (es : List (ℕ × ℕ)) → get slots key ≡ Some p → AllByRecursion (IsSlot slots ready) es → OtherPids n es
+    → stands_in slots (insert_entry nat_cmp es n key) ≡ with_more (pid_of n) p (stands_in slots es)
+stands_put slots ready n key p [] there kept others = ap (λ o. in_slot (pid_of n) o []) there
+stands_put slots ready n key p (e ∷ es) there kept others = ap (stands_in slots) (put_first n key e es others.0) ∙ by_slot (get slots e.1) refl (kept.0).filled (stands_put slots ready n key p es there kept.1 others.1)
+  where
+    by_slot : (o : Option Process) → get slots e.1 ≡ o → IsSome o → stands_in slots (insert_entry nat_cmp es n key) ≡ with_more (pid_of n) p (stands_in slots es)
+        → stands_in slots (cond (ltb n e.0) ((n, key) ∷ e ∷ es) (e ∷ insert_entry nat_cmp es n key)) ≡ with_more (pid_of n) p (in_slot (pid_of e.0) o (stands_in slots es))
+    by_slot None is filled more = absurd (false≢true filled)
+    by_slot (Some q) is filled more = by_test (ltb n e.0)
+      where
+        by_test : (b : Bool) → stands_in slots (cond b ((n, key) ∷ e ∷ es) (e ∷ insert_entry nat_cmp es n key)) ≡ cond b ((pid_of n, p) ∷ (pid_of e.0, q) ∷ stands_in slots es) ((pid_of e.0, q) ∷ with_more (pid_of n) p (stands_in slots es))
+        by_test true = λ i. in_slot (pid_of n) (there i) (in_slot (pid_of e.0) (is i) (stands_in slots es))
+        by_test false = λ i. in_slot (pid_of e.0) (is i) (more i)
 
-pub kept_added : (slots : Slab Process) (n key : ℕ) (keys : List (ℕ × ℕ)) (ready : List ℕ) → IsSome (get slots key) → AllByRecursion (λ (e : ℕ × ℕ). eqb e.1 key ≡ false) keys → list_any (at_key n) ready ≡ true
-    → IsStrictlySortedBy nat_cmp (pids (keys ++ (n, key) ∷ [])) → IsKept slots keys ready → IsKept slots (keys ++ (n, key) ∷ []) ready
-kept_added slots n key keys ready there others listed ordered k = record {
+any_put : (t : ℕ → Bool) (n key : ℕ) (es : List (ℕ × ℕ)) → OtherPids n es → list_any t (slot_keys es) ≡ false → t key ≡ false → list_any t (slot_keys (insert_entry nat_cmp es n key)) ≡ false
+any_put t n key [] others none other = ap (λ b. b || false) other
+any_put t n key (e ∷ es) others none other = ap (λ es. list_any t (slot_keys es)) (put_first n key e es others.0) ∙ by_test (ltb n e.0) (any_put t n key es others.1 (either_not (t e.1) (list_any t (slot_keys es)) none).1 other)
+  where
+    by_test : (b : Bool) → list_any t (slot_keys (insert_entry nat_cmp es n key)) ≡ false → list_any t (slot_keys (cond b ((n, key) ∷ e ∷ es) (e ∷ insert_entry nat_cmp es n key))) ≡ false
+    by_test true more = λ i. other i || none i
+    by_test false more = λ i. (either_not (t e.1) (list_any t (slot_keys es)) none).0 i || more i
+
+none_keyed : (key : ℕ) (es : List (ℕ × ℕ)) → AllByRecursion (λ (e : ℕ × ℕ). eqb e.1 key ≡ false) es → list_any (λ m. eqb m key) (slot_keys es) ≡ false
+none_keyed key [] all = refl
+none_keyed key (e ∷ es) all = λ i. all.0 i || none_keyed key es all.1 i
+
+apart_put : (n key : ℕ) (es : List (ℕ × ℕ)) → OtherPids n es → NoTwo (slot_keys es) → AllByRecursion (λ (e : ℕ × ℕ). eqb e.1 key ≡ false) es → NoTwo (slot_keys (insert_entry nat_cmp es n key))
+apart_put n key [] others apart keys = (refl, tt)
+apart_put n key (e ∷ es) others apart keys = subst (λ es. NoTwo (slot_keys es)) (sym (put_first n key e es others.0)) (by_test (ltb n e.0) (apart_put n key es others.1 apart.1 keys.1))
+  where
+    by_test : (b : Bool) → NoTwo (slot_keys (insert_entry nat_cmp es n key)) → NoTwo (slot_keys (cond b ((n, key) ∷ e ∷ es) (e ∷ insert_entry nat_cmp es n key)))
+    by_test true more = (none_keyed key (e ∷ es) keys, apart)
+    by_test false more = (any_put (λ m. eqb m e.1) n key es others.1 apart.0 (turned e.1 key keys.0), more)
+
+all_put : (P : ℕ × ℕ → Type 0) (n key : ℕ) (es : List (ℕ × ℕ)) → OtherPids n es → AllByRecursion P es → P (n, key) → AllByRecursion P (insert_entry nat_cmp es n key)
+all_put P n key [] others all mine = (mine, tt)
+all_put P n key (e ∷ es) others all mine = subst (AllByRecursion P) (sym (put_first n key e es others.0)) (by_test (ltb n e.0) (all_put P n key es others.1 all.1 mine))
+  where
+    by_test : (b : Bool) → AllByRecursion P (insert_entry nat_cmp es n key) → AllByRecursion P (cond b ((n, key) ∷ e ∷ es) (e ∷ insert_entry nat_cmp es n key))
+    by_test true more = (mine, all)
+    by_test false more = (all.0, more)
+
+pub kept_added : (slots : Slab Process) (n key : ℕ) (keys : List (ℕ × ℕ)) (ready : List ℕ) → IsSome (get slots key) → AllByRecursion (λ (e : ℕ × ℕ). eqb e.1 key ≡ false) keys → OtherPids n keys → list_any (at_key n) ready ≡ true
+    → IsStrictlySortedBy nat_cmp (pids (insert_entry nat_cmp keys n key)) → IsKept slots keys ready → IsKept slots (insert_entry nat_cmp keys n key) ready
+kept_added slots n key keys ready there unkeyed others listed ordered k = record {
   ordered = ordered;
-  apart = apart_last n key keys k.apart others;
-  each = all_put_last (IsSlot slots ready) keys (n, key) k.each (record { filled = there; stepping = λ p is steps. listed });
+  apart = apart_put n key keys others k.apart unkeyed;
+  each = all_put (IsSlot slots ready) n key keys others k.each (record { filled = there; stepping = λ p is steps. listed });
 }
 
 -- ---- one less
@@ -351,41 +391,25 @@ written_back slots new key was now (e ∷ es) there updates same =
     by_test false is = updates.others e.1 (λ same. true≢false (sym (eq-eqb e.1 key same) ∙ is))
 
 -- a process had its turn
-pub given_turn : (slots new : Slab Process) (n key : ℕ) (keys : List (ℕ × ℕ)) (ready : List ℕ) (was now : Process) (old : List (Pid × Process)) (r : Result Turn NoMemory)
-    → IsKept slots keys ready → lookup (at_key n) keys ≡ Some key → get slots key ≡ Some was → Updates slots new key (Some now) → stands_in slots keys ≡ old → ProcessTurn (pid_of n) was r now → GivenTurnIs (pid_of n) old r (stands_in new keys)
-given_turn slots new n key keys ready was now old (Ok Moved) kept found there updates same turn =
-    subst (λ old. TakesTurn (pid_of n) old Moved (stands_in new keys)) same
-    (record {
-      was = was;
-      now = now;
-      there = process_there slots n key was keys found there;
-      turn_is = turn;
-      here = written slots new n key was now (λ e. (pid_of n, now)) keys (one_key n key keys kept.ordered kept.apart found) there updates refl;
-    })
-given_turn slots new n key keys ready was now old (Ok (Sends sending)) kept found there updates same turn =
-    subst (λ old. TakesTurn (pid_of n) old (Sends sending) (stands_in new keys)) same
-    (record {
-      was = was;
-      now = now;
-      there = process_there slots n key was keys found there;
-      turn_is = turn;
-      here = written slots new n key was now (λ e. (pid_of n, now)) keys (one_key n key keys kept.ordered kept.apart found) there updates refl;
-    })
-given_turn slots new n key keys ready was now old (Ok Rests) kept found there updates same turn =
-    (ap (is_stuck_at (pid_of n)) (sym same) ∙ stuck_there slots n key was keys (one_key n key keys kept.ordered kept.apart found) there turn.0, written_back slots new key was now keys there updates turn.1 ∙ same)
-given_turn slots new n key keys ready was now old (Err fault) kept found there updates same turn = written_back slots new key was now keys there updates turn ∙ same
+module _ (slots new : Slab Process) (n key : ℕ) (keys : List (ℕ × ℕ)) (ready : List ℕ) (was now : Process) (old : List (Pid × Process)) (kept : IsKept slots keys ready) (found : lookup (at_key n) keys ≡ Some key)
+    (there : get slots key ≡ Some was) (updates : Updates slots new key (Some now)) (same : stands_in slots keys ≡ old) where
+  took : (quantum : Quantum) → RunsQuantum 64 was (Ok quantum) now → TakesTurn (pid_of n) old quantum (stands_in new keys)
+  took quantum ran =
+      subst (λ old. TakesTurn (pid_of n) old quantum (stands_in new keys)) same
+      (record {
+        was = was;
+        now = now;
+        there = process_there slots n key was keys found there;
+        ran = ran;
+        here = written slots new n key was now (λ e. (pid_of n, now)) keys (one_key n key keys kept.ordered kept.apart found) there updates refl;
+      })
 
-less_load : (slots new : Slab Process) (n key : ℕ) (keys : List (ℕ × ℕ)) (ready : List ℕ) (was now : Process) (old : List (Pid × Process)) → IsKept slots keys ready → lookup (at_key n) keys ≡ Some key → get slots key ≡ Some was → Updates slots new key (Some now)
-    → stands_in slots keys ≡ old → weight now.small + 1 ≤ weight was.small → load_in (stands_in new keys) + 1 ≤ load_in old
-less_load slots new n key keys ready was now old kept found there updates same lighter =
-    omega (arith, lighter, ap load_in same, load_written slots new n key was now keys found kept.apart there updates)
-
-pub given_lighter : (slots new : Slab Process) (n key : ℕ) (keys : List (ℕ × ℕ)) (ready : List ℕ) (was now : Process) (old : List (Pid × Process)) (r : Result Turn NoMemory)
-    → IsKept slots keys ready → lookup (at_key n) keys ≡ Some key → get slots key ≡ Some was → Updates slots new key (Some now) → stands_in slots keys ≡ old → IfOk r (λ turn. LighterProcess turn was now) → IfOk r (λ turn. LighterTurn turn old (stands_in new keys))
-given_lighter slots new n key keys ready was now old (Ok Moved) kept found there updates same lighter = less_load slots new n key keys ready was now old kept found there updates same lighter
-given_lighter slots new n key keys ready was now old (Ok (Sends sending)) kept found there updates same lighter = less_load slots new n key keys ready was now old kept found there updates same lighter
-given_lighter slots new n key keys ready was now old (Ok Rests) kept found there updates same lighter = tt
-given_lighter slots new n key keys ready was now old (Err fault) kept found there updates same lighter = tt
+  pub given_turn : (r : Result Quantum NoMemory) → RunsQuantum 64 was r now → GivenTurnIs (pid_of n) old r (stands_in new keys)
+  given_turn (Ok Moved) ran = took Moved ran
+  given_turn (Ok (Sent sending)) ran = took (Sent sending) ran
+  given_turn (Ok Stuck) ran =
+      (ap (is_stuck_at (pid_of n)) (sym same) ∙ stuck_there slots n key was keys (one_key n key keys kept.ordered kept.apart found) there ran.0, written_back slots new key was now keys there updates ran.1 ∙ same)
+  given_turn (Err fault) ran = written_back slots new key was now keys there updates ran ∙ same
 
 -- a process goes with its entry
 pub goes : (slots new : Slab Process) (n key : ℕ) (keys : List (ℕ × ℕ)) (ready : List ℕ) → IsKept slots keys ready → lookup (at_key n) keys ≡ Some key → Updates slots new key None

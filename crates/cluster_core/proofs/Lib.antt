@@ -12,3 +12,8 @@ pub mod Owning
 pub mod Working
 pub mod Resting
 pub mod Turning
+pub mod Weighing
+pub mod Lightening
+pub mod WorkedViews
+pub mod Arriving
+pub mod ByKind

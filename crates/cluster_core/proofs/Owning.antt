@@ -11,7 +11,7 @@ use Rattle.sys_calls.specs.Next.{next_step, has_step}
 use Rattle.sys_calls.proofs.Counting.{silently_counts, emits_counts}
 use Rattle.sys_calls.proofs.Quiet.{delivered_quiet, emits_quiet, silently_quiet, takes_none}
 use Rattle.bus_msg.specs.declared.entry.What.{What}
-use Rattle.bus_msg.specs.declared.entry.What.TheVariants.{Mail, Birth, Exit, Page, Sync, Fetch, PageIs, Crash, Return, Rebackup, Done, Stop}
+use Rattle.bus_msg.specs.declared.entry.What.TheVariants.{Mail}
 use Rattle.bus_msg.specs.Places.{same_pid}
 use Rattle.cert_sched.specs.Deeds.{is_end_of}
 use Rattle.cluster_core.specs.View.{arrived}
@@ -19,7 +19,9 @@ use Rattle.cluster_core.specs.Residents.{process_in, residents_after, with_chang
 use Rattle.cluster_core.specs.Parts.{held_in, IsOwn, AllOwn}
 use Rattle.cluster_core.specs.Calls.{are_at_rest}
 use Rattle.cluster_core.specs.Quantum.{RunsSome, RunsAndSends}
+use Rattle.cert_sched.specs.Built.{is_built}
 use Rattle.cluster_core.proofs.Here.{pid_same}
+use Rattle.cluster_core.proofs.ByKind.{by_kind}
 
 -- ---- one of them
 
@@ -110,16 +112,7 @@ own_exit cursor pid (e ∷ rs) own = by_test (not (same_pid e.0 pid)) (own_exit 
     by_test true more = (own.0, more)
     by_test false more = more
 
-pub own_after : (cursor : ℕ) (w : What) (rs : List (Pid × Process)) → brings_none w → AllOwn cursor rs → AllOwn (cursor + 1) (residents_after w rs)
-own_after cursor (Mail at letter) rs none own = own_letter cursor letter rs none own
-own_after cursor (Exit pid at end) rs none own = own_later cursor _ (own_exit cursor pid rs own)
-own_after cursor (Birth parent at child end) rs none own = own_later cursor rs own
-own_after cursor (Page pid at index bytes) rs none own = own_later cursor rs own
-own_after cursor (Sync pid small read took) rs none own = own_later cursor rs own
-own_after cursor (Fetch pid index) rs none own = own_later cursor rs own
-own_after cursor (PageIs pid index bytes) rs none own = own_later cursor rs own
-own_after cursor (Crash k cause) rs none own = own_later cursor rs own
-own_after cursor (Return k) rs none own = own_later cursor rs own
-own_after cursor (Rebackup to fresh recs) rs none own = own_later cursor rs own
-own_after cursor (Done rests) rs none own = own_later cursor rs own
-own_after cursor Stop rs none own = own_later cursor rs own
+pub own_after : (cursor : ℕ) (w : What) (rs : List (Pid × Process)) → is_built w ≡ true → brings_none w → AllOwn cursor rs → AllOwn (cursor + 1) (residents_after w rs)
+own_after cursor w rs =
+    by_kind (λ w. brings_none w → AllOwn cursor rs → AllOwn (cursor + 1) (residents_after w rs))
+    (λ at letter none own. own_letter cursor letter rs none own) (λ pid at end none own. own_later cursor _ (own_exit cursor pid rs own)) (λ rests none own. own_later cursor rs own) (λ none own. own_later cursor rs own) w

@@ -82,7 +82,7 @@ each_idle c log (e ∷ rs) there two rest =
 -- the processes that a cluster tells rest in each log that it follows
 pub rests_told : (c : ClusterView) (rs : List (Pid × Process)) → c.here ≡ held_in rs → are_rising (pids_in rs) ≡ true → are_at_rest (held_in rs) ≡ true → RestsIn c (steps_in rs)
 rests_told c rs here ordered at_rest empty log now f = record {
-  named = same_pids rs ∙ sym (rises (pids_in rs) ordered) ∙ ap rising (sym (pids_same rs)) ∙ ap (λ hs. rising (pids_held hs)) (sym here) ∙ f.each_once;
+  named = same_pids rs ∙ sym (rises (pids_in rs) ordered) ∙ ap rising (sym (pids_same rs)) ∙ ap (λ hs. rising (pids_held hs)) (sym here) ∙ (f.processes).each_once;
   idle = ap (list_all (is_idle_at c.system log)) (same_rests rs) ∙ each_idle c log rs (λ p s there. held_before c log rs p s here empty f there) (apart (pids_in rs) ordered) at_rest;
 }
   where

@@ -1,25 +1,22 @@
 -- The processes of a cluster in their slots: what a write, a removal and one more make of them.
-use Rattle.std.proofs.Common.{◌≡◌, ◌≢◌, ℕ, ◌+◌, Bool, true, false, cond, not, ◌||◌, ◌&&◌, eqb, eqb-true, eq-eqb, List, [], ◌∷◌, ◌++◌, map, find, refl, sym, ap, subst, ◌∙◌, arith, Option, Some, None, IsSome, option_map, true≢false}
+use Rattle.std.proofs.Common.{◌≡◌, ◌≢◌, ℕ, Bool, true, false, cond, not, ◌||◌, ◌&&◌, eqb, eqb-true, eq-eqb, List, [], ◌∷◌, map, find, refl, sym, ap, subst, ◌∙◌, arith, Option, Some, None, IsSome, option_map, true≢false}
 use Rattle.std.specs.Prelude.{filter}
 use Rattle.std.specs.List.{list_any, AllByRecursion}
 use Rattle.std.specs.List.Sorted.{IsStrictlySortedBy}
 use Rattle.std.specs.Ordering.{nat_cmp}
 use Rattle.std.specs.declared.cmp.Ordering.TheVariants.{Less}
 use Rattle.std.specs.Map.{lookup, remove_entry}
-use Rattle.std.proofs.lemmas.List.Sums.{sum_by-cons}
 use Rattle.std.proofs.lemmas.Bool.Decides.{nat_tests}
 use Rattle.std.proofs.lemmas.Bool.{false≢true}
 use Rattle.slab.specs.Slab.{Slab, get, Updates}
 use Rattle.t32_base.specs.declared.process.Pid.{Pid}
 use Rattle.proc_state.specs.declared.process.Process.{Process}
-use Rattle.sys_calls.specs.Small.{weight}
 use Rattle.bus_msg.specs.Places.{same_pid}
 use Rattle.plain_kernel.specs.Maps.{at_key, pid_of}
 use Rattle.plain_kernel.proofs.Entries.{some_same}
 use Rattle.cert_sched.proofs.RisingLaws.{NoTwo, either_not}
-use Rattle.cluster_core.specs.Residents.{process_in, is_stuck, load_in}
+use Rattle.cluster_core.specs.Residents.{process_in, is_stuck, is_stuck_at}
 use Rattle.cluster_core.specs.Slots.{in_slot, stands_in}
-use Rattle.cluster_core.specs.Turn.{is_stuck_at}
 
 abbrev pub pids : List (ℕ × ℕ) → List ℕ
 pids es = map (λ (e : ℕ × ℕ). e.0) es
@@ -59,10 +56,6 @@ all_with P Q R f (x ∷ xs) ps qs = (f x ps.0 qs.0, all_with P Q R f xs ps.1 qs.
 pub all_more : {X : Type 0} → (P R : X → Type 0) → ((x : X) → P x → R x) → (xs : List X) → AllByRecursion P xs → AllByRecursion R xs
 all_more P R f [] ps = tt
 all_more P R f (x ∷ xs) ps = (f x ps.0, all_more P R f xs ps.1)
-
-pub all_put_last : {X : Type 0} → (P : X → Type 0) (xs : List X) (y : X) → AllByRecursion P xs → P y → AllByRecursion P (xs ++ y ∷ [])
-all_put_last P [] y ps p = (p, tt)
-all_put_last P (x ∷ xs) y ps p = (ps.0, all_put_last P xs y ps.1 p)
 
 pub all_removed : (P : ℕ × ℕ → Type 0) (t : ℕ → Bool) (es : List (ℕ × ℕ)) → AllByRecursion P es → AllByRecursion P (remove_entry t es)
 all_removed P t [] ps = tt
@@ -240,47 +233,3 @@ entry_goes slots t key (e ∷ es) found none = by_test (t e.0) found (λ found. 
     by_test : (b : Bool) → cond b (Some e.1) (lookup t es) ≡ Some key → (lookup t es ≡ Some key → stands_in slots (remove_entry t es) ≡ stands_in slots es) → stands_in slots (cond b es (e ∷ remove_entry t es)) ≡ stands_in slots (e ∷ es)
     by_test true found more = ap (λ o. in_slot (pid_of e.0) o (stands_in slots es)) (sym (ap (get slots) (some_same e.1 key found) ∙ none))
     by_test false found more = ap (λ rest. in_slot (pid_of e.0) (get slots e.1) rest) (more found)
-
--- one more entry at the end
-pub one_more : (slots : Slab Process) (n key : ℕ) (p : Process) (es : List (ℕ × ℕ)) → get slots key ≡ Some p → stands_in slots (es ++ (n, key) ∷ []) ≡ stands_in slots es ++ (pid_of n, p) ∷ []
-one_more slots n key p [] there = ap (λ o. in_slot (pid_of n) o []) there
-one_more slots n key p (e ∷ es) there = in_front (get slots e.1) (one_more slots n key p es there)
-  where
-    in_front : (o : Option Process) → stands_in slots (es ++ (n, key) ∷ []) ≡ stands_in slots es ++ (pid_of n, p) ∷ [] → in_slot (pid_of e.0) o (stands_in slots (es ++ (n, key) ∷ [])) ≡ in_slot (pid_of e.0) o (stands_in slots es) ++ (pid_of n, p) ∷ []
-    in_front None more = more
-    in_front (Some q) more = ap (λ rest. (pid_of e.0, q) ∷ rest) more
-
--- ---- the steps that are left
-
-in_slot_load : (pid : Pid) (o : Option Process) (q : Process) (rest : List (Pid × Process)) → o ≡ Some q → load_in (in_slot pid o rest) ≡ weight q.small + load_in rest
-in_slot_load pid o q rest is =
-    ap (λ o. load_in (in_slot pid o rest)) is ∙ sum_by-cons (λ (e : Pid × Process). weight (e.1).small) (pid, q) rest
-
-no_key : (k key : ℕ) (es : List (ℕ × ℕ)) → list_any (λ m. eqb m k) (slot_keys es) ≡ false → k ≡ key → AllByRecursion (λ (e : ℕ × ℕ). eqb e.1 key ≡ false) es
-no_key k key [] none same = tt
-no_key k key (e ∷ es) none same =
-    let parts = either_not (eqb e.1 k) (list_any (λ m. eqb m k) (slot_keys es)) none in
-    (subst (λ j. eqb e.1 j ≡ false) same parts.0, no_key k key es parts.1 same)
-
-load_more : (pid : Pid) (o : Option Process) (a b : List (Pid × Process)) (v w : ℕ) → load_in a + v ≡ load_in b + w → load_in (in_slot pid o a) + v ≡ load_in (in_slot pid o b) + w
-load_more pid None a b v w more = more
-load_more pid (Some q) a b v w more =
-    omega (arith, more, sum_by-cons (λ (e : Pid × Process). weight (e.1).small) (pid, q) a, sum_by-cons (λ (e : Pid × Process). weight (e.1).small) (pid, q) b)
-
-pub load_written : (slots new : Slab Process) (n key : ℕ) (was now : Process) (es : List (ℕ × ℕ)) → lookup (at_key n) es ≡ Some key → NoTwo (slot_keys es) → get slots key ≡ Some was → Updates slots new key (Some now)
-    → load_in (stands_in new es) + weight was.small ≡ load_in (stands_in slots es) + weight now.small
-load_written slots new n key was now [] found apart there updates = cc
-load_written slots new n key was now (e ∷ es) found apart there updates = by_test (at_key n e.0) found (λ found. load_written slots new n key was now es found apart.1 there updates)
-  where
-    by_test : (b : Bool) → cond b (Some e.1) (lookup (at_key n) es) ≡ Some key → (lookup (at_key n) es ≡ Some key → load_in (stands_in new es) + weight was.small ≡ load_in (stands_in slots es) + weight now.small)
-        → load_in (stands_in new (e ∷ es)) + weight was.small ≡ load_in (stands_in slots (e ∷ es)) + weight now.small
-    by_test true found more =
-        let at : e.1 ≡ key = some_same e.1 key found in
-        let rest : load_in (stands_in new es) ≡ load_in (stands_in slots es) = ap load_in (others_stand slots new key (Some now) es updates (no_key e.1 key es apart.0 at)) in
-        let before : load_in (stands_in slots (e ∷ es)) ≡ weight was.small + load_in (stands_in slots es) = in_slot_load (pid_of e.0) (get slots e.1) was (stands_in slots es) (ap (get slots) at ∙ there) in
-        let after : load_in (stands_in new (e ∷ es)) ≡ weight now.small + load_in (stands_in new es) = in_slot_load (pid_of e.0) (get new e.1) now (stands_in new es) (ap (get new) at ∙ updates.changed) in
-        omega (arith, rest, before, after)
-    by_test false found more =
-        let other : e.1 ≢ key = λ same. true≢false (sym (eq-eqb key e.1 (sym same)) ∙ other_key n key e.1 es found apart.0) in
-        ap (λ o. load_in (in_slot (pid_of e.0) o (stands_in new es)) + weight was.small) (updates.others e.1 other)
-        ∙ load_more (pid_of e.0) (get slots e.1) (stands_in new es) (stands_in slots es) (weight was.small) (weight now.small) (more found)

@@ -1,67 +1,56 @@
 -- What a turn of its processes makes of a cluster.
-use Rattle.std.proofs.Common.{◌≡◌, ℕ, ◌+◌, ◌<◌, ◌≤◌, refl, sym, ◌∙◌, ap, subst, arith, List, [], true, false, Ok, eq-eqb}
+use Rattle.std.proofs.Common.{◌≡◌, ℕ, ◌<◌, refl, sym, ◌∙◌, ap, subst, List, [], true, false, Ok, eq-eqb}
 use Rattle.t32_base.specs.declared.process.Pid.{Pid}
 use Rattle.proc_state.specs.declared.process.Process.{Process}
 use Rattle.sys_calls.specs.declared.steps.Emission.{Emission}
 use Rattle.sys_calls.specs.declared.steps.Emission.TheVariants.{Mail as SentMail, Exit as SentExit}
 use Rattle.bus_msg.specs.declared.entry.What.{What}
-use Rattle.bus_msg.specs.declared.entry.What.TheVariants.{Mail, Birth, Exit, Page, Sync, Fetch, PageIs, Crash, Return, Rebackup, Done, Stop}
 use Rattle.bus_msg.specs.declared.entry.Post.{Post}
-use Rattle.channel_table.specs.Changes.{is_birth, pids_differ}
+use Rattle.sys_text.specs.Valid.{is_system}
+use Rattle.channel_table.specs.Changes.{is_birth}
 use Rattle.cert_sched.specs.Built.{is_built}
 use Rattle.cert_sched.specs.Losses.{is_from}
 use Rattle.t32_base.specs.declared.process.ClusterNo.{ClusterNo}
-use Rattle.cluster_core.specs.declared.turn.Sending.{Sending}
-use Rattle.cluster_core.specs.declared.turn.Turn.{Turn}
-use Rattle.cluster_core.specs.declared.turn.Turn.TheVariants.{Moved as TurnMoved, Sends, Rests as TurnRests}
+use Rattle.cluster_core.specs.declared.quantum.Sending.{Sending}
+use Rattle.cluster_core.specs.declared.quantum.Quantum.{Quantum}
+use Rattle.cluster_core.specs.declared.quantum.Quantum.TheVariants.{Moved as QuantumMoved, Sent as QuantumSent, Stuck}
 use Rattle.cluster_core.specs.declared.worked.Worked.TheVariants.{Moved, Queued, Rests}
-use Rattle.cluster_core.specs.View.{ClusterView, counted_once, load}
+use Rattle.cluster_core.specs.View.{ClusterView, counted_once}
 use Rattle.plain_kernel.specs.Maps.{pid_of}
-use Rattle.cluster_core.specs.Residents.{ResidentsView, load_in}
+use Rattle.cluster_core.specs.Residents.{ResidentsView, TurnIs}
 use Rattle.cluster_core.specs.Parts.{held_in, AllOwn}
 use Rattle.cluster_core.specs.Calls.{GoesOn, WorkIs}
-use Rattle.cluster_core.specs.Turn.{TurnIs, post_told}
-use Rattle.cluster_core.proofs.Here.{load_same}
+use Rattle.cluster_core.specs.Quantum.{post_told}
 use Rattle.cluster_core.proofs.Owning.{own_at, own_changed, own_moved, own_sent}
+use Rattle.cluster_core.proofs.ByKind.{by_kind}
 use Rattle.cluster_core.proofs.Working.{moved_view, posted_view, moved_goes_on, moved_work, posted_goes_on, posted_work, goes_on_rested, rested}
 
 -- an entry of a kind that is built is no birth
 pub built_no_birth : (w : What) → is_built w ≡ true → is_birth w ≡ false
-built_no_birth (Mail at letter) h = refl
-built_no_birth (Birth parent at child end) h = sym h
-built_no_birth (Exit pid at end) h = refl
-built_no_birth (Page pid at index bytes) h = refl
-built_no_birth (Sync pid small read took) h = refl
-built_no_birth (Fetch pid index) h = refl
-built_no_birth (PageIs pid index bytes) h = refl
-built_no_birth (Crash k cause) h = refl
-built_no_birth (Return k) h = refl
-built_no_birth (Rebackup to fresh recs) h = refl
-built_no_birth (Done rests) h = refl
-built_no_birth Stop h = refl
+built_no_birth = by_kind (λ w. is_birth w ≡ false) (λ at letter. refl) (λ pid at end. refl) (λ rests. refl) refl
 
 -- after a turn each process is its own
-pub own_turned : (cursor : ℕ) (old new : ResidentsView) (turn : Turn) → AllOwn cursor old.here → TurnIs old (Ok turn) new → AllOwn cursor new.here
-own_turned cursor old new TurnMoved own turn =
-    subst (AllOwn cursor) (sym (turn.takes).here) (own_changed cursor (pid_of new.last) (turn.takes).now old.here own (own_moved cursor (pid_of new.last) (turn.takes).was (turn.takes).now (own_at cursor old.here (pid_of new.last) (turn.takes).was own (turn.takes).there) (turn.takes).turn_is))
-own_turned cursor old new (Sends sending) own turn =
+pub own_turned : (cursor : ℕ) (old new : ResidentsView) (quantum : Quantum) → AllOwn cursor old.here → TurnIs old (Ok quantum) new → AllOwn cursor new.here
+own_turned cursor old new QuantumMoved own turn =
+    subst (AllOwn cursor) (sym (turn.takes).here) (own_changed cursor (pid_of new.last) (turn.takes).now old.here own (own_moved cursor (pid_of new.last) (turn.takes).was (turn.takes).now (own_at cursor old.here (pid_of new.last) (turn.takes).was own (turn.takes).there) (turn.takes).ran))
+own_turned cursor old new (QuantumSent sending) own turn =
     let pid : Pid = pid_of new.last in
     let takes = turn.takes in
-    subst (AllOwn cursor) (sym takes.here) (own_changed cursor pid takes.now old.here own (own_sent cursor pid takes.was takes.now sending.emission (own_at cursor old.here pid takes.was own takes.there) (takes.turn_is).runs))
-own_turned cursor old new TurnRests own turn = subst (AllOwn cursor) (sym turn.1) own
+    subst (AllOwn cursor) (sym takes.here) (own_changed cursor pid takes.now old.here own (own_sent cursor pid takes.was takes.now sending.emission (own_at cursor old.here pid takes.was own takes.there) (takes.ran).runs))
+own_turned cursor old new Stuck own turn = subst (AllOwn cursor) (sym turn.1) own
 
 -- what holds of a turn in which one moved
 pub record MovedTurn (c : ClusterView) (new : List (Pid × Process)) : Type 0 where
   pub goes_on : GoesOn c (moved_view c new)
   pub work : WorkIs c Moved (moved_view c new)
 
-pub moved_turn : (c : ClusterView) (old new : ResidentsView) → c.here ≡ held_in old.here → c.queue ≡ [] → TurnIs old (Ok TurnMoved) new → MovedTurn c new.here
+pub moved_turn : (c : ClusterView) (old new : ResidentsView) → c.here ≡ held_in old.here → c.queue ≡ [] → TurnIs old (Ok QuantumMoved) new → MovedTurn c new.here
 moved_turn c old new here empty turn =
     let pid : Pid = pid_of new.last in
     let takes = turn.takes in
     subst (MovedTurn c) (sym takes.here) (record {
-      goes_on = moved_goes_on c old.here pid takes.was takes.now here empty takes.there takes.turn_is;
-      work = moved_work c old.here pid takes.was takes.now here takes.there takes.turn_is;
+      goes_on = moved_goes_on c old.here pid takes.was takes.now here empty takes.there takes.ran;
+      work = moved_work c old.here pid takes.was takes.now here takes.there takes.ran;
     })
 
 -- what is posted is the cluster's own, and of a kind that is built
@@ -75,25 +64,18 @@ pub record PostedTurn (c : ClusterView) (new : List (Pid × Process)) (post : Po
   pub work : WorkIs c Queued (posted_view c new post)
 
 pub posted_turn : (c : ClusterView) (old new : ResidentsView) (sending : Sending) (post : Post) → post ≡ post_told c.number sending.pid sending.at sending.emission
-    → c.here ≡ held_in old.here → c.queue ≡ [] → AllOwn c.cursor old.here → pids_differ (c.places).placed ≡ true → (c.number).0 < (c.system).clusters → TurnIs old (Ok (Sends sending)) new → PostedTurn c new.here post
-posted_turn c old new sending post told here empty own differ has turn =
+    → c.here ≡ held_in old.here → c.queue ≡ [] → AllOwn c.cursor old.here → is_system c.system ≡ true → (c.number).0 < (c.system).clusters → TurnIs old (Ok (QuantumSent sending)) new → PostedTurn c new.here post
+posted_turn c old new sending post told here empty own valid has turn =
     let pid : Pid = pid_of new.last in
     let takes = turn.takes in
-    let sends = takes.turn_is in
+    let sends = takes.ran in
     let mine = own_at c.cursor old.here pid takes.was own takes.there in
-    let is : post ≡ post_told c.number pid ((takes.now).small).steps sending.emission = told ∙ (λ i. post_told c.number (sends.pid_is i) (sends.at_is i) sending.emission) in
+    let named : sending.pid ≡ pid = sends.pid_is ∙ (own_sent c.cursor pid takes.was takes.now sending.emission mine sends.runs).pid_is in
+    let is : post ≡ post_told c.number pid ((takes.now).small).steps sending.emission = told ∙ (λ i. post_told c.number (named i) (sends.at_is i) sending.emission) in
     subst (λ rs. PostedTurn c rs post) (sym takes.here) (record {
-      goes_on = posted_goes_on c old.here pid takes.was takes.now post sending.emission sends.runs is here empty takes.there mine differ has;
+      goes_on = posted_goes_on c old.here pid takes.was takes.now post sending.emission sends.runs is here empty takes.there mine valid has;
       work = posted_work c old.here pid takes.was takes.now post sending.emission sends.runs is here empty takes.there mine;
     })
 
-pub rested_turn : (c : ClusterView) (old new : ResidentsView) → c.here ≡ held_in old.here → AllOwn c.cursor old.here → TurnIs old (Ok TurnRests) new → (held_in new.here ≡ c.here) × GoesOn c (counted_once c) × WorkIs c Rests (counted_once c)
+pub rested_turn : (c : ClusterView) (old new : ResidentsView) → c.here ≡ held_in old.here → AllOwn c.cursor old.here → TurnIs old (Ok Stuck) new → (held_in new.here ≡ c.here) × GoesOn c (counted_once c) × WorkIs c Rests (counted_once c)
 rested_turn c old new here own turn = (ap held_in turn.1 ∙ sym here, goes_on_rested c, rested c old.here here own turn.0)
-
--- ---- what is left to do
-
-pub lighter_view : (c : ClusterView) (old new : List (Pid × Process)) (d : ClusterView) → c.here ≡ held_in old → d.here ≡ held_in new → load_in new + 1 ≤ load_in old → load d + 1 ≤ load c
-lighter_view c old new d here now less =
-    let before : load c ≡ load_in old = ap (λ hs. load (record c { here = hs })) here ∙ load_same old in
-    let after : load d ≡ load_in new = ap (λ hs. load (record d { here = hs })) now ∙ load_same new in
-    omega (arith, before, after, less)

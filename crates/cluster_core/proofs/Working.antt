@@ -9,6 +9,7 @@ use Rattle.t32_base.specs.declared.process.Pid.{Pid}
 use Rattle.t32_base.specs.declared.process.ClusterNo.{ClusterNo}
 use Rattle.sys_text.specs.declared.system.System.{System}
 use Rattle.sys_text.specs.Boot.{roots_of}
+use Rattle.sys_text.specs.Valid.{is_system}
 use Rattle.proc_state.specs.declared.process.Process.{Process}
 use Rattle.proc_state.specs.State.{ProcState, state_of, can_take}
 use Rattle.sys_calls.specs.declared.steps.Emission.{Emission}
@@ -22,7 +23,6 @@ use Rattle.bus_msg.specs.declared.entry.Post.{Post}
 use Rattle.bus_msg.specs.declared.entry.Entry.{Entry}
 use Rattle.bus_msg.specs.declared.placed.Placed.{Placed}
 use Rattle.bus_msg.specs.Places.{Places, ClusterPlace, boot_cluster, same_pid, same_cluster}
-use Rattle.channel_table.specs.Changes.{pids_differ}
 use Rattle.cert_sched.specs.Parts.{rising}
 use Rattle.cert_sched.specs.Schedule.{placed_root, placement, process_after, done_after}
 use Rattle.cert_sched.specs.Steps.{silent_upto, emission_at, after_items}
@@ -42,13 +42,12 @@ use Rattle.cluster_core.specs.Queue.{move_of, taken_by, state_by, state_now}
 use Rattle.cluster_core.specs.Holds.{IsHeldAs}
 use Rattle.cluster_core.specs.Follows.{FollowsBuilt, IsOpen}
 use Rattle.cluster_core.specs.Calls.{GoesOn, WorkIs, is_resting, is_at_rest, are_at_rest}
-use Rattle.cluster_core.specs.Quantum.{RunsSome, RunsAndSends}
-use Rattle.cluster_core.specs.Turn.{told_of, post_told}
+use Rattle.cluster_core.specs.Quantum.{RunsSome, RunsAndSends, told_of, post_told}
 use Rattle.cluster_core.proofs.Here.{found_changed, held_changed, held_here, is_among, pid_same, pids_changed, pids_held, runs_here}
 use Rattle.cluster_core.proofs.Telling.{done_is}
 use Rattle.cluster_core.proofs.Quanta.{none_silent}
 use Rattle.cluster_core.proofs.Owning.{stuck_rest}
-use Rattle.cluster_core.proofs.Homes.{HomeHere, home_here}
+use Rattle.cluster_core.proofs.Homes.{HomeHere, differ_built, home_here}
 use Rattle.cluster_core.proofs.Following.{no_child}
 
 -- ---- kernel steps
@@ -136,7 +135,7 @@ ahead_sent system log p s b t n e is silent sends =
 -- a process that is here, in the log
 pub held_before : (c : ClusterView) (log : List Entry) (rs : List (Pid × Process)) (p : Pid) (s : Process) → c.here ≡ held_in rs → c.queue ≡ [] → FollowsBuilt c.system log c → process_in rs p ≡ Some s
     → silent_upto c.system log p (s.small).steps ≡ Some (state_of s)
-held_before c log rs p s here empty f there = ap (λ ps. state_now c.system log ps p (s.small).steps) (sym empty) ∙ f.held p (Runs s) (held_here c rs p s here there)
+held_before c log rs p s here empty f there = ap (λ ps. state_now c.system log ps p (s.small).steps) (sym empty) ∙ (f.processes).held p (Runs s) (held_here c rs p s here there)
 
 -- ---- all rest
 
@@ -145,13 +144,10 @@ rested c rs here own stuck = (ap are_at_rest here ∙ stuck_rest c.cursor rs own
 
 pub goes_on_rested : (c : ClusterView) → GoesOn c (counted_once c)
 goes_on_rested c log now f = record {
-  cursor = f.cursor;
-  places = f.places;
-  held = f.held;
-  each_once = f.each_once;
-  own = f.own;
-  queue = f.queue;
-  counted = λ kept. more_counted (least_steps log log c.number + cond c.tried 1 0) c.steps (f.counted kept);
+  log = record { cursor = (f.log).cursor; places = (f.log).places };
+  processes = record { held = (f.processes).held; each_once = (f.processes).each_once };
+  queue = record { own = (f.queue).own; legal = (f.queue).legal };
+  steps = record { counted = λ kept. more_counted (least_steps log log c.number + cond c.tried 1 0) c.steps ((f.steps).counted kept) };
 }
 
 -- ---- its head was tried
@@ -163,13 +159,10 @@ more_tried n s false h = omega (arith, h)
 -- a head that is tried is one kernel step more
 pub follows_tried : (c : ClusterView) (log : List Entry) → FollowsBuilt c.system log c → FollowsBuilt c.system log (tried_once c)
 follows_tried c log f = record {
-  cursor = f.cursor;
-  places = f.places;
-  held = f.held;
-  each_once = f.each_once;
-  own = f.own;
-  queue = f.queue;
-  counted = λ kept. more_tried (least_steps log log c.number) c.steps c.tried (f.counted kept);
+  log = record { cursor = (f.log).cursor; places = (f.log).places };
+  processes = record { held = (f.processes).held; each_once = (f.processes).each_once };
+  queue = record { own = (f.queue).own; legal = (f.queue).legal };
+  steps = record { counted = λ kept. more_tried (least_steps log log c.number) c.steps c.tried ((f.steps).counted kept) };
 }
 
 pub goes_on_tried : (c : ClusterView) → GoesOn c (tried_once c)
@@ -231,7 +224,7 @@ held_beside : (c : ClusterView) (log : List Entry) (rs : List (Pid × Process)) 
 held_beside c log rs p now queue here f mine others q h at =
     let r = runs_here (with_changed p now rs) q h at in
     let w = found_changed p now rs q r.process r.there in
-    by_pid r.process r.is w.was (f.held q (Runs w.was) (held_here c rs q w.was here w.there)) w.here (same_pid q p) refl
+    by_pid r.process r.is w.was ((f.processes).held q (Runs w.was) (held_here c rs q w.was here w.there)) w.here (same_pid q p) refl
   where
     by_pid : (s : Process) → h ≡ Runs s → (was : Process) → IsHeldAs c.system log c.queue q (Runs was) → (same_pid q p ≡ true → s ≡ now) × (same_pid q p ≡ false → s ≡ was) → (b : Bool) → same_pid q p ≡ b → IsHeldAs c.system log queue q h
     by_pid s is was old here true own =
@@ -245,16 +238,16 @@ held_beside c log rs p now queue here f mine others q h at =
 pub moved_goes_on : (c : ClusterView) (rs : List (Pid × Process)) (p : Pid) (was now : Process) → c.here ≡ held_in rs → c.queue ≡ [] → process_in rs p ≡ Some was → RunsSome 64 (state_of was) (state_of now)
     → GoesOn c (moved_view c (with_changed p now rs))
 moved_goes_on c rs p was now here empty there runs log go f = record {
-  cursor = f.cursor;
-  places = f.places;
-  held =
-      let ahead_now : silent_upto c.system log p (now.small).steps ≡ Some (state_of now) = ahead_moved c.system log p (state_of was) (state_of now) runs.steps (held_before c log rs p was here empty f there) runs.silent in
-      let mine : IsHeldAs c.system log c.queue p (Runs now) = ap (λ ps. state_now c.system log ps p (now.small).steps) empty ∙ ahead_now in
-      held_beside c log rs p now c.queue here f mine (λ q s other as_before. as_before);
-  each_once = ap rising (pids_changed p now rs) ∙ ap (λ hs. rising (pids_held hs)) (sym here) ∙ f.each_once;
-  own = f.own;
-  queue = f.queue;
-  counted = λ kept. more_counted (least_steps log log c.number + cond c.tried 1 0) c.steps (f.counted kept);
+  log = record { cursor = (f.log).cursor; places = (f.log).places };
+  processes = record {
+    held =
+        let ahead_now : silent_upto c.system log p (now.small).steps ≡ Some (state_of now) = ahead_moved c.system log p (state_of was) (state_of now) runs.steps (held_before c log rs p was here empty f there) runs.silent in
+        let mine : IsHeldAs c.system log c.queue p (Runs now) = ap (λ ps. state_now c.system log ps p (now.small).steps) empty ∙ ahead_now in
+        held_beside c log rs p now c.queue here f mine (λ q s other as_before. as_before);
+    each_once = ap rising (pids_changed p now rs) ∙ ap (λ hs. rising (pids_held hs)) (sym here) ∙ (f.processes).each_once;
+  };
+  queue = record { own = (f.queue).own; legal = (f.queue).legal };
+  steps = record { counted = λ kept. more_counted (least_steps log log c.number + cond c.tried 1 0) c.steps ((f.steps).counted kept) };
 }
 
 -- ---- one of them posted something
@@ -336,9 +329,9 @@ module _ (c : ClusterView) (rs : List (Pid × Process)) (p : Pid) (was now : Pro
   posted_own : is_from c.number post.by ≡ true
   posted_own = ap (λ (p : Post). is_from c.number p.by) post_is ∙ eq-eqb (c.number).0 (c.number).0 refl
 
-  may_follow : (log : List Entry) → IsOpen BuiltMayFollow c.system log → FollowsBuilt c.system log c → pids_differ (c.places).placed ≡ true → (c.number).0 < (c.system).clusters → BuiltMayFollow c.system log (entry_of c.system log (post_told c.number p at e))
-  may_follow log go f differ has =
-      let home = home_here (placement c.system log) c.number (pids_held (held_in rs)) p (ap (λ (p : Places). pids_differ p.placed) (sym f.places) ∙ differ) (ap (λ hs. rising (pids_held hs)) (sym here) ∙ f.each_once) (is_among rs p was there) in
+  may_follow : (log : List Entry) → IsOpen BuiltMayFollow c.system log → FollowsBuilt c.system log c → is_system c.system ≡ true → (c.number).0 < (c.system).clusters → BuiltMayFollow c.system log (entry_of c.system log (post_told c.number p at e))
+  may_follow log go f valid has =
+      let home = home_here (placement c.system log) c.number (pids_held (held_in rs)) p (differ_built c.system log valid go.0) (ap (λ hs. rising (pids_held hs)) (sym here) ∙ (f.processes).each_once) (is_among rs p was there) in
       record {
         stands = record {
           placed = (refl, refl, go.1);
@@ -349,19 +342,22 @@ module _ (c : ClusterView) (rs : List (Pid × Process)) (p : Pid) (was now : Pro
         built = built_of p at e;
       }
 
-  pub posted_goes_on : pids_differ (c.places).placed ≡ true → (c.number).0 < (c.system).clusters → GoesOn c (posted_view c (with_changed p now rs) post)
-  posted_goes_on differ has log go f = record {
-    cursor = f.cursor;
-    places = f.places;
-    held =
-        let mine : IsHeldAs c.system log (post ∷ []) p (Runs now) =
-        ap (λ (q : Post). state_now c.system log (q ∷ []) p at) post_is ∙ ap (state_by c.system log p at) (moves_of p at c.number e tells)
-        ∙ items_of_post c.system log p at e (state_of now) tells (emission_is log f) in
-        held_beside c log rs p now (post ∷ []) here f mine others;
-    each_once = ap rising (pids_changed p now rs) ∙ ap (λ hs. rising (pids_held hs)) (sym here) ∙ f.each_once;
-    own = ap (λ b. b && true) posted_own;
-    queue = (subst (λ (q : Post). BuiltMayFollow c.system log (entry_of c.system log q)) (sym post_is) (may_follow log go f differ has), tt);
-    counted = λ kept. more_counted (least_steps log log c.number + cond c.tried 1 0) c.steps (f.counted kept);
+  pub posted_goes_on : is_system c.system ≡ true → (c.number).0 < (c.system).clusters → GoesOn c (posted_view c (with_changed p now rs) post)
+  posted_goes_on valid has log go f = record {
+    log = record { cursor = (f.log).cursor; places = (f.log).places };
+    processes = record {
+      held =
+          let mine : IsHeldAs c.system log (post ∷ []) p (Runs now) =
+          ap (λ (q : Post). state_now c.system log (q ∷ []) p at) post_is ∙ ap (state_by c.system log p at) (moves_of p at c.number e tells)
+          ∙ items_of_post c.system log p at e (state_of now) tells (emission_is log f) in
+          held_beside c log rs p now (post ∷ []) here f mine others;
+      each_once = ap rising (pids_changed p now rs) ∙ ap (λ hs. rising (pids_held hs)) (sym here) ∙ (f.processes).each_once;
+    };
+    queue = record {
+      own = ap (λ b. b && true) posted_own;
+      legal = (subst (λ (q : Post). BuiltMayFollow c.system log (entry_of c.system log q)) (sym post_is) (may_follow log go f valid has), tt);
+    };
+    steps = record { counted = λ kept. more_counted (least_steps log log c.number + cond c.tried 1 0) c.steps ((f.steps).counted kept) };
   }
     where
       others : (q : Pid) (s : Process) → same_pid q p ≡ false → IsHeldAs c.system log c.queue q (Runs s) → IsHeldAs c.system log (post ∷ []) q (Runs s)

@@ -1,5 +1,5 @@
 -- What the calls on a cluster ask and promise. What a call asks holds of some log; what it promises, of every log that the cluster follows.
-use Rattle.std.specs.Prelude.{ℕ, ◌+◌, ◌≤◌, ◌≡◌, ◌⊎◌, Bool, true, false, not, if◌then◌else◌, List, [], ◌∷◌, ◌++◌, map, filter, Some, None, ⊤}
+use Rattle.std.specs.Prelude.{ℕ, ◌+◌, ◌≤◌, ◌≡◌, ◌⊎◌, Bool, true, false, not, if◌then◌else◌, List, [], ◌∷◌, ◌++◌, map, filter, Some, None}
 use Rattle.std.specs.List.{list_all}
 use Rattle.t32_base.specs.declared.process.Pid.{Pid}
 use Rattle.t32_base.specs.declared.process.ClusterNo.{ClusterNo}
@@ -21,9 +21,8 @@ use Rattle.cert_sched.specs.Losses.{is_by_cluster, is_crash_of}
 use Rattle.cert_sched.specs.Rests.{is_idle, IsRestOf}
 use Rattle.cluster_core.specs.declared.worked.Worked.{Worked}
 use Rattle.cluster_core.specs.declared.worked.Worked.TheVariants.{Moved, Queued, Waits as IsWaiting, Rests}
-use Rattle.cluster_core.specs.View.{ClusterView, Held, Runs, Rolls, Waits, arrived_held, held_at, next_count, counted_once, load}
-use Rattle.cluster_core.specs.Quantum.{RunsAndSends}
-use Rattle.cluster_core.specs.Turn.{post_told}
+use Rattle.cluster_core.specs.View.{ClusterView, Held, Runs, Rolls, Waits, arrived_held, held_at, next_count, counted_once}
+use Rattle.cluster_core.specs.Quantum.{RunsAndSends, post_told}
 use Rattle.cluster_core.specs.Follows.{FollowsBuilt, IsOpen, StandsBetween}
 
 -- ---- the start
@@ -148,13 +147,6 @@ WorkIs old Moved new = (is_resting old ≡ false) × MovedOne old new
 WorkIs old Queued new = (is_resting old ≡ false) × QueuesOne old new
 WorkIs old IsWaiting new = ⊥
 WorkIs old Rests new = (is_resting old ≡ true) × (new ≡ counted_once old)
-
--- a process that moved has fewer steps left
-abbrev pub Lightens : ClusterView → Worked → ClusterView → Type 0
-Lightens old Moved new = load new + 1 ≤ load old
-Lightens old Queued new = load new + 1 ≤ load old
-Lightens old IsWaiting new = ⊤
-Lightens old Rests new = ⊤
 
 -- a work changes neither the system nor the number, the cursor or the placement, and is one kernel step
 pub record KeepsPlace (old new : ClusterView) : Type 0 where

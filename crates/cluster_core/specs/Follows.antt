@@ -7,19 +7,25 @@ use Rattle.cert_sched.specs.Rules.{is_over}
 use Rattle.cert_sched.specs.Built.{BuiltMayFollow}
 use Rattle.cluster_core.specs.View.{ClusterView, head_of, after_sent}
 use Rattle.cert_sched.specs.Appended.{entry_of}
-use Rattle.cluster_core.specs.Holds.{HoldsProcesses, HoldsPages, HoldsMarks, HoldsRecords, HoldsAccounts}
+use Rattle.cluster_core.specs.Holds.{HoldsLog, HoldsProcesses, HoldsQueue, HoldsSteps, HoldsPages, HoldsMarks, HoldsRecords, HoldsAccounts}
 
 -- all that a cluster holds
-pub record Follows (system : System) (log : List Entry) (c : ClusterView) : Type 0 where
-  pub processes : HoldsProcesses MayFollow system log c
-  pub pages : HoldsPages system log c
-  pub marks : HoldsMarks system log c
-  pub records : HoldsRecords system log c
-  pub accounts : HoldsAccounts system log c
+pub record Follows (system : System) (entries : List Entry) (c : ClusterView) : Type 0 where
+  pub log : HoldsLog system entries c
+  pub processes : HoldsProcesses system entries c
+  pub queue : HoldsQueue MayFollow system entries c
+  pub steps : HoldsSteps entries c
+  pub pages : HoldsPages system entries c
+  pub marks : HoldsMarks system entries c
+  pub records : HoldsRecords system entries c
+  pub accounts : HoldsAccounts system entries c
 
 -- the lines that are built so far, for logs of the entries that are built so far
-abbrev pub FollowsBuilt : System → List Entry → ClusterView → Type 0
-FollowsBuilt system log c = HoldsProcesses BuiltMayFollow system log c
+pub record FollowsBuilt (system : System) (entries : List Entry) (c : ClusterView) : Type 0 where
+  pub log : HoldsLog system entries c
+  pub processes : HoldsProcesses system entries c
+  pub queue : HoldsQueue BuiltMayFollow system entries c
+  pub steps : HoldsSteps entries c
 
 -- a log that goes on, by a rule
 abbrev pub IsOpen : (System → List Entry → Entry → Type 0) → System → List Entry → Type 0

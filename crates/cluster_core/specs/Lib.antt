@@ -7,5 +7,5 @@ pub mod Follows
 pub mod Calls
 pub mod Quantum
 pub mod Booting
-pub mod Turn
 pub mod Slots
+pub mod Absorbing

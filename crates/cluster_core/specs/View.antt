@@ -1,6 +1,7 @@
 -- What a cluster holds, as contracts see it.
 use Rattle.std.specs.Prelude.{ℕ, ◌+◌, ◌-◌, ◌^◌, min, Bool, true, false, ◌==◌, ◌&&◌, if◌then◌else◌, List, [], ◌∷◌, ◌++◌, map, find, replicate, length, Option, Some, None, option_map}
 use Rattle.std.specs.List.{sum_by}
+use Rattle.std.specs.Option.{option_map_or}
 use Rattle.t32_base.specs.declared.process.Pid.{Pid}
 use Rattle.t32_base.specs.declared.process.ClusterNo.{ClusterNo}
 use Rattle.t32_base.specs.declared.process.Counts.{Counts}
@@ -13,7 +14,7 @@ use Rattle.bus_msg.specs.declared.entry.Post.{Post}
 use Rattle.bus_msg.specs.declared.entry.What.{What}
 use Rattle.bus_msg.specs.declared.entry.What.TheVariants.{Rebackup}
 use Rattle.bus_msg.specs.Places.{Places, same_pid}
-use Rattle.cert_sched.specs.Account.{Account}
+use Rattle.cert_sched.specs.Account.{Account, no_pages}
 
 -- a process at home here runs; or it rolls forward, with what is left to withhold; or it waits as its record for its backup, its pages or its parent's fork
 pub data Held : Type 0 where
@@ -55,8 +56,9 @@ held_at c p = option_map (λ (e : Pid × Held). e.1) (find (λ (e : Pid × Held)
 abbrev pub record_at : ClusterView → Pid → Option BackRec
 record_at c p = find (λ (r : BackRec). same_pid r.pid p) c.records
 
-abbrev pub account_at : ClusterView → Pid → Option Account
-account_at c p = option_map (λ (e : Pid × Account). e.1) (find (λ (e : Pid × Account). same_pid e.0 p) c.accounts)
+-- no pages where it has no account of the process
+abbrev pub account_at : ClusterView → Pid → Account
+account_at c p = option_map_or (λ (e : Pid × Account). e.1) (find (λ (e : Pid × Account). same_pid e.0 p) c.accounts) no_pages
 
 abbrev pub page_wait : ClusterView → Pid → ℕ → Option PageWait
 page_wait c p i = find (λ (w : PageWait). same_pid w.pid p && w.index == i) c.pages

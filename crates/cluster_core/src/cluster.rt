@@ -5,11 +5,13 @@ ghost use Rattle.std.specs.Arc.{arc_value};
 ghost use Rattle.sys_text.specs.Valid.{is_system};
 ghost use Rattle.cluster_core.specs.View.{head_of, after_sent, counted_once, tried_once};
 ghost use Rattle.cluster_core.specs.Follows.{FollowsBuilt};
-ghost use Rattle.cluster_core.specs.Calls.{Absorbs, absorbed, FollowsSome, GoesOn, is_resting, IsFirst, KeepsPlace, Lightens, ReadyFor, RestsIn, rests_of, WorkIs};
+ghost use Rattle.cluster_core.specs.Calls.{Absorbs, absorbed, FollowsSome, GoesOn, is_resting, IsFirst, KeepsPlace, ReadyFor, RestsIn, rests_of, WorkIs};
 
+use crate::absorb::tell;
 use crate::booting::residents_at_boot;
+use crate::quantum::Quantum;
 use crate::residents::Residents;
-use crate::turn::{Turn, post_of};
+use crate::work::post_of;
 use crate::worked::Worked;
 use bus_msg::entry::{Entry, Post};
 use cert_sched::start::placement_at_boot;
@@ -146,9 +148,7 @@ impl Cluster {
         ensures absorbed { OnOk result (self.new ≡ absorbed self.old entry.now) }
         ensures follows { OnOk result (Absorbs entry.now self.old self.new) }
     {
-        // A placement tells with its length that no two processes have one pid.
-        let _count = self.places.len();
-        self.here.take_in(&entry.post.what)?;
+        tell(self.number, &mut self.here, entry)?;
         self.cursor += 1;
         self.places.note(entry);
         self.count_step();
@@ -163,19 +163,17 @@ impl Cluster {
         requires follows { FollowsSome self.old }
         ensures follows { OnOk result (GoesOn self.old self.new) }
         ensures work { IfOk result (λ worked. WorkIs self.old worked self.new) }
-        ensures lighter { IfOk result (λ worked. Lightens self.old worked self.new) }
         ensures place { OnOk result (KeepsPlace self.old self.new) }
     {
-        let _count = self.places.len();
-        let turn = self.here.take_turn(self.alloc)?;
+        let quantum = self.here.take_turn(self.alloc)?;
         self.count_step();
-        match turn {
-            Turn::Moved => Ok(Worked::Moved),
-            Turn::Sends(sending) => {
+        match quantum {
+            Quantum::Moved => Ok(Worked::Moved),
+            Quantum::Sent(sending) => {
                 self.queue = Some(post_of(self.number, sending));
                 Ok(Worked::Queued)
             }
-            Turn::Rests => Ok(Worked::Rests),
+            Quantum::Stuck => Ok(Worked::Rests),
         }
     }
 

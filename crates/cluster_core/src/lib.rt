@@ -1,9 +1,11 @@
 //! A cluster, which follows the log and nothing else.
 #![tactic(auto)]
 
-pub mod booting;
+mod absorb;
+mod booting;
 pub mod cluster;
-pub mod quantum;
-pub mod residents;
-pub mod turn;
+mod quantum;
+mod residents;
+pub mod steps_left;
+mod work;
 pub mod worked;

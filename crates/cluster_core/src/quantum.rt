@@ -1,19 +1,29 @@
 //! A quantum of a process.
-ghost use Rattle.std.specs.Prelude.{◌≡◌, ◌==◌, if◌then◌else◌, IfOk};
-ghost use Rattle.cluster_core.specs.Quantum.{IsLighter, MovesOrTells, RunsQuantum};
+ghost use Rattle.std.specs.Prelude.{◌≡◌, ◌==◌, if◌then◌else◌};
+ghost use Rattle.cluster_core.specs.Quantum.{MovesOrTells, RunsQuantum};
 
 use proc_state::process::Process;
 use std::alloc::Global;
 use sys_calls::stepping::{run_instructions, step};
 use sys_calls::steps::{Emission, Step};
+use t32_base::process::{Pid, Small};
 use t32_base::streams::NoMemory;
 
 /// What a process did in a quantum: it made silent steps, its last step sent something, or it had no step.
 #[derive(Drop)]
 pub enum Quantum {
     Moved,
-    Sent(Emission),
+    Sent(Sending),
     Stuck,
+}
+
+/// What a process sent by its step `at`. It becomes a post where it is queued: a post is large, and most quanta
+/// send nothing.
+#[derive(Drop)]
+pub struct Sending {
+    pub pid: Pid,
+    pub at: u64,
+    pub emission: Emission,
 }
 
 /// The most steps of a quantum.
@@ -22,14 +32,13 @@ pub const MOST: u32 = 64;
 /// Makes at most 64 steps of a process, up to one that sends something, or up to a read that waits. A later
 /// step for which memory is refused is not made; where it is the first, nothing has changed.
 pub fn run_quantum(alloc: Global, p: &mut Process) -> Result<Quantum, NoMemory>
-    ensures runs { RunsQuantum 64 p.old result p.new }
-    ensures lighter { IfOk result (λ q. IsLighter q p.old.small p.new.small) }
+    ensures { RunsQuantum 64 p.old result p.new }
 {
     let mut made = run_instructions(p, MOST);
     'steps: while made < MOST {
         match step(alloc, p) {
             Ok(Step::Silent) => made += 1,
-            Ok(Step::Emit(emission)) => return Ok(Quantum::Sent(emission)),
+            Ok(Step::Emit(emission)) => return Ok(Quantum::Sent(sending_of(&p.small, emission))),
             Ok(Step::Blocked) => return Ok(moved_or_stuck(made)),
             Ok(Step::Over) => return Ok(moved_or_stuck(made)),
             Ok(Step::Forks) => unreachable!(),
@@ -56,5 +65,18 @@ fn moved_or_refused(made: u32) -> Result<Quantum, NoMemory>
         Err(NoMemory)
     } else {
         Ok(Quantum::Moved)
+    }
+}
+
+// What a process sent by the last step that it made.
+fn sending_of(small: &Small, emission: Emission) -> Sending
+    ensures emission { result.emission ≡ emission }
+    ensures pid { result.pid ≡ small.now.pid }
+    ensures at { result.at ≡ small.now.steps }
+{
+    Sending {
+        pid: small.pid,
+        at: small.steps,
+        emission,
     }
 }

@@ -1,14 +1,12 @@
 //! The processes at home in a cluster.
-ghost use Rattle.std.specs.Prelude.{ℕ, ◌≡◌, ◌+◌, ◌++◌, ◌∷◌, [], IfOk, OnOk, OnErr, Some, None, nat_lt, true, length, filter, map, not, if◌then◌else◌};
-ghost use Rattle.std.specs.List.{list_all, list_any};
+ghost use Rattle.std.specs.Prelude.{ℕ, ◌≡◌, ◌+◌, [], IfOk, OnOk, OnErr, Some, None, true, length, filter, map, not, if◌then◌else◌, false};
+ghost use Rattle.std.specs.List.{list_any};
 ghost use Rattle.bus_msg.specs.Places.{same_pid};
 ghost use Rattle.plain_kernel.specs.Maps.{at_key, pid_of};
-ghost use Rattle.cluster_core.specs.Residents.{HasRoom, NextAble, are_rising, are_stuck, next_ready, pids_in, residents_after, steps_in};
-ghost use Rattle.cluster_core.specs.Turn.{GivenTurnIs, is_stuck_at, LighterTurn, TurnIs};
+ghost use Rattle.cluster_core.specs.Residents.{GivenTurnIs, HasRoom, NextAble, TurnIs, are_rising, are_stuck, is_stuck_at, next_ready, pids_in, steps_in, with_arrival, with_more};
 ghost use Rattle.cluster_core.specs.View.{arrived};
 
-use crate::turn::{Turn, process_turn, steps_of};
-use bus_msg::entry::What;
+use crate::quantum::{Quantum, run_quantum};
 use proc_state::process::Process;
 use slab::Slab;
 use std::alloc::Global;
@@ -18,7 +16,7 @@ use std::ops::Bound;
 use sys_calls::stepping::can_step;
 use t32_base::letter::{Letter, To};
 use t32_base::lists::List;
-use t32_base::process::Pid;
+use t32_base::process::{Pid, Small};
 use t32_base::streams::NoMemory;
 
 /// The processes at home in a cluster, by pid. One that has no step, but may get one by a letter, is
@@ -56,11 +54,11 @@ impl Residents {
         }
     }
 
-    /// One process more, whose pid is above those of all that are here. After want of memory nothing is
-    /// said but that the value can be dropped.
+    /// One process more, whose pid none has that is here. After want of memory nothing is said but that the
+    /// value can be dropped.
     pub fn add(&mut self, pid: Pid, process: Process) -> Result<(), NoMemory>
-        requires { list_all (λ e. nat_lt e.0.0 pid.0) self.old.here ≡ true }
-        ensures here { OnOk result (self.new.here ≡ self.old.here ++ (pid, process) ∷ []) }
+        requires { list_any (λ e. same_pid e.0 pid) self.old.here ≡ false }
+        ensures here { OnOk result (self.new.here ≡ with_more pid process self.old.here) }
         ensures last { OnOk result (self.new.last ≡ self.old.last) }
     {
         self.ready.insert(pid.0)?;
@@ -70,21 +68,20 @@ impl Residents {
     }
 
     /// Lets the next process that has a step run for a quantum: the next one in rising pid order after the
-    /// one that was chosen last, cyclically. After want of memory no process has changed.
-    pub fn take_turn(&mut self, alloc: Global) -> Result<Turn, NoMemory>
-        ensures turn { TurnIs self.old result self.new }
-        ensures lighter { IfOk result (λ turn. LighterTurn turn self.old.here self.new.here) }
+    /// one that was chosen last, cyclically. `Stuck` is that of all. After want of memory no process has changed.
+    pub fn take_turn(&mut self, alloc: Global) -> Result<Quantum, NoMemory>
+        ensures { TurnIs self.old result self.new }
     {
         'choices: while let Some(pid) = self.next() {
             match self.give_turn(alloc, pid)? {
-                Turn::Rests => self.rest(pid),
-                turn => {
+                Quantum::Stuck => self.rest(pid),
+                quantum => {
                     self.choose(pid);
-                    return Ok(turn);
+                    return Ok(quantum);
                 }
             }
         }
-        Ok(Turn::Rests)
+        Ok(Quantum::Stuck)
     }
 
     // The next of those that may have a step. Takes no memory.
@@ -101,19 +98,18 @@ impl Residents {
     }
 
     // Lets the process with a pid run for a quantum, if it is here.
-    fn give_turn(&mut self, alloc: Global, pid: u32) -> Result<Turn, NoMemory>
+    fn give_turn(&mut self, alloc: Global, pid: u32) -> Result<Quantum, NoMemory>
         requires { list_any (at_key pid) self.old.ready ≡ true }
         ensures turn { GivenTurnIs (pid_of pid) self.old.here result self.new.here }
-        ensures lighter { IfOk result (λ turn. LighterTurn turn self.old.here self.new.here) }
         ensures ready { self.new.ready ≡ self.old.ready }
         ensures last { self.new.last ≡ self.old.last }
     {
         match self.keys.get(&pid) {
             Some(key) => match self.processes.get_mut(*key) {
-                Some(process) => process_turn(alloc, Pid(pid), process),
+                Some(process) => run_quantum(alloc, process),
                 None => unreachable!(),
             },
-            None => Ok(Turn::Rests),
+            None => Ok(Quantum::Stuck),
         }
     }
 
@@ -136,29 +132,22 @@ impl Residents {
         self.last = pid;
     }
 
-    /// Takes in an entry: a letter arrives at the process whose end it is for, and a process that ended is
-    /// let go. Which process was chosen last stays. After want of memory no process has changed.
-    pub fn take_in(&mut self, what: &What) -> Result<(), NoMemory>
+    /// A letter arrives at the process whose end it is for, if that is here. After want of memory no process
+    /// has changed.
+    pub fn deliver(&mut self, letter: &Letter) -> Result<(), NoMemory>
         requires { HasRoom self.old.here }
-        ensures ok { OnOk result (self.new.here ≡ residents_after what.now self.old.here) }
+        ensures ok { OnOk result (self.new.here ≡ with_arrival letter.now self.old.here) }
         ensures err { OnErr result (self.new.here ≡ self.old.here) }
         ensures last { self.new.last ≡ self.old.last }
     {
-        match what {
-            What::Mail { letter, .. } => match letter.to {
-                To::Proc(pid, _) => self.deliver(pid, letter),
-                To::Tty(_) => Ok(()),
-            },
-            What::Exit { pid, .. } => {
-                self.let_go(*pid);
-                Ok(())
-            }
-            _ => Ok(()),
+        match letter.to {
+            To::Proc(pid, _) => self.arrive(pid, letter),
+            To::Tty(_) => Ok(()),
         }
     }
 
     // A letter arrives at the process with a pid, if it is here.
-    fn deliver(&mut self, pid: Pid, letter: &Letter) -> Result<(), NoMemory>
+    fn arrive(&mut self, pid: Pid, letter: &Letter) -> Result<(), NoMemory>
         requires { HasRoom self.old.here }
         ensures ok { OnOk result (self.new.here ≡ map (λ e. if same_pid pid e.0 then (e.0, arrived e.1 letter.now) else e) self.old.here) }
         ensures err { OnErr result (self.new.here ≡ self.old.here) }
@@ -176,8 +165,8 @@ impl Residents {
         }
     }
 
-    // Lets the process with a pid go, if it is here. Takes no memory.
-    fn let_go(&mut self, pid: Pid)
+    /// Lets the process with a pid go, if it is here. Takes no memory.
+    pub fn let_go(&mut self, pid: Pid)
         ensures here { self.new.here ≡ filter (λ e. not (same_pid e.0 pid)) self.old.here }
         ensures last { self.new.last ≡ self.old.last }
     {
@@ -206,4 +195,17 @@ impl Residents {
         }
         Ok(Some(rests))
     }
+}
+
+// The steps of a process. Takes no memory.
+fn steps_of(process: &Process) -> u64
+    ensures { result ≡ process.now.small.steps }
+{
+    steps_made(&process.small)
+}
+
+fn steps_made(small: &Small) -> u64
+    ensures { result ≡ small.now.steps }
+{
+    small.steps
 }

@@ -1,6 +1,5 @@
-use Rattle.std.proofs.Common.{◌+◌, ◌-◌, ◌≡◌, ◌≤◌, Some}
+use Rattle.std.proofs.Common.{◌-◌, ◌≡◌, ◌≤◌, Some}
 use Rattle.proc_state.specs.State.{state_of}
-use Rattle.sys_calls.specs.Small.{weight}
 use Rattle.sys_calls.specs.Next.{silently}
 use Rattle.cluster_core.proofs.quantum.run_quantum.Given as goal
 
@@ -9,7 +8,6 @@ invariant-steps l = record {
   silent : silently l.made (state_of l.fn.p) ≡ Some (state_of l.p);
   few : l.made ≤ 64;
   unmoved : l.made ≡ 0 → l.p ≡ l.fn.p;
-  lighter : weight l.p.small + l.made ≤ weight l.fn.p.small;
 }
 
 abbrev pub decreases-steps : goal.decreases-steps

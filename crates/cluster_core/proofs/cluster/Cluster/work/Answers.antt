@@ -1,17 +1,17 @@
-use Rattle.std.proofs.Common.{◌&&◌, true, ◌≡◌, ◌+◌, ◌<◌, ◌≤◌, refl, ap, subst, sym, ◌∙◌, [], ◌∷◌}
+use Rattle.std.proofs.Common.{◌&&◌, true, ◌≡◌, ◌<◌, ap, subst, sym, ◌∙◌, [], ◌∷◌}
 use Rattle.bus_msg.specs.declared.entry.Post.{Post}
-use Rattle.channel_table.specs.Changes.{pids_differ}
+use Rattle.sys_text.specs.Valid.{is_system}
 use Rattle.cert_sched.specs.Built.{is_built}
 use Rattle.cert_sched.specs.Losses.{is_from}
 use Rattle.cluster_core.specs.declared.worked.Worked.TheVariants.{Moved, Queued, Rests}
-use Rattle.cluster_core.specs.View.{ClusterView, next_count, counted_once, load}
+use Rattle.cluster_core.specs.View.{ClusterView, next_count, counted_once}
 use Rattle.cluster_core.specs.Calls.{GoesOn, WorkIs}
 use Rattle.cluster_core.specs.Parts.{AllOwn}
 use Rattle.cluster_core.specs.Residents.{ResidentsView}
-use Rattle.cluster_core.specs.Turn.{post_told}
-use Rattle.cluster_core.specs.declared.turn.Sending.{Sending}
-use Rattle.cluster_core.proofs.Turning.{lighter_view, moved_turn, own_turned, posted_turn, rested_turn, told_sound}
-use Rattle.cluster_core.proofs.Working.{moved_view, posted_view}
+use Rattle.cluster_core.specs.Quantum.{post_told}
+use Rattle.cluster_core.specs.declared.quantum.Sending.{Sending}
+use Rattle.cluster_core.proofs.Turning.{moved_turn, own_turned, posted_turn, rested_turn, told_sound}
+use Rattle.cluster_core.proofs.Working.{moved_view}
 use Rattle.cluster_core.proofs.cluster.Cluster.work.Goals as goal
 
 pub returns-in-Moved-clause-follows : goal.returns-in-Moved-clause-follows
@@ -20,7 +20,7 @@ returns-in-Moved-clause-follows c =
     let was : ResidentsView = c.self.inside.here in
     let new : ResidentsView = c.take_turn.new.self in
     let here = ap (λ (v : ClusterView). v.here) (sym c.self.view_is) in
-    let turn = rw c.in-Moved.is at c.in_ok-turn.ensures.turn in
+    let turn = rw c.in-Moved.is at c.in_ok-quantum.ensures in
     let whole : c.count_step.new.self ≡ moved_view old new.here = c.count_step.ensures ∙ ap (λ (v : ClusterView). moved_view v new.here) c.self.view_is in
     subst (GoesOn old) (sym whole) (moved_turn old was new here c.requires.empty turn).goes_on
 
@@ -30,98 +30,78 @@ returns-in-Moved-clause-work c =
     let was : ResidentsView = c.self.inside.here in
     let new : ResidentsView = c.take_turn.new.self in
     let here = ap (λ (v : ClusterView). v.here) (sym c.self.view_is) in
-    let turn = rw c.in-Moved.is at c.in_ok-turn.ensures.turn in
+    let turn = rw c.in-Moved.is at c.in_ok-quantum.ensures in
     let whole : c.count_step.new.self ≡ moved_view old new.here = c.count_step.ensures ∙ ap (λ (v : ClusterView). moved_view v new.here) c.self.view_is in
     subst (WorkIs old Moved) (sym whole) (moved_turn old was new here c.requires.empty turn).work
 
-pub returns-in-Moved-clause-lighter : goal.returns-in-Moved-clause-lighter
-returns-in-Moved-clause-lighter c =
+pub returns-in-Stuck-clause-follows : goal.returns-in-Stuck-clause-follows
+returns-in-Stuck-clause-follows c =
     let old : ClusterView = c.args.self.now in
     let was : ResidentsView = c.self.inside.here in
     let new : ResidentsView = c.take_turn.new.self in
     let here = ap (λ (v : ClusterView). v.here) (sym c.self.view_is) in
-    let less = rw c.in-Moved.is at c.in_ok-turn.ensures.lighter in
-    let whole : c.count_step.new.self ≡ moved_view old new.here = c.count_step.ensures ∙ ap (λ (v : ClusterView). moved_view v new.here) c.self.view_is in
-    lighter_view old was.here new.here c.count_step.new.self here (ap (λ (v : ClusterView). v.here) whole) less
-
-pub returns-in-Rests-clause-follows : goal.returns-in-Rests-clause-follows
-returns-in-Rests-clause-follows c =
-    let old : ClusterView = c.args.self.now in
-    let was : ResidentsView = c.self.inside.here in
-    let new : ResidentsView = c.take_turn.new.self in
-    let here = ap (λ (v : ClusterView). v.here) (sym c.self.view_is) in
-    let turn = rw c.in-Rests.is at c.in_ok-turn.ensures.turn in
+    let turn = rw c.in-Stuck.is at c.in_ok-quantum.ensures in
     let own = subst (λ n. AllOwn n was.here) (ap (λ (v : ClusterView). v.cursor) c.self.view_is) c.self.invariant.residents in
     let rested = rested_turn old was new here own turn in
     let whole : c.count_step.new.self ≡ counted_once old = c.count_step.ensures ∙ ap (λ (v : ClusterView). moved_view v new.here) c.self.view_is ∙ (λ i. record old { here = rested.0 i; steps = next_count old.steps }) in
     subst (GoesOn old) (sym whole) rested.1
 
-pub returns-in-Rests-clause-work : goal.returns-in-Rests-clause-work
-returns-in-Rests-clause-work c =
+pub returns-in-Stuck-clause-work : goal.returns-in-Stuck-clause-work
+returns-in-Stuck-clause-work c =
     let old : ClusterView = c.args.self.now in
     let was : ResidentsView = c.self.inside.here in
     let new : ResidentsView = c.take_turn.new.self in
     let here = ap (λ (v : ClusterView). v.here) (sym c.self.view_is) in
-    let turn = rw c.in-Rests.is at c.in_ok-turn.ensures.turn in
+    let turn = rw c.in-Stuck.is at c.in_ok-quantum.ensures in
     let own = subst (λ n. AllOwn n was.here) (ap (λ (v : ClusterView). v.cursor) c.self.view_is) c.self.invariant.residents in
     let rested = rested_turn old was new here own turn in
     let whole : c.count_step.new.self ≡ counted_once old = c.count_step.ensures ∙ ap (λ (v : ClusterView). moved_view v new.here) c.self.view_is ∙ (λ i. record old { here = rested.0 i; steps = next_count old.steps }) in
     subst (WorkIs old Rests) (sym whole) rested.2
 
-pub returns-in-Sends-clause-follows : goal.returns-in-Sends-clause-follows
-returns-in-Sends-clause-follows c =
+pub returns-in-Sent-clause-follows : goal.returns-in-Sent-clause-follows
+returns-in-Sent-clause-follows c =
     let old : ClusterView = c.args.self.now in
     let was : ResidentsView = c.self.inside.here in
     let new : ResidentsView = c.take_turn.new.self in
     let here = ap (λ (v : ClusterView). v.here) (sym c.self.view_is) in
-    let turn = rw c.in-Sends.is at c.in_ok-turn.ensures.turn in
+    let turn = rw c.in-Sent.is at c.in_ok-quantum.ensures in
     let own = subst (λ n. AllOwn n was.here) (ap (λ (v : ClusterView). v.cursor) c.self.view_is) c.self.invariant.residents in
     let has = subst (λ (v : ClusterView). (v.number).0 < (v.system).clusters) c.self.view_is c.self.invariant.has in
-    let differ = ap (λ (v : ClusterView). pids_differ (v.places).placed) (sym c.self.view_is) ∙ c.len-count.ensures.different in
+    let valid = subst (λ (v : ClusterView). is_system v.system ≡ true) c.self.view_is c.self.invariant.valid in
     let whole = c.self-2.view_is ∙ c.count_step.ensures ∙ ap (λ (v : ClusterView). moved_view v new.here) c.self.view_is in
-    let sending : Sending = c.in-Sends.sending in
+    let sending : Sending = c.in-Sent.sending in
     let told = c.post_of.ensures ∙ ap (λ (v : ClusterView). post_told v.number sending.pid sending.at sending.emission) whole in
-    let posted = posted_turn old was new sending c.post_of.result told here c.requires.empty own differ has turn in
+    let posted = posted_turn old was new sending c.post_of.result told here c.requires.empty own valid has turn in
     subst (GoesOn old) (sym (ap (λ (v : ClusterView). record v { queue = c.post_of.result ∷ [] }) whole)) posted.goes_on
 
-pub returns-in-Sends-clause-work : goal.returns-in-Sends-clause-work
-returns-in-Sends-clause-work c =
+pub returns-in-Sent-clause-work : goal.returns-in-Sent-clause-work
+returns-in-Sent-clause-work c =
     let old : ClusterView = c.args.self.now in
     let was : ResidentsView = c.self.inside.here in
     let new : ResidentsView = c.take_turn.new.self in
     let here = ap (λ (v : ClusterView). v.here) (sym c.self.view_is) in
-    let turn = rw c.in-Sends.is at c.in_ok-turn.ensures.turn in
+    let turn = rw c.in-Sent.is at c.in_ok-quantum.ensures in
     let own = subst (λ n. AllOwn n was.here) (ap (λ (v : ClusterView). v.cursor) c.self.view_is) c.self.invariant.residents in
     let has = subst (λ (v : ClusterView). (v.number).0 < (v.system).clusters) c.self.view_is c.self.invariant.has in
-    let differ = ap (λ (v : ClusterView). pids_differ (v.places).placed) (sym c.self.view_is) ∙ c.len-count.ensures.different in
+    let valid = subst (λ (v : ClusterView). is_system v.system ≡ true) c.self.view_is c.self.invariant.valid in
     let whole = c.self-2.view_is ∙ c.count_step.ensures ∙ ap (λ (v : ClusterView). moved_view v new.here) c.self.view_is in
-    let sending : Sending = c.in-Sends.sending in
+    let sending : Sending = c.in-Sent.sending in
     let told = c.post_of.ensures ∙ ap (λ (v : ClusterView). post_told v.number sending.pid sending.at sending.emission) whole in
-    let posted = posted_turn old was new sending c.post_of.result told here c.requires.empty own differ has turn in
+    let posted = posted_turn old was new sending c.post_of.result told here c.requires.empty own valid has turn in
     subst (WorkIs old Queued) (sym (ap (λ (v : ClusterView). record v { queue = c.post_of.result ∷ [] }) whole)) posted.work
-
-pub returns-in-Sends-clause-lighter : goal.returns-in-Sends-clause-lighter
-returns-in-Sends-clause-lighter c =
-    let old : ClusterView = c.args.self.now in
-    let was : ResidentsView = c.self.inside.here in
-    let new : ResidentsView = c.take_turn.new.self in
-    let here = ap (λ (v : ClusterView). v.here) (sym c.self.view_is) in
-    let less = rw c.in-Sends.is at c.in_ok-turn.ensures.lighter in
-    let whole = c.self-2.view_is ∙ c.count_step.ensures ∙ ap (λ (v : ClusterView). moved_view v new.here) c.self.view_is in
-    subst (λ (v : ClusterView). load v + 1 ≤ load old) (sym (ap (λ (v : ClusterView). record v { queue = c.post_of.result ∷ [] }) whole)) (lighter_view old was.here new.here (posted_view old new.here c.post_of.result) here refl less)
 
 pub invariant_of-self-2 : goal.invariant_of-self-2
 invariant_of-self-2 c = record {
   valid = c.self.invariant.valid;
   has = c.self.invariant.has;
-  residents = own_turned c.self.inside.cursor c.self.inside.here c.take_turn.new.self c.in_ok-turn.turn c.self.invariant.residents c.in_ok-turn.ensures.turn;
+  residents = own_turned c.self.inside.cursor c.self.inside.here c.take_turn.new.self c.in_ok-quantum.quantum c.self.invariant.residents c.in_ok-quantum.ensures;
   own = c.self.invariant.own;
   built = c.self.invariant.built;
 }
 
-pub invariant_of-self-in-Sends : goal.invariant_of-self-in-Sends
-invariant_of-self-in-Sends c =
-    let sending : Sending = c.in-Sends.sending in
+pub invariant_of-self-in-Sent : goal.invariant_of-self-in-Sent
+invariant_of-self-in-Sent c =
+    let sending : Sending = c.in-Sent.sending in
     let sound = told_sound c.self-2.inside.number sending.pid sending.at sending.emission in
     record {
       valid = c.self-2.invariant.valid;

@@ -1,13 +1,14 @@
-use Rattle.std.proofs.Common.{◌++◌, ◌∷◌, [], ◌∙◌, ap, sym, subst, is_some, map, ltb, ℕ, List, Some}
-use Rattle.std.specs.List.{list_all}
+use Rattle.std.proofs.Common.{◌∙◌, ap, sym, subst, is_some, map, ℕ, List, Some}
+use Rattle.std.specs.List.{list_any}
 use Rattle.std.specs.List.Sorted.{IsStrictlySortedBy}
 use Rattle.std.specs.Ordering.{nat_cmp}
 use Rattle.slab.specs.Slab.{Slab}
+use Rattle.bus_msg.specs.Places.{same_pid}
 use Rattle.proc_state.specs.declared.process.Process.{Process}
-use Rattle.cluster_core.specs.Residents.{ResidentsView}
+use Rattle.cluster_core.specs.Residents.{ResidentsView, with_more}
 use Rattle.cluster_core.specs.Slots.{stands_in, IsKept}
-use Rattle.cluster_core.proofs.Slots.{one_more, others_stand}
-use Rattle.cluster_core.proofs.Kept.{all_below, put_last, kept_added, kept_beside, more_room, ready_put, unnamed}
+use Rattle.cluster_core.proofs.Slots.{others_stand}
+use Rattle.cluster_core.proofs.Kept.{kept_added, kept_beside, more_room, none_here, ready_put, stands_put, unnamed}
 use Rattle.cluster_core.proofs.residents.Residents.add.Goals as goal
 
 pub invariant_of-self-in_err-key : goal.invariant_of-self-in_err-key
@@ -23,22 +24,28 @@ invariant_of-self-in_err-insert-2 c =
 
 pub invariant_of-self-2 : goal.invariant_of-self-2
 invariant_of-self-2 c =
-    let below = all_below c.self.inside.processes c.self.inside.ready.keys (c.args.pid).0 c.self.inside.keys.entries c.self.invariant.each (ap (λ (v : ResidentsView). list_all (λ e. ltb (e.0).0 (c.args.pid).0) v.here) c.self.view_is ∙ c.requires) in
-    let entries = c.in_ok-insert-2.ensures.entries ∙ put_last (c.args.pid).0 c.in_ok-key.key c.self.inside.keys.entries below in
-    subst (λ (es : List (ℕ × ℕ)). IsKept c.insert-2.new.self es c.insert.new.self.keys) (sym entries)
+    let others = none_here c.self.inside.processes c.self.inside.ready.keys (c.args.pid).0 c.self.inside.keys.entries c.self.invariant.each (ap (λ (v : ResidentsView). list_any (λ e. same_pid e.0 c.args.pid) v.here) c.self.view_is ∙ c.requires) in
+    let kept =
+    kept_beside c.self.inside.processes c.insert-2.new.self c.in_ok-key.key (Some c.args.process) c.self.inside.keys.entries c.insert.new.self.keys c.in_ok-key.ensures.was_vacant c.in_ok-key.ensures.updates
+    (ready_put c.self.inside.processes c.self.inside.keys.entries (c.args.pid).0 c.self.inside.ready.keys c.insert.new.self.keys c.in_ok-insert.ensures.updates.0 c.self.invariant)
+    in
+    subst (λ (es : List (ℕ × ℕ)). IsKept c.insert-2.new.self es c.insert.new.self.keys) (sym c.in_ok-insert-2.ensures.entries)
     (kept_added c.insert-2.new.self (c.args.pid).0 c.in_ok-key.key c.self.inside.keys.entries c.insert.new.self.keys (ap is_some c.in_ok-key.ensures.updates.changed)
-    (unnamed c.self.inside.processes c.self.inside.ready.keys c.in_ok-key.key c.self.inside.keys.entries c.self.invariant.each c.in_ok-key.ensures.was_vacant)
+    (unnamed c.self.inside.processes c.self.inside.ready.keys c.in_ok-key.key c.self.inside.keys.entries c.self.invariant.each c.in_ok-key.ensures.was_vacant) others
     c.in_ok-insert.ensures.updates.1
-    (subst (λ (es : List (ℕ × ℕ)). IsStrictlySortedBy nat_cmp (map (λ (e : ℕ × ℕ). e.0) es)) entries c.insert-3.ensures.ordered)
-    (kept_beside c.self.inside.processes c.insert-2.new.self c.in_ok-key.key (Some c.args.process) c.self.inside.keys.entries c.insert.new.self.keys c.in_ok-key.ensures.was_vacant c.in_ok-key.ensures.updates
-    (ready_put c.self.inside.processes c.self.inside.keys.entries (c.args.pid).0 c.self.inside.ready.keys c.insert.new.self.keys c.in_ok-insert.ensures.updates.0 c.self.invariant)))
+    (subst (λ (es : List (ℕ × ℕ)). IsStrictlySortedBy nat_cmp (map (λ (e : ℕ × ℕ). e.0) es)) c.in_ok-insert-2.ensures.entries c.insert-3.ensures.ordered)
+    kept)
 
 pub returns-clause-here : goal.returns-clause-here
 returns-clause-here c =
-    let below = all_below c.self.inside.processes c.self.inside.ready.keys (c.args.pid).0 c.self.inside.keys.entries c.self.invariant.each (ap (λ (v : ResidentsView). list_all (λ e. ltb (e.0).0 (c.args.pid).0) v.here) c.self.view_is ∙ c.requires) in
-    ap (stands_in c.insert-2.new.self) (c.in_ok-insert-2.ensures.entries ∙ put_last (c.args.pid).0 c.in_ok-key.key c.self.inside.keys.entries below)
-    ∙ one_more c.insert-2.new.self (c.args.pid).0 c.in_ok-key.key c.args.process c.self.inside.keys.entries c.in_ok-key.ensures.updates.changed
-    ∙ ap (λ l. l ++ (c.args.pid, c.args.process) ∷ [])
+    let others = none_here c.self.inside.processes c.self.inside.ready.keys (c.args.pid).0 c.self.inside.keys.entries c.self.invariant.each (ap (λ (v : ResidentsView). list_any (λ e. same_pid e.0 c.args.pid) v.here) c.self.view_is ∙ c.requires) in
+    let kept =
+    kept_beside c.self.inside.processes c.insert-2.new.self c.in_ok-key.key (Some c.args.process) c.self.inside.keys.entries c.insert.new.self.keys c.in_ok-key.ensures.was_vacant c.in_ok-key.ensures.updates
+    (ready_put c.self.inside.processes c.self.inside.keys.entries (c.args.pid).0 c.self.inside.ready.keys c.insert.new.self.keys c.in_ok-insert.ensures.updates.0 c.self.invariant)
+    in
+    ap (stands_in c.insert-2.new.self) c.in_ok-insert-2.ensures.entries
+    ∙ stands_put c.insert-2.new.self c.insert.new.self.keys (c.args.pid).0 c.in_ok-key.key c.args.process c.self.inside.keys.entries c.in_ok-key.ensures.updates.changed kept.each others
+    ∙ ap (with_more c.args.pid c.args.process)
     (others_stand c.self.inside.processes c.insert-2.new.self c.in_ok-key.key (Some c.args.process) c.self.inside.keys.entries c.in_ok-key.ensures.updates
     (unnamed c.self.inside.processes c.self.inside.ready.keys c.in_ok-key.key c.self.inside.keys.entries c.self.invariant.each c.in_ok-key.ensures.was_vacant)
     ∙ ap (λ (v : ResidentsView). v.here) c.self.view_is)

@@ -3,10 +3,9 @@ use Rattle.std.specs.List.{list_any}
 use Rattle.slab.specs.Slab.{with_value}
 use Rattle.slab.proofs.SlabLemmas.{Updates-with_value}
 use Rattle.plain_kernel.specs.Maps.{at_key, pid_of}
-use Rattle.cluster_core.specs.Residents.{ResidentsView}
-use Rattle.cluster_core.specs.Turn.{is_stuck_at}
+use Rattle.cluster_core.specs.Residents.{ResidentsView, is_stuck_at}
 use Rattle.cluster_core.proofs.Slots.{nobody_stuck, no_entry}
-use Rattle.cluster_core.proofs.Kept.{never_empty, kept_written, given_turn, given_lighter}
+use Rattle.cluster_core.proofs.Kept.{never_empty, kept_written, given_turn}
 use Rattle.cluster_core.proofs.residents.Residents.give_turn.Goals as goal
 
 pub unreachable-requires : goal.unreachable-requires
@@ -14,21 +13,15 @@ unreachable-requires c = never_empty c.self.inside.processes c.args.pid c.in-Som
 
 pub invariant_of-self : goal.invariant_of-self
 invariant_of-self c =
-    kept_written c.self.inside.processes (with_value c.self.inside.processes c.in-Some.key.now c.process_turn.new.process) c.args.pid c.in-Some.key.now c.process_turn.new.process c.self.inside.keys.entries c.self.inside.ready.keys
+    kept_written c.self.inside.processes (with_value c.self.inside.processes c.in-Some.key.now c.run_quantum.new.p) c.args.pid c.in-Some.key.now c.run_quantum.new.p c.self.inside.keys.entries c.self.inside.ready.keys
     (ap (λ (v : ResidentsView). list_any (at_key c.args.pid) v.ready) c.self.view_is ∙ c.requires) (sym c.in-Some.ensures.value)
-    (Updates-with_value c.self.inside.processes c.in-Some.key.now c.process_turn.new.process (ap is_some (sym c.in-Some-get_mut.ensures.value))) c.self.invariant
+    (Updates-with_value c.self.inside.processes c.in-Some.key.now c.run_quantum.new.p (ap is_some (sym c.in-Some-get_mut.ensures.value))) c.self.invariant
 
 pub returns-in-Some-get_mut-clause-turn : goal.returns-in-Some-get_mut-clause-turn
 returns-in-Some-get_mut-clause-turn c =
-    given_turn c.self.inside.processes (with_value c.self.inside.processes c.in-Some.key.now c.process_turn.new.process) c.args.pid c.in-Some.key.now c.self.inside.keys.entries c.self.inside.ready.keys
-    c.in-Some-get_mut.process.now c.process_turn.new.process c.args.self.now.here c.process_turn.result c.self.invariant (sym c.in-Some.ensures.value) (sym c.in-Some-get_mut.ensures.value)
-    (Updates-with_value c.self.inside.processes c.in-Some.key.now c.process_turn.new.process (ap is_some (sym c.in-Some-get_mut.ensures.value))) (ap (λ (v : ResidentsView). v.here) c.self.view_is) c.process_turn.ensures.turn
-
-pub returns-in-Some-get_mut-clause-lighter : goal.returns-in-Some-get_mut-clause-lighter
-returns-in-Some-get_mut-clause-lighter c =
-    given_lighter c.self.inside.processes (with_value c.self.inside.processes c.in-Some.key.now c.process_turn.new.process) c.args.pid c.in-Some.key.now c.self.inside.keys.entries c.self.inside.ready.keys
-    c.in-Some-get_mut.process.now c.process_turn.new.process c.args.self.now.here c.process_turn.result c.self.invariant (sym c.in-Some.ensures.value) (sym c.in-Some-get_mut.ensures.value)
-    (Updates-with_value c.self.inside.processes c.in-Some.key.now c.process_turn.new.process (ap is_some (sym c.in-Some-get_mut.ensures.value))) (ap (λ (v : ResidentsView). v.here) c.self.view_is) c.process_turn.ensures.lighter
+    given_turn c.self.inside.processes (with_value c.self.inside.processes c.in-Some.key.now c.run_quantum.new.p) c.args.pid c.in-Some.key.now c.self.inside.keys.entries c.self.inside.ready.keys
+    c.in-Some-get_mut.process.now c.run_quantum.new.p c.args.self.now.here c.self.invariant (sym c.in-Some.ensures.value) (sym c.in-Some-get_mut.ensures.value)
+    (Updates-with_value c.self.inside.processes c.in-Some.key.now c.run_quantum.new.p (ap is_some (sym c.in-Some-get_mut.ensures.value))) (ap (λ (v : ResidentsView). v.here) c.self.view_is) c.run_quantum.result c.run_quantum.ensures
 
 pub returns-in-None-clause-turn : goal.returns-in-None-clause-turn
 returns-in-None-clause-turn c =

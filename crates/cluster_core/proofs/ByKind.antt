@@ -1,0 +1,22 @@
+-- The kinds of entries that are built: what holds of each holds of every entry that is built.
+use Rattle.std.proofs.Common.{◌≡◌, ℕ, sym, List, true, true≢false}
+use Rattle.t32_base.specs.declared.process.Pid.{Pid}
+use Rattle.t32_base.specs.declared.process.End.{End}
+use Rattle.t32_base.specs.declared.letter.Letter.{Letter}
+use Rattle.bus_msg.specs.declared.entry.What.{What}
+use Rattle.bus_msg.specs.declared.entry.What.TheVariants.{Mail, Birth, Exit, Page, Sync, Fetch, PageIs, Crash, Return, Rebackup, Done, Stop}
+use Rattle.cert_sched.specs.Built.{is_built}
+
+pub by_kind : (P : What → Type 0) → ((at : ℕ) (letter : Letter) → P (Mail at letter)) → ((pid : Pid) (at : ℕ) (end : End) → P (Exit pid at end)) → ((rests : List (Pid × ℕ)) → P (Done rests)) → P Stop → (w : What) → is_built w ≡ true → P w
+by_kind P mail exit done stop (Mail at letter) built = mail at letter
+by_kind P mail exit done stop (Exit pid at end) built = exit pid at end
+by_kind P mail exit done stop (Done rests) built = done rests
+by_kind P mail exit done stop Stop built = stop
+by_kind P mail exit done stop (Birth parent at child end) built = absurd (true≢false (sym built))
+by_kind P mail exit done stop (Page pid at index bytes) built = absurd (true≢false (sym built))
+by_kind P mail exit done stop (Sync pid small read took) built = absurd (true≢false (sym built))
+by_kind P mail exit done stop (Fetch pid index) built = absurd (true≢false (sym built))
+by_kind P mail exit done stop (PageIs pid index bytes) built = absurd (true≢false (sym built))
+by_kind P mail exit done stop (Crash k cause) built = absurd (true≢false (sym built))
+by_kind P mail exit done stop (Return k) built = absurd (true≢false (sym built))
+by_kind P mail exit done stop (Rebackup to fresh recs) built = absurd (true≢false (sym built))

@@ -1,0 +1,140 @@
+-- A cluster that works has fewer steps left.
+use Rattle.std.proofs.Common.{◌≡◌, ℕ, ◌+◌, ◌≤◌, refl, sym, ◌∙◌, ap, subst, arith, List, [], ◌∷◌, map, Bool, true, false, cond, ◌||◌, eqb, ltb, eqb-true, eq-eqb, true≢false, Some}
+use Rattle.std.specs.Prelude.{find, option_map}
+use Rattle.std.specs.List.{list_any, sum_by}
+use Rattle.std.proofs.lemmas.List.Sums.{sum_by-cons}
+use Rattle.t32_base.specs.declared.process.Pid.{Pid}
+use Rattle.t32_base.specs.declared.process.ClusterNo.{ClusterNo}
+use Rattle.sys_text.specs.declared.system.System.{System}
+use Rattle.sys_text.specs.Valid.{is_system}
+use Rattle.proc_state.specs.declared.process.Process.{Process}
+use Rattle.proc_state.specs.State.{state_of}
+use Rattle.sys_calls.specs.declared.steps.Emission.{Emission}
+use Rattle.sys_calls.specs.Small.{weight}
+use Rattle.bus_msg.specs.declared.entry.Entry.{Entry}
+use Rattle.bus_msg.specs.declared.placed.Placed.{Placed}
+use Rattle.bus_msg.specs.Places.{same_pid, is_at_home}
+use Rattle.cert_sched.specs.Built.{BuiltMayFollow}
+use Rattle.cert_sched.specs.Legal.{IsLegalBy}
+use Rattle.cert_sched.specs.Parts.{put_rising, rising}
+use Rattle.cert_sched.specs.Rests.{home_pids}
+use Rattle.cert_sched.specs.Schedule.{placement, places_at_boot}
+use Rattle.cert_sched.proofs.BuiltLaws.{Kept, built_kept, kept}
+use Rattle.cert_sched.proofs.PidLaws.{apart_fewer, apart_of, placed_pids}
+use Rattle.cert_sched.proofs.RisingLaws.{NoTwo, either_not, rising-any, rising-apart}
+use Rattle.cert_sched.proofs.RootPids.{root_pids_differ}
+use Rattle.cluster_core.specs.declared.worked.Worked.TheVariants.{Moved, Queued}
+use Rattle.cluster_core.specs.View.{ClusterView, Held, Runs, held_load, load}
+use Rattle.cluster_core.specs.Calls.{FollowsSome, WorkIs}
+use Rattle.cluster_core.specs.Quantum.{RunsAndSends}
+use Rattle.cluster_core.proofs.Here.{held_of, pids_held}
+use Rattle.cluster_core.proofs.Weighing.{emits_leaves, silently_leaves}
+
+-- ---- no pid stands twice
+
+put_any : (t : ℕ → Bool) (n : ℕ) (xs : List ℕ) → list_any t (put_rising n xs) ≡ false → (t n ≡ false) × (list_any t xs ≡ false)
+put_any t n [] none = either_not (t n) false none
+put_any t n (x ∷ xs) none = by_test (ltb n x) none (put_any t n xs)
+  where
+    both : (a b c : Bool) → a ≡ false → b ≡ false → c ≡ false → (b ≡ false) × ((a || c) ≡ false)
+    both true b c g h k = absurd (true≢false g)
+    both false b c g h k = (h, k)
+
+    by_test : (b : Bool) → list_any t (cond b (n ∷ x ∷ xs) (x ∷ put_rising n xs)) ≡ false → (list_any t (put_rising n xs) ≡ false → (t n ≡ false) × (list_any t xs ≡ false)) → (t n ≡ false) × ((t x || list_any t xs) ≡ false)
+    by_test true none more = either_not (t n) (t x || list_any t xs) none
+    by_test false none more =
+        let parts = either_not (t x) (list_any t (put_rising n xs)) none in
+        let rest = more parts.1 in
+        both (t x) (t n) (list_any t xs) parts.0 rest.0 rest.1
+
+put_two : (n : ℕ) (xs : List ℕ) → NoTwo (put_rising n xs) → (list_any (λ m. eqb m n) xs ≡ false) × NoTwo xs
+put_two n [] two = (refl, tt)
+put_two n (x ∷ xs) two = by_test (ltb n x) two (put_two n xs)
+  where
+    turned : (b : Bool) → eqb x n ≡ b → eqb n x ≡ false → b ≡ false
+    turned true is other = absurd (true≢false (sym (eq-eqb n x (sym (eqb-true x n is))) ∙ other))
+    turned false is other = refl
+
+    either : (a b : Bool) → a ≡ false → b ≡ false → (a || b) ≡ false
+    either true b g h = absurd (true≢false g)
+    either false b g h = h
+
+    by_test : (b : Bool) → NoTwo (cond b (n ∷ x ∷ xs) (x ∷ put_rising n xs)) → (NoTwo (put_rising n xs) → (list_any (λ m. eqb m n) xs ≡ false) × NoTwo xs) → (list_any (λ m. eqb m n) (x ∷ xs) ≡ false) × NoTwo (x ∷ xs)
+    by_test true two more = two
+    by_test false two more =
+        let parts = put_any (λ m. eqb m x) n xs two.0 in
+        let rest = more two.1 in
+        (either (eqb x n) (list_any (λ m. eqb m n) xs) (turned (eqb x n) refl parts.0) rest.0, (parts.1, rest.1))
+
+apart_unsorted : (xs : List ℕ) → NoTwo (rising xs) → NoTwo xs
+apart_unsorted [] two = tt
+apart_unsorted (x ∷ xs) two =
+    let parts = put_two x (rising xs) two in
+    (sym (rising-any (λ m. eqb m x) xs) ∙ parts.0, apart_unsorted xs parts.1)
+
+abbrev kept_pids : List Kept → List ℕ
+kept_pids ks = map (λ (k : Kept). (k.pid).0) ks
+
+pids_kept : (qs : List Placed) → kept_pids (map kept qs) ≡ placed_pids qs
+pids_kept [] = refl
+pids_kept (q ∷ qs) = ap (λ ns. (q.pid).0 ∷ ns) (pids_kept qs)
+
+homes_apart : (system : System) (log : List Entry) (k : ClusterNo) → is_system system ≡ true → IsLegalBy BuiltMayFollow system log → NoTwo (home_pids system log k)
+homes_apart system log k valid legal =
+    let same : placed_pids (placement system log).placed ≡ placed_pids (places_at_boot system).placed =
+    sym (pids_kept (placement system log).placed) ∙ ap kept_pids (built_kept system log legal) ∙ pids_kept (places_at_boot system).placed in
+    apart_fewer (is_at_home k) (placement system log).placed (subst NoTwo (sym same) (apart_of (places_at_boot system).placed (root_pids_differ system valid)))
+
+held_apart : (c : ClusterView) → is_system c.system ≡ true → FollowsSome c → NoTwo (pids_held c.here)
+held_apart c valid f =
+    apart_unsorted (pids_held c.here)
+    (subst NoTwo (sym (((f.follows).processes).each_once)) (rising-apart (home_pids c.system f.log c.number) (homes_apart c.system f.log c.number valid (f.open_log).0)))
+
+-- ---- one of them has fewer steps left
+
+abbrev with_held : Pid → Process → List (Pid × Held) → List (Pid × Held)
+with_held p now here = map (λ (e : Pid × Held). cond (same_pid e.0 p) (p, Runs now) e) here
+
+abbrev sum_held : List (Pid × Held) → ℕ
+sum_held here = sum_by (λ (e : Pid × Held). held_load e.1) here
+
+abbrev weight_of : Pid × Held → ℕ
+weight_of e = held_load e.1
+
+others_same : (p : Pid) (now : Process) (here : List (Pid × Held)) → list_any (λ m. eqb m p.0) (pids_held here) ≡ false → sum_held (with_held p now here) ≡ sum_held here
+others_same p now [] none = refl
+others_same p now (e ∷ here) none =
+    let parts = either_not (eqb (e.0).0 p.0) (list_any (λ m. eqb m p.0) (pids_held here)) none in
+    ap (λ b. sum_held (cond b (p, Runs now) e ∷ with_held p now here)) parts.0 ∙ sum_by-cons weight_of e (with_held p now here) ∙ ap (λ n. held_load e.1 + n) (others_same p now here parts.1)
+    ∙ sym (sum_by-cons weight_of e here)
+
+one_lighter : (p : Pid) (was now : Process) (n : ℕ) (here : List (Pid × Held)) → NoTwo (pids_held here) → held_of here p ≡ Some (Runs was) → weight now.small + n ≤ weight was.small → sum_held (with_held p now here) + n ≤ sum_held here
+one_lighter p was now n [] two at less = cc
+one_lighter p was now n (e ∷ here) two at less = by_test (same_pid e.0 p) refl at (one_lighter p was now n here two.1)
+  where
+    by_test : (b : Bool) → same_pid e.0 p ≡ b → option_map (λ (e : Pid × Held). e.1) (cond b (Some e) (find (λ (e : Pid × Held). same_pid e.0 p) here)) ≡ Some (Runs was)
+        → (held_of here p ≡ Some (Runs was) → weight now.small + n ≤ weight was.small → sum_held (with_held p now here) + n ≤ sum_held here)
+        → sum_held (cond b (p, Runs now) e ∷ with_held p now here) + n ≤ sum_held (e ∷ here)
+    by_test true is at more =
+        let same : e.1 ≡ Runs was = cc in
+        let rest = others_same p now here (ap (λ m. list_any (λ k. eqb k m) (pids_held here)) (sym (eqb-true (e.0).0 p.0 is)) ∙ two.0) in
+        omega (arith, sum_by-cons weight_of (p, Runs now) (with_held p now here), sum_by-cons weight_of e here, ap held_load same, rest, less)
+    by_test false is at more = omega (arith, sum_by-cons weight_of e (with_held p now here), sum_by-cons weight_of e here, more at less)
+
+-- ---- a work
+
+-- a process that made n silent steps and one that sends has n and one fewer left
+pub sends_leaves : (most : ℕ) (was now : Process) (e : Emission) (runs : RunsAndSends most (state_of was) e (state_of now)) → weight now.small + (runs.steps + 1) ≤ weight was.small
+sends_leaves most was now e runs = omega (arith, silently_leaves runs.steps (state_of was) runs.before runs.silent, emits_leaves runs.before (state_of now) e runs.sends)
+
+pub moved_lightens : (old new : ClusterView) → is_system old.system ≡ true → FollowsSome old → WorkIs old Moved new → load new + 1 ≤ load old
+moved_lightens old new valid f work =
+    let one = work.1 in
+    let less : weight (one.now).small + 1 ≤ weight (one.was).small = omega (arith, one.some, silently_leaves one.steps (state_of one.was) (state_of one.now) one.silent) in
+    subst (λ (c : ClusterView). load c + 1 ≤ load old) (sym one.rest) (one_lighter one.pid one.was one.now 1 old.here (held_apart old valid f) one.there less)
+
+pub queued_lightens : (old new : ClusterView) → is_system old.system ≡ true → FollowsSome old → WorkIs old Queued new → load new + 1 ≤ load old
+queued_lightens old new valid f work =
+    let one = work.1 in
+    let less : weight (one.now).small + 1 ≤ weight (one.was).small = omega (arith, sends_leaves 64 one.was one.now one.emission one.runs) in
+    subst (λ (c : ClusterView). load c + 1 ≤ load old) (sym one.rest) (one_lighter one.pid one.was one.now 1 old.here (held_apart old valid f) one.there less)

@@ -1,0 +1,53 @@
+//! What an entry changes in a cluster, by its kind.
+ghost use Rattle.std.specs.Prelude.{◌≡◌, ◌<◌, OnErr, OnOk};
+ghost use Rattle.bus_msg.specs.PlacedAfter.{what};
+ghost use Rattle.cluster_core.specs.Absorbing.{ComesHere, goes_to};
+ghost use Rattle.cluster_core.specs.Residents.{HasRoom, residents_after};
+
+use crate::residents::Residents;
+use bus_msg::entry::{Dests, Entry, What};
+use t32_base::process::ClusterNo;
+use t32_base::streams::NoMemory;
+
+/// Tells the parts of the cluster with a number what an entry changes in them; the placement is still the one
+/// before the entry. A letter goes to some clusters only, and a process here gets one only where this is one
+/// of them. After want of memory no process has changed.
+pub fn tell(number: ClusterNo, here: &mut Residents, entry: &Entry) -> Result<(), NoMemory>
+    requires number { number.0 < 16 }
+    requires room { HasRoom here.old.here }
+    requires comes { ComesHere number entry.now here.old.here }
+    ensures ok { OnOk result (here.new.here ≡ residents_after (what entry.now) here.old.here) }
+    ensures err { OnErr result (here.new.here ≡ here.old.here) }
+{
+    match &entry.post.what {
+        What::Mail { letter, .. } => {
+            if goes_to(&entry.dests, number) {
+                here.deliver(letter)
+            } else {
+                Ok(())
+            }
+        }
+        What::Exit { pid, .. } => {
+            here.let_go(*pid);
+            Ok(())
+        }
+        What::Birth { .. } => Ok(()),
+        What::Page { .. } => Ok(()),
+        What::Sync { .. } => Ok(()),
+        What::Fetch { .. } => Ok(()),
+        What::PageIs { .. } => Ok(()),
+        What::Crash { .. } => Ok(()),
+        What::Return { .. } => Ok(()),
+        What::Rebackup { .. } => Ok(()),
+        What::Done { .. } => Ok(()),
+        What::Stop => Ok(()),
+    }
+}
+
+// Whether the cluster with a number is one of those that an entry goes to.
+fn goes_to(dests: &Dests, number: ClusterNo) -> bool
+    requires { number.0 < 16 }
+    ensures { result ≡ goes_to dests.now number }
+{
+    (dests.clusters >> number.0) & 1 == 1
+}
