@@ -68,6 +68,10 @@ fn cut_at_newline(text: &[u8]) -> (&[u8], &[u8])
     ensures before { result.0.now ≡ before is_newline text.now }
     ensures from { result.1.now ≡ from is_newline text.now }
 {
+    // Many lines are empty.
+    if let [b'\n', ..] = text {
+        return (&[], text);
+    }
     match memchr(b'\n', text) {
         Some(at) => text.split_at(at),
         None => (text, &[]),

@@ -1,5 +1,6 @@
 //! Numbers in a text.
-ghost use Rattle.std.specs.Prelude.{ℕ, ◌≡◌, ◌<◌, ◌≤◌, ◌^◌, min, decimal};
+ghost use Rattle.std.specs.Prelude.{ℕ, ◌≡◌, ◌<◌, ◌≤◌, ◌^◌, min, decimal, MatchOption};
+ghost use Rattle.std.specs.Char.{digit_value};
 ghost use Rattle.std.specs.Option.{option_map};
 ghost use Rattle.text_parts.specs.Numbers.{numeral_of, number_of, word_of};
 
@@ -34,6 +35,33 @@ pub fn number(text: &[u8]) -> Option<u64>
     numeral(text, 10)
 }
 
+/// A hexadecimal digit, either case.
+fn hex_digit(byte: u8) -> Option<u64>
+    ensures { MatchOption result (16 ≤ digit_value byte) (λ digit. (digit_value byte < 16) × (digit ≡ digit_value byte)) }
+{
+    match byte {
+        b'0'..=b'9' => Some(u64::from(byte - b'0')),
+        b'a'..=b'f' => Some(u64::from(byte - b'a' + 10)),
+        b'A'..=b'F' => Some(u64::from(byte - b'A' + 10)),
+        _ => None,
+    }
+}
+
+/// The number that hexadecimal digits stand for, of which there are any number; `MOST` where it is more.
+fn hexadecimal(text: &[u8]) -> Option<u64>
+    ensures { result ≡ option_map (min MOST) (numeral_of 16 text.now) }
+{
+    if text.is_empty() {
+        return None;
+    }
+    let mut value = 0;
+    for b in text {
+        let digit = hex_digit(*b)?;
+        value = (value * 16 + digit).min(MOST);
+    }
+    Some(value)
+}
+
 /// A word: eight hexadecimal digits, either case.
 pub fn word(text: &[u8]) -> Option<u32>
     ensures { result ≡ word_of text.now }
@@ -41,7 +69,7 @@ pub fn word(text: &[u8]) -> Option<u32>
     if text.len() != 8 {
         return None;
     }
-    let value = numeral(text, 16)?;
+    let value = hexadecimal(text)?;
     Some(value as u32)
 }
 
