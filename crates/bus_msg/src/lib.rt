@@ -5,6 +5,4 @@ pub mod copying;
 pub mod entry;
 pub mod placed;
 pub mod shared;
-#[cfg(test)]
-mod tests;
 pub mod text;

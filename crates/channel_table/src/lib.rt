@@ -4,5 +4,3 @@
 mod cluster;
 pub mod placement;
 mod processes;
-#[cfg(test)]
-mod tests;

@@ -7,5 +7,3 @@ pub mod pager;
 mod pages;
 mod processes;
 mod table;
-#[cfg(test)]
-mod tests;

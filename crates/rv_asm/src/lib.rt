@@ -20,6 +20,3 @@ mod words;
 pub use printing::words_text;
 pub use program::assemble;
 pub use refusal::{AsmRefused, Rule};
-
-#[cfg(test)]
-mod tests;

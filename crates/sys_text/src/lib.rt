@@ -6,15 +6,11 @@ mod block;
 mod kinds;
 pub mod printer;
 mod reading;
-#[cfg(test)]
-mod reading_tests;
 mod refusal;
 mod rules;
 mod stage;
 mod state;
 pub mod system;
-#[cfg(test)]
-mod tests;
 mod types;
 pub mod valid;
 mod word_lines;

@@ -1,7 +1,7 @@
 //! The line of an entry of each kind, and copies.
-use crate::entry::{By, Cause, Dests, Entry, Post, What};
-use crate::shared::Shared;
-use crate::text::{end_line, entry_text, put_entry};
+use bus_msg::entry::{By, Cause, Dests, Entry, Post, What};
+use bus_msg::shared::Shared;
+use bus_msg::text::{end_line, entry_text, put_entry};
 use std::alloc::{AllocError, Global};
 use std::process::Abort;
 use std::test::Fail;

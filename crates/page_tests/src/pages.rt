@@ -1,7 +1,7 @@
 //! The accounts of a page server on a disk that works, and on one that fails at each call in turn.
-use crate::disk::{DiskFault, DiskRefused, PageDisk};
-use crate::mem_disk::MemDisk;
-use crate::pager::Pager;
+use page_server::disk::{DiskFault, DiskRefused, PageDisk};
+use page_server::mem_disk::MemDisk;
+use page_server::pager::Pager;
 use std::alloc::Global;
 use std::test::Fail;
 use t32_base::lists::List;

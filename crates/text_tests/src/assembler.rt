@@ -1,4 +1,5 @@
-use super::*;
+//! Programs and their words, from outside, and which line and rule of the others is named.
+use rv_asm::{AsmRefused, assemble, words_text};
 use std::alloc::Global;
 use std::process::Abort;
 use std::test::Fail;

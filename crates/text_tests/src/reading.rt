@@ -1,10 +1,9 @@
 //! Which texts are read, and which line and rule of the others is named.
-use crate::printer::system_text;
-use crate::reading::read_system;
-use crate::refusal::SystemRefused;
 use std::alloc::Global;
 use std::process::Abort;
 use std::test::Fail;
+use sys_text::printer::system_text;
+use sys_text::{SystemRefused, read_system};
 
 const FRONT: &str = "clusters 2\npager 0 1\nsyncreads 32\nsyncsteps 4096\n";
 

@@ -1,7 +1,8 @@
-use super::*;
-use crate::cert::Cert;
+//! Schedules: from entries, as a text, and read back.
 use bus_msg::entry::{By, Cause, Dests, Entry, Post, What};
 use bus_msg::shared::Shared;
+use cert_sched::cert::Cert;
+use cert_sched::{ItemsRefused, items_text, read_items};
 use plain_kernel::item::Item;
 use std::alloc::{AllocError, Global};
 use std::process::Abort;

@@ -1,9 +1,9 @@
 //! What the clauses leave to a reader: that a text looks as the format says, and which texts are read.
-use crate::printer::system_text;
-use crate::system::{Image, Root, System};
-use crate::valid::is_system;
 use std::alloc::Global;
 use std::test::Fail;
+use sys_text::printer::system_text;
+use sys_text::system::{Image, Root, System};
+use sys_text::valid::is_system;
 use t32_base::lists::{Bytes, List};
 use t32_base::process::{ClusterNo, Mode};
 use t32_base::streams::NoMemory;

@@ -1,10 +1,10 @@
 //! One system of three clusters with two roots, whose placements and routes were worked by hand.
 ghost use Rattle.channel_table.specs.Changes.{CanBeAbsorbed, IsRoutable};
 
-use crate::placement::Placement;
 use bus_msg::entry::{By, Cause, Dests, Entry, Post, What};
 use bus_msg::placed::Placed;
 use bus_msg::shared::Shared;
+use channel_table::placement::Placement;
 use std::alloc::Global;
 use std::test::Fail;
 use t32_base::letter::{BackRec, Body, Letter, To};
