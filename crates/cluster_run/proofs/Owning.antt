@@ -1,5 +1,5 @@
 -- What a cluster makes of a bus that no other has.
-use Rattle.std.proofs.Common.{◌≡◌, ℕ, ◌+◌, ◌≤◌, ◌<◌, ◌⊎◌, inl, inr, refl, sym, ◌∙◌, ap, subst, arith, List, [], ◌∷◌, ◌++◌, length, append_assoc, append-nil, Bool, false, true, Option, Some, None, true≢false}
+use Rattle.std.proofs.Common.{◌≡◌, ℕ, ◌+◌, ◌≤◌, ◌<◌, ◌⊎◌, inl, inr, refl, sym, ◌∙◌, ap, subst, arith, List, [], ◌∷◌, ◌++◌, length, append_assoc, append-nil, Bool, false, true, Option, Some, None, OnOk, Result, Ok, Err, true≢false}
 use Rattle.std.specs.Prelude.{All}
 use Rattle.std.proofs.lemmas.List.{length-map, length-set}
 use Rattle.std.proofs.lemmas.List.Elements.{All-append}
@@ -119,3 +119,24 @@ tells_turn b mid after c caught new same taken is empty tells =
       lighter = omega (arith, load_is, taken.lighter);
       gets_on = inr t.rests;
     }
+
+-- the cluster worked and then sent its posts
+pub sends_turn : (b mid after : BusView) (c caught worked new : ClusterView) → mid ≡ b → TakesIn mid c caught → worked.number ≡ caught.number → load worked + 1 ≤ load caught → load new ≤ load worked → SendsOwn worked.number mid after → new.queue ≡ [] → TurnsOwn b after c new
+sends_turn b mid after c caught worked new same taken number_is less later sends empty =
+    let number : worked.number ≡ c.number = number_is ∙ (taken.same).number in
+    let t : SendsOwn c.number b after = subst (λ x. SendsOwn c.number x after) same (subst (λ k. SendsOwn k mid after) number sends) in
+    record {
+      owned = (t.goes_on).0;
+      adds = t.adds;
+      empty = empty;
+      lighter = omega (arith, less, later, taken.lighter);
+      gets_on = inl (omega (arith, less, later, taken.lighter));
+    }
+
+pub where_ok : {A E : Type 0} (r : Result A E) (P Q : Type 0) → (P → Q) → OnOk r P → OnOk r Q
+where_ok (Ok a) P Q then holds = then holds
+where_ok (Err e) P Q then holds = tt
+
+pub both_ok : {A E : Type 0} (r : Result A E) (P Q : Type 0) → OnOk r P → OnOk r Q → OnOk r (P × Q)
+both_ok (Ok a) P Q one two = (one, two)
+both_ok (Err e) P Q one two = tt

@@ -5,6 +5,7 @@ use Rattle.t32_base.specs.declared.process.ClusterNo.{ClusterNo}
 use Rattle.sys_text.specs.declared.system.System.{System}
 use Rattle.bus_msg.specs.declared.entry.Post.{Post}
 use Rattle.bus_msg.specs.declared.entry.Entry.{Entry}
+use Rattle.cert_sched.specs.Appended.{entry_of}
 use Rattle.cert_sched.specs.Rules.{is_over}
 use Rattle.cert_sched.specs.Legal.{IsLegalBy}
 use Rattle.cert_sched.specs.Built.{BuiltMayFollow}
@@ -42,16 +43,13 @@ module _ (log : List Entry) (t left : ClusterView) (post : Post) (after : BusVie
   pub sent_posting : (Shows : Type 0) (from : ℕ) (new : ClusterView) → Shows → from ≤ t.cursor → IsSound after → TakesNext after.log left new → IsPosting Shows from after new
   sent_posting Shows from new shows low sound next =
       let seen = sent_seen log t post after s left new left_is next in
-      let long : length after.log ≡ length log + 1 = ap length s.longer ∙ long_by log in
+      let long : length after.log ≡ length log + 1 = ap length s.longer ∙ length-append log (entry_of t.system log post ∷ []) in
       record {
         shown = record { shows = shows; from_there = omega (arith, seen, low, long, s.seen); sound = sound; along = sent_along log t post after s left new left_is next };
         seen = seen;
         goes_on = sent_goes_on log t post after s;
         few = let none : length new.queue ≡ 0 = ap length (sent_empty log t post after s left new left_is next) in omega (arith, none);
       }
-    where
-      long_by : {X : Type 0} (xs : List X) {x : X} → length (xs ++ x ∷ []) ≡ length xs + 1
-      long_by xs {x} = length-append xs (x ∷ [])
 
 -- it was behind, and has taken in what is new
 pub behind_posting : (Shows : Type 0) (from : ℕ) (after : BusView) (t new : ClusterView) → Shows → from ≤ t.cursor → IsSound after → length t.queue ≤ 1 → is_over after.system after.log ≡ false → TakesIn after t new → new.cursor ≡ open_length after.log
@@ -74,6 +72,7 @@ follows_some b c sound along = record {
 }
 
 pub worked_along : (b : BusView) (c new : ClusterView) → IsSound b → IsAlong b c → GoesOn c new → KeepsPlace c new → new.failed ≡ c.failed → IsAlong b new
+unfolding follows_some
 worked_along b c new sound along goes keeps failed =
     let some = follows_some b c sound along in
     record {

@@ -18,7 +18,7 @@ take_next-requires-clause-ready g c =
     let off = subst (λ o. OffersHead a t b after o) c.in-Sent.is c.in_ok-offer_head.ensures.offered in
     let tried : t.tried ≡ true = ap (λ (v : ClusterView). v.tried) c.tried.ensures.tried in
     let s = was_sent a b after t off.0 (p.shown).along c.in_ok-offer_head.ensures.sound off.1 tried off.2 in
-    left_ready (off.2).found t c.sent.new.self off.0 after s c.sent.ensures c.in_ok-offer_head.ensures.sound
+    left_ready ((off.2).found).log t c.sent.new.self off.0 after s c.sent.ensures c.in_ok-offer_head.ensures.sound
 
 pub returns-in_ok-take_next-in-Sent-clause-lighter :
     goal.returns-in_ok-take_next-in-Sent-clause-lighter
@@ -31,7 +31,7 @@ returns-in_ok-take_next-in-Sent-clause-lighter g c =
     let off = subst (λ o. OffersHead a t b after o) c.in-Sent.is c.in_ok-offer_head.ensures.offered in
     let tried : t.tried ≡ true = ap (λ (v : ClusterView). v.tried) c.tried.ensures.tried in
     let s = was_sent a b after t off.0 (p.shown).along c.in_ok-offer_head.ensures.sound off.1 tried off.2 in
-    let less = sent_lighter (off.2).found t off.0 after s c.sent.new.self c.take_next.new.cluster c.sent.ensures c.in_ok-take_next-in-Sent.ensures in
+    let less = sent_lighter ((off.2).found).log t off.0 after s c.sent.new.self c.take_next.new.cluster c.sent.ensures c.in_ok-take_next-in-Sent.ensures in
     let same : load t ≡ load c.args.cluster.now = ap load c.tried.ensures.tried in
     omega (arith, less, same)
 
@@ -47,7 +47,7 @@ returns-in_ok-take_next-in-Sent-clause-posting g c goes =
     let tried : t.tried ≡ true = ap (λ (v : ClusterView). v.tried) c.tried.ensures.tried in
     let s = was_sent a b after t off.0 (p.shown).along c.in_ok-offer_head.ensures.sound off.1 tried off.2 in
     let longer = sent_longer a b after t off.0 (p.shown).along off.2 in (
-      sent_posting (off.2).found t c.sent.new.self off.0 after s c.sent.ensures (g.P.Port.shows c.offer_head.new.port) (g.P.Port.from c.offer_head.new.port) c.take_next.new.cluster
+      sent_posting ((off.2).found).log t c.sent.new.self off.0 after s c.sent.ensures (g.P.Port.shows c.offer_head.new.port) (g.P.Port.from c.offer_head.new.port) c.take_next.new.cluster
       c.in_ok-offer_head.ensures.shows c.in_ok-offer_head.ensures.from c.in_ok-offer_head.ensures.sound c.in_ok-take_next-in-Sent.ensures,
       omega (arith, longer, p.seen),
     )
