@@ -1,6 +1,5 @@
 -- What a cluster makes of a bus that no other has.
-use Rattle.std.proofs.Common.{◌≡◌, ℕ, ◌+◌, ◌≤◌, ◌<◌, ◌⊎◌, inl, inr, refl, sym, ◌∙◌, ap, subst, arith, List, [], ◌∷◌, ◌++◌, length, append_assoc, append-nil, Bool, false, true, Option, Some, None, OnOk, Result, Ok, Err, true≢false}
-use Rattle.std.specs.Prelude.{All}
+use Rattle.std.proofs.Common.{◌≡◌, ℕ, ◌+◌, ◌≤◌, ◌<◌, ◌⊎◌, inl, inr, sym, ◌∙◌, ap, subst, arith, [], ◌++◌, length, append_assoc, Bool, true, Option, Some, None, OnOk, Result, Ok, Err, true≢false}
 use Rattle.std.proofs.lemmas.List.{length-map, length-set}
 use Rattle.std.proofs.lemmas.List.Elements.{All-append}
 use Rattle.t32_base.specs.declared.process.ClusterNo.{ClusterNo}
@@ -8,7 +7,6 @@ use Rattle.sys_text.specs.declared.system.System.{System}
 use Rattle.bus_msg.specs.declared.entry.By.TheVariants.{Bus}
 use Rattle.bus_msg.specs.declared.entry.What.TheVariants.{Done}
 use Rattle.bus_msg.specs.declared.entry.Post.{Post}
-use Rattle.bus_msg.specs.declared.entry.Entry.{Entry}
 use Rattle.cert_sched.specs.Appended.{entry_of}
 use Rattle.cert_sched.specs.Rules.{is_over}
 use Rattle.cert_sched.specs.Scripted.{is_finished}
@@ -18,12 +16,12 @@ use Rattle.bus_order.specs.declared.marks.Mark.{Mark}
 use Rattle.bus_order.specs.declared.marks.Idled.{Idled}
 use Rattle.bus_order.specs.declared.marks.Idled.TheVariants.{Marked, Done as WasDone}
 use Rattle.bus_order.specs.Log.{author_of}
-use Rattle.bus_order.specs.View.{BusView, with_mark, with_post}
+use Rattle.bus_order.specs.View.{BusView, with_post}
 use Rattle.bus_order.proofs.OverLaws.{finished-snoc}
 use Rattle.cluster_run.specs.declared.offers.Offered.TheVariants.{Sent, Behind, Over}
 use Rattle.cluster_run.specs.Along.{IsAlong, IsOwned, IsSound, TakesIn}
-use Rattle.cluster_run.specs.Offers.{Adds, IsLeft, Later, OfferIs, TellIs, Visits}
-use Rattle.cluster_run.specs.Progress.{GetsOn, IsOver, Rests}
+use Rattle.cluster_run.specs.Offers.{Adds, OfferIs, TellIs, Visits}
+use Rattle.cluster_run.specs.Progress.{IsOver, Rests}
 use Rattle.cluster_run.specs.Turns.{GoesOwn, SendsOwn, TellsOwn, TurnsOwn}
 use Rattle.cluster_run.proofs.Offering.{adds_none, alone_later, alone_left}
 use Rattle.cluster_run.proofs.Progressing.{told_rest}

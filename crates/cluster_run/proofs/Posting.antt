@@ -1,5 +1,5 @@
 -- A cluster goes on posting, by what became of its head.
-use Rattle.std.proofs.Common.{◌≡◌, ℕ, ◌+◌, ◌≤◌, ◌<◌, refl, sym, ◌∙◌, ap, subst, arith, List, [], ◌∷◌, length, take, drop, length-append, ◌++◌, Bool, false, true}
+use Rattle.std.proofs.Common.{◌≡◌, ℕ, ◌+◌, ◌≤◌, ◌<◌, sym, ◌∙◌, ap, subst, arith, List, [], ◌∷◌, length, take, drop, length-append, false}
 use Rattle.std.specs.List.{list_any}
 use Rattle.t32_base.specs.declared.process.ClusterNo.{ClusterNo}
 use Rattle.sys_text.specs.declared.system.System.{System}

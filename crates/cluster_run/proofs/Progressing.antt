@@ -1,8 +1,8 @@
 -- Each round leaves less to do, or ends the run.
-use Rattle.std.proofs.Common.{◌≡◌, ℕ, zero, suc, ◌+◌, ◌≤◌, ◌<◌, ◌≢◌, ◌⊎◌, inl, inr, refl, sym, ◌∙◌, ap, subst, arith, List, [], ◌∷◌, filter, map, length, Bool, false, true, cond, not, ◌||◌, ◌&&◌, Option, Some, None, get_or, slice_set, true≢false, eq-eqb, eqb-true, OnOk, Result, Ok, Err}
+use Rattle.std.proofs.Common.{◌≡◌, ℕ, zero, suc, ◌+◌, ◌≤◌, ◌<◌, ◌≢◌, ◌⊎◌, inl, inr, refl, sym, ◌∙◌, ap, subst, arith, List, [], ◌∷◌, length, Bool, false, true, ◌||◌, ◌&&◌, Option, Some, None, get_or, slice_set, true≢false, eq-eqb, eqb-true, Ok}
 use Rattle.std.specs.Prelude.{is_none, is_some, nat_eq, nat_lt, option_map, slice_get}
-use Rattle.std.specs.List.{sum_by, list_any, range_with_len}
-use Rattle.std.proofs.lemmas.List.Sums.{sum_by-cons, sum_by-set}
+use Rattle.std.specs.List.{list_any, range_with_len}
+use Rattle.std.proofs.lemmas.List.Sums.{sum_by-set}
 use Rattle.std.proofs.lemmas.Bool.Decides.{nat_tests}
 use Rattle.std.proofs.lemmas.Option.{slice_get-map}
 use Rattle.std.proofs.lemmas.List.{get_or-set_same, get_or-set_other}

@@ -1,4 +1,4 @@
-use Rattle.std.proofs.Common.{◌≡◌, ◌≤◌, ◌-◌, ◌^◌, ◌+◌, length, true}
+use Rattle.std.proofs.Common.{◌≡◌, ◌≤◌, ◌-◌, ◌^◌, length, true}
 use Rattle.cluster_core.specs.View.{load}
 use Rattle.cluster_run.specs.Along.{IsPosting, IsSame}
 use Rattle.cluster_run.specs.Turns.{GoesOwn, SendsOwn}

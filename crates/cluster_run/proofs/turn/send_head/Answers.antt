@@ -1,4 +1,4 @@
-use Rattle.std.proofs.Common.{◌≡◌, ◌<◌, refl, sym, ap, subst, arith, length, true}
+use Rattle.std.proofs.Common.{◌≡◌, ◌<◌, refl, ap, subst, arith, length, true}
 use Rattle.t32_base.specs.declared.process.ClusterNo.{ClusterNo}
 use Rattle.cluster_core.specs.View.{ClusterView, load}
 use Rattle.cluster_run.specs.Turns.{OffersHead, SendsOwn}
@@ -48,7 +48,7 @@ returns-in_ok-take_next-in-Sent-clause-posting g c goes =
     let s = was_sent a b after t off.0 (p.shown).along c.in_ok-offer_head.ensures.sound off.1 tried off.2 in
     let longer = sent_longer a b after t off.0 (p.shown).along off.2 in (
       sent_posting ((off.2).found).log t c.sent.new.self off.0 after s c.sent.ensures (g.P.Port.shows c.offer_head.new.port) (g.P.Port.from c.offer_head.new.port) c.take_next.new.cluster
-      c.in_ok-offer_head.ensures.shows c.in_ok-offer_head.ensures.from c.in_ok-offer_head.ensures.sound c.in_ok-take_next-in-Sent.ensures,
+          c.in_ok-offer_head.ensures.shows c.in_ok-offer_head.ensures.from c.in_ok-offer_head.ensures.sound c.in_ok-take_next-in-Sent.ensures,
       omega (arith, longer, p.seen),
     )
 
@@ -78,6 +78,6 @@ returns-in_ok-take_in-in-Behind-clause-posting g c goes =
     let behind = was_behind a b after t off.0 (p.shown).along off.2 in
     let less : t.cursor < length after.log = behind.2 in (
       behind_posting (g.P.Port.shows c.offer_head.new.port) (g.P.Port.from c.offer_head.new.port) after t c.take_in.new.cluster
-      c.in_ok-offer_head.ensures.shows c.in_ok-offer_head.ensures.from c.in_ok-offer_head.ensures.sound p.few behind.1 c.in_ok-take_in-in-Behind.ensures.taken c.in_ok-take_in-in-Behind.ensures.caught,
+          c.in_ok-offer_head.ensures.shows c.in_ok-offer_head.ensures.from c.in_ok-offer_head.ensures.sound p.few behind.1 c.in_ok-take_in-in-Behind.ensures.taken c.in_ok-take_in-in-Behind.ensures.caught,
       omega (arith, less, p.seen),
     )

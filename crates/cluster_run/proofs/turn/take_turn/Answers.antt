@@ -2,7 +2,6 @@ use Rattle.std.proofs.Common.{◌≡◌, ◌≤◌, ◌∙◌, [], sym, subst, l
 use Rattle.cluster_core.specs.Calls.{Lightens, WorkIs}
 use Rattle.cluster_core.specs.View.{ClusterView, load}
 use Rattle.cert_sched.specs.Rules.{is_over}
-use Rattle.bus_order.specs.View.{BusView}
 use Rattle.cluster_run.specs.Turns.{GoesOwn, SendsOwn, TurnsOwn}
 use Rattle.cluster_run.proofs.Owning.{both_ok, sends_turn, tells_turn, where_ok}
 use Rattle.cluster_run.proofs.Posting.{follows_some, worked_posting, worked_shown}
@@ -36,9 +35,9 @@ returns-in-Queued-clause-own g c =
     let both : Type 0 = (load new ≤ load worked) × (a ≡ true → GoesOwn mid → SendsOwn worked.number mid after × (new.queue ≡ [])) in
     where_ok c.send.result both (a ≡ true → GoesOwn b → TurnsOwn b after c.args.cluster.now new)
     (λ is alone own.
-        let same = c.in_ok-catch_up.ensures.own alone in
-        let sends = is.1 alone (subst GoesOwn (sym same) own) in
-        sends_turn b mid after c.args.cluster.now c.catch_up.new.cluster worked new same c.in_ok-catch_up.ensures.taken c.in_ok-work.ensures.place.number less is.0 sends.0 sends.1)
+    let same = c.in_ok-catch_up.ensures.own alone in
+    let sends = is.1 alone (subst GoesOwn (sym same) own) in
+    sends_turn b mid after c.args.cluster.now c.catch_up.new.cluster worked new same c.in_ok-catch_up.ensures.taken c.in_ok-work.ensures.place.number less is.0 sends.0 sends.1)
     (both_ok c.send.result _ _ c.send.ensures.lighter c.send.ensures.own)
 
 pub returns-in_ok-tell-in-Rests-clause-own : goal.returns-in_ok-tell-in-Rests-clause-own

@@ -1,4 +1,4 @@
-use Rattle.cluster_run.proofs.Offering.{told_along, was_told}
+use Rattle.cluster_run.proofs.Offering.{was_told}
 use Rattle.cluster_run.proofs.Owning.{told_own}
 use Rattle.cluster_run.proofs.turn.tell.Goals as goal
 

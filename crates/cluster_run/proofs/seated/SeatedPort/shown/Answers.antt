@@ -1,5 +1,4 @@
 use Rattle.std.proofs.Common.{◌≡◌, ◌+◌, ◌-◌, ◌≤◌, ◌<◌, ◌∙◌, ap, sym, arith, Some, slice_get}
-use Rattle.std.specs.Arc.{arc_value}
 use Rattle.std.proofs.lemmas.Option.{slice_get-get_or}
 use Rattle.bus_lock.specs.Seats.{seen}
 use Rattle.bus_order.specs.Log.{open_length}
