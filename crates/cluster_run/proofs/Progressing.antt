@@ -1,78 +1,26 @@
 -- Each round leaves less to do, or ends the run.
-use Rattle.std.proofs.Common.{◌≡◌, ℕ, zero, suc, ◌+◌, ◌≤◌, ◌<◌, ◌≢◌, ◌⊎◌, inl, inr, refl, sym, ◌∙◌, ap, subst, arith, List, [], ◌∷◌, filter, map, length, Bool, false, true, cond, not, ◌||◌, ◌&&◌, Option, Some, None, get_or, slice_set, true≢false, eq-eqb, eqb-true, OnOk, Result, Ok, Err}
+use Rattle.std.proofs.Common.{◌≡◌, ℕ, zero, suc, ◌+◌, ◌≤◌, ◌<◌, ◌≢◌, ◌⊎◌, inl, inr, refl, sym, ◌∙◌, ap, subst, arith, List, [], ◌∷◌, length, Bool, false, true, ◌||◌, ◌&&◌, Option, Some, None, get_or, slice_set, true≢false, eq-eqb, eqb-true, Ok}
 use Rattle.std.specs.Prelude.{is_none, is_some, nat_eq, nat_lt, option_map, slice_get}
-use Rattle.std.specs.List.{sum_by, list_any, range_with_len}
-use Rattle.std.proofs.lemmas.List.Sums.{sum_by-cons, sum_by-set}
+use Rattle.std.specs.List.{list_any, range_with_len}
+use Rattle.std.proofs.lemmas.List.Sums.{sum_by-set}
 use Rattle.std.proofs.lemmas.Bool.Decides.{nat_tests}
 use Rattle.std.proofs.lemmas.Option.{slice_get-map}
 use Rattle.std.proofs.lemmas.List.{get_or-set_same, get_or-set_other}
-use Rattle.t32_base.specs.declared.process.Pid.{Pid}
 use Rattle.t32_base.specs.declared.process.ClusterNo.{ClusterNo}
-use Rattle.t32_base.specs.declared.letter.Letter.{Letter}
-use Rattle.bus_msg.specs.declared.entry.What.{What}
-use Rattle.bus_msg.specs.declared.entry.What.TheVariants.{Mail, Birth, Exit, Page, Sync, Fetch, PageIs, Crash, Return, Rebackup, Done, Stop}
-use Rattle.bus_msg.specs.Places.{all_clusters, cluster_no, lives_in, same_pid}
-use Rattle.bus_msg.specs.PlacedAfter.{what}
+use Rattle.bus_msg.specs.Places.{all_clusters, cluster_no, lives_in}
 use Rattle.cert_sched.specs.Schedule.{placement}
 use Rattle.cert_sched.specs.Rules.{is_over}
 use Rattle.cert_sched.proofs.BuiltLaws.{is_over-snoc}
 use Rattle.cert_sched.proofs.HomesLaws.{built_clusters-length}
-use Rattle.cert_sched.specs.Deeds.{is_end_of}
-use Rattle.cluster_core.specs.View.{ClusterView, Held, Runs, Rolls, Waits, arrived_held, held_load, load}
-use Rattle.cluster_core.specs.Calls.{here_after, with_letter}
+use Rattle.cluster_core.specs.View.{ClusterView, load}
 use Rattle.bus_order.specs.declared.marks.Mark.{Mark}
 use Rattle.bus_order.specs.declared.marks.Idled.{Idled}
 use Rattle.bus_order.specs.declared.marks.Idled.TheVariants.{Marked, Done as WasDone}
 use Rattle.bus_order.specs.View.{BusView, Idles, is_awaited, mark_in, with_mark}
 use Rattle.bus_order.proofs.MarksLaws.{mark_in-get_or}
-use Rattle.cluster_run.specs.Along.{TakesNext}
 use Rattle.cluster_run.specs.Progress.{total, IsOver, HasMark, IsAwaiting, Rests, GetsOn}
-use Rattle.cluster_run.proofs.Beside.{IsLegalIn}
-
--- ---- what is left to do
-
-sum_part : {X : Type 0} (f : X → ℕ) (test : X → Bool) (xs : List X) → sum_by f (filter test xs) ≤ sum_by f xs
-sum_part f test [] = omega arith
-sum_part f test (x ∷ xs) = by_test (test x) (sum_part f test xs)
-  where
-    by_test : (b : Bool) → sum_by f (filter test xs) ≤ sum_by f xs → sum_by f (cond b (x ∷ filter test xs) (filter test xs)) ≤ sum_by f (x ∷ xs)
-    by_test true less = omega (arith, less, sum_by-cons f x xs, sum_by-cons f x (filter test xs))
-    by_test false less = omega (arith, less, sum_by-cons f x xs)
-
-sum_same : {X : Type 0} (f : X → ℕ) (g : X → X) → ((x : X) → f (g x) ≡ f x) → (xs : List X) → sum_by f (map g xs) ≡ sum_by f xs
-sum_same f g same [] = refl
-sum_same f g same (x ∷ xs) = sum_by-cons f (g x) (map g xs) ∙ (λ i. same x i + sum_same f g same xs i) ∙ sym (sum_by-cons f x xs)
-
--- a process that a letter arrives at has as many steps left
-load_arrived : (h : Held) (letter : Letter) → held_load (arrived_held h letter) ≡ held_load h
-load_arrived (Runs p) letter = refl
-load_arrived (Rolls p counts births) letter = refl
-load_arrived (Waits kept) letter = refl
-
-same_load : (letter : Letter) (here : List (Pid × Held)) → sum_by (λ (e : Pid × Held). held_load e.1) (with_letter letter here) ≡ sum_by (λ (e : Pid × Held). held_load e.1) here
-same_load letter here = sum_same (λ (e : Pid × Held). held_load e.1) (λ (e : Pid × Held). cond (is_end_of e.0 letter.to) (e.0, arrived_held e.1 letter) e) (λ e. by_test e (is_end_of e.0 letter.to)) here
-  where
-    by_test : (e : Pid × Held) (b : Bool) → held_load (cond b (e.0, arrived_held e.1 letter) e).1 ≡ held_load e.1
-    by_test e true = load_arrived e.1 letter
-    by_test e false = refl
-
--- an entry that is taken in adds nothing
-less_held : (w : What) (here : List (Pid × Held)) → sum_by (λ (e : Pid × Held). held_load e.1) (here_after w here) ≤ sum_by (λ (e : Pid × Held). held_load e.1) here
-less_held (Exit pid at end) here = sum_part (λ (e : Pid × Held). held_load e.1) (λ (e : Pid × Held). not (same_pid e.0 pid)) here
-less_held (Mail at letter) here = omega (arith, same_load letter here)
-less_held (Birth parent at child end) here = omega arith
-less_held (Page pid at index bytes) here = omega arith
-less_held (Sync pid small read took) here = omega arith
-less_held (Fetch pid index) here = omega arith
-less_held (PageIs pid index bytes) here = omega arith
-less_held (Crash k cause) here = omega arith
-less_held (Return k) here = omega arith
-less_held (Rebackup to fresh recs) here = omega arith
-less_held (Done rests) here = omega arith
-less_held Stop here = omega arith
-
-pub load_taken : (b : BusView) (old new : ClusterView) → TakesNext b old new → load new ≤ load old
-load_taken b old new t = subst (λ n. n ≤ load old) (sym (ap load t.taken)) (less_held (what t.entry) old.here)
+use Rattle.cert_sched.specs.Legal.{IsLegalBy}
+use Rattle.cert_sched.specs.Built.{BuiltMayFollow}
 
 -- ---- marks
 
@@ -120,13 +68,15 @@ nat_lt_or m n = by_test (nat_lt m n) refl
     by_test false is = inr (grind (arith, nat_tests))
 
 -- what the turn of one cluster makes of all
-pub turn_gets_on : {E : Type 0} (r : Result (Unit {0}) E) (b after : BusView) (cs : List ClusterView) (n : ℕ) (d new : ClusterView) → n < length cs → ((get_or cs n d).number).0 ≡ n
-    → OnOk r (GetsOn b after (load (get_or cs n d)) (load new) ((get_or cs n d).number).0 (((get_or cs n d).number).0 + 1)) → OnOk r (GetsOn b after (total cs) (total (slice_set cs n new)) n (n + 1))
-turn_gets_on (Err e) b after cs n d new within number gets = tt
-turn_gets_on (Ok u) b after cs n d new within number gets = elim gets [
+pub turn_gets_on : (b after : BusView) (cs : List ClusterView) (n : ℕ) (d new : ClusterView) → n < length cs → ((get_or cs n d).number).0 ≡ n
+    → GetsOn b after (load (get_or cs n d)) (load new) ((get_or cs n d).number).0 (((get_or cs n d).number).0 + 1) → GetsOn b after (total cs) (total (slice_set cs n new)) n (n + 1)
+turn_gets_on b after cs n d new within number gets = elim gets [
   | inl less ↦ inl (omega (arith, less, sum_by-set load cs n new d within))
   | inr more ↦ inr (subst (λ k. IsOver after ⊎ Rests b after k (k + 1)) number more)
 ]
+
+pub turn_lighter : (cs : List ClusterView) (n : ℕ) (d new : ClusterView) → n < length cs → load new ≤ load (get_or cs n d) → total (slice_set cs n new) ≤ total cs
+turn_lighter cs n d new within less = omega (arith, less, sum_by-set load cs n new d within)
 
 -- ---- a round
 
@@ -145,7 +95,7 @@ not_none true (Some m) has = refl
 not_none false (Some m) has = refl
 
 -- where each cluster has its mark, none is awaited
-none_awaited : (b : BusView) → IsLegalIn b → ((n : ℕ) → n < (b.system).clusters → HasMark b n) → is_awaited (placement b.system b.log) b.marks ≡ false
+none_awaited : (b : BusView) → IsLegalBy BuiltMayFollow b.system b.log → ((n : ℕ) → n < (b.system).clusters → HasMark b n) → is_awaited (placement b.system b.log) b.marks ≡ false
 none_awaited b legal all = any_none (λ k. lives_in (placement b.system b.log) k && is_none (mark_in b.marks k)) (all_clusters (placement b.system b.log)) (λ n k at. one n k (slice_get (range_with_len 0 (length (placement b.system b.log).clusters)) n) refl (sym (slice_get-map cluster_no (range_with_len 0 (length (placement b.system b.log).clusters)) n) ∙ at))
   where
     one : (n : ℕ) (k : ClusterNo) (o : Option ℕ) → slice_get (range_with_len 0 (length (placement b.system b.log).clusters)) n ≡ o → option_map cluster_no o ≡ Some k → (lives_in (placement b.system b.log) k && is_none (mark_in b.marks k)) ≡ false
@@ -157,7 +107,7 @@ none_awaited b legal all = any_none (λ k. lives_in (placement b.system b.log) k
         subst (λ k. (lives_in (placement b.system b.log) k && is_none (mark_in b.marks k)) ≡ false) same (not_none (lives_in (placement b.system b.log) (cluster_no i)) (mark_in b.marks (cluster_no i)) (all i within))
 
 -- a round leaves less to do, or the log is over
-pub round_gets_on : (b then after : BusView) (left still now first count : ℕ) → IsLegalIn after → count ≡ (after.system).clusters → first < count → (IsOver then → IsOver after) → now ≤ still → still ≤ left
+pub round_gets_on : (b then after : BusView) (left still now first count : ℕ) → IsLegalBy BuiltMayFollow after.system after.log → count ≡ (after.system).clusters → first < count → (IsOver then → IsOver after) → now ≤ still → still ≤ left
     → GetsOn b then left still first count → GetsOn then after still now 0 first → (now + 1 ≤ left) ⊎ IsOver after
 round_gets_on b then after left still now first count legal each within over less lessen before next = elim before [
   | inl done ↦ inl (omega (arith, done, less))

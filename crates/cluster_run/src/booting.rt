@@ -2,7 +2,7 @@
 ghost use Rattle.std.specs.Prelude.{◌≡◌, ◌<◌, IfOk, length, true, []};
 ghost use Rattle.std.specs.Arc.{arc_value};
 ghost use Rattle.sys_text.specs.Valid.{is_system};
-ghost use Rattle.cluster_run.specs.Along.{AllAlong};
+ghost use Rattle.cluster_run.specs.Along.{AllAlong, IsOwned};
 ghost use Rattle.cluster_run.specs.Started.{AllStarted};
 
 use bus_order::bus::Bus;
@@ -16,6 +16,7 @@ use t32_base::streams::NoMemory;
 /// The bus of a system and its clusters, at their start.
 pub fn start(alloc: Global, system: &Arc<System>) -> Result<(Bus, Vec<Cluster>), NoMemory>
     requires { is_system (arc_value system.now) ≡ true }
+    ensures owned { IfOk result (λ started. IsOwned started.0) }
     ensures along { IfOk result (λ started. AllAlong started.0 started.1.items) }
     ensures some { IfOk result (λ started. 0 < length started.1.items) }
     ensures system { IfOk result (λ started. started.0.system ≡ arc_value system.now) }

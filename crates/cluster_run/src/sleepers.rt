@@ -46,15 +46,15 @@ impl Sleepers {
         }
     }
 
-    /// Sleeps until woken, after `lie_down`. A wake-up that came too late for an earlier sleep ends this one at once; the
-    /// cluster then stays noted as asleep, and is woken for nothing.
+    /// Sleeps until woken, after `lie_down`. A wake-up that came too late for an earlier sleep ends this one at once, so
+    /// the cluster gets up afterwards (`get_up`).
     pub fn sleep<R: Wait>(&self, rt: &R, number: ClusterNo) {
         if let Some(parker) = self.parkers.get(usize::from(number.0)) {
             parker.park(rt);
         }
     }
 
-    /// A cluster that lay down does not sleep after all.
+    /// A cluster that lay down sleeps no longer, or does not sleep after all.
     pub fn get_up(&self, number: ClusterNo) {
         self.asleep.fetch_and(!bit_of(number), Ordering::SeqCst);
     }

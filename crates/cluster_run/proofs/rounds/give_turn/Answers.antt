@@ -1,17 +1,57 @@
-use Rattle.cluster_run.proofs.Together.{one_along, turned}
-use Rattle.cluster_run.proofs.Progressing.{turn_gets_on}
+use Rattle.std.proofs.Common.{◌≡◌, ◌∙◌, refl, sym, arith, false, true≢false}
+use Rattle.cert_sched.specs.Rules.{is_over}
+use Rattle.cluster_run.proofs.Together.{all_after, one_member}
+use Rattle.cluster_run.proofs.Progressing.{turn_gets_on, turn_lighter}
 use Rattle.cluster_run.proofs.rounds.give_turn.Goals as goal
 
-pub take_turn-requires-clause-along : goal.take_turn-requires-clause-along
-take_turn-requires-clause-along c =
-    (one_along c.args.bus.now c.args.clusters.now c.args.number c.index-clusters-number.result c.requires.along c.requires.has).1
+pub take_turn-requires-clause-shown : goal.take_turn-requires-clause-shown
+take_turn-requires-clause-shown c =
+    let member = one_member c.args.bus.now c.args.clusters.now c.args.number c.index-clusters-number.result c.requires.along c.requires.has in
+    record { shows = tt; from_there = omega arith; sound = c.requires.owned.sound; along = member.along }
+
+pub take_turn-requires-clause-empty : goal.take_turn-requires-clause-empty
+take_turn-requires-clause-empty c =
+    let member = one_member c.args.bus.now c.args.clusters.now c.args.number c.index-clusters-number.result c.requires.along c.requires.has in
+    let goes_on : is_over c.args.bus.now.system c.args.bus.now.log ≡ false = sym c.is_over.ensures ∙ c.if-is_over.false in
+    member.empty goes_on
+
+pub returns-clause-owned : goal.returns-clause-owned
+returns-clause-owned c =
+    let member = one_member c.args.bus.now c.args.clusters.now c.args.number c.index-clusters-number.result c.requires.along c.requires.has in
+    let goes_on : is_over c.args.bus.now.system c.args.bus.now.log ≡ false = sym c.is_over.ensures ∙ c.if-is_over.false in
+    let own = c.in_ok-take_turn.ensures.own refl (c.requires.owned, goes_on) in
+    own.owned
 
 pub returns-clause-along : goal.returns-clause-along
 returns-clause-along c =
-    turned c.take_turn.result c.args.bus.now c.take_turn.new.bus c.args.clusters.now c.args.number c.index-clusters-number.result c.take_turn.new.cluster c.requires.along c.requires.has
-    c.take_turn.ensures.along c.take_turn.ensures.extends c.take_turn.ensures.number
+    let member = one_member c.args.bus.now c.args.clusters.now c.args.number c.index-clusters-number.result c.requires.along c.requires.has in
+    let goes_on : is_over c.args.bus.now.system c.args.bus.now.log ≡ false = sym c.is_over.ensures ∙ c.if-is_over.false in
+    let own = c.in_ok-take_turn.ensures.own refl (c.requires.owned, goes_on) in
+    all_after c.args.bus.now c.take_turn.new.port c.args.clusters.now c.args.number c.index-clusters-number.result c.take_turn.new.cluster c.requires.along c.requires.has goes_on c.in_ok-take_turn.ensures.shown.along own.empty own.adds c.in_ok-take_turn.ensures.same.number
+
+pub returns-clause-system : goal.returns-clause-system
+returns-clause-system c =
+    let member = one_member c.args.bus.now c.args.clusters.now c.args.number c.index-clusters-number.result c.requires.along c.requires.has in
+    let goes_on : is_over c.args.bus.now.system c.args.bus.now.log ≡ false = sym c.is_over.ensures ∙ c.if-is_over.false in
+    let own = c.in_ok-take_turn.ensures.own refl (c.requires.owned, goes_on) in
+    own.adds.system
+
+pub returns-clause-over : goal.returns-clause-over
+returns-clause-over c over =
+    let member = one_member c.args.bus.now c.args.clusters.now c.args.number c.index-clusters-number.result c.requires.along c.requires.has in
+    let goes_on : is_over c.args.bus.now.system c.args.bus.now.log ≡ false = sym c.is_over.ensures ∙ c.if-is_over.false in
+    absurd (true≢false (sym over ∙ goes_on))
+
+pub returns-clause-lighter : goal.returns-clause-lighter
+returns-clause-lighter c =
+    let member = one_member c.args.bus.now c.args.clusters.now c.args.number c.index-clusters-number.result c.requires.along c.requires.has in
+    let goes_on : is_over c.args.bus.now.system c.args.bus.now.log ≡ false = sym c.is_over.ensures ∙ c.if-is_over.false in
+    let own = c.in_ok-take_turn.ensures.own refl (c.requires.owned, goes_on) in
+    turn_lighter c.args.clusters.now c.args.number c.index-clusters-number.result c.take_turn.new.cluster c.requires.has own.lighter
 
 pub returns-clause-gets_on : goal.returns-clause-gets_on
 returns-clause-gets_on c =
-    let here = one_along c.args.bus.now c.args.clusters.now c.args.number c.index-clusters-number.result c.requires.along c.requires.has in
-    turn_gets_on c.take_turn.result c.args.bus.now c.take_turn.new.bus c.args.clusters.now c.args.number c.index-clusters-number.result c.take_turn.new.cluster c.requires.has here.0 c.take_turn.ensures.gets_on
+    let member = one_member c.args.bus.now c.args.clusters.now c.args.number c.index-clusters-number.result c.requires.along c.requires.has in
+    let goes_on : is_over c.args.bus.now.system c.args.bus.now.log ≡ false = sym c.is_over.ensures ∙ c.if-is_over.false in
+    let own = c.in_ok-take_turn.ensures.own refl (c.requires.owned, goes_on) in
+    turn_gets_on c.args.bus.now c.take_turn.new.port c.args.clusters.now c.args.number c.index-clusters-number.result c.take_turn.new.cluster c.requires.has member.number own.gets_on

@@ -1,10 +1,11 @@
 use Rattle.std.proofs.Common.{◌≡◌, ◌≤◌, length}
-use Rattle.cluster_run.specs.Along.{AllAlong}
+use Rattle.cluster_run.specs.Along.{AllAlong, IsOwned}
 use Rattle.cluster_run.specs.Progress.{GetsOn, IsOver, total}
 use Rattle.cluster_run.proofs.rounds.give_turns.Given as goal
 
 abbrev pub invariant-loop-number : goal.invariant-loop-number
 invariant-loop-number l = record {
+  owned : IsOwned l.bus;
   along : AllAlong l.bus l.clusters;
   within : l.upto ≤ length l.clusters;
   system : l.bus.system ≡ l.fn.bus.system;

@@ -9,4 +9,4 @@ returns-clause-gets_on c =
     let each : length c.args.clusters.now ≡ c.give_turns-2.new.bus.system.clusters =
     c.requires.along.each ∙ ap (λ (s : System). s.clusters) (sym c.in_ok-give_turns.ensures.system) ∙ ap (λ (s : System). s.clusters) (sym c.in_ok-give_turns-2.ensures.system) in
     round_gets_on c.args.bus.now c.give_turns.new.bus c.give_turns-2.new.bus (total c.args.clusters.now) (total c.give_turns.new.clusters) (total c.give_turns-2.new.clusters) c.args.first (length c.args.clusters.now)
-    c.length-legal.ensures.legal each c.requires.has c.in_ok-give_turns-2.ensures.over c.in_ok-give_turns-2.ensures.lighter c.in_ok-give_turns.ensures.lighter c.in_ok-give_turns.ensures.gets_on c.in_ok-give_turns-2.ensures.gets_on
+    c.in_ok-give_turns-2.ensures.owned.sound.legal each c.requires.has c.in_ok-give_turns-2.ensures.over c.in_ok-give_turns-2.ensures.lighter c.in_ok-give_turns.ensures.lighter c.in_ok-give_turns.ensures.gets_on c.in_ok-give_turns-2.ensures.gets_on

@@ -1,11 +1,12 @@
 use Rattle.std.proofs.Common.{◌≡◌, ◌+◌, ◌<◌, ◌^◌, length, cond}
 use Rattle.cert_sched.specs.Rules.{is_over}
-use Rattle.cluster_run.specs.Along.{AllAlong}
+use Rattle.cluster_run.specs.Along.{AllAlong, IsOwned}
 use Rattle.cluster_run.specs.Progress.{total}
 use Rattle.cluster_run.proofs.rounds.run_rounds.Given as goal
 
 abbrev pub invariant-rounds : goal.invariant-rounds
 invariant-rounds l = record {
+  owned : IsOwned l.bus;
   along : AllAlong l.bus l.clusters;
   some : 0 < length l.clusters;
   seed : l.seed < 2 ^ 31;

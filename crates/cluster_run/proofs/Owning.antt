@@ -1,0 +1,140 @@
+-- What a cluster makes of a bus that no other has.
+use Rattle.std.proofs.Common.{◌≡◌, ℕ, ◌+◌, ◌≤◌, ◌<◌, ◌⊎◌, inl, inr, sym, ◌∙◌, ap, subst, arith, [], ◌++◌, length, append_assoc, Bool, true, Option, Some, None, OnOk, Result, Ok, Err, true≢false}
+use Rattle.std.proofs.lemmas.List.{length-map, length-set}
+use Rattle.std.proofs.lemmas.List.Elements.{All-append}
+use Rattle.t32_base.specs.declared.process.ClusterNo.{ClusterNo}
+use Rattle.sys_text.specs.declared.system.System.{System}
+use Rattle.bus_msg.specs.declared.entry.By.TheVariants.{Bus}
+use Rattle.bus_msg.specs.declared.entry.What.TheVariants.{Done}
+use Rattle.bus_msg.specs.declared.entry.Post.{Post}
+use Rattle.cert_sched.specs.Appended.{entry_of}
+use Rattle.cert_sched.specs.Rules.{is_over}
+use Rattle.cert_sched.specs.Scripted.{is_finished}
+use Rattle.cluster_core.specs.View.{ClusterView, counted_once, load}
+use Rattle.bus_lock.specs.Lists.{MayAdd}
+use Rattle.bus_order.specs.declared.marks.Mark.{Mark}
+use Rattle.bus_order.specs.declared.marks.Idled.{Idled}
+use Rattle.bus_order.specs.declared.marks.Idled.TheVariants.{Marked, Done as WasDone}
+use Rattle.bus_order.specs.Log.{author_of}
+use Rattle.bus_order.specs.View.{BusView, with_post}
+use Rattle.bus_order.proofs.OverLaws.{finished-snoc}
+use Rattle.cluster_run.specs.declared.offers.Offered.TheVariants.{Sent, Behind, Over}
+use Rattle.cluster_run.specs.Along.{IsAlong, IsOwned, IsSound, TakesIn}
+use Rattle.cluster_run.specs.Offers.{Adds, OfferIs, TellIs, Visits}
+use Rattle.cluster_run.specs.Progress.{IsOver, Rests}
+use Rattle.cluster_run.specs.Turns.{GoesOwn, SendsOwn, TellsOwn, TurnsOwn}
+use Rattle.cluster_run.proofs.Offering.{adds_none, alone_later, alone_left}
+use Rattle.cluster_run.proofs.Progressing.{told_rest}
+use Rattle.cluster_run.proofs.Sending.{IsSent, sent_goes_on}
+
+pub adds_more : (k : ClusterNo) (a b c : BusView) → Adds k a b → Adds k b c → Adds k a c
+adds_more k a b c one two = record {
+  system = two.system ∙ one.system;
+  more = one.more ++ two.more;
+  log = two.log ∙ ap (λ l. l ++ two.more) one.log ∙ append_assoc a.log one.more two.more;
+  may = All-append (MayAdd author_of k.0) one.more two.more one.may two.may;
+}
+
+pub sends_none : (k : ClusterNo) (b : BusView) → GoesOwn b → SendsOwn k b b
+sends_none k b own = record { goes_on = own; adds = adds_none k b }
+
+pub sends_more : (k : ClusterNo) (a b c : BusView) → SendsOwn k a b → SendsOwn k b c → SendsOwn k a c
+sends_more k a b c one two = record { goes_on = two.goes_on; adds = adds_more k a b c one.adds two.adds }
+
+-- ---- a post
+
+module _ (a : Bool) (alone : a ≡ true) (b after : BusView) (c : ClusterView) (post : Post) (own : GoesOwn b) where
+  pub sent_own : IsSound after → (v : Visits a c.number b after (OfferIs c.cursor post Sent)) → IsSent (v.found).log c post after → Adds c.number b after → SendsOwn c.number b after
+  sent_own sound v s adds =
+      let is : after ≡ with_post b post = alone_left a v.left after alone v.is_left ∙ (v.done).2 ∙ ap (λ x. with_post x post) (alone_later a c.number b v.found alone v.later) in
+      record {
+        goes_on = (
+          record {
+            sound = sound;
+            marks = ap (λ (x : BusView). length x.marks) is ∙ length-map b.marks (λ m. None) ∙ (own.0).marks ∙ ap (λ (x : BusView). (x.system).clusters) (sym is);
+            unstopped = λ over. absurd (true≢false (sym over ∙ sent_goes_on (v.found).log c post after s));
+          },
+          sent_goes_on (v.found).log c post after s,
+        );
+        adds = adds;
+      }
+
+  -- one that had seen all of the log is not refused
+  pub never_behind : c.cursor ≡ length b.log → Visits a c.number b after (OfferIs c.cursor post Behind) → ⊥
+  never_behind seen v =
+      let is : v.found ≡ b = alone_later a c.number b v.found alone v.later in
+      let less : c.cursor < length b.log = subst (λ (x : BusView). c.cursor < length x.log) is (v.done).1 in
+      absurd (omega (arith, seen, less))
+
+  pub never_over : Visits a c.number b after (OfferIs c.cursor post Over) → ⊥
+  never_over v =
+      let is : v.found ≡ b = alone_later a c.number b v.found alone v.later in
+      true≢false (sym (v.done).0 ∙ ap (λ (x : BusView). is_over x.system x.log) is ∙ own.1)
+
+-- ---- a rest
+
+told_owned : (b after : BusView) (k : ClusterNo) (cursor : ℕ) (m : Mark) (t : Option Idled) → GoesOwn b → IsSound after → cursor ≡ length b.log → k.0 < (b.system).clusters → TellIs k cursor m t b after → IsOwned after × (IsOver after ⊎ Rests b after k.0 (k.0 + 1))
+told_owned b after k cursor m (Some Marked) own sound seen has is = (
+  record {
+    sound = sound;
+    marks = ap (λ (x : BusView). length x.marks) is.3 ∙ length-set b.marks k.0 (Some m) ∙ (own.0).marks ∙ ap (λ (x : BusView). (x.system).clusters) (sym is.3);
+    unstopped = λ over. absurd (true≢false (sym over ∙ ap (λ (x : BusView). is_over x.system x.log) is.3 ∙ own.1));
+  },
+  told_rest b after k cursor m Marked is (omega (arith, has, (own.0).marks)),
+)
+told_owned b after k cursor m (Some (WasDone at)) own sound seen has is =
+    let ends = is.3 in (
+      record {
+        sound = sound;
+        marks = ap (λ (x : BusView). length x.marks) ends.ended ∙ length-set b.marks k.0 (Some m) ∙ (own.0).marks ∙ ap (λ (x : BusView). (x.system).clusters) (sym ends.ended);
+        unstopped = λ over. ap (λ (x : BusView). is_finished x.log) ends.ended ∙ finished-snoc b.log (entry_of b.system b.log (record { by = Bus; what = Done ends.rests }));
+      },
+      told_rest b after k cursor m (WasDone at) is (omega (arith, has, (own.0).marks)),
+    )
+told_owned b after k cursor m None own sound seen has is = elim is.0 [
+  | inl over ↦ absurd (true≢false (sym over ∙ own.1))
+  | inr behind ↦ absurd (omega (arith, seen, behind))
+]
+
+pub told_own : (a : Bool) → a ≡ true → (b after : BusView) (c : ClusterView) (m : Mark) (t : Option Idled) → GoesOwn b → IsSound after → IsAlong b c → c.cursor ≡ length b.log → Adds c.number b after → Visits a c.number b after (TellIs c.number c.cursor m t) → TellsOwn c.number b after
+told_own a alone b after c m t own sound along seen adds v =
+    let is : TellIs c.number c.cursor m t b after =
+    subst (λ x. TellIs c.number c.cursor m t b x) (sym (alone_left a v.left after alone v.is_left)) (subst (λ x. TellIs c.number c.cursor m t x v.left) (alone_later a c.number b v.found alone v.later) v.done) in
+    let has : (c.number).0 < (b.system).clusters = subst (λ (s : System). (c.number).0 < s.clusters) along.system (along.beside).has in
+    let done = told_owned b after c.number c.cursor m t own sound seen has is in
+    record { owned = done.0; adds = adds; rests = done.1 }
+
+-- the cluster worked and then told so: its turn is over
+pub tells_turn : (b mid after : BusView) (c caught new : ClusterView) → mid ≡ b → TakesIn mid c caught → new ≡ counted_once caught → c.queue ≡ [] → TellsOwn new.number mid after → TurnsOwn b after c new
+tells_turn b mid after c caught new same taken is empty tells =
+    let number : new.number ≡ c.number = ap (λ (v : ClusterView). v.number) is ∙ (taken.same).number in
+    let t : TellsOwn c.number b after = subst (λ x. TellsOwn c.number x after) same (subst (λ k. TellsOwn k mid after) number tells) in
+    let load_is : load new ≡ load caught = ap load is in
+    record {
+      owned = t.owned;
+      adds = t.adds;
+      empty = ap (λ (v : ClusterView). v.queue) is ∙ taken.queue ∙ empty;
+      lighter = omega (arith, load_is, taken.lighter);
+      gets_on = inr t.rests;
+    }
+
+-- the cluster worked and then sent its posts
+pub sends_turn : (b mid after : BusView) (c caught worked new : ClusterView) → mid ≡ b → TakesIn mid c caught → worked.number ≡ caught.number → load worked + 1 ≤ load caught → load new ≤ load worked → SendsOwn worked.number mid after → new.queue ≡ [] → TurnsOwn b after c new
+sends_turn b mid after c caught worked new same taken number_is less later sends empty =
+    let number : worked.number ≡ c.number = number_is ∙ (taken.same).number in
+    let t : SendsOwn c.number b after = subst (λ x. SendsOwn c.number x after) same (subst (λ k. SendsOwn k mid after) number sends) in
+    record {
+      owned = (t.goes_on).0;
+      adds = t.adds;
+      empty = empty;
+      lighter = omega (arith, less, later, taken.lighter);
+      gets_on = inl (omega (arith, less, later, taken.lighter));
+    }
+
+pub where_ok : {A E : Type 0} (r : Result A E) (P Q : Type 0) → (P → Q) → OnOk r P → OnOk r Q
+where_ok (Ok a) P Q then holds = then holds
+where_ok (Err e) P Q then holds = tt
+
+pub both_ok : {A E : Type 0} (r : Result A E) (P Q : Type 0) → OnOk r P → OnOk r Q → OnOk r (P × Q)
+both_ok (Ok a) P Q one two = (one, two)
+both_ok (Err e) P Q one two = tt

@@ -1,0 +1,112 @@
+-- A cluster goes on posting, by what became of its head.
+use Rattle.std.proofs.Common.{◌≡◌, ℕ, ◌+◌, ◌≤◌, ◌<◌, sym, ◌∙◌, ap, subst, arith, List, [], ◌∷◌, length, take, drop, length-append, false}
+use Rattle.std.specs.List.{list_any}
+use Rattle.t32_base.specs.declared.process.ClusterNo.{ClusterNo}
+use Rattle.sys_text.specs.declared.system.System.{System}
+use Rattle.bus_msg.specs.declared.entry.Post.{Post}
+use Rattle.bus_msg.specs.declared.entry.Entry.{Entry}
+use Rattle.cert_sched.specs.Appended.{entry_of}
+use Rattle.cert_sched.specs.Rules.{is_over}
+use Rattle.cert_sched.specs.Legal.{IsLegalBy}
+use Rattle.cert_sched.specs.Built.{BuiltMayFollow}
+use Rattle.cert_sched.specs.Losses.{is_by_cluster}
+use Rattle.cluster_core.specs.declared.worked.Worked.{Worked}
+use Rattle.cluster_core.specs.declared.worked.Worked.TheVariants.{Moved, Queued, Waits, Rests}
+use Rattle.cluster_core.specs.Follows.{FollowsBuilt}
+use Rattle.cluster_core.specs.Calls.{FollowsSome, GoesOn, KeepsPlace, WorkIs}
+use Rattle.cluster_core.specs.View.{ClusterView, after_sent, tried_once}
+use Rattle.bus_order.specs.Log.{open_length}
+use Rattle.bus_order.specs.View.{BusView}
+use Rattle.cluster_run.specs.Along.{IsAlong, IsPosting, IsReadyAt, IsShown, IsSound, TakesIn, TakesNext}
+use Rattle.cluster_run.proofs.Prefixes.{legal_prefix}
+use Rattle.cluster_run.proofs.Offering.{along_tried}
+use Rattle.cluster_run.proofs.TakingIn.{open_all}
+use Rattle.cluster_run.proofs.Sending.{IsSent, clears, ready_sent, sent_along, sent_empty, sent_goes_on, sent_seen}
+
+-- its head is tried
+pub tried_posting : (Shows : Type 0) (from : ℕ) (b : BusView) (c t : ClusterView) → t ≡ tried_once c → IsPosting Shows from b c → IsPosting Shows from b t
+tried_posting Shows from b c t is p = subst (IsPosting Shows from b) (sym is) (record {
+  shown = record { shows = (p.shown).shows; from_there = (p.shown).from_there; sound = (p.shown).sound; along = along_tried b c (p.shown).along };
+  seen = p.seen;
+  goes_on = p.goes_on;
+  few = p.few;
+})
+
+module _ (log : List Entry) (t left : ClusterView) (post : Post) (after : BusView) (s : IsSent log t post after) (left_is : left ≡ after_sent t t.queue) where
+  pub left_cursor : left.cursor ≡ t.cursor
+  left_cursor = ap (λ (v : ClusterView). v.cursor) (left_is ∙ clears log t post after s)
+
+  pub left_ready : IsSound after → IsReadyAt after.log left
+  left_ready sound = subst (IsReadyAt after.log) (sym left_is) (ready_sent log t post after s sound)
+
+  -- its entry was taken in
+  pub sent_posting : (Shows : Type 0) (from : ℕ) (new : ClusterView) → Shows → from ≤ t.cursor → IsSound after → TakesNext after.log left new → IsPosting Shows from after new
+  sent_posting Shows from new shows low sound next =
+      let seen = sent_seen log t post after s left new left_is next in
+      let long : length after.log ≡ length log + 1 = ap length s.longer ∙ length-append log (entry_of t.system log post ∷ []) in
+      record {
+        shown = record { shows = shows; from_there = omega (arith, seen, low, long, s.seen); sound = sound; along = sent_along log t post after s left new left_is next };
+        seen = seen;
+        goes_on = sent_goes_on log t post after s;
+        few = let none : length new.queue ≡ 0 = ap length (sent_empty log t post after s left new left_is next) in omega (arith, none);
+      }
+
+-- it was behind, and has taken in what is new
+pub behind_posting : (Shows : Type 0) (from : ℕ) (after : BusView) (t new : ClusterView) → Shows → from ≤ t.cursor → IsSound after → length t.queue ≤ 1 → is_over after.system after.log ≡ false → TakesIn after t new → new.cursor ≡ open_length after.log
+    → IsPosting Shows from after new
+behind_posting Shows from after t new shows low sound few goes_on taken caught = record {
+  shown = record { shows = shows; from_there = omega (arith, low, taken.order); sound = sound; along = taken.along };
+  seen = caught ∙ open_all after sound goes_on;
+  goes_on = goes_on;
+  few = subst (λ q. length q ≤ 1) (sym taken.queue) few;
+}
+
+-- ---- it works
+
+-- a cluster that has taken in all of a log that goes on follows it
+pub follows_some : (b : BusView) (c : ClusterView) → IsSound b → IsAlong b c → FollowsSome c
+follows_some b c sound along = record {
+  log = take c.cursor b.log;
+  open_log = (subst (λ s. IsLegalBy BuiltMayFollow s (take c.cursor b.log)) (sym along.system) (legal_prefix BuiltMayFollow b.system b.log c.cursor sound.legal), (along.beside).goes_on);
+  follows = (along.beside).follows;
+}
+
+pub worked_along : (b : BusView) (c new : ClusterView) → IsSound b → IsAlong b c → GoesOn c new → KeepsPlace c new → new.failed ≡ c.failed → IsAlong b new
+unfolding follows_some
+worked_along b c new sound along goes keeps failed =
+    let some = follows_some b c sound along in
+    record {
+      system = keeps.system ∙ along.system;
+      beside = record {
+        has = subst (λ (s : System). (new.number).0 < s.clusters) (sym keeps.system) (subst (λ (k : ClusterNo). k.0 < (c.system).clusters) (sym keeps.number) (along.beside).has);
+        within = subst (λ n. n ≤ length b.log) (sym keeps.cursor) (along.beside).within;
+        goes_on = (λ i. is_over (keeps.system i) (take (keeps.cursor i) b.log)) ∙ (along.beside).goes_on;
+        follows = subst (λ s. FollowsBuilt s (take new.cursor b.log) new) (sym keeps.system)
+            (subst (λ n. FollowsBuilt c.system (take n b.log) new) (sym keeps.cursor) (goes (take c.cursor b.log) some.open_log some.follows));
+        sent_before = (λ i. list_any (is_by_cluster (keeps.number i)) (drop (keeps.cursor i) b.log)) ∙ (along.beside).sent_before;
+        unfailed = failed ∙ (along.beside).unfailed;
+      };
+    }
+
+unfailed_by : (w : Worked) (c new : ClusterView) → WorkIs c w new → new.failed ≡ c.failed
+unfailed_by Moved c new is = ap (λ (v : ClusterView). v.failed) (is.1).rest
+unfailed_by Queued c new is = ap (λ (v : ClusterView). v.failed) (is.1).rest
+unfailed_by Waits c new is = absurd is
+unfailed_by Rests c new is = ap (λ (v : ClusterView). v.failed) is.1
+
+pub worked_shown : (Shows : Type 0) (from : ℕ) (b : BusView) (c new : ClusterView) (w : Worked) → IsShown Shows from b c → GoesOn c new → KeepsPlace c new → WorkIs c w new → IsShown Shows from b new
+worked_shown Shows from b c new w shown goes keeps is = record {
+  shows = shown.shows;
+  from_there = subst (λ n. from ≤ n) (sym keeps.cursor) shown.from_there;
+  sound = shown.sound;
+  along = worked_along b c new shown.sound shown.along goes keeps (unfailed_by w c new is);
+}
+
+-- and what it queued is one post
+pub worked_posting : (Shows : Type 0) (from : ℕ) (b : BusView) (c new : ClusterView) → IsShown Shows from b c → c.cursor ≡ open_length b.log → is_over b.system b.log ≡ false → GoesOn c new → KeepsPlace c new → WorkIs c Queued new → IsPosting Shows from b new
+worked_posting Shows from b c new shown caught goes_on goes keeps is = record {
+  shown = worked_shown Shows from b c new Queued shown goes keeps is;
+  seen = keeps.cursor ∙ caught ∙ open_all b shown.sound goes_on;
+  goes_on = goes_on;
+  few = let one : length new.queue ≡ 1 = ap (λ (v : ClusterView). length v.queue) (is.1).rest in omega (arith, one);
+}

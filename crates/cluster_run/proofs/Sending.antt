@@ -1,0 +1,160 @@
+-- A cluster takes in the entry that it sent.
+use Rattle.std.proofs.Common.{◌≡◌, ◌+◌, ◌≤◌, refl, sym, ◌∙◌, ap, subst, arith, List, [], ◌∷◌, ◌++◌, length, drop, length-append, false, true, Some, slice_get, true≢false, inr}
+use Rattle.std.specs.Prelude.{option_map}
+use Rattle.std.specs.List.{list_any, list_all}
+use Rattle.std.proofs.lemmas.List.{take_all}
+use Rattle.std.proofs.lemmas.Bool.{and_parts}
+use Rattle.bus_msg.specs.declared.entry.What.{What}
+use Rattle.bus_msg.specs.declared.entry.What.TheVariants.{Mail, Birth, Exit, Page, Sync, Fetch, PageIs, Crash, Return, Rebackup, Done, Stop}
+use Rattle.bus_msg.specs.declared.entry.Post.{Post}
+use Rattle.bus_msg.specs.declared.entry.Entry.{Entry}
+use Rattle.cert_sched.specs.Schedule.{placement}
+use Rattle.cert_sched.specs.Appended.{entry_of}
+use Rattle.cert_sched.specs.Rules.{is_over}
+use Rattle.cert_sched.specs.Legal.{IsLegalBy}
+use Rattle.cert_sched.specs.Built.{BuiltMayFollow, is_built}
+use Rattle.cert_sched.specs.Losses.{is_by_cluster, is_from}
+use Rattle.cert_sched.proofs.LogLaws.{IsLegal-snoc}
+use Rattle.cluster_core.specs.View.{ClusterView, head_of, load, after_head, after_sent}
+use Rattle.cluster_core.specs.Queue.{IsQueueLegal}
+use Rattle.cluster_core.specs.Follows.{FollowsBuilt, IsOpen}
+use Rattle.cluster_core.specs.Calls.{Absorbs, IsReady, ReadyFor, absorbed}
+use Rattle.cluster_core.proofs.Following.{no_end}
+use Rattle.bus_order.specs.View.{BusView}
+use Rattle.bus_order.proofs.OverLaws.{closed-snoc, over_closed}
+use Rattle.cluster_run.specs.Along.{IsAlong, IsBeside, IsReadyAt, IsSound, TakesNext}
+use Rattle.cluster_run.proofs.Prefixes.{drop_whole, get_last}
+use Rattle.cluster_run.proofs.TakingIn.{load_taken, open_all}
+
+-- a cluster whose one post was sent
+abbrev pub cleared : ClusterView → ClusterView
+cleared c = record c { queue = []; tried = false }
+
+same_after : (w : What) (c : ClusterView) → is_built w ≡ true → after_head c w ≡ c
+same_after (Mail at letter) c h = refl
+same_after (Birth parent at child end) c h = refl
+same_after (Exit pid at end) c h = refl
+same_after (Page pid at index bytes) c h = refl
+same_after (Sync pid small read took) c h = refl
+same_after (Fetch pid index) c h = refl
+same_after (PageIs pid index bytes) c h = refl
+same_after (Crash k cause) c h = refl
+same_after (Return k) c h = refl
+same_after (Rebackup to fresh recs) c h = absurd (true≢false (sym h))
+same_after (Done rests) c h = refl
+same_after Stop c h = refl
+
+-- a cluster that had seen all of a log that goes on sent its one post, and the bus has no entry behind it
+pub record IsSent (log : List Entry) (c : ClusterView) (post : Post) (after : BusView) : Type 0 where
+  pub beside : IsBeside log c
+  pub seen : c.cursor ≡ length log
+  pub goes_on : is_over c.system log ≡ false
+  pub only : c.queue ≡ post ∷ []
+  pub tried : c.tried ≡ true
+  pub legal : IsLegalBy BuiltMayFollow c.system log
+  pub system : c.system ≡ after.system
+  pub longer : after.log ≡ log ++ entry_of c.system log post ∷ []
+
+module _ (log : List Entry) (c : ClusterView) (post : Post) (after : BusView) (s : IsSent log c post after) where
+  abbrev next : Entry
+  next = entry_of c.system log post
+
+  follows : FollowsBuilt c.system log c
+  follows = subst (λ l. FollowsBuilt c.system l c) (take_all c.cursor log (omega (arith, s.seen))) (s.beside).follows
+
+  may : BuiltMayFollow c.system log next
+  may = let queue = subst (λ q. IsQueueLegal BuiltMayFollow c.system log q) s.only (follows.queue).legal in queue.0
+
+  pub own : is_from c.number post.by ≡ true
+  own =
+      let all = sym (ap (λ q. list_all (λ (p : Post). is_from c.number p.by) q) s.only) ∙ (follows.queue).own in
+      (and_parts (is_from c.number post.by) true all).0
+
+  pub clears : after_sent c c.queue ≡ cleared c
+  clears = ap (after_sent c) s.only ∙ ap (λ (v : ClusterView). record v { queue = []; tried = false }) (same_after post.what c may.built)
+
+  legal_next : IsLegalBy BuiltMayFollow c.system (log ++ next ∷ [])
+  legal_next = IsLegal-snoc BuiltMayFollow c.system log next s.legal may
+
+  goes_on_next : is_over c.system (log ++ next ∷ []) ≡ false
+  goes_on_next = over_closed c.system (log ++ next ∷ []) legal_next ∙ closed-snoc log next ∙ no_end c.number (placement c.system log) post.by post.what own (may.stands).by_right
+
+  pub sent_goes_on : is_over after.system after.log ≡ false
+  sent_goes_on = (λ i. is_over (sym s.system i) (s.longer i)) ∙ goes_on_next
+
+  long : length after.log ≡ c.cursor + 1
+  long = ap length s.longer ∙ length-append log (next ∷ []) ∙ ap (λ n. n + 1) (sym s.seen)
+
+  at_cursor : slice_get after.log c.cursor ≡ Some next
+  at_cursor = (λ i. slice_get (s.longer i) (s.seen i)) ∙ get_last log next
+
+  open_first : IsOpen BuiltMayFollow c.system log
+  open_first = (s.legal, s.goes_on)
+
+  open_next : IsOpen BuiltMayFollow c.system (log ++ next ∷ [])
+  open_next = (legal_next, goes_on_next)
+
+  between : IsReady log next (cleared c)
+  between = inr (
+    record {
+      before = c;
+      followed = follows;
+      head = ap (λ q. option_map (entry_of c.system log) (head_of q)) s.only;
+      tried = s.tried;
+      sent = sym clears;
+    },
+    refl,
+  )
+
+  pub ready_sent : IsSound after → IsReadyAt after.log (after_sent c c.queue)
+  ready_sent sound = subst (IsReadyAt after.log) (sym clears) (record {
+    within = omega (arith, long, open_all after sound sent_goes_on);
+    ready = λ e at.
+        let is : next ≡ e = let both_are : Some next ≡ Some e = sym at_cursor ∙ at in cc in
+        let P : Entry → Type 0 = λ e. ReadyFor e (cleared c) in
+        subst P is (record { log = log; open_log = open_first; open_next = open_next; ready = between });
+  })
+
+  module _ (left new : ClusterView) (left_is : left ≡ after_sent c c.queue) (t' : TakesNext after.log left new) where
+    is_left : left ≡ cleared c
+    is_left = left_is ∙ clears
+
+    t : TakesNext after.log (cleared c) new
+    t = subst (λ v. TakesNext after.log v new) is_left t'
+
+    taken : new ≡ absorbed (cleared c) next
+    taken = let is : t.entry ≡ next = let both_are : Some t.entry ≡ Some next = sym t.there ∙ at_cursor in cc in t.taken ∙ ap (absorbed (cleared c)) is
+
+    absorbs : Absorbs next (cleared c) new
+    absorbs = let is : t.entry ≡ next = let both_are : Some t.entry ≡ Some next = sym t.there ∙ at_cursor in cc in subst (λ e. Absorbs e (cleared c) new) is t.follows
+
+    pub sent_lighter : load new ≤ load c
+    sent_lighter = load_taken after.log (cleared c) new t
+
+    pub sent_seen : new.cursor ≡ length after.log
+    sent_seen = ap (λ (v : ClusterView). v.cursor) taken ∙ sym long
+
+    pub sent_empty : new.queue ≡ []
+    sent_empty = ap (λ (v : ClusterView). v.queue) taken
+
+    pub sent_system : new.system ≡ c.system
+    sent_system = ap (λ (v : ClusterView). v.system) taken
+
+    pub sent_number : new.number ≡ c.number
+    sent_number = ap (λ (v : ClusterView). v.number) taken
+
+    pub sent_along : IsAlong after new
+    sent_along =
+        let all : length after.log ≡ c.cursor + 1 = long in
+        let P : ClusterView → Type 0 = λ v. FollowsBuilt c.system (log ++ next ∷ []) v → IsAlong after v in
+        subst P (sym taken) (λ f. record {
+          system = s.system;
+          beside = record {
+            has = (s.beside).has;
+            within = omega (arith, all);
+            goes_on = (λ i. is_over (s.system i) (take_all (c.cursor + 1) after.log (omega (arith, all)) i)) ∙ sent_goes_on;
+            follows = subst (λ l. FollowsBuilt c.system l (absorbed (cleared c) next)) (sym (take_all (c.cursor + 1) after.log (omega (arith, all)) ∙ s.longer)) f;
+            sent_before = ap (λ n. list_any (is_by_cluster c.number) (drop n after.log)) (sym all) ∙ ap (list_any (is_by_cluster c.number)) (drop_whole after.log);
+            unfailed = (s.beside).unfailed;
+          };
+        }) (absorbs log open_first open_next between)

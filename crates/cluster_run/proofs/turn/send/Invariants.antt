@@ -1,0 +1,19 @@
+use Rattle.std.proofs.Common.{◌≡◌, ◌≤◌, ◌-◌, ◌^◌, length, true}
+use Rattle.cluster_core.specs.View.{load}
+use Rattle.cluster_run.specs.Along.{IsPosting, IsSame}
+use Rattle.cluster_run.specs.Turns.{GoesOwn, SendsOwn}
+use Rattle.cluster_run.proofs.turn.send.Given as goal
+
+abbrev pub invariant-posts : goal.invariant-posts
+invariant-posts g l = record {
+  root : g.P.Port.root l.port ≡ g.P.Port.root l.fn.port;
+  sits : g.P.Port.sits l.fn.cluster.number l.port;
+  posting : IsPosting (g.P.Port.shows l.port) (g.P.Port.from l.port) (g.P.Port.bus l.port) l.cluster;
+  same : IsSame l.fn.cluster l.cluster;
+  lighter : load l.cluster ≤ load l.fn.cluster;
+  own : g.P.Port.alone ≡ true → GoesOwn (g.P.Port.bus l.fn.port) → SendsOwn l.fn.cluster.number (g.P.Port.bus l.fn.port) (g.P.Port.bus l.port);
+}
+
+-- each attempt finds a longer log
+abbrev pub decreases-posts : goal.decreases-posts
+decreases-posts g l = 2 ^ 64 - length (g.P.Port.bus l.port).log

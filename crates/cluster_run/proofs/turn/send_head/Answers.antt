@@ -1,0 +1,83 @@
+use Rattle.std.proofs.Common.{◌≡◌, ◌<◌, refl, ap, subst, arith, length, true}
+use Rattle.t32_base.specs.declared.process.ClusterNo.{ClusterNo}
+use Rattle.cluster_core.specs.View.{ClusterView, load}
+use Rattle.cluster_run.specs.Turns.{OffersHead, SendsOwn}
+use Rattle.cluster_run.proofs.Offering.{sent_longer, was_behind, was_sent}
+use Rattle.cluster_run.proofs.Owning.{sent_own}
+use Rattle.cluster_run.proofs.Posting.{behind_posting, left_ready, sent_posting, tried_posting}
+use Rattle.cluster_run.proofs.Sending.{sent_lighter}
+use Rattle.cluster_run.proofs.turn.send_head.Goals as goal
+
+pub take_next-requires-clause-ready : goal.take_next-requires-clause-ready
+take_next-requires-clause-ready g c =
+    let a = g.P.Port.alone in
+    let b = g.P.Port.bus c.args.port.now in
+    let after = g.P.Port.bus c.offer_head.new.port in
+    let t : ClusterView = c.tried.new.self in
+    let p = tried_posting (g.P.Port.shows c.args.port.now) (g.P.Port.from c.args.port.now) b c.args.cluster.now t c.tried.ensures.tried c.requires.posting in
+    let off = subst (λ o. OffersHead a t b after o) c.in-Sent.is c.in_ok-offer_head.ensures.offered in
+    let tried : t.tried ≡ true = ap (λ (v : ClusterView). v.tried) c.tried.ensures.tried in
+    let s = was_sent a b after t off.0 (p.shown).along c.in_ok-offer_head.ensures.sound off.1 tried off.2 in
+    left_ready ((off.2).found).log t c.sent.new.self off.0 after s c.sent.ensures c.in_ok-offer_head.ensures.sound
+
+pub returns-in_ok-take_next-in-Sent-clause-lighter :
+    goal.returns-in_ok-take_next-in-Sent-clause-lighter
+returns-in_ok-take_next-in-Sent-clause-lighter g c =
+    let a = g.P.Port.alone in
+    let b = g.P.Port.bus c.args.port.now in
+    let after = g.P.Port.bus c.offer_head.new.port in
+    let t : ClusterView = c.tried.new.self in
+    let p = tried_posting (g.P.Port.shows c.args.port.now) (g.P.Port.from c.args.port.now) b c.args.cluster.now t c.tried.ensures.tried c.requires.posting in
+    let off = subst (λ o. OffersHead a t b after o) c.in-Sent.is c.in_ok-offer_head.ensures.offered in
+    let tried : t.tried ≡ true = ap (λ (v : ClusterView). v.tried) c.tried.ensures.tried in
+    let s = was_sent a b after t off.0 (p.shown).along c.in_ok-offer_head.ensures.sound off.1 tried off.2 in
+    let less = sent_lighter ((off.2).found).log t off.0 after s c.sent.new.self c.take_next.new.cluster c.sent.ensures c.in_ok-take_next-in-Sent.ensures in
+    let same : load t ≡ load c.args.cluster.now = ap load c.tried.ensures.tried in
+    omega (arith, less, same)
+
+pub returns-in_ok-take_next-in-Sent-clause-posting :
+    goal.returns-in_ok-take_next-in-Sent-clause-posting
+returns-in_ok-take_next-in-Sent-clause-posting g c goes =
+    let a = g.P.Port.alone in
+    let b = g.P.Port.bus c.args.port.now in
+    let after = g.P.Port.bus c.offer_head.new.port in
+    let t : ClusterView = c.tried.new.self in
+    let p = tried_posting (g.P.Port.shows c.args.port.now) (g.P.Port.from c.args.port.now) b c.args.cluster.now t c.tried.ensures.tried c.requires.posting in
+    let off = subst (λ o. OffersHead a t b after o) c.in-Sent.is c.in_ok-offer_head.ensures.offered in
+    let tried : t.tried ≡ true = ap (λ (v : ClusterView). v.tried) c.tried.ensures.tried in
+    let s = was_sent a b after t off.0 (p.shown).along c.in_ok-offer_head.ensures.sound off.1 tried off.2 in
+    let longer = sent_longer a b after t off.0 (p.shown).along off.2 in (
+      sent_posting ((off.2).found).log t c.sent.new.self off.0 after s c.sent.ensures (g.P.Port.shows c.offer_head.new.port) (g.P.Port.from c.offer_head.new.port) c.take_next.new.cluster
+          c.in_ok-offer_head.ensures.shows c.in_ok-offer_head.ensures.from c.in_ok-offer_head.ensures.sound c.in_ok-take_next-in-Sent.ensures,
+      omega (arith, longer, p.seen),
+    )
+
+pub returns-in_ok-take_next-in-Sent-clause-own : goal.returns-in_ok-take_next-in-Sent-clause-own
+returns-in_ok-take_next-in-Sent-clause-own g c alone own =
+    let a = g.P.Port.alone in
+    let b = g.P.Port.bus c.args.port.now in
+    let after = g.P.Port.bus c.offer_head.new.port in
+    let t : ClusterView = c.tried.new.self in
+    let p = tried_posting (g.P.Port.shows c.args.port.now) (g.P.Port.from c.args.port.now) b c.args.cluster.now t c.tried.ensures.tried c.requires.posting in
+    let off = subst (λ o. OffersHead a t b after o) c.in-Sent.is c.in_ok-offer_head.ensures.offered in
+    let tried : t.tried ≡ true = ap (λ (v : ClusterView). v.tried) c.tried.ensures.tried in
+    let s = was_sent a b after t off.0 (p.shown).along c.in_ok-offer_head.ensures.sound off.1 tried off.2 in
+    let number : t.number ≡ c.args.cluster.now.number = ap (λ (v : ClusterView). v.number) c.tried.ensures.tried in
+    let sends = sent_own a alone b after t off.0 own c.in_ok-offer_head.ensures.sound off.2 s (c.offer_head.ensures.adds alone) in
+    (refl, subst (λ (k : ClusterNo). SendsOwn k b after) number sends)
+
+pub returns-in_ok-take_in-in-Behind-clause-posting :
+    goal.returns-in_ok-take_in-in-Behind-clause-posting
+returns-in_ok-take_in-in-Behind-clause-posting g c goes =
+    let a = g.P.Port.alone in
+    let b = g.P.Port.bus c.args.port.now in
+    let after = g.P.Port.bus c.offer_head.new.port in
+    let t : ClusterView = c.tried.new.self in
+    let p = tried_posting (g.P.Port.shows c.args.port.now) (g.P.Port.from c.args.port.now) b c.args.cluster.now t c.tried.ensures.tried c.requires.posting in
+    let off = subst (λ o. OffersHead a t b after o) c.in-Behind.is c.in_ok-offer_head.ensures.offered in
+    let behind = was_behind a b after t off.0 (p.shown).along off.2 in
+    let less : t.cursor < length after.log = behind.2 in (
+      behind_posting (g.P.Port.shows c.offer_head.new.port) (g.P.Port.from c.offer_head.new.port) after t c.take_in.new.cluster
+          c.in_ok-offer_head.ensures.shows c.in_ok-offer_head.ensures.from c.in_ok-offer_head.ensures.sound p.few behind.1 c.in_ok-take_in-in-Behind.ensures.taken c.in_ok-take_in-in-Behind.ensures.caught,
+      omega (arith, less, p.seen),
+    )

@@ -1,0 +1,51 @@
+use Rattle.std.proofs.Common.{◌≡◌, ◌≤◌, ◌∙◌, [], sym, subst, length, true, false}
+use Rattle.cluster_core.specs.Calls.{Lightens, WorkIs}
+use Rattle.cluster_core.specs.View.{ClusterView, load}
+use Rattle.cert_sched.specs.Rules.{is_over}
+use Rattle.cluster_run.specs.Turns.{GoesOwn, SendsOwn, TurnsOwn}
+use Rattle.cluster_run.proofs.Owning.{both_ok, sends_turn, tells_turn, where_ok}
+use Rattle.cluster_run.proofs.Posting.{follows_some, worked_posting, worked_shown}
+use Rattle.cluster_run.proofs.TakingIn.{open_all}
+use Rattle.cluster_run.proofs.turn.take_turn.Goals as goal
+
+pub work-requires-clause-follows : goal.work-requires-clause-follows
+work-requires-clause-follows g c =
+    follows_some (g.P.Port.bus c.catch_up.new.port) c.catch_up.new.cluster c.in_ok-catch_up.ensures.shown.sound c.in_ok-catch_up.ensures.shown.along
+
+pub send-requires-clause-posting : goal.send-requires-clause-posting
+send-requires-clause-posting g c =
+    let b = g.P.Port.bus c.catch_up.new.port in
+    let goes_on : is_over b.system b.log ≡ false = sym c.has_ended.ensures ∙ c.if-has_ended.false in
+    let is = subst (λ w. WorkIs c.catch_up.new.cluster w c.work.new.self) c.in-Queued.is c.in_ok-work.ensures.work in
+    worked_posting (g.P.Port.shows c.catch_up.new.port) (g.P.Port.from c.catch_up.new.port) b c.catch_up.new.cluster c.work.new.self c.in_ok-catch_up.ensures.shown c.in_ok-catch_up.ensures.caught goes_on c.in_ok-work.ensures.follows c.in_ok-work.ensures.place is
+
+pub returns-in-Moved-clause-shown : goal.returns-in-Moved-clause-shown
+returns-in-Moved-clause-shown g c =
+    worked_shown (g.P.Port.shows c.catch_up.new.port) (g.P.Port.from c.catch_up.new.port) (g.P.Port.bus c.catch_up.new.port) c.catch_up.new.cluster c.work.new.self _ c.in_ok-catch_up.ensures.shown c.in_ok-work.ensures.follows c.in_ok-work.ensures.place c.in_ok-work.ensures.work
+
+pub returns-in-Queued-clause-own : goal.returns-in-Queued-clause-own
+returns-in-Queued-clause-own g c =
+    let a = g.P.Port.alone in
+    let b = g.P.Port.bus c.args.port.now in
+    let mid = g.P.Port.bus c.catch_up.new.port in
+    let after = g.P.Port.bus c.send.new.port in
+    let worked : ClusterView = c.work.new.self in
+    let new : ClusterView = c.send.new.cluster in
+    let less = subst (λ w. Lightens c.catch_up.new.cluster w worked) c.in-Queued.is c.in_ok-work.ensures.lighter in
+    let both : Type 0 = (load new ≤ load worked) × (a ≡ true → GoesOwn mid → SendsOwn worked.number mid after × (new.queue ≡ [])) in
+    where_ok c.send.result both (a ≡ true → GoesOwn b → TurnsOwn b after c.args.cluster.now new)
+    (λ is alone own.
+    let same = c.in_ok-catch_up.ensures.own alone in
+    let sends = is.1 alone (subst GoesOwn (sym same) own) in
+    sends_turn b mid after c.args.cluster.now c.catch_up.new.cluster worked new same c.in_ok-catch_up.ensures.taken c.in_ok-work.ensures.place.number less is.0 sends.0 sends.1)
+    (both_ok c.send.result _ _ c.send.ensures.lighter c.send.ensures.own)
+
+pub returns-in_ok-tell-in-Rests-clause-own : goal.returns-in_ok-tell-in-Rests-clause-own
+returns-in_ok-tell-in-Rests-clause-own g c alone own =
+    let b = g.P.Port.bus c.args.port.now in
+    let mid = g.P.Port.bus c.catch_up.new.port in
+    let same = c.in_ok-catch_up.ensures.own alone in
+    let is = subst (λ w. WorkIs c.catch_up.new.cluster w c.work.new.self) c.in-Rests.is c.in_ok-work.ensures.work in
+    let goes : GoesOwn mid = subst GoesOwn (sym same) own in
+    let seen : c.work.new.self.cursor ≡ length mid.log = c.in_ok-work.ensures.place.cursor ∙ c.in_ok-catch_up.ensures.caught ∙ open_all mid c.in_ok-catch_up.ensures.shown.sound goes.1 in
+    tells_turn b mid (g.P.Port.bus c.tell.new.port) c.args.cluster.now c.catch_up.new.cluster c.work.new.self same c.in_ok-catch_up.ensures.taken is.1 c.requires.empty (c.in_ok-tell-in-Rests.ensures.own alone goes seen)

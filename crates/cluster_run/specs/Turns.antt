@@ -1,0 +1,51 @@
+-- What a turn makes of a cluster and of its bus.
+use Rattle.std.specs.Prelude.{◌≡◌, ◌+◌, ◌≤◌, ◌⊎◌, Bool, true, false, [], ◌∷◌}
+use Rattle.t32_base.specs.declared.process.ClusterNo.{ClusterNo}
+use Rattle.bus_msg.specs.declared.entry.Post.{Post}
+use Rattle.cert_sched.specs.Rules.{is_over}
+use Rattle.cluster_core.specs.View.{ClusterView, load}
+use Rattle.bus_order.specs.Log.{open_length}
+use Rattle.bus_order.specs.View.{BusView}
+use Rattle.cluster_run.specs.declared.turn.Turn.{Turn}
+use Rattle.cluster_run.specs.declared.turn.Turn.TheVariants.{Moved, Rests, Over}
+use Rattle.cluster_run.specs.Along.{IsOwned}
+use Rattle.cluster_run.specs.declared.offers.Offered.{Offered}
+use Rattle.cluster_run.specs.Offers.{Adds, IsLeft, IsTold, OfferIs, Visits}
+use Rattle.cluster_run.specs.Progress.{GetsOn, IsOver, Rests as RestsThere}
+
+-- the cluster has told so at the bus that its port shows
+abbrev pub HasTold : Bool → ClusterView → BusView → Type 0
+HasTold alone c b = (left : BusView) × IsLeft alone left b × IsTold c left
+
+-- How a turn ended. The cluster has nothing to send, and where it rests it told so; or it has followed the log to its end.
+abbrev pub EndsAs : Bool → Turn → BusView → ClusterView → Type 0
+EndsAs alone Moved b c = c.queue ≡ []
+EndsAs alone Rests b c = (c.queue ≡ []) × HasTold alone c b
+EndsAs alone Over b c = (c.cursor ≡ open_length b.log) × (is_over b.system b.log ≡ true)
+
+-- a bus that no other has, whose log goes on
+abbrev pub GoesOwn : BusView → Type 0
+GoesOwn b = IsOwned b × (is_over b.system b.log ≡ false)
+
+-- the posts of a cluster were sent to it
+pub record SendsOwn (k : ClusterNo) (b after : BusView) : Type 0 where
+  pub goes_on : GoesOwn after
+  pub adds : Adds k b after
+
+-- the cluster has its mark there, or the log is over
+pub record TellsOwn (k : ClusterNo) (b after : BusView) : Type 0 where
+  pub owned : IsOwned after
+  pub adds : Adds k b after
+  pub rests : IsOver after ⊎ RestsThere b after k.0 (k.0 + 1)
+
+-- what the turn of a cluster makes of it
+pub record TurnsOwn (b after : BusView) (c new : ClusterView) : Type 0 where
+  pub owned : IsOwned after
+  pub adds : Adds c.number b after
+  pub empty : new.queue ≡ []
+  pub lighter : load new ≤ load c
+  pub gets_on : GetsOn b after (load c) (load new) (c.number).0 ((c.number).0 + 1)
+
+-- the one post of a cluster was offered
+abbrev pub OffersHead : Bool → ClusterView → BusView → BusView → Offered → Type 0
+OffersHead alone c old new offered = (post : Post) × (c.queue ≡ post ∷ []) × Visits alone c.number old new (OfferIs c.cursor post offered)

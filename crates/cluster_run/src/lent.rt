@@ -1,0 +1,57 @@
+//! A bus that no other has is its own port.
+use crate::offers::{Offered, offer_to, tell_to};
+use crate::port::Port;
+use bus_msg::entry::{Entry, Post};
+use bus_order::bus::Bus;
+use bus_order::marks::{Idled, Mark};
+use cluster_core::cluster::Cluster;
+use t32_base::streams::NoMemory;
+
+impl Port for Bus {
+    ghost use Rattle.std.specs.Prelude.{⊤, true};
+
+    ghost Root = { ⊤ };
+
+    ghost alone = { true };
+
+    ghost root = { λ b. tt };
+
+    ghost bus = { λ b. b };
+
+    ghost from = { λ b. 0 };
+
+    ghost shows = { λ b. ⊤ };
+
+    ghost sits = { λ k b. ⊤ };
+
+    fn look(&mut self, _cluster: &Cluster) -> Result<(), NoMemory> {
+        Ok(())
+    }
+
+    fn open_length(&self) -> u64 {
+        let length = self.length();
+        if self.is_over() {
+            return length - 1;
+        }
+        length
+    }
+
+    fn shown(&self, place: u64) -> &Entry {
+        match self.entry(place) {
+            Some(entry) => entry,
+            None => unreachable!(),
+        }
+    }
+
+    fn has_ended(&self) -> bool {
+        self.is_over()
+    }
+
+    fn offer(&mut self, cluster: &Cluster, post: &Post) -> Result<Offered, NoMemory> {
+        offer_to(self, cluster, post)
+    }
+
+    fn tell(&mut self, cluster: &Cluster, mark: Mark) -> Result<Option<Idled>, NoMemory> {
+        tell_to(self, cluster, mark)
+    }
+}

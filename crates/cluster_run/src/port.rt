@@ -1,0 +1,98 @@
+//! What a turn of a cluster asks of its bus.
+ghost use Rattle.std.specs.Prelude.{◌≡◌, ◌≤◌, ◌<◌, ◌∷◌, [], ℕ, Bool, true, Some, IfOk, OnOk, slice_get};
+ghost use Rattle.t32_base.specs.declared.process.ClusterNo.{ClusterNo as AClusterNo};
+ghost use Rattle.bus_order.specs.Log.{open_length};
+ghost use Rattle.bus_order.specs.View.{BusView};
+ghost use Rattle.cert_sched.specs.Rules.{is_over};
+ghost use Rattle.cluster_run.specs.Along.{IsAlong, IsSound};
+ghost use Rattle.cluster_run.specs.Offers.{Adds, IsToldBy, Later, OfferIs, TellIs, Visits};
+
+use crate::offers::Offered;
+use bus_msg::entry::{Entry, Post};
+use bus_order::marks::{Idled, Mark};
+use cluster_core::cluster::Cluster;
+use t32_base::streams::NoMemory;
+
+/// The way of a cluster to its bus. It shows the log as it was when the cluster last had the bus.
+pub trait Port {
+    /// What tells one port from another.
+    ghost Root: { Type 0 };
+
+    /// No other has the bus.
+    ghost alone: { Bool };
+
+    /// It never changes.
+    ghost root: { Self → Root };
+
+    /// The bus, as the cluster last had it; of a bus that others have too, the marks are left out.
+    ghost bus: { Self → BusView };
+
+    /// The place from which on it shows the entries of the log.
+    ghost from: { Self → ℕ };
+
+    /// What it shows is the bus.
+    ghost shows: { Self → Type 0 };
+
+    /// It is the port of this cluster, also after want of memory.
+    ghost sits: { AClusterNo → Self → Type 0 };
+
+    /// Looks for what is new.
+    fn look(&mut self, cluster: &Cluster) -> Result<(), NoMemory>
+        requires sits { sits cluster.now.number self.old }
+        requires shows { shows self.old }
+        requires from { from self.old ≤ cluster.now.cursor }
+        requires sound { IsSound (bus self.old) }
+        requires along { IsAlong (bus self.old) cluster.now }
+        ensures root { root self.new ≡ root self.old }
+        ensures sits { sits cluster.now.number self.new }
+        ensures shows { OnOk result (shows self.new) }
+        ensures from { OnOk result (from self.new ≤ cluster.now.cursor) }
+        ensures sound { OnOk result (IsSound (bus self.new)) }
+        ensures later { OnOk result (Later alone cluster.now.number (bus self.old) (bus self.new)) };
+
+    /// How many entries the log has, without the end or the stop that may stand last.
+    fn open_length(&self) -> u64
+        requires shows { shows self.now }
+        ensures { result ≡ open_length (bus self.now).log };
+
+    /// The entry at a place.
+    fn shown(&self, place: u64) -> &Entry
+        requires shows { shows self.now }
+        requires from { from self.now ≤ place }
+        requires within { place < open_length (bus self.now).log }
+        ensures { slice_get (bus self.now).log place ≡ Some result.now };
+
+    /// Whether the log is over.
+    fn has_ended(&self) -> bool
+        requires shows { shows self.now }
+        ensures { result ≡ is_over (bus self.now).system (bus self.now).log };
+
+    /// Offers the post of a cluster, and shows what is then new.
+    fn offer(&mut self, cluster: &Cluster, post: &Post) -> Result<Offered, NoMemory>
+        requires sits { sits cluster.now.number self.old }
+        requires sound { IsSound (bus self.old) }
+        requires along { IsAlong (bus self.old) cluster.now }
+        requires only { cluster.now.queue ≡ post.now ∷ [] }
+        ensures root { root self.new ≡ root self.old }
+        ensures sits { sits cluster.now.number self.new }
+        ensures shows { OnOk result (shows self.new) }
+        ensures from { OnOk result (from self.new ≤ cluster.now.cursor) }
+        ensures sound { OnOk result (IsSound (bus self.new)) }
+        ensures adds { alone ≡ true → Adds cluster.now.number (bus self.old) (bus self.new) }
+        ensures offered { IfOk result (λ offered. Visits alone cluster.now.number (bus self.old) (bus self.new) (OfferIs cluster.now.cursor post.now offered)) };
+
+    /// Tells that nothing can move in a cluster, and shows what is then new. None where the log was over, or the cluster
+    /// had not seen all of it.
+    fn tell(&mut self, cluster: &Cluster, mark: Mark) -> Result<Option<Idled>, NoMemory>
+        requires sits { sits cluster.now.number self.old }
+        requires sound { IsSound (bus self.old) }
+        requires along { IsAlong (bus self.old) cluster.now }
+        requires told { IsToldBy cluster.now mark }
+        ensures root { root self.new ≡ root self.old }
+        ensures sits { sits cluster.now.number self.new }
+        ensures shows { OnOk result (shows self.new) }
+        ensures from { OnOk result (from self.new ≤ cluster.now.cursor) }
+        ensures sound { OnOk result (IsSound (bus self.new)) }
+        ensures adds { alone ≡ true → Adds cluster.now.number (bus self.old) (bus self.new) }
+        ensures told { IfOk result (λ told. Visits alone cluster.now.number (bus self.old) (bus self.new) (TellIs cluster.now.number cluster.now.cursor mark told)) };
+}

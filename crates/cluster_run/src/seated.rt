@@ -1,0 +1,128 @@
+//! The port of a cluster to a bus behind a lock.
+ghost use Rattle.std.specs.Prelude.{◌≡◌, Some};
+ghost use Rattle.std.specs.Arc.{arc_value};
+ghost use Rattle.bus_lock.specs.Seats.{IsOf, seat_origin, seen, told, view_of};
+ghost use Rattle.bus_lock.specs.Views.{retold};
+ghost use Rattle.cluster_run.specs.Offers.{IsNews};
+ghost use Rattle.cluster_run.specs.Seated.{IsSeatOf};
+
+use crate::locked::{give, take_for};
+use crate::offers::{News, Offered, news_of, offer_to, receiver_of, tell_to};
+use crate::port::Port;
+use crate::sleepers::Sleepers;
+use bus_lock::{LogLock, LogSeat};
+use bus_msg::entry::{Entry, Post};
+use bus_order::marks::{Idled, Mark};
+use bus_order::shared::SharedBus;
+use cluster_core::cluster::Cluster;
+use std::sync::{Arc, Wait};
+use sys_text::system::System;
+use t32_base::gate::Gate;
+use t32_base::streams::NoMemory;
+
+/// A seat of the lock, with what is new in the log that it has seen. The bus is taken for a moment at each call, and what
+/// is new is taken in outside.
+#[derive(Drop)]
+pub struct Seated<'a, R, G> {
+    pub rt: &'a R,
+    pub lock: &'a LogLock<SharedBus>,
+    pub system: &'a Arc<System>,
+    pub gate: &'a G,
+    pub sleepers: &'a Sleepers,
+    pub seat: LogSeat<SharedBus>,
+    pub news: News,
+}
+
+impl<'a, R, G> Seated<'a, R, G> {
+    /// Its seat.
+    pub fn into_seat(self) -> LogSeat<SharedBus>
+        ensures { result ≡ self.entry.seat }
+    {
+        let Seated { seat, .. } = self;
+        seat
+    }
+}
+
+// Whether the log may have grown since. Asks only for its length.
+fn has_grown(lock: &LogLock<SharedBus>, seat: &mut LogSeat<SharedBus>, news: &News) -> bool
+    requires { IsOf lock.now seat.old }
+    ensures of { IsOf lock.now seat.new }
+    ensures same { view_of seat.new ≡ retold (view_of seat.old) (told seat.new) }
+{
+    let length = lock.length_now(seat);
+    !news.is_over && length != news.upto
+}
+
+impl<'a, R: Wait, G: Gate> Port for Seated<'a, R, G> {
+    ghost use Rattle.std.specs.Prelude.{◌≡◌, Some, false};
+    ghost use Rattle.std.specs.Arc.{arc_value};
+    ghost use Rattle.sys_text.specs.declared.system.System.{System as ASystem};
+    ghost use Rattle.bus_msg.specs.declared.entry.Entry.{Entry as AnEntry};
+    ghost use Rattle.bus_lock.specs.declared.lock.LogLock.{LogLock as ALogLock};
+    ghost use Rattle.bus_lock.specs.Seats.{seat_origin, seen};
+    ghost use Rattle.bus_order.specs.View.{BusView};
+    ghost use Rattle.cluster_run.specs.Offers.{IsNews};
+    ghost use Rattle.cluster_run.specs.Seated.{IsSeatOf, bus_of};
+
+    ghost Root = { ALogLock BusView AnEntry ASystem × ASystem };
+
+    ghost alone = { false };
+
+    ghost root = { λ p. (p.lock.now, arc_value p.system.now) };
+
+    ghost bus = { λ p. bus_of (arc_value p.system.now) (seen p.seat) };
+
+    ghost from = { λ p. p.news.from };
+
+    ghost shows = { λ p. IsNews (arc_value p.system.now) (seen p.seat) p.news };
+
+    ghost sits = { λ k p. IsSeatOf p.lock.now k p.seat × (seat_origin p.seat ≡ Some (arc_value p.system.now)) };
+
+    fn look(&mut self, cluster: &Cluster) -> Result<(), NoMemory> {
+        if !has_grown(self.lock, &mut self.seat, &self.news) {
+            return Ok(());
+        }
+        let bus = take_for(self.rt, self.lock, &mut self.seat, cluster);
+        let news = news_of(&bus, cluster.cursor());
+        give(self.lock, &mut self.seat, bus, cluster.number());
+        self.news = news?;
+        Ok(())
+    }
+
+    fn open_length(&self) -> u64 {
+        self.news.upto
+    }
+
+    fn shown(&self, place: u64) -> &Entry {
+        &self.news.entries[(place - self.news.from) as usize]
+    }
+
+    fn has_ended(&self) -> bool {
+        self.news.is_over
+    }
+
+    fn offer(&mut self, cluster: &Cluster, post: &Post) -> Result<Offered, NoMemory> {
+        self.gate.before(cluster.number(), cluster.cursor());
+        let mut bus = take_for(self.rt, self.lock, &mut self.seat, cluster);
+        let offered = offer_to(&mut bus, cluster, post);
+        let receiver = receiver_of(&bus, post);
+        let news = news_of(&bus, cluster.cursor());
+        give(self.lock, &mut self.seat, bus, cluster.number());
+        let offered = offered?;
+        self.news = news?;
+        if let (Offered::Sent, Some(receiver)) = (offered, receiver) {
+            self.sleepers.wake(receiver);
+        }
+        Ok(offered)
+    }
+
+    fn tell(&mut self, cluster: &Cluster, mark: Mark) -> Result<Option<Idled>, NoMemory> {
+        let mut bus = take_for(self.rt, self.lock, &mut self.seat, cluster);
+        let told = tell_to(&mut bus, cluster, mark);
+        let news = news_of(&bus, cluster.cursor());
+        give(self.lock, &mut self.seat, bus, cluster.number());
+        let told = told?;
+        self.news = news?;
+        Ok(told)
+    }
+}
