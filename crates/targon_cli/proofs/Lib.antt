@@ -1,7 +1,7 @@
+mod BuiltWords
 mod Causes
 mod Handing
 mod Parts
-mod Picks
 mod Replies
 mod Streams
 mod Tales

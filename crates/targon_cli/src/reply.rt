@@ -8,14 +8,14 @@ ghost use Rattle.sys_text.specs.Reading.{reading_of as system_reading, system_of
 ghost use Rattle.text_parts.specs.Lines.{lines_of};
 ghost use Rattle.targon_cli.specs.Sections.{section_part, system_part};
 ghost use Rattle.sys_text.specs.Valid.{is_system};
-ghost use Rattle.targon_cli.specs.Command.{has_pick, needs_threads};
+ghost use Rattle.targon_cli.specs.Built.{has_pick, is_built, needs_threads};
 ghost use Rattle.targon_cli.specs.Reply.{asm_line, Follows, Makes, MakesAsm, MakesCheck, MakesPlain, RunsBy, schedule_line, system_line};
 
-use crate::command::Command;
 use crate::runs::simulate;
 use crate::sections::split_at_section;
 use cert_sched::{ItemsRefused, read_items};
 use cluster_run::life::Ran;
+use command_words::Command;
 use plain_kernel::item::{Item, RunRefused};
 use plain_kernel::plain::{default_run, run};
 use report_text::plain::plain_report;
@@ -51,6 +51,7 @@ pub fn carry_out(
     bytes: &[u8],
 ) -> Result<(Reply, Option<Ran>), NoMemory>
     requires pick { has_pick command ≡ true }
+    requires built { is_built command ≡ true }
     requires alone { needs_threads (Some command) ≡ false }
     ensures { IfOk result (λ r. Makes command bytes.now r.0.status r.0.text r.1) }
 {
@@ -58,8 +59,8 @@ pub fn carry_out(
         Command::Plain => Ok((plain(alloc, bytes)?, None)),
         Command::Check => Ok((check(alloc, bytes)?, None)),
         Command::Asm => Ok((asm(alloc, bytes)?, None)),
-        Command::Sim { pick, log } => simulate(alloc, bytes, pick, log),
-        Command::Run { .. } => unreachable!(),
+        Command::Sim { pick, log, .. } => simulate(alloc, bytes, pick, log),
+        Command::Run { .. } | Command::Load { .. } => unreachable!(),
     }
 }
 

@@ -34,7 +34,7 @@ pub fn simulate(
     log: bool,
 ) -> Result<(Reply, Option<Ran>), NoMemory>
     requires { pick < 2 ^ 31 }
-    ensures { IfOk result (λ r. MakesRun (system_reading bytes.now) log r.0.status r.0.text r.1) }
+    ensures { IfOk result (λ r. MakesRun (system_reading bytes.now) [] log r.0.status r.0.text r.1) }
 {
     match system_in(alloc, bytes)? {
         Read::System(system) => {
@@ -54,7 +54,7 @@ pub fn run_threads<R: Threads + Wait + Sync, G: Gate + Sync>(
     log: bool,
     gate: &G,
 ) -> Result<(Reply, Option<Ran>), NoMemory>
-    ensures { IfOk result (λ r. MakesRun (system_reading bytes.now) log r.0.status r.0.text r.1) }
+    ensures { IfOk result (λ r. MakesRun (system_reading bytes.now) [] log r.0.status r.0.text r.1) }
 {
     match system_in(alloc, bytes)? {
         Read::System(system) => {

@@ -1,15 +1,16 @@
 //! The top call: what the program does with its words, its input and its output.
-ghost use Rattle.std.specs.Prelude.{◌≡◌, None, Some, false, true, IfErr, IfOk, OnOk};
-ghost use Rattle.targon_cli.specs.Answer.{Says, usage_line, Answers, Answered, HandsOut, IsUnread, ReadsAll};
-ghost use Rattle.targon_cli.specs.Command.{command_of as command_of_words, has_pick, needs_threads};
-ghost use Rattle.targon_cli.specs.declared.command.Command.{Command as ACommand};
+ghost use Rattle.std.specs.Prelude.{◌≡◌, [], None, Some, false, true, IfErr, IfOk, OnOk};
+ghost use Rattle.targon_cli.specs.Answer.{Says, AnswersFound, Answers, Answered, HandsOut, IsUnread, ReadsAll};
+ghost use Rattle.targon_cli.specs.Built.{built_command_of, has_pick, is_built, is_ready, needs_threads};
+ghost use Rattle.command_words.specs.declared.command.Command.{Command as ACommand};
 
-use crate::command::{Command, command_of};
+use crate::built::built_command;
 use crate::input::{Input, read_input};
 use crate::output::say;
 use crate::reply::{Reply, carry_out};
 use crate::runs::run_threads;
 use cluster_run::life::Ran;
+use command_words::Command;
 use std::alloc::Global;
 use std::sync::Wait;
 use std::thread::Threads;
@@ -27,12 +28,12 @@ const NO_MEMORY: u8 = 6;
 const TOO_LONG: u8 = 8;
 
 /// What the program does with its words, its input and its output, and the status with which it ends: 0
-/// where a command was carried out, 1 where the words are no command, 2 where the command refuses its
-/// input, 3 where an item of the schedule cannot be read or applied, 4 where the input could not be read, 5
-/// where the output could not be written, 6 where memory was refused and nothing was written, and 8 where
-/// the input is longer than is read. After 0 `ran` is the run that `sim` or `run` made, and after 5 the run
-/// whose report was being written; else it is none. For `run` each cluster has a thread, which calls the gate
-/// before it tries to send; it may wait, so that no return is promised.
+/// where a command was carried out, 1 where the words are no command that is built, 2 where the command
+/// refuses its input, 3 where an item of the schedule cannot be read or applied, 4 where the input could not be
+/// read, 5 where the output could not be written, 6 where memory was refused and nothing was written, and 8
+/// where the input is longer than is read. After 0 `ran` is the run that `sim` or `run` made, and after 5 the
+/// run whose report was being written; else it is none. For `run` each cluster has a thread, which calls the
+/// gate before it tries to send; it may wait, so that no return is promised.
 pub fn targon<R: Threads + Wait + Sync, S: Source, K: Sink, G: Gate + Sync>(
     rt: &R,
     alloc: Global,
@@ -49,9 +50,12 @@ pub fn targon<R: Threads + Wait + Sync, S: Source, K: Sink, G: Gate + Sync>(
         (record { holds = K.holds output.old; faults = K.fault_count output.old })
         (record { holds = K.holds output.new; faults = K.fault_count output.new }) ran.new }
 {
-    match command_of(words) {
-        Some(Command::Run { log }) => answer_run(rt, alloc, log, input, output, gate, ran),
-        _ => targon_alone(alloc, words, input, output, ran),
+    let Ok(command) = built_command(alloc, words) else {
+        return NO_MEMORY;
+    };
+    match command {
+        Some(command) => answer_any(rt, alloc, command, input, output, gate, ran),
+        None => say(output, b"t32: usage\n", USAGE),
     }
 }
 
@@ -65,40 +69,37 @@ pub fn targon_alone<S: Source, K: Sink>(
     ran: &mut Option<Ran>,
 ) -> u8
     requires unran { ran.old ≡ None }
-    requires alone { needs_threads (command_of_words words.now) ≡ false }
+    requires alone { needs_threads (built_command_of words.now) ≡ false }
     ensures { Answered words.now result
         (record { left = S.left input.old; faults = S.fault_count input.old })
         (record { left = S.left input.new; faults = S.fault_count input.new }) (S.ended input.new)
         (record { holds = K.holds output.old; faults = K.fault_count output.old })
         (record { holds = K.holds output.new; faults = K.fault_count output.new }) ran.new }
 {
-    answer_words(alloc, words, input, output, ran)
+    let Ok(command) = built_command(alloc, words) else {
+        return NO_MEMORY;
+    };
+    answer_alone(alloc, command, input, output, ran)
 }
 
-// What is answered, by cases.
-fn answer_words<S: Source, K: Sink>(
+// What is answered where the words are this command, which needs no threads, or none.
+fn answer_alone<S: Source, K: Sink>(
     alloc: Global,
-    words: &[Text],
+    command: Option<Command>,
     input: &mut S,
     output: &mut K,
     ran: &mut Option<Ran>,
 ) -> u8
     requires unran { ran.old ≡ None }
-    requires alone { needs_threads (command_of_words words.now) ≡ false }
-    // The words are no command.
-    ensures usage { command_of_words words.now ≡ None → Says 1 usage_line result
-        (record { holds = K.holds output.old; faults = K.fault_count output.old })
-        (record { holds = K.holds output.new; faults = K.fault_count output.new }) }
-    ensures unran { command_of_words words.now ≡ None → ran.new ≡ None }
-
-    // The words are a command.
-    ensures command { (command : ACommand) → command_of_words words.now ≡ Some command → Answers command result
+    requires ready { is_ready command ≡ true }
+    requires alone { needs_threads command ≡ false }
+    ensures { AnswersFound command result
         (record { left = S.left input.old; faults = S.fault_count input.old })
         (record { left = S.left input.new; faults = S.fault_count input.new }) (S.ended input.new)
         (record { holds = K.holds output.old; faults = K.fault_count output.old })
         (record { holds = K.holds output.new; faults = K.fault_count output.new }) ran.new }
 {
-    match command_of(words) {
+    match command {
         Some(command) => answer(alloc, command, input, output, ran),
         None => say(output, b"t32: usage\n", USAGE),
     }
@@ -113,6 +114,7 @@ fn answer<S: Source, K: Sink>(
     ran: &mut Option<Ran>,
 ) -> u8
     requires pick { has_pick command ≡ true }
+    requires built { is_built command ≡ true }
     requires alone { needs_threads (Some command) ≡ false }
     requires unran { ran.old ≡ None }
     ensures { Answers command result
@@ -127,6 +129,30 @@ fn answer<S: Source, K: Sink>(
     }
 }
 
+// What a command answers, by a thread for each cluster where it is `run`.
+fn answer_any<R: Threads + Wait + Sync, S: Source, K: Sink, G: Gate + Sync>(
+    rt: &R,
+    alloc: Global,
+    command: Command,
+    input: &mut S,
+    output: &mut K,
+    gate: &G,
+    ran: &mut Option<Ran>,
+) -> u8
+    requires ready { is_ready (Some command) ≡ true }
+    requires unran { ran.old ≡ None }
+    ensures { Answers command result
+        (record { left = S.left input.old; faults = S.fault_count input.old })
+        (record { left = S.left input.new; faults = S.fault_count input.new }) (S.ended input.new)
+        (record { holds = K.holds output.old; faults = K.fault_count output.old })
+        (record { holds = K.holds output.new; faults = K.fault_count output.new }) ran.new }
+{
+    match command {
+        Command::Run { log, .. } => answer_run(rt, alloc, log, input, output, gate, ran),
+        command => answer(alloc, command, input, output, ran),
+    }
+}
+
 // What `run` answers.
 fn answer_run<R: Threads + Wait + Sync, S: Source, K: Sink, G: Gate + Sync>(
     rt: &R,
@@ -138,7 +164,7 @@ fn answer_run<R: Threads + Wait + Sync, S: Source, K: Sink, G: Gate + Sync>(
     ran: &mut Option<Ran>,
 ) -> u8
     requires { ran.old ≡ None }
-    ensures { Answers (ACommand.Run log) result
+    ensures { Answers (ACommand.Run log []) result
         (record { left = S.left input.old; faults = S.fault_count input.old })
         (record { left = S.left input.new; faults = S.fault_count input.new }) (S.ended input.new)
         (record { holds = K.holds output.old; faults = K.fault_count output.old })

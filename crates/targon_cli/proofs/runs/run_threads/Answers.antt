@@ -17,7 +17,7 @@ tell-requires-clause-valid g c = rw c.deref.ensures (read_valid (reading_of c.ar
 pub returns-in_ok-ran-in-System : goal.returns-in_ok-ran-in-System
 returns-in_ok-ran-in-System g c =
     let P : System → Type 0 = λ s. IfOk c.tell.result (λ (r : Reply × Option Ran). TellsOfRun s [] c.args.log (r.0).status (r.0).text r.1) in
-    told_makes (reading_of c.args.bytes.now) c.in-System.system c.args.log c.tell.result (rw c.in-System.is at c.in_ok-system.ensures) (subst P c.deref.ensures c.tell.ensures)
+    told_makes (reading_of c.args.bytes.now) c.in-System.system [] c.args.log c.tell.result (rw c.in-System.is at c.in_ok-system.ensures) (subst P c.deref.ensures c.tell.ensures)
 
 pub returns-in-Refused : goal.returns-in-Refused
-returns-in-Refused g c = refusal_makes (reading_of c.args.bytes.now) c.in-Refused.reply c.args.log (rw c.in-Refused.is at c.in_ok-system.ensures)
+returns-in-Refused g c = refusal_makes (reading_of c.args.bytes.now) c.in-Refused.reply [] c.args.log (rw c.in-Refused.is at c.in_ok-system.ensures)
