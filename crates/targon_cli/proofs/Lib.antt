@@ -1,5 +1,6 @@
 mod BuiltWords
 mod Causes
+mod Endings
 mod Handing
 mod Parts
 mod Replies

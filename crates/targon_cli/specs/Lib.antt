@@ -1,5 +1,6 @@
 pub mod Answer
 pub mod Built
+pub mod Explained
 pub mod Input
 pub mod Reply
 pub mod Sections
