@@ -14,11 +14,14 @@ use targon_cli::top::targon;
 // More than any of the tests writes.
 const ROOM: u32 = 20000;
 
-// The words of a call.
-fn words(alloc: Global, list: &[&str]) -> Result<Vec<Text>, NoMemory> {
+// The words of a line, which single spaces part. An empty line has none.
+fn words(alloc: Global, line: &[u8]) -> Result<Vec<Text>, NoMemory> {
     let mut words = Vec::new(alloc);
-    for word in list {
-        words.push(Bytes::copy_of(alloc, word.as_bytes())?)?;
+    if line.is_empty() {
+        return Ok(words);
+    }
+    for word in line.split(|b| *b == b' ') {
+        words.push(Bytes::copy_of(alloc, word)?)?;
     }
     Ok(words)
 }
@@ -36,12 +39,12 @@ pub fn sink(alloc: Global) -> Result<MemSink, NoMemory> {
 /// Calls the program with these words over a source and a sink: the status, and the run that it handed out.
 pub fn call<R: Abort + AllocGlobal + Threads + Wait + Sync>(
     rt: &R,
-    list: &[&str],
+    line: &[u8],
     input: &mut MemSource,
     output: &mut MemSink,
 ) -> Result<(u8, Option<Ran>), Fail> {
     let alloc = rt.alloc();
-    let list = words(alloc, list)?;
+    let list = words(alloc, line)?;
     let mut ran = None;
     let status = targon(rt, alloc, &list, input, output, &OpenGate, &mut ran);
     Ok((status, ran))
@@ -50,14 +53,14 @@ pub fn call<R: Abort + AllocGlobal + Threads + Wait + Sync>(
 /// What the program answers to these words and this input: the status, where it wrote just this.
 pub fn answers<R: Abort + AllocGlobal + Threads + Wait + Sync>(
     rt: &R,
-    list: &[&str],
+    line: &[u8],
     text: &[u8],
     written: &str,
 ) -> Result<u8, Fail> {
     let alloc = rt.alloc();
     let mut input = source(alloc, text)?;
     let mut output = sink(alloc)?;
-    let (status, _ran) = call(rt, list, &mut input, &mut output)?;
+    let (status, _ran) = call(rt, line, &mut input, &mut output)?;
     assert_eq!(rt; output.bytes.as_slice(), written.as_bytes());
     Ok(status)
 }

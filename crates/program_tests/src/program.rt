@@ -21,7 +21,7 @@ fn the_default_run_is_reported(rt: HostRuntime) -> Result<(), Fail> {
         (SPIN, "tty 0 0\n\npid 16 limit\n"),
         (PAIR, "tty 2 0\n\ntty 3 0\n\npid 16 trap 2\npid 17 trap 2\n"),
     ] {
-        assert_eq!(rt; answers(&rt, &["plain"], text.as_bytes(), report)?, 0);
+        assert_eq!(rt; answers(&rt, b"plain", text.as_bytes(), report)?, 0);
     }
     Ok(())
 }
@@ -29,10 +29,10 @@ fn the_default_run_is_reported(rt: HostRuntime) -> Result<(), Fail> {
 #[test]
 fn a_text_is_printed_in_canonical_form(rt: HostRuntime) -> Result<(), Fail> {
     for (text, printed) in [(HI, HI), (COMMENTED, HI), (PAIR, PAIR), (LINKED, LINKED)] {
-        assert_eq!(rt; answers(&rt, &["check"], text.as_bytes(), printed)?, 0);
+        assert_eq!(rt; answers(&rt, b"check", text.as_bytes(), printed)?, 0);
     }
-    assert_eq!(rt; answers(&rt, &["asm"], HI_PROGRAM.as_bytes(), HI_WORDS)?, 0);
-    assert_eq!(rt; answers(&rt, &["asm"], b"", "")?, 0);
+    assert_eq!(rt; answers(&rt, b"asm", HI_PROGRAM.as_bytes(), HI_WORDS)?, 0);
+    assert_eq!(rt; answers(&rt, b"asm", b"", "")?, 0);
     Ok(())
 }
 
@@ -43,11 +43,11 @@ fn a_refusal_names_the_line_and_the_rule(rt: HostRuntime) -> Result<(), Fail> {
         (CUT, "t32: system line 6 rule 10\n"),
         ("", "t32: system line 1 rule 10\n"),
     ] {
-        assert_eq!(rt; answers(&rt, &["plain"], text.as_bytes(), line)?, 2);
-        assert_eq!(rt; answers(&rt, &["check"], text.as_bytes(), line)?, 2);
+        assert_eq!(rt; answers(&rt, b"plain", text.as_bytes(), line)?, 2);
+        assert_eq!(rt; answers(&rt, b"check", text.as_bytes(), line)?, 2);
     }
     let line = "t32: asm line 1 rule 2\n";
-    assert_eq!(rt; answers(&rt, &["asm"], b"addd a0, a0, a0", line)?, 2);
+    assert_eq!(rt; answers(&rt, b"asm", b"addd a0, a0, a0", line)?, 2);
     Ok(())
 }
 
@@ -70,7 +70,7 @@ fn a_channel_carries_letters_between_two_roots(rt: HostRuntime) -> Result<(), Fa
         (LINKED, "", 0, "tty 0 0\n\npid 16 trap 2\npid 32 trap 2\n"),
     ] {
         let text = format!(in alloc; "{system}{schedule}")?;
-        assert_eq!(rt; answers(&rt, &["plain"], text.as_bytes(), written)?, status);
+        assert_eq!(rt; answers(&rt, b"plain", text.as_bytes(), written)?, status);
     }
     Ok(())
 }
@@ -88,9 +88,9 @@ fn a_schedule_behind_the_text_is_followed(rt: HostRuntime) -> Result<(), Fail> {
         ("schedule\n", 3, "t32: schedule item 0\n"),
     ] {
         let text = format!(in alloc; "{HI}{schedule}")?;
-        assert_eq!(rt; answers(&rt, &["plain"], text.as_bytes(), written)?, status);
+        assert_eq!(rt; answers(&rt, b"plain", text.as_bytes(), written)?, status);
         let line = "t32: system line 10 rule 2\n";
-        assert_eq!(rt; answers(&rt, &["check"], text.as_bytes(), line)?, 2);
+        assert_eq!(rt; answers(&rt, b"check", text.as_bytes(), line)?, 2);
     }
     Ok(())
 }
@@ -98,11 +98,11 @@ fn a_schedule_behind_the_text_is_followed(rt: HostRuntime) -> Result<(), Fail> {
 #[test]
 fn a_long_input_is_refused(rt: HostRuntime) -> Result<(), Fail> {
     let alloc = rt.alloc();
-    for word in ["plain", "check", "asm"] {
+    for word in [b"plain".as_slice(), b"check", b"asm"] {
         let text = vec![in alloc; 32u8; LARGE]?;
         let mut input = MemSource::new(Bytes::from_vec(text), List::new(alloc), 1000000);
         let mut output = sink(alloc)?;
-        let (status, ran) = call(&rt, &[word], &mut input, &mut output)?;
+        let (status, ran) = call(&rt, word, &mut input, &mut output)?;
         assert!(rt; ran.is_none());
         assert_eq!(rt;
             output.bytes.as_slice(),
@@ -113,24 +113,41 @@ fn a_long_input_is_refused(rt: HostRuntime) -> Result<(), Fail> {
     Ok(())
 }
 
+// The words are read as `command_words` reads them; here are those that show it, with the status.
+static WORDS: [(&[u8], u8); 20] = [
+    (b"", 1),
+    (b"help", 1),
+    (b"Plain", 1),
+    (b"plain --", 1),
+    (b"check hi", 1),
+    (b"sim --pick=0", 0),
+    (b"sim --pick 0000000007 --log", 0),
+    (b"sim --", 0),
+    (b"run --log --", 0),
+    (b"sim --log --log", 1),
+    (b"sim --pick=1 --pick 1", 1),
+    (b"sim --pick -1", 1),
+    (b"sim -", 1),
+    (b"sim -- --log", 1),
+    (b"sim \xff", 1),
+    (b"run --pick 1", 1),
+    (b"sim crash:0@bus:0", 1),
+    (b"sim -- crash:0@bus:0", 1),
+    (b"run crash:0@bus:0 --", 1),
+    (b"load 7", 1),
+];
+
 #[test]
-fn other_words_are_usage(rt: HostRuntime) -> Result<(), Fail> {
+fn words_are_a_command_or_usage(rt: HostRuntime) -> Result<(), Fail> {
     let alloc = rt.alloc();
-    let lists: [&[&str]; 5] = [
-        &["simulate"],
-        &[],
-        &["plain", "plain"],
-        &["Plain"],
-        &["check", "hi"],
-    ];
-    for list in lists {
+    for (line, expected) in WORDS {
         let mut input = source(alloc, HI.as_bytes())?;
         let mut output = sink(alloc)?;
-        let (status, ran) = call(&rt, list, &mut input, &mut output)?;
-        assert!(rt; ran.is_none());
-        assert_eq!(rt; output.bytes.as_slice(), b"t32: usage\n".as_slice());
-        assert_eq!(rt; status, 1);
-        assert_eq!(rt; input.calls, 0);
+        let (status, ran) = call(&rt, line, &mut input, &mut output)?;
+        let usage = output.bytes.as_slice() == b"t32: usage\n".as_slice();
+        assert!(&rt; status == expected, "at {line:?}");
+        assert!(&rt; usage == (expected == 1) && usage == ran.is_none());
+        assert!(&rt; usage == (input.calls == 0));
     }
     Ok(())
 }
@@ -142,7 +159,7 @@ fn a_fault_of_the_outside_is_told(rt: HostRuntime) -> Result<(), Fail> {
     let mut input = source(alloc, HI.as_bytes())?;
     let failing = List::from_vec(vec![in alloc; 1u64]?);
     let mut output = MemSink::new(alloc, 1000, failing, 5)?;
-    let (status, ran) = call(&rt, &["plain"], &mut input, &mut output)?;
+    let (status, ran) = call(&rt, b"plain", &mut input, &mut output)?;
     assert!(rt; ran.is_none());
     assert_eq!(rt; output.bytes.as_slice(), b"tty 0".as_slice());
     assert_eq!(rt; status, 5);
@@ -153,7 +170,7 @@ fn a_fault_of_the_outside_is_told(rt: HostRuntime) -> Result<(), Fail> {
         let failing = List::from_vec(vec![in alloc; failing_call]?);
         let mut input = MemSource::new(Bytes::copy_of(alloc, HI.as_bytes())?, failing, 100);
         let mut output = sink(alloc)?;
-        let (status, ran) = call(&rt, &["plain"], &mut input, &mut output)?;
+        let (status, ran) = call(&rt, b"plain", &mut input, &mut output)?;
         assert!(rt; ran.is_none());
         assert_eq!(rt; output.bytes.as_slice(), b"t32: read fault\n".as_slice());
         assert_eq!(rt; status, 4);

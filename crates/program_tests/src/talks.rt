@@ -73,14 +73,14 @@ fn processes_talk_and_share_a_home(rt: HostRuntime) -> Result<(), Fail> {
             "{ends}crash none\nbus {entries} syncs 0 withheld 0\n{items}"
         )?;
         assert_eq!(rt;
-            answers(&rt, &["sim"], system.as_bytes(), report.as_str())?,
+            answers(&rt, b"sim", system.as_bytes(), report.as_str())?,
             0
         );
 
         // The kernel without failures makes the same of the schedule, and also of its own order.
         let pasted = format!(in alloc; "{system}{items}")?;
-        assert_eq!(rt; answers(&rt, &["plain"], pasted.as_bytes(), ends)?, 0);
-        assert_eq!(rt; answers(&rt, &["plain"], system.as_bytes(), ends)?, 0);
+        assert_eq!(rt; answers(&rt, b"plain", pasted.as_bytes(), ends)?, 0);
+        assert_eq!(rt; answers(&rt, b"plain", system.as_bytes(), ends)?, 0);
     }
     Ok(())
 }

@@ -1,13 +1,13 @@
 -- The cause of each status.
 use Rattle.std.proofs.Common.{◌≡◌, ℕ, ◌≤◌, Bool, true, List, ◌⊎◌, inl, inr, length, refl, sym, ap, ◌∙◌, subst, arith, Option, Some, None, length-append}
 use Rattle.std.specs.Prelude.{is_some}
-use Rattle.std.specs.Io.KnownBytes.{Consumes, Appends}
+use Rattle.std.specs.Io.KnownBytes.{Consumes, Appends, Keeps}
 use Rattle.t32_base.specs.Streams.{Rose}
-use Rattle.targon_cli.specs.declared.command.Command.{Command}
+use Rattle.command_words.specs.declared.command.Command.{Command}
 use Rattle.cluster_run.specs.declared.life.Ran.{Ran}
-use Rattle.targon_cli.specs.Command.{command_of, makes_run}
+use Rattle.targon_cli.specs.Built.{built_command_of, makes_run}
 use Rattle.targon_cli.specs.Reply.{Makes}
-use Rattle.targon_cli.specs.Answer.{In, Out, Says, Wrote, WriteFault, IsAll, ReadsTooMany, Answers, Replied, TooLong, ReadFault, OutOfMemory, IsReplied, Completes, IsCutOff, AppendsPart, IsStatus, input_limit, usage_line, Answered}
+use Rattle.targon_cli.specs.Answer.{In, Out, Says, Wrote, WriteFault, IsAll, ReadsTooMany, Answers, Replied, TooLong, ReadFault, OutOfMemory, IsReplied, Completes, IsCutOff, AppendsPart, IsStatus, input_limit, usage_line, AnswersFound, SaysUsage, Answered}
 use Rattle.targon_cli.proofs.Replies.{IsReply, status_made, run_made, no_run_made}
 
 -- the status of what is said, and its cause
@@ -27,7 +27,7 @@ status_5_said wanted text status old new n (WriteFault e r a) f = r
 -- ---- what is answered, by its status
 
 -- a status of a reply: the whole text was written under it
-replied : (words : List (List ℕ)) (command : Command) (status : ℕ) (old new : In) (ended : Bool) (before after : Out) (ran : Option Ran) → command_of words ≡ Some command
+replied : (words : List (List ℕ)) (command : Command) (status : ℕ) (old new : In) (ended : Bool) (before after : Out) (ran : Option Ran) → built_command_of words ≡ Some command
     → (4 ≡ status → ⊥) → (5 ≡ status → ⊥) → (6 ≡ status → ⊥) → (8 ≡ status → ⊥)
     → Answers command status old new ended before after ran → IsReplied words status old new ended before after ran
 replied words command status old new ended before after ran w n4 n5 n6 n8 (Replied bytes wanted text r m says) =
@@ -114,7 +114,7 @@ run_reply command bytes wanted text ran m h (inl z) = subst (λ k. Makes command
 run_reply command bytes wanted text ran m h (inr (inl z)) = none_there ran (no_run_made command bytes wanted text ran m (λ e. absurd (omega arith))) h
 run_reply command bytes wanted text ran m h (inr (inr z)) = none_there ran (no_run_made command bytes wanted text ran m (λ e. absurd (omega arith))) h
 
-cut_off : (words : List (List ℕ)) (command : Command) (status : ℕ) (old new : In) (ended : Bool) (before after : Out) (ran : Option Ran) → command_of words ≡ Some command
+cut_off : (words : List (List ℕ)) (command : Command) (status : ℕ) (old new : In) (ended : Bool) (before after : Out) (ran : Option Ran) → built_command_of words ≡ Some command
     → Answers command status old new ended before after ran → status ≡ 5 → is_some ran ≡ true → IsCutOff words old new ended before after ran
 cut_off words command status old new ended before after ran w (Replied bytes wanted text r m says) e h = record {
   command = command;
@@ -129,7 +129,7 @@ cut_off words command status old new ended before after ran w (TooLong bytes r s
 cut_off words command status old new ended before after ran w (ReadFault r says none) e h = none_there ran none h
 cut_off words command status old new ended before after ran w (OutOfMemory z keeps none) e h = none_there ran none h
 
-run_there : (words : List (List ℕ)) (old new : In) (ended : Bool) (before after : Out) (ran : Option Ran) → IsReplied words 0 old new ended before after ran → is_some ran ≡ makes_run (command_of words)
+run_there : (words : List (List ℕ)) (old new : In) (ended : Bool) (before after : Out) (ran : Option Ran) → IsReplied words 0 old new ended before after ran → is_some ran ≡ makes_run (built_command_of words)
 run_there words old new ended before after ran replied = rw replied.words_are (run_made replied.command replied.bytes replied.text ran replied.made)
 
 -- ---- where nothing fails
@@ -160,49 +160,76 @@ complete command status old new ended before after ran (OutOfMemory z keeps none
 
 -- ---- by the words
 
+-- what is answered to words that are no command
+not_usage : {X : Type 0} (status k : ℕ) (before after : Out) → (1 ≡ k → ⊥) → (5 ≡ k → ⊥) → (6 ≡ k → ⊥) → SaysUsage status before after → status ≡ k → X
+not_usage status k before after n1 n5 n6 (inl says) e = not_said 1 usage_line status k before after n1 n5 says e
+not_usage status k before after n1 n5 n6 (inr h) e = absurd (n6 (sym h.0 ∙ e))
+
+status_5_usage : (status : ℕ) (before after : Out) → SaysUsage status before after → status ≡ 5 → Rose before.faults after.faults
+status_5_usage status before after (inl says) e = status_5_said 1 usage_line status before after (λ e. omega arith) says e
+status_5_usage status before after (inr h) e = absurd (omega (arith, h.0))
+
+is_status_usage : (status : ℕ) (before after : Out) → SaysUsage status before after → IsStatus status
+is_status_usage status before after (inl says) = is_status_said 1 usage_line status before after (grind arith) says
+is_status_usage status before after (inr h) = subst IsStatus (sym h.0) (grind arith)
+
 -- all of it follows from what is answered by cases
-pub answered : (words : List (List ℕ)) (status : ℕ) (old new : In) (ended : Bool) (before after : Out) (ran : Option Ran)
-    → (command_of words ≡ None → Says 1 usage_line status before after) → (command_of words ≡ None → ran ≡ None)
-    → ((command : Command) → command_of words ≡ Some command → Answers command status old new ended before after ran) → Answered words status old new ended before after ran
+answered : (words : List (List ℕ)) (status : ℕ) (old new : In) (ended : Bool) (before after : Out) (ran : Option Ran)
+    → (built_command_of words ≡ None → SaysUsage status before after) → (built_command_of words ≡ None → ran ≡ None)
+    → ((command : Command) → built_command_of words ≡ Some command → Answers command status old new ended before after ran) → Answered words status old new ended before after ran
 answered words status old new ended before after ran usage unran command = record {
   usage = usage;
   command = command;
-  status_0 = λ e. by_words (λ n. not_said 1 usage_line status 0 before after (λ e. omega arith) (λ e. omega arith) (usage n) e) (λ c w. at_reply e c w);
+  status_0 = λ e. by_words (λ n. no_usage_at 0 (λ e. omega arith) (λ e. omega arith) (λ e. omega arith) n e) (λ c w. at_reply e c w);
   status_1 = λ e. by_words (λ n. n) (λ c w. absurd (status_1 c status old new ended before after ran (command c w) e));
-  status_2 = λ e. by_words (λ n. not_said 1 usage_line status 2 before after (λ e. omega arith) (λ e. omega arith) (usage n) e) (λ c w. at_reply_2 e c w);
-  status_3 = λ e. by_words (λ n. not_said 1 usage_line status 3 before after (λ e. omega arith) (λ e. omega arith) (usage n) e) (λ c w. at_reply_3 e c w);
-  status_4 = λ e. by_words (λ n. not_said 1 usage_line status 4 before after (λ e. omega arith) (λ e. omega arith) (usage n) e) (λ c w. status_4 c status old new ended before after ran (command c w) e);
-  status_5 = λ e. by_words (λ n. status_5_said 1 usage_line status before after (λ e. omega arith) (usage n) e) (λ c w. status_5 c status old new ended before after ran (command c w) e);
-  status_8 = λ e. by_words (λ n. not_said 1 usage_line status 8 before after (λ e. omega arith) (λ e. omega arith) (usage n) e) (λ c w. status_8 c status old new ended before after ran (command c w) e);
-  no_other = by_words (λ n. is_status_said 1 usage_line status before after (grind arith) (usage n)) (λ c w. is_status c status old new ended before after ran (command c w));
+  status_2 = λ e. by_words (λ n. no_usage_at 2 (λ e. omega arith) (λ e. omega arith) (λ e. omega arith) n e) (λ c w. at_reply_2 e c w);
+  status_3 = λ e. by_words (λ n. no_usage_at 3 (λ e. omega arith) (λ e. omega arith) (λ e. omega arith) n e) (λ c w. at_reply_3 e c w);
+  status_4 = λ e. by_words (λ n. no_usage_at 4 (λ e. omega arith) (λ e. omega arith) (λ e. omega arith) n e) (λ c w. status_4 c status old new ended before after ran (command c w) e);
+  status_5 = λ e. by_words (λ n. status_5_usage status before after (usage n) e) (λ c w. status_5 c status old new ended before after ran (command c w) e);
+  status_8 = λ e. by_words (λ n. no_usage_at 8 (λ e. omega arith) (λ e. omega arith) (λ e. omega arith) n e) (λ c w. status_8 c status old new ended before after ran (command c w) e);
+  no_other = by_words (λ n. is_status_usage status before after (usage n)) (λ c w. is_status c status old new ended before after ran (command c w));
   complete = λ c w i o bytes e le. complete c status old new ended before after ran (command c w) i o bytes e le;
-  ran_0 = λ e. run_at status e (λ f. by_words (λ n. not_said 1 usage_line status 0 before after (λ e. omega arith) (λ e. omega arith) (usage n) f) (λ c w. at_reply f c w));
+  ran_0 = λ e. run_at status e (λ f. by_words (λ n. no_usage_at 0 (λ e. omega arith) (λ e. omega arith) (λ e. omega arith) n f) (λ c w. at_reply f c w));
   ran_5 = λ e h. by_words (λ n. none_there ran (unran n) h) (λ c w. cut_off words c status old new ended before after ran w (command c w) e h);
   no_run = λ n0 n5. by_words (λ n. unran n) (λ c w. no_run c status old new ended before after ran (command c w) n0 n5);
 }
   where
-    by_option : {X : Type 0} (found : Option Command) → found ≡ command_of words → (command_of words ≡ None → X) → ((c : Command) → command_of words ≡ Some c → X) → X
+    by_option : {X : Type 0} (found : Option Command) → found ≡ built_command_of words → (built_command_of words ≡ None → X) → ((c : Command) → built_command_of words ≡ Some c → X) → X
     by_option None e f g = f (sym e)
     by_option (Some c) e f g = g c (sym e)
 
-    by_words : {X : Type 0} → (command_of words ≡ None → X) → ((c : Command) → command_of words ≡ Some c → X) → X
-    by_words f g = by_option (command_of words) refl f g
+    by_words : {X : Type 0} → (built_command_of words ≡ None → X) → ((c : Command) → built_command_of words ≡ Some c → X) → X
+    by_words f g = by_option (built_command_of words) refl f g
 
-    at_reply : status ≡ 0 → (c : Command) → command_of words ≡ Some c → IsReplied words status old new ended before after ran
+    no_usage_at : {X : Type 0} (k : ℕ) → (1 ≡ k → ⊥) → (5 ≡ k → ⊥) → (6 ≡ k → ⊥) → built_command_of words ≡ None → status ≡ k → X
+    no_usage_at k n1 n5 n6 n e = not_usage status k before after n1 n5 n6 (usage n) e
+
+    at_reply : status ≡ 0 → (c : Command) → built_command_of words ≡ Some c → IsReplied words status old new ended before after ran
     at_reply e c w = replied words c status old new ended before after ran w (λ f. omega arith) (λ f. omega arith) (λ f. omega arith) (λ f. omega arith) (command c w)
 
-    at_reply_2 : status ≡ 2 → (c : Command) → command_of words ≡ Some c → IsReplied words status old new ended before after ran
+    at_reply_2 : status ≡ 2 → (c : Command) → built_command_of words ≡ Some c → IsReplied words status old new ended before after ran
     at_reply_2 e c w = replied words c status old new ended before after ran w (λ f. omega arith) (λ f. omega arith) (λ f. omega arith) (λ f. omega arith) (command c w)
 
-    at_reply_3 : status ≡ 3 → (c : Command) → command_of words ≡ Some c → IsReplied words status old new ended before after ran
+    at_reply_3 : status ≡ 3 → (c : Command) → built_command_of words ≡ Some c → IsReplied words status old new ended before after ran
     at_reply_3 e c w = replied words c status old new ended before after ran w (λ f. omega arith) (λ f. omega arith) (λ f. omega arith) (λ f. omega arith) (command c w)
 
-    run_at : (k : ℕ) → k ≡ 0 → (k ≡ 0 → IsReplied words k old new ended before after ran) → is_some ran ≡ makes_run (command_of words)
+    run_at : (k : ℕ) → k ≡ 0 → (k ≡ 0 → IsReplied words k old new ended before after ran) → is_some ran ≡ makes_run (built_command_of words)
     run_at k e at = run_there words old new ended before after ran (subst (λ k. IsReplied words k old new ended before after ran) e (at e))
 
--- and from what one command answers, where the words are that one
-pub answered_as : (words : List (List ℕ)) (command : Command) (status : ℕ) (old new : In) (ended : Bool) (before after : Out) (ran : Option Ran) → command_of words ≡ Some command
-    → Answers command status old new ended before after ran → Answered words status old new ended before after ran
-answered_as words command status old new ended before after ran is answers =
+-- and from what is answered to the command that the words are, or to no command
+pub answered_found : (words : List (List ℕ)) (found : Option Command) (status : ℕ) (old new : In) (ended : Bool) (before after : Out) (ran : Option Ran) → found ≡ built_command_of words
+    → AnswersFound found status old new ended before after ran → Answered words status old new ended before after ran
+answered_found words None status old new ended before after ran is found =
+    answered words status old new ended before after ran (λ none. inl found.0) (λ none. found.1) (λ other w. cc)
+answered_found words (Some command) status old new ended before after ran is answers =
     answered words status old new ended before after ran (λ none. cc) (λ none. cc)
     (λ other w. let same : command ≡ other = cc in subst (λ (c : Command). Answers c status old new ended before after ran) same answers)
+
+-- and from want of memory before anything was read
+pub answered_6 : (words : List (List ℕ)) (old new : In) (ended : Bool) (before after : Out) → Keeps before.holds after.holds → Answered words 6 old new ended before after None
+answered_6 words old new ended before after kept = answered words 6 old new ended before after None (λ none. inr (refl, kept)) (λ none. refl) (λ c w. OutOfMemory refl kept refl)
+
+-- two names for one command
+pub answers_same : (command other : Command) (status : ℕ) (old new : In) (ended : Bool) (before after : Out) (ran : Option Ran) → command ≡ other
+    → Answers command status old new ended before after ran → Answers other status old new ended before after ran
+answers_same command other status old new ended before after ran same answers = subst (λ (c : Command). Answers c status old new ended before after ran) same answers

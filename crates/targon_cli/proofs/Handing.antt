@@ -1,9 +1,9 @@
 -- What a command answers, by what was made of its input.
-use Rattle.std.proofs.Common.{◌≡◌, ℕ, Bool, List, Option, Some, None, sym, subst}
+use Rattle.std.proofs.Common.{◌≡◌, ℕ, Bool, List, Option, sym, subst}
 use Rattle.std.specs.Prelude.{Result, Ok, Err, IfOk}
 use Rattle.t32_base.specs.declared.streams.NoMemory.{NoMemory}
 use Rattle.cluster_run.specs.declared.life.Ran.{Ran}
-use Rattle.targon_cli.specs.declared.command.Command.{Command}
+use Rattle.command_words.specs.declared.command.Command.{Command}
 use Rattle.targon_cli.specs.declared.reply.Reply.{Reply}
 use Rattle.targon_cli.specs.Reply.{Makes}
 use Rattle.targon_cli.specs.Answer.{In, Out, ReadsAll, HandsOut, Answers, Replied, OutOfMemory}

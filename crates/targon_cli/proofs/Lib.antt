@@ -1,7 +1,8 @@
+mod BuiltWords
 mod Causes
+mod Endings
 mod Handing
 mod Parts
-mod Picks
 mod Replies
 mod Streams
 mod Tales

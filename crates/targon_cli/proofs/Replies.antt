@@ -1,15 +1,16 @@
 -- The replies of commands: their statuses, and which of them have a run.
-use Rattle.std.proofs.Common.{◌≡◌, ℕ, Bool, true, false, List, [], ◌∷◌, ◌⊎◌, inl, inr, refl, arith, Option, Some, None}
+use Rattle.std.proofs.Common.{◌≡◌, ℕ, Bool, true, List, [], ◌∷◌, ◌⊎◌, inl, inr, refl, arith, Option, Some, None}
 use Rattle.std.specs.Prelude.{Ok, Err, Result, is_some}
-use Rattle.targon_cli.specs.declared.command.Command.{Command}
-use Rattle.targon_cli.specs.declared.command.Command.TheVariants as commands
+use Rattle.command_words.specs.declared.command.Command.{Command}
+use Rattle.command_words.specs.declared.command.Command.TheVariants as commands
 use Rattle.sys_text.specs.Reading.{reading_of as system_reading, system_of_lines}
 use Rattle.sys_text.specs.declared.system.System.{System}
+use Rattle.cert_sched.specs.declared.script.ScriptWord.{ScriptWord}
 use Rattle.rv_asm.specs.Program.{reading_of as asm_reading}
 use Rattle.plain_kernel.specs.declared.item.Item.{Item}
 use Rattle.text_parts.specs.Lines.{lines_of}
 use Rattle.cluster_run.specs.declared.life.Ran.{Ran}
-use Rattle.targon_cli.specs.Command.{makes_run}
+use Rattle.targon_cli.specs.Built.{makes_run}
 use Rattle.targon_cli.specs.Reply.{Makes, MakesPlain, MakesCheck, MakesAsm, MakesRun, TellsOfRun, RunsBy, FollowsSection, Follows, Applied, Refused}
 use Rattle.targon_cli.specs.Sections.{system_part, section_part, items_of_lines}
 
@@ -43,51 +44,54 @@ status_of_asm : (reading : _) (wanted : ℕ) (text : List ℕ) → MakesAsm read
 status_of_asm (Ok words) wanted text m = inl m.0
 status_of_asm (Err refused) wanted text m = inr (inl m.0)
 
-status_of_tale : (system : System) (log : Bool) (wanted : ℕ) (text : List ℕ) (ran : Option Ran) → TellsOfRun system [] log wanted text ran → IsReply wanted
-status_of_tale system log wanted text None m = absurd m
-status_of_tale system log wanted text (Some r) m = inl m.0
+status_of_tale : (system : System) (script : List ScriptWord) (log : Bool) (wanted : ℕ) (text : List ℕ) (ran : Option Ran) → TellsOfRun system script log wanted text ran → IsReply wanted
+status_of_tale system script log wanted text None m = absurd m
+status_of_tale system script log wanted text (Some r) m = inl m.0
 
-status_of_ran : (reading : _) (log : Bool) (wanted : ℕ) (text : List ℕ) (ran : Option Ran) → MakesRun reading log wanted text ran → IsReply wanted
-status_of_ran (Ok system) log wanted text ran m = status_of_tale system log wanted text ran m
-status_of_ran (Err refused) log wanted text ran m = inr (inl m.0)
+status_of_ran : (reading : _) (script : List ScriptWord) (log : Bool) (wanted : ℕ) (text : List ℕ) (ran : Option Ran) → MakesRun reading script log wanted text ran → IsReply wanted
+status_of_ran (Ok system) script log wanted text ran m = status_of_tale system script log wanted text ran m
+status_of_ran (Err refused) script log wanted text ran m = inr (inl m.0)
 
 pub status_made : (command : Command) (bytes : List ℕ) (wanted : ℕ) (text : List ℕ) (ran : Option Ran) → Makes command bytes wanted text ran → IsReply wanted
 status_made commands.Plain bytes wanted text ran m = status_of_plain (system_of_lines (system_part (lines_of bytes))) (section_part (lines_of bytes)) wanted text m.0
 status_made commands.Check bytes wanted text ran m = status_of_check (system_reading bytes) wanted text m.0
 status_made commands.Asm bytes wanted text ran m = status_of_asm (asm_reading bytes) wanted text m.0
-status_made (commands.Sim pick log) bytes wanted text ran m = status_of_ran (system_reading bytes) log wanted text ran m
-status_made (commands.Run log) bytes wanted text ran m = status_of_ran (system_reading bytes) log wanted text ran m
+status_made (commands.Sim pick log script) bytes wanted text ran m = status_of_ran (system_reading bytes) script log wanted text ran m
+status_made (commands.Run log script) bytes wanted text ran m = status_of_ran (system_reading bytes) script log wanted text ran m
+status_made (commands.Load size only script) bytes wanted text ran m = absurd m
 
 -- ---- the run
 
-tale_has_run : (system : System) (log : Bool) (text : List ℕ) (ran : Option Ran) → TellsOfRun system [] log 0 text ran → is_some ran ≡ true
-tale_has_run system log text None m = absurd m
-tale_has_run system log text (Some r) m = refl
+tale_has_run : (system : System) (script : List ScriptWord) (log : Bool) (text : List ℕ) (ran : Option Ran) → TellsOfRun system script log 0 text ran → is_some ran ≡ true
+tale_has_run system script log text None m = absurd m
+tale_has_run system script log text (Some r) m = refl
 
-ran_has_run : (reading : _) (log : Bool) (text : List ℕ) (ran : Option Ran) → MakesRun reading log 0 text ran → is_some ran ≡ true
-ran_has_run (Ok system) log text ran m = tale_has_run system log text ran m
-ran_has_run (Err refused) log text ran m = absurd (omega (arith, m.0))
+ran_has_run : (reading : _) (script : List ScriptWord) (log : Bool) (text : List ℕ) (ran : Option Ran) → MakesRun reading script log 0 text ran → is_some ran ≡ true
+ran_has_run (Ok system) script log text ran m = tale_has_run system script log text ran m
+ran_has_run (Err refused) script log text ran m = absurd (omega (arith, m.0))
 
 -- what is done by `sim` or `run` has a run, and by another command none
 pub run_made : (command : Command) (bytes : List ℕ) (text : List ℕ) (ran : Option Ran) → Makes command bytes 0 text ran → is_some ran ≡ makes_run (Some command)
 run_made commands.Plain bytes text ran m = rw m.1 refl
 run_made commands.Check bytes text ran m = rw m.1 refl
 run_made commands.Asm bytes text ran m = rw m.1 refl
-run_made (commands.Sim pick log) bytes text ran m = ran_has_run (system_reading bytes) log text ran m
-run_made (commands.Run log) bytes text ran m = ran_has_run (system_reading bytes) log text ran m
+run_made (commands.Sim pick log script) bytes text ran m = ran_has_run (system_reading bytes) script log text ran m
+run_made (commands.Run log script) bytes text ran m = ran_has_run (system_reading bytes) script log text ran m
+run_made (commands.Load size only script) bytes text ran m = absurd m
 
-no_tale : (system : System) (log : Bool) (wanted : ℕ) (text : List ℕ) (ran : Option Ran) → TellsOfRun system [] log wanted text ran → (wanted ≡ 0 → ⊥) → ran ≡ None
-no_tale system log wanted text None m n = refl
-no_tale system log wanted text (Some r) m n = absurd (n m.0)
+no_tale : (system : System) (script : List ScriptWord) (log : Bool) (wanted : ℕ) (text : List ℕ) (ran : Option Ran) → TellsOfRun system script log wanted text ran → (wanted ≡ 0 → ⊥) → ran ≡ None
+no_tale system script log wanted text None m n = refl
+no_tale system script log wanted text (Some r) m n = absurd (n m.0)
 
-no_ran : (reading : _) (log : Bool) (wanted : ℕ) (text : List ℕ) (ran : Option Ran) → MakesRun reading log wanted text ran → (wanted ≡ 0 → ⊥) → ran ≡ None
-no_ran (Ok system) log wanted text ran m n = no_tale system log wanted text ran m n
-no_ran (Err refused) log wanted text ran m n = m.2
+no_ran : (reading : _) (script : List ScriptWord) (log : Bool) (wanted : ℕ) (text : List ℕ) (ran : Option Ran) → MakesRun reading script log wanted text ran → (wanted ≡ 0 → ⊥) → ran ≡ None
+no_ran (Ok system) script log wanted text ran m n = no_tale system script log wanted text ran m n
+no_ran (Err refused) script log wanted text ran m n = m.2
 
 -- a refusal has no run
 pub no_run_made : (command : Command) (bytes : List ℕ) (wanted : ℕ) (text : List ℕ) (ran : Option Ran) → Makes command bytes wanted text ran → (wanted ≡ 0 → ⊥) → ran ≡ None
 no_run_made commands.Plain bytes wanted text ran m n = m.1
 no_run_made commands.Check bytes wanted text ran m n = m.1
 no_run_made commands.Asm bytes wanted text ran m n = m.1
-no_run_made (commands.Sim pick log) bytes wanted text ran m n = no_ran (system_reading bytes) log wanted text ran m n
-no_run_made (commands.Run log) bytes wanted text ran m n = no_ran (system_reading bytes) log wanted text ran m n
+no_run_made (commands.Sim pick log script) bytes wanted text ran m n = no_ran (system_reading bytes) script log wanted text ran m n
+no_run_made (commands.Run log script) bytes wanted text ran m n = no_ran (system_reading bytes) script log wanted text ran m n
+no_run_made (commands.Load size only script) bytes wanted text ran m n = absurd m

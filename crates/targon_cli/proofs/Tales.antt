@@ -5,6 +5,7 @@ use Rattle.t32_base.specs.declared.streams.NoMemory.{NoMemory}
 use Rattle.std.specs.Arc.{arc_value}
 use Rattle.std.specs.declared.sync.Arc.{Arc}
 use Rattle.sys_text.specs.declared.system.System.{System}
+use Rattle.cert_sched.specs.declared.script.ScriptWord.{ScriptWord}
 use Rattle.sys_text.specs.Reading.{Answer}
 use Rattle.sys_text.specs.Valid.{is_system}
 use Rattle.plain_kernel.specs.Kernel.{Kernel}
@@ -50,18 +51,18 @@ read_valid (Ok system) shared is = subst (λ (s : System). is_system s ≡ true)
 read_valid (Err refused) shared is = absurd is
 
 -- what is told of it is what the text makes
-read_makes : (reading : Answer) (shared : Arc System Global) (log : Bool) (status : ℕ) (text : List ℕ) (ran : Option Ran) → IsRead reading (AsSystem shared)
-    → TellsOfRun (arc_value shared) [] log status text ran → MakesRun reading log status text ran
-read_makes (Ok system) shared log status text ran is told = subst (λ (s : System). TellsOfRun s [] log status text ran) is.0 told
-read_makes (Err refused) shared log status text ran is told = absurd is
+read_makes : (reading : Answer) (shared : Arc System Global) (script : List ScriptWord) (log : Bool) (status : ℕ) (text : List ℕ) (ran : Option Ran) → IsRead reading (AsSystem shared)
+    → TellsOfRun (arc_value shared) script log status text ran → MakesRun reading script log status text ran
+read_makes (Ok system) shared script log status text ran is told = subst (λ (s : System). TellsOfRun s script log status text ran) is.0 told
+read_makes (Err refused) shared script log status text ran is told = absurd is
 
 -- also where nothing could be told
-pub told_makes : (reading : Answer) (shared : Arc System Global) (log : Bool) (told : Result (Reply × Option Ran) NoMemory) → IsRead reading (AsSystem shared)
-    → IfOk told (λ (r : Reply × Option Ran). TellsOfRun (arc_value shared) [] log (r.0).status (r.0).text r.1) → IfOk told (λ (r : Reply × Option Ran). MakesRun reading log (r.0).status (r.0).text r.1)
-told_makes reading shared log (Ok r) is tells = read_makes reading shared log (r.0).status (r.0).text r.1 is tells
-told_makes reading shared log (Err e) is tells = tt
+pub told_makes : (reading : Answer) (shared : Arc System Global) (script : List ScriptWord) (log : Bool) (told : Result (Reply × Option Ran) NoMemory) → IsRead reading (AsSystem shared)
+    → IfOk told (λ (r : Reply × Option Ran). TellsOfRun (arc_value shared) script log (r.0).status (r.0).text r.1) → IfOk told (λ (r : Reply × Option Ran). MakesRun reading script log (r.0).status (r.0).text r.1)
+told_makes reading shared script log (Ok r) is tells = read_makes reading shared script log (r.0).status (r.0).text r.1 is tells
+told_makes reading shared script log (Err e) is tells = tt
 
 -- a refusal is what the text makes
-pub refusal_makes : (reading : Answer) (reply : Reply) (log : Bool) → IsRead reading (AsRefused reply) → MakesRun reading log reply.status reply.text None
-refusal_makes (Ok system) reply log is = absurd is
-refusal_makes (Err refused) reply log is = (is.0, is.1, refl)
+pub refusal_makes : (reading : Answer) (reply : Reply) (script : List ScriptWord) (log : Bool) → IsRead reading (AsRefused reply) → MakesRun reading script log reply.status reply.text None
+refusal_makes (Ok system) reply script log is = absurd is
+refusal_makes (Err refused) reply script log is = (is.0, is.1, refl)

@@ -1,6 +1,6 @@
 pub mod Answer
-pub mod Command
+pub mod Built
+pub mod Explained
 pub mod Input
-pub mod Options
 pub mod Reply
 pub mod Sections

@@ -1,9 +1,9 @@
 -- What a command makes of the bytes of its input: the status, the text that is written, and for `sim` and `run` the run that it tells of.
-use Rattle.std.specs.Prelude.{ℕ, ◌≡◌, Bool, true, false, ◌==◌, List, [], ◌∷◌, ◌++◌, length, codes, Option, Some, None, Result, Ok, Err}
+use Rattle.std.specs.Prelude.{ℕ, ◌≡◌, Bool, true, false, List, [], ◌∷◌, ◌++◌, codes, Option, Some, None, Result, Ok, Err}
 use Rattle.std.specs.Fmt.{decimal}
 use Rattle.std.specs.Arc.{arc_value}
-use Rattle.targon_cli.specs.declared.command.Command.{Command}
-use Rattle.targon_cli.specs.declared.command.Command.TheVariants as commands
+use Rattle.command_words.specs.declared.command.Command.{Command}
+use Rattle.command_words.specs.declared.command.Command.TheVariants as commands
 use Rattle.targon_cli.specs.declared.runs.Read.{Read}
 use Rattle.targon_cli.specs.declared.runs.Read.TheVariants.{System as AsSystem, Refused as AsRefused}
 use Rattle.sys_text.specs.declared.system.System.{System}
@@ -95,17 +95,18 @@ IsRead (Ok system) (AsRefused reply) = ⊥
 IsRead (Err refused) (AsSystem shared) = ⊥
 IsRead (Err refused) (AsRefused reply) = (reply.status ≡ 2) × (reply.text ≡ system_line refused.0 (system_rule refused.1))
 
--- each system is run and told of, on one thread or on many; no word names a loss yet, so the script is empty
-abbrev pub MakesRun : Answer → (log : Bool) → (status : ℕ) → (text : List ℕ) → Option Ran → Type 0
-MakesRun (Ok system) log status text ran = TellsOfRun system [] log status text ran
-MakesRun (Err refused) log status text ran = (status ≡ 2) × (text ≡ system_line refused.0 (system_rule refused.1)) × (ran ≡ None)
+-- each system is run and told of, on one thread or on many
+abbrev pub MakesRun : Answer → List ScriptWord → (log : Bool) → (status : ℕ) → (text : List ℕ) → Option Ran → Type 0
+MakesRun (Ok system) script log status text ran = TellsOfRun system script log status text ran
+MakesRun (Err refused) script log status text ran = (status ≡ 2) × (text ≡ system_line refused.0 (system_rule refused.1)) × (ran ≡ None)
 
 -- ---- any command
 
--- only `sim` and `run` make a run
+-- only `sim` and `run` make a run; `load` makes nothing yet
 abbrev pub Makes : Command → (bytes : List ℕ) → (status : ℕ) → (text : List ℕ) → Option Ran → Type 0
 Makes commands.Plain bytes status text ran = MakesPlain (system_of_lines (system_part (lines_of bytes))) (section_part (lines_of bytes)) status text × (ran ≡ None)
 Makes commands.Check bytes status text ran = MakesCheck (system_reading bytes) status text × (ran ≡ None)
 Makes commands.Asm bytes status text ran = MakesAsm (asm_reading bytes) status text × (ran ≡ None)
-Makes (commands.Sim pick log) bytes status text ran = MakesRun (system_reading bytes) log status text ran
-Makes (commands.Run log) bytes status text ran = MakesRun (system_reading bytes) log status text ran
+Makes (commands.Sim pick log script) bytes status text ran = MakesRun (system_reading bytes) script log status text ran
+Makes (commands.Run log script) bytes status text ran = MakesRun (system_reading bytes) script log status text ran
+Makes (commands.Load size only script) bytes status text ran = ⊥

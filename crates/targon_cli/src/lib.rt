@@ -1,9 +1,8 @@
 //! The program: its words, its input and what it answers.
 #![tactic(auto)]
 
-pub mod command;
+pub mod built;
 pub mod input;
-pub mod options;
 pub mod output;
 pub mod reply;
 mod runs;

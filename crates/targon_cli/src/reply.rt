@@ -1,5 +1,5 @@
 //! What a command makes of the bytes of its input.
-ghost use Rattle.std.specs.Prelude.{◌≡◌, IfOk, Some, false, true};
+ghost use Rattle.std.specs.Prelude.{◌≡◌, IfOk, None, Some, false, true};
 ghost use Rattle.plain_kernel.specs.Kernel.{Kernel};
 ghost use Rattle.plain_kernel.specs.Still.{IsDefaultRun};
 ghost use Rattle.report_text.specs.Report.{plain_report as plain_report_of};
@@ -8,16 +8,19 @@ ghost use Rattle.sys_text.specs.Reading.{reading_of as system_reading, system_of
 ghost use Rattle.text_parts.specs.Lines.{lines_of};
 ghost use Rattle.targon_cli.specs.Sections.{section_part, system_part};
 ghost use Rattle.sys_text.specs.Valid.{is_system};
-ghost use Rattle.targon_cli.specs.Command.{has_pick, needs_threads};
+ghost use Rattle.targon_cli.specs.Built.{has_pick, is_built, needs_threads};
+ghost use Rattle.refusal_text.specs.Why.{asm_why as asm_why_of, item_why as item_why_of, system_why as system_why_of};
+ghost use Rattle.targon_cli.specs.Explained.{Explains, ExplainsAsm, ExplainsItems, ExplainsPlain, ExplainsRunBy, ExplainsSystem, SaysSome};
 ghost use Rattle.targon_cli.specs.Reply.{asm_line, Follows, Makes, MakesAsm, MakesCheck, MakesPlain, RunsBy, schedule_line, system_line};
 
-use crate::command::Command;
 use crate::runs::simulate;
 use crate::sections::split_at_section;
 use cert_sched::{ItemsRefused, read_items};
 use cluster_run::life::Ran;
+use command_words::Command;
 use plain_kernel::item::{Item, RunRefused};
 use plain_kernel::plain::{default_run, run};
+use refusal_text::why::{ItemFault, Why, asm_why, item_why, system_why};
 use report_text::plain::plain_report;
 use rv_asm::{AsmRefused, assemble, words_text};
 use std::alloc::Global;
@@ -36,11 +39,12 @@ pub const REFUSED: u8 = 2;
 /// The status where an item of the schedule cannot be read or applied.
 pub const BAD_ITEM: u8 = 3;
 
-/// The status of a command, and the text that is to be written.
+/// The status of a command, the text that is to be written, and why, where the status is not 0.
 #[derive(Drop)]
 pub struct Reply {
     pub status: u8,
     pub text: Text,
+    pub why: Option<Why>,
 }
 
 /// What a command that needs no threads makes of the bytes of its input, and for `sim` the run that the text
@@ -51,26 +55,29 @@ pub fn carry_out(
     bytes: &[u8],
 ) -> Result<(Reply, Option<Ran>), NoMemory>
     requires pick { has_pick command ≡ true }
+    requires built { is_built command ≡ true }
     requires alone { needs_threads (Some command) ≡ false }
-    ensures { IfOk result (λ r. Makes command bytes.now r.0.status r.0.text r.1) }
+    ensures makes { IfOk result (λ r. Makes command bytes.now r.0.status r.0.text r.1) }
+    ensures why { IfOk result (λ r. Explains command bytes.now r.0.status r.0.why) }
 {
     match command {
         Command::Plain => Ok((plain(alloc, bytes)?, None)),
         Command::Check => Ok((check(alloc, bytes)?, None)),
         Command::Asm => Ok((asm(alloc, bytes)?, None)),
-        Command::Sim { pick, log } => simulate(alloc, bytes, pick, log),
-        Command::Run { .. } => unreachable!(),
+        Command::Sim { pick, log, .. } => simulate(alloc, bytes, pick, log),
+        Command::Run { .. } | Command::Load { .. } => unreachable!(),
     }
 }
 
 // Runs a system by the schedule that stands behind it.
 fn plain(alloc: Global, bytes: &[u8]) -> Result<Reply, NoMemory>
-    ensures { IfOk result (λ r. MakesPlain (system_of_lines (system_part (lines_of bytes.now))) (section_part (lines_of bytes.now)) r.status r.text) }
+    ensures makes { IfOk result (λ r. MakesPlain (system_of_lines (system_part (lines_of bytes.now))) (section_part (lines_of bytes.now)) r.status r.text) }
+    ensures why { IfOk result (λ r. ExplainsPlain (system_of_lines (system_part (lines_of bytes.now))) (system_part (lines_of bytes.now)) (section_part (lines_of bytes.now)) r.status r.why) }
 {
     let (text, section) = split_at_section(bytes);
     match read_system(alloc, text) {
         Ok(system) => run_by(alloc, &system, section),
-        Err(SystemRefused::BadLine { line, rule }) => refused_system(alloc, line, rule),
+        Err(SystemRefused::BadLine { line, rule }) => refused_system(alloc, text, line, rule),
         Err(SystemRefused::NoMemory) => Err(NoMemory),
     }
 }
@@ -78,30 +85,44 @@ fn plain(alloc: Global, bytes: &[u8]) -> Result<Reply, NoMemory>
 // Runs a system by a schedule section, or without one by the default schedule.
 fn run_by(alloc: Global, system: &System, section: &[u8]) -> Result<Reply, NoMemory>
     requires { is_system system.now ≡ true }
-    ensures { IfOk result (λ r. RunsBy system.now (lines_of section.now) r.status r.text) }
+    ensures makes { IfOk result (λ r. RunsBy system.now (lines_of section.now) r.status r.text) }
+    ensures why { IfOk result (λ r. ExplainsRunBy system.now (lines_of section.now) r.status r.why) }
 {
     if section.is_empty() {
         let text = report_of(alloc, system)?;
-        return Ok(Reply { status: DONE, text });
+        return Ok(Reply {
+            status: DONE,
+            text,
+            why: None,
+        });
     }
     match read_items(alloc, section) {
-        Ok(items) => Ok(follow(alloc, system, items.as_slice())?),
-        Err(ItemsRefused::BadItem { index }) => Ok(refused_item(alloc, index)?),
+        Ok(items) => Ok(follow(alloc, system, section, items.as_slice())?),
+        Err(ItemsRefused::BadItem { index }) => {
+            Ok(refused_item(alloc, section, index, ItemFault::Unreadable)?)
+        }
         Err(ItemsRefused::NoMemory) => Err(NoMemory),
     }
 }
 
-// Runs a system by the items of a schedule.
-fn follow(alloc: Global, system: &System, items: &[Item]) -> Result<Reply, NoMemory>
+// Runs a system by the items of a schedule section.
+fn follow(alloc: Global, system: &System, section: &[u8], items: &[Item]) -> Result<Reply, NoMemory>
     requires { is_system system.now ≡ true }
-    ensures { IfOk result (λ r. Follows system.now items.now r.status r.text) }
+    ensures makes { IfOk result (λ r. Follows system.now items.now r.status r.text) }
+    ensures why { IfOk result (λ r. ExplainsItems system.now (lines_of section.now) items.now r.status r.why) }
 {
     match run(alloc, system, items) {
         Ok(plain) => {
             let text = plain_report(alloc, &plain)?;
-            Ok(Reply { status: DONE, text })
+            Ok(Reply {
+                status: DONE,
+                text,
+                why: None,
+            })
         }
-        Err(RunRefused::BadItem { index }) => Ok(refused_item(alloc, index)?),
+        Err(RunRefused::BadItem { index }) => {
+            Ok(refused_item(alloc, section, index, ItemFault::Inapplicable)?)
+        }
         Err(RunRefused::NoMemory) => Err(NoMemory),
     }
 }
@@ -117,59 +138,80 @@ fn report_of(alloc: Global, system: &System) -> Result<Text, NoMemory>
 
 // Prints a system in canonical form.
 fn check(alloc: Global, bytes: &[u8]) -> Result<Reply, NoMemory>
-    ensures { IfOk result (λ r. MakesCheck (system_reading bytes.now) r.status r.text) }
+    ensures makes { IfOk result (λ r. MakesCheck (system_reading bytes.now) r.status r.text) }
+    ensures why { IfOk result (λ r. ExplainsSystem (system_reading bytes.now) (lines_of bytes.now) r.status r.why) }
 {
     match read_system(alloc, bytes) {
         Ok(system) => {
             let text = system_text(alloc, &system)?;
-            Ok(Reply { status: DONE, text })
+            Ok(Reply {
+                status: DONE,
+                text,
+                why: None,
+            })
         }
-        Err(SystemRefused::BadLine { line, rule }) => refused_system(alloc, line, rule),
+        Err(SystemRefused::BadLine { line, rule }) => refused_system(alloc, bytes, line, rule),
         Err(SystemRefused::NoMemory) => Err(NoMemory),
     }
 }
 
 // Assembles a text, and prints its words.
 fn asm(alloc: Global, bytes: &[u8]) -> Result<Reply, NoMemory>
-    ensures { IfOk result (λ r. MakesAsm (asm_reading bytes.now) r.status r.text) }
+    ensures makes { IfOk result (λ r. MakesAsm (asm_reading bytes.now) r.status r.text) }
+    ensures why { IfOk result (λ r. ExplainsAsm (asm_reading bytes.now) (lines_of bytes.now) r.status r.why) }
 {
     match assemble(alloc, bytes) {
         Ok(words) => {
             let text = words_text(alloc, words.as_slice())?;
-            Ok(Reply { status: DONE, text })
+            Ok(Reply {
+                status: DONE,
+                text,
+                why: None,
+            })
         }
-        Err(AsmRefused::Line { line, rule }) => refused_asm(alloc, line, rule),
+        Err(AsmRefused::Line { line, rule }) => refused_asm(alloc, bytes, line, rule),
         Err(AsmRefused::NoMemory) => Err(NoMemory),
     }
 }
 
 /// The reply for a text that is no system.
-pub fn refused_system(alloc: Global, line: u64, rule: u8) -> Result<Reply, NoMemory>
-    ensures { IfOk result (λ r. (r.status ≡ 2) × (r.text ≡ system_line line rule)) }
+pub fn refused_system(alloc: Global, text: &[u8], line: u64, rule: u8) -> Result<Reply, NoMemory>
+    ensures makes { IfOk result (λ r. (r.status ≡ 2) × (r.text ≡ system_line line rule)) }
+    ensures why { IfOk result (λ r. (r.status ≡ 2) × SaysSome (system_why_of (lines_of text.now) line rule) r.why) }
 {
-    let text = format!(in alloc; "t32: system line {line} rule {rule}\n")?;
+    let said = format!(in alloc; "t32: system line {line} rule {rule}\n")?;
     Ok(Reply {
         status: REFUSED,
-        text: Bytes::copy_of(alloc, text.as_bytes())?,
+        text: Bytes::copy_of(alloc, said.as_bytes())?,
+        why: Some(system_why(alloc, text, line, rule)),
     })
 }
 
-fn refused_asm(alloc: Global, line: u64, rule: u8) -> Result<Reply, NoMemory>
-    ensures { IfOk result (λ r. (r.status ≡ 2) × (r.text ≡ asm_line line rule)) }
+fn refused_asm(alloc: Global, text: &[u8], line: u64, rule: u8) -> Result<Reply, NoMemory>
+    ensures makes { IfOk result (λ r. (r.status ≡ 2) × (r.text ≡ asm_line line rule)) }
+    ensures why { IfOk result (λ r. (r.status ≡ 2) × SaysSome (asm_why_of (lines_of text.now) line rule) r.why) }
 {
-    let text = format!(in alloc; "t32: asm line {line} rule {rule}\n")?;
+    let said = format!(in alloc; "t32: asm line {line} rule {rule}\n")?;
     Ok(Reply {
         status: REFUSED,
-        text: Bytes::copy_of(alloc, text.as_bytes())?,
+        text: Bytes::copy_of(alloc, said.as_bytes())?,
+        why: Some(asm_why(alloc, text, line, rule)),
     })
 }
 
-fn refused_item(alloc: Global, index: u64) -> Result<Reply, NoMemory>
-    ensures { IfOk result (λ r. (r.status ≡ 3) × (r.text ≡ schedule_line index)) }
+fn refused_item(
+    alloc: Global,
+    section: &[u8],
+    index: u64,
+    fault: ItemFault,
+) -> Result<Reply, NoMemory>
+    ensures makes { IfOk result (λ r. (r.status ≡ 3) × (r.text ≡ schedule_line index)) }
+    ensures why { IfOk result (λ r. (r.status ≡ 3) × SaysSome (item_why_of (lines_of section.now) index fault) r.why) }
 {
-    let text = format!(in alloc; "t32: schedule item {index}\n")?;
+    let said = format!(in alloc; "t32: schedule item {index}\n")?;
     Ok(Reply {
         status: BAD_ITEM,
-        text: Bytes::copy_of(alloc, text.as_bytes())?,
+        text: Bytes::copy_of(alloc, said.as_bytes())?,
+        why: Some(item_why(alloc, section, index, fault)),
     })
 }

@@ -1,11 +1,13 @@
 //! What `sim` and `run` make of the bytes of their input: a run of clusters, and what is written of it.
-ghost use Rattle.std.specs.Prelude.{◌≡◌, ◌<◌, ◌^◌, [], IfOk, true};
+ghost use Rattle.std.specs.Prelude.{◌≡◌, ◌<◌, ◌^◌, [], IfOk, None, true};
 ghost use Rattle.plain_kernel.specs.Apply.{plain_run};
 ghost use Rattle.plain_kernel.specs.Kernel.{Kernel};
 ghost use Rattle.report_text.specs.Good.{IsGoodBuilt};
 ghost use Rattle.sys_text.specs.Reading.{reading_of as system_reading};
 ghost use Rattle.sys_text.specs.Valid.{is_system};
 ghost use Rattle.cluster_run.specs.Completed.{IsCompleted};
+ghost use Rattle.text_parts.specs.Lines.{lines_of};
+ghost use Rattle.targon_cli.specs.Explained.{ExplainsRead, ExplainsSystem};
 ghost use Rattle.targon_cli.specs.Reply.{IsRead, MakesRun, run_text as run_text_of, TellsOfRun};
 
 use crate::reply::{DONE, Reply, refused_system};
@@ -34,7 +36,8 @@ pub fn simulate(
     log: bool,
 ) -> Result<(Reply, Option<Ran>), NoMemory>
     requires { pick < 2 ^ 31 }
-    ensures { IfOk result (λ r. MakesRun (system_reading bytes.now) log r.0.status r.0.text r.1) }
+    ensures makes { IfOk result (λ r. MakesRun (system_reading bytes.now) [] log r.0.status r.0.text r.1) }
+    ensures why { IfOk result (λ r. ExplainsSystem (system_reading bytes.now) (lines_of bytes.now) r.0.status r.0.why) }
 {
     match system_in(alloc, bytes)? {
         Read::System(system) => {
@@ -54,7 +57,8 @@ pub fn run_threads<R: Threads + Wait + Sync, G: Gate + Sync>(
     log: bool,
     gate: &G,
 ) -> Result<(Reply, Option<Ran>), NoMemory>
-    ensures { IfOk result (λ r. MakesRun (system_reading bytes.now) log r.0.status r.0.text r.1) }
+    ensures makes { IfOk result (λ r. MakesRun (system_reading bytes.now) [] log r.0.status r.0.text r.1) }
+    ensures why { IfOk result (λ r. ExplainsSystem (system_reading bytes.now) (lines_of bytes.now) r.0.status r.0.why) }
 {
     match system_in(alloc, bytes)? {
         Read::System(system) => {
@@ -74,12 +78,13 @@ pub enum Read {
 
 // Reads the system of a text.
 fn system_in(alloc: Global, bytes: &[u8]) -> Result<Read, NoMemory>
-    ensures { IfOk result (IsRead (system_reading bytes.now)) }
+    ensures read { IfOk result (IsRead (system_reading bytes.now)) }
+    ensures why { IfOk result (ExplainsRead (system_reading bytes.now) (lines_of bytes.now)) }
 {
     match read_system(alloc, bytes) {
         Ok(system) => Ok(Read::System(Arc::new(alloc, system)?)),
         Err(SystemRefused::BadLine { line, rule }) => {
-            Ok(Read::Refused(refused_system(alloc, line, rule)?))
+            Ok(Read::Refused(refused_system(alloc, bytes, line, rule)?))
         }
         Err(SystemRefused::NoMemory) => Err(NoMemory),
     }
@@ -94,10 +99,18 @@ fn tell(
 ) -> Result<(Reply, Option<Ran>), NoMemory>
     requires valid { is_system system.now ≡ true }
     requires completed { IsCompleted system.now [] ran }
-    ensures { IfOk result (λ r. TellsOfRun system.now [] log r.0.status r.0.text r.1) }
+    ensures told { IfOk result (λ r. TellsOfRun system.now [] log r.0.status r.0.text r.1) }
+    ensures why { IfOk result (λ r. (r.0.status ≡ 0) × (r.0.why ≡ None)) }
 {
     let text = run_text(alloc, system, &ran.run, log)?;
-    Ok((Reply { status: DONE, text }, Some(ran)))
+    Ok((
+        Reply {
+            status: DONE,
+            text,
+            why: None,
+        },
+        Some(ran),
+    ))
 }
 
 // What is written of a run: its schedule is run once more for the kernel that it leads to.

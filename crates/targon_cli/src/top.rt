@@ -1,15 +1,20 @@
 //! The top call: what the program does with its words, its input and its output.
-ghost use Rattle.std.specs.Prelude.{◌≡◌, None, Some, false, true, IfErr, IfOk, OnOk};
-ghost use Rattle.targon_cli.specs.Answer.{Says, usage_line, Answers, Answered, HandsOut, IsUnread, ReadsAll};
-ghost use Rattle.targon_cli.specs.Command.{command_of as command_of_words, has_pick, needs_threads};
-ghost use Rattle.targon_cli.specs.declared.command.Command.{Command as ACommand};
+ghost use Rattle.std.specs.Prelude.{◌≡◌, ◌==◌, [], None, Option, Some, false, if◌then◌else◌, true, IfErr, IfOk, OnOk, is_some};
+ghost use Rattle.targon_cli.specs.Answer.{Says, usage_line, AnswersFound, Answers, Answered, HandsOut, IsUnread, ReadsAll};
+ghost use Rattle.targon_cli.specs.Built.{built_command_of, has_pick, is_built, is_ready, needs_threads};
+ghost use Rattle.targon_cli.specs.Explained.{Explained, ExplainsEnd, ExplainsFound, HandsWhy, IsByStatus, TellsWhy};
+ghost use Rattle.refusal_text.specs.Why.{why_of as why_of_status};
+ghost use Rattle.refusal_text.specs.declared.why.Why.{Why as AWhy};
+ghost use Rattle.command_words.specs.declared.command.Command.{Command as ACommand};
 
-use crate::command::{Command, command_of};
+use crate::built::built_command;
 use crate::input::{Input, read_input};
 use crate::output::say;
 use crate::reply::{Reply, carry_out};
 use crate::runs::run_threads;
 use cluster_run::life::Ran;
+use command_words::Command;
+use refusal_text::why::{Why, why_of};
 use std::alloc::Global;
 use std::sync::Wait;
 use std::thread::Threads;
@@ -27,12 +32,12 @@ const NO_MEMORY: u8 = 6;
 const TOO_LONG: u8 = 8;
 
 /// What the program does with its words, its input and its output, and the status with which it ends: 0
-/// where a command was carried out, 1 where the words are no command, 2 where the command refuses its
-/// input, 3 where an item of the schedule cannot be read or applied, 4 where the input could not be read, 5
-/// where the output could not be written, 6 where memory was refused and nothing was written, and 8 where
-/// the input is longer than is read. After 0 `ran` is the run that `sim` or `run` made, and after 5 the run
-/// whose report was being written; else it is none. For `run` each cluster has a thread, which calls the gate
-/// before it tries to send; it may wait, so that no return is promised.
+/// where a command was carried out, 1 where the words are no command that is built, 2 where the command
+/// refuses its input, 3 where an item of the schedule cannot be read or applied, 4 where the input could not be
+/// read, 5 where the output could not be written, 6 where memory was refused and nothing was written, and 8
+/// where the input is longer than is read. After 0 `ran` is the run that `sim` or `run` made, and after 5 the
+/// run whose report was being written; else it is none. For `run` each cluster has a thread, which calls the
+/// gate before it tries to send; it may wait, so that no return is promised.
 pub fn targon<R: Threads + Wait + Sync, S: Source, K: Sink, G: Gate + Sync>(
     rt: &R,
     alloc: Global,
@@ -49,13 +54,43 @@ pub fn targon<R: Threads + Wait + Sync, S: Source, K: Sink, G: Gate + Sync>(
         (record { holds = K.holds output.old; faults = K.fault_count output.old })
         (record { holds = K.holds output.new; faults = K.fault_count output.new }) ran.new }
 {
-    match command_of(words) {
-        Some(Command::Run { log }) => answer_run(rt, alloc, log, input, output, gate, ran),
-        _ => targon_alone(alloc, words, input, output, ran),
+    let mut why = None;
+    targon_explained(rt, alloc, words, input, output, gate, ran, &mut why)
+}
+
+/// The same, and `why` is afterwards why the program ends with its status: `None` exactly after 0. After a refusal it
+/// has the line or the item as it stands, and less where memory was refused while this was made.
+pub fn targon_explained<R: Threads + Wait + Sync, S: Source, K: Sink, G: Gate + Sync>(
+    rt: &R,
+    alloc: Global,
+    words: &[Text],
+    input: &mut S,
+    output: &mut K,
+    gate: &G,
+    ran: &mut Option<Ran>,
+    why: &mut Option<Why>,
+) -> u8
+    requires { ran.old ≡ None }
+    ensures answered { Answered words.now result
+        (record { left = S.left input.old; faults = S.fault_count input.old })
+        (record { left = S.left input.new; faults = S.fault_count input.new }) (S.ended input.new)
+        (record { holds = K.holds output.old; faults = K.fault_count output.old })
+        (record { holds = K.holds output.new; faults = K.fault_count output.new }) ran.new }
+    ensures explained { Explained words.now result
+        (record { left = S.left input.old; faults = S.fault_count input.old })
+        (record { left = S.left input.new; faults = S.fault_count input.new }) (S.ended input.new) why.new }
+{
+    let Ok(command) = built_command(alloc, words) else {
+        *why = why_of(NO_MEMORY);
+        return NO_MEMORY;
+    };
+    match command {
+        Some(command) => answer_any(rt, alloc, command, input, output, gate, ran, why),
+        None => usage(output, why),
     }
 }
 
-/// The same for the words that need no threads. It takes no runtime, so it always returns where its
+/// The same as `targon` for the words that need no threads. It takes no runtime, so it always returns where its
 /// source and its sink do.
 pub fn targon_alone<S: Source, K: Sink>(
     alloc: Global,
@@ -65,42 +100,74 @@ pub fn targon_alone<S: Source, K: Sink>(
     ran: &mut Option<Ran>,
 ) -> u8
     requires unran { ran.old ≡ None }
-    requires alone { needs_threads (command_of_words words.now) ≡ false }
+    requires alone { needs_threads (built_command_of words.now) ≡ false }
     ensures { Answered words.now result
         (record { left = S.left input.old; faults = S.fault_count input.old })
         (record { left = S.left input.new; faults = S.fault_count input.new }) (S.ended input.new)
         (record { holds = K.holds output.old; faults = K.fault_count output.old })
         (record { holds = K.holds output.new; faults = K.fault_count output.new }) ran.new }
 {
-    answer_words(alloc, words, input, output, ran)
+    let Ok(command) = built_command(alloc, words) else {
+        return NO_MEMORY;
+    };
+    let mut why = None;
+    answer_alone(alloc, command, input, output, ran, &mut why)
 }
 
-// What is answered, by cases.
-fn answer_words<S: Source, K: Sink>(
+/// The same as `targon`, and what there is to say of the end is written to `errors`. Whatever becomes of that
+/// changes neither the status nor the output.
+pub fn targon_told<R: Threads + Wait + Sync, S: Source, K: Sink, E: Sink, G: Gate + Sync>(
+    rt: &R,
     alloc: Global,
     words: &[Text],
     input: &mut S,
     output: &mut K,
+    errors: &mut E,
+    gate: &G,
     ran: &mut Option<Ran>,
 ) -> u8
-    requires unran { ran.old ≡ None }
-    requires alone { needs_threads (command_of_words words.now) ≡ false }
-    // The words are no command.
-    ensures usage { command_of_words words.now ≡ None → Says 1 usage_line result
-        (record { holds = K.holds output.old; faults = K.fault_count output.old })
-        (record { holds = K.holds output.new; faults = K.fault_count output.new }) }
-    ensures unran { command_of_words words.now ≡ None → ran.new ≡ None }
-
-    // The words are a command.
-    ensures command { (command : ACommand) → command_of_words words.now ≡ Some command → Answers command result
+    requires { ran.old ≡ None }
+    ensures answered { Answered words.now result
         (record { left = S.left input.old; faults = S.fault_count input.old })
         (record { left = S.left input.new; faults = S.fault_count input.new }) (S.ended input.new)
         (record { holds = K.holds output.old; faults = K.fault_count output.old })
         (record { holds = K.holds output.new; faults = K.fault_count output.new }) ran.new }
+    ensures told { (why : Option AWhy) × Explained words.now result
+        (record { left = S.left input.old; faults = S.fault_count input.old })
+        (record { left = S.left input.new; faults = S.fault_count input.new }) (S.ended input.new) why
+        × TellsWhy why (record { holds = E.holds errors.old; faults = E.fault_count errors.old })
+        (record { holds = E.holds errors.new; faults = E.fault_count errors.new }) }
 {
-    match command_of(words) {
-        Some(command) => answer(alloc, command, input, output, ran),
-        None => say(output, b"t32: usage\n", USAGE),
+    let mut why = None;
+    let status = targon_explained(rt, alloc, words, input, output, gate, ran, &mut why);
+    tell_why(alloc, &why, errors);
+    status
+}
+
+// What is answered where the words are this command, which needs no threads, or none.
+fn answer_alone<S: Source, K: Sink>(
+    alloc: Global,
+    command: Option<Command>,
+    input: &mut S,
+    output: &mut K,
+    ran: &mut Option<Ran>,
+    why: &mut Option<Why>,
+) -> u8
+    requires unran { ran.old ≡ None }
+    requires ready { is_ready command ≡ true }
+    requires alone { needs_threads command ≡ false }
+    ensures answered { AnswersFound command result
+        (record { left = S.left input.old; faults = S.fault_count input.old })
+        (record { left = S.left input.new; faults = S.fault_count input.new }) (S.ended input.new)
+        (record { holds = K.holds output.old; faults = K.fault_count output.old })
+        (record { holds = K.holds output.new; faults = K.fault_count output.new }) ran.new }
+    ensures explained { ExplainsFound command result
+        (record { left = S.left input.old; faults = S.fault_count input.old })
+        (record { left = S.left input.new; faults = S.fault_count input.new }) (S.ended input.new) why.new }
+{
+    match command {
+        Some(command) => answer(alloc, command, input, output, ran, why),
+        None => usage(output, why),
     }
 }
 
@@ -111,20 +178,71 @@ fn answer<S: Source, K: Sink>(
     input: &mut S,
     output: &mut K,
     ran: &mut Option<Ran>,
+    why: &mut Option<Why>,
 ) -> u8
     requires pick { has_pick command ≡ true }
+    requires built { is_built command ≡ true }
     requires alone { needs_threads (Some command) ≡ false }
     requires unran { ran.old ≡ None }
-    ensures { Answers command result
+    ensures answered { Answers command result
         (record { left = S.left input.old; faults = S.fault_count input.old })
         (record { left = S.left input.new; faults = S.fault_count input.new }) (S.ended input.new)
         (record { holds = K.holds output.old; faults = K.fault_count output.old })
         (record { holds = K.holds output.new; faults = K.fault_count output.new }) ran.new }
+    ensures explained { ExplainsEnd command result
+        (record { left = S.left input.old; faults = S.fault_count input.old })
+        (record { left = S.left input.new; faults = S.fault_count input.new }) (S.ended input.new) why.new }
 {
     match read_whole(alloc, input, output) {
-        Ok(bytes) => hand_out(carry_out(alloc, command, bytes.as_slice()), output, ran),
-        Err(status) => status,
+        Ok(bytes) => {
+            let made = carry_out(alloc, command, bytes.as_slice());
+            hand_out(made, output, ran, why)
+        }
+        Err(status) => {
+            *why = why_of(status);
+            status
+        }
     }
+}
+
+// What a command answers, by a thread for each cluster where it is `run`.
+fn answer_any<R: Threads + Wait + Sync, S: Source, K: Sink, G: Gate + Sync>(
+    rt: &R,
+    alloc: Global,
+    command: Command,
+    input: &mut S,
+    output: &mut K,
+    gate: &G,
+    ran: &mut Option<Ran>,
+    why: &mut Option<Why>,
+) -> u8
+    requires ready { is_ready (Some command) ≡ true }
+    requires unran { ran.old ≡ None }
+    ensures answered { Answers command result
+        (record { left = S.left input.old; faults = S.fault_count input.old })
+        (record { left = S.left input.new; faults = S.fault_count input.new }) (S.ended input.new)
+        (record { holds = K.holds output.old; faults = K.fault_count output.old })
+        (record { holds = K.holds output.new; faults = K.fault_count output.new }) ran.new }
+    ensures explained { ExplainsEnd command result
+        (record { left = S.left input.old; faults = S.fault_count input.old })
+        (record { left = S.left input.new; faults = S.fault_count input.new }) (S.ended input.new) why.new }
+{
+    match command {
+        Command::Run { log, .. } => answer_run(rt, alloc, log, input, output, gate, ran, why),
+        command => answer(alloc, command, input, output, ran, why),
+    }
+}
+
+// Says that the words are no command.
+fn usage<K: Sink>(output: &mut K, why: &mut Option<Why>) -> u8
+    ensures said { Says 1 usage_line result
+        (record { holds = K.holds output.old; faults = K.fault_count output.old })
+        (record { holds = K.holds output.new; faults = K.fault_count output.new }) }
+    ensures explained { IsByStatus result why.new }
+{
+    let status = say(output, b"t32: usage\n", USAGE);
+    *why = why_of(status);
+    status
 }
 
 // What `run` answers.
@@ -136,20 +254,27 @@ fn answer_run<R: Threads + Wait + Sync, S: Source, K: Sink, G: Gate + Sync>(
     output: &mut K,
     gate: &G,
     ran: &mut Option<Ran>,
+    why: &mut Option<Why>,
 ) -> u8
     requires { ran.old ≡ None }
-    ensures { Answers (ACommand.Run log) result
+    ensures answered { Answers (ACommand.Run log []) result
         (record { left = S.left input.old; faults = S.fault_count input.old })
         (record { left = S.left input.new; faults = S.fault_count input.new }) (S.ended input.new)
         (record { holds = K.holds output.old; faults = K.fault_count output.old })
         (record { holds = K.holds output.new; faults = K.fault_count output.new }) ran.new }
+    ensures explained { ExplainsEnd (ACommand.Run log []) result
+        (record { left = S.left input.old; faults = S.fault_count input.old })
+        (record { left = S.left input.new; faults = S.fault_count input.new }) (S.ended input.new) why.new }
 {
     match read_whole(alloc, input, output) {
         Ok(bytes) => {
             let made = run_threads(rt, alloc, bytes.as_slice(), log, gate);
-            hand_out(made, output, ran)
+            hand_out(made, output, ran, why)
         }
-        Err(status) => status,
+        Err(status) => {
+            *why = why_of(status);
+            status
+        }
     }
 }
 
@@ -164,6 +289,7 @@ fn read_whole<S: Source, K: Sink>(alloc: Global, input: &mut S, output: &mut K) 
         (record { left = S.left input.new; faults = S.fault_count input.new }) (S.ended input.new)
         (record { holds = K.holds output.old; faults = K.fault_count output.old })
         (record { holds = K.holds output.new; faults = K.fault_count output.new })) }
+    ensures told { IfErr result (λ status. is_some (why_of_status status) ≡ true) }
 {
     match read_input(alloc, input) {
         Ok(Input::Whole(bytes)) => Ok(bytes),
@@ -173,22 +299,58 @@ fn read_whole<S: Source, K: Sink>(alloc: Global, input: &mut S, output: &mut K) 
     }
 }
 
-// Writes what a command made of its input, and hands out its run.
+// Writes what a command made of its input, and hands out its run and why it ended so.
 fn hand_out<K: Sink>(
     made: Result<(Reply, Option<Ran>), NoMemory>,
     output: &mut K,
     ran: &mut Option<Ran>,
+    why: &mut Option<Why>,
 ) -> u8
     requires { ran.old ≡ None }
-    ensures { HandsOut made result
+    ensures made { HandsOut made result
         (record { holds = K.holds output.old; faults = K.fault_count output.old })
         (record { holds = K.holds output.new; faults = K.fault_count output.new }) ran.new }
+    ensures why { HandsWhy made result why.new }
 {
     match made {
         Ok((reply, made)) => {
             *ran = made;
-            say(output, reply.text.as_slice(), reply.status)
+            let status = say(output, reply.text.as_slice(), reply.status);
+            *why = why_ended(status, reply.status, reply.why);
+            status
         }
-        Err(NoMemory) => NO_MEMORY,
+        Err(NoMemory) => {
+            *why = why_of(NO_MEMORY);
+            NO_MEMORY
+        }
+    }
+}
+
+// Why the program ends with this status, where the other one was wanted for that reason.
+fn why_ended(status: u8, wanted: u8, why: Option<Why>) -> Option<Why>
+    ensures { result ≡ if status == wanted then why else why_of_status status }
+{
+    if status == wanted {
+        why
+    } else {
+        why_of(status)
+    }
+}
+
+// Says why the program ended as it did.
+fn tell_why<E: Sink>(alloc: Global, why: &Option<Why>, errors: &mut E)
+    ensures { TellsWhy why.now (record { holds = E.holds errors.old; faults = E.fault_count errors.old })
+        (record { holds = E.holds errors.new; faults = E.fault_count errors.new }) }
+{
+    let Some(why) = why else {
+        return;
+    };
+    match why.text(alloc) {
+        Ok(text) => {
+            let _status = say(errors, text.as_slice(), 0);
+        }
+        Err(NoMemory) => {
+            let _status = say(errors, why.headline().as_bytes(), 0);
+        }
     }
 }

@@ -1,5 +1,6 @@
 use Rattle.std.proofs.Common.{refl}
 use Rattle.targon_cli.specs.Answer.{TooLong, ReadFault}
+use Rattle.targon_cli.proofs.Endings.{said_tells}
 use Rattle.targon_cli.proofs.top.read_whole.Goals as goal
 
 pub returns-in-Ok-TooLong-clause-unread : goal.returns-in-Ok-TooLong-clause-unread
@@ -11,3 +12,9 @@ pub returns-in-Err-Failed-clause-unread : goal.returns-in-Err-Failed-clause-unre
 returns-in-Err-Failed-clause-unread g c = λ command.
     let read = rw c.in-Err-Failed.field-0-is at c.in-Err-Failed.ensures in
     ReadFault read c.say-in-Err-Failed.ensures refl
+
+pub returns-in-Ok-TooLong-clause-told : goal.returns-in-Ok-TooLong-clause-told
+returns-in-Ok-TooLong-clause-told g c = said_tells 8 _ _ _ _ refl c.say.ensures
+
+pub returns-in-Err-Failed-clause-told : goal.returns-in-Err-Failed-clause-told
+returns-in-Err-Failed-clause-told g c = said_tells 4 _ _ _ _ refl c.say-in-Err-Failed.ensures

@@ -1,0 +1,5 @@
+pub mod Lines
+pub mod Block
+pub mod Shown
+pub mod Texts
+pub mod Why

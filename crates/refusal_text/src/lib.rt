@@ -1,0 +1,10 @@
+//! What the program says of its end beside its output: why it ended as it did, in words.
+#![tactic(auto)]
+
+mod block;
+mod lines;
+mod shown;
+#[cfg(test)]
+mod tests;
+mod texts;
+pub mod why;

@@ -1,0 +1,83 @@
+-- Why a command ended as it did.
+use Rattle.std.proofs.Common.{◌≡◌, ◌∙◌, sym, refl, ap, subst, ℕ, Bool, true, false, List, [], ◌∷◌, ◌⊎◌, inl, inr, Option, Some, None, Global, arith, cond}
+use Rattle.std.specs.Prelude.{◌==◌, Result, Ok, Err, IfOk, is_some}
+use Rattle.std.proofs.lemmas.Bool.Decides.{nat_tests}
+use Rattle.std.specs.declared.sync.Arc.{Arc}
+use Rattle.t32_base.specs.declared.streams.NoMemory.{NoMemory}
+use Rattle.cluster_run.specs.declared.life.Ran.{Ran}
+use Rattle.command_words.specs.declared.command.Command.{Command}
+use Rattle.refusal_text.specs.Why.{why_of}
+use Rattle.refusal_text.specs.declared.why.Why.{Why}
+use Rattle.sys_text.specs.Reading.{Answer}
+use Rattle.sys_text.specs.declared.system.System.{System}
+use Rattle.targon_cli.specs.declared.reply.Reply.{Reply}
+use Rattle.targon_cli.specs.declared.runs.Read.TheVariants.{System as AsSystem}
+use Rattle.targon_cli.specs.Answer.{In, Out, ReadsAll, Says, Wrote, WriteFault}
+use Rattle.targon_cli.specs.Reply.{IsRead}
+use Rattle.targon_cli.specs.Sections.{items_of_lines}
+use Rattle.targon_cli.specs.Explained.{Explains, ExplainsSystem, ExplainsSection, ExplainsRunBy, IsByStatus, HandsWhy, ExplainsEnd, ByInput, ByStatus, ExplainsFound, Explained}
+use Rattle.targon_cli.specs.Built.{built_command_of}
+
+-- the status of what is said tells why, where the wanted one does
+pub said_tells : (wanted : ℕ) (text : List ℕ) (status : ℕ) (old new : Out) → is_some (why_of wanted) ≡ true → Says wanted text status old new → is_some (why_of status) ≡ true
+said_tells wanted text status old new t (Wrote e a) = rw e t
+said_tells wanted text status old new t (WriteFault e r a) = rw e refl
+
+-- another status than the wanted one is that of a write fault
+pub other_tells : (wanted : ℕ) (text : List ℕ) (status : ℕ) (old new : Out) → (status ≡ wanted → ⊥) → Says wanted text status old new → is_some (why_of status) ≡ true
+other_tells wanted text status old new n (Wrote e a) = absurd (n e)
+other_tells wanted text status old new n (WriteFault e r a) = rw e refl
+
+-- what was made of the whole input, and handed out, tells why the command ended so
+pub ends_by : (command : Command) (bytes : List ℕ) (made : Result (Reply × Option Ran) NoMemory) (status : ℕ) (old new : In) (ended : Bool) (why : Option Why)
+    → ReadsAll old new ended bytes → IfOk made (λ (r : Reply × Option Ran). Explains command bytes (r.0).status (r.0).why) → HandsWhy made status why → ExplainsEnd command status old new ended why
+ends_by command bytes (Ok r) status old new ended why reads tells (inl same) =
+    let P : ℕ → Type 0 = λ k. Explains command bytes k why in
+    let Q : Option Why → Type 0 = λ w. Explains command bytes (r.0).status w in
+    ByInput bytes reads (subst P (sym same.0) (subst Q (sym same.1) tells))
+ends_by command bytes (Ok r) status old new ended why reads tells (inr by) = ByStatus by
+ends_by command bytes (Err e) status old new ended why reads tells by = ByStatus by
+
+-- what is said under a status tells why, by the reason for it or by another status
+pub hands_why : (wanted : ℕ) (text : List ℕ) (status : ℕ) (old new : Out) (reason why : Option Why) → Says wanted text status old new → why ≡ cond (status == wanted) reason (why_of status)
+    → ((status ≡ wanted) × (why ≡ reason)) ⊎ IsByStatus status why
+hands_why wanted text status old new reason why says is = by_test (status == wanted) refl
+  where
+    by_test : (b : Bool) → (status == wanted) ≡ b → ((status ≡ wanted) × (why ≡ reason)) ⊎ IsByStatus status why
+    by_test true e = let same : status ≡ wanted = grind (arith, nat_tests, e) in inl (same, rw e at is)
+    by_test false e =
+        let other : status ≡ wanted → ⊥ = λ same. absurd (grind (arith, nat_tests, e, same)) in
+        inr (record { tells = other_tells wanted text status old new other says; told = rw e at is })
+
+-- want of memory before anything was read: this is told, whatever the words are
+pub explained_6 : (words : List (List ℕ)) (old new : In) (ended : Bool) (why : Option Why) → why ≡ why_of 6 → Explained words 6 old new ended why
+explained_6 words old new ended why is = by_found (built_command_of words)
+  where
+    by_found : (found : Option Command) → ExplainsFound found 6 old new ended why
+    by_found None = record { tells = refl; told = is }
+    by_found (Some command) = ByStatus (record { tells = refl; told = is })
+
+pub explained_found : (words : List (List ℕ)) (found : Option Command) (status : ℕ) (old new : In) (ended : Bool) (why : Option Why) → found ≡ built_command_of words
+    → ExplainsFound found status old new ended why → Explained words status old new ended why
+explained_found words found status old new ended why is explains = subst (λ (o : Option Command). ExplainsFound o status old new ended why) is explains
+
+pub ends_same : (command other : Command) (status : ℕ) (old new : In) (ended : Bool) (why : Option Why) → command ≡ other → ExplainsEnd command status old new ended why
+    → ExplainsEnd other status old new ended why
+ends_same command other status old new ended why same ends = subst (λ (c : Command). ExplainsEnd c status old new ended why) same ends
+
+-- a system that was read is told of with nothing to explain
+pub nothing_to_explain : (reading : Answer) (lines : List (List ℕ)) (shared : Arc System Global) (status : ℕ) (why : Option Why) → IsRead reading (AsSystem shared) → status ≡ 0 → why ≡ None
+    → ExplainsSystem reading lines status why
+nothing_to_explain (Ok system) lines shared status why is e n = (e, n)
+nothing_to_explain (Err refused) lines shared status why is e n = absurd is
+
+-- also where nothing could be told
+pub told_explains : (reading : Answer) (lines : List (List ℕ)) (shared : Arc System Global) (told : Result (Reply × Option Ran) NoMemory) → IsRead reading (AsSystem shared)
+    → IfOk told (λ (r : Reply × Option Ran). ((r.0).status ≡ 0) × ((r.0).why ≡ None)) → IfOk told (λ (r : Reply × Option Ran). ExplainsSystem reading lines (r.0).status (r.0).why)
+told_explains reading lines shared (Ok r) is done = nothing_to_explain reading lines shared (r.0).status (r.0).why is done.0 done.1
+told_explains reading lines shared (Err e) is done = tt
+
+-- a section that has lines is explained
+pub section_explains : (system : System) (lines : List (List ℕ)) (status : ℕ) (why : Option Why) → (lines ≡ [] → ⊥) → ExplainsSection system lines (items_of_lines lines) status why → ExplainsRunBy system lines status why
+section_explains system [] status why n e = absurd (n refl)
+section_explains system (line ∷ lines) status why n e = e
