@@ -23,7 +23,8 @@ use Rattle.targon_cli.specs.declared.reply.Reply.{Reply}
 use Rattle.targon_cli.specs.declared.runs.Read.TheVariants.{System as AsSystem, Refused as AsRefused}
 use Rattle.targon_cli.specs.Reply.{IsRead, MakesRun, run_text, TellsOfRun}
 
-ends_finished : (system : System) (r : Run) → r.ended ≡ Finished → EndsAs system r.log r.ended → is_finished r.log ≡ true
+-- a run that came to its end has a log that did
+pub ends_finished : (system : System) (r : Run) → r.ended ≡ Finished → EndsAs system r.log r.ended → is_finished r.log ≡ true
 ends_finished system r e h = subst (λ (k : Ended). EndsAs system r.log k) e h
 
 -- nothing can move in the kernel of a good run that is finished

@@ -3,6 +3,7 @@ ghost use Rattle.std.specs.Prelude.{◌≡◌, ◌<◌, ◌^◌, [], IfOk, None,
 ghost use Rattle.plain_kernel.specs.Apply.{plain_run};
 ghost use Rattle.plain_kernel.specs.Kernel.{Kernel};
 ghost use Rattle.report_text.specs.Good.{IsGoodBuilt};
+ghost use Rattle.report_text.specs.declared.run.Ended.TheVariants.{Finished};
 ghost use Rattle.sys_text.specs.Reading.{reading_of as system_reading};
 ghost use Rattle.sys_text.specs.Valid.{is_system};
 ghost use Rattle.cluster_run.specs.Completed.{IsCompleted};
@@ -14,10 +15,8 @@ use crate::reply::{DONE, Reply, refused_system};
 use cluster_run::life::Ran;
 use cluster_run::running::run;
 use cluster_run::sim::sim;
-use plain_kernel::item::RunRefused;
-use plain_kernel::plain::run as run_items;
 use report_text::run::Run;
-use report_text::whole::{log_text, report};
+use report_text::whole::{finished_report, log_text};
 use std::alloc::Global;
 use std::sync::{Arc, Wait};
 use std::thread::Threads;
@@ -113,18 +112,14 @@ fn tell(
     ))
 }
 
-// What is written of a run: its schedule is run once more for the kernel that it leads to.
+// What is written of a run that came to its end, by its log.
 fn run_text(alloc: Global, system: &System, run: &Run, log: bool) -> Result<Text, NoMemory>
     requires valid { is_system system.now ≡ true }
     requires good { IsGoodBuilt system.now [] run.now }
+    requires ended { run.now.ended ≡ Finished }
     ensures { IfOk result (λ text. (kernel : Kernel) × (plain_run system.now run.now.items ≡ Some kernel) × (text ≡ run_text_of log kernel run.now)) }
 {
-    let plain = match run_items(alloc, system, run.items.as_slice()) {
-        Ok(plain) => plain,
-        Err(RunRefused::BadItem { .. }) => unreachable!(),
-        Err(RunRefused::NoMemory) => return Err(NoMemory),
-    };
-    let mut text = report(alloc, &plain, run)?;
+    let mut text = finished_report(alloc, system, run)?;
     if log {
         text.extend(log_text(alloc, run.log.as_slice())?.as_slice())?;
     }

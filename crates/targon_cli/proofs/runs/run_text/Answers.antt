@@ -1,10 +1,5 @@
-use Rattle.std.proofs.Common.{◌∙◌, subst}
-use Rattle.plain_kernel.specs.Answers.{BadAt}
-use Rattle.cert_sched.proofs.Applied.{no_bad_item}
+use Rattle.targon_cli.proofs.Tales.{ends_finished}
 use Rattle.targon_cli.proofs.runs.run_text.Goals as goal
 
-pub unreachable-requires : goal.unreachable-requires
-unreachable-requires c =
-    let bad = rw c.in-Err-BadItem.field-0-is at c.in-Err-BadItem.ensures in
-    no_bad_item c.args.system.now c.args.run.now.log c.in-Err-BadItem.field-0-0 c.requires.good.legal
-    (subst (λ items. BadAt c.args.system.now items c.in-Err-BadItem.field-0-0) (c.as_slice.ensures ∙ c.requires.good.items) bad)
+pub finished_report-requires-clause-finished : goal.finished_report-requires-clause-finished
+finished_report-requires-clause-finished c = ends_finished c.args.system.now c.args.run.now c.requires.ended c.requires.good.ended
