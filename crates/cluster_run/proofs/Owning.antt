@@ -10,6 +10,7 @@ use Rattle.bus_msg.specs.declared.entry.Post.{Post}
 use Rattle.cert_sched.specs.Appended.{entry_of}
 use Rattle.cert_sched.specs.Rules.{is_over}
 use Rattle.cert_sched.specs.Scripted.{is_finished}
+use Rattle.sys_text.specs.Valid.{is_system}
 use Rattle.cluster_core.specs.View.{ClusterView, counted_once, load}
 use Rattle.bus_lock.specs.Lists.{MayAdd}
 use Rattle.bus_order.specs.declared.marks.Mark.{Mark}
@@ -50,6 +51,7 @@ module _ (a : Bool) (alone : a ≡ true) (b after : BusView) (c : ClusterView) (
       record {
         goes_on = (
           record {
+            valid = ap (λ (x : BusView). is_system x.system) is ∙ (own.0).valid;
             sound = sound;
             marks = ap (λ (x : BusView). length x.marks) is ∙ length-map b.marks (λ m. None) ∙ (own.0).marks ∙ ap (λ (x : BusView). (x.system).clusters) (sym is);
             unstopped = λ over. absurd (true≢false (sym over ∙ sent_goes_on (v.found).log c post after s));
@@ -76,6 +78,7 @@ module _ (a : Bool) (alone : a ≡ true) (b after : BusView) (c : ClusterView) (
 told_owned : (b after : BusView) (k : ClusterNo) (cursor : ℕ) (m : Mark) (t : Option Idled) → GoesOwn b → IsSound after → cursor ≡ length b.log → k.0 < (b.system).clusters → TellIs k cursor m t b after → IsOwned after × (IsOver after ⊎ Rests b after k.0 (k.0 + 1))
 told_owned b after k cursor m (Some Marked) own sound seen has is = (
   record {
+    valid = ap (λ (x : BusView). is_system x.system) is.3 ∙ (own.0).valid;
     sound = sound;
     marks = ap (λ (x : BusView). length x.marks) is.3 ∙ length-set b.marks k.0 (Some m) ∙ (own.0).marks ∙ ap (λ (x : BusView). (x.system).clusters) (sym is.3);
     unstopped = λ over. absurd (true≢false (sym over ∙ ap (λ (x : BusView). is_over x.system x.log) is.3 ∙ own.1));
@@ -85,6 +88,7 @@ told_owned b after k cursor m (Some Marked) own sound seen has is = (
 told_owned b after k cursor m (Some (WasDone at)) own sound seen has is =
     let ends = is.3 in (
       record {
+        valid = ap (λ (x : BusView). is_system x.system) ends.ended ∙ (own.0).valid;
         sound = sound;
         marks = ap (λ (x : BusView). length x.marks) ends.ended ∙ length-set b.marks k.0 (Some m) ∙ (own.0).marks ∙ ap (λ (x : BusView). (x.system).clusters) (sym ends.ended);
         unstopped = λ over. ap (λ (x : BusView). is_finished x.log) ends.ended ∙ finished-snoc b.log (entry_of b.system b.log (record { by = Bus; what = Done ends.rests }));
@@ -103,6 +107,16 @@ told_own a alone b after c m t own sound along seen adds v =
     let has : (c.number).0 < (b.system).clusters = subst (λ (s : System). (c.number).0 < s.clusters) along.system (along.beside).has in
     let done = told_owned b after c.number c.cursor m t own sound seen has is in
     record { owned = done.0; adds = adds; rests = done.1 }
+
+-- a process of the cluster moved, and sent nothing
+pub moves_turn : (b mid : BusView) (c caught worked : ClusterView) → mid ≡ b → GoesOwn b → TakesIn mid c caught → load worked + 1 ≤ load caught → worked.queue ≡ [] → TurnsOwn b mid c worked
+moves_turn b mid c caught worked same own taken less empty = record {
+  owned = subst IsOwned (sym same) own.0;
+  adds = subst (λ x. Adds c.number b x) (sym same) (adds_none c.number b);
+  empty = empty;
+  lighter = omega (arith, less, taken.lighter);
+  gets_on = inl (omega (arith, less, taken.lighter));
+}
 
 -- the cluster worked and then told so: its turn is over
 pub tells_turn : (b mid after : BusView) (c caught new : ClusterView) → mid ≡ b → TakesIn mid c caught → new ≡ counted_once caught → c.queue ≡ [] → TellsOwn new.number mid after → TurnsOwn b after c new
