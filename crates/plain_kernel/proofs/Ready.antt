@@ -1,8 +1,7 @@
 -- The pids that may have a step, among which are those of all processes that have one.
 use Rattle.std.proofs.lemmas.Bool.{false≢true}
 use Rattle.std.proofs.lemmas.Bool.Decides.{nat_tests}
-use Rattle.std.proofs.Common.{◌≡◌, ℕ, ◌<◌, Bool, true, false, true≢false, cond, ◌||◌, List, [], ◌∷◌, map, length, refl, sym, ap, ◌∙◌, subst, arith, Option, Some, None, IsSome, option_map}
-use Rattle.std.specs.Prelude.{IfSome}
+use Rattle.std.proofs.Common.{◌≡◌, ℕ, ◌+◌, ◌<◌, ◌≤◌, Bool, true, false, true≢false, cond, ◌||◌, List, [], ◌∷◌, map, length, refl, sym, ap, ◌∙◌, subst, arith, Option, Some, None, IsSome, option_map}
 use Rattle.std.specs.Borrow.{Bor}
 use Rattle.std.specs.Option.{option_copied, option_map_or}
 use Rattle.std.specs.Ordering.{nat_cmp, is_gt}
@@ -13,8 +12,8 @@ use Rattle.std.specs.Map.{lookup}
 use Rattle.proc_state.specs.declared.process.Process.{Process}
 use Rattle.proc_state.specs.State.{state_of}
 use Rattle.sys_calls.specs.Next.{has_step, next_step}
-use Rattle.plain_kernel.specs.Maps.{at_key, lowest_of, Covers, IsTurn, RunsAt, SameBut}
-use Rattle.plain_kernel.proofs.Entries.{some_same, others_stay}
+use Rattle.plain_kernel.specs.Maps.{at_key, lowest_of, Covers, IsFirst, IsTurn, RunsAt, SameBut}
+use Rattle.plain_kernel.proofs.Entries.{found_after, others_stay}
 use Rattle.plain_kernel.proofs.Turns.{has_turn, found_at, first_able}
 
 abbrev keys : {X : Type 0} → List (ℕ × X) → List ℕ
@@ -89,10 +88,6 @@ covers_went ps qs rs ready pid n ordered turn r same covers =
     let listed = turn_listed pid ps ready ordered turn covers in
     covers_one pid qs rs ready same listed (covers_one pid ps qs ready (others_stay ps qs pid r.was r.now r.changes) listed covers)
 
--- it was stuck
-pub covers_stuck : (ps qs rs : List (ℕ × Process)) (ready : List ℕ) (pid n : ℕ) → IsStrictlySortedBy nat_cmp (keys ps) → IsTurn (Some pid) ps → RunsAt ps qs pid n → rs ≡ qs → Covers ps ready → Covers rs ready
-covers_stuck ps qs rs ready pid n ordered turn r same covers = covers_went ps qs rs ready pid n ordered turn r (λ q other. ap (lookup (at_key q)) same) covers
-
 -- it sent a letter to one that was put among them
 pub covers_sent : (ps qs rs : List (ℕ × Process)) (ready more : List ℕ) (pid to n : ℕ) → IsStrictlySortedBy nat_cmp (keys ps) → IsTurn (Some pid) ps → RunsAt ps qs pid n → SameBut (λ q. at_key pid q || at_key to q) qs rs
     → HasOneMore to ready more → list_any (at_key to) more ≡ true → Covers ps ready → Covers rs more
@@ -142,6 +137,32 @@ lowest_listed es pid ready ordered covers least asked =
     let listed = covers (first.entry).0 (first.entry).1 (found_at (λ (e : ℕ × Process). able e.1) es first.entry ordered first.is) (first_able (λ (e : ℕ × Process). able e.1) es first.entry first.is) in
     ap Some (same_number pid (first.entry).0 (least (first.entry).0 listed) first.at_most) ∙ ap (option_map (λ (e : ℕ × Process). e.0)) (sym first.is)
 
+-- the first of them had the turn, where it had a step
+pub turn_of : (ps qs : List (ℕ × Process)) (ready : List ℕ) (pid n : ℕ) → IsStrictlySortedBy nat_cmp (keys ps) → IsFirst pid ready → Covers ps ready → (r : RunsAt ps qs pid n) → able r.was ≡ true → IsTurn (Some pid) ps
+turn_of ps qs ready pid n ordered first covers r steps = lowest_listed ps pid ready ordered covers first.1 (ap (λ o. option_map_or able o false) (r.changes).found ∙ steps)
+
+-- it was stuck, and is taken out
+pub covers_stuck : (ps qs rs : List (ℕ × Process)) (ready less : List ℕ) (pid n : ℕ) → IsFirst pid ready → (r : RunsAt ps qs pid n) → able r.now ≡ false → rs ≡ qs
+    → ((q : ℕ) → at_key pid q ≡ false → list_any (at_key q) less ≡ list_any (at_key q) ready) → Covers ps ready → Covers rs less
+covers_stuck ps qs rs ready less pid n first r stuck same keeps covers =
+    let here : lookup (at_key pid) qs ≡ Some r.now = found_after ps qs pid r.was r.now r.changes in
+    subst (λ es. Covers es less) (sym same)
+    (covers_less qs pid ready less (ap (λ o. option_map_or able o false) here ∙ stuck) keeps (covers_one pid ps qs ready (others_stay ps qs pid r.was r.now r.changes) first.0 covers))
+
+-- one that is not there is taken out
+pub covers_nobody : (ps rs : List (ℕ × Process)) (ready less : List ℕ) (pid : ℕ) → lookup (at_key pid) ps ≡ None → rs ≡ ps → ((q : ℕ) → at_key pid q ≡ false → list_any (at_key q) less ≡ list_any (at_key q) ready) → Covers ps ready → Covers rs less
+covers_nobody ps rs ready less pid none same keeps covers =
+    subst (λ es. Covers es less) (sym same) (covers_less ps pid ready less (ap (λ o. option_map_or able o false) none) keeps covers)
+
+-- their number
+pub one_less : (b : Bool) (less more : ℕ) → b ≡ true → less + cond b 1 0 ≡ more → less < more
+one_less true less more is e = omega (arith, e)
+one_less false less more is e = cc
+
+pub one_more : (b : Bool) (less more : ℕ) → more ≡ less + cond b 1 0 → more ≤ less + 1
+one_more true less more e = omega (arith, e)
+one_more false less more e = omega (arith, e)
+
 -- where none is left, none has a step
 pub none_listed : (es : List (ℕ × Process)) (ready : List ℕ) → IsStrictlySortedBy nat_cmp (keys es) → Covers es ready → ready ≡ [] → IsTurn None es
 none_listed es ready ordered covers none = by_case (lowest_of es) refl
@@ -152,10 +173,6 @@ none_listed es ready ordered covers none = by_case (lowest_of es) refl
         absurd (false≢true (sym (ap (list_any (at_key e.0)) none) ∙ covers e.0 e.1 (found_at (λ (e : ℕ × Process). able e.1) es e ordered is) (first_able (λ (e : ℕ × Process). able e.1) es e is)))
 
 -- ---- the first of a set
-
-pub first_least : (r : Option (Bor ℕ)) (n : ℕ) (P : ℕ → Type 0) → IfSome r (λ k. P k.now) → option_copied r ≡ Some n → P n
-first_least None n P least is = cc
-first_least (Some k) n P least is = subst P (some_same k.now n is) least
 
 pub first_none : (r : Option (Bor ℕ)) (xs : List ℕ) → (0 < length xs → IsSome r) → option_copied r ≡ None → xs ≡ []
 first_none None [] there is = refl

@@ -1,6 +1,6 @@
 -- The process that has the turn in the default schedule.
 use Rattle.std.proofs.lemmas.Bool.{false≢true}
-use Rattle.std.proofs.Common.{◌≡◌, ℕ, zero, suc, ◌+◌, ◌*◌, ◌<◌, ◌≤◌, Bool, true, false, cond, not, ◌||◌, eqb, List, [], ◌∷◌, map, find, refl, sym, ap, ◌∙◌, subst, arith, Option, Some, None, Result, Ok, Err, inl, inr, IsSome, is_some, option_map, option_and_then}
+use Rattle.std.proofs.Common.{◌≡◌, ℕ, zero, suc, ◌+◌, ◌*◌, ◌<◌, ◌≤◌, Bool, true, false, cond, not, ◌||◌, eqb, List, [], ◌∷◌, map, find, length, refl, sym, ap, ◌∙◌, subst, arith, Option, Some, None, Result, Ok, Err, inl, inr, IsSome, is_some, option_map, option_and_then}
 use Rattle.std.specs.Prelude.{nat_lt}
 use Rattle.std.specs.Ordering.{nat_cmp}
 use Rattle.std.specs.declared.cmp.Ordering.TheVariants.{Less, Equal}
@@ -104,9 +104,6 @@ has_turn pid es e = by_case (lowest_of es) refl e
     by_case : (o : Option (ℕ × Process)) → lowest_of es ≡ o → Some pid ≡ option_map (λ (e : ℕ × Process). e.0) o → HasTurn pid es
     by_case None is f = cc
     by_case (Some x) is f = record { process = x.1; first = is ∙ ap (λ n. Some (n, x.1)) (sym (some_same pid x.0 f)) }
-
-pub turn_there : (pid : ℕ) (es : List (ℕ × Process)) → IsStrictlySortedBy nat_cmp (keys es) → IsTurn (Some pid) es → IsSome (lookup (at_key pid) es)
-turn_there pid es s turn = let h = has_turn pid es turn in ap is_some (found_at _ es (pid, h.process) s h.first)
 
 pub first_able : {X : Type 0} → (p : X → Bool) (es : List X) (e : X) → find p es ≡ Some e → p e ≡ true
 first_able p [] e f = cc
@@ -251,28 +248,37 @@ pub less : (ps qs : List (ℕ × Process)) (pid n : ℕ) → RunsAt ps qs pid n 
 less ps qs pid n r = omega (arith, load_after ps qs pid r.was r.now r.changes, r.lighter)
 
 -- a step was made
-pub turns : (ps qs rs : List (ℕ × Process)) (ts us : List (ℕ × List ℕ)) (pid n : ℕ) → IsTurn (Some pid) ps → RunsAt ps qs pid n → Advances pid qs rs ts us → Turns ps rs ts us
-turns ps qs rs ts us pid n turn r a = record {
+pub turns : (ps qs rs : List (ℕ × Process)) (ts us : List (ℕ × List ℕ)) (ready left : List ℕ) (pid n : ℕ) → IsTurn (Some pid) ps → RunsAt ps qs pid n → Advances pid qs rs ts us → length left ≤ length ready + 1 → Turns ps rs ts us ready left
+turns ps qs rs ts us ready left pid n turn r a one_more = record {
   items = n + 1;
   made = advanced ps qs rs ts us pid n turn r a;
   lighter = omega (arith, less ps qs pid n r, a.lighter);
+  less = omega (arith, less ps qs pid n r, a.lighter, one_more);
 }
 
--- a process that had the turn made a step at least before it was stuck
-stuck_later : (ps qs : List (ℕ × Process)) (ts : List (ℕ × List ℕ)) (pid n : ℕ) → IsTurn (Some pid) ps → RunsAt ps qs pid n → one_step (pid_of pid) (kernel_of qs ts) ≡ None → 1 ≤ n
-stuck_later ps qs ts pid zero turn r none =
-    let h = has_turn pid ps turn in
-    let was_able : has_step (next_step (state_of h.process)) ≡ true = first_able _ ps (pid, h.process) h.first in
-    let same : state_of h.process ≡ state_of r.now = ap state_of (same_process ps qs pid r.was r.now h r.changes) ∙ no_silent (state_of r.was) (state_of r.now) r.silent in
-    absurd (some_step (kernel_of qs ts) (pid_of pid) (next_step (state_of r.now)) (ap (λ s. has_step (next_step s)) (sym same) ∙ was_able) (no_fork ((r.now).small).status (state_of r.now)) (sym (next_of ps qs ts pid r.was r.now r.changes) ∙ none))
-stuck_later ps qs ts pid (suc n) turn r none = omega arith
+-- a process that makes silent steps had a step
+able_before : (n : ℕ) (s t : ProcState) → silently n s ≡ Some t → 1 ≤ n → has_step (next_step s) ≡ true
+able_before zero s t e some = absurd (omega arith)
+able_before (suc zero) s t e some =
+    let last = last_silent 0 s t e in
+    ap (λ q. has_step (next_step q)) (no_silent s last.before last.made) ∙ ap has_step last.last
+able_before (suc (suc n)) s t e some = let last = last_silent (suc n) s t e in able_before (suc n) s last.before last.made (omega arith)
 
-pub turns_stuck : (ps qs rs : List (ℕ × Process)) (ts us : List (ℕ × List ℕ)) (pid n : ℕ) → IsTurn (Some pid) ps → RunsAt ps qs pid n → one_step (pid_of pid) (kernel_of qs ts) ≡ None → rs ≡ qs → us ≡ ts → Turns ps rs ts us
-turns_stuck ps qs rs ts us pid n turn r none same same_ttys = record {
-  items = n;
-  made = ran ps qs ts pid n turn r ∙ ap (λ es. Some (kernel_of es ts)) (sym same) ∙ ap (λ t. Some (kernel_of rs t)) (sym same_ttys);
-  lighter = omega (arith, less ps qs pid n r, stuck_later ps qs ts pid n turn r none, ap total_load same);
-}
+-- one that made steps, or makes one now, had a step before
+pub able_ran : (ps qs : List (ℕ × Process)) (pid n : ℕ) (r : RunsAt ps qs pid n) → 1 ≤ n → has_step (next_step (state_of r.was)) ≡ true
+able_ran ps qs pid n r some = able_before n (state_of r.was) (state_of r.now) r.silent some
+
+pub able_first : (ps qs rs : List (ℕ × Process)) (ts us : List (ℕ × List ℕ)) (pid n : ℕ) (r : RunsAt ps qs pid n) → Advances pid qs rs ts us → has_step (next_step (state_of r.was)) ≡ true
+able_first ps qs rs ts us pid zero r a = ap (λ s. has_step (next_step s)) (no_silent (state_of r.was) (state_of r.now) r.silent) ∙ able ps qs rs ts us pid zero r a
+able_first ps qs rs ts us pid (suc n) r a = able_ran ps qs pid (suc n) r (omega arith)
+
+-- one that is stuck has none
+pub none_stuck : (ps qs : List (ℕ × Process)) (ts : List (ℕ × List ℕ)) (pid n : ℕ) (r : RunsAt ps qs pid n) → one_step (pid_of pid) (kernel_of qs ts) ≡ None → has_step (next_step (state_of r.now)) ≡ false
+none_stuck ps qs ts pid n r none = by_test (has_step (next_step (state_of r.now))) refl
+  where
+    by_test : (b : Bool) → has_step (next_step (state_of r.now)) ≡ b → b ≡ false
+    by_test true is = absurd (some_step (kernel_of qs ts) (pid_of pid) (next_step (state_of r.now)) is (no_fork ((r.now).small).status (state_of r.now)) (sym (next_of ps qs ts pid r.was r.now r.changes) ∙ none))
+    by_test false is = refl
 
 -- ---- a run to the end
 
@@ -310,6 +316,28 @@ stuck_there p qs rs ts us none same same_ttys = ap (λ es. one_step p (kernel_of
 pub no_steps : (p : Pid) (k : Kernel) → steps 0 p k ≡ Some k
 unfolding steps
 no_steps p k = refl
+
+-- a process that was stuck is taken out of those that may have a step
+pub turns_stuck : (ps qs rs : List (ℕ × Process)) (ts us : List (ℕ × List ℕ)) (ready left : List ℕ) (pid n : ℕ) → (1 ≤ n → IsTurn (Some pid) ps) → RunsAt ps qs pid n → rs ≡ qs → us ≡ ts → length left < length ready → Turns ps rs ts us ready left
+turns_stuck ps qs rs ts us ready left pid n turn r same same_ttys shorter = record {
+  items = n;
+  made = by_count n turn r ∙ ap (λ es. Some (kernel_of es ts)) (sym same) ∙ ap (λ t. Some (kernel_of rs t)) (sym same_ttys);
+  lighter = omega (arith, less ps qs pid n r, ap total_load same);
+  less = omega (arith, less ps qs pid n r, ap total_load same, shorter);
+}
+  where
+    by_count : (m : ℕ) → (1 ≤ m → IsTurn (Some pid) ps) → RunsAt ps qs pid m → default_after m (kernel_of ps ts) ≡ Some (kernel_of qs ts)
+    by_count zero turn r = no_turns ps ts ∙ sym (no_steps (pid_of pid) (kernel_of ps ts)) ∙ ran_steps ps qs ts pid 0 r
+    by_count (suc m) turn r = ran ps qs ts pid (suc m) (turn (omega arith)) r
+
+-- one that is not there as well
+pub turns_nobody : (ps rs : List (ℕ × Process)) (ts us : List (ℕ × List ℕ)) (ready left : List ℕ) → rs ≡ ps → us ≡ ts → length left < length ready → Turns ps rs ts us ready left
+turns_nobody ps rs ts us ready left same same_ttys shorter = record {
+  items = 0;
+  made = no_turns ps ts ∙ ap (λ es. Some (kernel_of es ts)) (sym same) ∙ ap (λ t. Some (kernel_of rs t)) (sym same_ttys);
+  lighter = omega (arith, ap total_load same);
+  less = omega (arith, ap total_load same, shorter);
+}
 
 -- a process is there where its map has the same keys
 pub still_there : {X : Type 0} → (k : ℕ) (es fs : List (ℕ × X)) → keys fs ≡ keys es → IsSome (lookup (at_key k) es) → IsSome (lookup (at_key k) fs)

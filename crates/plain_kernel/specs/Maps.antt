@@ -1,6 +1,6 @@
 -- The maps that hold a kernel, and what of it is still to come.
 use Rattle.std.specs.Prelude.{ℕ, ◌≡◌, ◌+◌, ◌*◌, ◌^◌, ◌≤◌, ◌<◌, Bool, true, false, ◌||◌, if◌then◌else◌, List, [], fold, find, length, map, slice_get, option_map, Option, Some, None, Result, Ok, Err}
-use Rattle.std.specs.Ordering.{nat_cmp, is_eq}
+use Rattle.std.specs.Ordering.{nat_cmp, is_eq, is_gt}
 use Rattle.std.specs.List.Sorted.{IsStrictlySortedBy}
 use Rattle.std.specs.List.{list_any, sum_by}
 use Rattle.std.specs.Map.{values_of, lookup, set_value}
@@ -148,11 +148,21 @@ IsTurn next es = next ≡ option_map (λ (e : ℕ × Process). e.0) (lowest_of e
 abbrev pub Covers : List (ℕ × Process) → List ℕ → Type 0
 Covers es ready = (q : ℕ) (p : Process) → lookup (at_key q) es ≡ Some p → has_step (next_step (state_of p)) ≡ true → list_any (at_key q) ready ≡ true
 
--- items of the default schedule were made, one at least
-pub record Turns (ps qs : List (ℕ × Process)) (ts us : List (ℕ × List ℕ)) : Type 0 where
+-- a pid is in a list, and none there is lower
+abbrev pub IsFirst : ℕ → List ℕ → Type 0
+IsFirst pid ready = (list_any (at_key pid) ready ≡ true) × ((q : ℕ) → list_any (at_key q) ready ≡ true → is_gt (nat_cmp pid q) ≡ false)
+
+-- items of the default schedule were made, or one pid less is left that may have a step
+pub record Turns (ps qs : List (ℕ × Process)) (ts us : List (ℕ × List ℕ)) (ready left : List ℕ) : Type 0 where
   pub items : ℕ
   pub made : default_after items (kernel_of ps ts) ≡ Some (kernel_of qs us)
-  pub lighter : total_load qs + 1 ≤ total_load ps
+  pub lighter : total_load qs ≤ total_load ps
+  pub less : 2 * total_load qs + length left < 2 * total_load ps + length ready
+
+-- a process made so many silent steps, or it is not there
+abbrev pub RunsIfThere : Option ℕ → List (ℕ × Process) → List (ℕ × Process) → ℕ → Type 0
+RunsIfThere (Some n) old new pid = RunsAt old new pid n
+RunsIfThere None old new pid = (lookup (at_key pid) old ≡ None) × (new ≡ old)
 
 -- ---- boot, one map at a time
 

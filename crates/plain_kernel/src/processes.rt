@@ -1,11 +1,10 @@
 //! The processes of a kernel by pid.
-ghost use Rattle.std.specs.Prelude.{◌≡◌, ◌≤◌, IsSome, IfOk, map, option_map, find, Ok, Some, false};
-ghost use Rattle.std.specs.Option.{option_map_or};
+ghost use Rattle.std.specs.Prelude.{◌≡◌, ◌≤◌, IsSome, IfOk, map, option_map, find, Ok, Some};
 ghost use Rattle.std.specs.BTreeMap.{get, keys};
 ghost use Rattle.std.specs.Ordering.{nat_cmp};
 ghost use Rattle.proc_state.specs.State.{state_of};
 ghost use Rattle.sys_calls.specs.Next.{has_step, next_step};
-ghost use Rattle.plain_kernel.specs.Maps.{pid_of, Covers, RunsAt, StepsAt};
+ghost use Rattle.plain_kernel.specs.Maps.{pid_of, Covers, RunsAt, RunsIfThere, StepsAt};
 
 use proc_state::process::Process;
 use std::alloc::Global;
@@ -55,13 +54,13 @@ pub fn step_at(
     }
 }
 
-/// Whether the process with a pid has a step.
-pub fn can_step_at(processes: &BTreeMap<u32, Process>, pid: u32) -> bool
-    ensures { result ≡ option_map_or (λ p. has_step (next_step (state_of p))) (get nat_cmp processes.now pid) false }
+/// Makes as many instructions as it can of the process with a pid, and answers how many, if it is there.
+pub fn run_if_there(processes: &mut BTreeMap<u32, Process>, pid: u32) -> Option<u32>
+    ensures { RunsIfThere result processes.old.entries processes.new.entries pid }
 {
-    match processes.get(&pid) {
-        Some(process) => can_step(process),
-        None => false,
+    match processes.get_mut(&pid) {
+        Some(process) => Some(run_instructions(process, u32::MAX)),
+        None => None,
     }
 }
 

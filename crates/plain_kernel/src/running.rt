@@ -1,12 +1,12 @@
 //! Many steps of a kernel: those of one process, and those of the default schedule.
-ghost use Rattle.std.specs.Prelude.{◌≤◌, ◌<◌, ◌^◌, IsSome, OnOk, Some};
+ghost use Rattle.std.specs.Prelude.{◌≤◌, ◌<◌, ◌^◌, IsSome, OnOk};
 ghost use Rattle.std.specs.BTreeMap.{get};
 ghost use Rattle.std.specs.Ordering.{nat_cmp};
-ghost use Rattle.plain_kernel.specs.Maps.{kernel_of, total_load, Covers, IsTurn, RunsSteps, Turns};
+ghost use Rattle.plain_kernel.specs.Maps.{kernel_of, total_load, Covers, IsFirst, RunsSteps, Turns};
 ghost use Rattle.plain_kernel.specs.Still.{Reaches};
 
 use crate::item::NotApplied;
-use crate::processes::{can_step_at, pid_set, run_at};
+use crate::processes::{pid_set, run_at, run_if_there};
 use crate::sending::{Made, go_on, make_step};
 use proc_state::process::Process;
 use std::alloc::Global;
@@ -50,8 +50,8 @@ fn at_most(count: u64) -> u32
 
 /// Makes the steps of the default schedule until none is left. After want of memory nothing is said.
 ///
-/// A process that was asked for a step and has none is not asked again before a letter comes to it, so no
-/// turn walks over the processes that wait.
+/// A process that was stuck is not tried again before a letter comes to it, so no turn walks over the
+/// processes that wait, and none is asked for a step before it makes it.
 pub fn run_to_end(
     alloc: Global,
     processes: &mut BTreeMap<u32, Process>,
@@ -62,32 +62,16 @@ pub fn run_to_end(
     ensures room { OnOk result (total_load processes.new.entries < 2 ^ 64) }
 {
     let mut ready = pid_set(alloc, processes)?;
-    'turns: while let Some(pid) = next_turn(processes, &mut ready) {
+    'turns: while let Some(pid) = ready.first().copied() {
         take_turn(alloc, processes, ttys, &mut ready, pid)?;
     }
+    // A map tells with its length that its keys are in order.
+    let _count = processes.len();
     Ok(())
 }
 
-// The lowest pid that has a step, which is among those that may have one. Those that were asked in vain
-// are taken out.
-fn next_turn(processes: &BTreeMap<u32, Process>, ready: &mut BTreeSet<u32>) -> Option<u32>
-    requires { Covers processes.now.entries ready.old.keys }
-    ensures turn { IsTurn result processes.now.entries }
-    ensures covers { Covers processes.now.entries ready.new.keys }
-{
-    // A map tells with its length that its keys are in order.
-    let _count = processes.len();
-    'asked: while let Some(pid) = ready.first().copied() {
-        if can_step_at(processes, pid) {
-            return Some(pid);
-        }
-        ready.remove(&pid);
-    }
-    None
-}
-
-// The process that has the turn makes instructions and one more step. One to which it sent a letter may
-// have a step then.
+// The first of those that may have a step makes instructions and one more step, so it had the turn; or it
+// is stuck, and is taken out. One to which it sent a letter may have a step then.
 fn take_turn(
     alloc: Global,
     processes: &mut BTreeMap<u32, Process>,
@@ -95,21 +79,27 @@ fn take_turn(
     ready: &mut BTreeSet<u32>,
     pid: u32,
 ) -> Result<(), NoMemory>
-    requires turn { IsTurn (Some pid) processes.old.entries }
+    requires first { IsFirst pid ready.old.keys }
     requires room { total_load processes.old.entries < 2 ^ 64 }
     requires covers { Covers processes.old.entries ready.old.keys }
-    ensures turns { OnOk result (Turns processes.old.entries processes.new.entries ttys.old.entries ttys.new.entries) }
+    ensures turns { OnOk result (Turns processes.old.entries processes.new.entries ttys.old.entries ttys.new.entries ready.old.keys ready.new.keys) }
     ensures covers { OnOk result (Covers processes.new.entries ready.new.keys) }
 {
-    // A map tells with its length that its keys are in order, so the process that was found is there.
+    // A map tells with its length that its keys are in order.
     let _count = processes.len();
-    run_at(processes, pid, u32::MAX);
+    let Some(_) = run_if_there(processes, pid) else {
+        ready.remove(&pid);
+        return Ok(());
+    };
     match go_on(alloc, processes, ttys, pid)? {
         Made::Went => Ok(()),
         Made::Sent(to) => {
             ready.insert(to)?;
             Ok(())
         }
-        Made::Stuck => Ok(()),
+        Made::Stuck => {
+            ready.remove(&pid);
+            Ok(())
+        }
     }
 }

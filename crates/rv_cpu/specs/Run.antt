@@ -1,8 +1,10 @@
 -- Many instructions, one after another.
-use Rattle.std.specs.Prelude.{ℕ, zero, suc, Bool, List, Option, Some, None, option_and_then}
+use Rattle.std.specs.Prelude.{◌≡◌, ℕ, zero, suc, Bool, List, Option, Some, None, option_and_then}
 use Rattle.t32_base.specs.Registers.{Registers}
 use Rattle.rv_mem.specs.Marks.{Memory}
-use Rattle.rv_cpu.specs.Exec.{Executed, Steps, Calls, Traps, exec, exec_marks}
+use Rattle.rv_cpu.specs.Exec.{Executed, Steps, Calls, Traps, did_of, exec, exec_marks}
+use Rattle.rv_cpu.specs.declared.Did.{Did}
+use Rattle.rv_cpu.specs.declared.Did.TheVariants.{Stepped}
 
 -- what an instruction works on: the registers, and the bytes of the memory with a mark for each page
 pub record Machine : Type 0 where
@@ -27,3 +29,7 @@ one m = stepped (exec m.regs m.bytes) (exec_marks m.regs m.bytes m.dirty)
 unfoldable pub ran : ℕ → Machine → Option Machine
 ran zero m = Some m
 ran (suc n) m = option_and_then one (ran n m)
+
+-- an instruction did this, which is no step
+abbrev pub Stops : Executed → Did → Type 0
+Stops e did = (did ≡ did_of e) × (did ≡ Stepped → ⊥)

@@ -10,7 +10,7 @@ ghost use Rattle.rv_insn.specs.Encoding.{IsEncodable};
 ghost use Rattle.rv_insn.specs.Word.{sign_extended};
 ghost use Rattle.rv_mem.specs.Memory.{IsWidth};
 ghost use Rattle.rv_cpu.specs.Exec.{Executed, branches, bytes_after, did_of, exec, exec_marks, executed, fetched, is_call, is_ecall, jumps, loads, marks_after, marks_stored, onward, plus, reg, regs_after, set_reg, signed, stores, widened, word};
-ghost use Rattle.rv_cpu.specs.Run.{machine_of, one, ran};
+ghost use Rattle.rv_cpu.specs.Run.{machine_of, one, ran, Stops};
 
 use crate::registers::{advance, read, write};
 use byteorder::{ByteOrder, LittleEndian};
@@ -34,8 +34,49 @@ pub enum Did {
 
 /// Makes the instruction at `pc`, on the registers and the memory of a process (RISC-V unprivileged
 /// specification, RV32I). A store marks the page that it writes to. Takes no memory.
-#[inline(always)]
 pub fn exec(regs: &mut Regs, ram: &mut Ram) -> Did
+    ensures did { result ≡ did_of (exec regs.old ram.old.bytes) }
+    ensures regs { regs.new ≡ regs_after (exec regs.old ram.old.bytes) regs.old }
+    ensures bytes { ram.new.bytes ≡ bytes_after (exec regs.old ram.old.bytes) ram.old.bytes }
+    ensures dirty { ram.new.dirty ≡ exec_marks regs.old ram.old.bytes ram.old.dirty }
+    ensures marks { length ram.new.dirty ≡ length ram.old.dirty }
+{
+    go(regs, ram, 1).1
+}
+
+/// Makes instructions as `exec` does, at most `most`, and stops before the first one that is a system call
+/// or a trap. Answers how many it made. Where that is below `most`, `exec` tells what the next one is. Takes
+/// no memory.
+pub fn run(regs: &mut Regs, ram: &mut Ram, most: u32) -> u32
+    ensures made { result ≤ most }
+    ensures ran { ran result (machine_of regs.old ram.old) ≡ Some (machine_of regs.new ram.new) }
+    ensures stops { result < most → one (machine_of regs.new ram.new) ≡ None }
+    ensures marks { length ram.new.dirty ≡ length ram.old.dirty }
+{
+    go(regs, ram, most).0
+}
+
+// Makes instructions, at most so many. Answers how many, and what the one did that was tried last. The only
+// place where an instruction is made, so that the compiler makes one loop of it.
+fn go(regs: &mut Regs, ram: &mut Ram, most: u32) -> (u32, Did)
+    ensures made { result.0 ≤ most }
+    ensures ran { ran result.0 (machine_of regs.old ram.old) ≡ Some (machine_of regs.new ram.new) }
+    ensures stops { result.0 < most → Stops (exec regs.new ram.new.bytes) result.1 }
+    ensures all { most ≤ result.0 → result.1 ≡ Did.Stepped }
+    ensures marks { length ram.new.dirty ≡ length ram.old.dirty }
+{
+    for made in 0..most {
+        match instruct(regs, ram) {
+            Did::Stepped => {}
+            did => return (made, did),
+        }
+    }
+    (most, Did::Stepped)
+}
+
+// The instruction at `pc`.
+#[inline(always)]
+fn instruct(regs: &mut Regs, ram: &mut Ram) -> Did
     ensures did { result ≡ did_of (exec regs.old ram.old.bytes) }
     ensures regs { regs.new ≡ regs_after (exec regs.old ram.old.bytes) regs.old }
     ensures bytes { ram.new.bytes ≡ bytes_after (exec regs.old ram.old.bytes) ram.old.bytes }
@@ -49,24 +90,6 @@ pub fn exec(regs: &mut Regs, ram: &mut Ram) -> Did
         None => Did::Trap(2),
         Some(insn) => execute(insn, regs, ram),
     }
-}
-
-/// Makes instructions as `exec` does, at most `most`, and stops before the first one that is a system call
-/// or a trap. Answers how many it made. Where that is below `most`, `exec` tells what the next one is. Takes
-/// no memory.
-pub fn run(regs: &mut Regs, ram: &mut Ram, most: u32) -> u32
-    ensures made { result ≤ most }
-    ensures ran { ran result (machine_of regs.old ram.old) ≡ Some (machine_of regs.new ram.new) }
-    ensures stops { result < most → one (machine_of regs.new ram.new) ≡ None }
-    ensures marks { length ram.new.dirty ≡ length ram.old.dirty }
-{
-    for made in 0..most {
-        match exec(regs, ram) {
-            Did::Stepped => {}
-            Did::Call | Did::Trap(_) => return made,
-        }
-    }
-    most
 }
 
 /// Whether the instruction at `pc` is a system call, `ECALL`. Takes no memory.

@@ -1,9 +1,14 @@
-use Rattle.std.proofs.Common.{length, ap, ◌∙◌}
-use Rattle.rv_cpu.specs.Exec.{executed}
-use Rattle.rv_cpu.proofs.Marks.{length-marks_after}
+use Rattle.rv_cpu.proofs.Single.{single}
 use Rattle.rv_cpu.proofs.exec.Goals as goal
 
-pub returns-in-Some-decode-clause-marks : goal.returns-in-Some-decode-clause-marks
-returns-in-Some-decode-clause-marks c =
-    ap length c.execute.ensures.dirty
-    ∙ length-marks_after (executed c.in-Some-decode.insn c.args.regs.now c.args.ram.now.bytes) c.in-Some-decode.insn c.args.regs.now c.args.ram.now.dirty
+pub returns-clause-did : goal.returns-clause-did
+returns-clause-did c = (single c.go.result.0 c.go.result.1 c.args.regs.now c.args.ram.now c.go.new.regs c.go.new.ram c.go.ensures.made c.go.ensures.ran c.go.ensures.stops c.go.ensures.all).did
+
+pub returns-clause-regs : goal.returns-clause-regs
+returns-clause-regs c = (single c.go.result.0 c.go.result.1 c.args.regs.now c.args.ram.now c.go.new.regs c.go.new.ram c.go.ensures.made c.go.ensures.ran c.go.ensures.stops c.go.ensures.all).regs
+
+pub returns-clause-bytes : goal.returns-clause-bytes
+returns-clause-bytes c = (single c.go.result.0 c.go.result.1 c.args.regs.now c.args.ram.now c.go.new.regs c.go.new.ram c.go.ensures.made c.go.ensures.ran c.go.ensures.stops c.go.ensures.all).bytes
+
+pub returns-clause-dirty : goal.returns-clause-dirty
+returns-clause-dirty c = (single c.go.result.0 c.go.result.1 c.args.regs.now c.args.ram.now c.go.new.regs c.go.new.ram c.go.ensures.made c.go.ensures.ran c.go.ensures.stops c.go.ensures.all).dirty

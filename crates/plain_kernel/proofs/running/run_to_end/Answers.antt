@@ -1,4 +1,5 @@
-use Rattle.std.proofs.Common.{◌+◌, arith}
+use Rattle.std.proofs.Common.{◌+◌, ◌∙◌, sym, arith}
+use Rattle.plain_kernel.proofs.Ready.{first_none, none_listed}
 use Rattle.plain_kernel.proofs.Turns.{no_turns, more_turns, reached}
 use Rattle.plain_kernel.proofs.running.run_to_end.Goals as goal
 
@@ -12,4 +13,7 @@ turns-preserved c =
     record { items = i.items + t.items; made = more_turns i.items t.items _ _ _ i.made t.made; lighter = omega (arith, i.lighter, t.lighter); covers = c.in_ok-take_turn.ensures.covers }
 
 pub returns-clause-reaches : goal.returns-clause-reaches
-returns-clause-reaches c = let i = c.turns.invariant in reached i.items _ _ _ i.made (rw c.in_default.is at c.next_turn.ensures.turn)
+returns-clause-reaches c =
+    let i = c.turns.invariant in
+    reached i.items _ _ _ i.made
+    (none_listed c.turns.processes.entries c.turns.ready.keys c.len-count.ensures.ordered i.covers (first_none c.first.result c.turns.ready.keys c.first.ensures.variant.1 (sym c.copied.ensures ∙ c.in_default.is)))

@@ -1,4 +1,4 @@
-use Rattle.std.proofs.Common.{ℕ, ◌≡◌, ◌≤◌, Some}
+use Rattle.std.proofs.Common.{ℕ, ◌≡◌, ◌≤◌, ◌+◌, ◌*◌, length, Some}
 use Rattle.plain_kernel.specs.Still.{default_after}
 use Rattle.plain_kernel.specs.Maps.{kernel_of, total_load, Covers}
 use Rattle.plain_kernel.proofs.running.run_to_end.Given as goal
@@ -12,4 +12,4 @@ invariant-turns l = record {
 }
 
 abbrev pub decreases-turns : goal.decreases-turns
-decreases-turns l = total_load l.processes.entries
+decreases-turns l = 2 * total_load l.processes.entries + length l.ready.keys
