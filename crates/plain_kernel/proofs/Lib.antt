@@ -9,3 +9,4 @@ pub mod Roots
 mod Ready
 mod Turns
 pub mod Others
+mod Ahead

@@ -244,7 +244,7 @@ advanced ps qs rs ts us pid n turn r a =
     let lowest_is : lowest (kernel_of qs ts) ≡ Some (pid_of pid, state_of r.now) = lowest_states qs ∙ ap (option_map (λ (e : ℕ × Process). (pid_of e.0, state_of e.1))) first in
     default_joined n 1 _ _ _ (ran ps qs ts pid n turn r) (default_one _ _ (one_default (kernel_of qs ts) (pid_of pid) (state_of r.now) lowest_is ∙ a.one))
 
-pub less : (ps qs : List (ℕ × Process)) (pid n : ℕ) → RunsAt ps qs pid n → total_load qs + 2 * n ≡ total_load ps
+pub less : (ps qs : List (ℕ × Process)) (pid n : ℕ) → RunsAt ps qs pid n → total_load qs + 2 * n ≤ total_load ps
 less ps qs pid n r = omega (arith, load_after ps qs pid r.was r.now r.changes, r.lighter)
 
 -- a step was made

@@ -75,7 +75,7 @@ pub record RunsAt (old new : List (ℕ × Process)) (pid n : ℕ) : Type 0 where
   pub now : Process
   pub changes : Changes old new pid was now
   pub silent : silently n (state_of was) ≡ Some (state_of now)
-  pub lighter : load now + 2 * n ≡ load was
+  pub lighter : load now + 2 * n ≤ load was
 
 -- a step that was made leaves less to come
 abbrev pub Lighter : Result Step NoMemory → Process → Process → Type 0
@@ -159,9 +159,16 @@ pub record Turns (ps qs : List (ℕ × Process)) (ts us : List (ℕ × List ℕ)
   pub lighter : total_load qs ≤ total_load ps
   pub less : 2 * total_load qs + length left < 2 * total_load ps + length ready
 
--- a process made so many silent steps, or it is not there
-abbrev pub RunsIfThere : Option ℕ → List (ℕ × Process) → List (ℕ × Process) → ℕ → Type 0
-RunsIfThere (Some n) old new pid = RunsAt old new pid n
+-- silent steps of the process with a pid, and then its next step
+pub record RunsAndSteps (old new : List (ℕ × Process)) (pid : ℕ) (step : Step) : Type 0 where
+  pub count : ℕ
+  pub between : List (ℕ × Process)
+  pub runs : RunsAt old between pid count
+  pub steps : StepsAt between new pid (Ok step)
+
+-- so it is with the process, or it is not there
+abbrev pub RunsIfThere : Option Step → List (ℕ × Process) → List (ℕ × Process) → ℕ → Type 0
+RunsIfThere (Some step) old new pid = RunsAndSteps old new pid step
 RunsIfThere None old new pid = (lookup (at_key pid) old ≡ None) × (new ≡ old)
 
 -- ---- boot, one map at a time

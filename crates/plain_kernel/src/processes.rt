@@ -9,7 +9,7 @@ ghost use Rattle.plain_kernel.specs.Maps.{pid_of, Covers, RunsAt, RunsIfThere, S
 use proc_state::process::Process;
 use std::alloc::Global;
 use std::collections::{BTreeMap, BTreeSet};
-use sys_calls::stepping::{can_step, run_instructions, step};
+use sys_calls::stepping::{can_step, run_instructions, run_on, step};
 use sys_calls::steps::Step;
 use t32_base::lists::List;
 use t32_base::process::Pid;
@@ -54,13 +54,20 @@ pub fn step_at(
     }
 }
 
-/// Makes as many instructions as it can of the process with a pid, and answers how many, if it is there.
-pub fn run_if_there(processes: &mut BTreeMap<u32, Process>, pid: u32) -> Option<u32>
-    ensures { RunsIfThere result processes.old.entries processes.new.entries pid }
+/// Runs the process with a pid, if it is there, up to a step that is not silent, and makes that.
+pub fn run_if_there(
+    alloc: Global,
+    processes: &mut BTreeMap<u32, Process>,
+    pid: u32,
+) -> Result<Option<Step>, NoMemory>
+    ensures { IfOk result (λ step. RunsIfThere step processes.old.entries processes.new.entries pid) }
 {
     match processes.get_mut(&pid) {
-        Some(process) => Some(run_instructions(process, u32::MAX)),
-        None => None,
+        Some(process) => {
+            let step = run_on(alloc, process)?;
+            Ok(Some(step))
+        }
+        None => Ok(None),
     }
 }
 

@@ -7,10 +7,11 @@ ghost use Rattle.plain_kernel.specs.Still.{Reaches};
 
 use crate::item::NotApplied;
 use crate::processes::{pid_set, run_at, run_if_there};
-use crate::sending::{Made, go_on, make_step};
+use crate::sending::{Made, make_step, send};
 use proc_state::process::Process;
 use std::alloc::Global;
 use std::collections::{BTreeMap, BTreeSet};
+use sys_calls::steps::{Emission, Step};
 use t32_base::lists::Bytes;
 use t32_base::streams::NoMemory;
 
@@ -70,8 +71,8 @@ pub fn run_to_end(
     Ok(())
 }
 
-// The first of those that may have a step makes instructions and one more step, so it had the turn; or it
-// is stuck, and is taken out. One to which it sent a letter may have a step then.
+// The first of those that may have a step runs up to a step that is not silent, so it had the turn, and its letter is
+// delivered: one to which it sent may have a step then. Or it is stuck, and is taken out.
 fn take_turn(
     alloc: Global,
     processes: &mut BTreeMap<u32, Process>,
@@ -87,19 +88,21 @@ fn take_turn(
 {
     // A map tells with its length that its keys are in order.
     let _count = processes.len();
-    let Some(_) = run_if_there(processes, pid) else {
+    let Some(step) = run_if_there(alloc, processes, pid)? else {
         ready.remove(&pid);
         return Ok(());
     };
-    match go_on(alloc, processes, ttys, pid)? {
-        Made::Went => Ok(()),
-        Made::Sent(to) => {
-            ready.insert(to)?;
-            Ok(())
+    match step {
+        Step::Emit(Emission::Mail(letter)) => {
+            if let Some(to) = send(processes, ttys, letter)? {
+                ready.insert(to)?;
+            }
         }
-        Made::Stuck => {
+        Step::Emit(Emission::Exit(_)) => {}
+        Step::Silent => {}
+        Step::Blocked | Step::Forks | Step::Over => {
             ready.remove(&pid);
-            Ok(())
         }
     }
+    Ok(())
 }

@@ -47,9 +47,9 @@ pub fn make_step(
     }
 }
 
-/// The same without a way back, and so without a copy of the state: after want of memory that of the
-/// process with the pid may have changed, and nothing else has.
-pub fn go_on(
+// The same without a way back: after want of memory the state of the process with the pid may have changed, and nothing
+// else has.
+fn go_on(
     alloc: Global,
     processes: &mut BTreeMap<u32, Process>,
     ttys: &mut BTreeMap<u8, Bytes>,
@@ -96,8 +96,9 @@ fn restore(processes: &mut BTreeMap<u32, Process>, pid: u32, before: Small)
     }
 }
 
-// Delivers a letter, and answers the pid of the process to which it went, if it went to one.
-fn send(
+/// Delivers a letter, and answers the pid of the process to which it went, if it went to one. After want of memory
+/// nothing is changed.
+pub fn send(
     processes: &mut BTreeMap<u32, Process>,
     ttys: &mut BTreeMap<u8, Bytes>,
     letter: Letter,

@@ -23,13 +23,14 @@ fn runs_to_the_call(rt: HostRuntime) -> Result<(), Fail> {
     let mut ram = Ram::filled(rt.alloc(), 2, &PROGRAM).ok().ok_or("memory")?;
     let mut regs = Regs::new(0x10000);
     regs.x[7] = 0x10100;
-    for (most, made, pc, x6) in [
-        (0, 0, 0x10000, 0),
-        (4, 4, 0x10010, 2),
-        (100, 9, 0x10014, 6),
-        (100, 0, 0x10014, 6),
+    for (most, made, did, pc, x6) in [
+        (0, 0, Did::Stepped, 0x10000, 0),
+        (4, 4, Did::Stepped, 0x10010, 2),
+        (9, 9, Did::Stepped, 0x10014, 6),
+        (100, 0, Did::Call, 0x10014, 6),
     ] {
-        assert_eq!(rt; run(&mut regs, &mut ram, most), made, "at most {most}");
+        let ran = run(&mut regs, &mut ram, most);
+        assert_eq!(rt; ran, (made, did), "at most {most}");
         assert_eq!(rt; regs.pc, pc);
         assert_eq!(rt; regs.x[6], x6);
     }

@@ -78,10 +78,6 @@ pub one_steps : (regs : Registers) (memory : Memory) → Stepped ≡ did_of (exe
 unfolding one
 one_steps regs memory h = steps_on (exec regs memory.bytes) (exec_marks regs memory.bytes memory.dirty) regs memory.bytes h
 
-pub one_stops : (regs : Registers) (memory : Memory) → (Stepped ≡ did_of (exec regs memory.bytes) → ⊥) → one (machine_of regs memory) ≡ None
-unfolding one
-one_stops regs memory h = is_none (exec regs memory.bytes) (exec_marks regs memory.bytes memory.dirty) h
-
 pub all_stays : (regs : Registers) (memory : Memory) → (Stepped ≡ did_of (exec regs memory.bytes) → ⊥) →
     left_by (exec regs memory.bytes) (exec_marks regs memory.bytes memory.dirty) regs memory.bytes ≡ machine_of regs memory
 all_stays regs memory h = same_parts (regs_stay (exec regs memory.bytes) regs h) (bytes_stay (exec regs memory.bytes) memory.bytes h) (marks_stay regs memory.bytes memory.dirty h)

@@ -4,13 +4,13 @@
 
 pub mod registers;
 
-ghost use Rattle.std.specs.Prelude.{◌≡◌, ◌*◌, ◌^◌, ◌<◌, ◌≤◌, ℕ, List, Some, None, length, int_lt};
+ghost use Rattle.std.specs.Prelude.{◌≡◌, ◌*◌, ◌^◌, ◌<◌, ◌≤◌, ℕ, List, Some, length, int_lt};
 ghost use Rattle.std.specs.Int.{w32, cast_unsigned, cast_signed};
 ghost use Rattle.rv_insn.specs.Encoding.{IsEncodable};
 ghost use Rattle.rv_insn.specs.Word.{sign_extended};
 ghost use Rattle.rv_mem.specs.Memory.{IsWidth};
 ghost use Rattle.rv_cpu.specs.Exec.{Executed, branches, bytes_after, did_of, exec, exec_marks, executed, fetched, is_call, is_ecall, jumps, loads, marks_after, marks_stored, onward, plus, reg, regs_after, set_reg, signed, stores, widened, word};
-ghost use Rattle.rv_cpu.specs.Run.{machine_of, one, ran, Stops};
+ghost use Rattle.rv_cpu.specs.Run.{machine_of, ran, Stops};
 
 use crate::registers::{advance, read, write};
 use byteorder::{ByteOrder, LittleEndian};
@@ -41,24 +41,15 @@ pub fn exec(regs: &mut Regs, ram: &mut Ram) -> Did
     ensures dirty { ram.new.dirty ≡ exec_marks regs.old ram.old.bytes ram.old.dirty }
     ensures marks { length ram.new.dirty ≡ length ram.old.dirty }
 {
-    go(regs, ram, 1).1
+    run(regs, ram, 1).1
 }
 
 /// Makes instructions as `exec` does, at most `most`, and stops before the first one that is a system call
-/// or a trap. Answers how many it made. Where that is below `most`, `exec` tells what the next one is. Takes
-/// no memory.
-pub fn run(regs: &mut Regs, ram: &mut Ram, most: u32) -> u32
-    ensures made { result ≤ most }
-    ensures ran { ran result (machine_of regs.old ram.old) ≡ Some (machine_of regs.new ram.new) }
-    ensures stops { result < most → one (machine_of regs.new ram.new) ≡ None }
-    ensures marks { length ram.new.dirty ≡ length ram.old.dirty }
-{
-    go(regs, ram, most).0
-}
-
-// Makes instructions, at most so many. Answers how many, and what the one did that was tried last. The only
-// place where an instruction is made, so that the compiler makes one loop of it.
-fn go(regs: &mut Regs, ram: &mut Ram, most: u32) -> (u32, Did)
+/// or a trap. Answers how many it made, and what the one did that it tried last: the call or the trap at which it
+/// stopped, or `Stepped` where it made `most`. Takes no memory.
+///
+/// It is the only place where an instruction is made, so that the compiler makes one loop of it.
+pub fn run(regs: &mut Regs, ram: &mut Ram, most: u32) -> (u32, Did)
     ensures made { result.0 ≤ most }
     ensures ran { ran result.0 (machine_of regs.old ram.old) ≡ Some (machine_of regs.new ram.new) }
     ensures stops { result.0 < most → Stops (exec regs.new ram.new.bytes) result.1 }

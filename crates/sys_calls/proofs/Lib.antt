@@ -9,3 +9,4 @@ pub mod Leaving
 pub mod Taking
 pub mod Clean
 pub mod ForkLaws
+mod Ahead

@@ -31,12 +31,6 @@ with_end s i end = record s { ends = slice_set s.ends i end }
 abbrev pub with_ends : SmallState → List EndState → SmallState
 with_ends s ends = record s { ends = ends }
 
--- what an instruction leaves: it is spent, unless it is a system call, which is yet to be made
-abbrev pub small_after : Executed → SmallState → SmallState
-small_after (Steps regs bytes) s = with_regs (spent s) regs
-small_after (Traps code) s = with_status (spent s) (Closing (Trap code))
-small_after Calls s = s
-
 -- n instructions that step were spent, and left these registers
 abbrev pub after_instructions : ℕ → SmallState → Registers → SmallState
 after_instructions n s regs = record s { regs = regs; left = s.left - n; steps = s.steps + n }

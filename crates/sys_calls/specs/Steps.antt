@@ -1,5 +1,5 @@
 -- What the call `step` answers, by the next step of its process.
-use Rattle.std.specs.Prelude.{◌≡◌, ℕ, ◌+◌, ◌≤◌, List, [], ◌∷◌, ◌++◌, Bool, Option, Some, None, Result, Ok, Err}
+use Rattle.std.specs.Prelude.{◌≡◌, ℕ, ◌+◌, ◌≤◌, List, [], ◌∷◌, ◌++◌, Bool, true, false, Option, Some, None, Result, Ok, Err}
 use Rattle.t32_base.specs.declared.letter.Arrived.{Arrived}
 use Rattle.t32_base.specs.Small.{SmallState}
 use Rattle.t32_base.specs.declared.streams.NoMemory.{NoMemory}
@@ -11,7 +11,7 @@ use Rattle.sys_calls.specs.declared.steps.Step.TheVariants.{Silent as WasSilent,
 use Rattle.sys_calls.specs.Small.{weight}
 use Rattle.sys_calls.specs.declared.reading.Wanted.{Wanted}
 use Rattle.sys_calls.specs.Calls.{Next, Silent, Blocked, Forks, Emits, Over, first_wanted, is_wanted}
-use Rattle.sys_calls.specs.Next.{Marked}
+use Rattle.sys_calls.specs.Next.{Marked, next_step, silently}
 
 -- a process that a kernel runs, with the marks of its pages
 abbrev pub marked : Process → Marked
@@ -75,3 +75,20 @@ Touches (Ok WasBlocked) old new = new ≡ old
 Touches (Ok WouldFork) old new = new ≡ old
 Touches (Ok WasOver) old new = new ≡ old
 Touches (Err e) old new = new ≡ old
+
+abbrev pub is_silent : Step → Bool
+is_silent WasSilent = true
+is_silent WasBlocked = false
+is_silent WouldFork = false
+is_silent (Emit e) = false
+is_silent WasOver = false
+
+-- silent steps, and then what the call `step` answers
+pub record RunsOn (step : Step) (old new : Process) : Type 0 where
+  pub steps : ℕ
+  pub before : Process
+  pub silent : silently steps (state_of old) ≡ Some (state_of before)
+  pub lighter : weight before.small + steps ≤ weight old.small
+  pub makes : Makes (next_step (state_of before)) (Ok step) (state_of before) (state_of new)
+  pub shorter : Shorter (Ok step) before.small new.small
+  pub touches : Touches (Ok step) before new

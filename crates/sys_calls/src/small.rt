@@ -22,6 +22,13 @@ pub fn is_spent_up(small: &Small) -> bool
     small.left == 0
 }
 
+/// The instructions that are left.
+pub fn instructions_left(small: &Small) -> u32
+    ensures { result ≡ small.now.left }
+{
+    small.left
+}
+
 /// The instructions that are left, but at most so many.
 pub fn at_most(small: &Small, most: u32) -> u32
     ensures { result ≡ min most small.now.left }

@@ -1,15 +1,17 @@
 //! The next step of a process.
-ghost use Rattle.std.specs.Prelude.{◌≡◌, ◌<◌, ◌≤◌, ◌+◌, ◌==◌, Ok, Some};
-ghost use Rattle.rv_cpu.specs.Run.{machine_of, ran};
-ghost use Rattle.rv_cpu.specs.Exec.{bytes_after, did_of, exec, exec_marks, is_call};
+ghost use Rattle.std.specs.Prelude.{◌≡◌, ◌<◌, ◌≤◌, ◌+◌, ◌==◌, Ok, Some, IfOk, false, true};
+ghost use Rattle.rv_cpu.specs.Run.{machine_of, ran, Stops};
+ghost use Rattle.rv_cpu.specs.Exec.{bytes_after, did_of, exec, exec_marks, is_call, regs_after};
 ghost use Rattle.proc_state.specs.State.{state_of};
 ghost use Rattle.sys_calls.specs.Next.{closing_step, has_step, is_blocked, letter_live, letter_taken, live_step, marks_live, next_step, silently_marked, step_marks};
-ghost use Rattle.sys_calls.specs.Small.{after_instructions, lowest_linked, small_after, weight};
-ghost use Rattle.sys_calls.specs.Steps.{marked, Makes, Marks, SameCount, Shorter, Took, Touches, taken_by};
+ghost use Rattle.sys_calls.specs.Small.{after_instructions, lowest_linked, weight, with_regs};
+ghost use Rattle.sys_calls.specs.Steps.{is_silent, marked, Makes, Marks, RunsOn, SameCount, Shorter, Took, Touches, taken_by};
 
 use crate::calls::call;
 use crate::reading::{reading_next, waits};
-use crate::small::{at_most, close, finish, is_live, is_spent_up, run_out, shut_lowest, spend};
+use crate::small::{
+    at_most, close, finish, instructions_left, is_live, is_spent_up, run_out, shut_lowest, spend,
+};
 use crate::steps::{Emission, Step};
 use proc_state::process::Process;
 use rv_cpu::{Did, calls_next, exec, run};
@@ -49,20 +51,100 @@ pub fn run_instructions(p: &mut Process, most: u32) -> u32
         return 0;
     }
     let most = at_most(&p.small, most);
-    instructions(&mut p.small, &mut p.ram, most)
+    instructions(&mut p.small, &mut p.ram, most).0
 }
 
-// At most so many instructions of a live process.
-fn instructions(small: &mut Small, ram: &mut Ram, most: u32) -> u32
+// At most so many instructions of a live process; and what the one did that was tried last.
+fn instructions(small: &mut Small, ram: &mut Ram, most: u32) -> (u32, Did)
     requires left { most ≤ small.old.left }
-    ensures made { result ≤ most }
-    ensures small { small.new ≡ after_instructions result small.old small.new.regs }
-    ensures ran { ran result (machine_of small.old.regs ram.old) ≡ Some (machine_of small.new.regs ram.new) }
+    ensures made { result.0 ≤ most }
+    ensures small { small.new ≡ after_instructions result.0 small.old small.new.regs }
+    ensures ran { ran result.0 (machine_of small.old.regs ram.old) ≡ Some (machine_of small.new.regs ram.new) }
+    ensures stops { result.0 < most → Stops (exec small.new.regs ram.new.bytes) result.1 }
+    ensures all { most ≤ result.0 → result.1 ≡ Did.Stepped }
+    ensures lighter { weight small.new + result.0 ≡ weight small.old }
 {
-    let made = run(&mut small.regs, ram, most);
+    let (made, did) = run(&mut small.regs, ram, most);
     small.left -= made;
     small.steps += u64::from(made);
-    made
+    (made, did)
+}
+
+/// Runs a process up to a step that is not silent, and makes that as `step` does: it sends something, or it is not
+/// made. The answer is never `Silent`. After want of memory nothing is said of the process.
+pub fn run_on(alloc: Global, p: &mut Process) -> Result<Step, NoMemory>
+    ensures runs { IfOk result (λ step. RunsOn step p.old p.new) }
+    ensures heard { IfOk result (λ step. is_silent step ≡ false) }
+{
+    let mut step = run_once(alloc, p)?;
+    'steps: while is_silent(&step) {
+        step = run_once(alloc, p)?;
+    }
+    Ok(step)
+}
+
+// Whether a step sent nothing.
+fn is_silent(step: &Step) -> bool
+    ensures { result ≡ is_silent step.now }
+{
+    matches!(step, Step::Silent)
+}
+
+// Makes as many instructions as a process has up to a system call or a trap, and then the next step.
+fn run_once(alloc: Global, p: &mut Process) -> Result<Step, NoMemory>
+    ensures { IfOk result (λ step. RunsOn step p.old p.new) }
+{
+    match p.small.status {
+        Status::Live => run_live(alloc, p),
+        Status::Closing(_) | Status::Ended(_) => step(alloc, p),
+    }
+}
+
+// The same of a live process: the instruction at which it stops is not looked at again.
+fn run_live(alloc: Global, p: &mut Process) -> Result<Step, NoMemory>
+    requires live { p.old.small.status ≡ Status.Live }
+    ensures { IfOk result (λ step. RunsOn step p.old p.new) }
+{
+    let most = instructions_left(&p.small);
+    let (_, did) = instructions(&mut p.small, &mut p.ram, most);
+    match did {
+        Did::Stepped => Ok(limited(p)),
+        did => stopped(alloc, p, did),
+    }
+}
+
+// A live process with no instruction left closes.
+fn limited(p: &mut Process) -> Step
+    requires live { p.old.small.status ≡ Status.Live }
+    ensures makes { Makes (live_step true (state_of p.old)) (Ok result) (state_of p.old) (state_of p.new) }
+    ensures marks { p.new.ram.dirty ≡ p.old.ram.dirty }
+    ensures count { SameCount p.old p.new }
+    ensures shorter { Shorter (Ok result) p.old.small p.new.small }
+    ensures touches { Touches (Ok result) p.old p.new }
+{
+    run_out(&mut p.small);
+    Step::Silent
+}
+
+// The next step of a live process, which is no instruction that is made: a trap closes it, or it makes a system call.
+fn stopped(alloc: Global, p: &mut Process, did: Did) -> Result<Step, NoMemory>
+    requires some { 0 < p.old.small.left }
+    requires live { p.old.small.status ≡ Status.Live }
+    requires stops { Stops (exec p.old.small.regs p.old.ram.bytes) did }
+    ensures makes { Makes (live_step false (state_of p.old)) result (state_of p.old) (state_of p.new) }
+    ensures marks { Marks result (marks_live false (state_of p.old) p.old.ram.dirty) p.old.ram.dirty p.new.ram.dirty }
+    ensures count { Took (taken_by result (letter_live false (state_of p.old))) p.old p.new }
+    ensures shorter { Shorter result p.old.small p.new.small }
+    ensures touches { Touches result p.old p.new }
+{
+    match did {
+        Did::Stepped => unreachable!(),
+        Did::Trap(code) => {
+            close(&mut p.small, End::Trap(code));
+            Ok(Step::Silent)
+        }
+        Did::Call => call(alloc, p),
+    }
 }
 
 /// Whether `step` would answer neither `Blocked` nor `Over`, want of memory aside. Takes no memory.
@@ -130,30 +212,23 @@ fn live(alloc: Global, p: &mut Process) -> Result<Step, NoMemory>
     ensures touches { Touches result p.old p.new }
 {
     if is_spent_up(&p.small) {
-        run_out(&mut p.small);
-        return Ok(Step::Silent);
+        return Ok(limited(p));
     }
     match instruct(&mut p.small, &mut p.ram) {
-        Did::Stepped => Ok(Step::Silent),
-        Did::Trap(_) => Ok(Step::Silent),
-        Did::Call => call(alloc, p),
+        Did::Stepped => {
+            spend(&mut p.small);
+            Ok(Step::Silent)
+        }
+        did => stopped(alloc, p, did),
     }
 }
 
-// Executes an instruction, which is spent unless it is a system call; a trap closes the process.
+// Executes an instruction, which is not spent yet.
 fn instruct(small: &mut Small, ram: &mut Ram) -> Did
-    requires some { 0 < small.old.left }
-    requires live { small.old.status ≡ Status.Live }
     ensures did { result ≡ did_of (exec small.old.regs ram.old.bytes) }
-    ensures small { small.new ≡ small_after (exec small.old.regs ram.old.bytes) small.old }
+    ensures small { small.new ≡ with_regs small.old (regs_after (exec small.old.regs ram.old.bytes) small.old.regs) }
     ensures bytes { ram.new.bytes ≡ bytes_after (exec small.old.regs ram.old.bytes) ram.old.bytes }
     ensures marks { ram.new.dirty ≡ exec_marks small.old.regs ram.old.bytes ram.old.dirty }
 {
-    let did = exec(&mut small.regs, ram);
-    match did {
-        Did::Stepped => spend(small),
-        Did::Trap(code) => close(small, End::Trap(code)),
-        Did::Call => {}
-    }
-    did
+    exec(&mut small.regs, ram)
 }

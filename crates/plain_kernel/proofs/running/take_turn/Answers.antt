@@ -1,67 +1,80 @@
-use Rattle.std.proofs.Common.{length, ◌∙◌, refl, arith}
-use Rattle.plain_kernel.proofs.Entries.{there_after}
-use Rattle.plain_kernel.proofs.Ready.{covers_nobody, covers_sent, covers_stuck, covers_went, one_less, one_more, turn_of}
-use Rattle.plain_kernel.proofs.Turns.{able_first, able_ran, less, none_stuck, turns, turns_nobody, turns_stuck}
+use Rattle.std.proofs.Common.{◌∙◌, ◌^◌, length}
+use Rattle.plain_kernel.proofs.Ready.{one_less, one_more}
+use Rattle.plain_kernel.proofs.Ahead.{nobody, room_to_send, sent_to, taken_out, told, went_out, went_silently}
 use Rattle.plain_kernel.proofs.running.take_turn.Goals as goal
 
 pub returns-in_default-clause-turns : goal.returns-in_default-clause-turns
 returns-in_default-clause-turns c =
-    let none = c.in_default.ensures in
-    turns_nobody _ _ c.args.ttys.now.entries _ c.args.ready.now.keys c.remove.new.self.keys none.1 refl
-    (one_less c.remove.result (length c.remove.new.self.keys) (length c.args.ready.now.keys) (c.remove.ensures.test ∙ c.requires.first.0) c.remove.ensures.len)
+    let none = rw c.in_default.is at c.in_ok-step.ensures in
+    let fewer = one_less c.remove.result (length c.remove.new.self.keys) (length c.args.ready.now.keys) (c.remove.ensures.test ∙ c.requires.first.0) c.remove.ensures.len in
+    (nobody c.args.processes.now.entries c.run_if_there.new.processes.entries c.args.ready.now.keys c.args.pid c.len-count.ensures.ordered c.requires.first c.requires.covers c.args.ttys.now.entries c.remove.new.self.keys none (λ q other. c.remove.ensures.updates.2 q other) fewer).turns
 
 pub returns-in_default-clause-covers : goal.returns-in_default-clause-covers
 returns-in_default-clause-covers c =
-    let none = c.in_default.ensures in
-    covers_nobody c.args.processes.now.entries c.run_if_there.new.processes.entries c.args.ready.now.keys c.remove.new.self.keys c.args.pid none.0 none.1 (λ q other. c.remove.ensures.updates.2 q other) c.requires.covers
+    let none = rw c.in_default.is at c.in_ok-step.ensures in
+    let fewer = one_less c.remove.result (length c.remove.new.self.keys) (length c.args.ready.now.keys) (c.remove.ensures.test ∙ c.requires.first.0) c.remove.ensures.len in
+    (nobody c.args.processes.now.entries c.run_if_there.new.processes.entries c.args.ready.now.keys c.args.pid c.len-count.ensures.ordered c.requires.first c.requires.covers c.args.ttys.now.entries c.remove.new.self.keys none (λ q other. c.remove.ensures.updates.2 q other) fewer).covers
 
-pub go_on-requires-clause-there : goal.go_on-requires-clause-there
-go_on-requires-clause-there c = let r = c.in-Some.ensures in there_after _ _ c.args.pid r.was r.now r.changes
+pub send-requires : goal.send-requires
+send-requires c =
+    let x = rw (c.in-Some.is, c.in-Emit-Mail.is, c.in-Emit-Mail.field-0-is, ← c.in-Emit-Mail.letter-is) at c.in_ok-step.ensures in
+    room_to_send c.args.processes.now.entries c.run_if_there.new.processes.entries c.args.ready.now.keys c.args.pid c.len-count.ensures.ordered c.requires.first c.requires.covers _ (2 ^ 64) x c.requires.room
 
-pub go_on-requires-clause-room : goal.go_on-requires-clause-room
-go_on-requires-clause-room c = omega (arith, less _ _ c.args.pid _ c.in-Some.ensures, c.requires.room)
+pub returns-in_ok-insert-in-Emit-Mail-clause-turns : goal.returns-in_ok-insert-in-Emit-Mail-clause-turns
+returns-in_ok-insert-in-Emit-Mail-clause-turns c =
+    let x = rw (c.in-Some.is, c.in-Emit-Mail.is, c.in-Emit-Mail.field-0-is, ← c.in-Emit-Mail.letter-is) at c.in_ok-step.ensures in
+    let e = c.in_ok-to-in-Emit-Mail.ensures in
+    let goes = rw c.in-Some-2.is at e.goes in
+    let put = c.in_ok-insert-in-Emit-Mail.ensures.updates in
+    let longer = one_more c.in_ok-insert-in-Emit-Mail.field-0 (length c.args.ready.now.keys) (length c.insert.new.self.keys) c.in_ok-insert-in-Emit-Mail.ensures.len in
+    (sent_to c.args.processes.now.entries c.run_if_there.new.processes.entries c.args.ready.now.keys c.args.pid c.len-count.ensures.ordered c.requires.first c.requires.covers c.args.ttys.now.entries c.send.new.ttys.entries c.send.new.processes.entries _ c.in-Some-2.to c.insert.new.self.keys x e.ok e.load e.keys goes put.0 put.1 longer).turns
 
-pub returns-in-Went-clause-turns : goal.returns-in-Went-clause-turns
-returns-in-Went-clause-turns c =
-    let moves = rw c.in-Went.is at c.in_ok-go_on.ensures in
-    let r = c.in-Some.ensures in
-    let turn = turn_of _ _ c.args.ready.now.keys c.args.pid _ c.len-count.ensures.ordered c.requires.first c.requires.covers r (able_first _ _ _ _ _ c.args.pid _ r moves.0) in
-    turns _ _ _ _ _ c.args.ready.now.keys c.args.ready.now.keys c.args.pid _ turn r moves.0 (omega arith)
+pub returns-in_ok-insert-in-Emit-Mail-clause-covers : goal.returns-in_ok-insert-in-Emit-Mail-clause-covers
+returns-in_ok-insert-in-Emit-Mail-clause-covers c =
+    let x = rw (c.in-Some.is, c.in-Emit-Mail.is, c.in-Emit-Mail.field-0-is, ← c.in-Emit-Mail.letter-is) at c.in_ok-step.ensures in
+    let e = c.in_ok-to-in-Emit-Mail.ensures in
+    let goes = rw c.in-Some-2.is at e.goes in
+    let put = c.in_ok-insert-in-Emit-Mail.ensures.updates in
+    let longer = one_more c.in_ok-insert-in-Emit-Mail.field-0 (length c.args.ready.now.keys) (length c.insert.new.self.keys) c.in_ok-insert-in-Emit-Mail.ensures.len in
+    (sent_to c.args.processes.now.entries c.run_if_there.new.processes.entries c.args.ready.now.keys c.args.pid c.len-count.ensures.ordered c.requires.first c.requires.covers c.args.ttys.now.entries c.send.new.ttys.entries c.send.new.processes.entries _ c.in-Some-2.to c.insert.new.self.keys x e.ok e.load e.keys goes put.0 put.1 longer).covers
 
-pub returns-in-Went-clause-covers : goal.returns-in-Went-clause-covers
-returns-in-Went-clause-covers c =
-    let moves = rw c.in-Went.is at c.in_ok-go_on.ensures in
-    let r = c.in-Some.ensures in
-    let turn = turn_of _ _ c.args.ready.now.keys c.args.pid _ c.len-count.ensures.ordered c.requires.first c.requires.covers r (able_first _ _ _ _ _ c.args.pid _ r moves.0) in
-    covers_went c.args.processes.now.entries c.run_if_there.new.processes.entries c.go_on.new.processes.entries c.args.ready.now.keys c.args.pid _ c.len-count.ensures.ordered turn r moves.1 c.requires.covers
+pub returns-in_default-2-clause-turns : goal.returns-in_default-2-clause-turns
+returns-in_default-2-clause-turns c =
+    let x = rw (c.in-Some.is, c.in-Emit-Mail.is, c.in-Emit-Mail.field-0-is, ← c.in-Emit-Mail.letter-is) at c.in_ok-step.ensures in
+    let e = c.in_ok-to-in-Emit-Mail.ensures in
+    let goes = rw c.in_default-2.is at e.goes in
+    (told c.args.processes.now.entries c.run_if_there.new.processes.entries c.args.ready.now.keys c.args.pid c.len-count.ensures.ordered c.requires.first c.requires.covers c.args.ttys.now.entries c.send.new.ttys.entries c.send.new.processes.entries _ x e.ok e.load e.keys goes).turns
 
-pub returns-in_ok-insert-in-Sent-clause-turns : goal.returns-in_ok-insert-in-Sent-clause-turns
-returns-in_ok-insert-in-Sent-clause-turns c =
-    let moves = rw c.in-Sent.is at c.in_ok-go_on.ensures in
-    let r = c.in-Some.ensures in
-    let turn = turn_of _ _ c.args.ready.now.keys c.args.pid _ c.len-count.ensures.ordered c.requires.first c.requires.covers r (able_first _ _ _ _ _ c.args.pid _ r moves.0) in
-    turns _ _ _ _ _ c.args.ready.now.keys c.insert.new.self.keys c.args.pid _ turn r moves.0
-    (one_more c.in_ok-insert-in-Sent.field-0 (length c.args.ready.now.keys) (length c.insert.new.self.keys) c.in_ok-insert-in-Sent.ensures.len)
+pub returns-in_default-2-clause-covers : goal.returns-in_default-2-clause-covers
+returns-in_default-2-clause-covers c =
+    let x = rw (c.in-Some.is, c.in-Emit-Mail.is, c.in-Emit-Mail.field-0-is, ← c.in-Emit-Mail.letter-is) at c.in_ok-step.ensures in
+    let e = c.in_ok-to-in-Emit-Mail.ensures in
+    let goes = rw c.in_default-2.is at e.goes in
+    (told c.args.processes.now.entries c.run_if_there.new.processes.entries c.args.ready.now.keys c.args.pid c.len-count.ensures.ordered c.requires.first c.requires.covers c.args.ttys.now.entries c.send.new.ttys.entries c.send.new.processes.entries _ x e.ok e.load e.keys goes).covers
 
-pub returns-in_ok-insert-in-Sent-clause-covers : goal.returns-in_ok-insert-in-Sent-clause-covers
-returns-in_ok-insert-in-Sent-clause-covers c =
-    let moves = rw c.in-Sent.is at c.in_ok-go_on.ensures in
-    let put = c.in_ok-insert-in-Sent.ensures.updates in
-    let r = c.in-Some.ensures in
-    let turn = turn_of _ _ c.args.ready.now.keys c.args.pid _ c.len-count.ensures.ordered c.requires.first c.requires.covers r (able_first _ _ _ _ _ c.args.pid _ r moves.0) in
-    covers_sent c.args.processes.now.entries c.run_if_there.new.processes.entries c.go_on.new.processes.entries c.args.ready.now.keys c.insert.new.self.keys c.args.pid c.in-Sent.to _ c.len-count.ensures.ordered turn r moves.1 put.0 put.1 c.requires.covers
+pub returns-in-Emit-Exit-clause-turns : goal.returns-in-Emit-Exit-clause-turns
+returns-in-Emit-Exit-clause-turns c =
+    let x = rw (c.in-Some.is, c.in-Emit-Exit.is, c.in-Emit-Exit.field-0-is) at c.in_ok-step.ensures in
+    (went_out c.args.processes.now.entries c.run_if_there.new.processes.entries c.args.ready.now.keys c.args.pid c.len-count.ensures.ordered c.requires.first c.requires.covers c.args.ttys.now.entries _ x).turns
 
-pub returns-in-Stuck-clause-turns : goal.returns-in-Stuck-clause-turns
-returns-in-Stuck-clause-turns c =
-    let moves = rw c.in-Stuck.is at c.in_ok-go_on.ensures in
-    let r = c.in-Some.ensures in
-    turns_stuck _ _ _ _ _ c.args.ready.now.keys c.remove-in-Stuck.new.self.keys c.args.pid c.in-Some.field-0
-    (λ some. turn_of _ _ c.args.ready.now.keys c.args.pid _ c.len-count.ensures.ordered c.requires.first c.requires.covers r (able_ran _ _ c.args.pid c.in-Some.field-0 r some)) r moves.1 moves.2
-    (one_less c.remove-in-Stuck.result (length c.remove-in-Stuck.new.self.keys) (length c.args.ready.now.keys) (c.remove-in-Stuck.ensures.test ∙ c.requires.first.0) c.remove-in-Stuck.ensures.len)
+pub returns-in-Emit-Exit-clause-covers : goal.returns-in-Emit-Exit-clause-covers
+returns-in-Emit-Exit-clause-covers c =
+    let x = rw (c.in-Some.is, c.in-Emit-Exit.is, c.in-Emit-Exit.field-0-is) at c.in_ok-step.ensures in
+    (went_out c.args.processes.now.entries c.run_if_there.new.processes.entries c.args.ready.now.keys c.args.pid c.len-count.ensures.ordered c.requires.first c.requires.covers c.args.ttys.now.entries _ x).covers
 
-pub returns-in-Stuck-clause-covers : goal.returns-in-Stuck-clause-covers
-returns-in-Stuck-clause-covers c =
-    let moves = rw c.in-Stuck.is at c.in_ok-go_on.ensures in
-    let r = c.in-Some.ensures in
-    covers_stuck c.args.processes.now.entries c.run_if_there.new.processes.entries c.go_on.new.processes.entries c.args.ready.now.keys c.remove-in-Stuck.new.self.keys c.args.pid _ c.requires.first r
-    (none_stuck _ _ _ c.args.pid _ r moves.0) moves.1 (λ q other. c.remove-in-Stuck.ensures.updates.2 q other) c.requires.covers
+pub returns-in-Silent-clause-turns : goal.returns-in-Silent-clause-turns
+returns-in-Silent-clause-turns c =
+    let x = rw (c.in-Some.is, c.in-Silent.is) at c.in_ok-step.ensures in
+    (went_silently c.args.processes.now.entries c.run_if_there.new.processes.entries c.args.ready.now.keys c.args.pid c.len-count.ensures.ordered c.requires.first c.requires.covers c.args.ttys.now.entries x).turns
+
+pub returns-in-Silent-clause-covers : goal.returns-in-Silent-clause-covers
+returns-in-Silent-clause-covers c =
+    let x = rw (c.in-Some.is, c.in-Silent.is) at c.in_ok-step.ensures in
+    (went_silently c.args.processes.now.entries c.run_if_there.new.processes.entries c.args.ready.now.keys c.args.pid c.len-count.ensures.ordered c.requires.first c.requires.covers c.args.ttys.now.entries x).covers
+
+pub returns-in-Blocked : goal.returns-in-Blocked
+returns-in-Blocked c =
+    let x = rw c.in-Some.is at c.in_ok-step.ensures in
+    let fewer = one_less c.remove-in-Blocked.result (length c.remove-in-Blocked.new.self.keys) (length c.args.ready.now.keys) (c.remove-in-Blocked.ensures.test ∙ c.requires.first.0) c.remove-in-Blocked.ensures.len in
+    let done = taken_out c.args.processes.now.entries c.run_if_there.new.processes.entries c.args.ready.now.keys c.args.pid c.len-count.ensures.ordered c.requires.first c.requires.covers c.in-Some.step c.args.ttys.now.entries c.remove-in-Blocked.new.self.keys c.in-Blocked.is x (λ q other. c.remove-in-Blocked.ensures.updates.2 q other) fewer in
+    record { turns = done.turns; covers = done.covers }

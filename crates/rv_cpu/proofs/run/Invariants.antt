@@ -1,6 +1,6 @@
 use Rattle.std.proofs.Common.{◌≡◌, length, Some}
 use Rattle.rv_cpu.specs.Run.{machine_of, ran}
-use Rattle.rv_cpu.proofs.go.Given as goal
+use Rattle.rv_cpu.proofs.run.Given as goal
 
 abbrev pub invariant-loop-made : goal.invariant-loop-made
 invariant-loop-made l = record {
