@@ -11,7 +11,6 @@ use Rattle.t32_base.specs.declared.letter.To.{To}
 use Rattle.t32_base.specs.declared.letter.To.TheVariants.{Proc, Tty}
 use Rattle.sys_text.specs.declared.system.System.{System}
 use Rattle.sys_text.specs.Valid.{is_system}
-use Rattle.proc_state.specs.declared.process.Process.{Process}
 use Rattle.bus_msg.specs.declared.entry.What.{What}
 use Rattle.bus_msg.specs.declared.entry.What.TheVariants.{Mail}
 use Rattle.bus_msg.specs.declared.entry.Entry.{Entry}
@@ -25,12 +24,11 @@ use Rattle.cert_sched.specs.Parts.{rising}
 use Rattle.cert_sched.specs.Rests.{home_pids}
 use Rattle.cert_sched.specs.Schedule.{placement}
 use Rattle.cluster_core.specs.Absorbing.{ComesHere, goes_to, is_letter_for}
-use Rattle.cluster_core.specs.Calls.{IsReady, ReadyFor}
-use Rattle.cluster_core.specs.Parts.{held_in}
-use Rattle.cluster_core.specs.Residents.{process_in, residents_after}
-use Rattle.cluster_core.specs.View.{ClusterView, arrived}
+use Rattle.cluster_core.specs.Calls.{IsReady, ReadyFor, here_after}
+use Rattle.cluster_core.specs.Residents.{pids_in}
+use Rattle.cluster_core.specs.View.{ClusterView, Held, arrived_held, held_of}
 use Rattle.cluster_core.proofs.Following.{Next, left_of, next_of}
-use Rattle.cluster_core.proofs.Here.{is_among, pid_same, pids_held, same_itself}
+use Rattle.cluster_core.proofs.Here.{is_among, pid_same, same_itself}
 use Rattle.cluster_core.proofs.Homes.{HomeHere, differ_built, home_here}
 use Rattle.cluster_core.proofs.ByKind.{by_kind}
 use Rattle.cluster_core.proofs.Working.{lives_built}
@@ -38,22 +36,22 @@ use Rattle.cluster_core.proofs.Working.{lives_built}
 -- ---- a letter that goes elsewhere
 
 -- where none of them is its receiver it changes nothing
-none_arrives : (at : ℕ) (letter : Letter) (here : List (Pid × Process)) → ((p : Pid) (s : Process) → process_in here p ≡ Some s → is_end_of p letter.to ≡ false) → residents_after (Mail at letter) here ≡ here
+none_arrives : (at : ℕ) (letter : Letter) (here : List (Pid × Held)) → ((p : Pid) (h : Held) → held_of here p ≡ Some h → is_end_of p letter.to ≡ false) → here_after (Mail at letter) here ≡ here
 none_arrives at letter [] none = refl
 none_arrives at letter (e ∷ here) none =
-    (λ i. cond (first i) (e.0, arrived e.1 letter) e ∷ none_arrives at letter here (λ p s there. later p s there (same_pid e.0 p) refl) i)
+    (λ i. cond (first i) (e.0, arrived_held e.1 letter) e ∷ none_arrives at letter here (λ p s there. later p s there (same_pid e.0 p) refl) i)
   where
     first : is_end_of e.0 letter.to ≡ false
-    first = none e.0 e.1 (ap (λ b. option_map (λ (x : Pid × Process). x.1) (cond b (Some e) (find (λ (x : Pid × Process). same_pid x.0 e.0) here))) (same_itself e.0))
+    first = none e.0 e.1 (ap (λ b. option_map (λ (x : Pid × Held). x.1) (cond b (Some e) (find (λ (x : Pid × Held). same_pid x.0 e.0) here))) (same_itself e.0))
 
-    later : (p : Pid) (s : Process) → process_in here p ≡ Some s → (b : Bool) → same_pid e.0 p ≡ b → is_end_of p letter.to ≡ false
+    later : (p : Pid) (h : Held) → held_of here p ≡ Some h → (b : Bool) → same_pid e.0 p ≡ b → is_end_of p letter.to ≡ false
     later p s there true is = ap (λ q. is_end_of q letter.to) (sym (pid_same e.0 p (eqb-true (e.0).0 p.0 is))) ∙ first
-    later p s there false is = none p s (ap (λ b. option_map (λ (x : Pid × Process). x.1) (cond b (Some e) (find (λ (x : Pid × Process). same_pid x.0 p) here))) is ∙ there)
+    later p s there false is = none p s (ap (λ b. option_map (λ (x : Pid × Held). x.1) (cond b (Some e) (find (λ (x : Pid × Held). same_pid x.0 p) here))) is ∙ there)
 
-pub goes_elsewhere : (k : ClusterNo) (e : Entry) (at : ℕ) (letter : Letter) (here : List (Pid × Process)) → what e ≡ Mail at letter → ComesHere k e here → goes_to e.dests k ≡ false → residents_after (what e) here ≡ here
-goes_elsewhere k e at letter here is comes elsewhere = ap (λ w. residents_after w here) is ∙ none_arrives at letter here (λ p s there. by_test p s there (is_end_of p letter.to) refl)
+pub goes_elsewhere : (k : ClusterNo) (e : Entry) (at : ℕ) (letter : Letter) (here : List (Pid × Held)) → what e ≡ Mail at letter → ComesHere k e here → goes_to e.dests k ≡ false → here_after (what e) here ≡ here
+goes_elsewhere k e at letter here is comes elsewhere = ap (λ w. here_after w here) is ∙ none_arrives at letter here (λ p s there. by_test p s there (is_end_of p letter.to) refl)
   where
-    by_test : (p : Pid) (s : Process) → process_in here p ≡ Some s → (b : Bool) → is_end_of p letter.to ≡ b → b ≡ false
+    by_test : (p : Pid) (h : Held) → held_of here p ≡ Some h → (b : Bool) → is_end_of p letter.to ≡ b → b ≡ false
     by_test p s there true for = absurd (true≢false (sym (comes p s there (ap (is_letter_for p) is ∙ for)) ∙ elsewhere))
     by_test p s there false for = refl
 
@@ -84,20 +82,19 @@ entry_comes places k p w lives home =
 
 -- ---- the entry for which a cluster is ready
 
-comes_of : (system : System) (log : List Entry) (e : Entry) (k : ClusterNo) (rs : List (Pid × Process)) → is_system system ≡ true → k.0 < system.clusters → Next system log e
-    → rising (pids_held (held_in rs)) ≡ rising (home_pids system log k) → ComesHere k e rs
-comes_of system log e k rs valid has n once p s there is =
-    let home = home_here (placement system log) k (pids_held (held_in rs)) p (differ_built system log valid n.legal) once (is_among rs p s there) in
+comes_of : (system : System) (log : List Entry) (e : Entry) (k : ClusterNo) (here : List (Pid × Held)) → is_system system ≡ true → k.0 < system.clusters → Next system log e
+    → rising (pids_in here) ≡ rising (home_pids system log k) → ComesHere k e here
+comes_of system log e k here valid has n once p h there is =
+    let home = home_here (placement system log) k (pids_in here) p (differ_built system log valid n.legal) once (is_among here p h there) in
     ap (λ dests. goes_to dests k) ((((n.may).stands).placed).1) ∙ entry_comes (placement system log) k p (what e) (lives_built system log k n.legal has) home (n.may).built is
 
-pub comes_here : (c : ClusterView) (e : Entry) (rs : List (Pid × Process)) → is_system c.system ≡ true → (c.number).0 < (c.system).clusters → c.here ≡ held_in rs → ReadyFor e c → ComesHere c.number e rs
-comes_here c e rs valid has here r = by_case (next_of c.system r.log e r.open_log r.open_next) r.ready
+pub comes_here : (c : ClusterView) (e : Entry) → is_system c.system ≡ true → (c.number).0 < (c.system).clusters → ReadyFor e c → ComesHere c.number e c.here
+comes_here c e valid has r = by_case (next_of c.system r.log e r.open_log r.open_next) r.ready
   where
-    by_case : Next c.system r.log e → IsReady r.log e c → ComesHere c.number e rs
-    by_case n (inl f) = comes_of c.system r.log e c.number rs valid has n (ap (λ hs. rising (pids_held hs)) (sym here) ∙ ((f.0).processes).each_once)
+    by_case : Next c.system r.log e → IsReady r.log e c → ComesHere c.number e c.here
+    by_case n (inl f) = comes_of c.system r.log e c.number c.here valid has n ((f.0).processes).each_once
     by_case n (inr s) =
         let l = left_of c r.log e (n.may).built s.1 s.0 in
-        let here_is : (l.before).here ≡ held_in rs = sym (ap (λ (d : ClusterView). d.here) l.same) ∙ here in
+        let here_is : (l.before).here ≡ c.here = sym (ap (λ (d : ClusterView). d.here) l.same) in
         let number : (l.before).number ≡ c.number = sym (ap (λ (d : ClusterView). d.number) l.same) in
-        comes_of c.system r.log e c.number rs valid has n
-        (ap (λ hs. rising (pids_held hs)) (sym here_is) ∙ ((l.followed).processes).each_once ∙ ap (λ k. rising (home_pids c.system r.log k)) number)
+        comes_of c.system r.log e c.number c.here valid has n (ap (λ hs. rising (pids_in hs)) (sym here_is) ∙ ((l.followed).processes).each_once ∙ ap (λ k. rising (home_pids c.system r.log k)) number)

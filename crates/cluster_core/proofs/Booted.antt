@@ -1,8 +1,7 @@
 -- What a cluster has at boot is what it holds of the empty log.
-use Rattle.std.proofs.Common.{◌≡◌, ℕ, ◌+◌, ◌*◌, ◌<◌, Bool, true, false, ◌&&◌, cond, eqb, List, [], ◌∷◌, ◌++◌, length, map, refl, sym, ap, subst, ◌∙◌, arith, Option, Some, None, eqb-true, eq-eqb, true≢false}
+use Rattle.std.proofs.Common.{◌≡◌, ℕ, ◌+◌, ◌*◌, ◌<◌, Bool, true, false, ◌&&◌, cond, eqb, List, [], ◌∷◌, ◌++◌, length, map, refl, sym, ap, subst, ◌∙◌, arith, Some, None, eqb-true, eq-eqb, true≢false}
 use Rattle.std.specs.Prelude.{◌%◌, filter, find, option_map}
 use Rattle.std.specs.List.{count_by, list_any}
-use Rattle.std.specs.Map.{lookup}
 use Rattle.std.specs.FinMap as finmap
 use Rattle.t32_base.specs.declared.process.Pid.{Pid}
 use Rattle.t32_base.specs.declared.process.ClusterNo.{ClusterNo}
@@ -15,8 +14,8 @@ use Rattle.proc_state.specs.declared.process.Process.{Process}
 use Rattle.proc_state.specs.Mail.{is_signal}
 use Rattle.proc_state.specs.State.{ProcState, state_of}
 use Rattle.plain_kernel.specs.Kernel.{Kernel, boot, pid_cmp, process_at}
-use Rattle.plain_kernel.specs.Maps.{at_key, booted_ttys, linked_processes}
-use Rattle.plain_kernel.proofs.Entries.{lookup_state, some_same}
+use Rattle.plain_kernel.specs.Maps.{booted_ttys, linked_processes}
+use Rattle.plain_kernel.proofs.Entries.{lookup_state}
 use Rattle.plain_kernel.proofs.AtBoot.{boot-each}
 use Rattle.plain_kernel.proofs.Roots.{booted}
 use Rattle.bus_msg.specs.declared.placed.Placed.{Placed}
@@ -33,11 +32,11 @@ use Rattle.cert_sched.proofs.StepLaws.{process_after-own}
 use Rattle.cluster_core.specs.Booting.{AreBooted, belongs_to}
 use Rattle.cluster_core.specs.Follows.{FollowsBuilt}
 use Rattle.cluster_core.specs.Holds.{IsHeldAs}
-use Rattle.cluster_core.specs.Parts.{AllOwn, IsOwn, held_in}
-use Rattle.cluster_core.specs.Residents.{process_in, pids_in}
-use Rattle.cluster_core.specs.View.{ClusterView, Held, Runs, held_at}
-use Rattle.cluster_core.proofs.Here.{held_process, is_among, pids_same}
-use Rattle.cluster_core.proofs.Passing.{passing_apart, pids_pass, process_is}
+use Rattle.cluster_core.specs.Parts.{AllOwn, IsHeldOwn, IsOwn}
+use Rattle.cluster_core.specs.Residents.{pids_in}
+use Rattle.cluster_core.specs.View.{ClusterView, Held, Runs, all_run, held_at, held_of}
+use Rattle.cluster_core.proofs.Here.{is_among}
+use Rattle.cluster_core.proofs.Passing.{passing_apart, passing_run, pids_pass, process_is}
 use Rattle.cluster_core.proofs.Telling.{at_once}
 
 -- ---- the kernel at boot
@@ -45,11 +44,20 @@ use Rattle.cluster_core.proofs.Telling.{at_once}
 boot_has : (system : System) → (boot system).processes ≡ linked_processes system
 boot_has system = ap (λ (k : Kernel). k.processes) (sym (booted system (linked_processes system) (booted_ttys system.roots) refl refl))
 
--- a process that is here at boot is that of the kernel
-pub here_booted : (system : System) (number : ClusterNo) (here : List (Pid × Process)) → AreBooted system number here → (p : Pid) (q : Process) → process_in here p ≡ Some q → process_at (boot system) p ≡ Some (state_of q)
-here_booted system number here is p q there =
-    let found : lookup (at_key p.0) is.all ≡ Some q = process_is (belongs_to number) is.all p q (ap (λ l. process_in l p) (sym is.own) ∙ there) in
-    ap (finmap.find pid_cmp p) (boot_has system ∙ sym is.states) ∙ lookup_state p.0 is.all ∙ ap (option_map state_of) found
+-- what is here at boot is a process of the kernel, which runs
+pub record IsBooted (system : System) (p : Pid) (h : Held) : Type 0 where
+  pub process : Process
+  pub at : process_at (boot system) p ≡ Some (state_of process)
+  pub is : h ≡ Runs process
+
+pub here_booted : (system : System) (number : ClusterNo) (here : List (Pid × Held)) → AreBooted system number here → (p : Pid) (h : Held) → held_of here p ≡ Some h → IsBooted system p h
+here_booted system number here is p h there =
+    let one = process_is (belongs_to number) is.all p h (ap (λ l. held_of l p) (sym is.own) ∙ there) in
+    record {
+      process = one.process;
+      at = ap (finmap.find pid_cmp p) (boot_has system ∙ sym is.states) ∙ lookup_state p.0 is.all ∙ ap (option_map state_of) one.found;
+      is = one.is;
+    }
 
 -- no steps lead to a process of the kernel at boot
 steps_now : (system : System) (p : Pid) (s : ProcState) → process_at (boot system) p ≡ Some s → silent_upto system [] p (s.small).steps ≡ Some s
@@ -62,38 +70,41 @@ boot_quiet system q s there = boot-each (λ p s. list_any is_signal s.mail ≡ f
 
 -- ---- each process
 
-here_apart : (system : System) (number : ClusterNo) (here : List (Pid × Process)) → AreBooted system number here → NoTwo (pids_in here)
+here_apart : (system : System) (number : ClusterNo) (here : List (Pid × Held)) → AreBooted system number here → NoTwo (pids_in here)
 here_apart system number here is =
     subst (λ l. NoTwo (pids_in l)) (sym is.own)
     (passing_apart (belongs_to number) is.all (subst (λ ps. NoTwo (state_pids ps)) (boot_has system ∙ sym is.states) (boot_apart system)))
 
 -- what holds of each process by its pid holds of all, where no pid stands twice
-all_own : (cursor : ℕ) (rs : List (Pid × Process)) → NoTwo (pids_in rs) → ((p : Pid) (q : Process) → process_in rs p ≡ Some q → IsOwn cursor p q) → AllOwn cursor rs
+all_own : (cursor : ℕ) (rs : List (Pid × Held)) → NoTwo (pids_in rs) → ((p : Pid) (h : Held) → held_of rs p ≡ Some h → IsHeldOwn cursor p h) → AllOwn cursor rs
 all_own cursor [] two each = tt
 all_own cursor (e ∷ rs) two each = (
-  each e.0 e.1 (ap (λ b. option_map (λ (x : Pid × Process). x.1) (cond b (Some e) (find (λ (x : Pid × Process). same_pid x.0 e.0) rs))) (eq-eqb (e.0).0 (e.0).0 refl)),
+  each e.0 e.1 (ap (λ b. option_map (λ (x : Pid × Held). x.1) (cond b (Some e) (find (λ (x : Pid × Held). same_pid x.0 e.0) rs))) (eq-eqb (e.0).0 (e.0).0 refl)),
   all_own cursor rs two.1 (λ p q there. each p q (beside p q there (same_pid e.0 p) refl)),
 )
   where
-    beside : (p : Pid) (q : Process) → process_in rs p ≡ Some q → (b : Bool) → same_pid e.0 p ≡ b → process_in (e ∷ rs) p ≡ Some q
-    beside p q there true is =
-        absurd (true≢false (sym (ap (λ n. list_any (λ m. eqb m n) (pids_in rs)) (eqb-true (e.0).0 p.0 is) ∙ ap (list_any (λ m. eqb m p.0)) (sym (pids_same rs)) ∙ is_among rs p q there) ∙ two.0))
-    beside p q there false is = ap (λ b. option_map (λ (x : Pid × Process). x.1) (cond b (Some e) (find (λ (x : Pid × Process). same_pid x.0 p) rs))) is ∙ there
+    beside : (p : Pid) (h : Held) → held_of rs p ≡ Some h → (b : Bool) → same_pid e.0 p ≡ b → held_of (e ∷ rs) p ≡ Some h
+    beside p q there true is = absurd (true≢false (sym (ap (λ n. list_any (λ m. eqb m n) (pids_in rs)) (eqb-true (e.0).0 p.0 is) ∙ is_among rs p q there) ∙ two.0))
+    beside p q there false is = ap (λ b. option_map (λ (x : Pid × Held). x.1) (cond b (Some e) (find (λ (x : Pid × Held). same_pid x.0 p) rs))) is ∙ there
 
 -- each process that is here at boot is its own
-pub boot_own : (system : System) (number : ClusterNo) (here : List (Pid × Process)) → AreBooted system number here → AllOwn 0 here
+pub boot_own : (system : System) (number : ClusterNo) (here : List (Pid × Held)) → AreBooted system number here → AllOwn 0 here
 unfolding plain_after
 boot_own system number here is = all_own 0 here (here_apart system number here is) each
   where
-    each : (p : Pid) (q : Process) → process_in here p ≡ Some q → IsOwn 0 p q
-    each p q there =
-        let at = here_booted system number here is p q there in
+    own : (p : Pid) (q : Process) → process_at (boot system) p ≡ Some (state_of q) → IsOwn 0 p q
+    own p q at =
         let none = boot_arrived system p (state_of q) at in
         record {
           pid_is = process_after-own system [] p (state_of q) at;
           quiet = boot_quiet system p (state_of q) at;
           arrived = omega (arith, none);
         }
+
+    each : (p : Pid) (h : Held) → held_of here p ≡ Some h → IsHeldOwn 0 p h
+    each p h there =
+        let one = here_booted system number here is p h there in
+        subst (λ (h : Held). IsHeldOwn 0 p h) (sym one.is) (own p one.process one.at)
 
 -- ---- the pids at home
 
@@ -122,10 +133,10 @@ homes_of system valid =
     homes_fit system b.clusters system.roots t.each
 
 -- each process at home is here once
-once : (system : System) (number : ClusterNo) (here : List (Pid × Process)) → is_system system ≡ true → AreBooted system number here → rising (map (λ (e : Pid × Held). (e.0).0) (held_in here)) ≡ rising (home_pids system [] number)
+once : (system : System) (number : ClusterNo) (here : List (Pid × Held)) → is_system system ≡ true → AreBooted system number here → rising (pids_in here) ≡ rising (home_pids system [] number)
 unfolding placement
 once system number here valid is =
-    ap (λ l. rising (map (λ (e : Pid × Held). (e.0).0) (held_in l))) is.own
+    ap (λ l. rising (pids_in l)) is.own
     ∙ ap rising (pids_pass (belongs_to number) is.all)
     ∙ ap (λ ps. rising (filter (belongs_to number) (state_pids ps))) is.states
     ∙ rising-same (belongs_to number) (state_pids (linked_processes system)) (root_pids (roots_of system)) (ap (λ ps. rising (state_pids ps)) (sym (boot_has system)) ∙ boot_numbers system valid)
@@ -134,13 +145,13 @@ once system number here valid is =
 -- ---- the cluster
 
 -- a cluster at boot
-abbrev pub boot_view : System → ClusterNo → List (Pid × Process) → ClusterView
+abbrev pub boot_view : System → ClusterNo → List (Pid × Held) → ClusterView
 boot_view system number here = record {
   system = system;
   number = number;
   cursor = 0;
   places = places_at_boot system;
-  here = held_in here;
+  here = here;
   pages = [];
   records = [];
   accounts = [];
@@ -156,19 +167,19 @@ placed_at_boot : (system : System) → places_at_boot system ≡ placement syste
 unfolding placement
 placed_at_boot system = refl
 
-held_as : (system : System) (number : ClusterNo) (here : List (Pid × Process)) → AreBooted system number here → (p : Pid) (h : Held) → held_at (boot_view system number here) p ≡ Some h → IsHeldAs system [] [] p h
-held_as system number here is p h at = by_process (process_in here p) refl (sym (held_process here p) ∙ at)
-  where
-    by_process : (o : Option Process) → process_in here p ≡ o → option_map Runs o ≡ Some h → IsHeldAs system [] [] p h
-    by_process None there e = cc
-    by_process (Some q) there e =
-        let AsHeld : Held → Type 0 = λ x. IsHeldAs system [] [] p x in
-        subst AsHeld (some_same (Runs q) h e) (steps_now system p (state_of q) (here_booted system number here is p q there))
+held_as : (system : System) (number : ClusterNo) (here : List (Pid × Held)) → AreBooted system number here → (p : Pid) (h : Held) → held_at (boot_view system number here) p ≡ Some h → IsHeldAs system [] [] p h
+held_as system number here is p h at =
+    let one = here_booted system number here is p h at in
+    subst (λ (h : Held). IsHeldAs system [] [] p h) (sym one.is) (steps_now system p (state_of one.process) one.at)
+
+all_booted_run : (system : System) (number : ClusterNo) (here : List (Pid × Held)) → AreBooted system number here → all_run here ≡ true
+all_booted_run system number here is = ap all_run is.own ∙ passing_run (belongs_to number) is.all
 
 -- a cluster at boot follows the empty log
-pub boot_follows : (system : System) (number : ClusterNo) (here : List (Pid × Process)) → is_system system ≡ true → AreBooted system number here → FollowsBuilt system [] (boot_view system number here)
+pub boot_follows : (system : System) (number : ClusterNo) (here : List (Pid × Held)) → is_system system ≡ true → AreBooted system number here → FollowsBuilt system [] (boot_view system number here)
 boot_follows system number here valid is = record {
   log = record { cursor = refl; places = placed_at_boot system };
+  running = all_booted_run system number here is;
   processes = record { held = held_as system number here is; each_once = once system number here valid is };
   queue = record { own = refl; legal = tt };
   steps = record { counted = λ kept. omega arith };

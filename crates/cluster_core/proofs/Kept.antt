@@ -15,20 +15,18 @@ use Rattle.std.proofs.lemmas.Bool.Decides.{nat_tests}
 use Rattle.std.proofs.lemmas.Bool.{false≢true}
 use Rattle.slab.specs.Slab.{Slab, get, Updates}
 use Rattle.t32_base.specs.declared.process.Pid.{Pid}
-use Rattle.proc_state.specs.declared.process.Process.{Process}
-use Rattle.proc_state.specs.State.{state_of, delivered, SameRest}
 use Rattle.t32_base.specs.declared.letter.Letter.{Letter}
 use Rattle.t32_base.specs.declared.letter.To.{To}
 use Rattle.t32_base.specs.declared.letter.To.TheVariants.{Tty}
 use Rattle.cert_sched.specs.Deeds.{is_end_of}
-use Rattle.cluster_core.specs.View.{arrived}
-use Rattle.sys_calls.specs.Next.{next_step, has_step}
+use Rattle.cluster_core.specs.View.{Held, arrived_held, can_act, steps_of_held}
+use Rattle.cluster_core.specs.Calls.{rests_in}
 use Rattle.bus_msg.specs.Places.{same_pid}
 use Rattle.plain_kernel.specs.Maps.{at_key, pid_of}
 use Rattle.plain_kernel.proofs.Entries.{some_same}
 use Rattle.cert_sched.specs.Parts.{first_of}
 use Rattle.cert_sched.proofs.RisingLaws.{NoTwo, either_not}
-use Rattle.cluster_core.specs.Residents.{is_stuck, are_rising, are_stuck, pids_in, steps_in, next_ready, is_stuck_at, TakesTurn, GivenTurnIs, with_more}
+use Rattle.cluster_core.specs.Residents.{is_stuck, are_rising, are_stuck, pids_in, next_ready, is_stuck_at, TakesTurn, GivenTurnIs, with_more}
 use Rattle.cluster_core.specs.Slots.{in_slot, stands_in, IsSlot, IsKept}
 use Rattle.t32_base.specs.declared.streams.NoMemory.{NoMemory}
 use Rattle.cluster_core.specs.declared.quantum.Quantum.{Quantum}
@@ -39,15 +37,15 @@ use Rattle.cluster_core.proofs.Slots.{IsOne, all_more, all_removed, all_with, at
 -- ---- what is kept
 
 -- more pids may be ready
-pub ready_more : (slots : Slab Process) (keys : List (ℕ × ℕ)) (ready more : List ℕ) → ((q : ℕ) → list_any (at_key q) ready ≡ true → list_any (at_key q) more ≡ true) → IsKept slots keys ready → IsKept slots keys more
+pub ready_more : (slots : Slab Held) (keys : List (ℕ × ℕ)) (ready more : List ℕ) → ((q : ℕ) → list_any (at_key q) ready ≡ true → list_any (at_key q) more ≡ true) → IsKept slots keys ready → IsKept slots keys more
 ready_more slots keys ready more adds k = record {
   ordered = k.ordered;
   apart = k.apart;
-  each = all_more (IsSlot slots ready) (IsSlot slots more) (λ e s. record { filled = s.filled; stepping = λ p is steps. adds e.0 (s.stepping p is steps) }) keys k.each;
+  each = all_more (IsSlot slots ready) (IsSlot slots more) (λ e s. record { filled = s.filled; able = λ p is steps. adds e.0 (s.able p is steps) }) keys k.each;
 }
 
 -- the process of one that is ready was written
-pub kept_written : (slots new : Slab Process) (n key : ℕ) (now : Process) (keys : List (ℕ × ℕ)) (ready : List ℕ) → list_any (at_key n) ready ≡ true → lookup (at_key n) keys ≡ Some key → Updates slots new key (Some now) → IsKept slots keys ready → IsKept new keys ready
+pub kept_written : (slots new : Slab Held) (n key : ℕ) (now : Held) (keys : List (ℕ × ℕ)) (ready : List ℕ) → list_any (at_key n) ready ≡ true → lookup (at_key n) keys ≡ Some key → Updates slots new key (Some now) → IsKept slots keys ready → IsKept new keys ready
 kept_written slots new n key now keys ready listed found updates k = record {
   ordered = k.ordered;
   apart = k.apart;
@@ -60,20 +58,20 @@ kept_written slots new n key now keys ready listed found updates k = record {
         by_test : (b : Bool) → eqb e.1 key ≡ b → IsSlot new ready e
         by_test true is = record {
           filled = ap is_some (ap (get new) (eqb-true e.1 key is) ∙ updates.changed);
-          stepping = λ p there steps. ap (λ m. list_any (at_key m) ready) (eqb-true e.0 n (one ∙ is)) ∙ listed;
+          able = λ p there steps. ap (λ m. list_any (at_key m) ready) (eqb-true e.0 n (one ∙ is)) ∙ listed;
         }
         by_test false is =
             let same : get new e.1 ≡ get slots e.1 = updates.others e.1 (λ same. true≢false (sym (eq-eqb e.1 key same) ∙ is)) in
             record {
               filled = ap is_some same ∙ s.filled;
-              stepping = λ p there steps. s.stepping p (sym same ∙ there) steps;
+              able = λ p there steps. s.able p (sym same ∙ there) steps;
             }
 
 -- a process is in a slot that no entry names
-pub unnamed : (slots : Slab Process) (ready : List ℕ) (key : ℕ) (es : List (ℕ × ℕ)) → AllByRecursion (IsSlot slots ready) es → get slots key ≡ None → AllByRecursion (λ (e : ℕ × ℕ). eqb e.1 key ≡ false) es
+pub unnamed : (slots : Slab Held) (ready : List ℕ) (key : ℕ) (es : List (ℕ × ℕ)) → AllByRecursion (IsSlot slots ready) es → get slots key ≡ None → AllByRecursion (λ (e : ℕ × ℕ). eqb e.1 key ≡ false) es
 unnamed slots ready key es kept none = all_more (IsSlot slots ready) (λ (e : ℕ × ℕ). eqb e.1 key ≡ false) (λ e s. ne_eqb e.1 key (λ same. none_not_some (get slots e.1) (ap (get slots) same ∙ none) s.filled)) es kept
 
-pub kept_beside : (slots new : Slab Process) (key : ℕ) (o : Option Process) (keys : List (ℕ × ℕ)) (ready : List ℕ) → get slots key ≡ None → Updates slots new key o → IsKept slots keys ready → IsKept new keys ready
+pub kept_beside : (slots new : Slab Held) (key : ℕ) (o : Option Held) (keys : List (ℕ × ℕ)) (ready : List ℕ) → get slots key ≡ None → Updates slots new key o → IsKept slots keys ready → IsKept new keys ready
 kept_beside slots new key o keys ready none updates k = record {
   ordered = k.ordered;
   apart = k.apart;
@@ -85,7 +83,7 @@ kept_beside slots new key o keys ready none updates k = record {
         let same : get new e.1 ≡ get slots e.1 = updates.others e.1 (λ same. true≢false (sym (eq-eqb e.1 key same) ∙ other)) in
         record {
           filled = ap is_some same ∙ s.filled;
-          stepping = λ p there steps. s.stepping p (sym same ∙ there) steps;
+          able = λ p there steps. s.able p (sym same ∙ there) steps;
         }
 
 -- ---- one more
@@ -108,21 +106,21 @@ put_first n key e es other = by_test (ltb n e.0) refl
     by_test false is = rw (after_it n e.0 is other) refl
 
 -- no entry has the pid of a process that is not here
-pub none_here : (slots : Slab Process) (ready : List ℕ) (n : ℕ) (es : List (ℕ × ℕ)) → AllByRecursion (IsSlot slots ready) es → list_any (λ (e : Pid × Process). same_pid e.0 (pid_of n)) (stands_in slots es) ≡ false → OtherPids n es
+pub none_here : (slots : Slab Held) (ready : List ℕ) (n : ℕ) (es : List (ℕ × ℕ)) → AllByRecursion (IsSlot slots ready) es → list_any (λ (e : Pid × Held). same_pid e.0 (pid_of n)) (stands_in slots es) ≡ false → OtherPids n es
 none_here slots ready n [] kept none = tt
 none_here slots ready n (e ∷ es) kept none = let parts = in_front (get slots e.1) (kept.0).filled none in (parts.0, none_here slots ready n es kept.1 parts.1)
   where
-    in_front : (o : Option Process) → IsSome o → list_any (λ (e : Pid × Process). same_pid e.0 (pid_of n)) (in_slot (pid_of e.0) o (stands_in slots es)) ≡ false
-        → (eqb e.0 n ≡ false) × (list_any (λ (e : Pid × Process). same_pid e.0 (pid_of n)) (stands_in slots es) ≡ false)
+    in_front : (o : Option Held) → IsSome o → list_any (λ (e : Pid × Held). same_pid e.0 (pid_of n)) (in_slot (pid_of e.0) o (stands_in slots es)) ≡ false
+        → (eqb e.0 n ≡ false) × (list_any (λ (e : Pid × Held). same_pid e.0 (pid_of n)) (stands_in slots es) ≡ false)
     in_front None there none = absurd (false≢true there)
-    in_front (Some p) there none = either_not (eqb e.0 n) (list_any (λ (e : Pid × Process). same_pid e.0 (pid_of n)) (stands_in slots es)) none
+    in_front (Some p) there none = either_not (eqb e.0 n) (list_any (λ (e : Pid × Held). same_pid e.0 (pid_of n)) (stands_in slots es)) none
 
-pub stands_put : (slots : Slab Process) (ready : List ℕ) (n key : ℕ) (p : Process) (es : List (ℕ × ℕ)) → get slots key ≡ Some p → AllByRecursion (IsSlot slots ready) es → OtherPids n es
+pub stands_put : (slots : Slab Held) (ready : List ℕ) (n key : ℕ) (p : Held) (es : List (ℕ × ℕ)) → get slots key ≡ Some p → AllByRecursion (IsSlot slots ready) es → OtherPids n es
     → stands_in slots (insert_entry nat_cmp es n key) ≡ with_more (pid_of n) p (stands_in slots es)
 stands_put slots ready n key p [] there kept others = ap (λ o. in_slot (pid_of n) o []) there
 stands_put slots ready n key p (e ∷ es) there kept others = ap (stands_in slots) (put_first n key e es others.0) ∙ by_slot (get slots e.1) refl (kept.0).filled (stands_put slots ready n key p es there kept.1 others.1)
   where
-    by_slot : (o : Option Process) → get slots e.1 ≡ o → IsSome o → stands_in slots (insert_entry nat_cmp es n key) ≡ with_more (pid_of n) p (stands_in slots es)
+    by_slot : (o : Option Held) → get slots e.1 ≡ o → IsSome o → stands_in slots (insert_entry nat_cmp es n key) ≡ with_more (pid_of n) p (stands_in slots es)
         → stands_in slots (cond (ltb n e.0) ((n, key) ∷ e ∷ es) (e ∷ insert_entry nat_cmp es n key)) ≡ with_more (pid_of n) p (in_slot (pid_of e.0) o (stands_in slots es))
     by_slot None is filled more = absurd (false≢true filled)
     by_slot (Some q) is filled more = by_test (ltb n e.0)
@@ -159,12 +157,12 @@ all_put P n key (e ∷ es) others all mine = subst (AllByRecursion P) (sym (put_
     by_test true more = (mine, all)
     by_test false more = (all.0, more)
 
-pub kept_added : (slots : Slab Process) (n key : ℕ) (keys : List (ℕ × ℕ)) (ready : List ℕ) → IsSome (get slots key) → AllByRecursion (λ (e : ℕ × ℕ). eqb e.1 key ≡ false) keys → OtherPids n keys → list_any (at_key n) ready ≡ true
+pub kept_added : (slots : Slab Held) (n key : ℕ) (keys : List (ℕ × ℕ)) (ready : List ℕ) → IsSome (get slots key) → AllByRecursion (λ (e : ℕ × ℕ). eqb e.1 key ≡ false) keys → OtherPids n keys → list_any (at_key n) ready ≡ true
     → IsStrictlySortedBy nat_cmp (pids (insert_entry nat_cmp keys n key)) → IsKept slots keys ready → IsKept slots (insert_entry nat_cmp keys n key) ready
 kept_added slots n key keys ready there unkeyed others listed ordered k = record {
   ordered = ordered;
   apart = apart_put n key keys others k.apart unkeyed;
-  each = all_put (IsSlot slots ready) n key keys others k.each (record { filled = there; stepping = λ p is steps. listed });
+  each = all_put (IsSlot slots ready) n key keys others k.each (record { filled = there; able = λ p is steps. listed });
 }
 
 -- ---- one less
@@ -200,7 +198,7 @@ gone n (e ∷ es) ordered = by_test (at_key n e.0) (at_key_is n e.0) (gone n es 
     by_test true is more = later_apart e.0 n es ordered.0 (eqb-true e.0 n (sym is))
     by_test false is more = (sym is, more)
 
-pub kept_gone : (slots new : Slab Process) (n key : ℕ) (keys : List (ℕ × ℕ)) (ready less : List ℕ) → lookup (at_key n) keys ≡ Some key → Updates slots new key None
+pub kept_gone : (slots new : Slab Held) (n key : ℕ) (keys : List (ℕ × ℕ)) (ready less : List ℕ) → lookup (at_key n) keys ≡ Some key → Updates slots new key None
     → ((q : ℕ) → at_key n q ≡ false → list_any (at_key q) less ≡ list_any (at_key q) ready) → IsStrictlySortedBy nat_cmp (pids (remove_entry (at_key n) keys)) → IsKept slots keys ready → IsKept new (remove_entry (at_key n) keys) less
 kept_gone slots new n key keys ready less found updates keeps ordered k = record {
   ordered = ordered;
@@ -216,43 +214,43 @@ kept_gone slots new n key keys ready less found updates keeps ordered k = record
         let same : get new e.1 ≡ get slots e.1 = updates.others e.1 (λ same. true≢false (sym (eq-eqb e.1 key same) ∙ sym s.0 ∙ other)) in
         record {
           filled = ap is_some same ∙ (s.1).filled;
-          stepping = λ p there steps. keeps e.0 (at_key_is n e.0 ∙ other) ∙ (s.1).stepping p (sym same ∙ there) steps;
+          able = λ p there steps. keeps e.0 (at_key_is n e.0 ∙ other) ∙ (s.1).able p (sym same ∙ there) steps;
         }
 
 -- ---- one rests
 
-stuck_here : (slots : Slab Process) (n pid : ℕ) (o : Option Process) (rest : List (Pid × Process)) → IsSome o → is_stuck_at (pid_of n) (in_slot (pid_of pid) o rest) ≡ true
-    → ((p : Process) → o ≡ Some p → eqb pid n ≡ true → has_step (next_step (state_of p)) ≡ false) × (is_stuck_at (pid_of n) rest ≡ true)
+stuck_here : (slots : Slab Held) (n pid : ℕ) (o : Option Held) (rest : List (Pid × Held)) → IsSome o → is_stuck_at (pid_of n) (in_slot (pid_of pid) o rest) ≡ true
+    → ((p : Held) → o ≡ Some p → eqb pid n ≡ true → can_act p ≡ false) × (is_stuck_at (pid_of n) rest ≡ true)
 stuck_here slots n pid None rest there stuck = absurd (false≢true there)
 stuck_here slots n pid (Some q) rest there stuck =
     let parts = both_true (not (eqb pid n) || is_stuck q) (is_stuck_at (pid_of n) rest) stuck in
-    (λ p same at. ap (λ p. has_step (next_step (state_of p))) (sym (some_same q p same)) ∙ not_true (has_step (next_step (state_of q))) ((λ i. not (sym at i) || is_stuck q) ∙ parts.0), parts.1)
+    (λ p same at. ap can_act (sym (some_same q p same)) ∙ not_true (can_act q) ((λ i. not (sym at i) || is_stuck q) ∙ parts.0), parts.1)
 
-stuck_each : (slots : Slab Process) (ready : List ℕ) (n : ℕ) (es : List (ℕ × ℕ)) → AllByRecursion (IsSlot slots ready) es → is_stuck_at (pid_of n) (stands_in slots es) ≡ true
-    → AllByRecursion (λ (e : ℕ × ℕ). (p : Process) → get slots e.1 ≡ Some p → eqb e.0 n ≡ true → has_step (next_step (state_of p)) ≡ false) es
+stuck_each : (slots : Slab Held) (ready : List ℕ) (n : ℕ) (es : List (ℕ × ℕ)) → AllByRecursion (IsSlot slots ready) es → is_stuck_at (pid_of n) (stands_in slots es) ≡ true
+    → AllByRecursion (λ (e : ℕ × ℕ). (p : Held) → get slots e.1 ≡ Some p → eqb e.0 n ≡ true → can_act p ≡ false) es
 stuck_each slots ready n [] kept stuck = tt
 stuck_each slots ready n (e ∷ es) kept stuck =
     let parts = stuck_here slots n e.0 (get slots e.1) (stands_in slots es) (kept.0).filled stuck in
     (parts.0, stuck_each slots ready n es kept.1 parts.1)
 
-pub kept_resting : (slots : Slab Process) (n : ℕ) (keys : List (ℕ × ℕ)) (ready less : List ℕ) → is_stuck_at (pid_of n) (stands_in slots keys) ≡ true → ((q : ℕ) → at_key n q ≡ false → list_any (at_key q) less ≡ list_any (at_key q) ready)
+pub kept_resting : (slots : Slab Held) (n : ℕ) (keys : List (ℕ × ℕ)) (ready less : List ℕ) → is_stuck_at (pid_of n) (stands_in slots keys) ≡ true → ((q : ℕ) → at_key n q ≡ false → list_any (at_key q) less ≡ list_any (at_key q) ready)
     → IsKept slots keys ready → IsKept slots keys less
 kept_resting slots n keys ready less stuck keeps k = record {
   ordered = k.ordered;
   apart = k.apart;
   each =
-      all_with (λ (e : ℕ × ℕ). (p : Process) → get slots e.1 ≡ Some p → eqb e.0 n ≡ true → has_step (next_step (state_of p)) ≡ false) (IsSlot slots ready) (IsSlot slots less) each keys (stuck_each slots ready n keys k.each stuck) k.each;
+      all_with (λ (e : ℕ × ℕ). (p : Held) → get slots e.1 ≡ Some p → eqb e.0 n ≡ true → can_act p ≡ false) (IsSlot slots ready) (IsSlot slots less) each keys (stuck_each slots ready n keys k.each stuck) k.each;
 }
   where
-    each : (e : ℕ × ℕ) → ((p : Process) → get slots e.1 ≡ Some p → eqb e.0 n ≡ true → has_step (next_step (state_of p)) ≡ false) → IsSlot slots ready e → IsSlot slots less e
-    each e quiet s = record { filled = s.filled; stepping = λ p there steps. by_test (eqb e.0 n) refl p there steps }
+    each : (e : ℕ × ℕ) → ((p : Held) → get slots e.1 ≡ Some p → eqb e.0 n ≡ true → can_act p ≡ false) → IsSlot slots ready e → IsSlot slots less e
+    each e quiet s = record { filled = s.filled; able = λ p there steps. by_test (eqb e.0 n) refl p there steps }
       where
-        by_test : (b : Bool) → eqb e.0 n ≡ b → (p : Process) → get slots e.1 ≡ Some p → has_step (next_step (state_of p)) ≡ true → list_any (at_key e.0) less ≡ true
+        by_test : (b : Bool) → eqb e.0 n ≡ b → (p : Held) → get slots e.1 ≡ Some p → can_act p ≡ true → list_any (at_key e.0) less ≡ true
         by_test true is p there steps = absurd (true≢false (sym steps ∙ quiet p there is))
-        by_test false is p there steps = keeps e.0 (at_key_is n e.0 ∙ is) ∙ s.stepping p there steps
+        by_test false is p there steps = keeps e.0 (at_key_is n e.0 ∙ is) ∙ s.able p there steps
 
 -- the process with a pid has no step
-pub stuck_there : (slots : Slab Process) (n key : ℕ) (was : Process) (es : List (ℕ × ℕ)) → AllByRecursion (IsOne n key) es → get slots key ≡ Some was → has_step (next_step (state_of was)) ≡ false → is_stuck_at (pid_of n) (stands_in slots es) ≡ true
+pub stuck_there : (slots : Slab Held) (n key : ℕ) (was : Held) (es : List (ℕ × ℕ)) → AllByRecursion (IsOne n key) es → get slots key ≡ Some was → can_act was ≡ false → is_stuck_at (pid_of n) (stands_in slots es) ≡ true
 stuck_there slots n key was [] one there none = refl
 stuck_there slots n key was (e ∷ es) one there none = by_test (eqb e.1 key) refl (stuck_there slots n key was es one.1 there none)
   where
@@ -260,13 +258,13 @@ stuck_there slots n key was (e ∷ es) one there none = by_test (eqb e.1 key) re
     or_true true = refl
     or_true false = refl
 
-    here : (o : Option Process) (m : ℕ) → o ≡ Some was → is_stuck_at (pid_of n) (stands_in slots es) ≡ true → is_stuck_at (pid_of n) (in_slot (pid_of m) o (stands_in slots es)) ≡ true
+    here : (o : Option Held) (m : ℕ) → o ≡ Some was → is_stuck_at (pid_of n) (stands_in slots es) ≡ true → is_stuck_at (pid_of n) (in_slot (pid_of m) o (stands_in slots es)) ≡ true
     here None m same more = more
     here (Some q) m same more =
-        let quiet : has_step (next_step (state_of q)) ≡ false = ap (λ (p : Process). has_step (next_step (state_of p))) (some_same q was same) ∙ none in
+        let quiet : can_act q ≡ false = ap can_act (some_same q was same) ∙ none in
         (λ i. (not (eqb m n) || not (quiet i)) && more i) ∙ or_true (not (eqb m n))
 
-    elsewhere : (o : Option Process) (m : ℕ) → eqb m n ≡ false → is_stuck_at (pid_of n) (stands_in slots es) ≡ true → is_stuck_at (pid_of n) (in_slot (pid_of m) o (stands_in slots es)) ≡ true
+    elsewhere : (o : Option Held) (m : ℕ) → eqb m n ≡ false → is_stuck_at (pid_of n) (stands_in slots es) ≡ true → is_stuck_at (pid_of n) (in_slot (pid_of m) o (stands_in slots es)) ≡ true
     elsewhere None m other more = more
     elsewhere (Some q) m other more = λ i. ((λ j. (not (other j) || is_stuck q) && is_stuck_at (pid_of n) (stands_in slots es)) ∙ more) i
 
@@ -287,17 +285,17 @@ none_ready ready last none = by_case (find (λ n. ltb last n) ready) none
     by_case None none = first_some ready none
     by_case (Some n) none = cc
 
-pub all_stuck : (slots : Slab Process) (es : List (ℕ × ℕ)) → AllByRecursion (IsSlot slots []) es → are_stuck (stands_in slots es) ≡ true
+pub all_stuck : (slots : Slab Held) (es : List (ℕ × ℕ)) → AllByRecursion (IsSlot slots []) es → are_stuck (stands_in slots es) ≡ true
 all_stuck slots [] kept = refl
-all_stuck slots (e ∷ es) kept = in_front (get slots e.1) (λ p is. (kept.0).stepping p is) (all_stuck slots es kept.1)
+all_stuck slots (e ∷ es) kept = in_front (get slots e.1) (λ p is. (kept.0).able p is) (all_stuck slots es kept.1)
   where
     quiet : (b : Bool) → (b ≡ true → false ≡ true) → not b ≡ true
     quiet true steps = steps refl
     quiet false steps = refl
 
-    in_front : (o : Option Process) → ((p : Process) → o ≡ Some p → has_step (next_step (state_of p)) ≡ true → false ≡ true) → are_stuck (stands_in slots es) ≡ true → are_stuck (in_slot (pid_of e.0) o (stands_in slots es)) ≡ true
+    in_front : (o : Option Held) → ((p : Held) → o ≡ Some p → can_act p ≡ true → false ≡ true) → are_stuck (stands_in slots es) ≡ true → are_stuck (in_slot (pid_of e.0) o (stands_in slots es)) ≡ true
     in_front None steps more = more
-    in_front (Some p) steps more = λ i. ((λ j. quiet (has_step (next_step (state_of p))) (steps p refl) j && are_stuck (stands_in slots es)) ∙ more) i
+    in_front (Some p) steps more = λ i. ((λ j. quiet (can_act p) (steps p refl) j && are_stuck (stands_in slots es)) ∙ more) i
 
 find_any : (t : ℕ → Bool) (n : ℕ) (xs : List ℕ) → find t xs ≡ Some n → list_any (at_key n) xs ≡ true
 find_any t n [] found = cc
@@ -337,35 +335,35 @@ unfolding IsStrictlySortedBy
 in_order [] ordered = refl
 in_order (n ∷ ns) ordered = ap (λ b. b && are_rising ns) (all_after n ns ordered.0) ∙ in_order ns ordered.1
 
-pub pids_stand : (slots : Slab Process) (ready : List ℕ) (es : List (ℕ × ℕ)) → AllByRecursion (IsSlot slots ready) es → pids_in (stands_in slots es) ≡ pids es
+pub pids_stand : (slots : Slab Held) (ready : List ℕ) (es : List (ℕ × ℕ)) → AllByRecursion (IsSlot slots ready) es → pids_in (stands_in slots es) ≡ pids es
 pids_stand slots ready [] kept = refl
 pids_stand slots ready (e ∷ es) kept = in_front (get slots e.1) (kept.0).filled (pids_stand slots ready es kept.1)
   where
-    in_front : (o : Option Process) → IsSome o → pids_in (stands_in slots es) ≡ pids es → pids_in (in_slot (pid_of e.0) o (stands_in slots es)) ≡ e.0 ∷ pids es
+    in_front : (o : Option Held) → IsSome o → pids_in (stands_in slots es) ≡ pids es → pids_in (in_slot (pid_of e.0) o (stands_in slots es)) ≡ e.0 ∷ pids es
     in_front None there more = absurd (false≢true there)
     in_front (Some p) there more = ap (λ ns. e.0 ∷ ns) more
 
-pub rising_here : (slots : Slab Process) (keys : List (ℕ × ℕ)) (ready : List ℕ) → IsKept slots keys ready → are_rising (pids_in (stands_in slots keys)) ≡ true
+pub rising_here : (slots : Slab Held) (keys : List (ℕ × ℕ)) (ready : List ℕ) → IsKept slots keys ready → are_rising (pids_in (stands_in slots keys)) ≡ true
 rising_here slots keys ready k = ap are_rising (pids_stand slots ready keys k.each) ∙ in_order (pids keys) k.ordered
 
 -- what rests, after some: all, or nothing where one of them has a step
-abbrev pub rests_with : List (Pid × ℕ) → List (Pid × Process) → Option (List (Pid × ℕ))
-rests_with before here = cond (are_stuck here) (Some (before ++ steps_in here)) None
+abbrev pub rests_with : List (Pid × ℕ) → List (Pid × Held) → Option (List (Pid × ℕ))
+rests_with before here = cond (are_stuck here) (Some (before ++ rests_in here)) None
 
-pub one_rests : (slots : Slab Process) (before : List (Pid × ℕ)) (e : ℕ × ℕ) (p : Process) (es : List (ℕ × ℕ)) → get slots e.1 ≡ Some p → has_step (next_step (state_of p)) ≡ false
-    → rests_with before (stands_in slots (e ∷ es)) ≡ rests_with (before ++ (pid_of e.0, (p.small).steps) ∷ []) (stands_in slots es)
+pub one_rests : (slots : Slab Held) (before : List (Pid × ℕ)) (e : ℕ × ℕ) (p : Held) (es : List (ℕ × ℕ)) → get slots e.1 ≡ Some p → can_act p ≡ false
+    → rests_with before (stands_in slots (e ∷ es)) ≡ rests_with (before ++ (pid_of e.0, steps_of_held p) ∷ []) (stands_in slots es)
 one_rests slots before e p es there none =
     ap (λ o. rests_with before (in_slot (pid_of e.0) o (stands_in slots es))) there
-    ∙ (λ i. cond (not (none i) && are_stuck (stands_in slots es)) (Some (sym (append_assoc before ((pid_of e.0, (p.small).steps) ∷ []) (steps_in (stands_in slots es))) i)) None)
+    ∙ (λ i. cond (not (none i) && are_stuck (stands_in slots es)) (Some (sym (append_assoc before ((pid_of e.0, steps_of_held p) ∷ []) (rests_in (stands_in slots es))) i)) None)
 
-pub one_steps : (slots : Slab Process) (before : List (Pid × ℕ)) (e : ℕ × ℕ) (p : Process) (es : List (ℕ × ℕ)) → get slots e.1 ≡ Some p → has_step (next_step (state_of p)) ≡ true → rests_with before (stands_in slots (e ∷ es)) ≡ None
+pub one_steps : (slots : Slab Held) (before : List (Pid × ℕ)) (e : ℕ × ℕ) (p : Held) (es : List (ℕ × ℕ)) → get slots e.1 ≡ Some p → can_act p ≡ true → rests_with before (stands_in slots (e ∷ es)) ≡ None
 one_steps slots before e p es there steps =
     ap (λ o. rests_with before (in_slot (pid_of e.0) o (stands_in slots es))) there
-    ∙ (λ i. cond (not (steps i) && are_stuck (stands_in slots es)) (Some (before ++ (pid_of e.0, (p.small).steps) ∷ steps_in (stands_in slots es))) None)
+    ∙ (λ i. cond (not (steps i) && are_stuck (stands_in slots es)) (Some (before ++ (pid_of e.0, steps_of_held p) ∷ rests_in (stands_in slots es))) None)
 
 -- ---- one process of those that are kept
 
-filled_at : (slots : Slab Process) (ready : List ℕ) (n key : ℕ) (es : List (ℕ × ℕ)) → lookup (at_key n) es ≡ Some key → AllByRecursion (IsSlot slots ready) es → IsSome (get slots key)
+filled_at : (slots : Slab Held) (ready : List ℕ) (n key : ℕ) (es : List (ℕ × ℕ)) → lookup (at_key n) es ≡ Some key → AllByRecursion (IsSlot slots ready) es → IsSome (get slots key)
 filled_at slots ready n key [] found kept = cc
 filled_at slots ready n key (e ∷ es) found kept = by_test (at_key n e.0) found (λ found. filled_at slots ready n key es found kept.1)
   where
@@ -373,11 +371,11 @@ filled_at slots ready n key (e ∷ es) found kept = by_test (at_key n e.0) found
     by_test true found more = ap (λ k. is_some (get slots k)) (sym (some_same e.1 key found)) ∙ (kept.0).filled
     by_test false found more = more found
 
-pub never_empty : (slots : Slab Process) (n key : ℕ) (keys : List (ℕ × ℕ)) (ready : List ℕ) → IsKept slots keys ready → lookup (at_key n) keys ≡ Some key → get slots key ≡ None → ⊥
+pub never_empty : (slots : Slab Held) (n key : ℕ) (keys : List (ℕ × ℕ)) (ready : List ℕ) → IsKept slots keys ready → lookup (at_key n) keys ≡ Some key → get slots key ≡ None → ⊥
 never_empty slots n key keys ready k found none = none_not_some (get slots key) none (filled_at slots ready n key keys found k.each)
 
 -- a slot that is written as it was
-pub written_back : (slots new : Slab Process) (key : ℕ) (was now : Process) (es : List (ℕ × ℕ)) → get slots key ≡ Some was → Updates slots new key (Some now) → now ≡ was → stands_in new es ≡ stands_in slots es
+pub written_back : (slots new : Slab Held) (key : ℕ) (was now : Held) (es : List (ℕ × ℕ)) → get slots key ≡ Some was → Updates slots new key (Some now) → now ≡ was → stands_in new es ≡ stands_in slots es
 written_back slots new key was now [] there updates same = refl
 written_back slots new key was now (e ∷ es) there updates same =
     let more : stands_in new es ≡ stands_in slots es = written_back slots new key was now es there updates same in
@@ -391,7 +389,7 @@ written_back slots new key was now (e ∷ es) there updates same =
     by_test false is = updates.others e.1 (λ same. true≢false (sym (eq-eqb e.1 key same) ∙ is))
 
 -- a process had its turn
-module _ (slots new : Slab Process) (n key : ℕ) (keys : List (ℕ × ℕ)) (ready : List ℕ) (was now : Process) (old : List (Pid × Process)) (kept : IsKept slots keys ready) (found : lookup (at_key n) keys ≡ Some key)
+module _ (slots new : Slab Held) (n key : ℕ) (keys : List (ℕ × ℕ)) (ready : List ℕ) (was now : Held) (old : List (Pid × Held)) (kept : IsKept slots keys ready) (found : lookup (at_key n) keys ≡ Some key)
     (there : get slots key ≡ Some was) (updates : Updates slots new key (Some now)) (same : stands_in slots keys ≡ old) where
   took : (quantum : Quantum) → RunsQuantum 64 was (Ok quantum) now → TakesTurn (pid_of n) old quantum (stands_in new keys)
   took quantum ran =
@@ -412,8 +410,8 @@ module _ (slots new : Slab Process) (n key : ℕ) (keys : List (ℕ × ℕ)) (re
   given_turn (Err fault) ran = written_back slots new key was now keys there updates ran ∙ same
 
 -- a process goes with its entry
-pub goes : (slots new : Slab Process) (n key : ℕ) (keys : List (ℕ × ℕ)) (ready : List ℕ) → IsKept slots keys ready → lookup (at_key n) keys ≡ Some key → Updates slots new key None
-    → stands_in new (remove_entry (at_key n) keys) ≡ filter (λ (e : Pid × Process). not (same_pid e.0 (pid_of n))) (stands_in slots keys)
+pub goes : (slots new : Slab Held) (n key : ℕ) (keys : List (ℕ × ℕ)) (ready : List ℕ) → IsKept slots keys ready → lookup (at_key n) keys ≡ Some key → Updates slots new key None
+    → stands_in new (remove_entry (at_key n) keys) ≡ filter (λ (e : Pid × Held). not (same_pid e.0 (pid_of n))) (stands_in slots keys)
 goes slots new n key keys ready kept found updates = entry_goes new (at_key n) key keys found updates.changed ∙ taken_out slots new n key keys (one_key n key keys kept.ordered kept.apart found) updates
 
 -- ---- the first of those above
@@ -434,7 +432,7 @@ next_above t ready last n same first = sym (ap (λ o. option_or o (first_of read
 pub next_around : (t : ℕ → Bool) (ready : List ℕ) (last : ℕ) → ((m : ℕ) → t m ≡ ltb last m) → first_of (filter t ready) ≡ None → first_of ready ≡ next_ready ready last
 next_around t ready last same first = sym (ap (λ o. option_or o (first_of ready)) (sym (first_filtered t (λ m. ltb last m) same ready) ∙ first))
 
-pub none_next : (slots : Slab Process) (keys : List (ℕ × ℕ)) (ready : List ℕ) (last : ℕ) → IsKept slots keys ready → next_ready ready last ≡ None → are_stuck (stands_in slots keys) ≡ true
+pub none_next : (slots : Slab Held) (keys : List (ℕ × ℕ)) (ready : List ℕ) (last : ℕ) → IsKept slots keys ready → next_ready ready last ≡ None → are_stuck (stands_in slots keys) ≡ true
 none_next slots keys ready last kept none = all_stuck slots keys (subst (λ ready. AllByRecursion (IsSlot slots ready) keys) (none_ready ready last none) kept.each)
 
 in_range : (last m : ℕ) → range_contains nat_cmp (Excluded last) Unbounded m ≡ ltb last m
@@ -458,18 +456,15 @@ first_is (Some k) (x ∷ xs) first there = sym first
 flipped : (n m : ℕ) → eqb m n ≡ eqb n m
 flipped n m = grind (arith, nat_tests)
 
-pub arrival : (slots new : Slab Process) (n key : ℕ) (was now : Process) (letter : Letter) (keys : List (ℕ × ℕ)) (ready : List ℕ) (old : List (Pid × Process)) → IsKept slots keys ready → lookup (at_key n) keys ≡ Some key → get slots key ≡ Some was → Updates slots new key (Some now)
-    → stands_in slots keys ≡ old → now ≡ arrived was letter → stands_in new keys ≡ map (λ (e : Pid × Process). cond (same_pid (pid_of n) e.0) (e.0, arrived e.1 letter) e) old
+pub arrival : (slots new : Slab Held) (n key : ℕ) (was now : Held) (letter : Letter) (keys : List (ℕ × ℕ)) (ready : List ℕ) (old : List (Pid × Held)) → IsKept slots keys ready → lookup (at_key n) keys ≡ Some key → get slots key ≡ Some was → Updates slots new key (Some now)
+    → stands_in slots keys ≡ old → now ≡ arrived_held was letter → stands_in new keys ≡ map (λ (e : Pid × Held). cond (same_pid (pid_of n) e.0) (e.0, arrived_held e.1 letter) e) old
 arrival slots new n key was now letter keys ready old kept found there updates same is =
-    written slots new n key was now (λ e. (e.0, arrived e.1 letter)) keys (one_key n key keys kept.ordered kept.apart found) there updates (ap (λ p. (pid_of n, p)) (sym is))
-    ∙ (λ i. map (λ (e : Pid × Process). cond (flipped n (e.0).0 i) (e.0, arrived e.1 letter) e) (same i))
+    written slots new n key was now (λ e. (e.0, arrived_held e.1 letter)) keys (one_key n key keys kept.ordered kept.apart found) there updates (ap (λ p. (pid_of n, p)) (sym is))
+    ∙ (λ i. map (λ (e : Pid × Held). cond (flipped n (e.0).0 i) (e.0, arrived_held e.1 letter) e) (same i))
 
-pub no_arrival : (slots : Slab Process) (n : ℕ) (letter : Letter) (keys : List (ℕ × ℕ)) (old : List (Pid × Process)) → lookup (at_key n) keys ≡ None → stands_in slots keys ≡ old → old ≡ map (λ (e : Pid × Process). cond (same_pid (pid_of n) e.0) (e.0, arrived e.1 letter) e) old
+pub no_arrival : (slots : Slab Held) (n : ℕ) (letter : Letter) (keys : List (ℕ × ℕ)) (old : List (Pid × Held)) → lookup (at_key n) keys ≡ None → stands_in slots keys ≡ old → old ≡ map (λ (e : Pid × Held). cond (same_pid (pid_of n) e.0) (e.0, arrived_held e.1 letter) e) old
 no_arrival slots n letter keys old none same =
-    sym same ∙ sym (nobody_changed slots n (λ e. (e.0, arrived e.1 letter)) keys (no_entry n keys none)) ∙ (λ i. map (λ (e : Pid × Process). cond (flipped n (e.0).0 i) (e.0, arrived e.1 letter) e) (same i))
-
-pub arrived_is : (was now : Process) (letter : Letter) → state_of now ≡ delivered (state_of was) letter → SameRest was now → now ≡ arrived was letter
-arrived_is was now letter is rest = λ i. record { small = (is i).small; ram = rest.ram i; mail = record { letters = (is i).mail; next = (is i).next }; read = rest.read i; since = rest.since i }
+    sym same ∙ sym (nobody_changed slots n (λ e. (e.0, arrived_held e.1 letter)) keys (no_entry n keys none)) ∙ (λ i. map (λ (e : Pid × Held). cond (flipped n (e.0).0 i) (e.0, arrived_held e.1 letter) e) (same i))
 
 pub on_ok : {P Q : Type 0} → (r : Result (Unit {0}) NoMemory) → (P → Q) → OnOk r P → OnOk r Q
 on_ok (Ok done) f h = f h
@@ -479,8 +474,8 @@ all_same : {X : Type 0} → (xs : List X) → map (λ (x : X). x) xs ≡ xs
 all_same [] = refl
 all_same (x ∷ xs) = ap (λ rest. x ∷ rest) (all_same xs)
 
-pub no_end_of : (letter : Letter) (to : To) (tty : ℕ) (here : List (Pid × Process)) → to ≡ Tty tty → map (λ (e : Pid × Process). cond (is_end_of e.0 to) (e.0, arrived e.1 letter) e) here ≡ here
-no_end_of letter to tty here is = (λ i. map (λ (e : Pid × Process). cond (is_end_of e.0 (is i)) (e.0, arrived e.1 letter) e) here) ∙ all_same here
+pub no_end_of : (letter : Letter) (to : To) (tty : ℕ) (here : List (Pid × Held)) → to ≡ Tty tty → map (λ (e : Pid × Held). cond (is_end_of e.0 to) (e.0, arrived_held e.1 letter) e) here ≡ here
+no_end_of letter to tty here is = (λ i. map (λ (e : Pid × Held). cond (is_end_of e.0 (is i)) (e.0, arrived_held e.1 letter) e) here) ∙ all_same here
 
 -- ---- one more is ready, or there is more room
 
@@ -488,13 +483,13 @@ adds : (b c d : Bool) → d ≡ cond b true c → c ≡ true → d ≡ true
 adds true c d is h = is
 adds false c d is h = is ∙ h
 
-pub ready_put : (slots : Slab Process) (keys : List (ℕ × ℕ)) (n : ℕ) (ready more : List ℕ) → ((q : ℕ) → list_any (at_key q) more ≡ cond (at_key n q) true (list_any (at_key q) ready)) → IsKept slots keys ready → IsKept slots keys more
+pub ready_put : (slots : Slab Held) (keys : List (ℕ × ℕ)) (n : ℕ) (ready more : List ℕ) → ((q : ℕ) → list_any (at_key q) more ≡ cond (at_key n q) true (list_any (at_key q) ready)) → IsKept slots keys ready → IsKept slots keys more
 ready_put slots keys n ready more puts kept = ready_more slots keys ready more (λ q h. adds (at_key n q) (list_any (at_key q) ready) (list_any (at_key q) more) (puts q) h) kept
 
-pub more_room : (slots new : Slab Process) (keys : List (ℕ × ℕ)) (ready : List ℕ) → new.slots ≡ slots.slots → IsKept slots keys ready → IsKept new keys ready
+pub more_room : (slots new : Slab Held) (keys : List (ℕ × ℕ)) (ready : List ℕ) → new.slots ≡ slots.slots → IsKept slots keys ready → IsKept new keys ready
 more_room slots new keys ready same kept = record { ordered = kept.ordered; apart = kept.apart; each = all_more (IsSlot slots ready) (IsSlot new ready) each keys kept.each }
   where
     each : (e : ℕ × ℕ) → IsSlot slots ready e → IsSlot new ready e
     each e s =
         let at : get new e.1 ≡ get slots e.1 = ap (λ l. slice_index_or l e.1 None) same in
-        record { filled = ap is_some at ∙ s.filled; stepping = λ p there steps. s.stepping p (sym at ∙ there) steps }
+        record { filled = ap is_some at ∙ s.filled; able = λ p there steps. s.able p (sym at ∙ there) steps }

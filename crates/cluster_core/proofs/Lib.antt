@@ -1,4 +1,5 @@
 pub mod Telling
+pub mod Standing
 pub mod Quanta
 pub mod Here
 pub mod Slots

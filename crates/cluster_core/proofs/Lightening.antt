@@ -24,10 +24,10 @@ use Rattle.cert_sched.proofs.PidLaws.{apart_fewer, apart_of, placed_pids}
 use Rattle.cert_sched.proofs.RisingLaws.{NoTwo, either_not, rising-any, rising-apart}
 use Rattle.cert_sched.proofs.RootPids.{root_pids_differ}
 use Rattle.cluster_core.specs.declared.worked.Worked.TheVariants.{Moved, Queued}
-use Rattle.cluster_core.specs.View.{ClusterView, Held, Runs, held_load, load}
+use Rattle.cluster_core.specs.View.{ClusterView, Held, Runs, held_load, held_of, load}
 use Rattle.cluster_core.specs.Calls.{FollowsSome, WorkIs}
 use Rattle.cluster_core.specs.Quantum.{RunsAndSends}
-use Rattle.cluster_core.proofs.Here.{held_of, pids_held}
+use Rattle.cluster_core.specs.Residents.{pids_in}
 use Rattle.cluster_core.proofs.Weighing.{emits_leaves, silently_leaves}
 
 -- ---- no pid stands twice
@@ -85,9 +85,9 @@ homes_apart system log k valid legal =
     sym (pids_kept (placement system log).placed) ∙ ap kept_pids (built_kept system log legal) ∙ pids_kept (places_at_boot system).placed in
     apart_fewer (is_at_home k) (placement system log).placed (subst NoTwo (sym same) (apart_of (places_at_boot system).placed (root_pids_differ system valid)))
 
-held_apart : (c : ClusterView) → is_system c.system ≡ true → FollowsSome c → NoTwo (pids_held c.here)
+held_apart : (c : ClusterView) → is_system c.system ≡ true → FollowsSome c → NoTwo (pids_in c.here)
 held_apart c valid f =
-    apart_unsorted (pids_held c.here)
+    apart_unsorted (pids_in c.here)
     (subst NoTwo (sym (((f.follows).processes).each_once)) (rising-apart (home_pids c.system f.log c.number) (homes_apart c.system f.log c.number valid (f.open_log).0)))
 
 -- ---- one of them has fewer steps left
@@ -101,14 +101,14 @@ sum_held here = sum_by (λ (e : Pid × Held). held_load e.1) here
 abbrev weight_of : Pid × Held → ℕ
 weight_of e = held_load e.1
 
-others_same : (p : Pid) (now : Process) (here : List (Pid × Held)) → list_any (λ m. eqb m p.0) (pids_held here) ≡ false → sum_held (with_held p now here) ≡ sum_held here
+others_same : (p : Pid) (now : Process) (here : List (Pid × Held)) → list_any (λ m. eqb m p.0) (pids_in here) ≡ false → sum_held (with_held p now here) ≡ sum_held here
 others_same p now [] none = refl
 others_same p now (e ∷ here) none =
-    let parts = either_not (eqb (e.0).0 p.0) (list_any (λ m. eqb m p.0) (pids_held here)) none in
+    let parts = either_not (eqb (e.0).0 p.0) (list_any (λ m. eqb m p.0) (pids_in here)) none in
     ap (λ b. sum_held (cond b (p, Runs now) e ∷ with_held p now here)) parts.0 ∙ sum_by-cons weight_of e (with_held p now here) ∙ ap (λ n. held_load e.1 + n) (others_same p now here parts.1)
     ∙ sym (sum_by-cons weight_of e here)
 
-one_lighter : (p : Pid) (was now : Process) (n : ℕ) (here : List (Pid × Held)) → NoTwo (pids_held here) → held_of here p ≡ Some (Runs was) → weight now.small + n ≤ weight was.small → sum_held (with_held p now here) + n ≤ sum_held here
+one_lighter : (p : Pid) (was now : Process) (n : ℕ) (here : List (Pid × Held)) → NoTwo (pids_in here) → held_of here p ≡ Some (Runs was) → weight now.small + n ≤ weight was.small → sum_held (with_held p now here) + n ≤ sum_held here
 one_lighter p was now n [] two at less = cc
 one_lighter p was now n (e ∷ here) two at less = by_test (same_pid e.0 p) refl at (one_lighter p was now n here two.1)
   where
@@ -117,7 +117,7 @@ one_lighter p was now n (e ∷ here) two at less = by_test (same_pid e.0 p) refl
         → sum_held (cond b (p, Runs now) e ∷ with_held p now here) + n ≤ sum_held (e ∷ here)
     by_test true is at more =
         let same : e.1 ≡ Runs was = cc in
-        let rest = others_same p now here (ap (λ m. list_any (λ k. eqb k m) (pids_held here)) (sym (eqb-true (e.0).0 p.0 is)) ∙ two.0) in
+        let rest = others_same p now here (ap (λ m. list_any (λ k. eqb k m) (pids_in here)) (sym (eqb-true (e.0).0 p.0 is)) ∙ two.0) in
         omega (arith, sum_by-cons weight_of (p, Runs now) (with_held p now here), sum_by-cons weight_of e here, ap held_load same, rest, less)
     by_test false is at more = omega (arith, sum_by-cons weight_of e (with_held p now here), sum_by-cons weight_of e here, more at less)
 

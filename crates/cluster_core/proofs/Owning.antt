@@ -1,5 +1,5 @@
--- A process that is here keeps its pid, and no signal comes to it.
-use Rattle.std.proofs.Common.{◌≡◌, ℕ, ◌+◌, ◌-◌, ◌^◌, ◌<◌, ◌≤◌, ◌∙◌, refl, sym, ap, subst, arith, List, [], ◌∷◌, Bool, true, false, cond, not, ◌&&◌, ◌||◌, eqb-true, Some}
+-- What is here keeps its pid, and no signal comes to it.
+use Rattle.std.proofs.Common.{◌≡◌, ℕ, ◌+◌, ◌-◌, ◌^◌, ◌<◌, ◌≤◌, ◌∙◌, refl, sym, subst, arith, List, [], ◌∷◌, Bool, true, false, cond, not, ◌&&◌, ◌||◌, eqb-true, Some}
 use Rattle.std.specs.Prelude.{filter, find, option_map}
 use Rattle.t32_base.specs.declared.process.Pid.{Pid}
 use Rattle.t32_base.specs.declared.letter.Letter.{Letter}
@@ -7,62 +7,71 @@ use Rattle.proc_state.specs.declared.process.Process.{Process}
 use Rattle.proc_state.specs.Mail.{carries_signal}
 use Rattle.proc_state.specs.State.{state_of}
 use Rattle.sys_calls.specs.declared.steps.Emission.{Emission}
-use Rattle.sys_calls.specs.Next.{next_step, has_step}
+use Rattle.sys_calls.specs.Next.{next_step, has_step, silently}
 use Rattle.sys_calls.proofs.Counting.{silently_counts, emits_counts}
 use Rattle.sys_calls.proofs.Quiet.{delivered_quiet, emits_quiet, silently_quiet, takes_none}
 use Rattle.bus_msg.specs.declared.entry.What.{What}
 use Rattle.bus_msg.specs.declared.entry.What.TheVariants.{Mail}
 use Rattle.bus_msg.specs.Places.{same_pid}
 use Rattle.cert_sched.specs.Deeds.{is_end_of}
-use Rattle.cluster_core.specs.View.{arrived}
-use Rattle.cluster_core.specs.Residents.{process_in, residents_after, with_changed, are_stuck, HasRoom}
-use Rattle.cluster_core.specs.Parts.{held_in, IsOwn, AllOwn}
-use Rattle.cluster_core.specs.Calls.{are_at_rest}
-use Rattle.cluster_core.specs.Quantum.{RunsSome, RunsAndSends}
+use Rattle.cluster_core.specs.View.{Held, Runs, Rolls, Waits, arrived, arrived_held, held_of, next_number}
+use Rattle.cluster_core.specs.Residents.{with_changed, are_stuck, is_stuck, HasRoom}
+use Rattle.cluster_core.specs.Parts.{IsHeldOwn, IsOwn, AllOwn}
+use Rattle.cluster_core.specs.Calls.{are_at_rest, here_after, is_at_rest}
+use Rattle.cluster_core.specs.Quantum.{RunsAndSends}
 use Rattle.cert_sched.specs.Built.{is_built}
 use Rattle.cluster_core.proofs.Here.{pid_same}
 use Rattle.cluster_core.proofs.ByKind.{by_kind}
 
 -- ---- one of them
 
--- a process that is found is its own
-pub own_at : (cursor : ℕ) (rs : List (Pid × Process)) (p : Pid) (s : Process) → AllOwn cursor rs → process_in rs p ≡ Some s → IsOwn cursor p s
-own_at cursor [] p s own there = cc
-own_at cursor (e ∷ rs) p s own there = by_test (same_pid e.0 p) refl there (own_at cursor rs p s own.1)
+-- what is found is its own
+pub own_at : (cursor : ℕ) (here : List (Pid × Held)) (p : Pid) (h : Held) → AllOwn cursor here → held_of here p ≡ Some h → IsHeldOwn cursor p h
+own_at cursor [] p h own there = cc
+own_at cursor (e ∷ here) p h own there = by_test (same_pid e.0 p) refl there (own_at cursor here p h own.1)
   where
-    by_test : (b : Bool) → same_pid e.0 p ≡ b → option_map (λ (e : Pid × Process). e.1) (cond b (Some e) (find (λ (e : Pid × Process). same_pid e.0 p) rs)) ≡ Some s
-        → (process_in rs p ≡ Some s → IsOwn cursor p s) → IsOwn cursor p s
+    by_test : (b : Bool) → same_pid e.0 p ≡ b → option_map (λ (e : Pid × Held). e.1) (cond b (Some e) (find (λ (e : Pid × Held). same_pid e.0 p) here)) ≡ Some h
+        → (held_of here p ≡ Some h → IsHeldOwn cursor p h) → IsHeldOwn cursor p h
     by_test true is at more =
-        let same : e.1 ≡ s = cc in
-        let At : Pid → Type 0 = λ q. IsOwn cursor q e.1 in
-        let Of : Process → Type 0 = λ x. IsOwn cursor p x in
+        let same : e.1 ≡ h = cc in
+        let At : Pid → Type 0 = λ q. IsHeldOwn cursor q e.1 in
+        let Of : Held → Type 0 = λ x. IsHeldOwn cursor p x in
         subst Of same (subst At (pid_same e.0 p (eqb-true (e.0).0 p.0 is)) own.0)
     by_test false is at more = more at
 
 -- each may get one letter more
-pub has_room : (cursor : ℕ) (rs : List (Pid × Process)) → AllOwn cursor rs → cursor < 2 ^ 64 - 1 → HasRoom rs
-has_room cursor rs own room p s there = let o = own_at cursor rs p s own there in omega (arith, o.arrived, room)
+pub has_room : (cursor : ℕ) (here : List (Pid × Held)) → AllOwn cursor here → cursor < 2 ^ 64 - 1 → HasRoom here
+has_room cursor here own room p h there = by_held h (own_at cursor here p h own there)
+  where
+    by_held : (h : Held) → IsHeldOwn cursor p h → next_number h < 2 ^ 64 - 1
+    by_held (Runs s) o = omega (arith, o.arrived, room)
+    by_held (Rolls s counts births) o = omega (arith, o.arrived, room)
+    by_held (Waits kept) o = absurd o
 
--- ---- none of them has a step
+-- ---- none of them can move
 
--- then each is at rest, since no signal waits
-pub stuck_rest : (cursor : ℕ) (rs : List (Pid × Process)) → AllOwn cursor rs → are_at_rest (held_in rs) ≡ are_stuck rs
-stuck_rest cursor [] own = refl
-stuck_rest cursor (e ∷ rs) own =
-    (λ i. not (has_step (next_step (state_of e.1)) || takes_none (state_of e.1) (own.0).quiet i) && stuck_rest cursor rs own.1 i) ∙ ap (λ b. b && are_stuck rs) (alike (has_step (next_step (state_of e.1))))
+-- who cannot move is at rest, since no signal waits
+one_rest : (cursor : ℕ) (p : Pid) (h : Held) → IsHeldOwn cursor p h → is_at_rest h ≡ is_stuck h
+one_rest cursor p (Runs s) own = (λ i. not (has_step (next_step (state_of s)) || takes_none (state_of s) own.quiet i)) ∙ alike (has_step (next_step (state_of s)))
   where
     alike : (a : Bool) → not (a || false) ≡ not a
     alike true = refl
     alike false = refl
+one_rest cursor p (Rolls s counts births) own = refl
+one_rest cursor p (Waits kept) own = absurd own
+
+pub stuck_rest : (cursor : ℕ) (here : List (Pid × Held)) → AllOwn cursor here → are_at_rest here ≡ are_stuck here
+stuck_rest cursor [] own = refl
+stuck_rest cursor (e ∷ here) own = λ i. one_rest cursor e.0 e.1 own.0 i && stuck_rest cursor here own.1 i
 
 -- ---- a turn
 
-pub own_moved : (cursor : ℕ) (pid : Pid) (was now : Process) → IsOwn cursor pid was → RunsSome 64 (state_of was) (state_of now) → IsOwn cursor pid now
-own_moved cursor pid was now own runs =
-    let counts = silently_counts runs.steps (state_of was) (state_of now) runs.silent in
+pub own_moved : (cursor : ℕ) (pid : Pid) (was now : Process) (steps : ℕ) → IsOwn cursor pid was → silently steps (state_of was) ≡ Some (state_of now) → IsOwn cursor pid now
+own_moved cursor pid was now steps own silent =
+    let counts = silently_counts steps (state_of was) (state_of now) silent in
     record {
       pid_is = counts.pid ∙ own.pid_is;
-      quiet = silently_quiet runs.steps (state_of was) (state_of now) runs.silent own.quiet;
+      quiet = silently_quiet steps (state_of was) (state_of now) silent own.quiet;
       arrived = subst (λ n. n ≤ cursor) (sym counts.next) own.arrived;
     }
 
@@ -76,11 +85,11 @@ own_sent cursor pid was now e own runs =
       arrived = subst (λ n. n ≤ cursor) (sym (last.next ∙ counts.next)) own.arrived;
     }
 
-pub own_changed : (cursor : ℕ) (pid : Pid) (now : Process) (rs : List (Pid × Process)) → AllOwn cursor rs → IsOwn cursor pid now → AllOwn cursor (with_changed pid now rs)
+pub own_changed : (cursor : ℕ) (pid : Pid) (now : Held) (here : List (Pid × Held)) → AllOwn cursor here → IsHeldOwn cursor pid now → AllOwn cursor (with_changed pid now here)
 own_changed cursor pid now [] own mine = tt
-own_changed cursor pid now (e ∷ rs) own mine = (by_test (same_pid e.0 pid), own_changed cursor pid now rs own.1 mine)
+own_changed cursor pid now (e ∷ here) own mine = (by_test (same_pid e.0 pid), own_changed cursor pid now here own.1 mine)
   where
-    by_test : (b : Bool) → IsOwn cursor (cond b (pid, now) e).0 (cond b (pid, now) e).1
+    by_test : (b : Bool) → IsHeldOwn cursor (cond b (pid, now) e).0 (cond b (pid, now) e).1
     by_test true = mine
     by_test false = own.0
 
@@ -91,28 +100,41 @@ abbrev pub brings_none : What → Type 0
 brings_none (Mail at letter) = carries_signal letter.body ≡ false
 brings_none w = Unit {0}
 
-own_later : (cursor : ℕ) (rs : List (Pid × Process)) → AllOwn cursor rs → AllOwn (cursor + 1) rs
+one_later : (cursor : ℕ) (pid : Pid) (h : Held) → IsHeldOwn cursor pid h → IsHeldOwn (cursor + 1) pid h
+one_later cursor pid (Runs s) own = record { pid_is = own.pid_is; quiet = own.quiet; arrived = omega (arith, own.arrived) }
+one_later cursor pid (Rolls s counts births) own = record { pid_is = own.pid_is; quiet = own.quiet; arrived = omega (arith, own.arrived) }
+one_later cursor pid (Waits kept) own = absurd own
+
+own_later : (cursor : ℕ) (here : List (Pid × Held)) → AllOwn cursor here → AllOwn (cursor + 1) here
 own_later cursor [] own = tt
-own_later cursor (e ∷ rs) own = (record { pid_is = (own.0).pid_is; quiet = (own.0).quiet; arrived = omega (arith, (own.0).arrived) }, own_later cursor rs own.1)
+own_later cursor (e ∷ here) own = (one_later cursor e.0 e.1 own.0, own_later cursor here own.1)
 
-own_letter : (cursor : ℕ) (letter : Letter) (rs : List (Pid × Process)) → carries_signal letter.body ≡ false → AllOwn cursor rs → AllOwn (cursor + 1) (residents_after (Mail 0 letter) rs)
+own_arrived : (cursor : ℕ) (pid : Pid) (s : Process) (letter : Letter) → carries_signal letter.body ≡ false → IsOwn cursor pid s → IsOwn (cursor + 1) pid (arrived s letter)
+own_arrived cursor pid s letter other own = record { pid_is = own.pid_is; quiet = delivered_quiet (state_of s) letter other own.quiet; arrived = omega (arith, own.arrived) }
+
+one_letter : (cursor : ℕ) (pid : Pid) (h : Held) (letter : Letter) → carries_signal letter.body ≡ false → IsHeldOwn cursor pid h → IsHeldOwn (cursor + 1) pid (arrived_held h letter)
+one_letter cursor pid (Runs s) letter other own = own_arrived cursor pid s letter other own
+one_letter cursor pid (Rolls s counts births) letter other own = own_arrived cursor pid s letter other own
+one_letter cursor pid (Waits kept) letter other own = absurd own
+
+own_letter : (cursor : ℕ) (letter : Letter) (here : List (Pid × Held)) → carries_signal letter.body ≡ false → AllOwn cursor here → AllOwn (cursor + 1) (here_after (Mail 0 letter) here)
 own_letter cursor letter [] other own = tt
-own_letter cursor letter (e ∷ rs) other own = (by_test (is_end_of e.0 letter.to), own_letter cursor letter rs other own.1)
+own_letter cursor letter (e ∷ here) other own = (by_test (is_end_of e.0 letter.to), own_letter cursor letter here other own.1)
   where
-    by_test : (b : Bool) → IsOwn (cursor + 1) (cond b (e.0, arrived e.1 letter) e).0 (cond b (e.0, arrived e.1 letter) e).1
-    by_test true = record { pid_is = (own.0).pid_is; quiet = delivered_quiet (state_of e.1) letter other (own.0).quiet; arrived = omega (arith, (own.0).arrived) }
-    by_test false = record { pid_is = (own.0).pid_is; quiet = (own.0).quiet; arrived = omega (arith, (own.0).arrived) }
+    by_test : (b : Bool) → IsHeldOwn (cursor + 1) (cond b (e.0, arrived_held e.1 letter) e).0 (cond b (e.0, arrived_held e.1 letter) e).1
+    by_test true = one_letter cursor e.0 e.1 letter other own.0
+    by_test false = one_later cursor e.0 e.1 own.0
 
-own_exit : (cursor : ℕ) (pid : Pid) (rs : List (Pid × Process)) → AllOwn cursor rs → AllOwn cursor (filter (λ (e : Pid × Process). not (same_pid e.0 pid)) rs)
+own_exit : (cursor : ℕ) (pid : Pid) (here : List (Pid × Held)) → AllOwn cursor here → AllOwn cursor (filter (λ (e : Pid × Held). not (same_pid e.0 pid)) here)
 own_exit cursor pid [] own = tt
-own_exit cursor pid (e ∷ rs) own = by_test (not (same_pid e.0 pid)) (own_exit cursor pid rs own.1)
+own_exit cursor pid (e ∷ here) own = by_test (not (same_pid e.0 pid)) (own_exit cursor pid here own.1)
   where
-    by_test : (b : Bool) → AllOwn cursor (filter (λ (e : Pid × Process). not (same_pid e.0 pid)) rs)
-        → AllOwn cursor (cond b (e ∷ filter (λ (e : Pid × Process). not (same_pid e.0 pid)) rs) (filter (λ (e : Pid × Process). not (same_pid e.0 pid)) rs))
+    by_test : (b : Bool) → AllOwn cursor (filter (λ (e : Pid × Held). not (same_pid e.0 pid)) here)
+        → AllOwn cursor (cond b (e ∷ filter (λ (e : Pid × Held). not (same_pid e.0 pid)) here) (filter (λ (e : Pid × Held). not (same_pid e.0 pid)) here))
     by_test true more = (own.0, more)
     by_test false more = more
 
-pub own_after : (cursor : ℕ) (w : What) (rs : List (Pid × Process)) → is_built w ≡ true → brings_none w → AllOwn cursor rs → AllOwn (cursor + 1) (residents_after w rs)
-own_after cursor w rs =
-    by_kind (λ w. brings_none w → AllOwn cursor rs → AllOwn (cursor + 1) (residents_after w rs))
-    (λ at letter none own. own_letter cursor letter rs none own) (λ pid at end none own. own_later cursor _ (own_exit cursor pid rs own)) (λ rests none own. own_later cursor rs own) (λ none own. own_later cursor rs own) w
+pub own_after : (cursor : ℕ) (w : What) (here : List (Pid × Held)) → is_built w ≡ true → brings_none w → AllOwn cursor here → AllOwn (cursor + 1) (here_after w here)
+own_after cursor w here =
+    by_kind (λ w. brings_none w → AllOwn cursor here → AllOwn (cursor + 1) (here_after w here))
+    (λ at letter none own. own_letter cursor letter here none own) (λ pid at end none own. own_later cursor _ (own_exit cursor pid here own)) (λ rests none own. own_later cursor here own) (λ none own. own_later cursor here own) w

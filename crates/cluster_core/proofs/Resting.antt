@@ -15,13 +15,13 @@ use Rattle.cert_sched.specs.Schedule.{done_after}
 use Rattle.cert_sched.specs.Steps.{silent_upto}
 use Rattle.cert_sched.specs.Rests.{is_idle, is_idle_at}
 use Rattle.proc_state.specs.declared.process.Process.{Process}
-use Rattle.cluster_core.specs.View.{ClusterView}
+use Rattle.cluster_core.specs.View.{ClusterView, Held, Runs, Rolls, Waits, held_of, steps_of_held}
 use Rattle.bus_msg.specs.Places.{same_pid}
 use Rattle.cert_sched.proofs.RisingLaws.{NoTwo}
-use Rattle.cluster_core.proofs.Here.{is_among, pids_held, pids_same, same_itself}
-use Rattle.cluster_core.specs.Residents.{process_in, are_rising, pids_in, steps_in, are_stuck}
-use Rattle.cluster_core.specs.Parts.{held_in, AllOwn}
-use Rattle.cluster_core.specs.Calls.{RestsIn, are_at_rest, is_resting, rests_in, rests_of}
+use Rattle.cluster_core.proofs.Here.{is_among, same_itself}
+use Rattle.cluster_core.specs.Residents.{are_rising, pids_in, are_stuck}
+use Rattle.cluster_core.specs.Parts.{AllOwn}
+use Rattle.cluster_core.specs.Calls.{RestsIn, are_at_rest, is_at_rest, is_resting, rests_in, rests_of}
 use Rattle.cluster_core.proofs.Owning.{stuck_rest}
 use Rattle.cluster_core.proofs.Working.{ahead, held_before}
 
@@ -60,49 +60,49 @@ apart (n ∷ ns) h = let parts = and_parts (list_all (λ m. ltb n m) ns) (are_ri
 
 -- ---- what is told
 
--- what is told of the processes is what is told of what is held
-same_rests : (rs : List (Pid × Process)) → steps_in rs ≡ rests_in (held_in rs)
-same_rests [] = refl
-same_rests (e ∷ rs) = ap (λ xs. (e.0, ((e.1).small).steps) ∷ xs) (same_rests rs)
+-- what is at rest runs, and is so in each log in which it is found after silent steps
+rest_idle : (system : System) (log : List Entry) (p : Pid) (h : Held) → ((s : Process) → h ≡ Runs s → silent_upto system log p (s.small).steps ≡ Some (state_of s)) → is_at_rest h ≡ true → is_idle_at system log (p, steps_of_held h) ≡ true
+rest_idle system log p (Runs s) there rest = idle_at system log p (state_of s) (there s refl) rest
+rest_idle system log p (Rolls s counts births) there rest = absurd (true≢false (sym rest))
+rest_idle system log p (Waits kept) there rest = absurd (true≢false (sym rest))
 
--- each process that is at rest here is so in each log that the cluster follows
-each_idle : (c : ClusterView) (log : List Entry) (rs : List (Pid × Process)) → ((p : Pid) (s : Process) → process_in rs p ≡ Some s → silent_upto c.system log p (s.small).steps ≡ Some (state_of s)) → NoTwo (pids_in rs)
-    → are_at_rest (held_in rs) ≡ true → list_all (is_idle_at c.system log) (rests_in (held_in rs)) ≡ true
+-- each that is at rest here is so in each log that the cluster follows
+each_idle : (c : ClusterView) (log : List Entry) (here : List (Pid × Held)) → ((p : Pid) (s : Process) → held_of here p ≡ Some (Runs s) → silent_upto c.system log p (s.small).steps ≡ Some (state_of s)) → NoTwo (pids_in here)
+    → are_at_rest here ≡ true → list_all (is_idle_at c.system log) (rests_in here) ≡ true
 each_idle c log [] there two rest = refl
-each_idle c log (e ∷ rs) there two rest =
-    let parts = and_parts (is_idle (state_of e.1)) (are_at_rest (held_in rs)) rest in
-    let first : process_in (e ∷ rs) e.0 ≡ Some e.1 = ap (λ b. option_map (λ (e : Pid × Process). e.1) (cond b (Some e) (find (λ (q : Pid × Process). same_pid q.0 e.0) rs))) (same_itself e.0) in
-    and_from (is_idle_at c.system log (e.0, ((e.1).small).steps)) _ (idle_at c.system log e.0 (state_of e.1) (there e.0 e.1 first) parts.0)
-    (each_idle c log rs (λ p s at. there p s (beside p s at (same_pid e.0 p) refl)) two.1 parts.1)
+each_idle c log (e ∷ here) there two rest =
+    let parts = and_parts (is_at_rest e.1) (are_at_rest here) rest in
+    let first : held_of (e ∷ here) e.0 ≡ Some e.1 = ap (λ b. option_map (λ (e : Pid × Held). e.1) (cond b (Some e) (find (λ (q : Pid × Held). same_pid q.0 e.0) here))) (same_itself e.0) in
+    and_from (is_idle_at c.system log (e.0, steps_of_held e.1)) _ (rest_idle c.system log e.0 e.1 (λ s is. there e.0 s (first ∙ ap Some is)) parts.0)
+    (each_idle c log here (λ p s at. there p s (beside p s at (same_pid e.0 p) refl)) two.1 parts.1)
   where
-    beside : (p : Pid) (s : Process) → process_in rs p ≡ Some s → (b : Bool) → same_pid e.0 p ≡ b → process_in (e ∷ rs) p ≡ Some s
-    beside p s at true is = absurd (true≢false (sym (ap (λ n. list_any (λ m. eqb m n) (pids_in rs)) (eqb-true (e.0).0 p.0 is) ∙ ap (list_any (λ m. eqb m p.0)) (sym (pids_same rs)) ∙ is_among rs p s at) ∙ two.0))
-    beside p s at false is = ap (λ b. option_map (λ (e : Pid × Process). e.1) (cond b (Some e) (find (λ (q : Pid × Process). same_pid q.0 p) rs))) is ∙ at
+    beside : (p : Pid) (s : Process) → held_of here p ≡ Some (Runs s) → (b : Bool) → same_pid e.0 p ≡ b → held_of (e ∷ here) p ≡ Some (Runs s)
+    beside p s at true is = absurd (true≢false (sym (ap (λ n. list_any (λ m. eqb m n) (pids_in here)) (eqb-true (e.0).0 p.0 is) ∙ is_among here p (Runs s) at) ∙ two.0))
+    beside p s at false is = ap (λ b. option_map (λ (e : Pid × Held). e.1) (cond b (Some e) (find (λ (q : Pid × Held). same_pid q.0 p) here))) is ∙ at
 
 -- the processes that a cluster tells rest in each log that it follows
-pub rests_told : (c : ClusterView) (rs : List (Pid × Process)) → c.here ≡ held_in rs → are_rising (pids_in rs) ≡ true → are_at_rest (held_in rs) ≡ true → RestsIn c (steps_in rs)
-rests_told c rs here ordered at_rest empty log now f = record {
-  named = same_pids rs ∙ sym (rises (pids_in rs) ordered) ∙ ap rising (sym (pids_same rs)) ∙ ap (λ hs. rising (pids_held hs)) (sym here) ∙ (f.processes).each_once;
-  idle = ap (list_all (is_idle_at c.system log)) (same_rests rs) ∙ each_idle c log rs (λ p s there. held_before c log rs p s here empty f there) (apart (pids_in rs) ordered) at_rest;
+pub rests_told : (c : ClusterView) → are_rising (pids_in c.here) ≡ true → are_at_rest c.here ≡ true → RestsIn c (rests_in c.here)
+rests_told c ordered at_rest empty log now f = record {
+  named = same_pids c.here ∙ sym (rises (pids_in c.here) ordered) ∙ (f.processes).each_once;
+  idle = each_idle c log c.here (λ p s there. held_before c log p s empty f there) (apart (pids_in c.here) ordered) at_rest;
 }
   where
-    same_pids : (rs : List (Pid × Process)) → map (λ (r : Pid × ℕ). (r.0).0) (steps_in rs) ≡ pids_in rs
+    same_pids : (here : List (Pid × Held)) → map (λ (r : Pid × ℕ). (r.0).0) (rests_in here) ≡ pids_in here
     same_pids [] = refl
-    same_pids (e ∷ rs) = ap (λ ns. (e.0).0 ∷ ns) (same_pids rs)
+    same_pids (e ∷ here) = ap (λ ns. (e.0).0 ∷ ns) (same_pids here)
 
 -- what a call answers that tells them
-pub told_rests : {E : Type 0} (c : ClusterView) (rs : List (Pid × Process)) (result : Result (Option (List (Pid × ℕ))) E) → AllOwn c.cursor rs → c.here ≡ held_in rs → are_rising (pids_in rs) ≡ true
-    → IfOk result (λ rests. rests ≡ cond (are_stuck rs) (Some (steps_in rs)) None) → IfOk result (λ rests. IfSome rests (RestsIn c))
-told_rests c rs (Err e) own here ordered told = tt
-told_rests c rs (Ok o) own here ordered told = by_test (are_stuck rs) refl told
+pub told_rests : {E : Type 0} (c : ClusterView) (result : Result (Option (List (Pid × ℕ))) E) → AllOwn c.cursor c.here → are_rising (pids_in c.here) ≡ true
+    → IfOk result (λ rests. rests ≡ cond (are_stuck c.here) (Some (rests_in c.here)) None) → IfOk result (λ rests. IfSome rests (RestsIn c))
+told_rests c (Err e) own ordered told = tt
+told_rests c (Ok o) own ordered told = by_test (are_stuck c.here) refl told
   where
-    by_test : (b : Bool) → are_stuck rs ≡ b → o ≡ cond b (Some (steps_in rs)) None → IfSome o (RestsIn c)
-    by_test true stuck is = let P : Option (List (Pid × ℕ)) → Type 0 = λ o. IfSome o (RestsIn c) in subst P (sym is) (rests_told c rs here ordered (stuck_rest c.cursor rs own ∙ stuck))
+    by_test : (b : Bool) → are_stuck c.here ≡ b → o ≡ cond b (Some (rests_in c.here)) None → IfSome o (RestsIn c)
+    by_test true stuck is = let P : Option (List (Pid × ℕ)) → Type 0 = λ o. IfSome o (RestsIn c) in subst P (sym is) (rests_told c ordered (stuck_rest c.cursor c.here own ∙ stuck))
     by_test false stuck is = let P : Option (List (Pid × ℕ)) → Type 0 = λ o. IfSome o (RestsIn c) in subst P (sym is) tt
 
 -- it answers so of the cluster
-pub answered_rests : {E : Type 0} (c : ClusterView) (rs : List (Pid × Process)) (result : Result (Option (List (Pid × ℕ))) E) → AllOwn c.cursor rs → c.here ≡ held_in rs
-    → IfOk result (λ rests. rests ≡ cond (are_stuck rs) (Some (steps_in rs)) None) → IfOk result (λ rests. rests ≡ cond (is_resting c) (Some (rests_of c)) None)
-answered_rests c rs (Err e) own here told = tt
-answered_rests c rs (Ok o) own here told =
-    told ∙ (λ i. cond (sym (ap are_at_rest here ∙ stuck_rest c.cursor rs own) i) (Some ((same_rests rs ∙ ap rests_in (sym here)) i)) None)
+pub answered_rests : {E : Type 0} (c : ClusterView) (result : Result (Option (List (Pid × ℕ))) E) → AllOwn c.cursor c.here
+    → IfOk result (λ rests. rests ≡ cond (are_stuck c.here) (Some (rests_in c.here)) None) → IfOk result (λ rests. rests ≡ cond (is_resting c) (Some (rests_of c)) None)
+answered_rests c (Err e) own told = tt
+answered_rests c (Ok o) own told = told ∙ ap (λ b. cond b (Some (rests_in c.here)) None) (sym (stuck_rest c.cursor c.here own))

@@ -10,12 +10,12 @@ use Rattle.std.proofs.lemmas.Bool.Decides.{nat_tests}
 use Rattle.std.proofs.lemmas.Bool.{false≢true}
 use Rattle.slab.specs.Slab.{Slab, get, Updates}
 use Rattle.t32_base.specs.declared.process.Pid.{Pid}
-use Rattle.proc_state.specs.declared.process.Process.{Process}
 use Rattle.bus_msg.specs.Places.{same_pid}
 use Rattle.plain_kernel.specs.Maps.{at_key, pid_of}
 use Rattle.plain_kernel.proofs.Entries.{some_same}
 use Rattle.cert_sched.proofs.RisingLaws.{NoTwo, either_not}
-use Rattle.cluster_core.specs.Residents.{process_in, is_stuck, is_stuck_at}
+use Rattle.cluster_core.specs.View.{Held, held_of}
+use Rattle.cluster_core.specs.Residents.{is_stuck, is_stuck_at}
 use Rattle.cluster_core.specs.Slots.{in_slot, stands_in}
 
 abbrev pub pids : List (ℕ × ℕ) → List ℕ
@@ -102,20 +102,20 @@ one_key n key (e ∷ es) ordered apart found = by_test (eqb e.0 n) refl (subst (
 
 -- ---- look-ups
 
-in_slot_find : (pid p : Pid) (o : Option Process) (rest : List (Pid × Process)) → same_pid pid p ≡ false → process_in (in_slot pid o rest) p ≡ process_in rest p
+in_slot_find : (pid p : Pid) (o : Option Held) (rest : List (Pid × Held)) → same_pid pid p ≡ false → held_of (in_slot pid o rest) p ≡ held_of rest p
 in_slot_find pid p None rest other = refl
-in_slot_find pid p (Some q) rest other = ap (λ b. option_map (λ (e : Pid × Process). e.1) (cond b (Some (pid, q)) (find (λ (e : Pid × Process). same_pid e.0 p) rest))) other
+in_slot_find pid p (Some q) rest other = ap (λ b. option_map (λ (e : Pid × Held). e.1) (cond b (Some (pid, q)) (find (λ (e : Pid × Held). same_pid e.0 p) rest))) other
 
-in_slot_found : (pid p : Pid) (o : Option Process) (q : Process) (rest : List (Pid × Process)) → same_pid pid p ≡ true → o ≡ Some q → process_in (in_slot pid o rest) p ≡ Some q
+in_slot_found : (pid p : Pid) (o : Option Held) (q : Held) (rest : List (Pid × Held)) → same_pid pid p ≡ true → o ≡ Some q → held_of (in_slot pid o rest) p ≡ Some q
 in_slot_found pid p None q rest same is = cc
-in_slot_found pid p (Some r) q rest same is = ap (λ b. option_map (λ (e : Pid × Process). e.1) (cond b (Some (pid, r)) (find (λ (e : Pid × Process). same_pid e.0 p) rest))) same ∙ is
+in_slot_found pid p (Some r) q rest same is = ap (λ b. option_map (λ (e : Pid × Held). e.1) (cond b (Some (pid, r)) (find (λ (e : Pid × Held). same_pid e.0 p) rest))) same ∙ is
 
 -- the process with a pid is in the slot of its key
-pub process_there : (slots : Slab Process) (n key : ℕ) (p : Process) (es : List (ℕ × ℕ)) → lookup (at_key n) es ≡ Some key → get slots key ≡ Some p → process_in (stands_in slots es) (pid_of n) ≡ Some p
+pub process_there : (slots : Slab Held) (n key : ℕ) (p : Held) (es : List (ℕ × ℕ)) → lookup (at_key n) es ≡ Some key → get slots key ≡ Some p → held_of (stands_in slots es) (pid_of n) ≡ Some p
 process_there slots n key p [] found is = cc
 process_there slots n key p (e ∷ es) found is = by_test (eqb e.0 n) refl (subst (λ b. cond b (Some e.1) (lookup (at_key n) es) ≡ Some key) (at_key_is n e.0) found) (λ found. process_there slots n key p es found is)
   where
-    by_test : (b : Bool) → eqb e.0 n ≡ b → cond b (Some e.1) (lookup (at_key n) es) ≡ Some key → (lookup (at_key n) es ≡ Some key → process_in (stands_in slots es) (pid_of n) ≡ Some p) → process_in (stands_in slots (e ∷ es)) (pid_of n) ≡ Some p
+    by_test : (b : Bool) → eqb e.0 n ≡ b → cond b (Some e.1) (lookup (at_key n) es) ≡ Some key → (lookup (at_key n) es ≡ Some key → held_of (stands_in slots es) (pid_of n) ≡ Some p) → held_of (stands_in slots (e ∷ es)) (pid_of n) ≡ Some p
     by_test true same found more = in_slot_found (pid_of e.0) (pid_of n) (get slots e.1) p (stands_in slots es) same (ap (get slots) (some_same e.1 key found) ∙ is)
     by_test false other found more = in_slot_find (pid_of e.0) (pid_of n) (get slots e.1) (stands_in slots es) other ∙ more found
 
@@ -131,52 +131,52 @@ no_entry n (e ∷ es) none = by_test (eqb e.0 n) refl (subst (λ b. cond b (Some
     by_test false is none more = (is, more none)
 
 -- a change of the process with that pid changes nothing
-pub nobody_changed : (slots : Slab Process) (n : ℕ) (g : Pid × Process → Pid × Process) (es : List (ℕ × ℕ)) → AllByRecursion (λ (e : ℕ × ℕ). eqb e.0 n ≡ false) es
-    → map (λ (e : Pid × Process). cond (same_pid e.0 (pid_of n)) (g e) e) (stands_in slots es) ≡ stands_in slots es
+pub nobody_changed : (slots : Slab Held) (n : ℕ) (g : Pid × Held → Pid × Held) (es : List (ℕ × ℕ)) → AllByRecursion (λ (e : ℕ × ℕ). eqb e.0 n ≡ false) es
+    → map (λ (e : Pid × Held). cond (same_pid e.0 (pid_of n)) (g e) e) (stands_in slots es) ≡ stands_in slots es
 nobody_changed slots n g [] none = refl
 nobody_changed slots n g (e ∷ es) none = in_front (get slots e.1) (nobody_changed slots n g es none.1)
   where
-    in_front : (o : Option Process) → map (λ (e : Pid × Process). cond (same_pid e.0 (pid_of n)) (g e) e) (stands_in slots es) ≡ stands_in slots es
-        → map (λ (e : Pid × Process). cond (same_pid e.0 (pid_of n)) (g e) e) (in_slot (pid_of e.0) o (stands_in slots es)) ≡ in_slot (pid_of e.0) o (stands_in slots es)
+    in_front : (o : Option Held) → map (λ (e : Pid × Held). cond (same_pid e.0 (pid_of n)) (g e) e) (stands_in slots es) ≡ stands_in slots es
+        → map (λ (e : Pid × Held). cond (same_pid e.0 (pid_of n)) (g e) e) (in_slot (pid_of e.0) o (stands_in slots es)) ≡ in_slot (pid_of e.0) o (stands_in slots es)
     in_front None more = more
     in_front (Some p) more = λ i. cond (none.0 i) (g (pid_of e.0, p)) (pid_of e.0, p) ∷ more i
 
 -- and no process goes where it goes
-pub nobody_goes : (slots : Slab Process) (n : ℕ) (es : List (ℕ × ℕ)) → AllByRecursion (λ (e : ℕ × ℕ). eqb e.0 n ≡ false) es
-    → filter (λ (e : Pid × Process). not (same_pid e.0 (pid_of n))) (stands_in slots es) ≡ stands_in slots es
+pub nobody_goes : (slots : Slab Held) (n : ℕ) (es : List (ℕ × ℕ)) → AllByRecursion (λ (e : ℕ × ℕ). eqb e.0 n ≡ false) es
+    → filter (λ (e : Pid × Held). not (same_pid e.0 (pid_of n))) (stands_in slots es) ≡ stands_in slots es
 nobody_goes slots n [] none = refl
 nobody_goes slots n (e ∷ es) none = in_front (get slots e.1) (nobody_goes slots n es none.1)
   where
-    in_front : (o : Option Process) → filter (λ (e : Pid × Process). not (same_pid e.0 (pid_of n))) (stands_in slots es) ≡ stands_in slots es
-        → filter (λ (e : Pid × Process). not (same_pid e.0 (pid_of n))) (in_slot (pid_of e.0) o (stands_in slots es)) ≡ in_slot (pid_of e.0) o (stands_in slots es)
+    in_front : (o : Option Held) → filter (λ (e : Pid × Held). not (same_pid e.0 (pid_of n))) (stands_in slots es) ≡ stands_in slots es
+        → filter (λ (e : Pid × Held). not (same_pid e.0 (pid_of n))) (in_slot (pid_of e.0) o (stands_in slots es)) ≡ in_slot (pid_of e.0) o (stands_in slots es)
     in_front None more = more
     in_front (Some p) more = λ i. cond (not (none.0 i)) ((pid_of e.0, p) ∷ more i) (more i)
 
-pub nobody_stuck : (slots : Slab Process) (n : ℕ) (es : List (ℕ × ℕ)) → AllByRecursion (λ (e : ℕ × ℕ). eqb e.0 n ≡ false) es → is_stuck_at (pid_of n) (stands_in slots es) ≡ true
+pub nobody_stuck : (slots : Slab Held) (n : ℕ) (es : List (ℕ × ℕ)) → AllByRecursion (λ (e : ℕ × ℕ). eqb e.0 n ≡ false) es → is_stuck_at (pid_of n) (stands_in slots es) ≡ true
 nobody_stuck slots n [] none = refl
 nobody_stuck slots n (e ∷ es) none = in_front (get slots e.1) (nobody_stuck slots n es none.1)
   where
-    in_front : (o : Option Process) → is_stuck_at (pid_of n) (stands_in slots es) ≡ true → is_stuck_at (pid_of n) (in_slot (pid_of e.0) o (stands_in slots es)) ≡ true
+    in_front : (o : Option Held) → is_stuck_at (pid_of n) (stands_in slots es) ≡ true → is_stuck_at (pid_of n) (in_slot (pid_of e.0) o (stands_in slots es)) ≡ true
     in_front None more = more
     in_front (Some p) more = ap (λ b. (not b || is_stuck p) && is_stuck_at (pid_of n) (stands_in slots es)) none.0 ∙ more
 
 -- ---- a slot is written
 
 -- slots that no entry names may change
-pub others_stand : (slots new : Slab Process) (key : ℕ) (o : Option Process) (es : List (ℕ × ℕ)) → Updates slots new key o → AllByRecursion (λ (e : ℕ × ℕ). eqb e.1 key ≡ false) es → stands_in new es ≡ stands_in slots es
+pub others_stand : (slots new : Slab Held) (key : ℕ) (o : Option Held) (es : List (ℕ × ℕ)) → Updates slots new key o → AllByRecursion (λ (e : ℕ × ℕ). eqb e.1 key ≡ false) es → stands_in new es ≡ stands_in slots es
 others_stand slots new key o [] updates others = refl
 others_stand slots new key o (e ∷ es) updates others =
     let other : e.1 ≢ key = λ same. true≢false (sym (eq-eqb e.1 key same) ∙ others.0) in
     λ i. in_slot (pid_of e.0) (updates.others e.1 other i) (others_stand slots new key o es updates others.1 i)
 
 -- the process with a pid is written
-pub written : (slots new : Slab Process) (n key : ℕ) (was now : Process) (g : Pid × Process → Pid × Process) (es : List (ℕ × ℕ)) → AllByRecursion (IsOne n key) es → get slots key ≡ Some was → Updates slots new key (Some now) → g (pid_of n, was) ≡ (pid_of n, now)
-    → stands_in new es ≡ map (λ (e : Pid × Process). cond (same_pid e.0 (pid_of n)) (g e) e) (stands_in slots es)
+pub written : (slots new : Slab Held) (n key : ℕ) (was now : Held) (g : Pid × Held → Pid × Held) (es : List (ℕ × ℕ)) → AllByRecursion (IsOne n key) es → get slots key ≡ Some was → Updates slots new key (Some now) → g (pid_of n, was) ≡ (pid_of n, now)
+    → stands_in new es ≡ map (λ (e : Pid × Held). cond (same_pid e.0 (pid_of n)) (g e) e) (stands_in slots es)
 written slots new n key was now g [] one there updates changes = refl
 written slots new n key was now g (e ∷ es) one there updates changes = by_test (eqb e.1 key) refl (written slots new n key was now g es one.1 there updates changes)
   where
-    here : (o p : Option Process) (m : ℕ) → o ≡ Some was → p ≡ Some now → eqb m n ≡ true → stands_in new es ≡ map (λ (e : Pid × Process). cond (same_pid e.0 (pid_of n)) (g e) e) (stands_in slots es)
-        → in_slot (pid_of m) p (stands_in new es) ≡ map (λ (e : Pid × Process). cond (same_pid e.0 (pid_of n)) (g e) e) (in_slot (pid_of m) o (stands_in slots es))
+    here : (o p : Option Held) (m : ℕ) → o ≡ Some was → p ≡ Some now → eqb m n ≡ true → stands_in new es ≡ map (λ (e : Pid × Held). cond (same_pid e.0 (pid_of n)) (g e) e) (stands_in slots es)
+        → in_slot (pid_of m) p (stands_in new es) ≡ map (λ (e : Pid × Held). cond (same_pid e.0 (pid_of n)) (g e) e) (in_slot (pid_of m) o (stands_in slots es))
     here None p m is_was is_now same more = cc
     here (Some q) None m is_was is_now same more = cc
     here (Some q) (Some r) m is_was is_now same more =
@@ -187,13 +187,13 @@ written slots new n key was now g (e ∷ es) one there updates changes = by_test
         let head : cond (eqb m n) (g (pid_of m, q)) (pid_of m, q) ≡ (pid_of m, r) = ap (λ b. cond b (g (pid_of m, q)) (pid_of m, q)) same ∙ goes in
         λ i. sym head i ∷ more i
 
-    elsewhere : (o p : Option Process) (m : ℕ) → p ≡ o → eqb m n ≡ false → stands_in new es ≡ map (λ (e : Pid × Process). cond (same_pid e.0 (pid_of n)) (g e) e) (stands_in slots es)
-        → in_slot (pid_of m) p (stands_in new es) ≡ map (λ (e : Pid × Process). cond (same_pid e.0 (pid_of n)) (g e) e) (in_slot (pid_of m) o (stands_in slots es))
+    elsewhere : (o p : Option Held) (m : ℕ) → p ≡ o → eqb m n ≡ false → stands_in new es ≡ map (λ (e : Pid × Held). cond (same_pid e.0 (pid_of n)) (g e) e) (stands_in slots es)
+        → in_slot (pid_of m) p (stands_in new es) ≡ map (λ (e : Pid × Held). cond (same_pid e.0 (pid_of n)) (g e) e) (in_slot (pid_of m) o (stands_in slots es))
     elsewhere None p m same other more = ap (λ p. in_slot (pid_of m) p (stands_in new es)) same ∙ more
     elsewhere (Some q) p m same other more = ap (λ p. in_slot (pid_of m) p (stands_in new es)) same ∙ (λ i. cond (sym other i) (g (pid_of m, q)) (pid_of m, q) ∷ more i)
 
-    by_test : (b : Bool) → eqb e.1 key ≡ b → stands_in new es ≡ map (λ (e : Pid × Process). cond (same_pid e.0 (pid_of n)) (g e) e) (stands_in slots es)
-        → stands_in new (e ∷ es) ≡ map (λ (e : Pid × Process). cond (same_pid e.0 (pid_of n)) (g e) e) (stands_in slots (e ∷ es))
+    by_test : (b : Bool) → eqb e.1 key ≡ b → stands_in new es ≡ map (λ (e : Pid × Held). cond (same_pid e.0 (pid_of n)) (g e) e) (stands_in slots es)
+        → stands_in new (e ∷ es) ≡ map (λ (e : Pid × Held). cond (same_pid e.0 (pid_of n)) (g e) e) (stands_in slots (e ∷ es))
     by_test true is more =
         let at : e.1 ≡ key = eqb-true e.1 key is in
         here (get slots e.1) (get new e.1) e.0 (ap (get slots) at ∙ there) (ap (get new) at ∙ updates.changed) (one.0 ∙ is) more
@@ -201,32 +201,32 @@ written slots new n key was now g (e ∷ es) one there updates changes = by_test
         elsewhere (get slots e.1) (get new e.1) e.0 (updates.others e.1 (λ same. true≢false (sym (eq-eqb e.1 key same) ∙ is))) (one.0 ∙ is) more
 
 -- the process with a pid was taken out of its slot
-pub taken_out : (slots new : Slab Process) (n key : ℕ) (es : List (ℕ × ℕ)) → AllByRecursion (IsOne n key) es → Updates slots new key None → stands_in new es ≡ filter (λ (e : Pid × Process). not (same_pid e.0 (pid_of n))) (stands_in slots es)
+pub taken_out : (slots new : Slab Held) (n key : ℕ) (es : List (ℕ × ℕ)) → AllByRecursion (IsOne n key) es → Updates slots new key None → stands_in new es ≡ filter (λ (e : Pid × Held). not (same_pid e.0 (pid_of n))) (stands_in slots es)
 taken_out slots new n key [] one updates = refl
 taken_out slots new n key (e ∷ es) one updates = by_test (eqb e.1 key) refl (taken_out slots new n key es one.1 updates)
   where
-    here : (o p : Option Process) (m : ℕ) → p ≡ None → eqb m n ≡ true → stands_in new es ≡ filter (λ (e : Pid × Process). not (same_pid e.0 (pid_of n))) (stands_in slots es)
-        → in_slot (pid_of m) p (stands_in new es) ≡ filter (λ (e : Pid × Process). not (same_pid e.0 (pid_of n))) (in_slot (pid_of m) o (stands_in slots es))
+    here : (o p : Option Held) (m : ℕ) → p ≡ None → eqb m n ≡ true → stands_in new es ≡ filter (λ (e : Pid × Held). not (same_pid e.0 (pid_of n))) (stands_in slots es)
+        → in_slot (pid_of m) p (stands_in new es) ≡ filter (λ (e : Pid × Held). not (same_pid e.0 (pid_of n))) (in_slot (pid_of m) o (stands_in slots es))
     here None p m none same more = ap (λ p. in_slot (pid_of m) p (stands_in new es)) none ∙ more
     here (Some q) p m none same more =
         ap (λ p. in_slot (pid_of m) p (stands_in new es)) none ∙ more
-        ∙ (λ i. cond (not (sym same i)) ((pid_of m, q) ∷ filter (λ (e : Pid × Process). not (same_pid e.0 (pid_of n))) (stands_in slots es)) (filter (λ (e : Pid × Process). not (same_pid e.0 (pid_of n))) (stands_in slots es)))
+        ∙ (λ i. cond (not (sym same i)) ((pid_of m, q) ∷ filter (λ (e : Pid × Held). not (same_pid e.0 (pid_of n))) (stands_in slots es)) (filter (λ (e : Pid × Held). not (same_pid e.0 (pid_of n))) (stands_in slots es)))
 
-    elsewhere : (o p : Option Process) (m : ℕ) → p ≡ o → eqb m n ≡ false → stands_in new es ≡ filter (λ (e : Pid × Process). not (same_pid e.0 (pid_of n))) (stands_in slots es)
-        → in_slot (pid_of m) p (stands_in new es) ≡ filter (λ (e : Pid × Process). not (same_pid e.0 (pid_of n))) (in_slot (pid_of m) o (stands_in slots es))
+    elsewhere : (o p : Option Held) (m : ℕ) → p ≡ o → eqb m n ≡ false → stands_in new es ≡ filter (λ (e : Pid × Held). not (same_pid e.0 (pid_of n))) (stands_in slots es)
+        → in_slot (pid_of m) p (stands_in new es) ≡ filter (λ (e : Pid × Held). not (same_pid e.0 (pid_of n))) (in_slot (pid_of m) o (stands_in slots es))
     elsewhere None p m same other more = ap (λ p. in_slot (pid_of m) p (stands_in new es)) same ∙ more
     elsewhere (Some q) p m same other more =
         ap (λ p. in_slot (pid_of m) p (stands_in new es)) same ∙ (λ i. (pid_of m, q) ∷ more i)
-        ∙ (λ i. cond (not (sym other i)) ((pid_of m, q) ∷ filter (λ (e : Pid × Process). not (same_pid e.0 (pid_of n))) (stands_in slots es)) (filter (λ (e : Pid × Process). not (same_pid e.0 (pid_of n))) (stands_in slots es)))
+        ∙ (λ i. cond (not (sym other i)) ((pid_of m, q) ∷ filter (λ (e : Pid × Held). not (same_pid e.0 (pid_of n))) (stands_in slots es)) (filter (λ (e : Pid × Held). not (same_pid e.0 (pid_of n))) (stands_in slots es)))
 
-    by_test : (b : Bool) → eqb e.1 key ≡ b → stands_in new es ≡ filter (λ (e : Pid × Process). not (same_pid e.0 (pid_of n))) (stands_in slots es)
-        → stands_in new (e ∷ es) ≡ filter (λ (e : Pid × Process). not (same_pid e.0 (pid_of n))) (stands_in slots (e ∷ es))
+    by_test : (b : Bool) → eqb e.1 key ≡ b → stands_in new es ≡ filter (λ (e : Pid × Held). not (same_pid e.0 (pid_of n))) (stands_in slots es)
+        → stands_in new (e ∷ es) ≡ filter (λ (e : Pid × Held). not (same_pid e.0 (pid_of n))) (stands_in slots (e ∷ es))
     by_test true is more = here (get slots e.1) (get new e.1) e.0 (ap (get new) (eqb-true e.1 key is) ∙ updates.changed) (one.0 ∙ is) more
     by_test false is more =
         elsewhere (get slots e.1) (get new e.1) e.0 (updates.others e.1 (λ same. true≢false (sym (eq-eqb e.1 key same) ∙ is))) (one.0 ∙ is) more
 
 -- an entry whose slot is empty may go
-pub entry_goes : (slots : Slab Process) (t : ℕ → Bool) (key : ℕ) (es : List (ℕ × ℕ)) → lookup t es ≡ Some key → get slots key ≡ None → stands_in slots (remove_entry t es) ≡ stands_in slots es
+pub entry_goes : (slots : Slab Held) (t : ℕ → Bool) (key : ℕ) (es : List (ℕ × ℕ)) → lookup t es ≡ Some key → get slots key ≡ None → stands_in slots (remove_entry t es) ≡ stands_in slots es
 entry_goes slots t key [] found none = refl
 entry_goes slots t key (e ∷ es) found none = by_test (t e.0) found (λ found. entry_goes slots t key es found none)
   where

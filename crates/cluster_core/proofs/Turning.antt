@@ -1,5 +1,6 @@
 -- What a turn of its processes makes of a cluster.
-use Rattle.std.proofs.Common.{◌≡◌, ℕ, ◌<◌, refl, sym, ◌∙◌, ap, subst, List, [], true, false, Ok, eq-eqb}
+use Rattle.std.proofs.Common.{◌≡◌, ℕ, ◌<◌, ◌&&◌, refl, sym, ◌∙◌, ap, subst, List, [], Option, Some, None, true, false, eq-eqb}
+use Rattle.std.specs.List.{list_all}
 use Rattle.t32_base.specs.declared.process.Pid.{Pid}
 use Rattle.proc_state.specs.declared.process.Process.{Process}
 use Rattle.sys_calls.specs.declared.steps.Emission.{Emission}
@@ -12,70 +13,109 @@ use Rattle.cert_sched.specs.Built.{is_built}
 use Rattle.cert_sched.specs.Losses.{is_from}
 use Rattle.t32_base.specs.declared.process.ClusterNo.{ClusterNo}
 use Rattle.cluster_core.specs.declared.quantum.Sending.{Sending}
-use Rattle.cluster_core.specs.declared.quantum.Quantum.{Quantum}
-use Rattle.cluster_core.specs.declared.quantum.Quantum.TheVariants.{Moved as QuantumMoved, Sent as QuantumSent, Stuck}
-use Rattle.cluster_core.specs.declared.worked.Worked.TheVariants.{Moved, Queued, Rests}
-use Rattle.cluster_core.specs.View.{ClusterView, counted_once}
+use Rattle.cluster_core.specs.declared.quantum.Quantum.TheVariants.{Moved as QuantumMoved, Sent as QuantumSent}
+use Rattle.cluster_core.specs.declared.worked.Worked.{Worked}
+use Rattle.cluster_core.specs.declared.worked.Worked.TheVariants.{Moved, Queued, Waits, Rests}
+use Rattle.cluster_core.specs.View.{ClusterView, Held, Runs, all_run, counted_once, held_at, next_count}
 use Rattle.plain_kernel.specs.Maps.{pid_of}
-use Rattle.cluster_core.specs.Residents.{ResidentsView, TurnIs}
-use Rattle.cluster_core.specs.Parts.{held_in, AllOwn}
+use Rattle.cluster_core.specs.Residents.{ResidentsView, TakesTurn, are_stuck, with_changed}
+use Rattle.cluster_core.specs.Parts.{AllOwn, posts_of}
 use Rattle.cluster_core.specs.Calls.{GoesOn, WorkIs}
-use Rattle.cluster_core.specs.Quantum.{post_told}
+use Rattle.cluster_core.specs.Quantum.{Moves, Sends, post_told}
+use Rattle.cluster_core.specs.Work.{WorksOn}
+use Rattle.cluster_core.proofs.Here.{runs_here}
 use Rattle.cluster_core.proofs.Owning.{own_at, own_changed, own_moved, own_sent}
 use Rattle.cluster_core.proofs.ByKind.{by_kind}
-use Rattle.cluster_core.proofs.Working.{moved_view, posted_view, moved_goes_on, moved_work, posted_goes_on, posted_work, goes_on_rested, rested}
+use Rattle.cluster_core.proofs.Quanta.{MovedAlone, SentAlone, moved_alone, sent_alone}
+use Rattle.cluster_core.proofs.Working.{moved_view, moved_goes_on, moved_work, posted_goes_on, posted_work, goes_on_rested, rested}
 
 -- an entry of a kind that is built is no birth
 pub built_no_birth : (w : What) → is_built w ≡ true → is_birth w ≡ false
 built_no_birth = by_kind (λ w. is_birth w ≡ false) (λ at letter. refl) (λ pid at end. refl) (λ rests. refl) refl
 
--- after a turn each process is its own
-pub own_turned : (cursor : ℕ) (old new : ResidentsView) (quantum : Quantum) → AllOwn cursor old.here → TurnIs old (Ok quantum) new → AllOwn cursor new.here
-own_turned cursor old new QuantumMoved own turn =
-    subst (AllOwn cursor) (sym (turn.takes).here) (own_changed cursor (pid_of new.last) (turn.takes).now old.here own (own_moved cursor (pid_of new.last) (turn.takes).was (turn.takes).now (own_at cursor old.here (pid_of new.last) (turn.takes).was own (turn.takes).there) (turn.takes).ran))
-own_turned cursor old new (QuantumSent sending) own turn =
-    let pid : Pid = pid_of new.last in
-    let takes = turn.takes in
-    subst (AllOwn cursor) (sym takes.here) (own_changed cursor pid takes.now old.here own (own_sent cursor pid takes.was takes.now sending.emission (own_at cursor old.here pid takes.was own takes.there) (takes.ran).runs))
-own_turned cursor old new Stuck own turn = subst (AllOwn cursor) (sym turn.1) own
-
--- what holds of a turn in which one moved
-pub record MovedTurn (c : ClusterView) (new : List (Pid × Process)) : Type 0 where
-  pub goes_on : GoesOn c (moved_view c new)
-  pub work : WorkIs c Moved (moved_view c new)
-
-pub moved_turn : (c : ClusterView) (old new : ResidentsView) → c.here ≡ held_in old.here → c.queue ≡ [] → TurnIs old (Ok QuantumMoved) new → MovedTurn c new.here
-moved_turn c old new here empty turn =
-    let pid : Pid = pid_of new.last in
-    let takes = turn.takes in
-    subst (MovedTurn c) (sym takes.here) (record {
-      goes_on = moved_goes_on c old.here pid takes.was takes.now here empty takes.there takes.ran;
-      work = moved_work c old.here pid takes.was takes.now here takes.there takes.ran;
-    })
-
 -- what is posted is the cluster's own, and of a kind that is built
-pub told_sound : (k : ClusterNo) (p : Pid) (at : ℕ) (e : Emission) → (is_from k (post_told k p at e).by ≡ true) × (is_built (post_told k p at e).what ≡ true)
-told_sound k p at (SentMail letter) = (eq-eqb k.0 k.0 refl, refl)
-told_sound k p at (SentExit end) = (eq-eqb k.0 k.0 refl, refl)
+told_own : (k : ClusterNo) (p : Pid) (at : ℕ) (e : Emission) → (is_from k (post_told k p at e).by && true) ≡ true
+told_own k p at (SentMail letter) = ap (λ b. b && true) (eq-eqb k.0 k.0 refl)
+told_own k p at (SentExit end) = ap (λ b. b && true) (eq-eqb k.0 k.0 refl)
 
--- what holds of a turn in which one posted something
-pub record PostedTurn (c : ClusterView) (new : List (Pid × Process)) (post : Post) : Type 0 where
-  pub goes_on : GoesOn c (posted_view c new post)
-  pub work : WorkIs c Queued (posted_view c new post)
+told_built : (k : ClusterNo) (p : Pid) (at : ℕ) (e : Emission) → (is_built (post_told k p at e).what && true) ≡ true
+told_built k p at (SentMail letter) = refl
+told_built k p at (SentExit end) = refl
 
-pub posted_turn : (c : ClusterView) (old new : ResidentsView) (sending : Sending) (post : Post) → post ≡ post_told c.number sending.pid sending.at sending.emission
-    → c.here ≡ held_in old.here → c.queue ≡ [] → AllOwn c.cursor old.here → is_system c.system ≡ true → (c.number).0 < (c.system).clusters → TurnIs old (Ok (QuantumSent sending)) new → PostedTurn c new.here post
-posted_turn c old new sending post told here empty own valid has turn =
-    let pid : Pid = pid_of new.last in
-    let takes = turn.takes in
-    let sends = takes.ran in
-    let mine = own_at c.cursor old.here pid takes.was own takes.there in
-    let named : sending.pid ≡ pid = sends.pid_is ∙ (own_sent c.cursor pid takes.was takes.now sending.emission mine sends.runs).pid_is in
-    let is : post ≡ post_told c.number pid ((takes.now).small).steps sending.emission = told ∙ (λ i. post_told c.number (named i) (sends.at_is i) sending.emission) in
-    subst (λ rs. PostedTurn c rs post) (sym takes.here) (record {
-      goes_on = posted_goes_on c old.here pid takes.was takes.now post sending.emission sends.runs is here empty takes.there mine valid has;
-      work = posted_work c old.here pid takes.was takes.now post sending.emission sends.runs is here empty takes.there mine;
-    })
+-- the cluster with what is here and what is queued after a work
+abbrev pub worked_view : ClusterView → List (Pid × Held) → Option Post → ClusterView
+worked_view c here queue = record c { here = here; queue = posts_of queue; steps = next_count c.steps }
 
-pub rested_turn : (c : ClusterView) (old new : ResidentsView) → c.here ≡ held_in old.here → AllOwn c.cursor old.here → TurnIs old (Ok Stuck) new → (held_in new.here ≡ c.here) × GoesOn c (counted_once c) × WorkIs c Rests (counted_once c)
-rested_turn c old new here own turn = (ap held_in turn.1 ∙ sym here, goes_on_rested c, rested c old.here here own turn.0)
+-- what holds of a work
+pub record Works (c : ClusterView) (worked : Worked) (here : List (Pid × Held)) (queue : Option Post) : Type 0 where
+  pub goes_on : GoesOn c (worked_view c here queue)
+  pub work : WorkIs c worked (worked_view c here queue)
+  pub residents : AllOwn c.cursor here
+  pub own : list_all (λ (post : Post). is_from c.number post.by) (posts_of queue) ≡ true
+  pub built : list_all (λ (post : Post). is_built post.what) (posts_of queue) ≡ true
+
+-- a cluster in which all run
+module _ (c : ClusterView) (runs : all_run c.here ≡ true) (empty : c.queue ≡ []) (own : AllOwn c.cursor c.here) (valid : is_system c.system ≡ true) (has : (c.number).0 < (c.system).clusters) where
+  moved : (pid : Pid) (was : Process) (new : Held) → held_at c pid ≡ Some (Runs was) → (a : MovedAlone 64 was new) → Works c Moved (with_changed pid (Runs a.now) c.here) None
+  moved pid was new there a = record {
+    goes_on = subst (λ ps. GoesOn c (record (moved_view c (with_changed pid (Runs a.now) c.here)) { queue = ps })) empty (moved_goes_on c pid was new empty there a);
+    work = subst (λ ps. WorkIs c Moved (record (moved_view c (with_changed pid (Runs a.now) c.here)) { queue = ps })) empty (moved_work c pid was new there a);
+    residents = own_changed c.cursor pid (Runs a.now) c.here own (own_moved c.cursor pid was a.now a.steps (own_at c.cursor c.here pid (Runs was) own there) a.silent);
+    own = refl;
+    built = refl;
+  }
+
+  sent : (pid : Pid) (was : Process) (sending : Sending) (new : Held) → held_at c pid ≡ Some (Runs was) → (a : SentAlone 64 was sending new)
+      → Works c Queued (with_changed pid (Runs a.now) c.here) (Some (post_told c.number sending.pid sending.at sending.emission))
+  sent pid was sending new there a =
+      let mine = own_at c.cursor c.here pid (Runs was) own there in
+      let now_own = own_sent c.cursor pid was a.now sending.emission mine a.runs in
+      let named : sending.pid ≡ pid = a.pid_is ∙ now_own.pid_is in
+      let post : Post = post_told c.number sending.pid sending.at sending.emission in
+      let is : post ≡ post_told c.number pid ((a.now).small).steps sending.emission = λ i. post_told c.number (named i) (a.at_is i) sending.emission in
+      record {
+        goes_on = posted_goes_on c pid was a.now post sending.emission a.runs is empty there mine valid has;
+        work = posted_work c pid was a.now post sending.emission a.runs is empty there mine;
+        residents = own_changed c.cursor pid (Runs a.now) c.here own now_own;
+        own = told_own c.number sending.pid sending.at sending.emission;
+        built = told_built c.number sending.pid sending.at sending.emission;
+      }
+
+  -- who had a turn ran
+  took_moved : (pid : Pid) (here : List (Pid × Held)) → TakesTurn pid c.here QuantumMoved here → Works c Moved here None
+  took_moved pid here takes =
+      let one = runs_here c.here pid takes.was runs takes.there in
+      let a = moved_alone 64 one.process takes.now (subst (λ (h : Held). Moves 64 h takes.now) one.is takes.ran) in
+      subst (λ hs. Works c Moved hs None) (sym (takes.here ∙ ap (λ (h : Held). with_changed pid h c.here) a.is)) (moved pid one.process takes.now (takes.there ∙ ap Some one.is) a)
+
+  took_sent : (pid : Pid) (sending : Sending) (here : List (Pid × Held)) → TakesTurn pid c.here (QuantumSent sending) here → Works c Queued here (Some (post_told c.number sending.pid sending.at sending.emission))
+  took_sent pid sending here takes =
+      let one = runs_here c.here pid takes.was runs takes.there in
+      let a = sent_alone 64 one.process sending takes.now (subst (λ (h : Held). Sends 64 h sending takes.now) one.is takes.ran) in
+      subst (λ hs. Works c Queued hs (Some (post_told c.number sending.pid sending.at sending.emission))) (sym (takes.here ∙ ap (λ (h : Held). with_changed pid h c.here) a.is))
+      (sent pid one.process sending takes.now (takes.there ∙ ap Some one.is) a)
+
+  resting : (here : List (Pid × Held)) → here ≡ c.here → WorkIs c Rests (counted_once c) → Works c Rests here None
+  resting here same work =
+      let whole : worked_view c here None ≡ counted_once c = λ i. record c { here = same i; queue = sym empty i; steps = next_count c.steps } in
+      record {
+        goes_on = subst (GoesOn c) (sym whole) (goes_on_rested c);
+        work = subst (WorkIs c Rests) (sym whole) work;
+        residents = subst (AllOwn c.cursor) (sym same) own;
+        own = refl;
+        built = refl;
+      }
+
+  pub works : (old new : ResidentsView) (worked : Worked) (queue : Option Post) → old.here ≡ c.here → WorksOn c.number old worked new queue → Works c worked new.here queue
+  works old new Moved queue here turn =
+      subst (Works c Moved new.here) (sym turn.1) (took_moved (pid_of new.last) new.here (subst (λ hs. TakesTurn (pid_of new.last) hs QuantumMoved new.here) here (turn.0).takes))
+  works old new Queued queue here turn =
+      subst (Works c Queued new.here) (sym turn.2) (took_sent (pid_of new.last) turn.0 new.here (subst (λ hs. TakesTurn (pid_of new.last) hs (QuantumSent turn.0) new.here) here (turn.1).takes))
+  works old new Waits queue here turn = absurd turn
+  works old new Rests queue here turn =
+      subst (Works c Rests new.here) (sym turn.1) (resting new.here ((turn.0).1 ∙ here) (rested c own (ap are_stuck (sym here) ∙ (turn.0).0)))
+
+-- nothing is queued
+pub none_queued : (queue : Option Post) → posts_of queue ≡ [] → queue ≡ None
+none_queued None is = refl
+none_queued (Some post) is = cc

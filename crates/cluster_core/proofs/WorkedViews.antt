@@ -35,10 +35,10 @@ use Rattle.cert_sched.specs.Told.{told}
 use Rattle.cert_sched.specs.Record.{backup_record}
 use Rattle.cert_sched.specs.Account.{Account, account_after, page_in}
 use Rattle.cert_sched.specs.Steps.{silent_upto, emission_at}
-use Rattle.cluster_core.specs.View.{ClusterView, Held, Runs, Waits, account_at, record_at}
+use Rattle.cluster_core.specs.View.{ClusterView, Held, Runs, Waits, account_at, held_of, record_at}
 use Rattle.cluster_core.specs.Holds.{GetsPages, HoldsAccounts, HoldsMarks, HoldsPages, HoldsRecords, IsMarked, MarkedIfThere, record_due, unended_process}
 use Rattle.cluster_core.specs.Queue.{with_queue}
-use Rattle.cluster_core.proofs.Here.{held_of, pid_same}
+use Rattle.cluster_core.proofs.Here.{pid_same}
 
 -- ---- the systems
 

@@ -14,7 +14,7 @@ use Rattle.proc_state.specs.declared.process.Process.{Process}
 use Rattle.proc_state.specs.State.{ProcState, state_of, can_take}
 use Rattle.sys_calls.specs.declared.steps.Emission.{Emission}
 use Rattle.sys_calls.specs.declared.steps.Emission.TheVariants.{Mail as Sent, Exit as Ended}
-use Rattle.sys_calls.specs.Calls.{Next, Silent, Blocked, Forks, Emits, Over}
+use Rattle.sys_calls.specs.Calls.{Emits}
 use Rattle.sys_calls.specs.Next.{next_step, has_step, silently, silent_of, emission_of, last_emission}
 use Rattle.sys_calls.proofs.Counting.{silently_counts, emits_counts, letter_is_own}
 use Rattle.bus_msg.specs.declared.entry.What.TheVariants.{Mail, Exit}
@@ -35,17 +35,17 @@ use Rattle.cert_sched.specs.Appended.{entry_of}
 use Rattle.cert_sched.proofs.BuiltLaws.{built_births, built_clusters}
 use Rattle.cert_sched.proofs.StepLaws.{Tells, sent_applies}
 use Rattle.cluster_core.specs.declared.worked.Worked.TheVariants.{Moved, Queued, Rests}
-use Rattle.cluster_core.specs.View.{ClusterView, Held, Runs, held_at, next_count, counted_once, tried_once}
-use Rattle.cluster_core.specs.Residents.{process_in, with_changed, are_stuck}
-use Rattle.cluster_core.specs.Parts.{held_in, IsOwn, AllOwn}
+use Rattle.cluster_core.specs.View.{ClusterView, Held, Runs, held_at, held_of, next_count, counted_once, tried_once}
+use Rattle.cluster_core.specs.Residents.{pids_in, with_changed, are_stuck}
+use Rattle.cluster_core.specs.Parts.{IsOwn, AllOwn}
 use Rattle.cluster_core.specs.Queue.{move_of, taken_by, state_by, state_now}
 use Rattle.cluster_core.specs.Holds.{IsHeldAs}
 use Rattle.cluster_core.specs.Follows.{FollowsBuilt, IsOpen}
-use Rattle.cluster_core.specs.Calls.{GoesOn, WorkIs, is_resting, is_at_rest, are_at_rest}
-use Rattle.cluster_core.specs.Quantum.{RunsSome, RunsAndSends, told_of, post_told}
-use Rattle.cluster_core.proofs.Here.{found_changed, held_changed, held_here, is_among, pid_same, pids_changed, pids_held, runs_here}
+use Rattle.cluster_core.specs.Calls.{GoesOn, WorkIs, is_at_rest, are_at_rest}
+use Rattle.cluster_core.specs.Quantum.{RunsAndSends, told_of, post_told}
+use Rattle.cluster_core.proofs.Here.{FoundChanged, found_changed, is_among, pid_same, pids_changed, run_changed, runs_here}
 use Rattle.cluster_core.proofs.Telling.{done_is}
-use Rattle.cluster_core.proofs.Quanta.{none_silent}
+use Rattle.cluster_core.proofs.Quanta.{MovedAlone, sends_has, some_has}
 use Rattle.cluster_core.proofs.Owning.{stuck_rest}
 use Rattle.cluster_core.proofs.Homes.{HomeHere, differ_built, home_here}
 use Rattle.cluster_core.proofs.Following.{no_child}
@@ -68,23 +68,6 @@ silently-plus n (suc m) s q t first then = by_case (silently m q) refl then (λ 
     by_case (Some u) is last before =
         let count : n + suc m ≡ suc (n + m) = omega arith in
         ap (λ k. silently k s) count ∙ ap (option_and_then (λ q. silent_of (next_step q))) (before u is) ∙ last
-
--- a process that makes a silent step has a step
-pub silent_has : (n : ℕ) (s t : ProcState) → silently (suc n) s ≡ Some t → has_step (next_step s) ≡ true
-unfolding silently
-silent_has zero s t is = by_next (next_step s) is
-  where
-    by_next : (next : Next) → silent_of next ≡ Some t → has_step next ≡ true
-    by_next (Silent u) h = refl
-    by_next Blocked h = cc
-    by_next Forks h = cc
-    by_next (Emits e u) h = cc
-    by_next Over h = cc
-silent_has (suc n) s t is = by_case (silently (suc n) s) refl is (λ u. silent_has n s u)
-  where
-    by_case : (o : Option ProcState) → silently (suc n) s ≡ o → option_and_then (λ q. silent_of (next_step q)) o ≡ Some t → ((u : ProcState) → silently (suc n) s ≡ Some u → has_step (next_step s) ≡ true) → has_step (next_step s) ≡ true
-    by_case None is last more = cc
-    by_case (Some u) is last more = more u is
 
 -- ---- a process ahead of a log
 
@@ -133,18 +116,18 @@ ahead_sent system log p s b t n e is silent sends =
 -- ---- the processes here
 
 -- a process that is here, in the log
-pub held_before : (c : ClusterView) (log : List Entry) (rs : List (Pid × Process)) (p : Pid) (s : Process) → c.here ≡ held_in rs → c.queue ≡ [] → FollowsBuilt c.system log c → process_in rs p ≡ Some s
-    → silent_upto c.system log p (s.small).steps ≡ Some (state_of s)
-held_before c log rs p s here empty f there = ap (λ ps. state_now c.system log ps p (s.small).steps) (sym empty) ∙ (f.processes).held p (Runs s) (held_here c rs p s here there)
+pub held_before : (c : ClusterView) (log : List Entry) (p : Pid) (s : Process) → c.queue ≡ [] → FollowsBuilt c.system log c → held_at c p ≡ Some (Runs s) → silent_upto c.system log p (s.small).steps ≡ Some (state_of s)
+held_before c log p s empty f there = ap (λ ps. state_now c.system log ps p (s.small).steps) (sym empty) ∙ (f.processes).held p (Runs s) there
 
 -- ---- all rest
 
-pub rested : (c : ClusterView) (rs : List (Pid × Process)) → c.here ≡ held_in rs → AllOwn c.cursor rs → are_stuck rs ≡ true → WorkIs c Rests (counted_once c)
-rested c rs here own stuck = (ap are_at_rest here ∙ stuck_rest c.cursor rs own ∙ stuck, refl)
+pub rested : (c : ClusterView) → AllOwn c.cursor c.here → are_stuck c.here ≡ true → WorkIs c Rests (counted_once c)
+rested c own stuck = (stuck_rest c.cursor c.here own ∙ stuck, refl)
 
 pub goes_on_rested : (c : ClusterView) → GoesOn c (counted_once c)
 goes_on_rested c log now f = record {
   log = record { cursor = (f.log).cursor; places = (f.log).places };
+  running = f.running;
   processes = record { held = (f.processes).held; each_once = (f.processes).each_once };
   queue = record { own = (f.queue).own; legal = (f.queue).legal };
   steps = record { counted = λ kept. more_counted (least_steps log log c.number + cond c.tried 1 0) c.steps ((f.steps).counted kept) };
@@ -160,6 +143,7 @@ more_tried n s false h = omega (arith, h)
 pub follows_tried : (c : ClusterView) (log : List Entry) → FollowsBuilt c.system log c → FollowsBuilt c.system log (tried_once c)
 follows_tried c log f = record {
   log = record { cursor = (f.log).cursor; places = (f.log).places };
+  running = f.running;
   processes = record { held = (f.processes).held; each_once = (f.processes).each_once };
   queue = record { own = (f.queue).own; legal = (f.queue).legal };
   steps = record { counted = λ kept. more_tried (least_steps log log c.number) c.steps c.tried ((f.steps).counted kept) };
@@ -170,81 +154,59 @@ goes_on_tried c log now f = follows_tried c log f
 
 -- ---- one of them moved
 
-abbrev pub moved_view : ClusterView → List (Pid × Process) → ClusterView
-moved_view c rs = record c { here = held_in rs; steps = next_count c.steps }
+abbrev pub moved_view : ClusterView → List (Pid × Held) → ClusterView
+moved_view c here = record c { here = here; steps = next_count c.steps }
 
 -- where one has a step, not all rest
-some_moves : (rs : List (Pid × Process)) (p : Pid) (s : Process) → process_in rs p ≡ Some s → has_step (next_step (state_of s)) ≡ true → are_at_rest (held_in rs) ≡ false
+some_moves : (here : List (Pid × Held)) (p : Pid) (s : Process) → held_of here p ≡ Some (Runs s) → has_step (next_step (state_of s)) ≡ true → are_at_rest here ≡ false
 some_moves [] p s there some = cc
-some_moves (e ∷ rs) p s there some = by_test (same_pid e.0 p) there (some_moves rs p s)
+some_moves (e ∷ here) p s there some = by_test (same_pid e.0 p) there (some_moves here p s)
   where
     none : (a b : Bool) → b ≡ false → (a && b) ≡ false
     none true b h = h
     none false b h = refl
 
-    by_test : (b : Bool) → option_map (λ (e : Pid × Process). e.1) (cond b (Some e) (find (λ (e : Pid × Process). same_pid e.0 p) rs)) ≡ Some s
-        → (process_in rs p ≡ Some s → has_step (next_step (state_of s)) ≡ true → are_at_rest (held_in rs) ≡ false) → are_at_rest (held_in (e ∷ rs)) ≡ false
+    by_test : (b : Bool) → option_map (λ (e : Pid × Held). e.1) (cond b (Some e) (find (λ (e : Pid × Held). same_pid e.0 p) here)) ≡ Some (Runs s)
+        → (held_of here p ≡ Some (Runs s) → has_step (next_step (state_of s)) ≡ true → are_at_rest here ≡ false) → are_at_rest (e ∷ here) ≡ false
     by_test true is more =
-        let same : e.1 ≡ s = cc in
-        let has : has_step (next_step (state_of e.1)) ≡ true = ap (λ (x : Process). has_step (next_step (state_of x))) same ∙ some in
-        ap (λ b. not (b || can_take (state_of e.1)) && are_at_rest (held_in rs)) has
-    by_test false is more = none (is_at_rest (Runs e.1)) (are_at_rest (held_in rs)) (more is some)
+        let same : e.1 ≡ Runs s = cc in
+        ap (λ h. is_at_rest h && are_at_rest here) same ∙ ap (λ b. not (b || can_take (state_of s)) && are_at_rest here) some
+    by_test false is more = none (is_at_rest e.1) (are_at_rest here) (more is some)
 
-not_resting : (c : ClusterView) (rs : List (Pid × Process)) (p : Pid) (s : Process) → c.here ≡ held_in rs → process_in rs p ≡ Some s → has_step (next_step (state_of s)) ≡ true → is_resting c ≡ false
-not_resting c rs p s here there some = ap are_at_rest here ∙ some_moves rs p s there some
-
-pub some_has : (most : ℕ) (s t : ProcState) → RunsSome most s t → has_step (next_step s) ≡ true
-some_has most s t runs = by_steps runs.steps runs.some runs.silent
-  where
-    by_steps : (n : ℕ) → 1 ≤ n → silently n s ≡ Some t → has_step (next_step s) ≡ true
-    by_steps zero some silent = absurd (omega (arith, some))
-    by_steps (suc n) some silent = silent_has n s t silent
-
-pub moved_work : (c : ClusterView) (rs : List (Pid × Process)) (p : Pid) (was now : Process) → c.here ≡ held_in rs → process_in rs p ≡ Some was → RunsSome 64 (state_of was) (state_of now)
-    → WorkIs c Moved (moved_view c (with_changed p now rs))
-moved_work c rs p was now here there runs = (
-  not_resting c rs p was here there (some_has 64 (state_of was) (state_of now) runs),
-  record {
-    pid = p;
-    was = was;
-    now = now;
-    steps = runs.steps;
-    some = runs.some;
-    few = runs.few;
-    there = held_here c rs p was here there;
-    silent = runs.silent;
-    rest = ap (λ hs. record c { here = hs; steps = next_count c.steps }) (held_changed c p now rs here);
-  },
+pub moved_work : (c : ClusterView) (p : Pid) (was : Process) (new : Held) → held_at c p ≡ Some (Runs was) → (a : MovedAlone 64 was new) → WorkIs c Moved (moved_view c (with_changed p (Runs a.now) c.here))
+moved_work c p was new there a = (
+  some_moves c.here p was there (some_has a.steps (state_of was) (state_of a.now) a.some a.silent),
+  record { pid = p; was = was; now = a.now; steps = a.steps; some = a.some; few = a.few; there = there; silent = a.silent; rest = refl },
 )
 
 -- what is held after one process has changed, where the others are held as before
-held_beside : (c : ClusterView) (log : List Entry) (rs : List (Pid × Process)) (p : Pid) (now : Process) (queue : List Post) → c.here ≡ held_in rs → FollowsBuilt c.system log c
+held_beside : (c : ClusterView) (log : List Entry) (p : Pid) (now : Process) (queue : List Post) → FollowsBuilt c.system log c
     → IsHeldAs c.system log queue p (Runs now) → ((q : Pid) (s : Process) → same_pid q p ≡ false → IsHeldAs c.system log c.queue q (Runs s) → IsHeldAs c.system log queue q (Runs s))
-    → (q : Pid) (h : Held) → held_at (moved_view c (with_changed p now rs)) q ≡ Some h → IsHeldAs c.system log queue q h
-held_beside c log rs p now queue here f mine others q h at =
-    let r = runs_here (with_changed p now rs) q h at in
-    let w = found_changed p now rs q r.process r.there in
-    by_pid r.process r.is w.was ((f.processes).held q (Runs w.was) (held_here c rs q w.was here w.there)) w.here (same_pid q p) refl
+    → (q : Pid) (h : Held) → held_of (with_changed p (Runs now) c.here) q ≡ Some h → IsHeldAs c.system log queue q h
+held_beside c log p now queue f mine others q h at = by_pid (same_pid q p) refl
   where
-    by_pid : (s : Process) → h ≡ Runs s → (was : Process) → IsHeldAs c.system log c.queue q (Runs was) → (same_pid q p ≡ true → s ≡ now) × (same_pid q p ≡ false → s ≡ was) → (b : Bool) → same_pid q p ≡ b → IsHeldAs c.system log queue q h
-    by_pid s is was old here true own =
-        let At : Pid → Type 0 = λ r. IsHeldAs c.system log queue r (Runs now) in
-        let Of : Held → Type 0 = λ x. IsHeldAs c.system log queue q x in
-        subst Of (ap Runs (sym (here.0 own)) ∙ sym is) (subst At (sym (pid_same q p (eqb-true q.0 p.0 own))) mine)
-    by_pid s is was old here false other =
-        let Of : Held → Type 0 = λ x. IsHeldAs c.system log queue q x in
-        subst Of (ap Runs (sym (here.1 other)) ∙ sym is) (others q was other old)
+    w : FoundChanged p (Runs now) c.here q h
+    w = found_changed p (Runs now) c.here q h at
 
-pub moved_goes_on : (c : ClusterView) (rs : List (Pid × Process)) (p : Pid) (was now : Process) → c.here ≡ held_in rs → c.queue ≡ [] → process_in rs p ≡ Some was → RunsSome 64 (state_of was) (state_of now)
-    → GoesOn c (moved_view c (with_changed p now rs))
-moved_goes_on c rs p was now here empty there runs log go f = record {
+    by_pid : (b : Bool) → same_pid q p ≡ b → IsHeldAs c.system log queue q h
+    by_pid true own =
+        let At : Pid → Type 0 = λ r. IsHeldAs c.system log queue r (Runs now) in
+        subst (λ (x : Held). IsHeldAs c.system log queue q x) (sym (w.is.0 own)) (subst At (sym (pid_same q p (eqb-true q.0 p.0 own))) mine)
+    by_pid false other =
+        let one = runs_here c.here q w.was f.running w.there in
+        let old : IsHeldAs c.system log c.queue q (Runs one.process) = subst (λ (x : Held). IsHeldAs c.system log c.queue q x) one.is ((f.processes).held q w.was w.there) in
+        subst (λ (x : Held). IsHeldAs c.system log queue q x) (sym (w.is.1 other ∙ one.is)) (others q one.process other old)
+
+pub moved_goes_on : (c : ClusterView) (p : Pid) (was : Process) (new : Held) → c.queue ≡ [] → held_at c p ≡ Some (Runs was) → (a : MovedAlone 64 was new) → GoesOn c (moved_view c (with_changed p (Runs a.now) c.here))
+moved_goes_on c p was new empty there a log go f = record {
   log = record { cursor = (f.log).cursor; places = (f.log).places };
+  running = run_changed p a.now c.here f.running;
   processes = record {
     held =
-        let ahead_now : silent_upto c.system log p (now.small).steps ≡ Some (state_of now) = ahead_moved c.system log p (state_of was) (state_of now) runs.steps (held_before c log rs p was here empty f there) runs.silent in
-        let mine : IsHeldAs c.system log c.queue p (Runs now) = ap (λ ps. state_now c.system log ps p (now.small).steps) empty ∙ ahead_now in
-        held_beside c log rs p now c.queue here f mine (λ q s other as_before. as_before);
-    each_once = ap rising (pids_changed p now rs) ∙ ap (λ hs. rising (pids_held hs)) (sym here) ∙ (f.processes).each_once;
+        let ahead_now : silent_upto c.system log p ((a.now).small).steps ≡ Some (state_of a.now) = ahead_moved c.system log p (state_of was) (state_of a.now) a.steps (held_before c log p was empty f there) a.silent in
+        let mine : IsHeldAs c.system log c.queue p (Runs a.now) = ap (λ ps. state_now c.system log ps p ((a.now).small).steps) empty ∙ ahead_now in
+        held_beside c log p a.now c.queue f mine (λ q s other as_before. as_before);
+    each_once = ap rising (pids_changed p (Runs a.now) c.here) ∙ (f.processes).each_once;
   };
   queue = record { own = (f.queue).own; legal = (f.queue).legal };
   steps = record { counted = λ kept. more_counted (least_steps log log c.number + cond c.tried 1 0) c.steps ((f.steps).counted kept) };
@@ -262,8 +224,8 @@ lives_built system log k legal has =
     ap (λ (cs : List ClusterPlace). option_map_or (λ (c : ClusterPlace). c.lives) (slice_get cs k.0) false) (built_clusters system log legal)
     ∙ ap (λ (o : Option ClusterPlace). option_map_or (λ (c : ClusterPlace). c.lives) o false) at
 
-abbrev pub posted_view : ClusterView → List (Pid × Process) → Post → ClusterView
-posted_view c rs post = record c { here = held_in rs; queue = post ∷ []; steps = next_count c.steps }
+abbrev pub posted_view : ClusterView → List (Pid × Held) → Post → ClusterView
+posted_view c here post = record c { here = here; queue = post ∷ []; steps = next_count c.steps }
 
 -- whatever is posted is of a kind that is built
 built_of : (pid : Pid) (at : ℕ) (e : Emission) → is_built (told_of pid at e) ≡ true
@@ -312,8 +274,8 @@ moves_no_other : (pid q : Pid) (at : ℕ) (k : ClusterNo) (e : Emission) → Tel
 moves_no_other pid q at k (Sent letter) tells other = ap (λ b. option_map (λ (post : Post). post.what) (cond b (Some (post_told k pid at (Sent letter))) None)) (ap (λ r. same_pid r q) tells.0 ∙ turned pid q other)
 moves_no_other pid q at k (Ended end) tells other = ap (λ b. option_map (λ (post : Post). post.what) (cond b (Some (post_told k pid at (Ended end))) None)) (turned pid q other)
 
-module _ (c : ClusterView) (rs : List (Pid × Process)) (p : Pid) (was now : Process) (post : Post) (e : Emission) (runs : RunsAndSends 64 (state_of was) e (state_of now))
-    (post_is : post ≡ post_told c.number p (now.small).steps e) (here : c.here ≡ held_in rs) (empty : c.queue ≡ []) (there : process_in rs p ≡ Some was) (own : IsOwn c.cursor p was) where
+module _ (c : ClusterView) (p : Pid) (was now : Process) (post : Post) (e : Emission) (runs : RunsAndSends 64 (state_of was) e (state_of now))
+    (post_is : post ≡ post_told c.number p (now.small).steps e) (empty : c.queue ≡ []) (there : held_at c p ≡ Some (Runs was)) (own : IsOwn c.cursor p was) where
   abbrev at : ℕ
   at = (now.small).steps
 
@@ -324,14 +286,14 @@ module _ (c : ClusterView) (rs : List (Pid × Process)) (p : Pid) (was now : Pro
   tells = tells_of runs.before (state_of now) p at e runs.sends before_own
 
   emission_is : (log : List Entry) → FollowsBuilt c.system log c → emission_at c.system log p at ≡ Some (e, state_of now)
-  emission_is log f = ahead_sent c.system log p (state_of was) runs.before (state_of now) runs.steps e (held_before c log rs p was here empty f there) runs.silent runs.sends
+  emission_is log f = ahead_sent c.system log p (state_of was) runs.before (state_of now) runs.steps e (held_before c log p was empty f there) runs.silent runs.sends
 
   posted_own : is_from c.number post.by ≡ true
   posted_own = ap (λ (p : Post). is_from c.number p.by) post_is ∙ eq-eqb (c.number).0 (c.number).0 refl
 
   may_follow : (log : List Entry) → IsOpen BuiltMayFollow c.system log → FollowsBuilt c.system log c → is_system c.system ≡ true → (c.number).0 < (c.system).clusters → BuiltMayFollow c.system log (entry_of c.system log (post_told c.number p at e))
   may_follow log go f valid has =
-      let home = home_here (placement c.system log) c.number (pids_held (held_in rs)) p (differ_built c.system log valid go.0) (ap (λ hs. rising (pids_held hs)) (sym here) ∙ (f.processes).each_once) (is_among rs p was there) in
+      let home = home_here (placement c.system log) c.number (pids_in c.here) p (differ_built c.system log valid go.0) (f.processes).each_once (is_among c.here p (Runs was) there) in
       record {
         stands = record {
           placed = (refl, refl, go.1);
@@ -342,16 +304,17 @@ module _ (c : ClusterView) (rs : List (Pid × Process)) (p : Pid) (was now : Pro
         built = built_of p at e;
       }
 
-  pub posted_goes_on : is_system c.system ≡ true → (c.number).0 < (c.system).clusters → GoesOn c (posted_view c (with_changed p now rs) post)
+  pub posted_goes_on : is_system c.system ≡ true → (c.number).0 < (c.system).clusters → GoesOn c (posted_view c (with_changed p (Runs now) c.here) post)
   posted_goes_on valid has log go f = record {
     log = record { cursor = (f.log).cursor; places = (f.log).places };
+    running = run_changed p now c.here f.running;
     processes = record {
       held =
           let mine : IsHeldAs c.system log (post ∷ []) p (Runs now) =
           ap (λ (q : Post). state_now c.system log (q ∷ []) p at) post_is ∙ ap (state_by c.system log p at) (moves_of p at c.number e tells)
           ∙ items_of_post c.system log p at e (state_of now) tells (emission_is log f) in
-          held_beside c log rs p now (post ∷ []) here f mine others;
-      each_once = ap rising (pids_changed p now rs) ∙ ap (λ hs. rising (pids_held hs)) (sym here) ∙ (f.processes).each_once;
+          held_beside c log p now (post ∷ []) f mine others;
+      each_once = ap rising (pids_changed p (Runs now) c.here) ∙ (f.processes).each_once;
     };
     queue = record {
       own = ap (λ b. b && true) posted_own;
@@ -365,22 +328,8 @@ module _ (c : ClusterView) (rs : List (Pid × Process)) (p : Pid) (was now : Pro
           ap (λ (x : Post). state_now c.system log (x ∷ []) q (s.small).steps) post_is ∙ ap (state_by c.system log q (s.small).steps) (moves_no_other p q at c.number e tells other)
           ∙ sym (ap (λ ps. state_now c.system log ps q (s.small).steps) empty) ∙ as_before
 
-  sends_has : (n : ℕ) (s : ProcState) → silently n s ≡ Some runs.before → has_step (next_step s) ≡ true
-  sends_has zero s is = let at_once : s ≡ runs.before = none_silent s runs.before is in ap (λ s. has_step (next_step s)) at_once ∙ ap has_step runs.sends
-  sends_has (suc n) s is = silent_has n s runs.before is
-
-  pub posted_work : WorkIs c Queued (posted_view c (with_changed p now rs) post)
+  pub posted_work : WorkIs c Queued (posted_view c (with_changed p (Runs now) c.here) post)
   posted_work = (
-    not_resting c rs p was here there (sends_has runs.steps (state_of was) runs.silent),
-    record {
-      pid = p;
-      was = was;
-      now = now;
-      emission = e;
-      post = post;
-      there = held_here c rs p was here there;
-      runs = runs;
-      post_is = post_is;
-      rest = ap (λ hs. record c { here = hs; queue = post ∷ []; steps = next_count c.steps }) (held_changed c p now rs here);
-    },
+    some_moves c.here p was there (sends_has 64 (state_of was) (state_of now) e runs),
+    record { pid = p; was = was; now = now; emission = e; post = post; there = there; runs = runs; post_is = post_is; rest = refl },
   )

@@ -3,14 +3,13 @@ use Rattle.std.specs.Prelude.{◌≡◌, Bool, true, false, ◌==◌, List, Some
 use Rattle.std.specs.Int.{bit_at}
 use Rattle.t32_base.specs.declared.process.Pid.{Pid}
 use Rattle.t32_base.specs.declared.process.ClusterNo.{ClusterNo}
-use Rattle.proc_state.specs.declared.process.Process.{Process}
 use Rattle.bus_msg.specs.declared.entry.What.{What}
 use Rattle.bus_msg.specs.declared.entry.What.TheVariants.{Mail}
 use Rattle.bus_msg.specs.declared.entry.Dests.{Dests}
 use Rattle.bus_msg.specs.declared.entry.Entry.{Entry}
 use Rattle.bus_msg.specs.PlacedAfter.{what}
 use Rattle.cert_sched.specs.Deeds.{is_end_of}
-use Rattle.cluster_core.specs.Residents.{process_in}
+use Rattle.cluster_core.specs.View.{Held, held_of}
 
 -- the cluster is one of those that an entry goes to
 abbrev pub goes_to : Dests → ClusterNo → Bool
@@ -22,5 +21,5 @@ is_letter_for p (Mail at letter) = is_end_of p letter.to
 is_letter_for p w = false
 
 -- a letter for a process that is here goes to this cluster
-abbrev pub ComesHere : ClusterNo → Entry → List (Pid × Process) → Type 0
-ComesHere k e here = (p : Pid) (s : Process) → process_in here p ≡ Some s → is_letter_for p (what e) ≡ true → goes_to e.dests k ≡ true
+abbrev pub ComesHere : ClusterNo → Entry → List (Pid × Held) → Type 0
+ComesHere k e here = (p : Pid) (h : Held) → held_of here p ≡ Some h → is_letter_for p (what e) ≡ true → goes_to e.dests k ≡ true

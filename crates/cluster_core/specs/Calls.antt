@@ -21,7 +21,7 @@ use Rattle.cert_sched.specs.Losses.{is_by_cluster, is_crash_of}
 use Rattle.cert_sched.specs.Rests.{is_idle, IsRestOf}
 use Rattle.cluster_core.specs.declared.worked.Worked.{Worked}
 use Rattle.cluster_core.specs.declared.worked.Worked.TheVariants.{Moved, Queued, Waits as IsWaiting, Rests}
-use Rattle.cluster_core.specs.View.{ClusterView, Held, Runs, Rolls, Waits, arrived_held, held_at, next_count, counted_once}
+use Rattle.cluster_core.specs.View.{ClusterView, Held, Runs, Rolls, Waits, arrived_held, held_at, steps_of_held, next_count, counted_once}
 use Rattle.cluster_core.specs.Quantum.{RunsAndSends, post_told}
 use Rattle.cluster_core.specs.Follows.{FollowsBuilt, IsOpen, StandsBetween}
 
@@ -100,11 +100,6 @@ are_at_rest here = list_all (λ (e : Pid × Held). is_at_rest e.1) here
 -- nothing here can move
 abbrev pub is_resting : ClusterView → Bool
 is_resting c = are_at_rest c.here
-
-abbrev pub steps_of_held : Held → ℕ
-steps_of_held (Runs p) = (p.small).steps
-steps_of_held (Rolls p counts births) = (p.small).steps
-steps_of_held (Waits kept) = 0
 
 abbrev pub rests_in : List (Pid × Held) → List (Pid × ℕ)
 rests_in here = map (λ (e : Pid × Held). (e.0, steps_of_held e.1)) here

@@ -1,11 +1,13 @@
 pub mod View
+pub mod Quantum
+pub mod Resident
 pub mod Residents
+pub mod Work
 pub mod Parts
 pub mod Queue
 pub mod Holds
 pub mod Follows
 pub mod Calls
-pub mod Quantum
 pub mod Booting
 pub mod Slots
 pub mod Absorbing

@@ -1,5 +1,5 @@
 -- The parts of a cluster as its code keeps them.
-use Rattle.std.specs.Prelude.{ℕ, ◌≡◌, ◌<◌, ◌≤◌, true, false, List, [], ◌∷◌, map, Option, Some, None, ⊤}
+use Rattle.std.specs.Prelude.{ℕ, ◌≡◌, ◌<◌, ◌≤◌, true, false, List, [], ◌∷◌, Option, Some, None, ⊤}
 use Rattle.std.specs.List.{list_any, list_all}
 use Rattle.t32_base.specs.declared.process.Pid.{Pid}
 use Rattle.t32_base.specs.declared.process.ClusterNo.{ClusterNo}
@@ -10,11 +10,7 @@ use Rattle.proc_state.specs.Mail.{is_signal}
 use Rattle.bus_msg.specs.declared.entry.Post.{Post}
 use Rattle.cert_sched.specs.Built.{is_built}
 use Rattle.cert_sched.specs.Losses.{is_from}
-use Rattle.cluster_core.specs.View.{Held, Runs}
-
--- each process that is here runs
-abbrev pub held_in : List (Pid × Process) → List (Pid × Held)
-held_in here = map (λ (e : Pid × Process). (e.0, Runs e.1)) here
+use Rattle.cluster_core.specs.View.{Held, Runs, Rolls, Waits}
 
 abbrev pub posts_of : Option Post → List Post
 posts_of None = []
@@ -26,12 +22,18 @@ pub record IsOwn (cursor : ℕ) (pid : Pid) (p : Process) : Type 0 where
   pub quiet : list_any is_signal (p.mail).letters ≡ false
   pub arrived : (p.mail).next ≤ cursor
 
-abbrev pub AllOwn : ℕ → List (Pid × Process) → Type 0
+-- one that runs or rolls forward is its own; none waits yet
+abbrev pub IsHeldOwn : ℕ → Pid → Held → Type 0
+IsHeldOwn cursor pid (Runs p) = IsOwn cursor pid p
+IsHeldOwn cursor pid (Rolls p counts births) = IsOwn cursor pid p
+IsHeldOwn cursor pid (Waits kept) = ⊥
+
+abbrev pub AllOwn : ℕ → List (Pid × Held) → Type 0
 AllOwn cursor [] = ⊤
-AllOwn cursor (e ∷ here) = IsOwn cursor e.0 e.1 × AllOwn cursor here
+AllOwn cursor (e ∷ here) = IsHeldOwn cursor e.0 e.1 × AllOwn cursor here
 
 -- the system is valid and has the cluster; its processes are its own, and its posts are its own and of kinds that are built
-pub record IsSound (system : System) (number : ClusterNo) (cursor : ℕ) (here : List (Pid × Process)) (queue : List Post) : Type 0 where
+pub record IsSound (system : System) (number : ClusterNo) (cursor : ℕ) (here : List (Pid × Held)) (queue : List Post) : Type 0 where
   pub valid : is_system system ≡ true
   pub has : number.0 < system.clusters
   pub residents : AllOwn cursor here

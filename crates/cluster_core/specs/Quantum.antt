@@ -1,14 +1,17 @@
--- A quantum of a process: silent steps, and at most one emission at their end.
-use Rattle.std.specs.Prelude.{ℕ, ◌≤◌, ◌<◌, ◌≡◌, false, Some, Result, Ok, Err}
+-- A quantum of a process: steps that it did before, in which what it sends is withheld; silent steps; and at most one emission at their end.
+use Rattle.std.specs.Prelude.{ℕ, ◌+◌, ◌≤◌, ◌<◌, ◌≡◌, false, List, Some, Result, Ok, Err}
 use Rattle.t32_base.specs.declared.streams.NoMemory.{NoMemory}
+use Rattle.t32_base.specs.declared.process.Pid.{Pid}
+use Rattle.t32_base.specs.declared.process.ClusterNo.{ClusterNo}
+use Rattle.t32_base.specs.declared.process.Counts.{Counts}
 use Rattle.proc_state.specs.declared.process.Process.{Process}
 use Rattle.proc_state.specs.State.{ProcState, state_of}
 use Rattle.sys_calls.specs.declared.steps.Emission.{Emission}
+use Rattle.sys_calls.specs.declared.steps.Emission.TheVariants.{Mail as SentMail, Exit as SentExit}
 use Rattle.sys_calls.specs.Calls.{Emits}
 use Rattle.sys_calls.specs.Next.{next_step, has_step, silently}
-use Rattle.t32_base.specs.declared.process.Pid.{Pid}
-use Rattle.t32_base.specs.declared.process.ClusterNo.{ClusterNo}
-use Rattle.sys_calls.specs.declared.steps.Emission.TheVariants.{Mail as SentMail, Exit as SentExit}
+use Rattle.roll_forward.specs.RunsOut.{RunsOut}
+use Rattle.roll_forward.specs.Advancing.{Going, rolled_on}
 use Rattle.bus_msg.specs.declared.entry.What.{What}
 use Rattle.bus_msg.specs.declared.entry.What.TheVariants.{Mail, Exit}
 use Rattle.bus_msg.specs.declared.entry.By.TheVariants.{Cluster}
@@ -16,13 +19,49 @@ use Rattle.bus_msg.specs.declared.entry.Post.{Post}
 use Rattle.cluster_core.specs.declared.quantum.Sending.{Sending}
 use Rattle.cluster_core.specs.declared.quantum.Quantum.{Quantum}
 use Rattle.cluster_core.specs.declared.quantum.Quantum.TheVariants.{Moved, Sent, Stuck}
+use Rattle.cluster_core.specs.View.{Held, Runs, Rolls, Waits, can_act}
 
--- so many silent steps, one at least
-pub record RunsSome (most : ℕ) (old new : ProcState) : Type 0 where
-  pub steps : ℕ
-  pub some : 1 ≤ steps
-  pub few : steps ≤ most
-  pub silent : silently steps old ≡ Some new
+-- ---- what is withheld
+
+-- such a process, with the marks of its pages and what it has read and not withheld yet
+abbrev pub going : Process → Counts → List Pid → Going
+going p counts births = record { state = state_of p; marks = (p.ram).dirty; read = p.read; counts = counts; births = births }
+
+-- n steps of roll-forward, after which so many more are to come until nothing is left to withhold
+pub record RollsOn (n ahead : ℕ) (p : Process) (counts : Counts) (births : List Pid) (q : Process) (left : Counts) (unborn : List Pid) : Type 0 where
+  pub runs_out : RunsOut (state_of p) counts births (n + ahead)
+  pub rolled : rolled_on n (going p counts births) ≡ Some (going q left unborn)
+  pub since : q.since ≡ p.since
+
+-- One that runs withholds nothing. One that rolls forward makes n steps, after which it still rolls forward where something is left to withhold, and runs where nothing is.
+abbrev pub RollsTo : ℕ → Held → Held → Type 0
+RollsTo n (Runs p) (Runs q) = (n ≡ 0) × (q ≡ p)
+RollsTo n (Runs p) (Rolls q left unborn) = ⊥
+RollsTo n (Runs p) (Waits kept) = ⊥
+RollsTo n (Rolls p counts births) (Runs q) = (left : Counts) × (unborn : List Pid) × RollsOn n 0 p counts births q left unborn
+RollsTo n (Rolls p counts births) (Rolls q left unborn) = (ahead : ℕ) × (1 ≤ ahead) × RollsOn n ahead p counts births q left unborn
+RollsTo n (Rolls p counts births) (Waits kept) = ⊥
+RollsTo n (Waits kept) new = ⊥
+
+-- ---- the quantum
+
+-- m silent steps of one that runs; one that still rolls forward makes none
+abbrev pub RunsTo : ℕ → Held → Held → Type 0
+RunsTo m (Runs p) (Runs q) = silently m (state_of p) ≡ Some (state_of q)
+RunsTo m (Runs p) (Rolls q left unborn) = ⊥
+RunsTo m (Runs p) (Waits kept) = ⊥
+RunsTo m (Rolls p counts births) new = (m ≡ 0) × (new ≡ Rolls p counts births)
+RunsTo m (Waits kept) new = ⊥
+
+-- steps that are withheld, and then silent ones, one at least of both together
+pub record Moves (most : ℕ) (old new : Held) : Type 0 where
+  pub rolled : ℕ
+  pub silent : ℕ
+  pub between : Held
+  pub some : 1 ≤ rolled + silent
+  pub few : rolled + silent ≤ most
+  pub rolls : RollsTo rolled old between
+  pub runs : RunsTo silent between new
 
 -- silent steps, and then one that sends something
 pub record RunsAndSends (most : ℕ) (old : ProcState) (e : Emission) (new : ProcState) : Type 0 where
@@ -32,18 +71,51 @@ pub record RunsAndSends (most : ℕ) (old : ProcState) (e : Emission) (new : Pro
   pub silent : silently steps old ≡ Some before
   pub sends : next_step before ≡ Emits e new
 
--- it sent something by its last step
-pub record HasSent (most : ℕ) (old : Process) (sending : Sending) (new : Process) : Type 0 where
-  pub runs : RunsAndSends most (state_of old) sending.emission (state_of new)
+-- steps that are withheld, and then silent ones and one that sends something
+pub record Sends (most : ℕ) (old : Held) (sending : Sending) (new : Held) : Type 0 where
+  pub rolled : ℕ
+  pub silent : ℕ
+  pub between : Process
+  pub before : ProcState
+  pub now : Process
+  pub few : rolled + silent < most
+  pub rolls : RollsTo rolled old (Runs between)
+  pub runs : silently silent (state_of between) ≡ Some before
+  pub sends : next_step before ≡ Emits sending.emission (state_of now)
+  pub new_is : new ≡ Runs now
+  pub pid_is : sending.pid ≡ (now.small).pid
+  pub at_is : sending.at ≡ (now.small).steps
+
+-- it moved, or sent something, or could not move; after want of memory nothing has changed
+abbrev pub RunsQuantum : ℕ → Held → Result Quantum NoMemory → Held → Type 0
+RunsQuantum most old (Ok Moved) new = Moves most old new
+RunsQuantum most old (Ok (Sent sending)) new = Sends most old sending new
+RunsQuantum most old (Ok Stuck) new = (can_act old ≡ false) × (new ≡ old)
+RunsQuantum most old (Err fault) new = new ≡ old
+
+-- ---- its part in which the process runs
+
+pub record RestMoves (most made : ℕ) (old new : Process) : Type 0 where
+  pub steps : ℕ
+  pub some : 1 ≤ made + steps
+  pub few : made + steps ≤ most
+  pub silent : silently steps (state_of old) ≡ Some (state_of new)
+
+pub record RestSends (most made : ℕ) (old : Process) (sending : Sending) (new : Process) : Type 0 where
+  pub steps : ℕ
+  pub before : ProcState
+  pub few : made + steps < most
+  pub silent : silently steps (state_of old) ≡ Some before
+  pub sends : next_step before ≡ Emits sending.emission (state_of new)
   pub pid_is : sending.pid ≡ (new.small).pid
   pub at_is : sending.at ≡ (new.small).steps
 
--- it moved, or sent something, or had no step; after want of memory nothing has changed
-abbrev pub RunsQuantum : ℕ → Process → Result Quantum NoMemory → Process → Type 0
-RunsQuantum most old (Ok Moved) new = RunsSome most (state_of old) (state_of new)
-RunsQuantum most old (Ok (Sent sending)) new = HasSent most old sending new
-RunsQuantum most old (Ok Stuck) new = (has_step (next_step (state_of old)) ≡ false) × (new ≡ old)
-RunsQuantum most old (Err fault) new = new ≡ old
+-- the rest of a quantum after so many steps: where there were none, it may have no step, or no memory for the first
+abbrev pub RunsRest : ℕ → ℕ → Process → Result Quantum NoMemory → Process → Type 0
+RunsRest most made old (Ok Moved) new = RestMoves most made old new
+RunsRest most made old (Ok (Sent sending)) new = RestSends most made old sending new
+RunsRest most made old (Ok Stuck) new = (made ≡ 0) × (has_step (next_step (state_of old)) ≡ false) × (new ≡ old)
+RunsRest most made old (Err fault) new = (made ≡ 0) × (new ≡ old)
 
 -- where memory is refused after some steps the process has moved, and otherwise that is told
 abbrev pub MovesOrTells : ℕ → Result Quantum NoMemory → Type 0

@@ -5,29 +5,27 @@ use Rattle.std.specs.List.Sorted.{IsStrictlySortedBy}
 use Rattle.std.specs.Ordering.{nat_cmp}
 use Rattle.slab.specs.Slab.{Slab, get}
 use Rattle.t32_base.specs.declared.process.Pid.{Pid}
-use Rattle.proc_state.specs.declared.process.Process.{Process}
-use Rattle.proc_state.specs.State.{state_of}
-use Rattle.sys_calls.specs.Next.{next_step, has_step}
 use Rattle.plain_kernel.specs.Maps.{at_key, pid_of}
 use Rattle.cert_sched.proofs.RisingLaws.{NoTwo}
+use Rattle.cluster_core.specs.View.{Held, can_act}
 
 -- a process that is in its slot, before others
-abbrev pub in_slot : Pid → Option Process → List (Pid × Process) → List (Pid × Process)
+abbrev pub in_slot : Pid → Option Held → List (Pid × Held) → List (Pid × Held)
 in_slot pid None rest = rest
-in_slot pid (Some p) rest = (pid, p) ∷ rest
+in_slot pid (Some h) rest = (pid, h) ∷ rest
 
 -- the processes by pid, each from its slot
-abbrev pub stands_in : Slab Process → List (ℕ × ℕ) → List (Pid × Process)
+abbrev pub stands_in : Slab Held → List (ℕ × ℕ) → List (Pid × Held)
 stands_in slots [] = []
 stands_in slots (e ∷ es) = in_slot (pid_of e.0) (get slots e.1) (stands_in slots es)
 
--- the key of a pid has a process, and one that has a step is among those that are ready
-pub record IsSlot (slots : Slab Process) (ready : List ℕ) (e : ℕ × ℕ) : Type 0 where
+-- the key of a pid has a process, and one that can move is among those that are ready
+pub record IsSlot (slots : Slab Held) (ready : List ℕ) (e : ℕ × ℕ) : Type 0 where
   pub filled : IsSome (get slots e.1)
-  pub stepping : (p : Process) → get slots e.1 ≡ Some p → has_step (next_step (state_of p)) ≡ true → list_any (at_key e.0) ready ≡ true
+  pub able : (h : Held) → get slots e.1 ≡ Some h → can_act h ≡ true → list_any (at_key e.0) ready ≡ true
 
 -- The pids rise, and no two of them have one key. A pid that is ready need not be there: where a process was refused, its pid may stay, and it rests once it is asked.
-pub record IsKept (slots : Slab Process) (keys : List (ℕ × ℕ)) (ready : List ℕ) : Type 0 where
+pub record IsKept (slots : Slab Held) (keys : List (ℕ × ℕ)) (ready : List ℕ) : Type 0 where
   pub ordered : IsStrictlySortedBy nat_cmp (map (λ (e : ℕ × ℕ). e.0) keys)
   pub apart : NoTwo (map (λ (e : ℕ × ℕ). e.1) keys)
   pub each : AllByRecursion (IsSlot slots ready) keys

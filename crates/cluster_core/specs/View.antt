@@ -1,6 +1,6 @@
 -- What a cluster holds, as contracts see it.
 use Rattle.std.specs.Prelude.{ℕ, ◌+◌, ◌-◌, ◌^◌, min, Bool, true, false, ◌==◌, ◌&&◌, if◌then◌else◌, List, [], ◌∷◌, ◌++◌, map, find, replicate, length, Option, Some, None, option_map}
-use Rattle.std.specs.List.{sum_by}
+use Rattle.std.specs.List.{list_all, sum_by}
 use Rattle.std.specs.Option.{option_map_or}
 use Rattle.t32_base.specs.declared.process.Pid.{Pid}
 use Rattle.t32_base.specs.declared.process.ClusterNo.{ClusterNo}
@@ -9,6 +9,8 @@ use Rattle.t32_base.specs.declared.letter.BackRec.{BackRec}
 use Rattle.t32_base.specs.declared.letter.Letter.{Letter}
 use Rattle.sys_text.specs.declared.system.System.{System}
 use Rattle.proc_state.specs.declared.process.Process.{Process}
+use Rattle.proc_state.specs.State.{state_of}
+use Rattle.sys_calls.specs.Next.{next_step, has_step}
 use Rattle.sys_calls.specs.Small.{weight}
 use Rattle.bus_msg.specs.declared.entry.Post.{Post}
 use Rattle.bus_msg.specs.declared.entry.What.{What}
@@ -50,8 +52,38 @@ pub record ClusterView : Type 0 where
 
 -- ---- questions
 
+-- what is held of a process
+abbrev pub held_of : List (Pid × Held) → Pid → Option Held
+held_of here p = option_map (λ (e : Pid × Held). e.1) (find (λ (e : Pid × Held). same_pid e.0 p) here)
+
 abbrev pub held_at : ClusterView → Pid → Option Held
-held_at c p = option_map (λ (e : Pid × Held). e.1) (find (λ (e : Pid × Held). same_pid e.0 p) c.here)
+held_at c p = held_of c.here p
+
+-- one that runs can move where it has a step, one that rolls forward always
+abbrev pub can_act : Held → Bool
+can_act (Runs p) = has_step (next_step (state_of p))
+can_act (Rolls p counts births) = true
+can_act (Waits kept) = false
+
+-- it runs
+abbrev pub is_running : Held → Bool
+is_running (Runs p) = true
+is_running (Rolls p counts births) = false
+is_running (Waits kept) = false
+
+abbrev pub all_run : List (Pid × Held) → Bool
+all_run here = list_all (λ (e : Pid × Held). is_running e.1) here
+
+abbrev pub steps_of_held : Held → ℕ
+steps_of_held (Runs p) = (p.small).steps
+steps_of_held (Rolls p counts births) = (p.small).steps
+steps_of_held (Waits kept) = 0
+
+-- the number that the next letter gets
+abbrev pub next_number : Held → ℕ
+next_number (Runs p) = (p.mail).next
+next_number (Rolls p counts births) = (p.mail).next
+next_number (Waits kept) = kept.next
 
 abbrev pub record_at : ClusterView → Pid → Option BackRec
 record_at c p = find (λ (r : BackRec). same_pid r.pid p) c.records

@@ -2,7 +2,8 @@
 ghost use Rattle.std.specs.Prelude.{◌≡◌, ◌<◌, OnErr, OnOk};
 ghost use Rattle.bus_msg.specs.PlacedAfter.{what};
 ghost use Rattle.cluster_core.specs.Absorbing.{ComesHere, goes_to};
-ghost use Rattle.cluster_core.specs.Residents.{HasRoom, residents_after};
+ghost use Rattle.cluster_core.specs.Calls.{here_after};
+ghost use Rattle.cluster_core.specs.Residents.{HasRoom};
 
 use crate::residents::Residents;
 use bus_msg::entry::{Dests, Entry, What};
@@ -16,7 +17,7 @@ pub fn tell(number: ClusterNo, here: &mut Residents, entry: &Entry) -> Result<()
     requires number { number.0 < 16 }
     requires room { HasRoom here.old.here }
     requires comes { ComesHere number entry.now here.old.here }
-    ensures ok { OnOk result (here.new.here ≡ residents_after (what entry.now) here.old.here) }
+    ensures ok { OnOk result (here.new.here ≡ here_after (what entry.now) here.old.here) }
     ensures err { OnErr result (here.new.here ≡ here.old.here) }
 {
     match &entry.post.what {

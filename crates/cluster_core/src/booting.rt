@@ -3,6 +3,7 @@ ghost use Rattle.std.specs.Prelude.{◌≡◌, IfOk, true};
 ghost use Rattle.sys_text.specs.Valid.{is_system};
 ghost use Rattle.cluster_core.specs.Booting.{AreBooted, belongs_to};
 
+use crate::resident::Resident;
 use crate::residents::Residents;
 use plain_kernel::booting::processes_of;
 use std::alloc::Global;
@@ -23,7 +24,7 @@ pub fn residents_at_boot(
     let mut here = Residents::none(alloc);
     for (pid, process) in processes_of(alloc, system)? {
         if is_pid_at(number, pid) {
-            here.add(Pid(pid), process)?;
+            here.add(Pid(pid), Resident::running(process))?;
         }
     }
     Ok(here)

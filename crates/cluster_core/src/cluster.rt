@@ -9,9 +9,8 @@ ghost use Rattle.cluster_core.specs.Calls.{Absorbs, absorbed, FollowsSome, GoesO
 
 use crate::absorb::tell;
 use crate::booting::residents_at_boot;
-use crate::quantum::Quantum;
 use crate::residents::Residents;
-use crate::work::post_of;
+use crate::work::work_on;
 use crate::worked::Worked;
 use bus_msg::entry::{Entry, Post};
 use cert_sched::start::placement_at_boot;
@@ -42,7 +41,7 @@ impl Model for Cluster {
     ghost use Rattle.std.specs.Arc.{arc_value};
     ghost use Rattle.std.specs.Prelude.{[], false, None};
     ghost use Rattle.cluster_core.specs.View.{ClusterView};
-    ghost use Rattle.cluster_core.specs.Parts.{held_in, posts_of, IsSound};
+    ghost use Rattle.cluster_core.specs.Parts.{posts_of, IsSound};
 
     ghost Value = { ClusterView };
 
@@ -51,7 +50,7 @@ impl Model for Cluster {
       number = c.number;
       cursor = c.cursor;
       places = c.places;
-      here = held_in (c.here).here;
+      here = (c.here).here;
       pages = [];
       records = [];
       accounts = [];
@@ -156,7 +155,7 @@ impl Cluster {
     }
 
     /// Does the next thing that is to be done here: a process runs, up to something that it sends, or
-    /// nothing can move. It is the next one in rising pid order that has a step, after the one that ran last,
+    /// nothing can move. It is the next one in rising pid order that can move, after the one that ran last,
     /// cyclically. After want of memory nothing is said of the cluster but that it can be dropped.
     pub fn work(&mut self) -> Result<Worked, NoMemory>
         requires empty { self.old.queue ≡ [] }
@@ -165,16 +164,9 @@ impl Cluster {
         ensures work { IfOk result (λ worked. WorkIs self.old worked self.new) }
         ensures place { OnOk result (KeepsPlace self.old self.new) }
     {
-        let quantum = self.here.take_turn(self.alloc)?;
+        let worked = work_on(self.alloc, self.number, &mut self.here, &mut self.queue)?;
         self.count_step();
-        match quantum {
-            Quantum::Moved => Ok(Worked::Moved),
-            Quantum::Sent(sending) => {
-                self.queue = Some(post_of(self.number, sending));
-                Ok(Worked::Queued)
-            }
-            Quantum::Stuck => Ok(Worked::Rests),
-        }
+        Ok(worked)
     }
 
     /// Each process here with its steps: None exactly where something here can move.

@@ -5,7 +5,10 @@ mod absorb;
 mod booting;
 pub mod cluster;
 mod quantum;
+mod resident;
 mod residents;
 pub mod steps_left;
+#[cfg(test)]
+mod tests;
 mod work;
 pub mod worked;

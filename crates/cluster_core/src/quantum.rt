@@ -1,6 +1,6 @@
-//! A quantum of a process.
-ghost use Rattle.std.specs.Prelude.{◌≡◌, ◌==◌, if◌then◌else◌};
-ghost use Rattle.cluster_core.specs.Quantum.{MovesOrTells, RunsQuantum};
+//! A quantum of a process that runs, or the rest of one that it began otherwise.
+ghost use Rattle.std.specs.Prelude.{◌≡◌, ◌≤◌, ◌==◌, if◌then◌else◌};
+ghost use Rattle.cluster_core.specs.Quantum.{MovesOrTells, RunsRest};
 
 use proc_state::process::Process;
 use std::alloc::Global;
@@ -29,12 +29,14 @@ pub struct Sending {
 /// The most steps of a quantum.
 pub const MOST: u32 = 64;
 
-/// Makes at most 64 steps of a process, up to one that sends something, or up to a read that waits. A later
-/// step for which memory is refused is not made; where it is the first, nothing has changed.
-pub fn run_quantum(alloc: Global, p: &mut Process) -> Result<Quantum, NoMemory>
-    ensures { RunsQuantum 64 p.old result p.new }
+/// The rest of a quantum in which a process made some steps: at most 64 with them, up to one that sends
+/// something, or up to a read that waits. A later step for which memory is refused is not made; where it is the
+/// first of the quantum, nothing has changed.
+pub fn run_rest(alloc: Global, p: &mut Process, before: u32) -> Result<Quantum, NoMemory>
+    requires { before ≤ 64 }
+    ensures { RunsRest 64 before p.old result p.new }
 {
-    let mut made = run_instructions(p, MOST);
+    let mut made = before + run_instructions(p, MOST - before);
     'steps: while made < MOST {
         match step(alloc, p) {
             Ok(Step::Silent) => made += 1,

@@ -1,29 +1,30 @@
 //! The processes at home in a cluster.
 ghost use Rattle.std.specs.Prelude.{ℕ, ◌≡◌, ◌+◌, [], IfOk, OnOk, OnErr, Some, None, true, length, filter, map, not, if◌then◌else◌, false};
 ghost use Rattle.std.specs.List.{list_any};
+ghost use Rattle.slab.specs.Slab.{Updates};
 ghost use Rattle.bus_msg.specs.Places.{same_pid};
 ghost use Rattle.plain_kernel.specs.Maps.{at_key, pid_of};
-ghost use Rattle.cluster_core.specs.Residents.{GivenTurnIs, HasRoom, NextAble, TurnIs, are_rising, are_stuck, is_stuck_at, next_ready, pids_in, steps_in, with_arrival, with_more};
-ghost use Rattle.cluster_core.specs.View.{arrived};
+ghost use Rattle.cluster_core.specs.Calls.{rests_in, with_letter};
+ghost use Rattle.cluster_core.specs.Residents.{GivenTurnIs, HasRoom, NextAble, TurnIs, are_rising, are_stuck, is_stuck_at, next_ready, pids_in, with_more};
+ghost use Rattle.cluster_core.specs.View.{arrived_held};
 
-use crate::quantum::{Quantum, run_quantum};
-use proc_state::process::Process;
+use crate::quantum::Quantum;
+use crate::resident::Resident;
 use slab::Slab;
 use std::alloc::Global;
 use std::collections::{BTreeMap, BTreeSet};
 use std::marker::Model;
 use std::ops::Bound;
-use sys_calls::stepping::can_step;
 use t32_base::letter::{Letter, To};
 use t32_base::lists::List;
-use t32_base::process::{Pid, Small};
+use t32_base::process::Pid;
 use t32_base::streams::NoMemory;
 
-/// The processes at home in a cluster, by pid. One that has no step, but may get one by a letter, is
+/// The processes at home in a cluster, by pid. One that cannot move, but may get a step by a letter, is
 /// not asked again before a letter comes to it.
 #[derive(Drop)]
 pub struct Residents {
-    processes: Slab<Process>,
+    residents: Slab<Resident>,
     keys: BTreeMap<u32, usize>,
     ready: BTreeSet<u32>,
     last: u32,
@@ -35,9 +36,9 @@ impl Model for Residents {
 
     ghost Value = { ResidentsView };
 
-    ghost view = { λ r. record { here = stands_in r.processes r.keys.entries; ready = r.ready.keys; last = r.last } };
+    ghost view = { λ r. record { here = stands_in r.residents r.keys.entries; ready = r.ready.keys; last = r.last } };
 
-    ghost invariant = { λ r. IsKept r.processes r.keys.entries r.ready.keys };
+    ghost invariant = { λ r. IsKept r.residents r.keys.entries r.ready.keys };
 }
 
 impl Residents {
@@ -47,7 +48,7 @@ impl Residents {
         ensures last { result.last ≡ 0 }
     {
         Residents {
-            processes: Slab::new(alloc),
+            residents: Slab::new(alloc),
             keys: BTreeMap::new(alloc),
             ready: BTreeSet::new(alloc),
             last: 0,
@@ -56,18 +57,18 @@ impl Residents {
 
     /// One process more, whose pid none has that is here. After want of memory nothing is said but that the
     /// value can be dropped.
-    pub fn add(&mut self, pid: Pid, process: Process) -> Result<(), NoMemory>
+    pub fn add(&mut self, pid: Pid, resident: Resident) -> Result<(), NoMemory>
         requires { list_any (λ e. same_pid e.0 pid) self.old.here ≡ false }
-        ensures here { OnOk result (self.new.here ≡ with_more pid process self.old.here) }
+        ensures here { OnOk result (self.new.here ≡ with_more pid resident self.old.here) }
         ensures last { OnOk result (self.new.last ≡ self.old.last) }
     {
         self.ready.insert(pid.0)?;
-        let key = self.processes.insert(process)?;
+        let key = self.residents.insert(resident)?;
         self.keys.insert(pid.0, key)?;
         Ok(())
     }
 
-    /// Lets the next process that has a step run for a quantum: the next one in rising pid order after the
+    /// Lets the next process that can move run for a quantum: the next one in rising pid order after the
     /// one that was chosen last, cyclically. `Stuck` is that of all. After want of memory no process has changed.
     pub fn take_turn(&mut self, alloc: Global) -> Result<Quantum, NoMemory>
         ensures { TurnIs self.old result self.new }
@@ -84,7 +85,7 @@ impl Residents {
         Ok(Quantum::Stuck)
     }
 
-    // The next of those that may have a step. Takes no memory.
+    // The next of those that may move. Takes no memory.
     fn next(&self) -> Option<u32>
         ensures next { result ≡ next_ready self.now.ready self.now.last }
         ensures stuck { result ≡ None → are_stuck self.now.here ≡ true }
@@ -105,15 +106,15 @@ impl Residents {
         ensures last { self.new.last ≡ self.old.last }
     {
         match self.keys.get(&pid) {
-            Some(key) => match self.processes.get_mut(*key) {
-                Some(process) => run_quantum(alloc, process),
+            Some(key) => match self.residents.get_mut(*key) {
+                Some(resident) => resident.run_quantum(alloc),
                 None => unreachable!(),
             },
             None => Ok(Quantum::Stuck),
         }
     }
 
-    // A process that has no step is not asked again before a letter comes to it.
+    // A process that cannot move is not asked again before a letter comes to it.
     fn rest(&mut self, pid: u32)
         requires stuck { is_stuck_at (pid_of pid) self.old.here ≡ true }
         requires there { list_any (at_key pid) self.old.ready ≡ true }
@@ -136,7 +137,7 @@ impl Residents {
     /// has changed.
     pub fn deliver(&mut self, letter: &Letter) -> Result<(), NoMemory>
         requires { HasRoom self.old.here }
-        ensures ok { OnOk result (self.new.here ≡ with_arrival letter.now self.old.here) }
+        ensures ok { OnOk result (self.new.here ≡ with_letter letter.now self.old.here) }
         ensures err { OnErr result (self.new.here ≡ self.old.here) }
         ensures last { self.new.last ≡ self.old.last }
     {
@@ -149,15 +150,15 @@ impl Residents {
     // A letter arrives at the process with a pid, if it is here.
     fn arrive(&mut self, pid: Pid, letter: &Letter) -> Result<(), NoMemory>
         requires { HasRoom self.old.here }
-        ensures ok { OnOk result (self.new.here ≡ map (λ e. if same_pid pid e.0 then (e.0, arrived e.1 letter.now) else e) self.old.here) }
+        ensures ok { OnOk result (self.new.here ≡ map (λ e. if same_pid pid e.0 then (e.0, arrived_held e.1 letter.now) else e) self.old.here) }
         ensures err { OnErr result (self.new.here ≡ self.old.here) }
         ensures last { self.new.last ≡ self.old.last }
     {
         match self.keys.get(&pid.0) {
             Some(key) => {
                 self.ready.insert(pid.0)?;
-                match self.processes.get_mut(*key) {
-                    Some(process) => process.deliver(letter.copy()?),
+                match self.residents.get_mut(*key) {
+                    Some(resident) => resident.deliver(letter.copy()?),
                     None => unreachable!(),
                 }
             }
@@ -172,23 +173,23 @@ impl Residents {
     {
         if let Some(key) = self.keys.remove(&pid.0) {
             self.ready.remove(&pid.0);
-            self.processes.try_remove(key);
+            clear(&mut self.residents, key);
         }
     }
 
-    /// Each process with its steps, by rising pid: None exactly where one of them has a step.
+    /// Each process with its steps, by rising pid: None exactly where one of them can move.
     pub fn rests(&self, alloc: Global) -> Result<Option<List<(Pid, u64)>>, NoMemory>
-        ensures rests { IfOk result (λ rests. rests ≡ (if are_stuck self.now.here then Some (steps_in self.now.here) else None)) }
+        ensures rests { IfOk result (λ rests. rests ≡ (if are_stuck self.now.here then Some (rests_in self.now.here) else None)) }
         ensures ordered { are_rising (pids_in self.now.here) ≡ true }
     {
         let mut rests = List::new(alloc);
         for (pid, key) in &self.keys {
-            match self.processes.get(*key) {
-                Some(process) => {
-                    if can_step(process) {
+            match self.residents.get(*key) {
+                Some(resident) => {
+                    if resident.can_act() {
                         return Ok(None);
                     }
-                    rests.push((Pid(*pid), steps_of(process)))?;
+                    rests.push((Pid(*pid), resident.steps()))?;
                 }
                 None => unreachable!(),
             }
@@ -197,15 +198,9 @@ impl Residents {
     }
 }
 
-// The steps of a process. Takes no memory.
-fn steps_of(process: &Process) -> u64
-    ensures { result ≡ process.now.small.steps }
+// Drops the process in a slot, if there is one. Takes no memory.
+fn clear(residents: &mut Slab<Resident>, key: usize)
+    ensures { Updates residents.old residents.new key None }
 {
-    steps_made(&process.small)
-}
-
-fn steps_made(small: &Small) -> u64
-    ensures { result ≡ small.now.steps }
-{
-    small.steps
+    residents.try_remove(key);
 }

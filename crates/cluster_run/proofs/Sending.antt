@@ -77,7 +77,7 @@ module _ (log : List Entry) (c : ClusterView) (post : Post) (after : BusView) (s
   legal_next = IsLegal-snoc BuiltMayFollow c.system log next s.legal may
 
   goes_on_next : is_over c.system (log ++ next ∷ []) ≡ false
-  goes_on_next = over_closed c.system (log ++ next ∷ []) legal_next ∙ closed-snoc log next ∙ no_end c.number (placement c.system log) post.by post.what own (may.stands).by_right
+  goes_on_next = over_closed c.system (log ++ next ∷ []) legal_next ∙ closed-snoc log next ∙ no_end c.number (placement c.system log) post.by post.what may.built own (may.stands).by_right
 
   pub sent_goes_on : is_over after.system after.log ≡ false
   sent_goes_on = (λ i. is_over (sym s.system i) (s.longer i)) ∙ goes_on_next

@@ -1,7 +1,5 @@
-use Rattle.std.proofs.Common.{◌≡◌, ◌+◌, ◌-◌, ◌^◌, ◌<◌, ap, subst, sym, ◌∙◌, arith, true, List}
+use Rattle.std.proofs.Common.{◌≡◌, ◌+◌, ◌-◌, ◌^◌, ◌<◌, ap, subst, sym, ◌∙◌, arith, true}
 use Rattle.std.specs.Arc.{arc_value}
-use Rattle.t32_base.specs.declared.process.Pid.{Pid}
-use Rattle.proc_state.specs.declared.process.Process.{Process}
 use Rattle.bus_msg.specs.PlacedAfter.{what, placed_after}
 use Rattle.sys_text.specs.Valid.{is_system}
 use Rattle.sys_text.proofs.Bounds.{system_bounds}
@@ -9,12 +7,10 @@ use Rattle.bus_msg.specs.declared.entry.Entry.{Entry}
 use Rattle.cert_sched.specs.Built.{BuiltMayFollow, is_built}
 use Rattle.cert_sched.proofs.LogLaws.{IsLegal-last}
 use Rattle.cluster_core.specs.View.{ClusterView, next_count}
-use Rattle.cluster_core.specs.Residents.{residents_after}
-use Rattle.cluster_core.specs.Parts.{held_in, AllOwn}
+use Rattle.cluster_core.specs.Parts.{AllOwn}
 use Rattle.cluster_core.specs.Calls.{Absorbs, ReadyFor, absorbed, here_after}
 use Rattle.cluster_core.specs.Absorbing.{ComesHere}
 use Rattle.cluster_core.proofs.Arriving.{comes_here}
-use Rattle.cluster_core.proofs.Here.{held_after}
 use Rattle.cluster_core.proofs.Owning.{has_room, own_after}
 use Rattle.cluster_core.proofs.Following.{absorbs, ready_quiet}
 use Rattle.cluster_core.proofs.Turning.{built_no_birth}
@@ -34,14 +30,14 @@ pub invariant_of-self-2 : goal.invariant_of-self-2
 invariant_of-self-2 c =
     let old : ClusterView = c.args.self.now in
     let e = c.args.entry.now in
-    let rs : List (Pid × Process) = c.self.inside.here.here in
-    let taken : c.tell.new.here.here ≡ residents_after (what e) rs = c.in_ok-tell.ensures.ok in
+    let here = c.self.inside.here.here in
+    let taken : c.tell.new.here.here ≡ here_after (what e) here = c.in_ok-tell.ensures.ok in
     let ready = c.requires.ready in
     let none = ready_quiet old.system ready.log e ready.open_log ready.open_next in
     record {
       valid = c.self.invariant.valid;
       has = c.self.invariant.has;
-      residents = subst (AllOwn (c.self.inside.cursor + 1)) (sym taken) (own_after c.self.inside.cursor (what e) rs (ready_built old e ready) none c.self.invariant.residents);
+      residents = subst (AllOwn (c.self.inside.cursor + 1)) (sym taken) (own_after c.self.inside.cursor (what e) here (ready_built old e ready) none c.self.invariant.residents);
       own = c.self.invariant.own;
       built = c.self.invariant.built;
     }
@@ -50,30 +46,24 @@ pub returns-clause-absorbed : goal.returns-clause-absorbed
 returns-clause-absorbed c =
     let old : ClusterView = c.args.self.now in
     let e = c.args.entry.now in
-    let rs : List (Pid × Process) = c.self.inside.here.here in
-    let taken : c.tell.new.here.here ≡ residents_after (what e) rs = c.in_ok-tell.ensures.ok in
     let places : c.note.new.self ≡ placed_after old.places (what e) = c.note.ensures ∙ ap (λ (v : ClusterView). placed_after v.places (what e)) c.self.view_is in
-    let here : held_in c.tell.new.here.here ≡ here_after (what e) old.here = ap held_in taken ∙ held_after (what e) rs (ready_built old e c.requires.ready) ∙ ap (λ (v : ClusterView). here_after (what e) v.here) c.self.view_is in
-    let whole : c.count_step.new.self ≡ absorbed old e =
+    let here : c.tell.new.here.here ≡ here_after (what e) old.here = c.in_ok-tell.ensures.ok ∙ ap (λ (v : ClusterView). here_after (what e) v.here) c.self.view_is in
     c.count_step.ensures
-    ∙ ap (λ (v : ClusterView). record v { cursor = v.cursor + 1; places = c.note.new.self; here = held_in c.tell.new.here.here; steps = next_count v.steps }) c.self.view_is
-    ∙ (λ i. record old { cursor = old.cursor + 1; places = places i; here = here i; steps = next_count old.steps }) in
-    whole
+    ∙ ap (λ (v : ClusterView). record v { cursor = v.cursor + 1; places = c.note.new.self; here = c.tell.new.here.here; steps = next_count v.steps }) c.self.view_is
+    ∙ (λ i. record old { cursor = old.cursor + 1; places = places i; here = here i; steps = next_count old.steps })
 
 pub returns-clause-follows : goal.returns-clause-follows
 returns-clause-follows c =
     let old : ClusterView = c.args.self.now in
     let e = c.args.entry.now in
-    let rs : List (Pid × Process) = c.self.inside.here.here in
-    let taken : c.tell.new.here.here ≡ residents_after (what e) rs = c.in_ok-tell.ensures.ok in
     let places : c.note.new.self ≡ placed_after old.places (what e) = c.note.ensures ∙ ap (λ (v : ClusterView). placed_after v.places (what e)) c.self.view_is in
-    let here : held_in c.tell.new.here.here ≡ here_after (what e) old.here = ap held_in taken ∙ held_after (what e) rs (ready_built old e c.requires.ready) ∙ ap (λ (v : ClusterView). here_after (what e) v.here) c.self.view_is in
+    let here : c.tell.new.here.here ≡ here_after (what e) old.here = c.in_ok-tell.ensures.ok ∙ ap (λ (v : ClusterView). here_after (what e) v.here) c.self.view_is in
     let whole : c.count_step.new.self ≡ absorbed old e =
     c.count_step.ensures
-    ∙ ap (λ (v : ClusterView). record v { cursor = v.cursor + 1; places = c.note.new.self; here = held_in c.tell.new.here.here; steps = next_count v.steps }) c.self.view_is
+    ∙ ap (λ (v : ClusterView). record v { cursor = v.cursor + 1; places = c.note.new.self; here = c.tell.new.here.here; steps = next_count v.steps }) c.self.view_is
     ∙ (λ i. record old { cursor = old.cursor + 1; places = places i; here = here i; steps = next_count old.steps }) in
     let valid : is_system old.system ≡ true = subst (λ (v : ClusterView). is_system v.system ≡ true) c.self.view_is c.self.invariant.valid in
-    subst (Absorbs e old) (sym whole) (absorbs old e rs c.self.inside.queue (ap (λ (v : ClusterView). v.here) (sym c.self.view_is)) (ap (λ (v : ClusterView). v.queue) (sym c.self.view_is)) valid)
+    subst (Absorbs e old) (sym whole) (absorbs old e c.self.inside.queue (ap (λ (v : ClusterView). v.queue) (sym c.self.view_is)) valid)
 
 pub tell-requires-clause-number : goal.tell-requires-clause-number
 tell-requires-clause-number c = omega (arith, c.self.invariant.has, (system_bounds (arc_value c.self.inside.system) c.self.invariant.valid).clusters)
@@ -81,7 +71,6 @@ tell-requires-clause-number c = omega (arith, c.self.invariant.has, (system_boun
 pub tell-requires-clause-comes : goal.tell-requires-clause-comes
 tell-requires-clause-comes c =
     let old : ClusterView = c.args.self.now in
-    let rs : List (Pid × Process) = c.self.inside.here.here in
     let valid : is_system old.system ≡ true = subst (λ (v : ClusterView). is_system v.system ≡ true) c.self.view_is c.self.invariant.valid in
     let has = subst (λ (v : ClusterView). (v.number).0 < (v.system).clusters) c.self.view_is c.self.invariant.has in
-    subst (λ k. ComesHere k c.args.entry.now rs) (ap (λ (v : ClusterView). v.number) (sym c.self.view_is)) (comes_here old c.args.entry.now rs valid has (ap (λ (v : ClusterView). v.here) (sym c.self.view_is)) c.requires.ready)
+    subst (λ (v : ClusterView). ComesHere v.number c.args.entry.now v.here) (sym c.self.view_is) (comes_here old c.args.entry.now valid has c.requires.ready)

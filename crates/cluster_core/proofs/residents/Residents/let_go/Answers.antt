@@ -8,33 +8,22 @@ use Rattle.cluster_core.specs.Slots.{stands_in, IsKept}
 use Rattle.cluster_core.proofs.Slots.{nobody_goes, no_entry}
 use Rattle.cluster_core.proofs.Kept.{kept_gone, goes}
 use Rattle.cluster_core.proofs.residents.Residents.let_go.Goals as goal
-use Rattle.cluster_core.proofs.residents.Residents.let_go.Goals.{in-Some-1, in-None-1}
 
 pub invariant_of-self : goal.invariant_of-self
 invariant_of-self c =
-    subst (λ (es : List (ℕ × ℕ)). IsKept c.try_remove.new.self es c.remove-in-Some.new.self.keys) (sym c.remove.ensures.entries)
-    (kept_gone c.self.inside.processes c.try_remove.new.self (c.args.pid).0 c.in-Some.key c.self.inside.keys.entries c.self.inside.ready.keys c.remove-in-Some.new.self.keys
-    (sym c.in-Some.ensures.value) c.try_remove.ensures.updates (λ q other. c.remove-in-Some.ensures.updates.2 q other)
-    (subst (λ (es : List (ℕ × ℕ)). IsStrictlySortedBy nat_cmp (map (λ (e : ℕ × ℕ). e.0) es)) c.remove.ensures.entries c.remove.ensures.ordered) c.self.invariant)
-
-pub invariant_of-self-in-Some-2 : goal.invariant_of-self-in-Some-2
-invariant_of-self-in-Some-2 c =
-    subst (λ (es : List (ℕ × ℕ)). IsKept c.try_remove.new.self es c.remove-in-Some.new.self.keys) (sym c.remove.ensures.entries)
-    (kept_gone c.self.inside.processes c.try_remove.new.self (c.args.pid).0 c.in-Some.key c.self.inside.keys.entries c.self.inside.ready.keys c.remove-in-Some.new.self.keys
-    (sym c.in-Some.ensures.value) c.try_remove.ensures.updates (λ q other. c.remove-in-Some.ensures.updates.2 q other)
+    subst (λ (es : List (ℕ × ℕ)). IsKept c.clear.new.residents es c.remove-in-Some.new.self.keys) (sym c.remove.ensures.entries)
+    (kept_gone c.self.inside.residents c.clear.new.residents (c.args.pid).0 c.in-Some.key c.self.inside.keys.entries c.self.inside.ready.keys c.remove-in-Some.new.self.keys
+    (sym c.in-Some.ensures.value) c.clear.ensures (λ q other. c.remove-in-Some.ensures.updates.2 q other)
     (subst (λ (es : List (ℕ × ℕ)). IsStrictlySortedBy nat_cmp (map (λ (e : ℕ × ℕ). e.0) es)) c.remove.ensures.entries c.remove.ensures.ordered) c.self.invariant)
 
 pub returns-in-Some-clause-here : goal.returns-in-Some-clause-here
 returns-in-Some-clause-here c =
-    let after =
-    ap (stands_in c.try_remove.new.self) c.remove.ensures.entries
-    ∙ goes c.self.inside.processes c.try_remove.new.self (c.args.pid).0 c.in-Some.key c.self.inside.keys.entries c.self.inside.ready.keys c.self.invariant (sym c.in-Some.ensures.value) c.try_remove.ensures.updates
+    ap (stands_in c.clear.new.residents) c.remove.ensures.entries
+    ∙ goes c.self.inside.residents c.clear.new.residents (c.args.pid).0 c.in-Some.key c.self.inside.keys.entries c.self.inside.ready.keys c.self.invariant (sym c.in-Some.ensures.value) c.clear.ensures
     ∙ ap (λ (v : ResidentsView). filter (λ e. not (same_pid e.0 c.args.pid)) v.here) c.self.view_is
-    in
-    elim c.match-try_remove.branch [ in-Some-1 w ↦ ap (λ (v : ResidentsView). v.here) w.self-is ∙ after | in-None-1 w ↦ ap (λ (v : ResidentsView). v.here) w.self-is ∙ after ]
 
 pub returns-in_default-clause-here : goal.returns-in_default-clause-here
 returns-in_default-clause-here c =
-    ap (stands_in c.self.inside.processes) c.in_default.ensures.unchanged
-    ∙ sym (nobody_goes c.self.inside.processes (c.args.pid).0 c.self.inside.keys.entries (no_entry (c.args.pid).0 c.self.inside.keys.entries (sym c.in_default.ensures.value)))
+    ap (stands_in c.self.inside.residents) c.in_default.ensures.unchanged
+    ∙ sym (nobody_goes c.self.inside.residents (c.args.pid).0 c.self.inside.keys.entries (no_entry (c.args.pid).0 c.self.inside.keys.entries (sym c.in_default.ensures.value)))
     ∙ ap (λ (v : ResidentsView). filter (λ e. not (same_pid e.0 c.args.pid)) v.here) c.self.view_is

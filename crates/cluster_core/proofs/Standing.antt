@@ -1,0 +1,114 @@
+-- How a process that is here stands: a letter that comes to it, and its steps of roll-forward.
+use Rattle.std.proofs.Common.{◌≡◌, ℕ, zero, suc, ◌+◌, ◌≤◌, ◌<◌, false, Option, Some, None, option_and_then, refl, sym, subst, arith}
+use Rattle.std.proofs.lemmas.Bool.{false≢true}
+use Rattle.std.specs.Prelude.{IsTrue, min, Result, Ok, Err, OnOk, OnErr}
+use Rattle.t32_base.specs.declared.process.Counts.{Counts}
+use Rattle.t32_base.specs.declared.letter.Letter.{Letter}
+use Rattle.t32_base.specs.declared.streams.NoMemory.{NoMemory}
+use Rattle.proc_state.specs.declared.process.Process.{Process}
+use Rattle.proc_state.specs.State.{ProcState, state_of, delivered, SameRest}
+use Rattle.sys_calls.specs.declared.steps.Emission.TheVariants.{Mail as Sent, Exit as Ended}
+use Rattle.sys_calls.specs.Calls.{Next, Silent, Blocked, Forks, Emits, Over}
+use Rattle.sys_calls.specs.Next.{next_step}
+use Rattle.sys_calls.proofs.Quiet.{no_fork}
+use Rattle.write_count.specs.Counting.{lowered}
+use Rattle.roll_forward.specs.RunsOut.{RunsOn, RunsOut}
+use Rattle.roll_forward.specs.Rolling.{RollingState}
+use Rattle.roll_forward.specs.Advancing.{Going, going_of, gone_on, rolled_on}
+use Rattle.roll_forward.proofs.Delivering.{RunsOut-delivered}
+use Rattle.cluster_core.specs.declared.resident.Standing.TheVariants.{Runs as IsRunning, Rolls as IsRolling}
+use Rattle.cluster_core.specs.View.{arrived}
+use Rattle.cluster_core.specs.Quantum.{RollsOn}
+use Rattle.cluster_core.specs.Resident.{HasRolled, StandsSo, held_standing}
+
+-- ---- a letter
+
+pub arrived_is : (was now : Process) (letter : Letter) → state_of now ≡ delivered (state_of was) letter → SameRest was now → now ≡ arrived was letter
+arrived_is was now letter is rest = λ i. record { small = (is i).small; ram = rest.ram i; mail = record { letters = (is i).mail; next = (is i).next }; read = rest.read i; since = rest.since i }
+
+-- one that rolls forward stands so still
+pub delivered_stands : (old new : RollingState) (letter : Letter) (result : Result (Unit {0}) NoMemory) → StandsSo (Some (IsRolling old)) → OnOk result (state_of new.process ≡ delivered (state_of old.process) letter)
+    → new ≡ record old { process = new.process } → OnErr result (new ≡ old) → StandsSo (Some (IsRolling new))
+delivered_stands old new letter (Ok done) stands is left same =
+    let runs : RunsOut (state_of new.process) old.counts old.births old.ahead =
+    subst (λ (s : ProcState). RunsOut s old.counts old.births old.ahead) (sym is) (RunsOut-delivered old.ahead (state_of old.process) letter old.counts old.births stands.1) in
+    subst (λ (r : RollingState). StandsSo (Some (IsRolling r))) (sym left) (stands.0, runs)
+delivered_stands old new letter (Err fault) stands is left same = subst (λ (r : RollingState). StandsSo (Some (IsRolling r))) (sym same) stands
+
+-- ---- steps of roll-forward
+
+-- one step more leaves one less
+one_on : (m : ℕ) (g h : Going) (next : Next) → RunsOn g.state g.counts (λ t left rest. RunsOut t left rest m) next g.births → gone_on g next ≡ Some h → RunsOut h.state h.counts h.births m
+one_on m g h (Silent t) runs is =
+    let state : t ≡ h.state = cc in
+    let counts : g.counts ≡ h.counts = cc in
+    let births : g.births ≡ h.births = cc in
+    subst (λ (s : ProcState). RunsOut s h.counts h.births m) state (subst (λ (c : Counts). RunsOut t c h.births m) counts (subst (λ bs. RunsOut t g.counts bs m) births runs))
+one_on m g h Blocked runs is = cc
+one_on m g h Forks runs is = cc
+one_on m g h (Emits (Sent letter) t) runs is =
+    let state : t ≡ h.state = cc in
+    let counts : lowered g.counts letter ≡ h.counts = cc in
+    let births : g.births ≡ h.births = cc in
+    subst (λ (s : ProcState). RunsOut s h.counts h.births m) state (subst (λ (c : Counts). RunsOut t c h.births m) counts (subst (λ bs. RunsOut t (lowered g.counts letter) bs m) births runs.1))
+one_on m g h (Emits (Ended end) t) runs is = cc
+one_on m g h Over runs is = cc
+
+-- n steps leave n less
+pub runs_on : (n m : ℕ) (g h : Going) → RunsOut g.state g.counts g.births (n + m) → rolled_on n g ≡ Some h → RunsOut h.state h.counts h.births m
+unfolding rolled_on
+runs_on zero m g h runs is =
+    let same : g ≡ h = cc in
+    let none : 0 + m ≡ m = omega arith in
+    subst (λ (k : Going). RunsOut k.state k.counts k.births m) same (subst (λ n. RunsOut g.state g.counts g.births n) none runs)
+runs_on (suc n) m g h runs is =
+    let count : suc n + m ≡ n + suc m = omega arith in
+    by_case (rolled_on n g) refl is (λ k. runs_on n (suc m) g k (subst (λ l. RunsOut g.state g.counts g.births l) count runs))
+  where
+    by_case : (o : Option Going) → rolled_on n g ≡ o → option_and_then (λ k. gone_on k (next_step k.state)) o ≡ Some h → ((k : Going) → rolled_on n g ≡ Some k → RunsOut k.state k.counts k.births (suc m))
+        → RunsOut h.state h.counts h.births m
+    by_case None before last more = cc
+    by_case (Some k) before last more = one_on m k h (next_step k.state) (more k before).1 last
+
+-- ---- a quantum of one that rolls forward
+
+-- where something is left, one step at least is
+pub left_if : (n : ℕ) → (n ≡ 0 → IsTrue false) → 1 ≤ n
+left_if zero none = absurd (false≢true (none refl))
+left_if (suc n) none = omega arith
+
+-- what a run of it makes
+pub record Rolled (made : ℕ) (old new : RollingState) : Type 0 where
+  pub few : made ≤ 64
+  pub forks : 0 < min 64 old.ahead → made ≡ 0 → next_step (state_of old.process) ≡ Forks
+  pub rolled : rolled_on made (going_of old) ≡ Some (going_of new)
+  pub ahead : new.ahead + made ≡ old.ahead
+  pub since : (new.process).since ≡ (old.process).since
+
+module _ (made : ℕ) (old new : RollingState) (stands : StandsSo (Some (IsRolling old))) (r : Rolled made old new) where
+  some : 1 ≤ made
+  some = by_count made refl
+    where
+      by_count : (n : ℕ) → made ≡ n → 1 ≤ made
+      by_count zero is = absurd (no_fork (state_of (old.process)) (r.forks (omega (arith, stands.0)) is))
+      by_count (suc n) is = omega (arith, is)
+
+  rolls_on : RollsOn made new.ahead old.process old.counts old.births new.process new.counts new.births
+  rolls_on =
+      let count : old.ahead ≡ made + new.ahead = omega (arith, r.ahead) in
+      record { runs_out = subst (λ n. RunsOut (state_of old.process) old.counts old.births n) count stands.1; rolled = r.rolled; since = r.since }
+
+  -- nothing is left to withhold, and it runs
+  pub caught_up : new.ahead ≡ 0 → HasRolled made (held_standing (Some (IsRolling old))) (held_standing (Some (IsRunning new.process)))
+  caught_up none = (
+    (new.counts, new.births, subst (λ n. RollsOn made n old.process old.counts old.births new.process new.counts new.births) none rolls_on),
+    r.few,
+    λ no_step. absurd (omega (arith, no_step, some)),
+  )
+
+  -- something is left
+  pub still_rolls : 1 ≤ new.ahead → HasRolled made (held_standing (Some (IsRolling old))) (held_standing (Some (IsRolling new)))
+  still_rolls left = ((new.ahead, left, rolls_on), r.few, some)
+
+  pub stands_still : 1 ≤ new.ahead → StandsSo (Some (IsRolling new))
+  stands_still left = (left, runs_on made new.ahead (going_of old) (going_of new) (rolls_on.runs_out) r.rolled)
