@@ -94,6 +94,15 @@ fn follow_on<R: Wait, G: Gate>(
     unreachable!()
 }
 
+// Whether the log has grown since the cluster looked at it. Asks only for its length.
+fn has_grown(lock: &LogLock<SharedBus>, seat: &mut LogSeat<SharedBus>, cluster: &Cluster) -> bool
+    requires of { IsOf lock.now seat.old }
+    ensures of { IsOf lock.now seat.new }
+    ensures same { view_of seat.new ≡ retold (view_of seat.old) (told seat.new) }
+{
+    lock.length_now(seat) != cluster.cursor()
+}
+
 // Sleeps until woken, unless the log has grown since the cluster looked at it.
 fn sleep<R: Wait>(
     rt: &R,
@@ -106,9 +115,12 @@ fn sleep<R: Wait>(
     ensures of { IsOf lock.now seat.new }
     ensures same { view_of seat.new ≡ retold (view_of seat.old) (told seat.new) }
 {
+    if has_grown(lock, seat, cluster) {
+        return;
+    }
     let number = cluster.number();
     sleepers.lie_down(number);
-    if lock.length_now(seat) == cluster.cursor() {
+    if !has_grown(lock, seat, cluster) {
         sleepers.sleep(rt, number);
     }
     sleepers.get_up(number);

@@ -18,6 +18,7 @@ use cluster_core::cluster::Cluster;
 use std::sync::{Arc, Wait};
 use sys_text::system::System;
 use t32_base::gate::Gate;
+use t32_base::process::ClusterNo;
 use t32_base::streams::NoMemory;
 
 /// A seat of the lock, with what is new in the log that it has seen. The bus is taken for a moment at each call, and what
@@ -51,6 +52,30 @@ fn has_grown(lock: &LogLock<SharedBus>, seat: &mut LogSeat<SharedBus>, news: &Ne
 {
     let length = lock.length_now(seat);
     !news.is_over && length != news.upto
+}
+
+// Dozes a little before a cluster in which nothing can move tells so: where a letter comes, it has nothing to tell. None
+// comes to a cluster without a process.
+fn doze(
+    lock: &LogLock<SharedBus>,
+    seat: &mut LogSeat<SharedBus>,
+    news: &News,
+    mark: &Mark,
+    number: ClusterNo,
+    sleepers: &Sleepers,
+)
+    requires { IsOf lock.now seat.old }
+    ensures of { IsOf lock.now seat.new }
+    ensures same { view_of seat.new ≡ retold (view_of seat.old) (told seat.new) }
+{
+    if mark.rests.is_empty() {
+        return;
+    }
+    let another_is_up = sleepers.lie_down(number);
+    if !has_grown(lock, seat, news) && another_is_up {
+        sleepers.doze(number);
+    }
+    sleepers.get_up(number);
 }
 
 impl<'a, R: Wait, G: Gate> Port for Seated<'a, R, G> {
@@ -117,6 +142,14 @@ impl<'a, R: Wait, G: Gate> Port for Seated<'a, R, G> {
     }
 
     fn tell(&mut self, cluster: &Cluster, mark: Mark) -> Result<Option<Idled>, NoMemory> {
+        doze(
+            self.lock,
+            &mut self.seat,
+            &self.news,
+            &mark,
+            cluster.number(),
+            self.sleepers,
+        );
         let mut bus = take_for(self.rt, self.lock, &mut self.seat, cluster);
         let told = tell_to(&mut bus, cluster, mark);
         let news = news_of(&bus, cluster.cursor());

@@ -1,21 +1,27 @@
-//! The clusters of a run that sleep, and who wakes them. No clause rests on it: a cluster that is woken for nothing
-//! looks, and sleeps again.
+//! The clusters of a run that doze or sleep, and who wakes them. No clause rests on it: a cluster that is woken for
+//! nothing looks, and sleeps again.
 use std::alloc::Global;
 use std::sync::Wait;
 use std::sync::atomic::{AtomicU64, Ordering};
-use std::thread::Parker;
+use std::thread::{Parker, yield_now};
 use t32_base::process::ClusterNo;
 use t32_base::streams::NoMemory;
 
-/// Which clusters sleep. A letter wakes the home of its receiver alone; a cluster that sleeps on takes in what it missed
-/// when it is woken next. The last one that lies down wakes all others, since the run ends when each has told that
-/// nothing can move in it; the end of the log wakes all.
+// How often a cluster that dozes lets other threads run before it sleeps. To fall asleep and to be woken takes as long as
+// some letters take, and a letter that comes meanwhile finds a cluster that dozes awake. So many are enough for a letter
+// to pass round sixteen clusters on four processors, and few enough that a cluster to which none comes soon leaves its
+// processor to those that compute.
+const YIELDS: u32 = 100;
+
+/// Which clusters lie: doze, or sleep. A letter wakes the home of its receiver alone; a cluster that lies on takes in what
+/// it missed when it is woken next. The last one that lies down wakes all others, since the run ends when each has told
+/// that nothing can move in it; the end of the log wakes all.
 ///
 /// No wake-up is lost, since all steps on these words and on the length of the log stand in one order: who is to sleep
-/// lies down first and then looks at the length once more, and who adds an entry looks only then who sleeps.
+/// lies down first and then looks at the length once more, and who adds an entry looks only then who lies.
 #[derive(Drop)]
 pub struct Sleepers {
-    // A bit for each cluster that sleeps, or is about to.
+    // A bit for each cluster that lies, or is about to.
     asleep: AtomicU64,
     all: u64,
     parkers: Vec<Parker>,
@@ -37,29 +43,52 @@ impl Sleepers {
         })
     }
 
-    /// A cluster is to sleep: whoever adds an entry for it from now on wakes it.
-    pub fn lie_down(&self, number: ClusterNo) {
+    /// A cluster is to doze or to sleep: whoever adds an entry for it from now on wakes it. Answers whether another is up.
+    pub fn lie_down(&self, number: ClusterNo) -> bool {
         let bit = bit_of(number);
         let before = self.asleep.fetch_or(bit, Ordering::SeqCst);
         if before | bit == self.all {
             self.wake_these(self.all ^ bit);
+            return false;
+        }
+        true
+    }
+
+    /// Dozes until woken, after `lie_down`, but not for long: it lets other threads run.
+    pub fn doze(&self, number: ClusterNo) {
+        for _ in 0..YIELDS {
+            if !self.lies(number) {
+                return;
+            }
+            yield_now();
         }
     }
 
-    /// Sleeps until woken, after `lie_down`. A wake-up that came too late for an earlier sleep ends this one at once, so
-    /// the cluster gets up afterwards (`get_up`).
+    /// Sleeps until woken, after `lie_down`. A wake-up of one that dozed, or that came too late for an earlier sleep, does
+    /// not end it.
     pub fn sleep<R: Wait>(&self, rt: &R, number: ClusterNo) {
-        if let Some(parker) = self.parkers.get(usize::from(number.0)) {
+        let Some(parker) = self.parkers.get(usize::from(number.0)) else {
+            return;
+        };
+        for _ in rt.forever() {
+            if !self.lies(number) {
+                return;
+            }
             parker.park(rt);
         }
     }
 
-    /// A cluster that lay down sleeps no longer, or does not sleep after all.
+    /// A cluster that lay down lies no longer, or gets up before it slept.
     pub fn get_up(&self, number: ClusterNo) {
         self.asleep.fetch_and(!bit_of(number), Ordering::SeqCst);
     }
 
-    /// Wakes a cluster, if it sleeps.
+    // Whether a cluster lies still, since none has woken it.
+    fn lies(&self, number: ClusterNo) -> bool {
+        self.asleep.load(Ordering::SeqCst) & bit_of(number) != 0
+    }
+
+    /// Wakes a cluster, if it lies.
     pub fn wake(&self, number: ClusterNo) {
         let bit = bit_of(number);
         if self.asleep.load(Ordering::SeqCst) & bit != 0 {
@@ -67,12 +96,12 @@ impl Sleepers {
         }
     }
 
-    /// Wakes each cluster that sleeps.
+    /// Wakes each cluster that lies.
     pub fn wake_all(&self) {
         self.wake_these(self.all);
     }
 
-    // Wakes those of these that sleep.
+    // Wakes those of these that lie.
     fn wake_these(&self, these: u64) {
         let woken = self.asleep.fetch_and(!these, Ordering::SeqCst) & these;
         for (place, parker) in self.parkers.iter().enumerate() {
