@@ -184,67 +184,90 @@ fn is_covered(places: &Placement, wanted: [bool; 3]) -> bool {
         && places.covered(ClusterNo(2)) == wanted[2]
 }
 
+const CHILD: Placed = Placed {
+    pid: Pid(48),
+    ..FIRST
+};
+
+const OVER: Placed = Placed {
+    pid: Pid(32),
+    ended: true,
+    ..FIRST
+};
+
+const SYNCED: Placed = Placed {
+    synced: true,
+    ..FIRST
+};
+
+// Cluster 0 is lost: what runs there moves to its backup, and has none. What has ended stays.
+const MOVED: Placed = Placed {
+    home: ClusterNo(1),
+    backup: None,
+    lost: Some(ClusterNo(0)),
+    ..SYNCED
+};
+
+const MOVED_CHILD: Placed = Placed {
+    pid: Pid(48),
+    synced: false,
+    ..MOVED
+};
+
+// It returns, and takes the backups of two that have not run since.
+const KEPT: Placed = Placed {
+    backup: Some(ClusterNo(0)),
+    ..MOVED
+};
+
+const KEPT_CHILD: Placed = Placed {
+    backup: Some(ClusterNo(0)),
+    ..MOVED_CHILD
+};
+
+// Cluster 2 is lost, with a backup. It returns, and takes a new one of a process that has run.
+const ALONE: Placed = Placed {
+    backup: None,
+    lost: Some(ClusterNo(2)),
+    ..SECOND
+};
+
+const RENEWED: Placed = Placed {
+    backup: Some(ClusterNo(2)),
+    synced: true,
+    ..ALONE
+};
+
+// How many entries were taken in; which processes are placed, and whether each cluster is covered.
+static LOG: [(u8, &[Placed], [bool; 3]); 5] = [
+    (4, &[SYNCED, SECOND, OVER, CHILD], [true, true, true]),
+    (5, &[MOVED, SECOND, OVER, MOVED_CHILD], [true, false, true]),
+    (7, &[KEPT, SECOND, OVER, KEPT_CHILD], [true, true, true]),
+    (8, &[KEPT, ALONE, OVER, KEPT_CHILD], [true, false, true]),
+    (10, &[KEPT, RENEWED, OVER, KEPT_CHILD], [true, false, true]),
+];
+
+// Whether after so many entries just these are placed, and in a copy, and which clusters are covered.
+fn after_shows(
+    alloc: Global,
+    steps: u8,
+    wanted: &[Placed],
+    covered: [bool; 3],
+) -> Result<(bool, bool, bool), NoMemory> {
+    let places = after(alloc, steps)?;
+    let copy = places.copy()?;
+    Ok((
+        shows(&places, wanted),
+        is_covered(&places, covered),
+        shows(&copy, wanted),
+    ))
+}
+
 #[test]
 fn a_log_is_taken_in_entry_by_entry(rt: HostRuntime) -> Result<(), Fail> {
-    let alloc = rt.alloc();
-    let child = Placed {
-        pid: Pid(48),
-        ..FIRST
-    };
-    let over = Placed {
-        pid: Pid(32),
-        ended: true,
-        ..FIRST
-    };
-    let synced = Placed {
-        synced: true,
-        ..FIRST
-    };
-    // Cluster 0 is lost: what runs there moves to its backup, and has none. What has ended stays.
-    let moved = Placed {
-        home: ClusterNo(1),
-        backup: None,
-        lost: Some(ClusterNo(0)),
-        ..synced
-    };
-    let moved_child = Placed {
-        pid: Pid(48),
-        synced: false,
-        ..moved
-    };
-    // It returns, and takes the backups of two that have not run since.
-    let kept = Placed {
-        backup: Some(ClusterNo(0)),
-        ..moved
-    };
-    let kept_child = Placed {
-        backup: Some(ClusterNo(0)),
-        ..moved_child
-    };
-    // Cluster 2 is lost, with a backup. It returns, and takes a new one of a process that has run.
-    let alone = Placed {
-        backup: None,
-        lost: Some(ClusterNo(2)),
-        ..SECOND
-    };
-    let renewed = Placed {
-        backup: Some(ClusterNo(2)),
-        synced: true,
-        ..alone
-    };
-    let cases = [
-        (4, [synced, SECOND, over, child], [true, true, true]),
-        (5, [moved, SECOND, over, moved_child], [true, false, true]),
-        (7, [kept, SECOND, over, kept_child], [true, true, true]),
-        (8, [kept, alone, over, kept_child], [true, false, true]),
-        (10, [kept, renewed, over, kept_child], [true, false, true]),
-    ];
-    for (steps, wanted, covered) in cases {
-        let places = after(alloc, steps)?;
-        assert!(rt; shows(&places, &wanted));
-        assert!(rt; is_covered(&places, covered));
-        let copy = places.copy()?;
-        assert!(rt; shows(&copy, &wanted));
+    for (steps, wanted, covered) in LOG {
+        let shown = after_shows(rt.alloc(), steps, wanted, covered)?;
+        assert_eq!(rt; shown, (true, true, true), "after {steps}");
     }
     Ok(())
 }
