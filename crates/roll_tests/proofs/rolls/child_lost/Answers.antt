@@ -2,7 +2,7 @@ use Rattle.std.proofs.Common.{[], ap}
 use Rattle.proc_state.specs.State.{ProcState, state_of}
 use Rattle.roll_forward.specs.Rolling.{with_saved}
 use Rattle.roll_forward.proofs.Examples.{can_roll_alike, counted, two_first, two_start}
-use Rattle.roll_forward.proofs.tests.child_lost.Goals as goal
+use Rattle.roll_tests.proofs.rolls.child_lost.Goals as goal
 
 pub start_child-requires-clause-runs_out : goal.start_child-requires-clause-runs_out
 start_child-requires-clause-runs_out c =

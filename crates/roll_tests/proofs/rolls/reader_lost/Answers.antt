@@ -5,7 +5,7 @@ use Rattle.proc_state.specs.State.{ProcState, linked_to}
 use Rattle.backup_queue.specs.Queue.{saved_with}
 use Rattle.roll_forward.specs.Rolling.{started, with_saved}
 use Rattle.roll_forward.proofs.Examples.{can_roll_alike, counted, pid, reader_first, reader_saved, reader_start}
-use Rattle.roll_forward.proofs.tests.reader_lost.Goals as goal
+use Rattle.roll_tests.proofs.rolls.reader_lost.Goals as goal
 
 -- a record with one letter saved more
 saved_one : BackRec → Letter → BackRec
