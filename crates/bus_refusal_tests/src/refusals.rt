@@ -2,7 +2,6 @@
 ghost use Rattle.std.specs.Prelude.{◌≡◌, IfOk};
 ghost use Rattle.std.specs.Arc.{arc_value};
 
-use crate::systems::HI;
 use bus_msg::entry::{By, Post, What};
 use bus_order::refused::Refused;
 use cluster_run::booting::start;
@@ -14,6 +13,7 @@ use sys_text::read_system;
 use sys_text::system::System;
 use t32_base::process::{ClusterNo, End, Pid};
 use t32_base::streams::NoMemory;
+use test_systems::HI;
 
 fn shared(alloc: Global, system: System) -> Result<Arc<System>, NoMemory>
     ensures { IfOk result (λ shared. arc_value shared ≡ system) }
