@@ -1,11 +1,9 @@
 //! Runs of clusters by the word `sim` whose processes send letters to each other, or share a home. The expected
 //! schedules follow from the programs and the rule of the turns, by hand: the first item of each process is
 //! counted from its first instruction to what it sends first, and each later one from there to the next.
-use crate::calls::answers;
-use crate::systems::{
-    BUSY, CONVERSATION, LINKED, NEIGHBOURS, TALK, THREE, WAIT, WAITING_NEIGHBOURS,
-};
+use crate::answers::assert_answer;
 use std::test::Fail;
+use test_systems::{BUSY, CONVERSATION, LINKED, NEIGHBOURS, TALK, THREE, WAIT, WAITING_NEIGHBOURS};
 
 // Both trap at once: each sends an end letter to the other, and then its exit.
 const LINKED_ENDS: &str = "tty 0 0\n\npid 16 trap 2\npid 32 trap 2\n";
@@ -51,36 +49,49 @@ const BUSY_ENDS: &str = "tty 0 0\n\ntty 1 3\nhi\n\npid 16 limit\npid 32 exit 0\n
 
 const BUSY_ITEMS: &str = "schedule 3\nrun 32 6\nrun 32 4\nrun 16 202\n";
 
+// A system, what `plain` prints of it, how many entries the log has, and the schedule.
+static TALKS: [(&str, &str, u32, &str); 8] = [
+    (LINKED, LINKED_ENDS, 5, LINKED_ITEMS),
+    (NEIGHBOURS, NEIGHBOURS_ENDS, 3, NEIGHBOURS_ITEMS),
+    (WAIT, WAIT_ENDS, 1, WAIT_ITEMS),
+    (
+        WAITING_NEIGHBOURS,
+        WAITING_NEIGHBOURS_ENDS,
+        1,
+        WAITING_NEIGHBOURS_ITEMS,
+    ),
+    (TALK, TALK_ENDS, 7, TALK_ITEMS),
+    (CONVERSATION, CONVERSATION_ENDS, 14, CONVERSATION_ITEMS),
+    (THREE, THREE_ENDS, 10, THREE_ITEMS),
+    (BUSY, BUSY_ENDS, 4, BUSY_ITEMS),
+];
+
 #[test]
 fn processes_talk_and_share_a_home(rt: HostRuntime) -> Result<(), Fail> {
-    let alloc = rt.alloc();
-    for (system, ends, entries, items) in [
-        (LINKED, LINKED_ENDS, 5, LINKED_ITEMS),
-        (NEIGHBOURS, NEIGHBOURS_ENDS, 3, NEIGHBOURS_ITEMS),
-        (WAIT, WAIT_ENDS, 1, WAIT_ITEMS),
-        (
-            WAITING_NEIGHBOURS,
-            WAITING_NEIGHBOURS_ENDS,
-            1,
-            WAITING_NEIGHBOURS_ITEMS,
-        ),
-        (TALK, TALK_ENDS, 7, TALK_ITEMS),
-        (CONVERSATION, CONVERSATION_ENDS, 14, CONVERSATION_ITEMS),
-        (THREE, THREE_ENDS, 10, THREE_ITEMS),
-        (BUSY, BUSY_ENDS, 4, BUSY_ITEMS),
-    ] {
-        let report = format!(in alloc;
+    for (system, ends, entries, items) in TALKS {
+        let report = format!(in rt.alloc();
             "{ends}crash none\nbus {entries} syncs 0 withheld 0\n{items}"
         )?;
-        assert_eq!(rt;
-            answers(&rt, b"sim", system.as_bytes(), report.as_str())?,
-            0
-        );
+        assert_answer(&rt, b"sim", system, 0, report.as_str())?;
+    }
+    Ok(())
+}
 
-        // The kernel without failures makes the same of the schedule, and also of its own order.
-        let pasted = format!(in alloc; "{system}{items}")?;
-        assert_eq!(rt; answers(&rt, b"plain", pasted.as_bytes(), ends)?, 0);
-        assert_eq!(rt; answers(&rt, b"plain", system.as_bytes(), ends)?, 0);
+#[test]
+fn the_kernel_without_failures_makes_the_same_of_the_schedule(rt: HostRuntime) -> Result<(), Fail> {
+    for (system, ends, _, items) in TALKS {
+        let pasted = format!(in rt.alloc(); "{system}{items}")?;
+        assert_answer(&rt, b"plain", pasted.as_str(), 0, ends)?;
+    }
+    Ok(())
+}
+
+#[test]
+fn the_kernel_without_failures_makes_the_same_of_its_own_order(
+    rt: HostRuntime,
+) -> Result<(), Fail> {
+    for (system, ends, _, _) in TALKS {
+        assert_answer(&rt, b"plain", system, 0, ends)?;
     }
     Ok(())
 }
