@@ -1,6 +1,6 @@
-use crate::command::{Command, command_of};
-use crate::script::allowed;
+//! The words of a line: the command that they are, its options and its script of failures.
 use cert_sched::script::{Script, ScriptWord};
+use command_words::{Command, allowed, command_of};
 use std::alloc::Global;
 use std::test::Fail;
 use t32_base::lists::{Bytes, List, Text};
