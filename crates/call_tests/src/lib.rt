@@ -3,6 +3,10 @@
 #![tactic(auto)]
 
 #[cfg(test)]
+mod process;
+#[cfg(test)]
 mod reads;
 #[cfg(test)]
 mod steps;
+#[cfg(test)]
+mod writes;

@@ -1,133 +1,97 @@
-//! Reads, closed ends and waiting, at the edges of their calls.
-ghost use Rattle.std.specs.Prelude.{◌≡◌, ◌<◌, ◌+◌, OnOk};
-
-use crate::steps::{calling, set};
+//! Reads and waiting, at the edges of their calls.
+use crate::process::{
+    REFUSED_ADDRESS, REFUSED_END, again, answers, arrive, calling, is_blocked, is_silent, letters,
+    linked, say, set, shown, standing, with, with_ends,
+};
 use proc_state::process::Process;
-use rv_cpu::registers::read;
 use std::alloc::Global;
 use std::test::Fail;
-use sys_calls::stepping::{can_step, step};
-use sys_calls::steps::{Emission, Step};
-use t32_base::letter::{Body, Letter, To};
-use t32_base::process::{EndState, Pid, Small};
-use t32_base::shared_bytes::SharedBytes;
+use sys_calls::stepping::can_step;
+use t32_base::letter::Body;
+use t32_base::process::{EndState, Pid};
 use t32_base::streams::NoMemory;
 
-const REFUSED_END: u32 = 0xfffffff7;
-
-const REFUSED_ADDRESS: u32 = 0xfffffff2;
-
-// Some bytes arrive for an end of process 16.
-fn say(alloc: Global, p: &mut Process, end: u8, bytes: &[u8]) -> Result<(), NoMemory>
-    requires { p.old.mail.next < 100 }
-    ensures { OnOk result (p.new.mail.next ≡ p.old.mail.next + 1) }
-{
-    let said = SharedBytes::copy_of(alloc, bytes)?;
-    arrive(p, end, Body::Said(said))
+// Whether a process can make a step, and whether it was blocked when it tried.
+fn tried(alloc: Global, p: &mut Process) -> Result<(bool, bool), NoMemory> {
+    let can = can_step(p);
+    Ok((can, is_blocked(alloc, p)?))
 }
 
-fn arrive(p: &mut Process, end: u8, body: Body) -> Result<(), NoMemory>
-    requires { p.old.mail.next < 100 }
-    ensures { OnOk result (p.new.mail.next ≡ p.old.mail.next + 1) }
-{
-    p.deliver(Letter {
-        from: Pid(17),
-        out: 1,
-        to: To::Proc(Pid(16), end),
-        body,
-    })
+// Reads again from end 1: whether the step was silent, its answer, and whether a letter stays there.
+fn read_again(alloc: Global, p: &mut Process) -> Result<(bool, u32, bool), NoMemory> {
+    again(&mut p.small, 1);
+    let silent = is_silent(alloc, p)?;
+    Ok((silent, answers(p).0, letters(p).0))
 }
 
-// The state with other ends: 0 is the terminal, 1 and 31 are linked, 2 is finished, 3 is shut.
-fn with_ends(small: &Small) -> Small {
-    let mut ends = [EndState::Never; 32];
-    ends[0] = EndState::Tty(0);
-    ends[1] = linked(5, false);
-    ends[2] = linked(6, true);
-    ends[3] = EndState::Shut;
-    ends[31] = linked(7, false);
-    with(small, ends)
-}
-
-fn linked(far: u8, finished: bool) -> EndState {
-    EndState::Linked {
-        peer: Pid(17),
-        far,
-        finished,
-    }
-}
-
-fn with(small: &Small, ends: [EndState; 32]) -> Small {
-    Small {
-        pid: Pid(16),
-        regs: small.regs.copy(),
-        ends,
-        handler: 0,
-        frame: None,
-        left: 1000,
-        steps: 0,
-        births: 0,
-        status: t32_base::process::Status::Live,
-        pages: 1,
-    }
-}
-
-// A process with these ends and a letter of five bytes on the ends 3, 2 and 1, in this order.
-fn standing(alloc: Global, a0: u32, a1: u32, a2: u32, a7: u32) -> Result<Process, NoMemory> {
-    let mut p = calling(alloc, a0, a1, a2, a7)?;
-    say(alloc, &mut p, 3, b"shut!")?;
-    say(alloc, &mut p, 2, b"ended")?;
+// A process that reads end 1, where five bytes and an end letter arrived.
+fn with_two_letters(alloc: Global) -> Result<Process, NoMemory> {
+    let mut p = calling(alloc, 1, 0x10010, 2, 3)?;
     say(alloc, &mut p, 1, b"abcde")?;
-    p.small = with_ends(&p.small);
+    arrive(&mut p, 1, Body::EndOf)?;
     Ok(p)
-}
-
-// Back to the call, with another a0.
-fn again(small: &mut Small, a0: u32) {
-    small.regs.pc = 0x10000;
-    set(small, 10, a0);
 }
 
 #[test]
 fn a_read_takes_the_first_letter_of_its_end(rt: HostRuntime) -> Result<(), Fail> {
     let alloc = rt.alloc();
-    let mut p = calling(alloc, 1, 0x10010, 2, 3)?;
-    say(alloc, &mut p, 1, b"abcde")?;
-    arrive(&mut p, 1, Body::EndOf)?;
+    let mut p = with_two_letters(alloc)?;
     assert_eq!(rt; p.link(Pid(17), 1), 1);
     for (answer, more) in [(2, true), (0, false), (0, false)] {
-        again(&mut p.small, 1);
-        assert!(rt; matches!(step(alloc, &mut p)?, Step::Silent));
-        assert_eq!(rt; read(&p.small.regs, 10), answer);
-        assert_eq!(rt; p.mail.first_on(1).is_some(), more);
+        assert_eq!(rt; read_again(alloc, &mut p)?, (true, answer, more));
     }
-    assert_eq!(rt; p.ram.load(0x10010, 2), Ok(0x6261));
-    assert_eq!(rt; p.ram.load(0x10012, 1), Ok(0));
+    assert_eq!(rt;
+        (p.ram.load(0x10010, 2), p.ram.load(0x10012, 1)),
+        (Ok(0x6261), Ok(0))
+    );
     assert_eq!(rt; p.read.as_slice(), [0, 1].as_slice());
     Ok(())
+}
+
+// Reads again from any end: whether it could, whether the step was silent, and its answers.
+fn read_any_again(alloc: Global, p: &mut Process) -> Result<(bool, bool, (u32, u32)), NoMemory> {
+    set(&mut p.small, 11, 8);
+    again(&mut p.small, 0x10010);
+    let can = can_step(p);
+    let silent = is_silent(alloc, p)?;
+    Ok((can, silent, answers(p)))
+}
+
+// A process that reads any end, with a letter on end 3 and a later one on end 1.
+fn with_two_ends(alloc: Global) -> Result<Process, NoMemory> {
+    let mut p = calling(alloc, 0x10010, 8, 0, 4)?;
+    say(alloc, &mut p, 3, b"third")?;
+    say(alloc, &mut p, 1, b"one")?;
+    Ok(p)
 }
 
 #[test]
 fn a_read_of_any_end_takes_the_letters_as_they_came(rt: HostRuntime) -> Result<(), Fail> {
     let alloc = rt.alloc();
-    let mut p = calling(alloc, 0x10010, 8, 0, 4)?;
-    say(alloc, &mut p, 3, b"third")?;
-    say(alloc, &mut p, 1, b"one")?;
+    let mut p = with_two_ends(alloc)?;
     for number in [1, 2, 3] {
         assert_eq!(rt; p.link(Pid(17), 1), number);
     }
     for (end, count) in [(3, 5), (1, 3)] {
-        set(&mut p.small, 11, 8);
-        again(&mut p.small, 0x10010);
-        assert!(rt; can_step(&p));
-        assert!(rt; matches!(step(alloc, &mut p)?, Step::Silent));
-        assert_eq!(rt; read(&p.small.regs, 10), count);
-        assert_eq!(rt; read(&p.small.regs, 11), end);
+        assert_eq!(rt; read_any_again(alloc, &mut p)?, (true, true, (count, end)));
     }
     again(&mut p.small, 0x10010);
-    assert!(rt; !can_step(&p));
-    assert!(rt; matches!(step(alloc, &mut p)?, Step::Blocked));
+    assert_eq!(rt; tried(alloc, &mut p)?, (false, true));
     Ok(())
+}
+
+// A read by a process with its letters: whether it could be made, whether it was silent, its answer, and
+// whether a letter stays on each of the ends 1, 2 and 3.
+fn read_one(
+    alloc: Global,
+    end: u32,
+    ptr: u32,
+    max: u32,
+) -> Result<(bool, bool, u32, (bool, bool, bool)), NoMemory> {
+    let mut p = standing(alloc, end, ptr, max, 3)?;
+    let can = can_step(&p);
+    let silent = is_silent(alloc, &mut p)?;
+    Ok((can, silent, answers(&p).0, letters(&p)))
 }
 
 #[test]
@@ -155,20 +119,26 @@ fn a_read_checks_its_end_and_then_its_buffer(rt: HostRuntime) -> Result<(), Fail
         (1, 0x10000, 0xffffffff, 5, false),
         (1, 0, 0, 0, false),
     ] {
-        let mut p = standing(alloc, end, ptr, max, 3)?;
-        assert!(rt; can_step(&p));
-        assert!(rt; matches!(step(alloc, &mut p)?, Step::Silent));
-        assert_eq!(rt; read(&p.small.regs, 10), answer);
-        assert_eq!(rt; p.mail.first_on(1).is_some(), stays);
-        assert!(rt; p.mail.first_on(2).is_some() && p.mail.first_on(3).is_some());
+        assert_eq!(rt;
+            read_one(alloc, end, ptr, max)?,
+            (true, true, answer, (stays, true, true))
+        );
     }
     Ok(())
+}
+
+// A read of any end by a process with its letters: whether it was silent, its answers, and whether the letter
+// for the shut end stays.
+fn read_any(alloc: Global, ptr: u32, max: u32) -> Result<(bool, (u32, u32), bool), NoMemory> {
+    let mut p = standing(alloc, ptr, max, 0, 4)?;
+    let silent = is_silent(alloc, &mut p)?;
+    Ok((silent, answers(&p), letters(&p).2))
 }
 
 #[test]
 fn a_read_of_any_end_checks_its_buffer_and_then_its_ends(rt: HostRuntime) -> Result<(), Fail> {
     let alloc = rt.alloc();
-    // The address and the most bytes; a0 and a1 after it. The letter for the shut end stays.
+    // The address and the most bytes; a0 and a1 after it.
     for (ptr, max, answer, end) in [
         (0x10100, 1, REFUSED_ADDRESS, 1),
         (0x10001, 257, REFUSED_ADDRESS, 257),
@@ -176,90 +146,43 @@ fn a_read_of_any_end_checks_its_buffer_and_then_its_ends(rt: HostRuntime) -> Res
         (0x100ff, 1, 1, 2),
         (0, 0, 0, 2),
     ] {
-        let mut p = standing(alloc, ptr, max, 0, 4)?;
-        assert!(rt; matches!(step(alloc, &mut p)?, Step::Silent));
-        assert_eq!(rt; read(&p.small.regs, 10), answer);
-        assert_eq!(rt; read(&p.small.regs, 11), end);
-        assert!(rt; p.mail.first_on(3).is_some());
-    }
-    // No end is linked and not finished.
-    let mut ends = [EndState::Never; 32];
-    ends[2] = linked(6, true);
-    for (ptr, answer) in [(0x10100, REFUSED_ADDRESS), (0x10000, REFUSED_END)] {
-        let mut p = standing(alloc, ptr, 1, 0, 4)?;
-        p.small = with(&p.small, ends);
-        assert!(rt; matches!(step(alloc, &mut p)?, Step::Silent));
-        assert_eq!(rt; read(&p.small.regs, 10), answer);
+        let made = read_any(alloc, ptr, max)?;
+        assert_eq!(rt; made, (true, (answer, end), true));
     }
     Ok(())
+}
+
+// A read of any end by a process with its letters, none of whose ends is linked and not finished: whether it was
+// silent, and its answer.
+fn read_finished(alloc: Global, ptr: u32) -> Result<(bool, u32), NoMemory> {
+    let mut ends = [EndState::Never; 32];
+    ends[2] = linked(6, true);
+    let mut p = standing(alloc, ptr, 1, 0, 4)?;
+    p.small = with(&p.small, ends);
+    let silent = is_silent(alloc, &mut p)?;
+    Ok((silent, answers(&p).0))
+}
+
+#[test]
+fn a_read_of_any_end_is_refused_where_all_are_finished(rt: HostRuntime) -> Result<(), Fail> {
+    for (ptr, answer) in [(0x10100, REFUSED_ADDRESS), (0x10000, REFUSED_END)] {
+        assert_eq!(rt; read_finished(rt.alloc(), ptr)?, (true, answer));
+    }
+    Ok(())
+}
+
+// A process that reads end 31, for which nothing has come.
+fn with_no_letter(alloc: Global) -> Result<Process, NoMemory> {
+    let mut p = calling(alloc, 31, 0x10010, 3, 3)?;
+    p.small = with_ends(&p.small);
+    Ok(p)
 }
 
 #[test]
 fn a_read_without_a_letter_waits(rt: HostRuntime) -> Result<(), Fail> {
     let alloc = rt.alloc();
-    let mut p = calling(alloc, 31, 0x10010, 3, 3)?;
-    p.small = with_ends(&p.small);
-    assert!(rt; !can_step(&p));
-    assert!(rt; matches!(step(alloc, &mut p)?, Step::Blocked));
-    assert_eq!(rt; p.small.steps, 0);
-    assert_eq!(rt; p.small.regs.pc, 0x10000);
-    assert_eq!(rt; read(&p.small.regs, 10), 31);
-    Ok(())
-}
-
-#[test]
-fn a_write_goes_where_its_end_leads(rt: HostRuntime) -> Result<(), Fail> {
-    let alloc = rt.alloc();
-    for (end, to, answer) in [
-        (0, Some(To::Tty(0)), 4),
-        (1, Some(To::Proc(Pid(17), 5)), 4),
-        (2, Some(To::Proc(Pid(17), 6)), 4),
-        (3, None, REFUSED_END),
-        (4, None, REFUSED_END),
-        (31, Some(To::Proc(Pid(17), 7)), 4),
-    ] {
-        let mut p = standing(alloc, end, 0x10000, 4, 2)?;
-        match step(alloc, &mut p)? {
-            Step::Emit(Emission::Mail(letter)) => assert_eq!(rt; Some(letter.to), to),
-            _ => assert_eq!(rt; None, to),
-        }
-        assert_eq!(rt; read(&p.small.regs, 10), answer);
-    }
-    Ok(())
-}
-
-// The end letter that a step sends: its end, and the end to which it goes.
-fn ended(step: &Step) -> Option<(u8, To)> {
-    match step {
-        Step::Emit(Emission::Mail(letter)) => match &letter.body {
-            Body::EndOf => Some((letter.out, letter.to)),
-            Body::Said(_) | Body::Signal(_) => None,
-        },
-        _ => None,
-    }
-}
-
-#[test]
-fn a_close_shuts_an_open_end_once(rt: HostRuntime) -> Result<(), Fail> {
-    let alloc = rt.alloc();
-    // The end; the end letter of the first close, and its answer. The second is refused.
-    for (end, letter, answer) in [
-        (0, None, 0),
-        (1, Some((1, To::Proc(Pid(17), 5))), 0),
-        (2, Some((2, To::Proc(Pid(17), 6))), 0),
-        (31, Some((31, To::Proc(Pid(17), 7))), 0),
-        (3, None, REFUSED_END),
-        (4, None, REFUSED_END),
-        (32, None, REFUSED_END),
-        (0xffffffff, None, REFUSED_END),
-    ] {
-        let mut p = standing(alloc, end, 0x10000, 1, 10)?;
-        assert_eq!(rt; ended(&step(alloc, &mut p)?), letter);
-        assert_eq!(rt; read(&p.small.regs, 10), answer);
-        again(&mut p.small, end);
-        assert!(rt; matches!(step(alloc, &mut p)?, Step::Silent));
-        assert_eq!(rt; read(&p.small.regs, 10), REFUSED_END);
-        assert_eq!(rt; p.small.steps, 2);
-    }
+    let mut p = with_no_letter(alloc)?;
+    assert_eq!(rt; tried(alloc, &mut p)?, (false, true));
+    assert_eq!(rt; shown(&p), (31, 0x10000, 0));
     Ok(())
 }

@@ -4,8 +4,6 @@
 mod command;
 mod options;
 mod script;
-#[cfg(test)]
-mod tests;
 
 pub use command::{Command, command_of};
 pub use script::allowed;

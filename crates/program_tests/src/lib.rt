@@ -1,14 +1,8 @@
-//! Tests of the program by its words, its input and its output: what each command prints, and the status with which
-//! it ends. The expected values come from the worked examples of the formats, or follow from the programs by hand.
+//! Tests of the program as a whole: which words it takes, what it tells of its input and its output, and which run it hands
+//! out.
 #![tactic(auto)]
 
 #[cfg(test)]
-mod calls;
+mod handed;
 #[cfg(test)]
 mod program;
-#[cfg(test)]
-mod simulated;
-#[cfg(test)]
-mod systems;
-#[cfg(test)]
-mod talks;

@@ -1,8 +1,7 @@
-//! Tests of the schedule of a log, and of a bus call by call. The expected values come from the worked examples of the
-//! formats.
+//! Tests of schedules: of a log, and as a text. The expected values come from the worked examples of the formats.
 #![tactic(auto)]
 
 #[cfg(test)]
-mod bus;
+mod logs;
 #[cfg(test)]
-mod schedules;
+mod texts;

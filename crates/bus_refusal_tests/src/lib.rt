@@ -1,0 +1,5 @@
+//! Tests of what the bus refuses.
+#![tactic(auto)]
+
+#[cfg(test)]
+mod refusals;

@@ -1,0 +1,6 @@
+//! Tests of where the entries of a log place each process and where they go to. The expected values come from the tables
+//! of the formats.
+#![tactic(auto)]
+
+#[cfg(test)]
+mod places;

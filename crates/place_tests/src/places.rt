@@ -1,0 +1,430 @@
+//! One system of three clusters with two roots, whose placements and routes were worked by hand.
+ghost use Rattle.channel_table.specs.Changes.{CanBeAbsorbed, IsRoutable};
+
+use bus_msg::entry::{By, Cause, Dests, Entry, Post, What};
+use bus_msg::placed::Placed;
+use bus_msg::shared::Shared;
+use channel_table::placement::Placement;
+use std::alloc::Global;
+use std::test::Fail;
+use t32_base::letter::{BackRec, Body, Letter, To};
+use t32_base::lists::List;
+use t32_base::process::{ClusterNo, Counts, End, EndState, Mode, Pid, Regs, Small, Status};
+use t32_base::shared_bytes::SharedBytes;
+use t32_base::streams::NoMemory;
+
+// The first root, at home in cluster 0 with its backup in cluster 1.
+const FIRST: Placed = Placed {
+    pid: Pid(16),
+    home: ClusterNo(0),
+    backup: Some(ClusterNo(1)),
+    mode: Mode::Half,
+    lost: None,
+    ended: false,
+    synced: false,
+};
+
+// The second, at home in cluster 1 with its backup in cluster 2.
+const SECOND: Placed = Placed {
+    pid: Pid(17),
+    home: ClusterNo(1),
+    backup: Some(ClusterNo(2)),
+    mode: Mode::Full,
+    lost: None,
+    ended: false,
+    synced: false,
+};
+
+// Three clusters, of which 1 and 2 serve pages.
+fn booted(alloc: Global) -> Result<Placement, NoMemory> {
+    Placement::boot(alloc, 3, (ClusterNo(1), ClusterNo(2)), &[FIRST, SECOND])
+}
+
+// ---- entries taken in
+
+fn absorbs(places: &mut Placement, what: What) -> Result<(), NoMemory>
+    requires { CanBeAbsorbed places.old what }
+{
+    places.absorb(&Entry {
+        place: 0,
+        post: Post { by: By::Bus, what },
+        dests: to(0),
+    })
+}
+
+// A child is born, where it may be.
+fn bears(places: &mut Placement, parent: Pid, child: Pid) -> Result<(), NoMemory> {
+    if let Some(placed) = places.get(parent) {
+        if places.get(child).is_none() && places.next_serial(placed.home) < 100 {
+            return places.add_birth(parent, child);
+        }
+    }
+    Ok(())
+}
+
+fn small(pid: Pid) -> Small {
+    Small {
+        pid,
+        regs: Regs::new(0),
+        ends: [EndState::Never; 32],
+        handler: 0,
+        frame: None,
+        left: 0,
+        steps: 0,
+        births: 0,
+        status: Status::Live,
+        pages: 1,
+    }
+}
+
+fn records(alloc: Global, pids: &[u32]) -> Result<List<BackRec>, NoMemory> {
+    let mut recs = List::new(alloc);
+    for pid in pids {
+        recs.push(BackRec {
+            pid: Pid(*pid),
+            state: None,
+            saved: List::new(alloc),
+            next: 0,
+            counts: Counts {
+                ends: [0; 32],
+                signals: 0,
+            },
+            births: List::new(alloc),
+        })?;
+    }
+    Ok(recs)
+}
+
+fn exit(places: &mut Placement, pid: Pid) -> Result<(), NoMemory> {
+    absorbs(
+        places,
+        What::Exit {
+            pid,
+            at: 2,
+            end: End::Exit(0),
+        },
+    )
+}
+
+fn sync(alloc: Global, places: &mut Placement, pid: Pid) -> Result<(), NoMemory> {
+    absorbs(
+        places,
+        What::Sync {
+            pid,
+            small: Shared::new(alloc, small(pid))?,
+            read: List::new(alloc),
+            took: None,
+        },
+    )
+}
+
+fn crash(places: &mut Placement, k: ClusterNo) -> Result<(), NoMemory> {
+    absorbs(
+        places,
+        What::Crash {
+            k,
+            cause: Cause::Place,
+        },
+    )
+}
+
+fn rebackup(
+    places: &mut Placement,
+    to: ClusterNo,
+    fresh: bool,
+    recs: List<BackRec>,
+) -> Result<(), NoMemory> {
+    absorbs(places, What::Rebackup { to, fresh, recs })
+}
+
+// The entries of the log, one after the other.
+fn step(alloc: Global, places: &mut Placement, number: u8) -> Result<(), NoMemory> {
+    match number {
+        0 => bears(places, Pid(16), Pid(32)),
+        1 => bears(places, Pid(16), Pid(48)),
+        2 => exit(places, Pid(32)),
+        3 => sync(alloc, places, Pid(16)),
+        4 => crash(places, ClusterNo(0)),
+        5 => absorbs(places, What::Return { k: ClusterNo(0) }),
+        6 => rebackup(places, ClusterNo(0), false, records(alloc, &[16, 48])?),
+        7 => crash(places, ClusterNo(2)),
+        8 => absorbs(places, What::Return { k: ClusterNo(2) }),
+        9 => rebackup(places, ClusterNo(2), true, records(alloc, &[17])?),
+        _ => absorbs(places, What::Stop),
+    }
+}
+
+// The placement after so many of them.
+fn after(alloc: Global, steps: u8) -> Result<Placement, NoMemory> {
+    let mut places = booted(alloc)?;
+    for number in 0..steps {
+        step(alloc, &mut places, number)?;
+    }
+    Ok(places)
+}
+
+// ---- what the placement shows
+
+// Whether just these processes are placed, in this order.
+fn shows(places: &Placement, wanted: &[Placed]) -> bool {
+    if places.len() != wanted.len() {
+        return false;
+    }
+    for (index, placed) in wanted.iter().enumerate() {
+        if places.at(index) != Some(*placed) || places.get(placed.pid) != Some(*placed) {
+            return false;
+        }
+    }
+    true
+}
+
+fn is_covered(places: &Placement, wanted: [bool; 3]) -> bool {
+    places.covered(ClusterNo(0)) == wanted[0]
+        && places.covered(ClusterNo(1)) == wanted[1]
+        && places.covered(ClusterNo(2)) == wanted[2]
+}
+
+const CHILD: Placed = Placed {
+    pid: Pid(48),
+    ..FIRST
+};
+
+const OVER: Placed = Placed {
+    pid: Pid(32),
+    ended: true,
+    ..FIRST
+};
+
+const SYNCED: Placed = Placed {
+    synced: true,
+    ..FIRST
+};
+
+// Cluster 0 is lost: what runs there moves to its backup, and has none. What has ended stays.
+const MOVED: Placed = Placed {
+    home: ClusterNo(1),
+    backup: None,
+    lost: Some(ClusterNo(0)),
+    ..SYNCED
+};
+
+const MOVED_CHILD: Placed = Placed {
+    pid: Pid(48),
+    synced: false,
+    ..MOVED
+};
+
+// It returns, and takes the backups of two that have not run since.
+const KEPT: Placed = Placed {
+    backup: Some(ClusterNo(0)),
+    ..MOVED
+};
+
+const KEPT_CHILD: Placed = Placed {
+    backup: Some(ClusterNo(0)),
+    ..MOVED_CHILD
+};
+
+// Cluster 2 is lost, with a backup. It returns, and takes a new one of a process that has run.
+const ALONE: Placed = Placed {
+    backup: None,
+    lost: Some(ClusterNo(2)),
+    ..SECOND
+};
+
+const RENEWED: Placed = Placed {
+    backup: Some(ClusterNo(2)),
+    synced: true,
+    ..ALONE
+};
+
+// How many entries were taken in; which processes are placed, and whether each cluster is covered.
+static LOG: [(u8, &[Placed], [bool; 3]); 5] = [
+    (4, &[SYNCED, SECOND, OVER, CHILD], [true, true, true]),
+    (5, &[MOVED, SECOND, OVER, MOVED_CHILD], [true, false, true]),
+    (7, &[KEPT, SECOND, OVER, KEPT_CHILD], [true, true, true]),
+    (8, &[KEPT, ALONE, OVER, KEPT_CHILD], [true, false, true]),
+    (10, &[KEPT, RENEWED, OVER, KEPT_CHILD], [true, false, true]),
+];
+
+// Whether after so many entries just these are placed, and in a copy, and which clusters are covered.
+fn after_shows(
+    alloc: Global,
+    steps: u8,
+    wanted: &[Placed],
+    covered: [bool; 3],
+) -> Result<(bool, bool, bool), NoMemory> {
+    let places = after(alloc, steps)?;
+    let copy = places.copy()?;
+    Ok((
+        shows(&places, wanted),
+        is_covered(&places, covered),
+        shows(&copy, wanted),
+    ))
+}
+
+#[test]
+fn a_log_is_taken_in_entry_by_entry(rt: HostRuntime) -> Result<(), Fail> {
+    for (steps, wanted, covered) in LOG {
+        let shown = after_shows(rt.alloc(), steps, wanted, covered)?;
+        assert_eq!(rt; shown, (true, true, true), "after {steps}");
+    }
+    Ok(())
+}
+
+// Whether a cluster lives and serves pages, and what serial its next child gets.
+fn stands(places: &Placement, k: ClusterNo) -> (bool, bool, u32) {
+    (places.living(k), places.is_server(k), places.next_serial(k))
+}
+
+#[test]
+fn clusters_are_lost_and_return(rt: HostRuntime) -> Result<(), Fail> {
+    let alloc = rt.alloc();
+    for (steps, k, wanted) in [
+        (0, 0, (true, false, 2)),
+        (0, 1, (true, true, 2)),
+        (0, 2, (true, true, 1)),
+        (0, 3, (false, false, 0)),
+        (2, 0, (true, false, 4)),
+        (5, 0, (false, false, 4)),
+        (6, 0, (true, false, 4)),
+        (8, 2, (false, false, 1)),
+        (9, 2, (true, false, 1)),
+    ] {
+        let places = after(alloc, steps)?;
+        assert_eq!(rt; stands(&places, ClusterNo(k)), wanted, "{k} after {steps}");
+        assert_eq!(rt; places.clusters(), 3);
+        assert_eq!(rt; places.first_server(), Some(ClusterNo(1)));
+    }
+    Ok(())
+}
+
+#[test]
+fn a_process_that_ended_is_found_only_where_asked(rt: HostRuntime) -> Result<(), Fail> {
+    let places = after(rt.alloc(), 3)?;
+    assert_eq!(rt; places.unended(Pid(32)), None);
+    assert_eq!(rt; places.home(Pid(32)), Some(ClusterNo(0)));
+    assert_eq!(rt; places.unended(Pid(17)), Some(SECOND));
+    assert_eq!(rt; places.home(Pid(64)), None);
+    Ok(())
+}
+
+#[test]
+fn one_backup_is_set_and_one_cluster_lost_by_hand(rt: HostRuntime) -> Result<(), Fail> {
+    let mut places = booted(rt.alloc())?;
+    places.set_backup(Pid(16), ClusterNo(2));
+    places.move_after_crash(ClusterNo(1));
+    places.come_back(ClusterNo(1));
+    assert!(rt; places.living(ClusterNo(1)));
+    assert_eq!(rt; places.first_server(), Some(ClusterNo(2)));
+    assert_eq!(rt; places.home(Pid(17)), Some(ClusterNo(2)));
+    assert!(rt; !places.covered(ClusterNo(2)));
+    Ok(())
+}
+
+// ---- routes
+
+fn to(clusters: u16) -> Dests {
+    Dests {
+        clusters,
+        tty: None,
+    }
+}
+
+fn routes(places: &Placement, what: What) -> Dests
+    requires { IsRoutable places.now what }
+{
+    places.route(&Post { by: By::Bus, what })
+}
+
+fn mail(alloc: Global, places: &Placement, from: u32, to: To) -> Result<Dests, NoMemory> {
+    let letter = Letter {
+        from: Pid(from),
+        out: 0,
+        to,
+        body: Body::Said(SharedBytes::copy_of(alloc, b"x")?),
+    };
+    Ok(routes(places, What::Mail { at: 1, letter }))
+}
+
+#[test]
+fn letters_go_to_homes_and_backups(rt: HostRuntime) -> Result<(), Fail> {
+    let alloc = rt.alloc();
+    let places = after(alloc, 3)?;
+    for (from, receiver, clusters) in [
+        (17, 16, 0b111),
+        (16, 16, 0b011),
+        (32, 16, 0b011),
+        (17, 32, 0b100),
+    ] {
+        let receiver = To::Proc(Pid(receiver), 0);
+        assert_eq!(rt; mail(alloc, &places, from, receiver)?, to(clusters));
+    }
+    let line = mail(alloc, &places, 16, To::Tty(5))?;
+    assert_eq!(rt;
+        line,
+        Dests {
+            clusters: 0b010,
+            tty: Some(5)
+        }
+    );
+    Ok(())
+}
+
+// Where a page, a page that is asked for, one that is answered and a synchronisation go.
+fn page_routes(alloc: Global, places: &Placement, pid: Pid) -> Result<[Dests; 4], NoMemory> {
+    let index = 0;
+    let at = 1;
+    let bytes = Shared::new(alloc, [0; 256])?;
+    let small = Shared::new(alloc, small(pid))?;
+    let (read, took) = (List::new(alloc), None);
+    Ok([
+        routes(
+            places,
+            What::Page {
+                pid,
+                at,
+                index,
+                bytes: bytes.copy()?,
+            },
+        ),
+        routes(places, What::Fetch { pid, index }),
+        routes(places, What::PageIs { pid, index, bytes }),
+        routes(
+            places,
+            What::Sync {
+                pid,
+                small,
+                read,
+                took,
+            },
+        ),
+    ])
+}
+
+#[test]
+fn pages_and_synchronisations_go_to_the_servers(rt: HostRuntime) -> Result<(), Fail> {
+    let alloc = rt.alloc();
+    for (steps, pid, clusters) in [
+        (0, 16, [0b110, 0b110, 0b111, 0b110]),
+        (0, 17, [0b110, 0b110, 0b110, 0b110]),
+        (7, 16, [0b110, 0b110, 0b110, 0b111]),
+        (9, 16, [0b010, 0b010, 0b010, 0b011]),
+    ] {
+        let places = after(alloc, steps)?;
+        assert_eq!(rt; page_routes(alloc, &places, Pid(pid))?, clusters.map(to));
+    }
+    Ok(())
+}
+
+#[test]
+fn a_lost_cluster_gets_nothing_but_its_return(rt: HostRuntime) -> Result<(), Fail> {
+    let places = after(rt.alloc(), 5)?;
+    assert_eq!(rt; routes(&places, What::Stop), to(0b110));
+    assert_eq!(rt; places.clusters(), 3);
+    assert_eq!(rt;
+        routes(&places, What::Return { k: ClusterNo(0) }),
+        to(0b111)
+    );
+    Ok(())
+}

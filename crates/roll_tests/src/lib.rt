@@ -1,0 +1,5 @@
+//! Tests of processes that roll forward.
+#![tactic(auto)]
+
+#[cfg(test)]
+mod rolls;
