@@ -1,0 +1,151 @@
+//! The records of a cluster, and what an entry changes in them.
+ghost use Rattle.std.specs.Prelude.{◌≡◌, [], IfOk, OnOk, OnErr, filter, length, map, not, true, if◌then◌else◌};
+ghost use Rattle.std.specs.Option.{option_copied};
+ghost use Rattle.bus_msg.specs.Places.{same_pid};
+ghost use Rattle.backup_records.specs.Records.{CanCount, CanCountLetter, HasRoom, are_rising, counted_by_sender, record_in, records_after, saved_by_receiver, with_record, with_saved};
+
+use crate::by_pid::{count_at, save_at};
+use backup_queue::record::Record;
+use bus_msg::entry::What;
+use std::alloc::Global;
+use std::collections::BTreeMap;
+use std::marker::Model;
+use t32_base::letter::{Letter, To};
+use t32_base::process::Pid;
+use t32_base::streams::NoMemory;
+
+/// The records that a cluster keeps of the processes whose backup it has, by rising pid.
+#[derive(Drop)]
+pub struct Records {
+    by_pid: BTreeMap<u32, Record>,
+}
+
+impl Model for Records {
+    ghost use Rattle.std.specs.Prelude.{List};
+    ghost use Rattle.std.specs.Map.{values_of};
+    ghost use Rattle.t32_base.specs.declared.letter.BackRec.{BackRec};
+    ghost use Rattle.backup_records.specs.ByPid.{IsByPid};
+
+    ghost Value = { List BackRec };
+
+    ghost view = { λ r. values_of r.by_pid.entries };
+
+    ghost invariant = { λ r. IsByPid r.by_pid.entries };
+}
+
+impl Records {
+    /// No records. Takes no memory.
+    pub fn none(alloc: Global) -> Records
+        ensures { result ≡ [] }
+    {
+        Records {
+            by_pid: BTreeMap::new(alloc),
+        }
+    }
+
+    /// One record more: that of a process that starts with its backup here. It takes the place of one of the
+    /// same process. After want of memory the records are as they were.
+    pub fn add(&mut self, kept: Record) -> Result<(), NoMemory>
+        ensures ok { OnOk result (self.new ≡ with_record kept self.old) }
+        ensures err { OnErr result (self.new ≡ self.old) }
+    {
+        let pid = kept.pid();
+        self.by_pid.insert(pid.0, kept)?;
+        Ok(())
+    }
+
+    /// The record of a process.
+    pub fn get(&self, pid: Pid) -> Option<&Record>
+        ensures { option_copied result ≡ record_in self.now pid }
+    {
+        self.by_pid.get(&pid.0)
+    }
+
+    /// The number of records, which stand by rising pid.
+    pub fn len(&self) -> usize
+        ensures number { result ≡ length self.now }
+        ensures rising { are_rising self.now ≡ true }
+    {
+        self.by_pid.len()
+    }
+
+    /// What an entry changes: a letter is saved by the record of its receiver and counted by that of its
+    /// sender, and the record of a process that ended goes. A cluster calls it for each entry that goes to it.
+    /// After want of memory the records are as they were.
+    pub fn note(&mut self, what: &What) -> Result<(), NoMemory>
+        requires room { HasRoom self.old }
+        requires counts { CanCount what.now self.old }
+        ensures ok { OnOk result (self.new ≡ records_after what.now self.old) }
+        ensures err { OnErr result (self.new ≡ self.old) }
+    {
+        match what {
+            What::Mail { letter, .. } => self.note_letter(letter),
+            What::Exit { pid, .. } => {
+                self.let_go(*pid);
+                Ok(())
+            }
+            // The parent's record gets the child, and the child a record of its own.
+            What::Birth { .. } => Ok(()),
+            // The record is cut: it gets the state, and what was read and what was counted goes.
+            What::Sync { .. } => Ok(()),
+            // Records come, and one that has run is cut.
+            What::Rebackup { .. } => Ok(()),
+            // The records of processes that move here leave by `take_moved`.
+            What::Crash { .. } => Ok(()),
+            What::Page { .. } => Ok(()),
+            What::Fetch { .. } => Ok(()),
+            What::PageIs { .. } => Ok(()),
+            What::Return { .. } => Ok(()),
+            What::Done { .. } => Ok(()),
+            What::Stop => Ok(()),
+        }
+    }
+
+    // A letter is saved, which can fail, and then counted.
+    fn note_letter(&mut self, letter: &Letter) -> Result<(), NoMemory>
+        requires room { HasRoom self.old }
+        requires counts { CanCountLetter letter.now self.old }
+        ensures ok { OnOk result (self.new ≡ map (λ r. counted_by_sender letter.now (saved_by_receiver letter.now r)) self.old) }
+        ensures err { OnErr result (self.new ≡ self.old) }
+    {
+        self.save(letter)?;
+        self.count(letter);
+        Ok(())
+    }
+
+    // The record of its receiver saves a letter.
+    fn save(&mut self, letter: &Letter) -> Result<(), NoMemory>
+        requires { HasRoom self.old }
+        ensures ok { OnOk result (self.new ≡ map (saved_by_receiver letter.now) self.old) }
+        ensures err { OnErr result (self.new ≡ self.old) }
+    {
+        match letter.to {
+            To::Proc(pid, _) => self.save_for(pid, letter),
+            To::Tty(_) => Ok(()),
+        }
+    }
+
+    // The record of a process saves a letter, if it is here.
+    fn save_for(&mut self, pid: Pid, letter: &Letter) -> Result<(), NoMemory>
+        requires { HasRoom self.old }
+        ensures ok { OnOk result (self.new ≡ map (λ r. if same_pid pid r.pid then with_saved letter.now r else r) self.old) }
+        ensures err { OnErr result (self.new ≡ self.old) }
+    {
+        save_at(&mut self.by_pid, pid.0, letter)
+    }
+
+    // The record of its sender counts a letter. Takes no memory.
+    fn count(&mut self, letter: &Letter)
+        requires { CanCountLetter letter.now self.old }
+        ensures { self.new ≡ map (counted_by_sender letter.now) self.old }
+    {
+        count_at(&mut self.by_pid, letter.from.0, letter);
+    }
+
+    // The record of a process goes, if it is here. Takes no memory.
+    fn let_go(&mut self, pid: Pid)
+        ensures { self.new ≡ filter (λ r. not (same_pid r.pid pid)) self.old }
+    {
+        self.by_pid.remove(&pid.0);
+    }
+}
