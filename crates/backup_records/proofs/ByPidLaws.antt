@@ -244,6 +244,11 @@ pub by_pid_left : (ks : List ℕ) (es : List (ℕ × BackRec)) → IsByPid es �
 by_pid_left [] es is = is
 by_pid_left (k ∷ ks) es is = by_pid_left ks (remove_entry (at k) es) (by_pid_removed k es is)
 
+-- where taking them out can be refused
+pub by_pid_out : {X : Type 0} → (r : Result X NoMemory) (ks : List ℕ) (es new : List (ℕ × BackRec)) → OnOk r (new ≡ left_after ks es) → OnErr r (new ≡ es) → IsByPid es → IsByPid new
+by_pid_out (Ok taken) ks es new ok err is = subst IsByPid (sym ok) (by_pid_left ks es is)
+by_pid_out (Err fault) ks es new ok err is = subst IsByPid (sym err) is
+
 -- keys that are none of these leave the first entry, and take nothing of it
 first_stays : (e : ℕ × BackRec) (ks : List ℕ) (es : List (ℕ × BackRec)) → AllByRecursion (λ y. nat_cmp e.0 y ≡ Less) ks → left_after ks (e ∷ es) ≡ e ∷ left_after ks es
 first_stays e [] es above = refl

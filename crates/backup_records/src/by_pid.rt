@@ -5,14 +5,18 @@ ghost use Rattle.std.specs.Map.{keys_of};
 ghost use Rattle.std.specs.Ordering.{nat_cmp};
 ghost use Rattle.t32_base.specs.declared.letter.BackRec.{BackRec};
 ghost use Rattle.write_count.specs.Counting.{count_for};
+ghost use Rattle.crash_notice.specs.Splitting.{moves_here};
 ghost use Rattle.backup_records.specs.Records.{with_saved, with_counted};
 ghost use Rattle.backup_records.specs.ByPid.{changed_at, left_after, taken_at};
 
 use backup_queue::record::Record;
+use channel_table::placement::Placement;
+use crash_notice::splitting::moves_here;
 use std::alloc::Global;
 use std::collections::{BTreeMap, VecDeque};
 use t32_base::letter::Letter;
 use t32_base::lists::List;
+use t32_base::process::ClusterNo;
 use t32_base::streams::NoMemory;
 
 /// The record of a process saves a letter, if it is there. The letter's bytes are shared. After want of memory no
@@ -40,6 +44,25 @@ pub fn count_at(records: &mut BTreeMap<u32, Record>, pid: u32, letter: &Letter)
     if let Some(record) = records.get_mut(&pid) {
         record.count(letter);
     }
+}
+
+/// The numbers of the processes whose records move here at the loss of a cluster, rising.
+pub fn moved_pids(
+    alloc: Global,
+    records: &BTreeMap<u32, Record>,
+    lost: ClusterNo,
+    here: ClusterNo,
+    before: &Placement,
+) -> Result<Vec<u32>, NoMemory>
+    ensures { IfOk result (λ pids. pids.items ≡ keys_of (filter (λ e. moves_here before.now lost here e.1) records.now.entries)) }
+{
+    let mut pids = Vec::new(alloc);
+    for (pid, record) in records {
+        if moves_here(record, before, lost, here) {
+            pids.push(*pid)?;
+        }
+    }
+    Ok(pids)
 }
 
 /// The records of processes leave, in this order. Memory is taken first: where it is refused, all stay.

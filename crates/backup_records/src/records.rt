@@ -2,16 +2,19 @@
 ghost use Rattle.std.specs.Prelude.{◌≡◌, [], IfOk, OnOk, OnErr, filter, length, map, not, true, if◌then◌else◌};
 ghost use Rattle.std.specs.Option.{option_copied};
 ghost use Rattle.bus_msg.specs.Places.{same_pid};
+ghost use Rattle.crash_notice.specs.Splitting.{moves_here, stays};
 ghost use Rattle.backup_records.specs.Records.{CanCount, CanCountLetter, HasRoom, are_rising, counted_by_sender, record_in, records_after, saved_by_receiver, with_record, with_saved};
 
-use crate::by_pid::{count_at, save_at};
+use crate::by_pid::{count_at, moved_pids, save_at, take_out};
 use backup_queue::record::Record;
 use bus_msg::entry::What;
+use channel_table::placement::Placement;
 use std::alloc::Global;
 use std::collections::BTreeMap;
 use std::marker::Model;
 use t32_base::letter::{Letter, To};
-use t32_base::process::Pid;
+use t32_base::lists::List;
+use t32_base::process::{ClusterNo, Pid};
 use t32_base::streams::NoMemory;
 
 /// The records that a cluster keeps of the processes whose backup it has, by rising pid.
@@ -99,6 +102,23 @@ impl Records {
             What::Done { .. } => Ok(()),
             What::Stop => Ok(()),
         }
+    }
+
+    /// At the loss of a cluster the records of the processes that it moves here leave, by rising pid; the
+    /// placement is the one before the loss. Memory is taken first: where it is refused, all stay.
+    pub fn take_moved(
+        &mut self,
+        alloc: Global,
+        lost: ClusterNo,
+        here: ClusterNo,
+        before: &Placement,
+    ) -> Result<List<Record>, NoMemory>
+        ensures moved { IfOk result (λ moved. moved ≡ filter (moves_here before.now lost here) self.old) }
+        ensures stay { OnOk result (self.new ≡ filter (stays before.now lost here) self.old) }
+        ensures err { OnErr result (self.new ≡ self.old) }
+    {
+        let pids = moved_pids(alloc, &self.by_pid, lost, here, before)?;
+        take_out(alloc, &mut self.by_pid, pids)
     }
 
     // A letter is saved, which can fail, and then counted.

@@ -1,0 +1,5 @@
+use Rattle.record_laws.proofs.OneRecord.{record_follows}
+use Rattle.record_laws.proofs.one_entry.records_follow.Goals as goal
+
+pub returns : goal.returns
+returns c = record_follows
