@@ -1,5 +1,5 @@
 -- Laws of the list of records: what a change of some of them leaves to find, and what a letter makes of each.
-use Rattle.std.proofs.Common.{◌≡◌, ℕ, ◌<◌, ◌^◌, ◌-◌, Bool, true, false, cond, eqb, List, [], ◌∷◌, map, refl, sym, ap, ◌∙◌, Option, Some, None, option_map, find, subst}
+use Rattle.std.proofs.Common.{◌≡◌, ℕ, ◌<◌, ◌^◌, ◌-◌, Bool, true, false, cond, eq-eqb, List, [], ◌∷◌, map, refl, sym, ap, ◌∙◌, Option, Some, None, option_map, find, subst}
 use Rattle.std.proofs.lemmas.Bool.{false≢true}
 use Rattle.t32_base.specs.declared.process.Pid.{Pid}
 use Rattle.t32_base.specs.declared.process.Counts.{Counts}
@@ -9,7 +9,7 @@ use Rattle.t32_base.specs.declared.letter.To.TheVariants.{Proc, Tty}
 use Rattle.t32_base.specs.declared.letter.BackRec.{BackRec}
 use Rattle.write_count.specs.Counting.{count_for}
 use Rattle.bus_msg.specs.Places.{same_pid}
-use Rattle.backup_records.specs.Records.{record_in, with_saved, with_counted, is_receiver, saved_by_receiver, counted_by_sender, CanCountLetter}
+use Rattle.backup_records.specs.Records.{record_in, with_saved, with_counted, is_receiver, saved_by_receiver, counted_by_sender, CanCount}
 
 -- ---- a change of each
 
@@ -55,7 +55,11 @@ pub none_saved : (letter : Letter) (to : To) (t : ℕ) (recs : List BackRec) →
 none_saved letter to t [] is = refl
 none_saved letter to t (r ∷ rest) is = λ i. ap (λ to. cond (is_receiver r.pid to) (with_saved letter r) r) is i ∷ none_saved letter to t rest is i
 
--- one for a process by the record of that
+-- a letter for a process is for that
+pub is_for : (p : Pid) (end : ℕ) (to : To) → to ≡ Proc p end → is_receiver p to ≡ true
+is_for p end to is = ap (is_receiver p) is ∙ eq-eqb p.0 p.0 refl
+
+-- it is saved by the record of that
 pub saved_for : (letter : Letter) (to : To) (p : Pid) (end : ℕ) (recs : List BackRec) → to ≡ Proc p end
     → map (λ (r : BackRec). cond (is_receiver r.pid to) (with_saved letter r) r) recs ≡ map (λ (r : BackRec). cond (same_pid p r.pid) (with_saved letter r) r) recs
 saved_for letter to p end [] is = refl
@@ -67,7 +71,7 @@ found_before f None r is = cc
 found_before f (Some was) r is = (was, refl, cc)
 
 -- after it was saved a letter can be counted where it could be before
-pub can_still_count : (letter : Letter) (recs : List BackRec) → CanCountLetter letter recs → CanCountLetter letter (map (saved_by_receiver letter) recs)
+pub can_still_count : (letter : Letter) (recs : List BackRec) → CanCount letter recs → CanCount letter (map (saved_by_receiver letter) recs)
 can_still_count letter recs can r there =
     let before = found_before (saved_by_receiver letter) (record_in recs letter.from) r (sym (record_mapped (saved_by_receiver letter) (saved_pid letter) recs letter.from) ∙ there) in
     let counts : (before.0).counts ≡ r.counts = sym (saved_counts letter before.0) ∙ ap (λ (r : BackRec). r.counts) before.2 in

@@ -74,15 +74,17 @@ records_after (Rebackup to fresh more) recs = recs
 records_after (Done rests) recs = recs
 records_after Stop recs = recs
 
--- each of them may save one letter more
-abbrev pub HasRoom : List BackRec → Type 0
-HasRoom recs = (p : Pid) (r : BackRec) → record_in recs p ≡ Some r → r.next < 2 ^ 64 - 1
+-- ---- when an entry may be noted
 
--- the record of the sender of a letter may count it
-abbrev pub CanCountLetter : Letter → List BackRec → Type 0
-CanCountLetter letter recs = (r : BackRec) → record_in recs letter.from ≡ Some r → (letter.out < 32) × (count_for r.counts letter < 2 ^ 32 - 1)
+-- the record of the receiver of a letter may save it
+abbrev pub CanSave : Letter → List BackRec → Type 0
+CanSave letter recs = (p : Pid) (r : BackRec) → is_receiver p letter.to ≡ true → record_in recs p ≡ Some r → r.next < 2 ^ 64 - 1
 
--- where an entry tells of a letter
-abbrev pub CanCount : What → List BackRec → Type 0
-CanCount (Mail at letter) recs = CanCountLetter letter recs
-CanCount w recs = Unit {0}
+-- the record of its sender may count it
+abbrev pub CanCount : Letter → List BackRec → Type 0
+CanCount letter recs = (r : BackRec) → record_in recs letter.from ≡ Some r → (letter.out < 32) × (count_for r.counts letter < 2 ^ 32 - 1)
+
+-- both, where an entry tells of a letter
+abbrev pub CanNote : What → List BackRec → Type 0
+CanNote (Mail at letter) recs = CanSave letter recs × CanCount letter recs
+CanNote w recs = Unit {0}

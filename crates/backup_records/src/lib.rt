@@ -3,3 +3,5 @@
 
 pub mod by_pid;
 pub mod records;
+#[cfg(test)]
+mod tests;

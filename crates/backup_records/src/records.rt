@@ -1,9 +1,10 @@
 //! The records of a cluster, and what an entry changes in them.
-ghost use Rattle.std.specs.Prelude.{◌≡◌, [], IfOk, OnOk, OnErr, filter, length, map, not, true, if◌then◌else◌};
+ghost use Rattle.std.specs.Prelude.{◌≡◌, ◌-◌, ◌^◌, ◌<◌, Some, [], IfOk, OnOk, OnErr, filter, length, map, not, true, if◌then◌else◌};
 ghost use Rattle.std.specs.Option.{option_copied};
+ghost use Rattle.t32_base.specs.declared.letter.BackRec.{BackRec};
 ghost use Rattle.bus_msg.specs.Places.{same_pid};
 ghost use Rattle.crash_notice.specs.Splitting.{moves_here, stays};
-ghost use Rattle.backup_records.specs.Records.{CanCount, CanCountLetter, HasRoom, are_rising, counted_by_sender, record_in, records_after, saved_by_receiver, with_record, with_saved};
+ghost use Rattle.backup_records.specs.Records.{CanCount, CanNote, CanSave, are_rising, counted_by_sender, record_in, records_after, saved_by_receiver, with_record, with_saved};
 
 use crate::by_pid::{count_at, moved_pids, save_at, take_out};
 use backup_queue::record::Record;
@@ -76,8 +77,7 @@ impl Records {
     /// sender, and the record of a process that ended goes. A cluster calls it for each entry that goes to it.
     /// After want of memory the records are as they were.
     pub fn note(&mut self, what: &What) -> Result<(), NoMemory>
-        requires room { HasRoom self.old }
-        requires counts { CanCount what.now self.old }
+        requires { CanNote what.now self.old }
         ensures ok { OnOk result (self.new ≡ records_after what.now self.old) }
         ensures err { OnErr result (self.new ≡ self.old) }
     {
@@ -123,8 +123,8 @@ impl Records {
 
     // A letter is saved, which can fail, and then counted.
     fn note_letter(&mut self, letter: &Letter) -> Result<(), NoMemory>
-        requires room { HasRoom self.old }
-        requires counts { CanCountLetter letter.now self.old }
+        requires saved { CanSave letter.now self.old }
+        requires counted { CanCount letter.now self.old }
         ensures ok { OnOk result (self.new ≡ map (λ r. counted_by_sender letter.now (saved_by_receiver letter.now r)) self.old) }
         ensures err { OnErr result (self.new ≡ self.old) }
     {
@@ -135,7 +135,7 @@ impl Records {
 
     // The record of its receiver saves a letter.
     fn save(&mut self, letter: &Letter) -> Result<(), NoMemory>
-        requires { HasRoom self.old }
+        requires { CanSave letter.now self.old }
         ensures ok { OnOk result (self.new ≡ map (saved_by_receiver letter.now) self.old) }
         ensures err { OnErr result (self.new ≡ self.old) }
     {
@@ -147,7 +147,7 @@ impl Records {
 
     // The record of a process saves a letter, if it is here.
     fn save_for(&mut self, pid: Pid, letter: &Letter) -> Result<(), NoMemory>
-        requires { HasRoom self.old }
+        requires { (r : BackRec) → record_in self.old pid ≡ Some r → r.next < 2 ^ 64 - 1 }
         ensures ok { OnOk result (self.new ≡ map (λ r. if same_pid pid r.pid then with_saved letter.now r else r) self.old) }
         ensures err { OnErr result (self.new ≡ self.old) }
     {
@@ -156,7 +156,7 @@ impl Records {
 
     // The record of its sender counts a letter. Takes no memory.
     fn count(&mut self, letter: &Letter)
-        requires { CanCountLetter letter.now self.old }
+        requires { CanCount letter.now self.old }
         ensures { self.new ≡ map (counted_by_sender letter.now) self.old }
     {
         count_at(&mut self.by_pid, letter.from.0, letter);

@@ -9,7 +9,7 @@ use Rattle.backup_records.proofs.records.Records.save_for.Goals as goal
 
 pub save_at-requires : goal.save_at-requires
 save_at-requires c = λ r found.
-    c.requires c.args.pid r (ap (λ (recs : List BackRec). record_in recs c.args.pid) (sym c.self.view_is) ∙ record_found c.args.pid c.self.inside.by_pid.entries c.self.invariant.own ∙ found)
+    c.requires r (ap (λ (recs : List BackRec). record_in recs c.args.pid) (sym c.self.view_is) ∙ record_found c.args.pid c.self.inside.by_pid.entries c.self.invariant.own ∙ found)
 
 pub invariant_of-self : goal.invariant_of-self
 invariant_of-self c =
