@@ -6,7 +6,7 @@ use Rattle.t32_base.specs.declared.process.ClusterNo.{ClusterNo}
 use Rattle.t32_base.specs.declared.letter.BackRec.{BackRec}
 use Rattle.sys_text.specs.declared.system.System.{System}
 use Rattle.bus_msg.specs.declared.entry.What.{What}
-use Rattle.bus_msg.specs.declared.entry.What.TheVariants.{Birth, Sync, Rebackup}
+use Rattle.bus_msg.specs.declared.entry.What.TheVariants.{Birth, Sync, Crash, Rebackup}
 use Rattle.bus_msg.specs.declared.entry.Entry.{Entry}
 use Rattle.bus_msg.specs.declared.placed.Placed.{Placed}
 use Rattle.bus_msg.specs.Places.{is_cluster, unended_at}
@@ -28,3 +28,8 @@ starts_none (Birth parent at child end) = false
 starts_none (Sync pid small read took) = false
 starts_none (Rebackup to fresh recs) = false
 starts_none w = true
+
+-- and no loss, at which records leave
+abbrev pub changes_in_place : What → Bool
+changes_in_place (Crash k cause) = false
+changes_in_place w = starts_none w
