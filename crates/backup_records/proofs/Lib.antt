@@ -1,0 +1,2 @@
+pub mod ByPidLaws
+pub mod RecordLaws

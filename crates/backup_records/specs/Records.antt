@@ -1,0 +1,90 @@
+-- The records that a cluster keeps of the processes whose backup it has, by rising pid, and what an entry makes of them.
+use Rattle.std.specs.Prelude.{ℕ, ◌≡◌, ◌+◌, ◌-◌, ◌^◌, ◌<◌, Bool, true, false, not, ◌&&◌, nat_lt, if◌then◌else◌, List, [], ◌∷◌, map, filter, find, Option, Some}
+use Rattle.std.specs.List.{list_all}
+use Rattle.t32_base.specs.declared.process.Pid.{Pid}
+use Rattle.t32_base.specs.declared.letter.Letter.{Letter}
+use Rattle.t32_base.specs.declared.letter.To.{To}
+use Rattle.t32_base.specs.declared.letter.To.TheVariants.{Proc, Tty}
+use Rattle.t32_base.specs.declared.letter.BackRec.{BackRec}
+use Rattle.write_count.specs.Counting.{count_for, raised}
+use Rattle.backup_queue.specs.Queue.{saved_with}
+use Rattle.bus_msg.specs.declared.entry.What.{What}
+use Rattle.bus_msg.specs.declared.entry.What.TheVariants.{Mail, Birth, Exit, Page, Sync, Fetch, PageIs, Crash, Return, Rebackup, Done, Stop}
+use Rattle.bus_msg.specs.Places.{same_pid}
+
+-- ---- the list
+
+-- the record of a process
+abbrev pub record_in : List BackRec → Pid → Option BackRec
+record_in recs p = find (λ (r : BackRec). same_pid r.pid p) recs
+
+-- each pid is below those after it
+abbrev pub are_rising : List BackRec → Bool
+are_rising [] = true
+are_rising (r ∷ rest) = list_all (λ (s : BackRec). nat_lt (r.pid).0 (s.pid).0) rest && are_rising rest
+
+-- one record more, in its place by rising pid; it takes the place of one of the same process
+abbrev pub with_record : BackRec → List BackRec → List BackRec
+with_record r [] = r ∷ []
+with_record r (s ∷ rest) = if nat_lt (r.pid).0 (s.pid).0 then r ∷ s ∷ rest else if same_pid s.pid r.pid then r ∷ rest else s ∷ with_record r rest
+
+-- ---- a letter
+
+-- a letter is saved last, with its arrival number
+abbrev pub with_saved : Letter → BackRec → BackRec
+with_saved letter r = record r { saved = saved_with r.saved letter r.next; next = r.next + 1 }
+
+-- a letter that the process sent is counted
+abbrev pub with_counted : Letter → BackRec → BackRec
+with_counted letter r = record r { counts = raised r.counts letter }
+
+-- where a letter goes is an end of the process
+abbrev pub is_receiver : Pid → To → Bool
+is_receiver p (Proc q end) = same_pid q p
+is_receiver p (Tty t) = false
+
+-- the record of its receiver saves a letter
+abbrev pub saved_by_receiver : Letter → BackRec → BackRec
+saved_by_receiver letter r = if is_receiver r.pid letter.to then with_saved letter r else r
+
+-- and the record of its sender counts it
+abbrev pub counted_by_sender : Letter → BackRec → BackRec
+counted_by_sender letter r = if same_pid letter.from r.pid then with_counted letter r else r
+
+-- ---- an entry
+
+-- what an entry makes of the record of a process that goes on
+abbrev pub record_after : What → BackRec → BackRec
+record_after (Mail at letter) r = counted_by_sender letter (saved_by_receiver letter r)
+record_after w r = r
+
+-- What an entry makes of the records: a letter is saved and counted, and the record of a process that ended is there no more. The kinds that change
+-- records and that no cluster sends yet leave them as they are: births, synchronisations, new backups and losses.
+abbrev pub records_after : What → List BackRec → List BackRec
+records_after (Mail at letter) recs = map (record_after (Mail at letter)) recs
+records_after (Exit pid at end) recs = filter (λ (r : BackRec). not (same_pid r.pid pid)) recs
+records_after (Birth parent at child end) recs = recs
+records_after (Page pid at index bytes) recs = recs
+records_after (Sync pid small read took) recs = recs
+records_after (Fetch pid index) recs = recs
+records_after (PageIs pid index bytes) recs = recs
+records_after (Crash k cause) recs = recs
+records_after (Return k) recs = recs
+records_after (Rebackup to fresh more) recs = recs
+records_after (Done rests) recs = recs
+records_after Stop recs = recs
+
+-- ---- when an entry may be noted
+
+-- the record of the receiver of a letter may save it
+abbrev pub CanSave : Letter → List BackRec → Type 0
+CanSave letter recs = (p : Pid) (r : BackRec) → is_receiver p letter.to ≡ true → record_in recs p ≡ Some r → r.next < 2 ^ 64 - 1
+
+-- the record of its sender may count it
+abbrev pub CanCount : Letter → List BackRec → Type 0
+CanCount letter recs = (r : BackRec) → record_in recs letter.from ≡ Some r → (letter.out < 32) × (count_for r.counts letter < 2 ^ 32 - 1)
+
+-- both, where an entry tells of a letter
+abbrev pub CanNote : What → List BackRec → Type 0
+CanNote (Mail at letter) recs = CanSave letter recs × CanCount letter recs
+CanNote w recs = Unit {0}

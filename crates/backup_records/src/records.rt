@@ -1,0 +1,171 @@
+//! The records of a cluster, and what an entry changes in them.
+ghost use Rattle.std.specs.Prelude.{◌≡◌, ◌-◌, ◌^◌, ◌<◌, Some, [], IfOk, OnOk, OnErr, filter, length, map, not, true, if◌then◌else◌};
+ghost use Rattle.std.specs.Option.{option_copied};
+ghost use Rattle.t32_base.specs.declared.letter.BackRec.{BackRec};
+ghost use Rattle.bus_msg.specs.Places.{same_pid};
+ghost use Rattle.crash_notice.specs.Splitting.{moves_here, stays};
+ghost use Rattle.backup_records.specs.Records.{CanCount, CanNote, CanSave, are_rising, counted_by_sender, record_in, records_after, saved_by_receiver, with_record, with_saved};
+
+use crate::by_pid::{count_at, moved_pids, save_at, take_out};
+use backup_queue::record::Record;
+use bus_msg::entry::What;
+use channel_table::placement::Placement;
+use std::alloc::Global;
+use std::collections::BTreeMap;
+use std::marker::Model;
+use t32_base::letter::{Letter, To};
+use t32_base::lists::List;
+use t32_base::process::{ClusterNo, Pid};
+use t32_base::streams::NoMemory;
+
+/// The records that a cluster keeps of the processes whose backup it has, by rising pid.
+#[derive(Drop)]
+pub struct Records {
+    by_pid: BTreeMap<u32, Record>,
+}
+
+impl Model for Records {
+    ghost use Rattle.std.specs.Prelude.{List};
+    ghost use Rattle.std.specs.Map.{values_of};
+    ghost use Rattle.t32_base.specs.declared.letter.BackRec.{BackRec};
+    ghost use Rattle.backup_records.specs.ByPid.{IsByPid};
+
+    ghost Value = { List BackRec };
+
+    ghost view = { λ r. values_of r.by_pid.entries };
+
+    ghost invariant = { λ r. IsByPid r.by_pid.entries };
+}
+
+impl Records {
+    /// No records. Takes no memory.
+    pub fn none(alloc: Global) -> Records
+        ensures { result ≡ [] }
+    {
+        Records {
+            by_pid: BTreeMap::new(alloc),
+        }
+    }
+
+    /// One record more: that of a process that starts with its backup here. It takes the place of one of the
+    /// same process. After want of memory the records are as they were.
+    pub fn add(&mut self, kept: Record) -> Result<(), NoMemory>
+        ensures ok { OnOk result (self.new ≡ with_record kept self.old) }
+        ensures err { OnErr result (self.new ≡ self.old) }
+    {
+        let pid = kept.pid();
+        self.by_pid.insert(pid.0, kept)?;
+        Ok(())
+    }
+
+    /// The record of a process.
+    pub fn get(&self, pid: Pid) -> Option<&Record>
+        ensures { option_copied result ≡ record_in self.now pid }
+    {
+        self.by_pid.get(&pid.0)
+    }
+
+    /// The number of records, which stand by rising pid.
+    pub fn len(&self) -> usize
+        ensures number { result ≡ length self.now }
+        ensures rising { are_rising self.now ≡ true }
+    {
+        self.by_pid.len()
+    }
+
+    /// What an entry changes: a letter is saved by the record of its receiver and counted by that of its
+    /// sender, and the record of a process that ended goes. A cluster calls it for each entry that goes to it.
+    /// After want of memory the records are as they were.
+    pub fn note(&mut self, what: &What) -> Result<(), NoMemory>
+        requires { CanNote what.now self.old }
+        ensures ok { OnOk result (self.new ≡ records_after what.now self.old) }
+        ensures err { OnErr result (self.new ≡ self.old) }
+    {
+        match what {
+            What::Mail { letter, .. } => self.note_letter(letter),
+            What::Exit { pid, .. } => {
+                self.let_go(*pid);
+                Ok(())
+            }
+            // The parent's record gets the child, and the child a record of its own.
+            What::Birth { .. } => Ok(()),
+            // The record is cut: it gets the state, and what was read and what was counted goes.
+            What::Sync { .. } => Ok(()),
+            // Records come, and one that has run is cut.
+            What::Rebackup { .. } => Ok(()),
+            // The records of processes that move here leave by `take_moved`.
+            What::Crash { .. } => Ok(()),
+            What::Page { .. } => Ok(()),
+            What::Fetch { .. } => Ok(()),
+            What::PageIs { .. } => Ok(()),
+            What::Return { .. } => Ok(()),
+            What::Done { .. } => Ok(()),
+            What::Stop => Ok(()),
+        }
+    }
+
+    /// At the loss of a cluster the records of the processes that it moves here leave, by rising pid; the
+    /// placement is the one before the loss. Memory is taken first: where it is refused, all stay.
+    pub fn take_moved(
+        &mut self,
+        alloc: Global,
+        lost: ClusterNo,
+        here: ClusterNo,
+        before: &Placement,
+    ) -> Result<List<Record>, NoMemory>
+        ensures moved { IfOk result (λ moved. moved ≡ filter (moves_here before.now lost here) self.old) }
+        ensures stay { OnOk result (self.new ≡ filter (stays before.now lost here) self.old) }
+        ensures err { OnErr result (self.new ≡ self.old) }
+    {
+        let pids = moved_pids(alloc, &self.by_pid, lost, here, before)?;
+        take_out(alloc, &mut self.by_pid, pids)
+    }
+
+    // A letter is saved, which can fail, and then counted.
+    fn note_letter(&mut self, letter: &Letter) -> Result<(), NoMemory>
+        requires saved { CanSave letter.now self.old }
+        requires counted { CanCount letter.now self.old }
+        ensures ok { OnOk result (self.new ≡ map (λ r. counted_by_sender letter.now (saved_by_receiver letter.now r)) self.old) }
+        ensures err { OnErr result (self.new ≡ self.old) }
+    {
+        self.save(letter)?;
+        self.count(letter);
+        Ok(())
+    }
+
+    // The record of its receiver saves a letter.
+    fn save(&mut self, letter: &Letter) -> Result<(), NoMemory>
+        requires { CanSave letter.now self.old }
+        ensures ok { OnOk result (self.new ≡ map (saved_by_receiver letter.now) self.old) }
+        ensures err { OnErr result (self.new ≡ self.old) }
+    {
+        match letter.to {
+            To::Proc(pid, _) => self.save_for(pid, letter),
+            To::Tty(_) => Ok(()),
+        }
+    }
+
+    // The record of a process saves a letter, if it is here.
+    fn save_for(&mut self, pid: Pid, letter: &Letter) -> Result<(), NoMemory>
+        requires { (r : BackRec) → record_in self.old pid ≡ Some r → r.next < 2 ^ 64 - 1 }
+        ensures ok { OnOk result (self.new ≡ map (λ r. if same_pid pid r.pid then with_saved letter.now r else r) self.old) }
+        ensures err { OnErr result (self.new ≡ self.old) }
+    {
+        save_at(&mut self.by_pid, pid.0, letter)
+    }
+
+    // The record of its sender counts a letter. Takes no memory.
+    fn count(&mut self, letter: &Letter)
+        requires { CanCount letter.now self.old }
+        ensures { self.new ≡ map (counted_by_sender letter.now) self.old }
+    {
+        count_at(&mut self.by_pid, letter.from.0, letter);
+    }
+
+    // The record of a process goes, if it is here. Takes no memory.
+    fn let_go(&mut self, pid: Pid)
+        ensures { self.new ≡ filter (λ r. not (same_pid r.pid pid)) self.old }
+    {
+        self.by_pid.remove(&pid.0);
+    }
+}

@@ -1,0 +1,4 @@
+pub mod OneRecord
+pub mod Standing
+pub mod Counts
+pub mod KeptLaws

@@ -1,0 +1,209 @@
+-- What one more entry makes of the record of a process.
+use Rattle.std.proofs.Common.{◌≡◌, ℕ, zero, suc, ◌+◌, ◌-◌, ◌<◌, refl, sym, ◌∙◌, ap, subst, arith, List, [], ◌∷◌, ◌++◌, length, append-nil, add-zero, Bool, true, false, cond, eqb, eqb-true, Option, Some, None, is_some, true≢false}
+use Rattle.std.specs.Prelude.{option_map, option_and_then, flat_map}
+use Rattle.std.proofs.lemmas.Grind.{flat_map-append}
+use Rattle.t32_base.specs.declared.process.Pid.{Pid}
+use Rattle.t32_base.specs.declared.process.End.{End}
+use Rattle.t32_base.specs.declared.letter.Letter.{Letter}
+use Rattle.t32_base.specs.declared.letter.Arrived.{Arrived}
+use Rattle.t32_base.specs.declared.letter.To.{To}
+use Rattle.t32_base.specs.declared.letter.To.TheVariants.{Proc, Tty}
+use Rattle.t32_base.specs.declared.letter.BackRec.{BackRec}
+use Rattle.sys_text.specs.declared.system.System.{System}
+use Rattle.sys_text.specs.Valid.{is_system}
+use Rattle.write_count.specs.Counting.{counts_of, raised}
+use Rattle.write_count.proofs.CountLaws.{counts_of-append}
+use Rattle.proc_state.specs.State.{ProcState}
+use Rattle.sys_calls.specs.declared.steps.Emission.TheVariants.{Mail as Sent, Exit as Ended}
+use Rattle.sys_calls.specs.Next.{silently}
+use Rattle.sys_calls.proofs.Counting.{last_sent}
+use Rattle.sys_calls.proofs.Leaving.{silent_ends, letter_leaves}
+use Rattle.plain_kernel.specs.Kernel.{process_at}
+use Rattle.plain_kernel.proofs.Laws.{last_silent, no_silent}
+use Rattle.bus_msg.specs.declared.entry.What.{What}
+use Rattle.bus_msg.specs.declared.entry.What.TheVariants.{Mail, Birth, Exit, Page, Sync, Fetch, PageIs, Crash, Return, Rebackup, Done, Stop}
+use Rattle.bus_msg.specs.declared.entry.Entry.{Entry}
+use Rattle.bus_msg.specs.Places.{same_pid}
+use Rattle.bus_msg.specs.PlacedAfter.{what}
+use Rattle.roll_forward.specs.Deeds.{Deed, Sends, Bears, letter_in, child_in, letters_in, births_in}
+use Rattle.cert_sched.specs.Parts.{after_last}
+use Rattle.cert_sched.specs.Schedule.{done, process_after}
+use Rattle.cert_sched.specs.Deeds.{starts, is_cut, is_birth_of, start_of, since, deeds_in, letter_for, to_process, letters_to, numbered, arrived_count, saved_letters, one_if_same}
+use Rattle.cert_sched.specs.Record.{has_state, backup_record, record_with, record_from}
+use Rattle.cert_sched.specs.Kinds.{KindHolds}
+use Rattle.cert_sched.specs.Legal.{IsLegalBy, Stands}
+use Rattle.cert_sched.specs.Simulation.{IsUnended}
+use Rattle.cert_sched.proofs.LogLaws.{IsLegal-before, IsLegal-last}
+use Rattle.cert_sched.proofs.RecordLaws.{backup_record-other, backup_record-goes_on}
+use Rattle.cert_sched.proofs.StepLaws.{is_sent, sent_from}
+use Rattle.cert_sched.proofs.EndsLaws.{process_after-ends}
+use Rattle.cert_sched.proofs.CameLaws.{IsStandingRule}
+use Rattle.cert_sched.proofs.RollLaws.{Rolls, all_roll}
+use Rattle.cert_sched.proofs.OpenLaws.{unended_open}
+use Rattle.cert_sched.proofs.ThereLaws.{unended_there}
+use Rattle.backup_records.specs.Records.{record_after, saved_by_receiver, counted_by_sender, is_receiver, with_saved, with_counted}
+use Rattle.record_laws.specs.Kept.{starts_none}
+
+-- ---- the end that a letter leaves from
+
+silent_32 : (n : ℕ) (s t : ProcState) → silently n s ≡ Some t → length (t.small).ends ≡ length (s.small).ends
+silent_32 zero s t is = ap (λ (x : ProcState). length (x.small).ends) (sym (no_silent s t is))
+silent_32 (suc n) s t is = let l = last_silent n s t is in silent_ends l.before t l.last ∙ silent_32 n s l.before l.made
+
+-- the letter of an entry leaves from one of 32 ends
+pub letter_out : (system : System) (log : List Entry) (e : Entry) (at : ℕ) (letter : Letter) → Stands system log e → what e ≡ Mail at letter → letter.out < 32
+letter_out system log e at letter stands is =
+    let s = is_sent system log letter.from at (Sent letter) (subst (KindHolds system log e) is stands.kind) in
+    let f = sent_from system log letter.from at (Sent letter) s.after s.is in
+    let l = last_sent (at - done f.kernel letter.from) f.was (Sent letter) s.after f.sends in
+    let ends : length (f.was.small).ends ≡ 32 = process_after-ends system log letter.from f.was (ap (option_and_then (λ k. process_at k letter.from)) f.before ∙ f.there) in
+    subst (λ n. letter.out < n) (silent_32 l.earlier f.was l.before l.silent ∙ ends) (letter_leaves l.before s.after letter l.last)
+
+-- ---- a letter
+
+letters_more : (deeds : List Deed) (letter : Letter) → letters_in (deeds ++ Sends (Sent letter) ∷ []) ≡ letters_in deeds ++ letter ∷ []
+letters_more deeds letter = flat_map-append letter_in deeds (Sends (Sent letter) ∷ [])
+
+births_same : (deeds : List Deed) (letter : Letter) → births_in (deeds ++ Sends (Sent letter) ∷ []) ≡ births_in deeds
+births_same deeds letter = flat_map-append child_in deeds (Sends (Sent letter) ∷ []) ∙ append-nil (births_in deeds)
+
+-- what the record of a process has after a letter, by whether it is its receiver and its sender
+abbrev RecordMore : Bool → Bool → Letter → Pid → Bool → List Arrived → ℕ → List Deed → ProcState → BackRec
+RecordMore receives sends letter p stated saved next deeds start =
+    record_with p stated (saved ++ numbered next (cond receives (letter ∷ []) [])) (next + length (cond receives (letter ∷ []) [])) (deeds ++ cond sends (Sends (Sent letter) ∷ []) []) start
+
+sender_more : (receives sends : Bool) (letter : Letter) (p : Pid) (stated : Bool) (saved : List Arrived) (next : ℕ) (deeds : List Deed) (start : ProcState) → letter.out < 32
+    → RecordMore receives sends letter p stated saved next deeds start ≡ cond sends (with_counted letter (RecordMore receives false letter p stated saved next deeds start)) (RecordMore receives false letter p stated saved next deeds start)
+sender_more receives true letter p stated saved next deeds start out =
+    let letters : List Arrived = saved ++ numbered next (cond receives (letter ∷ []) []) in
+    let count : ℕ = next + length (cond receives (letter ∷ []) []) in
+    λ i. record {
+      pid = p;
+      state = (record_with p stated letters count [] start).state;
+      saved = letters;
+      next = count;
+      counts = ((ap counts_of (letters_more deeds letter) ∙ counts_of-append (letters_in deeds) letter out) ∙ ap (λ ds. raised (counts_of (letters_in ds)) letter) (sym (append-nil deeds))) i;
+      births = (births_same deeds letter ∙ ap births_in (sym (append-nil deeds))) i;
+    }
+sender_more receives false letter p stated saved next deeds start out = refl
+
+receiver_more : (receives : Bool) (letter : Letter) (p : Pid) (stated : Bool) (saved : List Arrived) (next : ℕ) (deeds : List Deed) (start : ProcState)
+    → RecordMore receives false letter p stated saved next deeds start ≡ cond receives (with_saved letter (record_with p stated saved next deeds start)) (record_with p stated saved next deeds start)
+receiver_more true letter p stated saved next deeds start = ap (λ ds. record_with p stated (saved ++ record { number = next; letter = letter } ∷ []) (next + 1) ds start) (append-nil deeds)
+receiver_more false letter p stated saved next deeds start = λ i. record_with p stated (append-nil saved i) (add-zero next i) (append-nil deeds i) start
+
+-- by the two tests
+told_by : (receives sends : Bool) (letter : Letter) (r : BackRec) → is_receiver r.pid letter.to ≡ receives → same_pid letter.from r.pid ≡ sends
+    → counted_by_sender letter (saved_by_receiver letter r) ≡ cond sends (with_counted letter (cond receives (with_saved letter r) r)) (cond receives (with_saved letter r) r)
+told_by receives sends letter r to from =
+    ap (counted_by_sender letter) (ap (λ b. cond b (with_saved letter r) r) to) ∙ by_test receives
+  where
+    by_test : (b : Bool) → counted_by_sender letter (cond b (with_saved letter r) r) ≡ cond sends (with_counted letter (cond b (with_saved letter r) r)) (cond b (with_saved letter r) r)
+    by_test true = ap (λ b. cond b (with_counted letter (with_saved letter r)) (with_saved letter r)) from
+    by_test false = ap (λ b. cond b (with_counted letter r) r) from
+
+for_receiver : (p : Pid) (letter : Letter) (to : To) → to_process p letter to ≡ cond (is_receiver p to) (letter ∷ []) []
+for_receiver p letter (Proc q end) = refl
+for_receiver p letter (Tty t) = refl
+
+-- a record that has a letter more, saved and counted, is the one that the letter makes of it
+pub record_told : (at : ℕ) (letter : Letter) (p : Pid) (stated : Bool) (saved : List Arrived) (next : ℕ) (deeds : List Deed) (start : ProcState) → letter.out < 32
+    → record_with p stated (saved ++ numbered next (letter_for p (Mail at letter))) (next + length (letter_for p (Mail at letter))) (deeds ++ deeds_in p (Mail at letter)) start
+    ≡ record_after (Mail at letter) (record_with p stated saved next deeds start)
+record_told at letter p stated saved next deeds start out =
+    let r : BackRec = record_with p stated saved next deeds start in
+    let receives : Bool = is_receiver p letter.to in
+    let sends : Bool = same_pid letter.from p in
+    ap (λ ls. record_with p stated (saved ++ numbered next ls) (next + length ls) (deeds ++ deeds_in p (Mail at letter)) start) (for_receiver p letter letter.to)
+    ∙ sender_more receives sends letter p stated saved next deeds start out
+    ∙ ap (λ x. cond sends (with_counted letter x) x) (receiver_more receives letter p stated saved next deeds start)
+    ∙ sym (told_by receives sends letter r refl refl)
+
+-- ---- one more entry
+
+module _ (May : System → List Entry → Entry → Type 0) (standing : IsStandingRule May) (system : System) (log : List Entry) (e : Entry) (p : Pid) where
+  started_record : (start : ProcState) → start_of system log p ≡ Some start → backup_record system log p ≡ Some (record_from system log p start)
+  unfolding backup_record
+  started_record start started = ap (option_map (record_from system log p)) started
+
+  after_letter : (at : ℕ) (letter : Letter) (now : ProcState) → what e ≡ Mail at letter → Stands system log e → Rolls system log p now → backup_record system (log ++ e ∷ []) p ≡ option_map (record_after (Mail at letter)) (backup_record system log p)
+  after_letter at letter now is stands rolls =
+      let start = rolls.start in
+      let count : start.next + length (letters_to p (after_last (starts p) log)) ≡ arrived_count log p = sym rolls.arrived in
+      backup_record-goes_on system log e p (ap (is_cut p) is) (ap (is_birth_of p) is)
+      ∙ ap (option_map (λ (s : ProcState). record_with p (has_state system log p)
+      (saved_letters log p s ++ numbered (s.next + length (letters_to p (after_last (starts p) log))) (letter_for p (what e)))
+      (arrived_count log p + length (letter_for p (what e)))
+      (since log p ++ deeds_in p (what e)) s)) rolls.started
+      ∙ ap (λ n. Some (record_with p (has_state system log p) (saved_letters log p start ++ numbered n (letter_for p (what e))) (arrived_count log p + length (letter_for p (what e))) (since log p ++ deeds_in p (what e)) start)) count
+      ∙ ap (λ w. Some (record_with p (has_state system log p) (saved_letters log p start ++ numbered (arrived_count log p) (letter_for p w)) (arrived_count log p + length (letter_for p w)) (since log p ++ deeds_in p w) start)) is
+      ∙ ap Some (record_told at letter p (has_state system log p) (saved_letters log p start) (arrived_count log p) (since log p) start (letter_out system log e at letter stands is))
+      ∙ ap (option_map (record_after (Mail at letter))) (sym (started_record start rolls.started))
+
+  kept_by : (f : BackRec → BackRec) → ((r : BackRec) → f r ≡ r) → (o : Option BackRec) → o ≡ option_map f o
+  kept_by f same None = refl
+  kept_by f same (Some r) = ap Some (sym (same r))
+
+  -- an exit of the process is no letter and no birth
+  exit_letters : (b : Bool) (end : End) (deeds : List Deed) → letters_in (deeds ++ cond b (Sends (Ended end) ∷ []) []) ≡ letters_in deeds
+  exit_letters true end deeds = flat_map-append letter_in deeds (Sends (Ended end) ∷ []) ∙ append-nil (letters_in deeds)
+  exit_letters false end deeds = ap letters_in (append-nil deeds)
+
+  exit_births : (b : Bool) (end : End) (deeds : List Deed) → births_in (deeds ++ cond b (Sends (Ended end) ∷ []) []) ≡ births_in deeds
+  exit_births true end deeds = flat_map-append child_in deeds (Sends (Ended end) ∷ []) ∙ append-nil (births_in deeds)
+  exit_births false end deeds = ap births_in (append-nil deeds)
+
+  after_exit_of : (q : Pid) (at : ℕ) (end : End) → what e ≡ Exit q at end → backup_record system (log ++ e ∷ []) p ≡ backup_record system log p
+  unfolding backup_record
+  after_exit_of q at end is =
+      backup_record-goes_on system log e p (ap (is_cut p) is) (ap (is_birth_of p) is)
+      ∙ by_start (start_of system log p)
+    where
+      by_start : (o : Option ProcState) → option_map (λ (s : ProcState). record_with p (has_state system log p)
+          (saved_letters log p s ++ numbered (s.next + length (letters_to p (after_last (starts p) log))) (letter_for p (what e)))
+          (arrived_count log p + length (letter_for p (what e)))
+          (since log p ++ deeds_in p (what e)) s) o ≡ option_map (record_from system log p) o
+      by_start None = refl
+      by_start (Some s) =
+          let next : ℕ = s.next + length (letters_to p (after_last (starts p) log)) in
+          ap (λ w. Some (record_with p (has_state system log p) (saved_letters log p s ++ numbered next (letter_for p w)) (arrived_count log p + length (letter_for p w)) (since log p ++ deeds_in p w) s)) is
+          ∙ (λ i. Some (record {
+            pid = p;
+            state = (record_from system log p s).state;
+            saved = append-nil (saved_letters log p s) i;
+            next = add-zero (arrived_count log p) i;
+            counts = counts_of (exit_letters (same_pid q p) end (since log p) i);
+            births = exit_births (same_pid q p) end (since log p) i;
+          }))
+
+  others_after : (w : What) → what e ≡ w → is_cut p w ≡ false → is_birth_of p w ≡ false → deeds_in p w ≡ [] → letter_for p w ≡ [] → backup_record system (log ++ e ∷ []) p ≡ backup_record system log p
+  others_after w is cut birth deeds letters =
+      backup_record-other system log e p (ap (is_cut p) is ∙ cut) (ap (is_birth_of p) is ∙ birth) (ap (deeds_in p) is ∙ deeds) (ap (letter_for p) is ∙ letters)
+
+  by_kind : (now : ProcState) → Stands system log e → Rolls system log p now → (w : What) → what e ≡ w → starts_none w ≡ true → backup_record system (log ++ e ∷ []) p ≡ option_map (record_after w) (backup_record system log p)
+  by_kind now stands rolls (Mail at letter) is none = after_letter at letter now is stands rolls
+  by_kind now stands rolls (Birth parent at child end) is none = absurd (true≢false (sym none))
+  by_kind now stands rolls (Exit q at end) is none = after_exit_of q at end is ∙ kept_by (record_after (Exit q at end)) (λ r. refl) (backup_record system log p)
+  by_kind now stands rolls (Page pid at index bytes) is none = others_after (Page pid at index bytes) is refl refl refl refl ∙ kept_by (record_after (Page pid at index bytes)) (λ r. refl) (backup_record system log p)
+  by_kind now stands rolls (Sync pid small read took) is none = absurd (true≢false (sym none))
+  by_kind now stands rolls (Fetch pid index) is none = others_after (Fetch pid index) is refl refl refl refl ∙ kept_by (record_after (Fetch pid index)) (λ r. refl) (backup_record system log p)
+  by_kind now stands rolls (PageIs pid index bytes) is none = others_after (PageIs pid index bytes) is refl refl refl refl ∙ kept_by (record_after (PageIs pid index bytes)) (λ r. refl) (backup_record system log p)
+  by_kind now stands rolls (Crash k cause) is none = others_after (Crash k cause) is refl refl refl refl ∙ kept_by (record_after (Crash k cause)) (λ r. refl) (backup_record system log p)
+  by_kind now stands rolls (Return k) is none = others_after (Return k) is refl refl refl refl ∙ kept_by (record_after (Return k)) (λ r. refl) (backup_record system log p)
+  by_kind now stands rolls (Rebackup to fresh recs) is none = absurd (true≢false (sym none))
+  by_kind now stands rolls (Done rests) is none = others_after (Done rests) is refl refl refl refl ∙ kept_by (record_after (Done rests)) (λ r. refl) (backup_record system log p)
+  by_kind now stands rolls Stop is none = others_after Stop is refl refl refl refl ∙ kept_by (record_after Stop) (λ r. refl) (backup_record system log p)
+
+-- an entry that starts no process makes of the record of one that has not ended what `record_after` makes of it
+pub record_follows : (May : System → List Entry → Entry → Type 0) → IsStandingRule May → (system : System) (log : List Entry) (e : Entry) (p : Pid) → is_system system ≡ true → IsLegalBy May system (log ++ e ∷ []) → starts_none (what e) ≡ true → IsUnended system log p
+    → backup_record system (log ++ e ∷ []) p ≡ option_map (record_after (what e)) (backup_record system log p)
+record_follows May standing system log e p valid legal none unended = by_process (process_after system log p) refl (unended_there May standing system log p valid before unended)
+  where
+    before : IsLegalBy May system log
+    before = IsLegal-before May system log e legal
+
+    by_process : (o : Option ProcState) → process_after system log p ≡ o → is_some o ≡ true → backup_record system (log ++ e ∷ []) p ≡ option_map (record_after (what e)) (backup_record system log p)
+    by_process None there some = absurd (true≢false (sym some))
+    by_process (Some now) there some =
+        by_kind May standing system log e p now (standing system log e (IsLegal-last May system log e legal))
+        ((all_roll May standing system log valid before).rolls p now there (unended_open May standing system log p valid before unended now there)) (what e) refl none

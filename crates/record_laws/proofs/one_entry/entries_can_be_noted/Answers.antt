@@ -1,0 +1,12 @@
+use Rattle.record_laws.proofs.Counts.{next_fits}
+use Rattle.record_laws.proofs.KeptLaws.{can_note, counted_below}
+use Rattle.record_laws.proofs.one_entry.entries_can_be_noted.Goals as goal
+
+pub returns-clause-room : goal.returns-clause-room
+returns-clause-room c = next_fits
+
+pub returns-clause-counts : goal.returns-clause-counts
+returns-clause-counts c = counted_below
+
+pub returns-clause-legal : goal.returns-clause-legal
+returns-clause-legal c = can_note

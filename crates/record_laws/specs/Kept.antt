@@ -1,0 +1,35 @@
+-- The records of a cluster beside a log.
+use Rattle.std.specs.Prelude.{◌≡◌, Bool, true, false, if◌then◌else◌, List, Option, None}
+use Rattle.std.specs.Option.{option_map_or}
+use Rattle.t32_base.specs.declared.process.Pid.{Pid}
+use Rattle.t32_base.specs.declared.process.ClusterNo.{ClusterNo}
+use Rattle.t32_base.specs.declared.letter.BackRec.{BackRec}
+use Rattle.sys_text.specs.declared.system.System.{System}
+use Rattle.bus_msg.specs.declared.entry.What.{What}
+use Rattle.bus_msg.specs.declared.entry.What.TheVariants.{Birth, Sync, Crash, Rebackup}
+use Rattle.bus_msg.specs.declared.entry.Entry.{Entry}
+use Rattle.bus_msg.specs.declared.placed.Placed.{Placed}
+use Rattle.bus_msg.specs.Places.{is_cluster, unended_at}
+use Rattle.cert_sched.specs.Schedule.{placement}
+use Rattle.cert_sched.specs.Record.{backup_record}
+use Rattle.backup_records.specs.Records.{record_in}
+
+-- the process has not ended, and its backup is in the cluster
+abbrev pub has_backup_in : System → List Entry → ClusterNo → Pid → Bool
+has_backup_in system log k p = option_map_or (λ (q : Placed). is_cluster q.backup k) (unended_at (placement system log) p) false
+
+-- the records of a cluster are those of the log for each such process, and there is no other
+abbrev pub KeepsRecords : System → List Entry → ClusterNo → List BackRec → Type 0
+KeepsRecords system log k recs = (p : Pid) → record_in recs p ≡ (if has_backup_in system log k p then backup_record system log p else None)
+
+-- the kinds that start no process, again or anew: all but births, synchronisations and new backups
+abbrev pub starts_none : What → Bool
+starts_none (Birth parent at child end) = false
+starts_none (Sync pid small read took) = false
+starts_none (Rebackup to fresh recs) = false
+starts_none w = true
+
+-- and no loss, at which records leave
+abbrev pub changes_in_place : What → Bool
+changes_in_place (Crash k cause) = false
+changes_in_place w = starts_none w

@@ -1,0 +1,4 @@
+//! What the log says of the records that a cluster keeps: laws and no code.
+#![tactic(auto)]
+
+pub mod one_entry;
