@@ -85,7 +85,7 @@ homes_apart system log k valid legal =
     sym (pids_kept (placement system log).placed) ∙ ap kept_pids (built_kept system log legal) ∙ pids_kept (places_at_boot system).placed in
     apart_fewer (is_at_home k) (placement system log).placed (subst NoTwo (sym same) (apart_of (places_at_boot system).placed (root_pids_differ system valid)))
 
-held_apart : (c : ClusterView) → is_system c.system ≡ true → FollowsSome c → NoTwo (pids_in c.here)
+pub held_apart : (c : ClusterView) → is_system c.system ≡ true → FollowsSome c → NoTwo (pids_in c.here)
 held_apart c valid f =
     apart_unsorted (pids_in c.here)
     (subst NoTwo (sym (((f.follows).processes).each_once)) (rising-apart (home_pids c.system f.log c.number) (homes_apart c.system f.log c.number valid (f.open_log).0)))

@@ -1,5 +1,5 @@
 -- What a cluster makes of a bus that no other has.
-use Rattle.std.proofs.Common.{◌≡◌, ℕ, ◌+◌, ◌≤◌, ◌<◌, ◌⊎◌, inl, inr, sym, ◌∙◌, ap, subst, arith, [], ◌++◌, length, append_assoc, Bool, true, Option, Some, None, OnOk, Result, Ok, Err, true≢false}
+use Rattle.std.proofs.Common.{◌≡◌, ℕ, ◌+◌, ◌-◌, ◌≤◌, ◌<◌, ◌⊎◌, inl, inr, refl, sym, ◌∙◌, ap, subst, arith, [], ◌++◌, length, append_assoc, Bool, true, Option, Some, None, OnOk, Result, Ok, Err, true≢false}
 use Rattle.std.proofs.lemmas.List.{length-map, length-set}
 use Rattle.std.proofs.lemmas.List.Elements.{All-append}
 use Rattle.t32_base.specs.declared.process.ClusterNo.{ClusterNo}
@@ -22,11 +22,11 @@ use Rattle.bus_order.proofs.OverLaws.{finished-snoc}
 use Rattle.cluster_run.specs.declared.offers.Offered.TheVariants.{Sent, Behind, Over}
 use Rattle.cluster_run.specs.Along.{IsAlong, IsOwned, IsSound, TakesIn}
 use Rattle.cluster_run.specs.Offers.{Adds, OfferIs, TellIs, Visits}
-use Rattle.cluster_run.specs.Progress.{IsOver, Rests}
+use Rattle.cluster_run.specs.Progress.{Falls, IsAtMost, IsOver, Rests, log_load, remaining_of}
 use Rattle.cluster_run.specs.Turns.{GoesOwn, SendsOwn, TellsOwn, TurnsOwn}
 use Rattle.cluster_run.proofs.Offering.{adds_none, alone_later, alone_left}
 use Rattle.cluster_run.proofs.Progressing.{told_rest}
-use Rattle.cluster_run.proofs.Sending.{IsSent, sent_goes_on}
+use Rattle.cluster_run.proofs.Sending.{IsSent, sent_goes_on, sent_spends}
 
 pub adds_more : (k : ClusterNo) (a b c : BusView) → Adds k a b → Adds k b c → Adds k a c
 adds_more k a b c one two = record {
@@ -37,10 +37,10 @@ adds_more k a b c one two = record {
 }
 
 pub sends_none : (k : ClusterNo) (b : BusView) → GoesOwn b → SendsOwn k b b
-sends_none k b own = record { goes_on = own; adds = adds_none k b }
+sends_none k b own = record { goes_on = own; adds = adds_none k b; spends = omega arith }
 
 pub sends_more : (k : ClusterNo) (a b c : BusView) → SendsOwn k a b → SendsOwn k b c → SendsOwn k a c
-sends_more k a b c one two = record { goes_on = two.goes_on; adds = adds_more k a b c one.adds two.adds }
+sends_more k a b c one two = record { goes_on = two.goes_on; adds = adds_more k a b c one.adds two.adds; spends = let less = one.spends in let more = two.spends in omega (arith, less, more) }
 
 -- ---- a post
 
@@ -59,6 +59,11 @@ module _ (a : Bool) (alone : a ≡ true) (b after : BusView) (c : ClusterView) (
           sent_goes_on (v.found).log c post after s,
         );
         adds = adds;
+        spends =
+            let found : v.found ≡ b = alone_later a c.number b v.found alone v.later in
+            let load_is : log_load c.system (v.found).log ≡ log_load b.system b.log = λ i. log_load ((s.system ∙ adds.system) i) (found i).log in
+            let long : length (v.found).log ≡ length b.log = ap (λ (x : BusView). length x.log) found in
+            omega (arith, sent_spends (v.found).log c post after s, load_is, long);
       }
 
   -- one that had seen all of the log is not refused
@@ -75,7 +80,7 @@ module _ (a : Bool) (alone : a ≡ true) (b after : BusView) (c : ClusterView) (
 
 -- ---- a rest
 
-told_owned : (b after : BusView) (k : ClusterNo) (cursor : ℕ) (m : Mark) (t : Option Idled) → GoesOwn b → IsSound after → cursor ≡ length b.log → k.0 < (b.system).clusters → TellIs k cursor m t b after → IsOwned after × (IsOver after ⊎ Rests b after k.0 (k.0 + 1))
+told_owned : (b after : BusView) (k : ClusterNo) (cursor : ℕ) (m : Mark) (t : Option Idled) → GoesOwn b → IsSound after → cursor ≡ length b.log → k.0 < (b.system).clusters → TellIs k cursor m t b after → IsOwned after × (IsOver after ⊎ ((after.log ≡ b.log) × Rests b after k.0 (k.0 + 1)))
 told_owned b after k cursor m (Some Marked) own sound seen has is = (
   record {
     valid = ap (λ (x : BusView). is_system x.system) is.3 ∙ (own.0).valid;
@@ -108,47 +113,66 @@ told_own a alone b after c m t own sound along seen adds v =
     let done = told_owned b after c.number c.cursor m t own sound seen has is in
     record { owned = done.0; adds = adds; rests = done.1 }
 
+-- ---- turns
+
 -- a process of the cluster moved, and sent nothing
-pub moves_turn : (b mid : BusView) (c caught worked : ClusterView) → mid ≡ b → GoesOwn b → TakesIn mid c caught → load worked + 1 ≤ load caught → worked.queue ≡ [] → TurnsOwn b mid c worked
-moves_turn b mid c caught worked same own taken less empty = record {
-  owned = subst IsOwned (sym same) own.0;
-  adds = subst (λ x. Adds c.number b x) (sym same) (adds_none c.number b);
-  empty = empty;
-  lighter = omega (arith, less, taken.lighter);
-  gets_on = inl (omega (arith, less, taken.lighter));
-}
+pub moves_turn : (b mid : BusView) (c caught worked : ClusterView) → mid ≡ b → GoesOwn b → TakesIn mid c caught → load worked + 1 ≤ load caught → worked.cursor ≡ caught.cursor → worked.queue ≡ [] → TurnsOwn b mid c worked
+moves_turn b mid c caught worked same own taken less cursor empty =
+    let takes : TakesIn b c caught = subst (λ x. TakesIn x c caught) same taken in
+    let falls = by_taken takes takes.some in
+    subst (λ x. TurnsOwn b x c worked) (sym same) (record {
+      owned = own.0;
+      adds = adds_none c.number b;
+      empty = empty;
+      spends = inr (inr refl);
+      lasts = inr (inl falls);
+      gets_on = inl falls;
+    })
+  where
+    by_taken : TakesIn b c caught → (c.cursor < caught.cursor) ⊎ (caught ≡ c) → Falls (remaining_of b c) (remaining_of b worked)
+    by_taken takes (inl more) = let within = ((takes.along).beside).within in inr (inl (refl, omega (arith, more, within, cursor)))
+    by_taken takes (inr is) = inr (inr (refl, ap (λ n. length b.log - n) (cursor ∙ ap (λ (v : ClusterView). v.cursor) is), (let heavy : load caught ≡ load c = ap load is in omega (arith, less, heavy))))
 
 -- the cluster worked and then told so: its turn is over
 pub tells_turn : (b mid after : BusView) (c caught new : ClusterView) → mid ≡ b → TakesIn mid c caught → new ≡ counted_once caught → c.queue ≡ [] → TellsOwn new.number mid after → TurnsOwn b after c new
 tells_turn b mid after c caught new same taken is empty tells =
-    let number : new.number ≡ c.number = ap (λ (v : ClusterView). v.number) is ∙ (taken.same).number in
+    let takes : TakesIn b c caught = subst (λ x. TakesIn x c caught) same taken in
+    let number : new.number ≡ c.number = ap (λ (v : ClusterView). v.number) is ∙ (takes.same).number in
     let t : TellsOwn c.number b after = subst (λ x. TellsOwn c.number x after) same (subst (λ k. TellsOwn k mid after) number tells) in
-    let load_is : load new ≡ load caught = ap load is in
     record {
       owned = t.owned;
       adds = t.adds;
-      empty = ap (λ (v : ClusterView). v.queue) is ∙ taken.queue ∙ empty;
-      lighter = omega (arith, load_is, taken.lighter);
-      gets_on = inr t.rests;
+      empty = ap (λ (v : ClusterView). v.queue) is ∙ takes.queue ∙ empty;
+      spends = elim t.rests [ inl over ↦ inl over | inr rest ↦ inr (inr rest.0) ];
+      lasts = elim t.rests [ inl over ↦ inl over | inr rest ↦ inr (at_most takes (t.adds).system rest.0 takes.some) ];
+      gets_on = elim t.rests [ inl over ↦ inr (inl over) | inr rest ↦ inr (inr rest.1) ];
     }
+  where
+    at_most : TakesIn b c caught → after.system ≡ b.system → after.log ≡ b.log → (c.cursor < caught.cursor) ⊎ (caught ≡ c) → IsAtMost (remaining_of b c) (remaining_of after new)
+    at_most takes system log (inl more) =
+        let within = ((takes.along).beside).within in
+        let cursor : new.cursor ≡ caught.cursor = ap (λ (v : ClusterView). v.cursor) is in
+        let long : length after.log ≡ length b.log = ap length log in
+        inl (inr (inl ((λ i. log_load (system i) (log i)), omega (arith, more, within, cursor, long))))
+    at_most takes system log (inr none) = inr ((λ i. log_load (system i) (log i)), (λ i. length (log i) - ((ap (λ (v : ClusterView). v.cursor) is ∙ ap (λ (v : ClusterView). v.cursor) none) i)), ap load is ∙ ap load none)
 
 -- the cluster worked and then sent its posts
-pub sends_turn : (b mid after : BusView) (c caught worked new : ClusterView) → mid ≡ b → TakesIn mid c caught → worked.number ≡ caught.number → load worked + 1 ≤ load caught → load new ≤ load worked → SendsOwn worked.number mid after → new.queue ≡ [] → TurnsOwn b after c new
-sends_turn b mid after c caught worked new same taken number_is less later sends empty =
+pub sends_turn : (b mid after : BusView) (c caught worked new : ClusterView) → mid ≡ b → TakesIn mid c caught → worked.number ≡ caught.number → length mid.log < length after.log → SendsOwn worked.number mid after → new.queue ≡ [] → TurnsOwn b after c new
+sends_turn b mid after c caught worked new same taken number_is longer sends empty =
     let number : worked.number ≡ c.number = number_is ∙ (taken.same).number in
     let t : SendsOwn c.number b after = subst (λ x. SendsOwn c.number x after) same (subst (λ k. SendsOwn k mid after) number sends) in
+    let grown : length b.log < length after.log = subst (λ (x : BusView). length x.log < length after.log) same longer in
+    let spent = t.spends in
+    let less : log_load after.system after.log < log_load b.system b.log = omega (arith, grown, spent) in
     record {
       owned = (t.goes_on).0;
       adds = t.adds;
       empty = empty;
-      lighter = omega (arith, less, later, taken.lighter);
-      gets_on = inl (omega (arith, less, later, taken.lighter));
+      spends = inr (inl less);
+      lasts = inr (inl (inl less));
+      gets_on = inl (inl less);
     }
 
 pub where_ok : {A E : Type 0} (r : Result A E) (P Q : Type 0) → (P → Q) → OnOk r P → OnOk r Q
 where_ok (Ok a) P Q then holds = then holds
 where_ok (Err e) P Q then holds = tt
-
-pub both_ok : {A E : Type 0} (r : Result A E) (P Q : Type 0) → OnOk r P → OnOk r Q → OnOk r (P × Q)
-both_ok (Ok a) P Q one two = (one, two)
-both_ok (Err e) P Q one two = tt

@@ -1,7 +1,7 @@
--- Each round leaves less to do, or ends the run.
+-- Each turn that does something leaves less to do, and each round does, or ends the run.
 use Rattle.std.proofs.Common.{◌≡◌, ℕ, zero, suc, ◌+◌, ◌≤◌, ◌<◌, ◌≢◌, ◌⊎◌, inl, inr, refl, sym, ◌∙◌, ap, subst, arith, List, [], ◌∷◌, length, Bool, false, true, ◌||◌, ◌&&◌, Option, Some, None, get_or, slice_set, true≢false, eq-eqb, eqb-true, Ok}
 use Rattle.std.specs.Prelude.{is_none, is_some, nat_eq, nat_lt, option_map, slice_get}
-use Rattle.std.specs.List.{list_any, range_with_len}
+use Rattle.std.specs.List.{list_any, range_with_len, sum_by}
 use Rattle.std.proofs.lemmas.List.Sums.{sum_by-set}
 use Rattle.std.proofs.lemmas.Bool.Decides.{nat_tests}
 use Rattle.std.proofs.lemmas.Option.{slice_get-map}
@@ -18,7 +18,8 @@ use Rattle.bus_order.specs.declared.marks.Idled.{Idled}
 use Rattle.bus_order.specs.declared.marks.Idled.TheVariants.{Marked, Done as WasDone}
 use Rattle.bus_order.specs.View.{BusView, Idles, is_awaited, mark_in, with_mark}
 use Rattle.bus_order.proofs.MarksLaws.{mark_in-get_or}
-use Rattle.cluster_run.specs.Progress.{total, IsOver, HasMark, IsAwaiting, Rests, GetsOn}
+use Rattle.cluster_run.specs.Progress.{Falls, GetsOn, HasMark, IsAtMost, IsAwaiting, IsOver, Remaining, Rests, remaining, remaining_of, total, unseen}
+use Rattle.cluster_run.specs.Turns.{TurnsOwn}
 use Rattle.cert_sched.specs.Legal.{IsLegalBy}
 use Rattle.cert_sched.specs.Built.{BuiltMayFollow}
 
@@ -45,18 +46,48 @@ marked_still b k m n within had = by_place (nat_eq n k.0) refl had
     ]
 
 -- what a bus made of an idle cluster
-pub told_rest : (b after : BusView) (k : ClusterNo) (cursor : ℕ) (m : Mark) (idled : Idled) → Idles b k cursor m (Ok idled) after → k.0 < length b.marks → IsOver after ⊎ Rests b after k.0 (k.0 + 1)
-told_rest b after k cursor m Marked idles within = inr (record {
-  marked = λ n low high. along (λ (x : BusView). HasMark x n) (marked_still b k m n within (inr (omega (arith, low, high))));
-  kept = λ n has. along (λ (x : BusView). HasMark x n) (marked_still b k m n within (inl has));
-  awaits = λ any. let P : BusView → Type 0 = λ x. is_awaited (placement x.system x.log) after.marks ≡ true in subst P (sym (λ i. record (idles.3 i) { marks = b.marks })) idles.2;
-})
+pub told_rest : (b after : BusView) (k : ClusterNo) (cursor : ℕ) (m : Mark) (idled : Idled) → Idles b k cursor m (Ok idled) after → k.0 < length b.marks → IsOver after ⊎ ((after.log ≡ b.log) × Rests b after k.0 (k.0 + 1))
+told_rest b after k cursor m Marked idles within = inr (
+  ap (λ (x : BusView). x.log) idles.3,
+  record {
+    marked = λ n low high. along (λ (x : BusView). HasMark x n) (marked_still b k m n within (inr (omega (arith, low, high))));
+    kept = λ n has. along (λ (x : BusView). HasMark x n) (marked_still b k m n within (inl has));
+    awaits = λ any. let P : BusView → Type 0 = λ x. is_awaited (placement x.system x.log) after.marks ≡ true in subst P (sym (λ i. record (idles.3 i) { marks = b.marks })) idles.2;
+  },
+)
   where
     along : (P : BusView → Type 0) → P (with_mark b k m) → P after
     along P holds = subst P (sym idles.3) holds
 told_rest b after k cursor m (WasDone at) idles within =
     let ends = idles.3 in
     inl (let P : BusView → Type 0 = λ x. is_over x.system x.log ≡ true in subst P (sym ends.ended) (is_over-snoc b.system b.log _))
+
+-- ---- what is left
+
+pub falls_then : (a b c : Remaining) → Falls a b → IsAtMost b c → Falls a c
+falls_then a b c (inl x) (inl (inl y)) = inl (omega (arith, x, y))
+falls_then a b c (inl x) (inl (inr (inl y))) = inl (omega (arith, x, y.0))
+falls_then a b c (inl x) (inl (inr (inr y))) = inl (omega (arith, x, y.0))
+falls_then a b c (inl x) (inr y) = inl (omega (arith, x, y.0))
+falls_then a b c (inr (inl x)) (inl (inl y)) = inl (omega (arith, x.0, y))
+falls_then a b c (inr (inl x)) (inl (inr (inl y))) = inr (inl (y.0 ∙ x.0, omega (arith, x.1, y.1)))
+falls_then a b c (inr (inl x)) (inl (inr (inr y))) = inr (inl (y.0 ∙ x.0, omega (arith, x.1, y.1)))
+falls_then a b c (inr (inl x)) (inr y) = inr (inl (y.0 ∙ x.0, omega (arith, x.1, y.1)))
+falls_then a b c (inr (inr x)) (inl (inl y)) = inl (omega (arith, x.0, y))
+falls_then a b c (inr (inr x)) (inl (inr (inl y))) = inr (inl (y.0 ∙ x.0, omega (arith, x.1, y.1)))
+falls_then a b c (inr (inr x)) (inl (inr (inr y))) = inr (inr (y.0 ∙ x.0, y.1 ∙ x.1, omega (arith, x.2, y.2)))
+falls_then a b c (inr (inr x)) (inr y) = inr (inr (y.0 ∙ x.0, y.1 ∙ x.1, omega (arith, x.2, y.2)))
+
+pub then_falls : (a b c : Remaining) → IsAtMost a b → Falls b c → Falls a c
+then_falls a b c (inl x) y = falls_then a b c x (inl y)
+then_falls a b c (inr x) (inl y) = inl (omega (arith, x.0, y))
+then_falls a b c (inr x) (inr (inl y)) = inr (inl (y.0 ∙ x.0, omega (arith, x.1, y.1)))
+then_falls a b c (inr x) (inr (inr y)) = inr (inr (y.0 ∙ x.0, y.1 ∙ x.1, omega (arith, x.2, y.2)))
+
+pub at_most_then : (a b c : Remaining) → IsAtMost a b → IsAtMost b c → IsAtMost a c
+at_most_then a b c (inl x) y = inl (falls_then a b c x y)
+at_most_then a b c (inr x) (inl y) = inl (then_falls a b c (inr x) y)
+at_most_then a b c (inr x) (inr y) = inr (y.0 ∙ x.0, y.1 ∙ x.1, y.2 ∙ x.2)
 
 -- ---- turns
 
@@ -68,15 +99,83 @@ nat_lt_or m n = by_test (nat_lt m n) refl
     by_test false is = inr (grind (arith, nat_tests))
 
 -- what the turn of one cluster makes of all
-pub turn_gets_on : (b after : BusView) (cs : List ClusterView) (n : ℕ) (d new : ClusterView) → n < length cs → ((get_or cs n d).number).0 ≡ n
-    → GetsOn b after (load (get_or cs n d)) (load new) ((get_or cs n d).number).0 (((get_or cs n d).number).0 + 1) → GetsOn b after (total cs) (total (slice_set cs n new)) n (n + 1)
-turn_gets_on b after cs n d new within number gets = elim gets [
-  | inl less ↦ inl (omega (arith, less, sum_by-set load cs n new d within))
-  | inr more ↦ inr (subst (λ k. IsOver after ⊎ Rests b after k (k + 1)) number more)
-]
+module _ (b after : BusView) (cs : List ClusterView) (n : ℕ) (d new : ClusterView) (within : n < length cs) (number : ((get_or cs n d).number).0 ≡ n) (t : TurnsOwn b after (get_or cs n d) new) where
+  moves_are : total (slice_set cs n new) + load (get_or cs n d) ≡ total cs + load new
+  moves_are = omega (arith, sum_by-set load cs n new d within)
 
-pub turn_lighter : (cs : List ClusterView) (n : ℕ) (d new : ClusterView) → n < length cs → load new ≤ load (get_or cs n d) → total (slice_set cs n new) ≤ total cs
-turn_lighter cs n d new within less = omega (arith, less, sum_by-set load cs n new d within)
+  entries_are : after.log ≡ b.log → sum_by (unseen after.log) (slice_set cs n new) + unseen b.log (get_or cs n d) ≡ sum_by (unseen b.log) cs + unseen after.log new
+  entries_are same =
+      let sums : sum_by (unseen b.log) (slice_set cs n new) + unseen b.log (get_or cs n d) ≡ sum_by (unseen b.log) cs + unseen b.log new = omega (arith, sum_by-set (unseen b.log) cs n new d within) in
+      subst (λ l. sum_by (unseen l) (slice_set cs n new) + unseen b.log (get_or cs n d) ≡ sum_by (unseen b.log) cs + unseen l new) (sym same) sums
+
+  falls_alone : after.log ≡ b.log → Falls (remaining_of b (get_or cs n d)) (remaining_of after new) → Falls (remaining b cs) (remaining after (slice_set cs n new))
+  falls_alone same (inl less) = inl less
+  falls_alone same (inr (inl less)) = let sums = entries_are same in inr (inl (less.0, omega (arith, less.1, sums)))
+  falls_alone same (inr (inr less)) = let sums = entries_are same in let moves = moves_are in inr (inr (less.0, omega (arith, less.1, sums), omega (arith, less.2, moves)))
+
+  turn_falls : Falls (remaining_of b (get_or cs n d)) (remaining_of after new) → Falls (remaining b cs) (remaining after (slice_set cs n new)) ⊎ IsOver after
+  turn_falls falls = elim t.spends [
+    | inl over ↦ inr over
+    | inr more ↦ elim more [ inl less ↦ inl (inl less) | inr same ↦ inl (falls_alone same falls) ]
+  ]
+
+  by_one : after.log ≡ b.log → IsOver after ⊎ IsAtMost (remaining_of b (get_or cs n d)) (remaining_of after new) → IsOver after ⊎ IsAtMost (remaining b cs) (remaining after (slice_set cs n new))
+  by_one same (inl over) = inl over
+  by_one same (inr (inl falls)) = inr (inl (falls_alone same falls))
+  by_one same (inr (inr kept)) = let sums = entries_are same in let moves = moves_are in inr (inr (kept.0, omega (arith, kept.1, sums), omega (arith, kept.2, moves)))
+
+  pub turn_lasts : IsOver after ⊎ IsAtMost (remaining b cs) (remaining after (slice_set cs n new))
+  turn_lasts = elim t.spends [
+    | inl over ↦ inl over
+    | inr more ↦ elim more [ inl less ↦ inr (inl (inl less)) | inr same ↦ by_one same t.lasts ]
+  ]
+
+  pub turn_gets_on : GetsOn b after (remaining b cs) (remaining after (slice_set cs n new)) n (n + 1)
+  turn_gets_on = elim t.gets_on [
+    | inl falls ↦ elim (turn_falls falls) [ inl less ↦ inl less | inr over ↦ inr (inl over) ]
+    | inr more ↦ inr (subst (λ k. IsOver after ⊎ Rests b after k (k + 1)) number more)
+  ]
+
+-- no turn yet
+pub none_given : (b : BusView) (left : Remaining) (from : ℕ) → GetsOn b b left left from from
+none_given b left from = inr (inr (record {
+  marked = λ n low high. absurd (omega (arith, low, high));
+  kept = λ n has. has;
+  awaits = λ any. elim any [ inl less ↦ absurd (omega (arith, less)) | inr awaiting ↦ awaiting ];
+}))
+
+-- one turn more
+module _ (b mid after : BusView) (left now still : Remaining) (from n : ℕ) (over : IsOver mid → IsOver after) (first : IsOver mid ⊎ IsAtMost left now) (last : IsOver after ⊎ IsAtMost now still) where
+  by_last : Falls left now → IsOver after ⊎ IsAtMost now still → GetsOn b after left still from (n + 1)
+  by_last falls (inl ended) = inr (inl ended)
+  by_last falls (inr less) = inl (falls_then left now still falls less)
+
+  by_first : Falls now still → IsOver mid ⊎ IsAtMost left now → GetsOn b after left still from (n + 1)
+  by_first falls (inl ended) = inr (inl (over ended))
+  by_first falls (inr less) = inl (then_falls left now still less falls)
+
+  by_place : (m : ℕ) → Rests b mid from n → Rests mid after n (n + 1) → (m < n) ⊎ (n ≤ m) → from ≤ m → m < n + 1 → HasMark after m
+  by_place m one two (inl earlier) low high = two.kept m (one.marked m low earlier)
+  by_place m one two (inr here) low high = two.marked m here high
+
+  by_next : Rests b mid from n → GetsOn mid after now still n (n + 1) → GetsOn b after left still from (n + 1)
+  by_next one (inl falls) = by_first falls first
+  by_next one (inr (inl ended)) = inr (inl ended)
+  by_next one (inr (inr two)) = inr (inr (record {
+    marked = λ m low high. by_place m one two (nat_lt_or m n) low high;
+    kept = λ m has. two.kept m (one.kept m has);
+    awaits = λ any. two.awaits (inl (omega arith));
+  }))
+
+  pub one_given : GetsOn b mid left now from n → GetsOn mid after now still n (n + 1) → GetsOn b after left still from (n + 1)
+  one_given (inl falls) next = by_last falls last
+  one_given (inr (inl ended)) next = inr (inl (over ended))
+  one_given (inr (inr one)) next = by_next one next
+
+pub lasts_then : (mid after : BusView) (left now still : Remaining) → (IsOver mid → IsOver after) → IsOver mid ⊎ IsAtMost left now → IsOver after ⊎ IsAtMost now still → IsOver after ⊎ IsAtMost left still
+lasts_then mid after left now still over (inl ended) last = inl (over ended)
+lasts_then mid after left now still over (inr less) (inl ended) = inl ended
+lasts_then mid after left now still over (inr less) (inr more) = inr (at_most_then left now still less more)
 
 -- ---- a round
 
@@ -107,27 +206,31 @@ none_awaited b legal all = any_none (λ k. lives_in (placement b.system b.log) k
         subst (λ k. (lives_in (placement b.system b.log) k && is_none (mark_in b.marks k)) ≡ false) same (not_none (lives_in (placement b.system b.log) (cluster_no i)) (mark_in b.marks (cluster_no i)) (all i within))
 
 -- a round leaves less to do, or the log is over
-pub round_gets_on : (b then after : BusView) (left still now first count : ℕ) → IsLegalBy BuiltMayFollow after.system after.log → count ≡ (after.system).clusters → first < count → (IsOver then → IsOver after) → now ≤ still → still ≤ left
-    → GetsOn b then left still first count → GetsOn then after still now 0 first → (now + 1 ≤ left) ⊎ IsOver after
-round_gets_on b then after left still now first count legal each within over less lessen before next = elim before [
-  | inl done ↦ inl (omega (arith, done, less))
-  | inr more ↦ after_rest more
-]
-  where
-    rests : Rests b then first count → Rests then after 0 first → ⊥
-    rests one two =
-        let awaited : IsAwaiting after = two.awaits (inr (one.awaits (inl within))) in
-        true≢false (sym awaited ∙ none_awaited after legal (λ n low. by_place n (nat_lt_or n first) (omega (arith, low, each))))
-      where
-        by_place : (n : ℕ) → (n < first) ⊎ (first ≤ n) → n < count → HasMark after n
-        by_place n (inl before) low = two.marked n (omega arith) before
-        by_place n (inr later) low = two.kept n (one.marked n later low)
+module _ (b then after : BusView) (left still now : Remaining) (first count : ℕ) (legal : IsLegalBy BuiltMayFollow after.system after.log) (each : count ≡ (after.system).clusters) (within : first < count) (over : IsOver then → IsOver after)
+    (first_lasts : IsOver then ⊎ IsAtMost left still) (second_lasts : IsOver after ⊎ IsAtMost still now) where
+  all_marked : Rests b then first count → Rests then after 0 first → (n : ℕ) → (n < first) ⊎ (first ≤ n) → n < count → HasMark after n
+  all_marked one two n (inl earlier) low = two.marked n (omega arith) earlier
+  all_marked one two n (inr later) low = two.kept n (one.marked n later low)
 
-    then_next : Rests b then first count → GetsOn then after still now 0 first → (now + 1 ≤ left) ⊎ IsOver after
-    then_next one (inl done) = inl (omega (arith, done, lessen))
-    then_next one (inr (inl ended)) = inr ended
-    then_next one (inr (inr two)) = absurd (rests one two)
+  never_rest : Rests b then first count → Rests then after 0 first → ⊥
+  never_rest one two =
+      let awaited : IsAwaiting after = two.awaits (inr (one.awaits (inl within))) in
+      true≢false (sym awaited ∙ none_awaited after legal (λ n low. all_marked one two n (nat_lt_or n first) (omega (arith, low, each))))
 
-    after_rest : IsOver then ⊎ Rests b then first count → (now + 1 ≤ left) ⊎ IsOver after
-    after_rest (inl ended) = inr (over ended)
-    after_rest (inr one) = then_next one next
+  second_after : Falls left still → IsOver after ⊎ IsAtMost still now → Falls left now ⊎ IsOver after
+  second_after falls (inl ended) = inr ended
+  second_after falls (inr less) = inl (falls_then left still now falls less)
+
+  first_before : Falls still now → IsOver then ⊎ IsAtMost left still → Falls left now ⊎ IsOver after
+  first_before falls (inl ended) = inr (over ended)
+  first_before falls (inr less) = inl (then_falls left still now less falls)
+
+  after_rest : Rests b then first count → GetsOn then after still now 0 first → Falls left now ⊎ IsOver after
+  after_rest one (inl falls) = first_before falls first_lasts
+  after_rest one (inr (inl ended)) = inr ended
+  after_rest one (inr (inr two)) = absurd (never_rest one two)
+
+  pub round_gets_on : GetsOn b then left still first count → GetsOn then after still now 0 first → Falls left now ⊎ IsOver after
+  round_gets_on (inl falls) next = second_after falls second_lasts
+  round_gets_on (inr (inl ended)) next = inr (over ended)
+  round_gets_on (inr (inr one)) next = after_rest one next

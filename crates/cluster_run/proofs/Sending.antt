@@ -15,7 +15,7 @@ use Rattle.cert_sched.specs.Legal.{IsLegalBy}
 use Rattle.cert_sched.specs.Built.{BuiltMayFollow, is_built}
 use Rattle.cert_sched.specs.Losses.{is_by_cluster, is_from}
 use Rattle.cert_sched.proofs.LogLaws.{IsLegal-snoc}
-use Rattle.cluster_core.specs.View.{ClusterView, head_of, load, after_head, after_sent}
+use Rattle.cluster_core.specs.View.{ClusterView, head_of, after_head, after_sent}
 use Rattle.cluster_core.specs.Queue.{IsQueueLegal}
 use Rattle.cluster_core.specs.Follows.{FollowsBuilt, IsOpen}
 use Rattle.cluster_core.specs.Calls.{Absorbs, IsReady, ReadyFor, absorbed}
@@ -23,8 +23,10 @@ use Rattle.cluster_core.proofs.Following.{no_end}
 use Rattle.bus_order.specs.View.{BusView}
 use Rattle.bus_order.proofs.OverLaws.{closed-snoc, over_closed}
 use Rattle.cluster_run.specs.Along.{IsAlong, IsBeside, IsReadyAt, IsSound, TakesNext}
+use Rattle.cluster_run.specs.Progress.{log_load}
 use Rattle.cluster_run.proofs.Prefixes.{drop_whole, get_last}
-use Rattle.cluster_run.proofs.TakingIn.{load_taken, open_all}
+use Rattle.cluster_run.proofs.StepsLeft.{entry_leaves}
+use Rattle.cluster_run.proofs.TakingIn.{open_all}
 
 -- a cluster whose one post was sent
 abbrev pub cleared : ClusterView → ClusterView
@@ -82,6 +84,14 @@ module _ (log : List Entry) (c : ClusterView) (post : Post) (after : BusView) (s
   pub sent_goes_on : is_over after.system after.log ≡ false
   sent_goes_on = (λ i. is_over (sym s.system i) (s.longer i)) ∙ goes_on_next
 
+  -- it leaves the kernel without failures a step fewer, at least
+  pub sent_spends : log_load after.system after.log + length after.log ≤ log_load c.system log + length log
+  sent_spends =
+      let less = entry_leaves c.system log c.number next may own in
+      let load_is : log_load after.system after.log ≡ log_load c.system (log ++ next ∷ []) = λ i. log_load (sym s.system i) (s.longer i) in
+      let grown : length after.log ≡ length log + 1 = ap length s.longer ∙ length-append log (next ∷ []) in
+      omega (arith, less, load_is, grown)
+
   long : length after.log ≡ c.cursor + 1
   long = ap length s.longer ∙ length-append log (next ∷ []) ∙ ap (λ n. n + 1) (sym s.seen)
 
@@ -127,9 +137,6 @@ module _ (log : List Entry) (c : ClusterView) (post : Post) (after : BusView) (s
 
     absorbs : Absorbs next (cleared c) new
     absorbs = let is : t.entry ≡ next = let both_are : Some t.entry ≡ Some next = sym t.there ∙ at_cursor in cc in subst (λ e. Absorbs e (cleared c) new) is t.follows
-
-    pub sent_lighter : load new ≤ load c
-    sent_lighter = load_taken after.log (cleared c) new t
 
     pub sent_seen : new.cursor ≡ length after.log
     sent_seen = ap (λ (v : ClusterView). v.cursor) taken ∙ sym long

@@ -1,9 +1,9 @@
 -- What a turn makes of a cluster and of its bus.
-use Rattle.std.specs.Prelude.{◌≡◌, ◌+◌, ◌≤◌, ◌⊎◌, Bool, true, false, [], ◌∷◌}
+use Rattle.std.specs.Prelude.{◌≡◌, ◌+◌, ◌≤◌, ◌<◌, ◌⊎◌, Bool, true, false, [], ◌∷◌, length}
 use Rattle.t32_base.specs.declared.process.ClusterNo.{ClusterNo}
 use Rattle.bus_msg.specs.declared.entry.Post.{Post}
 use Rattle.cert_sched.specs.Rules.{is_over}
-use Rattle.cluster_core.specs.View.{ClusterView, load}
+use Rattle.cluster_core.specs.View.{ClusterView}
 use Rattle.bus_order.specs.Log.{open_length}
 use Rattle.bus_order.specs.View.{BusView}
 use Rattle.cluster_run.specs.declared.turn.Turn.{Turn}
@@ -11,7 +11,7 @@ use Rattle.cluster_run.specs.declared.turn.Turn.TheVariants.{Moved, Rests, Over}
 use Rattle.cluster_run.specs.Along.{IsOwned}
 use Rattle.cluster_run.specs.declared.offers.Offered.{Offered}
 use Rattle.cluster_run.specs.Offers.{Adds, IsLeft, IsTold, OfferIs, Visits}
-use Rattle.cluster_run.specs.Progress.{GetsOn, IsOver, Rests as RestsThere}
+use Rattle.cluster_run.specs.Progress.{GetsOn, IsAtMost, IsOver, Rests as RestsThere, log_load, remaining_of}
 
 -- the cluster has told so at the bus that its port shows
 abbrev pub HasTold : Bool → ClusterView → BusView → Type 0
@@ -27,24 +27,26 @@ EndsAs alone Over b c = (c.cursor ≡ open_length b.log) × (is_over b.system b.
 abbrev pub GoesOwn : BusView → Type 0
 GoesOwn b = IsOwned b × (is_over b.system b.log ≡ false)
 
--- the posts of a cluster were sent to it
+-- the posts of a cluster were sent to it; each entry that was added leaves the kernel without failures a step fewer, at least
 pub record SendsOwn (k : ClusterNo) (b after : BusView) : Type 0 where
   pub goes_on : GoesOwn after
   pub adds : Adds k b after
+  pub spends : log_load after.system after.log + length after.log ≤ log_load b.system b.log + length b.log
 
--- the cluster has its mark there, or the log is over
+-- the cluster has its mark there and the log is as it was, or it is over
 pub record TellsOwn (k : ClusterNo) (b after : BusView) : Type 0 where
   pub owned : IsOwned after
   pub adds : Adds k b after
-  pub rests : IsOver after ⊎ RestsThere b after k.0 (k.0 + 1)
+  pub rests : IsOver after ⊎ ((after.log ≡ b.log) × RestsThere b after k.0 (k.0 + 1))
 
--- what the turn of a cluster makes of it
+-- what the turn of a cluster makes of it: where it added to the log, the kernel without failures has fewer steps left
 pub record TurnsOwn (b after : BusView) (c new : ClusterView) : Type 0 where
   pub owned : IsOwned after
   pub adds : Adds c.number b after
   pub empty : new.queue ≡ []
-  pub lighter : load new ≤ load c
-  pub gets_on : GetsOn b after (load c) (load new) (c.number).0 ((c.number).0 + 1)
+  pub spends : IsOver after ⊎ (log_load after.system after.log < log_load b.system b.log) ⊎ (after.log ≡ b.log)
+  pub lasts : IsOver after ⊎ IsAtMost (remaining_of b c) (remaining_of after new)
+  pub gets_on : GetsOn b after (remaining_of b c) (remaining_of after new) (c.number).0 ((c.number).0 + 1)
 
 -- the one post of a cluster was offered
 abbrev pub OffersHead : Bool → ClusterView → BusView → BusView → Offered → Type 0

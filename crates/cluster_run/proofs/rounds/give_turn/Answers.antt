@@ -1,7 +1,7 @@
 use Rattle.std.proofs.Common.{◌≡◌, ◌∙◌, refl, sym, arith, false, true≢false}
 use Rattle.cert_sched.specs.Rules.{is_over}
 use Rattle.cluster_run.proofs.Together.{all_after, one_member}
-use Rattle.cluster_run.proofs.Progressing.{turn_gets_on, turn_lighter}
+use Rattle.cluster_run.proofs.Progressing.{turn_gets_on, turn_lasts}
 use Rattle.cluster_run.proofs.rounds.give_turn.Goals as goal
 
 pub take_turn-requires-clause-shown : goal.take_turn-requires-clause-shown
@@ -42,16 +42,16 @@ returns-clause-over c over =
     let goes_on : is_over c.args.bus.now.system c.args.bus.now.log ≡ false = sym c.is_over.ensures ∙ c.if-is_over.false in
     absurd (true≢false (sym over ∙ goes_on))
 
-pub returns-clause-lighter : goal.returns-clause-lighter
-returns-clause-lighter c =
+pub returns-clause-lasts : goal.returns-clause-lasts
+returns-clause-lasts c =
     let member = one_member c.args.bus.now c.args.clusters.now c.args.number c.index-clusters-number.result c.requires.along c.requires.has in
     let goes_on : is_over c.args.bus.now.system c.args.bus.now.log ≡ false = sym c.is_over.ensures ∙ c.if-is_over.false in
     let own = c.in_ok-take_turn.ensures.own refl (c.requires.owned, goes_on) in
-    turn_lighter c.args.clusters.now c.args.number c.index-clusters-number.result c.take_turn.new.cluster c.requires.has own.lighter
+    turn_lasts c.args.bus.now c.take_turn.new.port c.args.clusters.now c.args.number c.index-clusters-number.result c.take_turn.new.cluster c.requires.has member.number own
 
 pub returns-clause-gets_on : goal.returns-clause-gets_on
 returns-clause-gets_on c =
     let member = one_member c.args.bus.now c.args.clusters.now c.args.number c.index-clusters-number.result c.requires.along c.requires.has in
     let goes_on : is_over c.args.bus.now.system c.args.bus.now.log ≡ false = sym c.is_over.ensures ∙ c.if-is_over.false in
     let own = c.in_ok-take_turn.ensures.own refl (c.requires.owned, goes_on) in
-    turn_gets_on c.args.bus.now c.take_turn.new.port c.args.clusters.now c.args.number c.index-clusters-number.result c.take_turn.new.cluster c.requires.has member.number own.gets_on
+    turn_gets_on c.args.bus.now c.take_turn.new.port c.args.clusters.now c.args.number c.index-clusters-number.result c.take_turn.new.cluster c.requires.has member.number own

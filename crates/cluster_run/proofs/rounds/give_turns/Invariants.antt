@@ -1,6 +1,6 @@
-use Rattle.std.proofs.Common.{◌≡◌, ◌≤◌, length}
+use Rattle.std.proofs.Common.{◌≡◌, ◌≤◌, ◌⊎◌, length}
 use Rattle.cluster_run.specs.Along.{AllAlong, IsOwned}
-use Rattle.cluster_run.specs.Progress.{GetsOn, IsOver, total}
+use Rattle.cluster_run.specs.Progress.{GetsOn, IsAtMost, IsOver, remaining}
 use Rattle.cluster_run.proofs.rounds.give_turns.Given as goal
 
 abbrev pub invariant-loop-number : goal.invariant-loop-number
@@ -10,6 +10,6 @@ invariant-loop-number l = record {
   within : l.upto ≤ length l.clusters;
   system : l.bus.system ≡ l.fn.bus.system;
   over : IsOver l.fn.bus → IsOver l.bus;
-  lighter : total l.clusters ≤ total l.initial.clusters;
-  gets_on : GetsOn l.fn.bus l.bus (total l.initial.clusters) (total l.clusters) l.from l.number;
+  lasts : IsOver l.bus ⊎ IsAtMost (remaining l.fn.bus l.initial.clusters) (remaining l.bus l.clusters);
+  gets_on : GetsOn l.fn.bus l.bus (remaining l.fn.bus l.initial.clusters) (remaining l.bus l.clusters) l.from l.number;
 }

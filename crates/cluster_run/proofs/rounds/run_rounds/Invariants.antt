@@ -1,7 +1,7 @@
 use Rattle.std.proofs.Common.{◌≡◌, ◌+◌, ◌<◌, ◌^◌, length, cond}
 use Rattle.cert_sched.specs.Rules.{is_over}
 use Rattle.cluster_run.specs.Along.{AllAlong, IsOwned}
-use Rattle.cluster_run.specs.Progress.{total}
+use Rattle.cluster_run.proofs.Within.{left_to_do}
 use Rattle.cluster_run.proofs.rounds.run_rounds.Given as goal
 
 abbrev pub invariant-rounds : goal.invariant-rounds
@@ -14,4 +14,4 @@ invariant-rounds l = record {
 }
 
 abbrev pub decreases-rounds : goal.decreases-rounds
-decreases-rounds l = total l.clusters + cond (is_over l.bus.system l.bus.log) 0 1
+decreases-rounds l = cond (is_over l.bus.system l.bus.log) 0 (left_to_do l.bus l.clusters + 1)

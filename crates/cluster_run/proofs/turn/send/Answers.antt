@@ -1,19 +1,32 @@
-use Rattle.std.proofs.Common.{◌∙◌, subst, arith}
+use Rattle.std.proofs.Common.{◌∙◌, refl, subst, arith, inl, inr}
 use Rattle.t32_base.specs.declared.process.ClusterNo.{ClusterNo}
 use Rattle.cluster_run.specs.Turns.{SendsOwn}
-use Rattle.cluster_run.proofs.Owning.{sends_more}
+use Rattle.cluster_run.proofs.Owning.{sends_more, sends_none}
 use Rattle.cluster_run.proofs.turn.send.Goals as goal
+
+pub posts-init : goal.posts-init
+posts-init g c = record {
+  root = refl;
+  sits = c.requires.sits;
+  posting = c.requires.posting;
+  same = record { system = refl; number = refl };
+  order = omega arith;
+  some = inl;
+  own = λ alone own. sends_none c.args.cluster.now.number (g.P.Port.bus c.args.port.now) own;
+}
 
 pub posts-preserved : goal.posts-preserved
 posts-preserved g c =
     let so_far = c.posts.invariant in
     let one = c.in_ok-send_head.ensures in
+    let grown = (one.posting c.if-branch.false).1 in
     record {
       root = c.send_head.ensures.root ∙ so_far.root;
       sits = subst (λ (k : ClusterNo). g.P.Port.sits k c.send_head.new.port) so_far.same.number c.send_head.ensures.sits;
       posting = (one.posting c.if-branch.false).0;
       same = record { system = one.same.system ∙ so_far.same.system; number = one.same.number ∙ so_far.same.number };
-      lighter = omega (arith, one.lighter, so_far.lighter);
+      order = omega (arith, grown, so_far.order);
+      some = λ there. inr (omega (arith, grown, so_far.order));
       own = λ alone own.
           let before = so_far.own alone own in
           let next = (one.own alone before.goes_on).1 in

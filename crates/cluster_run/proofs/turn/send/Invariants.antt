@@ -1,5 +1,5 @@
-use Rattle.std.proofs.Common.{◌≡◌, ◌≤◌, ◌-◌, ◌^◌, length, true}
-use Rattle.cluster_core.specs.View.{load}
+use Rattle.std.proofs.Common.{◌≡◌, ◌≤◌, ◌<◌, ◌⊎◌, ◌-◌, ◌^◌, length, true, is_some}
+use Rattle.cluster_core.specs.View.{head_of}
 use Rattle.cluster_run.specs.Along.{IsPosting, IsSame}
 use Rattle.cluster_run.specs.Turns.{GoesOwn, SendsOwn}
 use Rattle.cluster_run.proofs.turn.send.Given as goal
@@ -10,7 +10,8 @@ invariant-posts g l = record {
   sits : g.P.Port.sits l.fn.cluster.number l.port;
   posting : IsPosting (g.P.Port.shows l.port) (g.P.Port.from l.port) (g.P.Port.bus l.port) l.cluster;
   same : IsSame l.fn.cluster l.cluster;
-  lighter : load l.cluster ≤ load l.fn.cluster;
+  order : length (g.P.Port.bus l.fn.port).log ≤ length (g.P.Port.bus l.port).log;
+  some : is_some (head_of l.fn.cluster.queue) ≡ true → (is_some (head_of l.cluster.queue) ≡ true) ⊎ (length (g.P.Port.bus l.fn.port).log < length (g.P.Port.bus l.port).log);
   own : g.P.Port.alone ≡ true → GoesOwn (g.P.Port.bus l.fn.port) → SendsOwn l.fn.cluster.number (g.P.Port.bus l.fn.port) (g.P.Port.bus l.port);
 }
 

@@ -1,11 +1,10 @@
 use Rattle.std.proofs.Common.{◌≡◌, ◌<◌, refl, ap, subst, arith, length, true}
 use Rattle.t32_base.specs.declared.process.ClusterNo.{ClusterNo}
-use Rattle.cluster_core.specs.View.{ClusterView, load}
+use Rattle.cluster_core.specs.View.{ClusterView}
 use Rattle.cluster_run.specs.Turns.{OffersHead, SendsOwn}
 use Rattle.cluster_run.proofs.Offering.{sent_longer, was_behind, was_sent}
 use Rattle.cluster_run.proofs.Owning.{sent_own}
 use Rattle.cluster_run.proofs.Posting.{behind_posting, left_ready, sent_posting, tried_posting}
-use Rattle.cluster_run.proofs.Sending.{sent_lighter}
 use Rattle.cluster_run.proofs.turn.send_head.Goals as goal
 
 pub take_next-requires-clause-ready : goal.take_next-requires-clause-ready
@@ -19,21 +18,6 @@ take_next-requires-clause-ready g c =
     let tried : t.tried ≡ true = ap (λ (v : ClusterView). v.tried) c.tried.ensures.tried in
     let s = was_sent a b after t off.0 (p.shown).along c.in_ok-offer_head.ensures.sound off.1 tried off.2 in
     left_ready ((off.2).found).log t c.sent.new.self off.0 after s c.sent.ensures c.in_ok-offer_head.ensures.sound
-
-pub returns-in_ok-take_next-in-Sent-clause-lighter :
-    goal.returns-in_ok-take_next-in-Sent-clause-lighter
-returns-in_ok-take_next-in-Sent-clause-lighter g c =
-    let a = g.P.Port.alone in
-    let b = g.P.Port.bus c.args.port.now in
-    let after = g.P.Port.bus c.offer_head.new.port in
-    let t : ClusterView = c.tried.new.self in
-    let p = tried_posting (g.P.Port.shows c.args.port.now) (g.P.Port.from c.args.port.now) b c.args.cluster.now t c.tried.ensures.tried c.requires.posting in
-    let off = subst (λ o. OffersHead a t b after o) c.in-Sent.is c.in_ok-offer_head.ensures.offered in
-    let tried : t.tried ≡ true = ap (λ (v : ClusterView). v.tried) c.tried.ensures.tried in
-    let s = was_sent a b after t off.0 (p.shown).along c.in_ok-offer_head.ensures.sound off.1 tried off.2 in
-    let less = sent_lighter ((off.2).found).log t off.0 after s c.sent.new.self c.take_next.new.cluster c.sent.ensures c.in_ok-take_next-in-Sent.ensures in
-    let same : load t ≡ load c.args.cluster.now = ap load c.tried.ensures.tried in
-    omega (arith, less, same)
 
 pub returns-in_ok-take_next-in-Sent-clause-posting :
     goal.returns-in_ok-take_next-in-Sent-clause-posting

@@ -1,12 +1,12 @@
-use Rattle.std.proofs.Common.{◌≡◌, ◌≤◌, ◌∙◌, [], ap, sym, subst, length, true, false}
+use Rattle.std.proofs.Common.{◌≡◌, ◌<◌, ◌∙◌, [], ap, sym, subst, length, is_some, true, false}
 use Rattle.sys_text.specs.Valid.{is_system}
 use Rattle.bus_order.specs.View.{BusView}
 use Rattle.cluster_core.specs.Calls.{WorkIs}
-use Rattle.cluster_core.specs.View.{ClusterView, load}
-use Rattle.cluster_core.proofs.Lightening.{moved_lightens, queued_lightens}
+use Rattle.cluster_core.specs.View.{ClusterView, head_of}
+use Rattle.cluster_core.proofs.Lightening.{moved_lightens}
 use Rattle.cert_sched.specs.Rules.{is_over}
 use Rattle.cluster_run.specs.Turns.{GoesOwn, SendsOwn, TurnsOwn}
-use Rattle.cluster_run.proofs.Owning.{both_ok, moves_turn, sends_turn, tells_turn, where_ok}
+use Rattle.cluster_run.proofs.Owning.{moves_turn, sends_turn, tells_turn, where_ok}
 use Rattle.cluster_run.proofs.Posting.{follows_some, worked_posting, worked_shown}
 use Rattle.cluster_run.proofs.TakingIn.{open_all}
 use Rattle.cluster_run.proofs.turn.take_turn.Goals as goal
@@ -35,7 +35,7 @@ returns-in-Moved-clause-own g c alone own =
     let is = subst (λ w. WorkIs c.catch_up.new.cluster w worked) c.in-Moved.is c.in_ok-work.ensures.work in
     let follows = follows_some mid c.catch_up.new.cluster c.in_ok-catch_up.ensures.shown.sound c.in_ok-catch_up.ensures.shown.along in
     let valid : is_system c.catch_up.new.cluster.system ≡ true = ap is_system c.in_ok-catch_up.ensures.shown.along.system ∙ ap (λ (x : BusView). is_system x.system) same ∙ (own.0).valid in
-    moves_turn b mid c.args.cluster.now c.catch_up.new.cluster worked same own c.in_ok-catch_up.ensures.taken (moved_lightens c.catch_up.new.cluster worked valid follows is)
+    moves_turn b mid c.args.cluster.now c.catch_up.new.cluster worked same own c.in_ok-catch_up.ensures.taken (moved_lightens c.catch_up.new.cluster worked valid follows is) c.in_ok-work.ensures.place.cursor
     (ap (λ (v : ClusterView). v.queue) (is.1).rest ∙ c.in_ok-catch_up.ensures.taken.queue ∙ c.requires.empty)
 
 pub returns-in-Queued-clause-own : goal.returns-in-Queued-clause-own
@@ -47,15 +47,15 @@ returns-in-Queued-clause-own g c =
     let worked : ClusterView = c.work.new.self in
     let new : ClusterView = c.send.new.cluster in
     let is = subst (λ w. WorkIs c.catch_up.new.cluster w worked) c.in-Queued.is c.in_ok-work.ensures.work in
-    let follows = follows_some mid c.catch_up.new.cluster c.in_ok-catch_up.ensures.shown.sound c.in_ok-catch_up.ensures.shown.along in
-    let both : Type 0 = (load new ≤ load worked) × (a ≡ true → GoesOwn mid → SendsOwn worked.number mid after × (new.queue ≡ [])) in
-    where_ok c.send.result both (a ≡ true → GoesOwn b → TurnsOwn b after c.args.cluster.now new)
-    (λ sent alone own.
+    let queued : is_some (head_of worked.queue) ≡ true = ap (λ (v : ClusterView). is_some (head_of v.queue)) (is.1).rest in
+    let grows : Type 0 = is_some (head_of worked.queue) ≡ true → length mid.log < length after.log in
+    let sent : Type 0 = a ≡ true → GoesOwn mid → SendsOwn worked.number mid after × (new.queue ≡ []) × grows in
+    where_ok c.send.result sent (a ≡ true → GoesOwn b → TurnsOwn b after c.args.cluster.now new)
+    (λ holds alone own.
     let same = c.in_ok-catch_up.ensures.own alone in
-    let sends = sent.1 alone (subst GoesOwn (sym same) own) in
-    let valid : is_system c.catch_up.new.cluster.system ≡ true = ap is_system c.in_ok-catch_up.ensures.shown.along.system ∙ ap (λ (x : BusView). is_system x.system) same ∙ (own.0).valid in
-    sends_turn b mid after c.args.cluster.now c.catch_up.new.cluster worked new same c.in_ok-catch_up.ensures.taken c.in_ok-work.ensures.place.number (queued_lightens c.catch_up.new.cluster worked valid follows is) sent.0 sends.0 sends.1)
-    (both_ok c.send.result _ _ c.send.ensures.lighter c.send.ensures.own)
+    let sends = holds alone (subst GoesOwn (sym same) own) in
+    sends_turn b mid after c.args.cluster.now c.catch_up.new.cluster worked new same c.in_ok-catch_up.ensures.taken c.in_ok-work.ensures.place.number (sends.2 queued) sends.0 sends.1)
+    c.send.ensures.own
 
 pub returns-in_ok-tell-in-Rests-clause-own : goal.returns-in_ok-tell-in-Rests-clause-own
 returns-in_ok-tell-in-Rests-clause-own g c alone own =

@@ -1,0 +1,246 @@
+-- The processes of a cluster that follows a log have no more steps left than so many as the system says.
+use Rattle.std.proofs.Common.{◌≡◌, ℕ, zero, suc, ◌+◌, ◌*◌, ◌^◌, ◌≤◌, ◌<◌, ◌⊎◌, inl, inr, refl, sym, ◌∙◌, ap, subst, arith, List, [], ◌∷◌, length, get_or, Bool, true, false, cond, ◌||◌, eqb, ltb, eqb-true, Option, Some, None, true≢false}
+use Rattle.std.specs.Prelude.{All, count_by, filter, find, option_and_then, option_map}
+use Rattle.std.specs.List.{list_any, sum_by}
+use Rattle.std.specs.Option.{option_map_or}
+use Rattle.std.proofs.lemmas.List.{length-map}
+use Rattle.std.proofs.lemmas.List.Elements.{All-nil, All-cons, All-from_get_or}
+use Rattle.std.proofs.lemmas.List.Sums.{sum_by-le, length-filter, count_by-le-length}
+use Rattle.std.proofs.lemmas.Nat.{mul-le}
+use Rattle.std.proofs.Math.Nat.{mul-le-mul_right}
+use Rattle.t32_base.specs.declared.process.Pid.{Pid}
+use Rattle.sys_text.specs.declared.system.System.{System}
+use Rattle.sys_text.specs.Valid.{is_system}
+use Rattle.proc_state.specs.State.{ProcState, state_of}
+use Rattle.sys_calls.specs.Small.{weight}
+use Rattle.sys_calls.specs.Calls.{Next, Silent, Blocked, Forks, Emits, Over}
+use Rattle.sys_calls.specs.Next.{next_step}
+use Rattle.sys_calls.specs.declared.steps.Emission.{Emission}
+use Rattle.sys_calls.proofs.Quiet.{no_fork}
+use Rattle.plain_kernel.specs.Kernel.{Kernel, boot, process_at}
+use Rattle.bus_msg.specs.declared.entry.Entry.{Entry}
+use Rattle.bus_msg.specs.declared.placed.Placed.{Placed}
+use Rattle.bus_msg.specs.Places.{is_at_home, same_pid}
+use Rattle.roll_forward.specs.Deeds.{Deed, Sends, births_in}
+use Rattle.roll_forward.specs.Replay.{put_first, replayed, replay_step}
+use Rattle.cert_sched.specs.Parts.{put_rising, rising, upto_last}
+use Rattle.cert_sched.specs.Deeds.{since, starts}
+use Rattle.cert_sched.specs.Rolling.{refilled}
+use Rattle.cert_sched.specs.Schedule.{placement, places_at_boot, plain_after, process_after}
+use Rattle.cert_sched.specs.Steps.{silent_upto}
+use Rattle.cert_sched.specs.Rests.{home_pids}
+use Rattle.cert_sched.specs.Rules.{is_over}
+use Rattle.cert_sched.specs.Built.{BuiltMayFollow}
+use Rattle.cert_sched.specs.Legal.{IsLegalBy}
+use Rattle.cert_sched.proofs.BuiltLaws.{built_kept, kept}
+use Rattle.cert_sched.proofs.RisingLaws.{NoTwo}
+use Rattle.cert_sched.proofs.StepLaws.{silent_from}
+use Rattle.cluster_core.specs.View.{ClusterView, Held, Runs, Rolls, Waits, held_load, held_of, load}
+use Rattle.cluster_core.specs.Holds.{IsHeldAs}
+use Rattle.cluster_core.specs.Follows.{FollowsBuilt}
+use Rattle.cluster_core.proofs.Here.{same_itself}
+use Rattle.cluster_core.specs.Residents.{pids_in}
+use Rattle.cluster_core.proofs.Lightening.{held_apart}
+use Rattle.cluster_core.proofs.Weighing.{Leaves, next_leaves, silently_leaves}
+use Rattle.bus_order.specs.View.{BusView}
+use Rattle.cluster_run.specs.Along.{AllAlong, IsMember, IsOwned, IsSound}
+use Rattle.cluster_run.specs.Progress.{Falls, IsOver, Remaining, kernel_load, remaining, total, unseen}
+use Rattle.cluster_run.proofs.Posting.{follows_some}
+use Rattle.cluster_run.proofs.StepsLeft.{after_log, one_of_all}
+use Rattle.cluster_run.proofs.Together.{one_member}
+
+-- ---- a process
+
+-- all that a system's processes have left at boot
+abbrev pub boot_load : System → ℕ
+boot_load system = kernel_load (boot system)
+
+within_kernel : (system : System) (log : List Entry) (p : Pid) (s : ProcState) (k : Kernel) → plain_after system log ≡ Some k → process_at k p ≡ Some s → weight s.small ≤ boot_load system
+within_kernel system log p s k before there = omega (arith, one_of_all p s k.processes there, after_log system log k before)
+
+-- a process after any log
+process_within : (system : System) (log : List Entry) (p : Pid) (s : ProcState) → process_after system log p ≡ Some s → weight s.small ≤ boot_load system
+process_within system log p s is = by_kernel (plain_after system log) refl is
+  where
+    by_kernel : (o : Option Kernel) → plain_after system log ≡ o → option_and_then (λ k. process_at k p) o ≡ Some s → weight s.small ≤ boot_load system
+    by_kernel None before there = cc
+    by_kernel (Some k) before there = within_kernel system log p s k before there
+
+-- some silent steps on
+silent_within : (system : System) (log : List Entry) (p : Pid) (at : ℕ) (t : ProcState) → silent_upto system log p at ≡ Some t → weight t.small ≤ boot_load system
+silent_within system log p at t is =
+    let f = silent_from system log p at t is in
+    omega (arith, silently_leaves _ f.was t f.silent, within_kernel system log p f.was f.kernel f.before f.there)
+
+-- ---- a process that rolls forward
+
+-- it has no more left than where it started
+abbrev NoMore : ℕ → Type 0
+NoMore n = (s t : ProcState) (births : List Pid) (ds : List Deed) → replayed n s births ≡ Some (t, ds) → weight t.small ≤ weight s.small
+
+replayed_leaves : (n : ℕ) → NoMore n
+replayed_leaves zero s t births ds is = let same : s ≡ t = ap (λ o. option_map_or (λ (r : ProcState × List Deed). r.0) o s) is in omega (arith, ap (λ (p : ProcState). weight p.small) same)
+replayed_leaves (suc n) s t births ds is = by_next (next_step s) refl is (replayed_leaves n)
+  where
+    sends_on : (m : Emission) (u : ProcState) (o : Option (ProcState × List Deed)) → replayed n u births ≡ o → option_map (put_first (Sends m)) o ≡ Some (t, ds) → NoMore n → weight t.small ≤ weight u.small
+    sends_on m u None made e more = cc
+    sends_on m u (Some r) made e more =
+        let here : r.0 ≡ t = ap (λ o. option_map_or (λ (r : ProcState × List Deed). r.0) o t) e in
+        more u t births r.1 (made ∙ (λ i. Some (here i, r.1)))
+
+    by_next : (next : Next) → next_step s ≡ next → replay_step s (λ u rest. replayed n u rest) next births ≡ Some (t, ds) → NoMore n → weight t.small ≤ weight s.small
+    by_next (Silent u) step e more =
+        let less : weight u.small + 1 ≤ weight s.small = subst (Leaves s) step (next_leaves s) in
+        omega (arith, less, more u t births ds e)
+    by_next Blocked step e more = cc
+    by_next Forks step e more = absurd (no_fork s step)
+    by_next (Emits m u) step e more =
+        let less : weight u.small + 1 ≤ weight s.small = subst (Leaves s) step (next_leaves s) in
+        omega (arith, less, sends_on m u (replayed n u births) refl e more)
+    by_next Over step e more = cc
+
+-- ---- what is held
+
+held_within : (system : System) (log : List Entry) (p : Pid) (h : Held) → IsHeldAs system log [] p h → held_load h ≤ boot_load system
+held_within system log p (Runs process) is = silent_within system log p (process.small).steps (state_of process) is
+held_within system log p (Rolls process counts births) rolls =
+    let start = process_within system (upto_last (starts p) log) p rolls.start rolls.started in
+    omega (arith, start, replayed_leaves rolls.steps (refilled log p rolls.start) (state_of process) (births_in (since log p)) rolls.done rolls.replays)
+held_within system log p (Waits kept) is = omega arith
+
+-- ---- all that a cluster holds
+
+found_among : (here : List (Pid × Held)) (p : Pid) (h : Held) → held_of here p ≡ Some h → list_any (λ k. eqb k p.0) (pids_in here) ≡ true
+found_among [] p h at = cc
+found_among (e ∷ here) p h at = by_test (eqb (e.0).0 p.0) at (found_among here p h)
+  where
+    by_test : (b : Bool) → option_map (λ (e : Pid × Held). e.1) (cond b (Some e) (find (λ (e : Pid × Held). same_pid e.0 p) here)) ≡ Some h → (held_of here p ≡ Some h → list_any (λ k. eqb k p.0) (pids_in here) ≡ true)
+        → (b || list_any (λ k. eqb k p.0) (pids_in here)) ≡ true
+    by_test true at more = refl
+    by_test false at more = more at
+
+-- where no pid stands twice, what holds of each that is found holds of all
+each_held : (B : Held → Type 0) (here : List (Pid × Held)) → NoTwo (pids_in here) → ((p : Pid) (h : Held) → held_of here p ≡ Some h → B h) → All (λ (e : Pid × Held). B e.1) here
+each_held B [] two each = All-nil (λ (e : Pid × Held). B e.1)
+each_held B (e ∷ here) two each =
+    All-cons (λ (e : Pid × Held). B e.1) e here
+    (each e.0 e.1 (ap (λ b. option_map (λ (e : Pid × Held). e.1) (cond b (Some e) (find (λ (x : Pid × Held). same_pid x.0 e.0) here))) (same_itself e.0)))
+    (each_held B here two.1 (λ p h at. each p h (later p h at)))
+  where
+    later : (p : Pid) (h : Held) → held_of here p ≡ Some h → held_of (e ∷ here) p ≡ Some h
+    later p h at = by_test (same_pid e.0 p) refl
+      where
+        by_test : (b : Bool) → same_pid e.0 p ≡ b → option_map (λ (e : Pid × Held). e.1) (cond b (Some e) (find (λ (x : Pid × Held). same_pid x.0 p) here)) ≡ Some h
+        by_test true is =
+            let there : list_any (λ k. eqb k (e.0).0) (pids_in here) ≡ true = ap (λ m. list_any (λ k. eqb k m) (pids_in here)) (eqb-true (e.0).0 p.0 is) ∙ found_among here p h at in
+            absurd (true≢false (sym there ∙ two.0))
+        by_test false is = at
+
+-- ---- how many stand there
+
+put_long : (n : ℕ) (xs : List ℕ) → length (put_rising n xs) ≡ length xs + 1
+put_long n [] = refl
+put_long n (x ∷ xs) = by_test (ltb n x) (put_long n xs)
+  where
+    by_test : (b : Bool) → length (put_rising n xs) ≡ length xs + 1 → length (cond b (n ∷ x ∷ xs) (x ∷ put_rising n xs)) ≡ length (x ∷ xs) + 1
+    by_test true more = omega arith
+    by_test false more = omega (arith, more)
+
+rising_long : (xs : List ℕ) → length (rising xs) ≡ length xs
+rising_long [] = refl
+rising_long (x ∷ xs) = omega (arith, put_long x (rising xs), rising_long xs)
+
+-- how many processes a system places
+abbrev pub placed_count : System → ℕ
+placed_count system = length (places_at_boot system).placed
+
+few_placed : (system : System) (log : List Entry) → IsLegalBy BuiltMayFollow system log → length (placement system log).placed ≡ placed_count system
+few_placed system log legal =
+    sym (length-map (placement system log).placed kept) ∙ ap length (built_kept system log legal) ∙ length-map (places_at_boot system).placed kept
+
+few_here : (system : System) (log : List Entry) (c : ClusterView) → IsLegalBy BuiltMayFollow system log → rising (pids_in c.here) ≡ rising (home_pids system log c.number) → length c.here ≤ placed_count system
+few_here system log c legal same =
+    let here : length c.here ≡ length (home_pids system log c.number) = sym (length-map c.here (λ (e : Pid × Held). (e.0).0)) ∙ sym (rising_long (pids_in c.here)) ∙ ap length same ∙ rising_long (home_pids system log c.number) in
+    let home : length (home_pids system log c.number) ≡ count_by (is_at_home c.number) (placement system log).placed =
+    length-map (filter (is_at_home c.number) (placement system log).placed) (λ (q : Placed). (q.pid).0) ∙ length-filter (is_at_home c.number) (placement system log).placed in
+    omega (arith, here, home, count_by-le-length (is_at_home c.number) (placement system log).placed, few_placed system log legal)
+
+-- the most that one cluster may have left
+abbrev pub most_load : System → ℕ
+most_load system = placed_count system * boot_load system
+
+load_within : (system : System) (log : List Entry) (c : ClusterView) → IsLegalBy BuiltMayFollow system log → FollowsBuilt system log c → NoTwo (pids_in c.here) → c.queue ≡ [] → load c ≤ most_load system
+load_within system log c legal follows two empty =
+    let each : All (λ (e : Pid × Held). held_load e.1 ≤ boot_load system) c.here =
+    each_held (λ h. held_load h ≤ boot_load system) c.here two (λ p h at. held_within system log p h (subst (λ q. IsHeldAs system log q p h) empty ((follows.processes).held p h at))) in
+    omega (arith, sum_by-le (λ (e : Pid × Held). held_load e.1) (boot_load system) c.here each, mul-le (length c.here) (boot_load system) (placed_count system) (boot_load system) (few_here system log c legal (follows.processes).each_once) (omega arith))
+
+-- ---- all clusters
+
+-- the most that all may have left
+abbrev pub most_total : System → ℕ
+most_total system = system.clusters * most_load system
+
+member_within : (b : BusView) (n : ℕ) (c : ClusterView) → is_system b.system ≡ true → IsSound b → is_over b.system b.log ≡ false → IsMember b n c → (load c ≤ most_load b.system) × (unseen b.log c ≤ length b.log)
+member_within b n c valid sound goes_on member =
+    let some = follows_some b c sound member.along in
+    let within : load c ≤ most_load c.system = load_within c.system some.log c (some.open_log).0 some.follows (held_apart c (ap is_system (member.along).system ∙ valid) some) (member.empty goes_on) in
+    (subst (λ s. load c ≤ most_load s) (member.along).system within, omega arith)
+
+all_members : (b : BusView) (cs : List ClusterView) (P : ClusterView → Type 0) → AllAlong b cs → ((n : ℕ) (c : ClusterView) → IsMember b n c → P c) → All P cs
+all_members b [] P all each = All-nil P
+all_members b (d ∷ ds) P all each = All-from_get_or P (d ∷ ds) d (λ n within. each n (get_or (d ∷ ds) n d) (one_member b (d ∷ ds) n d all within))
+
+pub total_within : (b : BusView) (cs : List ClusterView) → IsOwned b → is_over b.system b.log ≡ false → AllAlong b cs → total cs ≤ most_total b.system
+total_within b cs owned goes_on all =
+    let each : All (λ (c : ClusterView). load c ≤ most_load b.system) cs = all_members b cs (λ c. load c ≤ most_load b.system) all (λ n c member. (member_within b n c owned.valid owned.sound goes_on member).0) in
+    let sum : total cs ≤ length cs * most_load b.system = sum_by-le load (most_load b.system) cs each in
+    subst (λ n. total cs ≤ n * most_load b.system) all.each sum
+
+pub entries_within : (b : BusView) (cs : List ClusterView) → IsOwned b → AllAlong b cs → sum_by (unseen b.log) cs ≤ (b.system).clusters * 2 ^ 64
+entries_within b cs owned all =
+    let each : All (λ (c : ClusterView). unseen b.log c ≤ 2 ^ 64) cs = all_members b cs (λ c. unseen b.log c ≤ 2 ^ 64) all (λ n c member. let fits = (owned.sound).fits in omega (arith, fits)) in
+    let sum : sum_by (unseen b.log) cs ≤ length cs * 2 ^ 64 = sum_by-le (unseen b.log) (2 ^ 64) cs each in
+    subst (λ n. sum_by (unseen b.log) cs ≤ n * 2 ^ 64) all.each sum
+
+-- ---- one number for the parts
+
+-- by bounds of the later parts, a number that falls where what is left falls
+abbrev pub rank : (entries moves : ℕ) → Remaining → ℕ
+rank entries moves r = (r.steps * (entries + 1) + r.entries) * (moves + 1) + r.moves
+
+-- a first part that falls outweighs a second one that has a bound
+outweighs : (a b c d m : ℕ) → a < c → b ≤ m → a * (m + 1) + b < c * (m + 1) + d
+outweighs a b c d m less bound =
+    let more : (a + 1) * (m + 1) ≤ c * (m + 1) = mul-le-mul_right (m + 1) (let l : a + 1 ≤ c = omega (arith, less) in l) in
+    let one : (a + 1) * (m + 1) ≡ a * (m + 1) + (m + 1) = suc_times a (m + 1) in
+    omega (arith, more, one, bound)
+  where
+    suc_times : (a m : ℕ) → (a + 1) * m ≡ a * m + m
+    suc_times a m = omega arith
+
+pub rank_falls : (entries moves : ℕ) (old new : Remaining) → Falls old new → new.entries ≤ entries → new.moves ≤ moves → rank entries moves new < rank entries moves old
+rank_falls entries moves old new (inl less) few bound = outweighs (new.steps * (entries + 1) + new.entries) new.moves (old.steps * (entries + 1) + old.entries) old.moves moves (outweighs new.steps new.entries old.steps old.entries entries less few) bound
+rank_falls entries moves old new (inr (inl less)) few bound =
+    let front : new.steps * (entries + 1) ≡ old.steps * (entries + 1) = ap (λ n. n * (entries + 1)) less.0 in
+    outweighs (new.steps * (entries + 1) + new.entries) new.moves (old.steps * (entries + 1) + old.entries) old.moves moves (let l : new.steps * (entries + 1) + new.entries < old.steps * (entries + 1) + old.entries = omega (arith, front, less.1) in l) bound
+rank_falls entries moves old new (inr (inr less)) few bound =
+    let front : (new.steps * (entries + 1) + new.entries) * (moves + 1) ≡ (old.steps * (entries + 1) + old.entries) * (moves + 1) = λ i. (less.0 i * (entries + 1) + less.1 i) * (moves + 1) in
+    omega (arith, front, less.2)
+
+-- what is left to do, as one number
+abbrev pub left_to_do : BusView → List ClusterView → ℕ
+left_to_do b cs = rank ((b.system).clusters * 2 ^ 64) (most_total b.system) (remaining b cs)
+
+-- a round makes it fall, where the log then goes on
+pub round_falls : (b after : BusView) (cs new : List ClusterView) → IsOwned after → AllAlong after new → after.system ≡ b.system → is_over b.system b.log ≡ false → Falls (remaining b cs) (remaining after new) ⊎ IsOver after
+    → cond (is_over after.system after.log) 0 (left_to_do after new + 1) < cond (is_over b.system b.log) 0 (left_to_do b cs + 1)
+round_falls b after cs new owned all system goes_on gets = subst (λ t. cond (is_over after.system after.log) 0 (left_to_do after new + 1) < cond t 0 (left_to_do b cs + 1)) (sym goes_on) (by_end (is_over after.system after.log) refl gets)
+  where
+    by_end : (t : Bool) → is_over after.system after.log ≡ t → Falls (remaining b cs) (remaining after new) ⊎ IsOver after → cond t 0 (left_to_do after new + 1) < left_to_do b cs + 1
+    by_end true is gets = omega arith
+    by_end false is (inr over) = absurd (true≢false (sym over ∙ is))
+    by_end false is (inl falls) =
+        let less = rank_falls ((after.system).clusters * 2 ^ 64) (most_total after.system) (remaining b cs) (remaining after new) falls (entries_within after new owned all) (total_within after new owned is all) in
+        let bounds : rank ((after.system).clusters * 2 ^ 64) (most_total after.system) (remaining b cs) ≡ left_to_do b cs = ap (λ (s : System). rank (s.clusters * 2 ^ 64) (most_total s) (remaining b cs)) system in
+        omega (arith, less, bounds)
