@@ -1,6 +1,5 @@
 -- Laws of the list of records: what a change of some of them leaves to find, and what a letter makes of each.
-use Rattle.std.proofs.Common.{◌≡◌, ℕ, ◌<◌, ◌^◌, ◌-◌, Bool, true, false, cond, eq-eqb, List, [], ◌∷◌, map, refl, sym, ap, ◌∙◌, Option, Some, None, option_map, find, subst}
-use Rattle.std.proofs.lemmas.Bool.{false≢true}
+use Rattle.std.proofs.Common.{◌≡◌, ℕ, ◌<◌, ◌^◌, ◌-◌, Bool, true, false, cond, eq-eqb, List, [], ◌∷◌, map, refl, sym, ap, ◌∙◌, Option, Some, None, option_map, subst}
 use Rattle.t32_base.specs.declared.process.Pid.{Pid}
 use Rattle.t32_base.specs.declared.process.Counts.{Counts}
 use Rattle.t32_base.specs.declared.letter.Letter.{Letter}

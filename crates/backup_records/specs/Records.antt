@@ -1,5 +1,5 @@
 -- The records that a cluster keeps of the processes whose backup it has, by rising pid, and what an entry makes of them.
-use Rattle.std.specs.Prelude.{ℕ, ◌≡◌, ◌+◌, ◌-◌, ◌^◌, ◌<◌, Bool, true, false, not, ◌&&◌, nat_lt, if◌then◌else◌, List, [], ◌∷◌, map, filter, find, Option, Some}
+use Rattle.std.specs.Prelude.{◌≡◌, ◌+◌, ◌-◌, ◌^◌, ◌<◌, Bool, true, false, not, ◌&&◌, nat_lt, if◌then◌else◌, List, [], ◌∷◌, map, filter, find, Option, Some}
 use Rattle.std.specs.List.{list_all}
 use Rattle.t32_base.specs.declared.process.Pid.{Pid}
 use Rattle.t32_base.specs.declared.letter.Letter.{Letter}

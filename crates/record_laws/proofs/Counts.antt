@@ -1,7 +1,7 @@
 -- How many letters a record has saved and counted.
-use Rattle.std.proofs.Common.{◌≡◌, ℕ, zero, suc, ◌+◌, ◌-◌, ◌<◌, ◌≤◌, refl, sym, ◌∙◌, ap, subst, arith, List, [], ◌∷◌, ◌++◌, length, length-append, zero-add, Bool, true, false, cond, eq-eqb, ◌||◌, Option, Some, None, is_some, true≢false}
-use Rattle.std.specs.Prelude.{option_map, flat_map, map, count_by, slice_index}
-use Rattle.std.specs.List.{range_with_len, list_any}
+use Rattle.std.proofs.Common.{◌≡◌, ℕ, zero, suc, ◌+◌, ◌<◌, ◌≤◌, refl, sym, ◌∙◌, ap, subst, arith, List, [], ◌∷◌, ◌++◌, length, length-append, zero-add, Bool, true, false, cond, eq-eqb, ◌||◌, Option, Some, None}
+use Rattle.std.specs.Prelude.{option_map, count_by}
+use Rattle.std.specs.List.{list_any}
 use Rattle.std.proofs.lemmas.List.FromFn.{get_or-map-range_with_len}
 use Rattle.std.proofs.lemmas.List.Sums.{count_by-le-length}
 use Rattle.t32_base.specs.declared.process.Pid.{Pid}
@@ -12,9 +12,8 @@ use Rattle.t32_base.specs.declared.letter.Body.{Body}
 use Rattle.t32_base.specs.declared.letter.Body.TheVariants.{Said, EndOf, Signal}
 use Rattle.t32_base.specs.declared.letter.BackRec.{BackRec}
 use Rattle.sys_text.specs.declared.system.System.{System}
-use Rattle.sys_text.specs.Valid.{is_system}
 use Rattle.write_count.specs.Counting.{counts_of, count_at, count_for, leaves_from, is_signal}
-use Rattle.proc_state.specs.State.{ProcState, has_ended}
+use Rattle.proc_state.specs.State.{ProcState}
 use Rattle.sys_calls.specs.declared.steps.Emission.TheVariants.{Mail as Sent, Exit as Ended}
 use Rattle.sys_calls.specs.Calls.{Next, Silent, Blocked, Forks, Emits, Over}
 use Rattle.sys_calls.specs.Next.{next_step}
@@ -26,13 +25,10 @@ use Rattle.bus_msg.specs.Places.{same_pid}
 use Rattle.bus_msg.specs.PlacedAfter.{what}
 use Rattle.roll_forward.specs.Deeds.{Deed, Sends, Bears, letter_in, letters_in}
 use Rattle.cert_sched.specs.Parts.{after_last}
-use Rattle.cert_sched.specs.Schedule.{process_after}
 use Rattle.cert_sched.specs.Deeds.{is_cut, is_birth_of, start_of, since, deeds_in, to_process, letter_for, letters_to, arrived_count}
-use Rattle.cert_sched.specs.Steps.{start_steps, steps_since}
 use Rattle.cert_sched.specs.Record.{backup_record, record_from}
 use Rattle.cert_sched.proofs.RecordLaws.{since-snoc}
 use Rattle.cert_sched.proofs.ReplayLaws.{Replays, ReplaysBy}
-use Rattle.cert_sched.proofs.RollLaws.{Rolls, rolls_steps}
 
 -- ---- deeds, letters and steps
 

@@ -1,5 +1,5 @@
 -- The records of a cluster beside a log that gets one entry more.
-use Rattle.std.proofs.Common.{◌≡◌, ◌≢◌, ℕ, ◌+◌, ◌-◌, ◌<◌, ◌≤◌, ◌^◌, refl, sym, ◌∙◌, ap, subst, arith, List, [], ◌∷◌, ◌++◌, length, map, find, Bool, true, false, cond, not, ◌&&◌, eqb, eqb-true, eq-eqb, Option, Some, None, is_some, true≢false}
+use Rattle.std.proofs.Common.{◌≡◌, ℕ, ◌-◌, ◌<◌, ◌≤◌, ◌^◌, refl, sym, ◌∙◌, ap, arith, List, [], ◌∷◌, ◌++◌, length, Bool, true, false, cond, not, ◌&&◌, eqb, eqb-true, eq-eqb, Option, Some, None, is_some, true≢false}
 use Rattle.std.specs.Prelude.{filter, nat_le, option_map}
 use Rattle.std.specs.Option.{option_map_or}
 use Rattle.t32_base.specs.declared.process.Pid.{Pid}
@@ -10,14 +10,15 @@ use Rattle.t32_base.specs.declared.letter.BackRec.{BackRec}
 use Rattle.sys_text.specs.declared.system.System.{System}
 use Rattle.std.proofs.lemmas.Bool.{and_parts}
 use Rattle.std.proofs.lemmas.Bool.Decides.{nat_tests}
-use Rattle.sys_text.specs.Valid.{are_chans, are_images, are_roots, is_header, is_pair, is_system, is_within}
+use Rattle.sys_text.specs.Valid.{is_pair, is_system, is_within}
+use Rattle.sys_text.proofs.Bounds.{tests}
 use Rattle.write_count.specs.Counting.{count_for}
 use Rattle.proc_state.specs.State.{ProcState, has_ended}
 use Rattle.bus_msg.specs.declared.entry.What.{What}
 use Rattle.bus_msg.specs.declared.entry.What.TheVariants.{Mail, Birth, Exit, Page, Sync, Fetch, PageIs, Crash, Return, Rebackup, Done, Stop}
 use Rattle.bus_msg.specs.declared.entry.Entry.{Entry}
 use Rattle.bus_msg.specs.declared.placed.Placed.{Placed}
-use Rattle.bus_msg.specs.Places.{Places, same_pid, is_cluster, unended_at}
+use Rattle.bus_msg.specs.Places.{same_pid, is_cluster, unended_at}
 use Rattle.bus_msg.specs.PlacedAfter.{what, placed_after}
 use Rattle.cert_sched.specs.Schedule.{placement, process_after}
 use Rattle.cert_sched.specs.Record.{backup_record}
@@ -86,7 +87,8 @@ others_found p q (r ∷ rest) apart = by_test (same_pid r.pid p) refl (others_fo
 
 -- ---- one more entry
 
-with_backup_unended : (system : System) (log : List Entry) (k : ClusterNo) (p : Pid) → has_backup_in system log k p ≡ true → IsUnended system log p
+-- a process that has a backup there has not ended
+pub with_backup_unended : (system : System) (log : List Entry) (k : ClusterNo) (p : Pid) → has_backup_in system log k p ≡ true → IsUnended system log p
 with_backup_unended system log k p has = by_placed (unended_at (placement system log) p) has
   where
     by_placed : (o : Option Placed) → option_map_or (λ (q : Placed). is_cluster q.backup k) o false ≡ true → is_some o ≡ true
@@ -196,10 +198,7 @@ counted_below system log e at letter kept now valid legal is unended kept_is the
 -- the limit of steps fits
 few_steps : (system : System) → is_system system ≡ true → system.syncsteps ≤ 100000
 few_steps system valid =
-    let roots = and_parts (is_header system && are_images system.images && are_roots system.clusters (length system.images) system.roots) (are_chans (length system.roots) system.chans) valid in
-    let images = and_parts (is_header system && are_images system.images) (are_roots system.clusters (length system.images) system.roots) roots.0 in
-    let header = and_parts (is_header system) (are_images system.images) images.0 in
-    let steps = and_parts (is_within 2 16 system.clusters && is_pair system.clusters (system.pager).0 (system.pager).1 && is_within 1 1000 system.syncreads) (is_within 64 100000 system.syncsteps) header.0 in
+    let steps = and_parts (is_within 2 16 system.clusters && is_pair system.clusters (system.pager).0 (system.pager).1 && is_within 1 1000 system.syncreads) (is_within 64 100000 system.syncsteps) (tests system valid).header in
     let most = and_parts (nat_le 64 system.syncsteps) (nat_le system.syncsteps 100000) steps.1 in
     at_most system.syncsteps most.1
   where

@@ -2,3 +2,4 @@ pub mod OneRecord
 pub mod Standing
 pub mod Counts
 pub mod KeptLaws
+pub mod LossLaws

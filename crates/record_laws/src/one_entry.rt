@@ -8,10 +8,13 @@ ghost use Rattle.sys_text.specs.declared.system.System.{System};
 ghost use Rattle.sys_text.specs.Valid.{is_system};
 ghost use Rattle.proc_state.specs.State.{ProcState};
 ghost use Rattle.write_count.specs.Counting.{count_for};
-ghost use Rattle.bus_msg.specs.declared.entry.What.TheVariants.{Mail};
+ghost use Rattle.bus_msg.specs.declared.entry.What.TheVariants.{Crash, Mail};
+ghost use Rattle.bus_msg.specs.declared.entry.Cause.{Cause};
+ghost use Rattle.bus_msg.specs.Places.{same_cluster};
 ghost use Rattle.bus_msg.specs.declared.entry.Entry.{Entry};
 ghost use Rattle.bus_msg.specs.PlacedAfter.{what};
-ghost use Rattle.cert_sched.specs.Schedule.{process_after};
+ghost use Rattle.cert_sched.specs.Schedule.{placement, process_after};
+ghost use Rattle.crash_notice.specs.Splitting.{stays};
 ghost use Rattle.cert_sched.specs.Steps.{steps_since};
 ghost use Rattle.cert_sched.specs.Legal.{IsLegal, IsLegalBy, Stands};
 ghost use Rattle.cert_sched.specs.Built.{BuiltMayFollow};
@@ -36,6 +39,12 @@ pub fn records_follow()
 /// of the log with it, if it starts no process and is no loss.
 pub fn records_are_kept()
     ensures { (system : System) (log : List Entry) (e : Entry) (k : ClusterNo) (recs : List BackRec) → is_system system ≡ true → IsLegalBy Stands system (log ++ e ∷ []) → changes_in_place (what e) ≡ true → KeepsRecords system log k recs → KeepsRecords system (log ++ e ∷ []) k (records_after (what e) recs) }
+{}
+
+/// A law and no code: where the records of a cluster are those of the log, those that stay at the loss of another
+/// are those of the log with the loss.
+pub fn losses_keep_records()
+    ensures { (system : System) (log : List Entry) (e : Entry) (lost here : ClusterNo) (cause : Cause) (recs : List BackRec) → is_system system ≡ true → IsLegalBy Stands system (log ++ e ∷ []) → what e ≡ Crash lost cause → same_cluster lost here ≡ false → KeepsRecords system log here recs → KeepsRecords system (log ++ e ∷ []) here (filter (stays (placement system log) lost here) recs) }
 {}
 
 /// A law and no code: when the next entry may be noted.

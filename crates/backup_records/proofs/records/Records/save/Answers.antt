@@ -1,5 +1,4 @@
-use Rattle.std.proofs.Common.{sym, ◌∙◌}
-use Rattle.std.proofs.lemmas.Result.{on_ok_weaker}
+use Rattle.std.proofs.Common.{sym}
 use Rattle.backup_records.proofs.RecordLaws.{is_for, none_saved}
 use Rattle.backup_records.proofs.records.Records.save.Goals as goal
 

@@ -1,4 +1,4 @@
-use Rattle.std.proofs.Common.{◌≡◌, ℕ, Bool, List, ap, sym, ◌∙◌}
+use Rattle.std.proofs.Common.{ℕ, Bool, List, ap, ◌∙◌}
 use Rattle.std.specs.Prelude.{filter, Result, Ok, Err, IfOk}
 use Rattle.std.specs.Map.{values_of}
 use Rattle.std.proofs.lemmas.Result.{on_ok_weaker}
