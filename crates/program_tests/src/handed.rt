@@ -1,14 +1,12 @@
 //! Which run the program hands out.
+use crate::program::failing_sink;
 use cluster_run::life::Ran;
 use plain_kernel::item::Item;
 use program_calls::{call, call_for_run, sink, source};
 use report_text::run::Ended;
-use std::alloc::Global;
 use std::sync::Wait;
 use std::test::Fail;
 use std::thread::Threads;
-use t32_base::lists::List;
-use t32_base::memory::MemSink;
 use t32_base::process::Pid;
 use t32_base::streams::{NoMemory, Sink};
 use test_systems::{CUT, HI};
@@ -32,12 +30,6 @@ fn the_run_is_handed_out(rt: HostRuntime) -> Result<(), Fail> {
     assert_eq!(rt; ran.run.ended, Ended::Finished);
     assert_eq!(rt; (ran.run.log.len(), ran.lives.len()), (3, 2));
     Ok(())
-}
-
-// A sink that takes five bytes and then fails.
-fn failing_sink(alloc: Global) -> Result<MemSink, NoMemory> {
-    let failing = List::from_vec(vec![in alloc; 1u64]?);
-    MemSink::new(alloc, 1000, failing, 5)
 }
 
 #[test]

@@ -78,8 +78,8 @@ fn words_are_a_command_or_usage(rt: HostRuntime) -> Result<(), Fail> {
     Ok(())
 }
 
-// A sink that takes five bytes and then fails.
-fn failing_sink(alloc: Global) -> Result<MemSink, NoMemory> {
+/// A sink that takes five bytes and then fails.
+pub fn failing_sink(alloc: Global) -> Result<MemSink, NoMemory> {
     let failing = List::from_vec(vec![in alloc; 1u64]?);
     MemSink::new(alloc, 1000, failing, 5)
 }
