@@ -7,6 +7,8 @@ mod process;
 #[cfg(test)]
 mod reads;
 #[cfg(test)]
+mod running;
+#[cfg(test)]
 mod steps;
 #[cfg(test)]
 mod writes;
