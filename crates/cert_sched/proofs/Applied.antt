@@ -19,7 +19,7 @@ use Rattle.cert_sched.specs.Legal.{IsLegalBy}
 use Rattle.cert_sched.specs.Built.{BuiltMayFollow}
 use Rattle.cert_sched.proofs.ListLaws.{last_of-snoc}
 use Rattle.cert_sched.proofs.LogLaws.{plain_run-schedule_of}
-use Rattle.cert_sched.proofs.BuiltLaws.{legal_induction}
+use Rattle.cert_sched.proofs.Induction.{legal_induction}
 
 -- ---- its schedule is applied whole
 

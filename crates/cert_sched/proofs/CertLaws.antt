@@ -23,7 +23,7 @@ use Rattle.cert_sched.specs.CertAfter.{CertView, StartsSchedule, KeepsSchedule, 
 use Rattle.cert_sched.proofs.ListLaws.{last_of-snoc}
 use Rattle.cert_sched.proofs.LogLaws.{schedule_of-snoc, told-snoc, told_last}
 use Rattle.cert_sched.proofs.StepLaws.{applied, done_kernel, done_after-snoc, done_after-none, raised_same}
-use Rattle.cert_sched.proofs.BuiltLaws.{is_over-snoc}
+use Rattle.cert_sched.proofs.Induction.{is_over-snoc}
 
 -- ---- the items
 

@@ -25,11 +25,12 @@ use Rattle.cert_sched.specs.Legal.{IsLegalBy, Stands}
 use Rattle.cert_sched.specs.Simulation.{IsWithParent, bears}
 use Rattle.cert_sched.proofs.LogLaws.{placement-snoc}
 use Rattle.cert_sched.proofs.RecordLaws.{since-snoc}
-use Rattle.cert_sched.proofs.BuiltLaws.{legal_induction}
+use Rattle.cert_sched.proofs.Induction.{legal_induction}
 use Rattle.cert_sched.proofs.CameLaws.{IsStandingRule}
 use Rattle.cert_sched.proofs.ThereLaws.{found_among}
 use Rattle.cert_sched.proofs.FreshLaws.{BornRightly, born_rightly, child_new}
-use Rattle.cert_sched.proofs.FamilyLaws.{Pair, Member, none_of, among, In, not_in, Families, families, families_at_boot, families_more, births_more, was_unsynced, StaysSynced, Keeps, unended_map, sync_keeps, sync_synced, loss_keeps, loss_synced, backup_keeps, backup_synced, exit_there, exit_elsewhere, found_born, or_right, or_left}
+use Rattle.cert_sched.proofs.FamilyLaws.{Pair, Member, none_of, among, In, not_in, Families, families, families_at_boot, families_more, births_more, was_unsynced, StaysSynced, sync_synced, loss_synced, backup_synced, exit_there, exit_elsewhere, found_born, or_right, or_left}
+use Rattle.cert_sched.proofs.UnendedLaws.{Keeps, unended_map, sync_keeps, loss_keeps, backup_keeps}
 
 module _ (system : System) (log : List Entry) (e : Entry) (stands : Stands system log e) (all : Families system log) where
   by_change : (f : Placed → Placed) → Keeps f → StaysSynced f → (w : What) → (placed_after (placement system log) w).placed ≡ map f (placement system log).placed → (p : Pid) → is_unsynced (placed_after (placement system log) w) p ≡ true → is_unsynced (placement system log) p ≡ true

@@ -23,8 +23,8 @@ use Rattle.cert_sched.specs.Schedule.{placement, places_at_boot, placed_root}
 use Rattle.cert_sched.specs.Rules.{owes_no_backup}
 use Rattle.cert_sched.specs.Rests.{IsRestOf, is_idle_at, owes_no_backup_at}
 use Rattle.cert_sched.specs.Legal.{IsLegalBy}
-use Rattle.cert_sched.specs.Built.{BuiltMayFollow}
-use Rattle.cert_sched.proofs.BuiltLaws.{Kept, kept, built_kept, built_clusters}
+use Rattle.cert_sched.specs.Built.{UnlostMayFollow}
+use Rattle.cert_sched.proofs.UnlostLaws.{Kept, kept, unlost_kept, unlost_clusters}
 use Rattle.cert_sched.proofs.RisingLaws.{rising-parts, rising_one_more, with_one}
 use Rattle.cert_sched.proofs.RunsLaws.{rest_pids}
 use Rattle.cert_sched.proofs.DoneLaws.{AllRest}
@@ -32,18 +32,18 @@ use Rattle.cert_sched.proofs.DoneLaws.{AllRest}
 -- ---- the clusters
 
 -- the number of clusters, all of which live, stays
-pub built_clusters-length : (system : System) (log : List Entry) → IsLegalBy BuiltMayFollow system log → length (placement system log).clusters ≡ system.clusters
+pub built_clusters-length : (system : System) (log : List Entry) → IsLegalBy UnlostMayFollow system log → length (placement system log).clusters ≡ system.clusters
 built_clusters-length system log legal =
-    ap length (built_clusters system log legal) ∙ length-map-range_with_len (boot_cluster (map placed_root (roots_of system))) 0 system.clusters
+    ap length (unlost_clusters system log legal) ∙ length-map-range_with_len (boot_cluster (map placed_root (roots_of system))) 0 system.clusters
 
-pub built_lives : (system : System) (log : List Entry) (k : ℕ) → IsLegalBy BuiltMayFollow system log → k < system.clusters → lives_in (placement system log) (cluster_no k) ≡ true
+pub built_lives : (system : System) (log : List Entry) (k : ℕ) → IsLegalBy UnlostMayFollow system log → k < system.clusters → lives_in (placement system log) (cluster_no k) ≡ true
 built_lives system log k legal within =
     let roots = map placed_root (roots_of system) in
     let all : List ClusterPlace = map (boot_cluster roots) (range_with_len 0 system.clusters) in
     let long : length all ≡ system.clusters = length-map-range_with_len (boot_cluster roots) 0 system.clusters in
     let here : slice_get all k ≡ Some (boot_cluster roots k) =
     slice_get-get_or all k (boot_cluster roots k) (omega (arith, long, within)) ∙ ap Some (get_or-map-range_with_len (boot_cluster roots) 0 system.clusters k k (boot_cluster roots k) within (omega arith)) in
-    ap (λ cs. option_map_or (λ (c : ClusterPlace). c.lives) (slice_get cs k) false) (built_clusters system log legal) ∙ ap (λ o. option_map_or (λ (c : ClusterPlace). c.lives) o false) here
+    ap (λ cs. option_map_or (λ (c : ClusterPlace). c.lives) (slice_get cs k) false) (unlost_clusters system log legal) ∙ ap (λ o. option_map_or (λ (c : ClusterPlace). c.lives) o false) here
 
 -- ---- the homes
 
@@ -68,10 +68,10 @@ root_homes s few earlier (r ∷ roots) all =
     (b.home, root_homes s few (earlier ++ r ∷ []) roots (second_of_two (is_root s.clusters (length s.images) r) _ all))
 
 -- each home is a cluster of the system
-pub built_homes : (system : System) (log : List Entry) → is_system system ≡ true → IsLegalBy BuiltMayFollow system log → AllBelow system.clusters (homes (placement system log).placed)
+pub built_homes : (system : System) (log : List Entry) → is_system system ≡ true → IsLegalBy UnlostMayFollow system log → AllBelow system.clusters (homes (placement system log).placed)
 built_homes system log valid legal =
     let same : homes (placement system log).placed ≡ homes (places_at_boot system).placed =
-    sym (homes_kept (placement system log).placed) ∙ ap kept_homes (built_kept system log legal) ∙ homes_kept (places_at_boot system).placed in
+    sym (homes_kept (placement system log).placed) ∙ ap kept_homes (unlost_kept system log legal) ∙ homes_kept (places_at_boot system).placed in
     subst (AllBelow system.clusters) (sym same)
     (root_homes system (system_bounds system valid).clusters [] system.roots (root_tests system.clusters (length system.images) system.roots (tests system valid).roots).each)
 
@@ -153,7 +153,7 @@ pub record Merges (parts rests : List (Pid × ℕ)) : Type 0 where
   pub each : (t : Pid × ℕ → Bool) → list_all t parts ≡ true → list_all t rests ≡ true
 
 -- where the processes of each cluster rest, all rest
-pub all_rest : (system : System) (log : List Entry) (rests_in : ℕ → List (Pid × ℕ)) (rests : List (Pid × ℕ)) → is_system system ≡ true → IsLegalBy BuiltMayFollow system log
+pub all_rest : (system : System) (log : List Entry) (rests_in : ℕ → List (Pid × ℕ)) (rests : List (Pid × ℕ)) → is_system system ≡ true → IsLegalBy UnlostMayFollow system log
     → ((k : ℕ) → k < system.clusters → IsRestOf system log (cluster_no k) (rests_in k)) → Merges (flat_map rests_in (range_with_len 0 system.clusters)) rests → AllRest system log rests
 all_rest system log rests_in rests valid legal rest merges = record {
   named =
@@ -165,7 +165,7 @@ all_rest system log rests_in rests valid legal rest merges = record {
 }
 
 -- where no process at home in any cluster is owed a backup, none is
-pub none_owed : (system : System) (log : List Entry) → is_system system ≡ true → IsLegalBy BuiltMayFollow system log
+pub none_owed : (system : System) (log : List Entry) → is_system system ≡ true → IsLegalBy UnlostMayFollow system log
     → ((k : ℕ) → k < system.clusters → owes_no_backup_at system log (cluster_no k) ≡ true) → owes_no_backup (placement system log) ≡ true
 none_owed system log valid legal each =
     all_placed (λ q. is_none (next_backup (placement system log) q)) system.clusters (placement system log).placed

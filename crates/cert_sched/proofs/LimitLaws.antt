@@ -36,7 +36,7 @@ use Rattle.cert_sched.specs.Legal.{IsLegalBy, IsLegal, MayFollow}
 use Rattle.cert_sched.specs.Simulation.{RecordLeads}
 use Rattle.cert_sched.proofs.LogLaws.{IsLegal-snoc}
 use Rattle.cert_sched.proofs.RecordLaws.{start_of-snoc, since-snoc, saved_letters-start}
-use Rattle.cert_sched.proofs.BuiltLaws.{legal_induction}
+use Rattle.cert_sched.proofs.Induction.{legal_induction}
 use Rattle.cert_sched.proofs.StepLaws.{is_sent, sent_from, no_birth}
 use Rattle.cert_sched.proofs.MailLaws.{received, process_after-sender, boot_arrived}
 use Rattle.cert_sched.proofs.EndedLaws.{letter_told}

@@ -19,12 +19,12 @@ use Rattle.cert_sched.specs.Deeds.{starts, is_cut, is_birth_of, start_of, since,
 use Rattle.roll_forward.specs.Replay.{replayed}
 use Rattle.cert_sched.specs.Rolling.{refilled, replay_from, RollsForward}
 use Rattle.cert_sched.specs.Legal.{IsLegalBy, IsLegal, MayFollow, Stands}
-use Rattle.cert_sched.specs.Built.{is_built, BuiltMayFollow}
+use Rattle.cert_sched.specs.Built.{BuiltMayFollow}
 use Rattle.cert_sched.proofs.ListLaws.{after_last-snoc}
 use Rattle.cert_sched.proofs.RecordLaws.{start_of-snoc, since-snoc, saved_letters-start, saved_letters-other, arrived_count-other, letters_started}
 use Rattle.cert_sched.proofs.RisingLaws.{NoTwo}
 use Rattle.cert_sched.proofs.PidLaws.{placed_pids}
-use Rattle.cert_sched.proofs.BuiltLaws.{legal_induction}
+use Rattle.cert_sched.proofs.Induction.{legal_induction}
 use Rattle.cert_sched.proofs.MailLaws.{boot_arrived}
 use Rattle.cert_sched.proofs.ReplayLaws.{Replays, replays_on, replays_all_delivered, all_delivered-is, replays_counts, replays_goes_on, replays_computes}
 use Rattle.cert_sched.proofs.CameLaws.{IsStandingRule, Goes, Came, went_on, was_cut, was_born, came}
@@ -245,18 +245,3 @@ rolls_forward = rolls_forward-by MayFollow (λ system log e may. may.stands)
 -- and in one of the entries that are built so far
 pub built_rolls_forward : (system : System) (log : List Entry) (p : Pid) → is_system system ≡ true → IsLegalBy BuiltMayFollow system log → HasNotEnded system log p → RollsForward system log p
 built_rolls_forward = rolls_forward-by BuiltMayFollow (λ system log e may. may.stands)
-
--- ---- losses
-
-abbrev is_loss : What → Bool
-is_loss (Crash k cause) = true
-is_loss _ = false
-
--- An entry of the kinds that are built, or the loss of a cluster that lives, may stand next.
-pub record LossMayFollow (system : System) (log : List Entry) (e : Entry) : Type 0 where
-  pub stands : Stands system log e
-  pub built : (is_built (what e) || is_loss (what e)) ≡ true
-
--- in a legal log of letters, exits, the end and losses each process that has not ended rolls forward
-pub losses_roll_forward : (system : System) (log : List Entry) (p : Pid) → is_system system ≡ true → IsLegalBy LossMayFollow system log → HasNotEnded system log p → RollsForward system log p
-losses_roll_forward = rolls_forward-by LossMayFollow (λ system log e may. may.stands)

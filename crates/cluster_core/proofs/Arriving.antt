@@ -18,7 +18,7 @@ use Rattle.bus_msg.specs.declared.placed.Placed.{Placed}
 use Rattle.bus_msg.specs.Places.{Places, lives_in, same_pid}
 use Rattle.bus_msg.specs.PlacedAfter.{what}
 use Rattle.bus_msg.specs.Route.{backup_of, bits_of, letter_dests, route}
-use Rattle.cert_sched.specs.Built.{is_built}
+use Rattle.cert_sched.specs.Built.{is_unlost}
 use Rattle.cert_sched.specs.Deeds.{is_end_of}
 use Rattle.cert_sched.specs.Parts.{rising}
 use Rattle.cert_sched.specs.Rests.{home_pids}
@@ -75,7 +75,7 @@ letter_comes : (places : Places) (k : ClusterNo) (from p : Pid) (to : To) → li
 letter_comes places k from p (Proc q end) lives home is = goes_home places from q end k (subst (λ r. HomeHere places r k) (sym (pid_same q p (eqb-true q.0 p.0 is))) home) lives
 letter_comes places k from p (Tty t) lives home is = absurd (true≢false (sym is))
 
-entry_comes : (places : Places) (k : ClusterNo) (p : Pid) (w : What) → lives_in places k ≡ true → HomeHere places p k → is_built w ≡ true → is_letter_for p w ≡ true → goes_to (route places w) k ≡ true
+entry_comes : (places : Places) (k : ClusterNo) (p : Pid) (w : What) → lives_in places k ≡ true → HomeHere places p k → is_unlost w ≡ true → is_letter_for p w ≡ true → goes_to (route places w) k ≡ true
 entry_comes places k p w lives home =
     by_kind (λ w. is_letter_for p w ≡ true → goes_to (route places w) k ≡ true)
     (λ at letter is. letter_comes places k letter.from p letter.to lives home is) (λ pid at end is. absurd (true≢false (sym is))) (λ rests is. absurd (true≢false (sym is))) (λ is. absurd (true≢false (sym is))) w

@@ -5,9 +5,9 @@ use Rattle.t32_base.specs.declared.process.End.{End}
 use Rattle.t32_base.specs.declared.letter.Letter.{Letter}
 use Rattle.bus_msg.specs.declared.entry.What.{What}
 use Rattle.bus_msg.specs.declared.entry.What.TheVariants.{Mail, Birth, Exit, Page, Sync, Fetch, PageIs, Crash, Return, Rebackup, Done, Stop}
-use Rattle.cert_sched.specs.Built.{is_built}
+use Rattle.cert_sched.specs.Built.{is_unlost}
 
-pub by_kind : (P : What → Type 0) → ((at : ℕ) (letter : Letter) → P (Mail at letter)) → ((pid : Pid) (at : ℕ) (end : End) → P (Exit pid at end)) → ((rests : List (Pid × ℕ)) → P (Done rests)) → P Stop → (w : What) → is_built w ≡ true → P w
+pub by_kind : (P : What → Type 0) → ((at : ℕ) (letter : Letter) → P (Mail at letter)) → ((pid : Pid) (at : ℕ) (end : End) → P (Exit pid at end)) → ((rests : List (Pid × ℕ)) → P (Done rests)) → P Stop → (w : What) → is_unlost w ≡ true → P w
 by_kind P mail exit done stop (Mail at letter) built = mail at letter
 by_kind P mail exit done stop (Exit pid at end) built = exit pid at end
 by_kind P mail exit done stop (Done rests) built = done rests

@@ -12,7 +12,7 @@ use Rattle.sys_calls.specs.declared.steps.Emission.TheVariants.{Mail as Sent, Ex
 use Rattle.bus_msg.specs.declared.entry.What.{What}
 use Rattle.bus_msg.specs.declared.entry.What.TheVariants.{Mail}
 use Rattle.bus_msg.specs.Places.{same_pid}
-use Rattle.cert_sched.specs.Built.{is_built}
+use Rattle.cert_sched.specs.Built.{is_unlost}
 use Rattle.cert_sched.specs.Deeds.{is_end_of}
 use Rattle.cert_sched.proofs.StepLaws.{Tells}
 use Rattle.cert_sched.proofs.MailLaws.{with_arrival}
@@ -95,7 +95,7 @@ run_fewer pid (e ∷ here) runs = by_test (not (same_pid e.0 pid)) (and_parts (i
     by_test false both more = more both.1
 
 -- after an entry all run that ran before
-pub run_after : (w : What) (here : List (Pid × Held)) → is_built w ≡ true → all_run here ≡ true → all_run (here_after w here) ≡ true
+pub run_after : (w : What) (here : List (Pid × Held)) → is_unlost w ≡ true → all_run here ≡ true → all_run (here_after w here) ≡ true
 run_after w here =
     by_kind (λ w. all_run here ≡ true → all_run (here_after w here) ≡ true) (λ at letter runs. run_letter letter here ∙ runs) (λ pid at end runs. run_fewer pid here runs) (λ rests runs. runs) (λ runs. runs) w
 
@@ -162,7 +162,7 @@ exit_found pid (e ∷ here) p h at = by_exit (same_pid e.0 pid) refl at (exit_fo
     by_exit true is at more = later (same_pid e.0 p) refl (more at) is
     by_exit false is at more = by_pid (same_pid e.0 p) refl at more is
 
-pub was_here : (w : What) (here : List (Pid × Held)) (p : Pid) (h : Held) → is_built w ≡ true → held_of (here_after w here) p ≡ Some h → WasHere w here p h
+pub was_here : (w : What) (here : List (Pid × Held)) (p : Pid) (h : Held) → is_unlost w ≡ true → held_of (here_after w here) p ≡ Some h → WasHere w here p h
 was_here w here p h =
     by_kind (λ w. held_of (here_after w here) p ≡ Some h → WasHere w here p h)
     (λ at letter is. letter_was at letter here p h (held_of here p) refl (sym (letter_found letter here p) ∙ is))
@@ -176,7 +176,7 @@ abbrev pub arrival_in : What → Pid → Process → Process
 arrival_in (Mail at letter) p s = cond (is_end_of p letter.to) (arrived s letter) s
 arrival_in w p s = s
 
-pub runs_after : (w : What) (p : Pid) (s : Process) → is_built w ≡ true → arrival_at w p (Runs s) ≡ Runs (arrival_in w p s)
+pub runs_after : (w : What) (p : Pid) (s : Process) → is_unlost w ≡ true → arrival_at w p (Runs s) ≡ Runs (arrival_in w p s)
 runs_after w p s = by_kind (λ w. arrival_at w p (Runs s) ≡ Runs (arrival_in w p s)) (λ at letter. by_test letter (is_end_of p letter.to)) (λ pid at end. refl) (λ rests. refl) refl w
   where
     by_test : (letter : Letter) (b : Bool) → cond b (Runs (arrived s letter)) (Runs s) ≡ Runs (cond b (arrived s letter) s)
@@ -193,7 +193,7 @@ arrival_state w q at (Sent letter) p s tells = ap (λ w. state_of (arrival_in w 
 arrival_state w q at (Ended end) p s tells = ap (λ w. state_of (arrival_in w p s)) tells
 
 -- a letter changes neither the steps nor the rest of the small state
-pub arrival_small : (w : What) (p : Pid) (s : Process) → is_built w ≡ true → (arrival_in w p s).small ≡ s.small
+pub arrival_small : (w : What) (p : Pid) (s : Process) → is_unlost w ≡ true → (arrival_in w p s).small ≡ s.small
 arrival_small w p s = by_kind (λ w. (arrival_in w p s).small ≡ s.small) (λ at letter. by_test letter (is_end_of p letter.to)) (λ pid at end. refl) (λ rests. refl) refl w
   where
     by_test : (letter : Letter) (b : Bool) → (cond b (arrived s letter) s).small ≡ s.small

@@ -13,10 +13,10 @@ use Rattle.cert_sched.specs.Parts.{rising}
 use Rattle.sys_text.specs.declared.system.System.{System}
 use Rattle.sys_text.specs.Valid.{is_system}
 use Rattle.bus_msg.specs.declared.entry.Entry.{Entry}
-use Rattle.cert_sched.specs.Built.{BuiltMayFollow}
+use Rattle.cert_sched.specs.Built.{UnlostMayFollow}
 use Rattle.cert_sched.specs.Legal.{IsLegalBy}
 use Rattle.cert_sched.specs.Schedule.{placement, places_at_boot}
-use Rattle.cert_sched.proofs.BuiltLaws.{Kept, built_kept, kept}
+use Rattle.cert_sched.proofs.UnlostLaws.{Kept, unlost_kept, kept}
 use Rattle.cert_sched.proofs.RisingLaws.{rising-any}
 use Rattle.cert_sched.proofs.RootPids.{root_pids_differ}
 
@@ -107,9 +107,9 @@ differ_kept (q ∷ qs) = λ i. not (any_kept q.pid qs i) && differ_kept qs i
     any_kept p (q ∷ qs) = ap (λ b. same_pid q.pid p || b) (any_kept p qs)
 
 -- so it is at boot, and no entry that is built places a process
-pub differ_built : (system : System) (log : List Entry) → is_system system ≡ true → IsLegalBy BuiltMayFollow system log → pids_differ (placement system log).placed ≡ true
+pub differ_built : (system : System) (log : List Entry) → is_system system ≡ true → IsLegalBy UnlostMayFollow system log → pids_differ (placement system log).placed ≡ true
 differ_built system log valid legal =
-    differ_kept (placement system log).placed ∙ ap differ_in (built_kept system log legal) ∙ sym (differ_kept (places_at_boot system).placed) ∙ root_pids_differ system valid
+    differ_kept (placement system log).placed ∙ ap differ_in (unlost_kept system log legal) ∙ sym (differ_kept (places_at_boot system).placed) ∙ root_pids_differ system valid
 
 -- ---- an exit
 

@@ -14,12 +14,12 @@ use Rattle.sys_calls.specs.Small.{weight}
 use Rattle.bus_msg.specs.declared.entry.Entry.{Entry}
 use Rattle.bus_msg.specs.declared.placed.Placed.{Placed}
 use Rattle.bus_msg.specs.Places.{same_pid, is_at_home}
-use Rattle.cert_sched.specs.Built.{BuiltMayFollow}
+use Rattle.cert_sched.specs.Built.{UnlostMayFollow}
 use Rattle.cert_sched.specs.Legal.{IsLegalBy}
 use Rattle.cert_sched.specs.Parts.{put_rising, rising}
 use Rattle.cert_sched.specs.Rests.{home_pids}
 use Rattle.cert_sched.specs.Schedule.{placement, places_at_boot}
-use Rattle.cert_sched.proofs.BuiltLaws.{Kept, built_kept, kept}
+use Rattle.cert_sched.proofs.UnlostLaws.{Kept, unlost_kept, kept}
 use Rattle.cert_sched.proofs.PidLaws.{apart_fewer, apart_of, placed_pids}
 use Rattle.cert_sched.proofs.RisingLaws.{NoTwo, either_not, rising-any, rising-apart}
 use Rattle.cert_sched.proofs.RootPids.{root_pids_differ}
@@ -79,10 +79,10 @@ pids_kept : (qs : List Placed) → kept_pids (map kept qs) ≡ placed_pids qs
 pids_kept [] = refl
 pids_kept (q ∷ qs) = ap (λ ns. (q.pid).0 ∷ ns) (pids_kept qs)
 
-homes_apart : (system : System) (log : List Entry) (k : ClusterNo) → is_system system ≡ true → IsLegalBy BuiltMayFollow system log → NoTwo (home_pids system log k)
+homes_apart : (system : System) (log : List Entry) (k : ClusterNo) → is_system system ≡ true → IsLegalBy UnlostMayFollow system log → NoTwo (home_pids system log k)
 homes_apart system log k valid legal =
     let same : placed_pids (placement system log).placed ≡ placed_pids (places_at_boot system).placed =
-    sym (pids_kept (placement system log).placed) ∙ ap kept_pids (built_kept system log legal) ∙ pids_kept (places_at_boot system).placed in
+    sym (pids_kept (placement system log).placed) ∙ ap kept_pids (unlost_kept system log legal) ∙ pids_kept (places_at_boot system).placed in
     apart_fewer (is_at_home k) (placement system log).placed (subst NoTwo (sym same) (apart_of (places_at_boot system).placed (root_pids_differ system valid)))
 
 pub held_apart : (c : ClusterView) → is_system c.system ≡ true → FollowsSome c → NoTwo (pids_in c.here)

@@ -29,10 +29,10 @@ use Rattle.cert_sched.specs.Steps.{silent_upto, emission_at, after_items}
 use Rattle.cert_sched.specs.Rules.{is_by, is_living, is_by_home, is_by_right, home_at}
 use Rattle.cert_sched.specs.Kinds.{KindHolds}
 use Rattle.cert_sched.specs.Legal.{IsLegalBy}
-use Rattle.cert_sched.specs.Built.{is_built, BuiltMayFollow}
+use Rattle.cert_sched.specs.Built.{is_unlost, UnlostMayFollow}
 use Rattle.cert_sched.specs.Losses.{least_steps, capped, is_from}
 use Rattle.cert_sched.specs.Appended.{entry_of}
-use Rattle.cert_sched.proofs.BuiltLaws.{built_births, built_clusters}
+use Rattle.cert_sched.proofs.UnlostLaws.{unlost_births, unlost_clusters}
 use Rattle.cert_sched.proofs.StepLaws.{Tells, sent_applies}
 use Rattle.cluster_core.specs.declared.worked.Worked.TheVariants.{Moved, Queued, Rests}
 use Rattle.cluster_core.specs.View.{ClusterView, Held, Runs, held_at, held_of, next_count, counted_once, tried_once}
@@ -215,20 +215,20 @@ moved_goes_on c p was new empty there a log go f = record {
 -- ---- one of them posted something
 
 -- each cluster of a system lives in such a log
-pub lives_built : (system : System) (log : List Entry) (k : ClusterNo) → IsLegalBy BuiltMayFollow system log → k.0 < system.clusters → is_living (placement system log) (Cluster k) ≡ true
+pub lives_built : (system : System) (log : List Entry) (k : ClusterNo) → IsLegalBy UnlostMayFollow system log → k.0 < system.clusters → is_living (placement system log) (Cluster k) ≡ true
 lives_built system log k legal has =
     let roots : List Placed = map placed_root (roots_of system) in
     let size : k.0 < length (range_with_len 0 system.clusters) = omega (arith, length-range_with_len 0 system.clusters, has) in
     let number : slice_get (range_with_len 0 system.clusters) k.0 ≡ Some k.0 = slice_get-get_or (range_with_len 0 system.clusters) k.0 0 size ∙ ap Some (get_or-range_with_len 0 system.clusters k.0 0 has ∙ zero-add k.0) in
     let at : slice_get (map (boot_cluster roots) (range_with_len 0 system.clusters)) k.0 ≡ Some (boot_cluster roots k.0) = slice_get-map (boot_cluster roots) (range_with_len 0 system.clusters) k.0 ∙ ap (option_map (boot_cluster roots)) number in
-    ap (λ (cs : List ClusterPlace). option_map_or (λ (c : ClusterPlace). c.lives) (slice_get cs k.0) false) (built_clusters system log legal)
+    ap (λ (cs : List ClusterPlace). option_map_or (λ (c : ClusterPlace). c.lives) (slice_get cs k.0) false) (unlost_clusters system log legal)
     ∙ ap (λ (o : Option ClusterPlace). option_map_or (λ (c : ClusterPlace). c.lives) o false) at
 
 abbrev pub posted_view : ClusterView → List (Pid × Held) → Post → ClusterView
 posted_view c here post = record c { here = here; queue = post ∷ []; steps = next_count c.steps }
 
 -- whatever is posted is of a kind that is built
-built_of : (pid : Pid) (at : ℕ) (e : Emission) → is_built (told_of pid at e) ≡ true
+built_of : (pid : Pid) (at : ℕ) (e : Emission) → is_unlost (told_of pid at e) ≡ true
 built_of pid at (Sent letter) = refl
 built_of pid at (Ended end) = refl
 
@@ -247,10 +247,10 @@ items_of_post system log pid at (Sent letter) t tells is =
     ap (λ p. option_map (taken_by (Mail at letter)) (option_map (λ (r : Emission × ProcState). r.1) (emission_at system log p at))) tells.0 ∙ ap (λ o. option_map (taken_by (Mail at letter)) (option_map (λ (r : Emission × ProcState). r.1) o)) is
 items_of_post system log pid at (Ended end) t tells is = ap (λ o. option_map (taken_by (Exit pid at end)) (option_map (λ (r : Emission × ProcState). r.1) o)) is
 
-kind_of_post : (system : System) (log : List Entry) (k : ClusterNo) (pid : Pid) (at : ℕ) (e : Emission) (t : ProcState) → Tells pid at e (told_of pid at e) → emission_at system log pid at ≡ Some (e, t) → IsLegalBy BuiltMayFollow system log
+kind_of_post : (system : System) (log : List Entry) (k : ClusterNo) (pid : Pid) (at : ℕ) (e : Emission) (t : ProcState) → Tells pid at e (told_of pid at e) → emission_at system log pid at ≡ Some (e, t) → IsLegalBy UnlostMayFollow system log
     → KindHolds system log (entry_of system log (post_told k pid at e)) (told_of pid at e)
 kind_of_post system log k pid at (Sent letter) t tells is legal = ap (λ p. option_map (λ (r : Emission × ProcState). r.0) (emission_at system log p at)) tells.0 ∙ ap (option_map (λ (r : Emission × ProcState). r.0)) is
-kind_of_post system log k pid at (Ended end) t tells is legal = (ap (option_map (λ (r : Emission × ProcState). r.0)) is, no_child system log pid (built_births system log legal))
+kind_of_post system log k pid at (Ended end) t tells is legal = (ap (option_map (λ (r : Emission × ProcState). r.0)) is, no_child system log pid (unlost_births system log legal))
 
 right_of_post : (places : Places) (k : ClusterNo) (pid : Pid) (at : ℕ) (e : Emission) → Tells pid at e (told_of pid at e) → is_by_home places (Cluster k) (Some pid) ≡ true → is_by_right places (Cluster k) (told_of pid at e) ≡ true
 right_of_post places k pid at (Sent letter) tells h = ap (λ p. is_by_home places (Cluster k) (Some p)) tells.0 ∙ h
@@ -291,7 +291,7 @@ module _ (c : ClusterView) (p : Pid) (was now : Process) (post : Post) (e : Emis
   posted_own : is_from c.number post.by ≡ true
   posted_own = ap (λ (p : Post). is_from c.number p.by) post_is ∙ eq-eqb (c.number).0 (c.number).0 refl
 
-  may_follow : (log : List Entry) → IsOpen BuiltMayFollow c.system log → FollowsBuilt c.system log c → is_system c.system ≡ true → (c.number).0 < (c.system).clusters → BuiltMayFollow c.system log (entry_of c.system log (post_told c.number p at e))
+  may_follow : (log : List Entry) → IsOpen UnlostMayFollow c.system log → FollowsBuilt c.system log c → is_system c.system ≡ true → (c.number).0 < (c.system).clusters → UnlostMayFollow c.system log (entry_of c.system log (post_told c.number p at e))
   may_follow log go f valid has =
       let home = home_here (placement c.system log) c.number (pids_in c.here) p (differ_built c.system log valid go.0) (f.processes).each_once (is_among c.here p (Runs was) there) in
       record {
@@ -318,7 +318,7 @@ module _ (c : ClusterView) (p : Pid) (was now : Process) (post : Post) (e : Emis
     };
     queue = record {
       own = ap (λ b. b && true) posted_own;
-      legal = (subst (λ (q : Post). BuiltMayFollow c.system log (entry_of c.system log q)) (sym post_is) (may_follow log go f valid has), tt);
+      legal = (subst (λ (q : Post). UnlostMayFollow c.system log (entry_of c.system log q)) (sym post_is) (may_follow log go f valid has), tt);
     };
     steps = record { counted = λ kept. more_counted (least_steps log log c.number + cond c.tried 1 0) c.steps ((f.steps).counted kept) };
   }

@@ -4,7 +4,7 @@ use Rattle.sys_text.specs.declared.system.System.{System}
 use Rattle.bus_msg.specs.declared.entry.Entry.{Entry}
 use Rattle.cert_sched.specs.Legal.{IsLegalBy, MayFollow}
 use Rattle.cert_sched.specs.Rules.{is_over}
-use Rattle.cert_sched.specs.Built.{BuiltMayFollow}
+use Rattle.cert_sched.specs.Built.{UnlostMayFollow}
 use Rattle.cluster_core.specs.View.{ClusterView, all_run, head_of, after_sent}
 use Rattle.cert_sched.specs.Appended.{entry_of}
 use Rattle.cluster_core.specs.Holds.{HoldsLog, HoldsProcesses, HoldsQueue, HoldsSteps, HoldsPages, HoldsMarks, HoldsRecords, HoldsAccounts}
@@ -25,7 +25,7 @@ pub record FollowsBuilt (system : System) (entries : List Entry) (c : ClusterVie
   pub log : HoldsLog system entries c
   pub running : all_run c.here ≡ true
   pub processes : HoldsProcesses system entries c
-  pub queue : HoldsQueue BuiltMayFollow system entries c
+  pub queue : HoldsQueue UnlostMayFollow system entries c
   pub steps : HoldsSteps entries c
 
 -- a log that goes on, by a rule

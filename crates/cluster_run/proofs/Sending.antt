@@ -12,7 +12,7 @@ use Rattle.cert_sched.specs.Schedule.{placement}
 use Rattle.cert_sched.specs.Appended.{entry_of}
 use Rattle.cert_sched.specs.Rules.{is_over}
 use Rattle.cert_sched.specs.Legal.{IsLegalBy}
-use Rattle.cert_sched.specs.Built.{BuiltMayFollow, is_built}
+use Rattle.cert_sched.specs.Built.{UnlostMayFollow, is_unlost}
 use Rattle.cert_sched.specs.Losses.{is_by_cluster, is_from}
 use Rattle.cert_sched.proofs.LogLaws.{IsLegal-snoc}
 use Rattle.cluster_core.specs.View.{ClusterView, head_of, after_head, after_sent}
@@ -32,7 +32,7 @@ use Rattle.cluster_run.proofs.TakingIn.{open_all}
 abbrev pub cleared : ClusterView → ClusterView
 cleared c = record c { queue = []; tried = false }
 
-same_after : (w : What) (c : ClusterView) → is_built w ≡ true → after_head c w ≡ c
+same_after : (w : What) (c : ClusterView) → is_unlost w ≡ true → after_head c w ≡ c
 same_after (Mail at letter) c h = refl
 same_after (Birth parent at child end) c h = refl
 same_after (Exit pid at end) c h = refl
@@ -53,7 +53,7 @@ pub record IsSent (log : List Entry) (c : ClusterView) (post : Post) (after : Bu
   pub goes_on : is_over c.system log ≡ false
   pub only : c.queue ≡ post ∷ []
   pub tried : c.tried ≡ true
-  pub legal : IsLegalBy BuiltMayFollow c.system log
+  pub legal : IsLegalBy UnlostMayFollow c.system log
   pub system : c.system ≡ after.system
   pub longer : after.log ≡ log ++ entry_of c.system log post ∷ []
 
@@ -64,8 +64,8 @@ module _ (log : List Entry) (c : ClusterView) (post : Post) (after : BusView) (s
   follows : FollowsBuilt c.system log c
   follows = subst (λ l. FollowsBuilt c.system l c) (take_all c.cursor log (omega (arith, s.seen))) (s.beside).follows
 
-  may : BuiltMayFollow c.system log next
-  may = let queue = subst (λ q. IsQueueLegal BuiltMayFollow c.system log q) s.only (follows.queue).legal in queue.0
+  may : UnlostMayFollow c.system log next
+  may = let queue = subst (λ q. IsQueueLegal UnlostMayFollow c.system log q) s.only (follows.queue).legal in queue.0
 
   pub own : is_from c.number post.by ≡ true
   own =
@@ -75,8 +75,8 @@ module _ (log : List Entry) (c : ClusterView) (post : Post) (after : BusView) (s
   pub clears : after_sent c c.queue ≡ cleared c
   clears = ap (after_sent c) s.only ∙ ap (λ (v : ClusterView). record v { queue = []; tried = false }) (same_after post.what c may.built)
 
-  legal_next : IsLegalBy BuiltMayFollow c.system (log ++ next ∷ [])
-  legal_next = IsLegal-snoc BuiltMayFollow c.system log next s.legal may
+  legal_next : IsLegalBy UnlostMayFollow c.system (log ++ next ∷ [])
+  legal_next = IsLegal-snoc UnlostMayFollow c.system log next s.legal may
 
   goes_on_next : is_over c.system (log ++ next ∷ []) ≡ false
   goes_on_next = over_closed c.system (log ++ next ∷ []) legal_next ∙ closed-snoc log next ∙ no_end c.number (placement c.system log) post.by post.what may.built own (may.stands).by_right
@@ -98,10 +98,10 @@ module _ (log : List Entry) (c : ClusterView) (post : Post) (after : BusView) (s
   at_cursor : slice_get after.log c.cursor ≡ Some next
   at_cursor = (λ i. slice_get (s.longer i) (s.seen i)) ∙ get_last log next
 
-  open_first : IsOpen BuiltMayFollow c.system log
+  open_first : IsOpen UnlostMayFollow c.system log
   open_first = (s.legal, s.goes_on)
 
-  open_next : IsOpen BuiltMayFollow c.system (log ++ next ∷ [])
+  open_next : IsOpen UnlostMayFollow c.system (log ++ next ∷ [])
   open_next = (legal_next, goes_on_next)
 
   between : IsReady log next (cleared c)

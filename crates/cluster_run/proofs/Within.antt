@@ -30,9 +30,9 @@ use Rattle.cert_sched.specs.Schedule.{placement, places_at_boot, plain_after, pr
 use Rattle.cert_sched.specs.Steps.{silent_upto}
 use Rattle.cert_sched.specs.Rests.{home_pids}
 use Rattle.cert_sched.specs.Rules.{is_over}
-use Rattle.cert_sched.specs.Built.{BuiltMayFollow}
+use Rattle.cert_sched.specs.Built.{UnlostMayFollow}
 use Rattle.cert_sched.specs.Legal.{IsLegalBy}
-use Rattle.cert_sched.proofs.BuiltLaws.{built_kept, kept}
+use Rattle.cert_sched.proofs.UnlostLaws.{unlost_kept, kept}
 use Rattle.cert_sched.proofs.RisingLaws.{NoTwo}
 use Rattle.cert_sched.proofs.StepLaws.{silent_from}
 use Rattle.cluster_core.specs.View.{ClusterView, Held, Runs, Rolls, Waits, held_load, held_of, load}
@@ -154,11 +154,11 @@ rising_long (x ∷ xs) = omega (arith, put_long x (rising xs), rising_long xs)
 abbrev pub placed_count : System → ℕ
 placed_count system = length (places_at_boot system).placed
 
-few_placed : (system : System) (log : List Entry) → IsLegalBy BuiltMayFollow system log → length (placement system log).placed ≡ placed_count system
+few_placed : (system : System) (log : List Entry) → IsLegalBy UnlostMayFollow system log → length (placement system log).placed ≡ placed_count system
 few_placed system log legal =
-    sym (length-map (placement system log).placed kept) ∙ ap length (built_kept system log legal) ∙ length-map (places_at_boot system).placed kept
+    sym (length-map (placement system log).placed kept) ∙ ap length (unlost_kept system log legal) ∙ length-map (places_at_boot system).placed kept
 
-few_here : (system : System) (log : List Entry) (c : ClusterView) → IsLegalBy BuiltMayFollow system log → rising (pids_in c.here) ≡ rising (home_pids system log c.number) → length c.here ≤ placed_count system
+few_here : (system : System) (log : List Entry) (c : ClusterView) → IsLegalBy UnlostMayFollow system log → rising (pids_in c.here) ≡ rising (home_pids system log c.number) → length c.here ≤ placed_count system
 few_here system log c legal same =
     let here : length c.here ≡ length (home_pids system log c.number) = sym (length-map c.here (λ (e : Pid × Held). (e.0).0)) ∙ sym (rising_long (pids_in c.here)) ∙ ap length same ∙ rising_long (home_pids system log c.number) in
     let home : length (home_pids system log c.number) ≡ count_by (is_at_home c.number) (placement system log).placed =
@@ -169,7 +169,7 @@ few_here system log c legal same =
 abbrev pub most_load : System → ℕ
 most_load system = placed_count system * boot_load system
 
-load_within : (system : System) (log : List Entry) (c : ClusterView) → IsLegalBy BuiltMayFollow system log → FollowsBuilt system log c → NoTwo (pids_in c.here) → c.queue ≡ [] → load c ≤ most_load system
+load_within : (system : System) (log : List Entry) (c : ClusterView) → IsLegalBy UnlostMayFollow system log → FollowsBuilt system log c → NoTwo (pids_in c.here) → c.queue ≡ [] → load c ≤ most_load system
 load_within system log c legal follows two empty =
     let each : All (λ (e : Pid × Held). held_load e.1 ≤ boot_load system) c.here =
     each_held (λ h. held_load h ≤ boot_load system) c.here two (λ p h at. held_within system log p h (subst (λ q. IsHeldAs system log q p h) empty ((follows.processes).held p h at))) in

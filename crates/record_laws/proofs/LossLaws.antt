@@ -18,7 +18,7 @@ use Rattle.cert_sched.specs.Schedule.{placement}
 use Rattle.cert_sched.specs.Record.{backup_record}
 use Rattle.cert_sched.specs.Legal.{IsLegalBy, Stands}
 use Rattle.cert_sched.proofs.LogLaws.{placement-snoc, IsLegal-before}
-use Rattle.cert_sched.proofs.FamilyLaws.{loss_keeps, unended_map, unended_open_at}
+use Rattle.cert_sched.proofs.UnendedLaws.{loss_keeps, unended_map, unended_open_at}
 use Rattle.cert_sched.proofs.FreshLaws.{only_one}
 use Rattle.cert_sched.proofs.RollLaws.{all_roll, two_apart}
 use Rattle.crash_notice.specs.Splitting.{is_moved_here, stays}

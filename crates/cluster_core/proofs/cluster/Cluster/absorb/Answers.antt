@@ -4,7 +4,7 @@ use Rattle.bus_msg.specs.PlacedAfter.{what, placed_after}
 use Rattle.sys_text.specs.Valid.{is_system}
 use Rattle.sys_text.proofs.Bounds.{system_bounds}
 use Rattle.bus_msg.specs.declared.entry.Entry.{Entry}
-use Rattle.cert_sched.specs.Built.{BuiltMayFollow, is_built}
+use Rattle.cert_sched.specs.Built.{UnlostMayFollow, is_unlost}
 use Rattle.cert_sched.proofs.LogLaws.{IsLegal-last}
 use Rattle.cluster_core.specs.View.{ClusterView, next_count}
 use Rattle.cluster_core.specs.Parts.{AllOwn}
@@ -16,8 +16,8 @@ use Rattle.cluster_core.proofs.Following.{absorbs, ready_quiet}
 use Rattle.cluster_core.proofs.Turning.{built_no_birth}
 use Rattle.cluster_core.proofs.cluster.Cluster.absorb.Goals as goal
 
-ready_built : (c : ClusterView) (e : Entry) → ReadyFor e c → is_built (what e) ≡ true
-ready_built c e r = (IsLegal-last BuiltMayFollow c.system r.log e (r.open_next).0).built
+ready_built : (c : ClusterView) (e : Entry) → ReadyFor e c → is_unlost (what e) ≡ true
+ready_built c e r = (IsLegal-last UnlostMayFollow c.system r.log e (r.open_next).0).built
 
 pub tell-requires-clause-room : goal.tell-requires-clause-room
 tell-requires-clause-room c =
