@@ -17,4 +17,5 @@ pub mod Weighing
 pub mod Lightening
 pub mod WorkedViews
 pub mod Arriving
+mod Noting
 pub mod ByKind
