@@ -1,5 +1,5 @@
 -- The processes that have not ended, after a change of each process that leaves its pid and whether it has ended.
-use Rattle.std.proofs.Common.{◌≡◌, refl, sym, ◌∙◌, ap, List, [], ◌∷◌, map, Bool, true, false, cond, not, ◌&&◌, eqb-true, Option, Some, None}
+use Rattle.std.proofs.Common.{◌≡◌, refl, sym, ◌∙◌, ap, List, [], ◌∷◌, map, Bool, true, false, cond, not, ◌&&◌, ◌||◌, eqb-true, Option, Some, None}
 use Rattle.std.specs.Prelude.{find, option_map}
 use Rattle.std.proofs.lemmas.Bool.{and_parts, not-true}
 use Rattle.t32_base.specs.declared.process.Pid.{Pid}
