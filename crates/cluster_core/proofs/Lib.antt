@@ -13,7 +13,6 @@ pub mod Owning
 pub mod Working
 pub mod Resting
 pub mod Turning
-pub mod Weighing
 pub mod Lightening
 pub mod WorkedViews
 pub mod Arriving
