@@ -38,67 +38,6 @@ is_among (e ∷ here) p h there = by_test (same_pid e.0 p) there (is_among here 
     by_test true is more = refl
     by_test false is more = more is
 
--- ---- one that runs
-
-pub record IsProcess (h : Held) : Type 0 where
-  pub process : Process
-  pub is : h ≡ Runs process
-
-pub running_is : (h : Held) → is_running h ≡ true → IsProcess h
-running_is (Runs p) runs = record { process = p; is = refl }
-running_is (Rolls p counts births) runs = absurd (true≢false (sym runs))
-running_is (Waits kept) runs = absurd (true≢false (sym runs))
-
--- where all run, what is found runs
-pub runs_here : (here : List (Pid × Held)) (p : Pid) (h : Held) → all_run here ≡ true → held_of here p ≡ Some h → IsProcess h
-runs_here [] p h runs there = cc
-runs_here (e ∷ here) p h runs there = by_test (same_pid e.0 p) there (and_parts (is_running e.1) (all_run here) runs) (runs_here here p h)
-  where
-    by_test : (b : Bool) → option_map (λ (e : Pid × Held). e.1) (cond b (Some e) (find (λ (e : Pid × Held). same_pid e.0 p) here)) ≡ Some h → (is_running e.1 ≡ true) × (all_run here ≡ true)
-        → (all_run here ≡ true → held_of here p ≡ Some h → IsProcess h) → IsProcess h
-    by_test true is both more =
-        let same : e.1 ≡ h = cc in
-        running_is h (ap is_running (sym same) ∙ both.0)
-    by_test false is both more = more both.1 is
-
--- all run still, where one is another one now that runs
-pub run_changed : (p : Pid) (now : Process) (here : List (Pid × Held)) → all_run here ≡ true → all_run (with_changed p (Runs now) here) ≡ true
-run_changed p now [] runs = refl
-run_changed p now (e ∷ here) runs =
-    let both = and_parts (is_running e.1) (all_run here) runs in
-    and_from (is_running (cond (same_pid e.0 p) (p, Runs now) e).1) (all_run (with_changed p (Runs now) here)) (by_test (same_pid e.0 p) both.0) (run_changed p now here both.1)
-  where
-    by_test : (b : Bool) → is_running e.1 ≡ true → is_running (cond b (p, Runs now) e).1 ≡ true
-    by_test true runs = refl
-    by_test false runs = runs
-
-arrived_runs : (h : Held) (letter : Letter) → is_running (arrived_held h letter) ≡ is_running h
-arrived_runs (Runs p) letter = refl
-arrived_runs (Rolls p counts births) letter = refl
-arrived_runs (Waits kept) letter = refl
-
-run_letter : (letter : Letter) (here : List (Pid × Held)) → all_run (with_letter letter here) ≡ all_run here
-run_letter letter [] = refl
-run_letter letter (e ∷ here) = λ i. by_test (is_end_of e.0 letter.to) i && run_letter letter here i
-  where
-    by_test : (b : Bool) → is_running (cond b (e.0, arrived_held e.1 letter) e).1 ≡ is_running e.1
-    by_test true = arrived_runs e.1 letter
-    by_test false = refl
-
-run_fewer : (pid : Pid) (here : List (Pid × Held)) → all_run here ≡ true → all_run (filter (λ (e : Pid × Held). not (same_pid e.0 pid)) here) ≡ true
-run_fewer pid [] runs = refl
-run_fewer pid (e ∷ here) runs = by_test (not (same_pid e.0 pid)) (and_parts (is_running e.1) (all_run here) runs) (run_fewer pid here)
-  where
-    by_test : (b : Bool) → (is_running e.1 ≡ true) × (all_run here ≡ true) → (all_run here ≡ true → all_run (filter (λ (e : Pid × Held). not (same_pid e.0 pid)) here) ≡ true)
-        → all_run (cond b (e ∷ filter (λ (e : Pid × Held). not (same_pid e.0 pid)) here) (filter (λ (e : Pid × Held). not (same_pid e.0 pid)) here)) ≡ true
-    by_test true both more = and_from (is_running e.1) _ both.0 (more both.1)
-    by_test false both more = more both.1
-
--- after an entry all run that ran before
-pub run_after : (w : What) (here : List (Pid × Held)) → is_unlost w ≡ true → all_run here ≡ true → all_run (here_after w here) ≡ true
-run_after w here =
-    by_kind (λ w. all_run here ≡ true → all_run (here_after w here) ≡ true) (λ at letter runs. run_letter letter here ∙ runs) (λ pid at end runs. run_fewer pid here runs) (λ rests runs. runs) (λ runs. runs) w
-
 -- ---- one process, after an entry
 
 -- what an entry makes of one process
@@ -182,6 +121,26 @@ runs_after w p s = by_kind (λ w. arrival_at w p (Runs s) ≡ Runs (arrival_in w
     by_test : (letter : Letter) (b : Bool) → cond b (Runs (arrived s letter)) (Runs s) ≡ Runs (cond b (arrived s letter) s)
     by_test letter true = refl
     by_test letter false = refl
+
+pub rolls_after : (w : What) (p : Pid) (s : Process) (counts : Counts) (births : List Pid) → is_unlost w ≡ true → arrival_at w p (Rolls s counts births) ≡ Rolls (arrival_in w p s) counts births
+rolls_after w p s counts births =
+    by_kind (λ w. arrival_at w p (Rolls s counts births) ≡ Rolls (arrival_in w p s) counts births) (λ at letter. by_test letter (is_end_of p letter.to)) (λ pid at end. refl) (λ rests. refl) refl w
+  where
+    by_test : (letter : Letter) (b : Bool) → cond b (Rolls (arrived s letter) counts births) (Rolls s counts births) ≡ Rolls (cond b (arrived s letter) s) counts births
+    by_test letter true = refl
+    by_test letter false = refl
+
+-- its state is that with the letters that the entry brings it
+pub arrival_letters : (w : What) (p : Pid) (s : Process) → is_unlost w ≡ true → state_of (arrival_in w p s) ≡ all_delivered (state_of s) (letter_for p w)
+arrival_letters w p s = by_kind (λ w. state_of (arrival_in w p s) ≡ all_delivered (state_of s) (letter_for p w)) (λ at letter. by_to letter letter.to) (λ pid at end. refl) (λ rests. refl) refl w
+  where
+    by_pid : (letter : Letter) (b : Bool) → state_of (cond b (arrived s letter) s) ≡ all_delivered (state_of s) (cond b (letter ∷ []) [])
+    by_pid letter true = refl
+    by_pid letter false = refl
+
+    by_to : (letter : Letter) (to : To) → state_of (cond (is_end_of p to) (arrived s letter) s) ≡ all_delivered (state_of s) (to_process p letter to)
+    by_to letter (Proc q end) = by_pid letter (same_pid q p)
+    by_to letter (Tty t) = refl
 
 -- its state is that of the kernel's process with the letter, where the entry tells of an emission
 pub arrival_state : (w : What) (q : Pid) (at : ℕ) (m : Emission) (p : Pid) (s : Process) → Tells q at m w → state_of (arrival_in w p s) ≡ with_arrival m p (state_of s)

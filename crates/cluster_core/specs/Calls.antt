@@ -114,29 +114,24 @@ rests_of c = rests_in c.here
 abbrev pub RestsIn : ClusterView → List (Pid × ℕ) → Type 0
 RestsIn c rests = c.queue ≡ [] → (log : List Entry) → IsOpen UnlostMayFollow c.system log → FollowsBuilt c.system log c → IsRestOf c.system log c.number rests
 
--- one process made 1 to 64 silent steps, and nothing else changed
+-- one process made 1 to 64 steps, of which none sent anything that was not withheld, and nothing else changed
 pub record MovedOne (old new : ClusterView) : Type 0 where
   pub pid : Pid
-  pub was : Process
-  pub now : Process
-  pub steps : ℕ
-  pub some : 1 ≤ steps
-  pub few : steps ≤ 64
-  pub there : held_at old pid ≡ Some (Runs was)
-  pub silent : silently steps (state_of was) ≡ Some (state_of now)
-  pub rest : new ≡ record old { here = map (λ (e : Pid × Held). if same_pid e.0 pid then (pid, Runs now) else e) old.here; steps = next_count old.steps }
+  pub was : Held
+  pub now : Held
+  pub there : held_at old pid ≡ Some was
+  pub moves : Moves 64 was now
+  pub rest : new ≡ record old { here = with_changed pid now old.here; steps = next_count old.steps }
 
--- one process made 1 to 64 steps, of which the last sent something, and this is the one post to be sent
+-- one process made 1 to 64 steps, of which the last alone sent something that was not withheld, and this is the one post to be sent
 pub record QueuesOne (old new : ClusterView) : Type 0 where
   pub pid : Pid
-  pub was : Process
+  pub was : Held
   pub now : Process
   pub emission : Emission
-  pub post : Post
-  pub there : held_at old pid ≡ Some (Runs was)
-  pub runs : RunsAndSends 64 (state_of was) emission (state_of now)
-  pub post_is : post ≡ post_told old.number pid (now.small).steps emission
-  pub rest : new ≡ record old { here = map (λ (e : Pid × Held). if same_pid e.0 pid then (pid, Runs now) else e) old.here; queue = post ∷ []; steps = next_count old.steps }
+  pub there : held_at old pid ≡ Some was
+  pub sends : Sends 64 was (record { pid = pid; at = (now.small).steps; emission = emission }) (Runs now)
+  pub rest : new ≡ record old { here = with_changed pid (Runs now) old.here; queue = post_told old.number pid (now.small).steps emission ∷ []; steps = next_count old.steps }
 
 -- what a work says that it did; nothing here waits for a page yet
 abbrev pub WorkIs : ClusterView → Worked → ClusterView → Type 0

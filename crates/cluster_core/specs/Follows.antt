@@ -5,7 +5,7 @@ use Rattle.bus_msg.specs.declared.entry.Entry.{Entry}
 use Rattle.cert_sched.specs.Legal.{IsLegalBy, MayFollow}
 use Rattle.cert_sched.specs.Rules.{is_over}
 use Rattle.cert_sched.specs.Built.{UnlostMayFollow}
-use Rattle.cluster_core.specs.View.{ClusterView, all_run, head_of, after_sent}
+use Rattle.cluster_core.specs.View.{ClusterView, head_of, after_sent}
 use Rattle.cert_sched.specs.Appended.{entry_of}
 use Rattle.cluster_core.specs.Holds.{HoldsLog, HoldsProcesses, HoldsQueue, HoldsSteps, HoldsPages, HoldsMarks, HoldsRecords, HoldsAccounts}
 
@@ -20,10 +20,9 @@ pub record Follows (system : System) (entries : List Entry) (c : ClusterView) : 
   pub records : HoldsRecords system entries c
   pub accounts : HoldsAccounts system entries c
 
--- The lines that are built so far, for logs of the entries that are built so far. No process is moved yet, so each runs.
+-- The lines that are built so far, for logs of the entries that are built so far.
 pub record FollowsBuilt (system : System) (entries : List Entry) (c : ClusterView) : Type 0 where
   pub log : HoldsLog system entries c
-  pub running : all_run c.here ≡ true
   pub processes : HoldsProcesses system entries c
   pub queue : HoldsQueue UnlostMayFollow system entries c
   pub steps : HoldsSteps entries c

@@ -65,15 +65,6 @@ can_act (Runs p) = has_step (next_step (state_of p))
 can_act (Rolls p counts births) = true
 can_act (Waits kept) = false
 
--- it runs
-abbrev pub is_running : Held → Bool
-is_running (Runs p) = true
-is_running (Rolls p counts births) = false
-is_running (Waits kept) = false
-
-abbrev pub all_run : List (Pid × Held) → Bool
-all_run here = list_all (λ (e : Pid × Held). is_running e.1) here
-
 abbrev pub steps_of_held : Held → ℕ
 steps_of_held (Runs p) = (p.small).steps
 steps_of_held (Rolls p counts births) = (p.small).steps
