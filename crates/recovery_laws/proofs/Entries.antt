@@ -1,0 +1,156 @@
+-- A process that rolls forward, where the log has an entry more: the letters of the entry arrive, and what is left stays.
+use Rattle.std.proofs.Common.{◌≡◌, ℕ, ◌+◌, refl, sym, ◌∙◌, ap, subst, arith, List, [], ◌∷◌, ◌++◌, length, length-append, append-nil, Bool, true, false, cond, ◌||◌, Option, Some, None, is_some, true≢false}
+use Rattle.std.proofs.lemmas.Grind.{flat_map-append}
+use Rattle.t32_base.specs.declared.process.Pid.{Pid}
+use Rattle.t32_base.specs.declared.process.ClusterNo.{ClusterNo}
+use Rattle.t32_base.specs.declared.process.Counts.{Counts}
+use Rattle.t32_base.specs.declared.letter.Letter.{Letter}
+use Rattle.sys_text.specs.declared.system.System.{System}
+use Rattle.sys_text.specs.Valid.{is_system}
+use Rattle.proc_state.specs.State.{ProcState, delivered}
+use Rattle.sys_calls.proofs.RunLemma.{all_delivered}
+use Rattle.plain_kernel.proofs.Entries.{some_same}
+use Rattle.bus_msg.specs.declared.entry.What.{What}
+use Rattle.bus_msg.specs.declared.entry.What.TheVariants.{Mail, Birth, Exit, Page, Sync, Fetch, PageIs, Crash, Return, Rebackup, Done, Stop}
+use Rattle.bus_msg.specs.declared.entry.Cause.{Cause}
+use Rattle.bus_msg.specs.declared.entry.Entry.{Entry}
+use Rattle.bus_msg.specs.PlacedAfter.{what}
+use Rattle.cert_sched.specs.Parts.{after_last}
+use Rattle.cert_sched.specs.Schedule.{plain_after, process_after}
+use Rattle.cert_sched.specs.Deeds.{starts, is_cut, is_birth_of, start_of, since, deeds_in, letter_for, letters_to, arrived_count}
+use Rattle.cert_sched.specs.Rolling.{refilled, RollsAs}
+use Rattle.cert_sched.specs.Legal.{IsLegalBy, Stands}
+use Rattle.cert_sched.specs.Simulation.{IsUnended}
+use Rattle.cert_sched.proofs.ListLaws.{after_last-snoc}
+use Rattle.cert_sched.proofs.LogLaws.{IsLegal-before, IsLegal-last}
+use Rattle.cert_sched.proofs.RecordLaws.{start_of-snoc, since-snoc, arrived_count-other}
+use Rattle.cert_sched.proofs.Induction.{legal_induction}
+use Rattle.cert_sched.proofs.MailLaws.{IsPlainRule, is_plain, boot_arrived}
+use Rattle.cert_sched.proofs.ReplayLaws.{Replays, replays_all_delivered}
+use Rattle.cert_sched.proofs.CameLaws.{IsStandingRule}
+use Rattle.cert_sched.proofs.RollLaws.{Rolls, all_roll, refilled_more}
+use Rattle.cert_sched.proofs.OpenLaws.{unended_open}
+use Rattle.cert_sched.proofs.ThereLaws.{unended_there}
+use Rattle.recovery_laws.proofs.Replaying.{Part, Rolling, rolling_of, rolls_as}
+
+-- ---- the letters that came to a process
+
+-- the letters that had arrived where it started, with those that came since, are those that came to it
+abbrev pub CountsLetters : System → List Entry → Pid → Type 0
+CountsLetters system log p = (start : ProcState) → start_of system log p ≡ Some start → arrived_count log p ≡ start.next + length (letters_to p (after_last (starts p) log))
+
+-- a process that has not ended counts them so, by any rule by which an entry stands
+pub unended_counts : (May : System → List Entry → Entry → Type 0) → IsStandingRule May → (system : System) (log : List Entry) (p : Pid) → is_system system ≡ true → IsLegalBy May system log → IsUnended system log p → CountsLetters system log p
+unended_counts May standing system log p valid legal unended start started =
+    by_process (process_after system log p) refl (unended_there May standing system log p valid legal unended)
+  where
+    by_process : (o : Option ProcState) → process_after system log p ≡ o → is_some o ≡ true → arrived_count log p ≡ start.next + length (letters_to p (after_last (starts p) log))
+    by_process None is there = absurd (true≢false (sym there))
+    by_process (Some now) is there =
+        let r = (all_roll May standing system log valid legal).rolls p now is (unended_open May standing system log p valid legal unended now is) in
+        subst (λ (s : ProcState). arrived_count log p ≡ s.next + length (letters_to p (after_last (starts p) log))) (some_same r.start start (sym r.started ∙ started)) r.arrived
+
+-- ---- entries that start no process
+
+-- a letter, an exit, a loss, the end or a stop is no cut and no birth
+pub plain_starts_none : (p : Pid) (w : What) → is_plain w ≡ true → (is_cut p w ≡ false) × (is_birth_of p w ≡ false)
+plain_starts_none p (Mail at letter) plain = (refl, refl)
+plain_starts_none p (Birth parent at child end) plain = absurd (true≢false (sym plain))
+plain_starts_none p (Exit pid at end) plain = (refl, refl)
+plain_starts_none p (Page pid at index bytes) plain = absurd (true≢false (sym plain))
+plain_starts_none p (Sync pid small read took) plain = absurd (true≢false (sym plain))
+plain_starts_none p (Fetch pid index) plain = absurd (true≢false (sym plain))
+plain_starts_none p (PageIs pid index bytes) plain = absurd (true≢false (sym plain))
+plain_starts_none p (Crash k cause) plain = (refl, refl)
+plain_starts_none p (Return k) plain = absurd (true≢false (sym plain))
+plain_starts_none p (Rebackup to fresh recs) plain = absurd (true≢false (sym plain))
+plain_starts_none p (Done rests) plain = (refl, refl)
+plain_starts_none p Stop plain = (refl, refl)
+
+module _ (system : System) (log : List Entry) (e : Entry) (p : Pid) where
+  pub quiet_of : is_cut p (what e) ≡ false → is_birth_of p (what e) ≡ false → starts p e ≡ false
+  quiet_of no_cut no_birth = ap (λ b. b || is_birth_of p (what e)) no_cut ∙ no_birth
+
+  pub same_start : starts p e ≡ false → start_of system (log ++ e ∷ []) p ≡ start_of system log p
+  same_start quiet = start_of-snoc system log e p ∙ ap (λ b. cond b (process_after system (log ++ e ∷ []) p) (start_of system log p)) quiet
+
+  letters_more : starts p e ≡ false → letters_to p (after_last (starts p) (log ++ e ∷ [])) ≡ letters_to p (after_last (starts p) log) ++ letter_for p (what e)
+  letters_more quiet =
+      ap (letters_to p) (after_last-snoc (starts p) log e ∙ ap (λ b. cond b [] (after_last (starts p) log ++ e ∷ [])) quiet)
+      ∙ flat_map-append (λ (f : Entry). letter_for p (what f)) (after_last (starts p) log) (e ∷ []) ∙ ap (λ ls. letters_to p (after_last (starts p) log) ++ ls) (append-nil (letter_for p (what e)))
+
+  -- it counts the letters of such an entry
+  counts_more : is_cut p (what e) ≡ false → is_birth_of p (what e) ≡ false → CountsLetters system log p → CountsLetters system (log ++ e ∷ []) p
+  counts_more no_cut no_birth counts start started =
+      let quiet = quiet_of no_cut no_birth in
+      let before = counts start (sym (same_start quiet) ∙ started) in
+      let count = arrived_count-other log e p no_birth in
+      let more : length (letters_to p (after_last (starts p) (log ++ e ∷ []))) ≡ length (letters_to p (after_last (starts p) log)) + length (letter_for p (what e)) =
+      ap length (letters_more quiet) ∙ length-append (letters_to p (after_last (starts p) log)) (letter_for p (what e)) in
+      omega (arith, before, count, more)
+
+counts_at_boot : (system : System) (p : Pid) → CountsLetters system [] p
+unfolding plain_after
+counts_at_boot system p start started = let none : start.next ≡ 0 = boot_arrived system p start started in omega (arith, none)
+
+-- in a legal log of letters, exits, losses and the end each process counts them so
+pub plain_counts : (May : System → List Entry → Entry → Type 0) → IsPlainRule May → (system : System) (log : List Entry) (p : Pid) → IsLegalBy May system log → CountsLetters system log p
+plain_counts May plain system log p legal =
+    legal_induction May system (λ log. CountsLetters system log p) (counts_at_boot system p)
+    (λ log e counts may. let none = plain_starts_none p (what e) (plain system log e may).1 in counts_more system log e p none.0 none.1 counts) log legal
+
+-- ---- one entry more
+
+module _ (system : System) (log : List Entry) (e : Entry) (p : Pid) where
+  -- an entry that tells of none of its deeds, and starts it neither again nor anew, brings it its letters and leaves what is left
+  pub rolls_entry : (s : ProcState) (counts : Counts) (births : List Pid) → CountsLetters system log p → is_cut p (what e) ≡ false → is_birth_of p (what e) ≡ false → deeds_in p (what e) ≡ []
+      → RollsAs system log p s counts births → RollsAs system (log ++ e ∷ []) p (all_delivered s (letter_for p (what e))) counts births
+  rolls_entry s counts births letters no_cut no_birth none rolls =
+      let r = rolling_of system log p s counts births rolls in
+      let came = letter_for p (what e) in
+      let quiet = quiet_of system log e p no_cut no_birth in
+      let deeds : since log p ≡ since (log ++ e ∷ []) p =
+      sym (append-nil (since log p)) ∙ ap (λ ds. since log p ++ ds) (sym none) ∙ sym (since-snoc log e p ∙ ap (λ b. cond b [] (since log p ++ deeds_in p (what e))) quiet) in
+      let more : all_delivered (refilled log p r.start) came ≡ refilled (log ++ e ∷ []) p r.start = refilled_more system log e p r.start quiet no_birth (letters r.start r.started) in
+      rolls_as system (log ++ e ∷ []) p (all_delivered s came) counts births (record {
+        start = r.start;
+        started = same_start system log e p quiet ∙ r.started;
+        rest = r.rest;
+        part = record {
+          steps = (r.part).steps;
+          done = (r.part).done;
+          replays = subst (λ x. Replays (r.part).steps x (r.part).done (all_delivered s came)) more (replays_all_delivered (r.part).steps (refilled log p r.start) s (r.part).done came (r.part).replays);
+          parts = sym deeds ∙ (r.part).parts;
+        };
+        counts_left = r.counts_left;
+        births_left = r.births_left;
+      })
+
+  -- by any rule by which an entry stands, where the process has not ended
+  pub rolls_entry_unended : (May : System → List Entry → Entry → Type 0) → IsStandingRule May → (s : ProcState) (counts : Counts) (births : List Pid) → is_system system ≡ true → IsLegalBy May system (log ++ e ∷ []) → IsUnended system log p
+      → is_cut p (what e) ≡ false → is_birth_of p (what e) ≡ false → deeds_in p (what e) ≡ [] → RollsAs system log p s counts births → RollsAs system (log ++ e ∷ []) p (all_delivered s (letter_for p (what e))) counts births
+  rolls_entry_unended May standing s counts births valid legal unended no_cut no_birth none rolls =
+      rolls_entry s counts births (unended_counts May standing system log p valid (IsLegal-before May system log e legal) unended) no_cut no_birth none rolls
+
+  -- in a log of letters, exits, losses and the end
+  pub rolls_entry_plain : (May : System → List Entry → Entry → Type 0) → IsPlainRule May → (s : ProcState) (counts : Counts) (births : List Pid) → IsLegalBy May system (log ++ e ∷ []) → deeds_in p (what e) ≡ []
+      → RollsAs system log p s counts births → RollsAs system (log ++ e ∷ []) p (all_delivered s (letter_for p (what e))) counts births
+  rolls_entry_plain May plain s counts births legal none rolls =
+      let starts_none = plain_starts_none p (what e) (plain system log e (IsLegal-last May system log e legal)).1 in
+      rolls_entry s counts births (plain_counts May plain system log p (IsLegal-before May system log e legal)) starts_none.0 starts_none.1 none rolls
+
+  -- a letter to it arrives, sent by another
+  pub rolls_letter : (May : System → List Entry → Entry → Type 0) → IsPlainRule May → (s : ProcState) (counts : Counts) (births : List Pid) (letter : Letter) → IsLegalBy May system (log ++ e ∷ []) → deeds_in p (what e) ≡ [] → letter_for p (what e) ≡ letter ∷ []
+      → RollsAs system log p s counts births → RollsAs system (log ++ e ∷ []) p (delivered s letter) counts births
+  rolls_letter May plain s counts births letter legal none one rolls =
+      subst (λ ls. RollsAs system (log ++ e ∷ []) p (all_delivered s ls) counts births) one (rolls_entry_plain May plain s counts births legal none rolls)
+
+  -- an entry that brings it no letter, a loss among them, leaves it
+  pub rolls_quiet : (May : System → List Entry → Entry → Type 0) → IsPlainRule May → (s : ProcState) (counts : Counts) (births : List Pid) → IsLegalBy May system (log ++ e ∷ []) → deeds_in p (what e) ≡ [] → letter_for p (what e) ≡ []
+      → RollsAs system log p s counts births → RollsAs system (log ++ e ∷ []) p s counts births
+  rolls_quiet May plain s counts births legal none no_letter rolls =
+      subst (λ ls. RollsAs system (log ++ e ∷ []) p (all_delivered s ls) counts births) no_letter (rolls_entry_plain May plain s counts births legal none rolls)
+
+  pub rolls_loss : (May : System → List Entry → Entry → Type 0) → IsPlainRule May → (s : ProcState) (counts : Counts) (births : List Pid) (k : ClusterNo) (cause : Cause) → IsLegalBy May system (log ++ e ∷ []) → what e ≡ Crash k cause
+      → RollsAs system log p s counts births → RollsAs system (log ++ e ∷ []) p s counts births
+  rolls_loss May plain s counts births k cause legal is rolls = rolls_quiet May plain s counts births legal (ap (deeds_in p) is) (ap (letter_for p) is) rolls

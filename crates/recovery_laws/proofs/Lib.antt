@@ -1,0 +1,6 @@
+pub mod Replaying
+pub mod Beginning
+pub mod Entries
+pub mod Reaching
+pub mod Stepping
+pub mod RunningOut

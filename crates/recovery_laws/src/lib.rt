@@ -1,0 +1,4 @@
+//! What the log says of a process that rolls forward after the loss of a cluster: laws and no code.
+#![tactic(auto)]
+
+pub mod rolling_on;
