@@ -36,9 +36,9 @@ use Rattle.cluster_core.specs.Follows.{FollowsBuilt}
 use Rattle.cluster_core.specs.Holds.{IsHeldAs}
 use Rattle.cluster_core.specs.Parts.{AllOwn, IsHeldOwn, IsOwn}
 use Rattle.cluster_core.specs.Residents.{pids_in}
-use Rattle.cluster_core.specs.View.{ClusterView, Held, Runs, all_run, held_at, held_of}
+use Rattle.cluster_core.specs.View.{ClusterView, Held, Runs, held_at, held_of}
 use Rattle.cluster_core.proofs.Here.{is_among}
-use Rattle.cluster_core.proofs.Passing.{passing_apart, passing_run, pids_pass, process_is}
+use Rattle.cluster_core.proofs.Passing.{passing_apart, pids_pass, process_is}
 use Rattle.cluster_core.proofs.Telling.{at_once}
 
 -- ---- the kernel at boot
@@ -174,14 +174,10 @@ held_as system number here is p h at =
     let one = here_booted system number here is p h at in
     subst (λ (h : Held). IsHeldAs system [] [] p h) (sym one.is) (steps_now system p (state_of one.process) one.at)
 
-all_booted_run : (system : System) (number : ClusterNo) (here : List (Pid × Held)) → AreBooted system number here → all_run here ≡ true
-all_booted_run system number here is = ap all_run is.own ∙ passing_run (belongs_to number) is.all
-
 -- a cluster at boot follows the empty log
 pub boot_follows : (system : System) (number : ClusterNo) (here : List (Pid × Held)) (recs : List BackRec) → is_system system ≡ true → AreBooted system number here → KeepsRecords system [] number recs → FollowsBuilt system [] (boot_view system number here recs)
 boot_follows system number here recs valid is kept = record {
   log = record { cursor = refl; places = placed_at_boot system };
-  running = all_booted_run system number here is;
   processes = record { held = held_as system number here is; each_once = once system number here valid is };
   queue = record { own = refl; legal = tt };
   steps = record { counted = λ lost. omega arith };

@@ -2,21 +2,24 @@
 use Rattle.std.proofs.Common.{◌≡◌, ℕ, refl, sym, ◌∙◌, ap, List, [], ◌∷◌, Bool, true, false, cond, not, ◌||◌, ◌&&◌, eqb, eqb-true, eq-eqb, Option, Some, None, true≢false}
 use Rattle.std.specs.Prelude.{filter, find, option_map}
 use Rattle.std.specs.List.{list_any}
-use Rattle.std.proofs.lemmas.Bool.{and_parts, and_from}
 use Rattle.t32_base.specs.declared.process.Pid.{Pid}
+use Rattle.t32_base.specs.declared.process.Counts.{Counts}
 use Rattle.t32_base.specs.declared.letter.Letter.{Letter}
+use Rattle.t32_base.specs.declared.letter.To.{To}
+use Rattle.t32_base.specs.declared.letter.To.TheVariants.{Proc, Tty}
 use Rattle.proc_state.specs.declared.process.Process.{Process}
 use Rattle.proc_state.specs.State.{state_of, delivered}
 use Rattle.sys_calls.specs.declared.steps.Emission.{Emission}
 use Rattle.sys_calls.specs.declared.steps.Emission.TheVariants.{Mail as Sent, Exit as Ended}
+use Rattle.sys_calls.proofs.RunLemma.{all_delivered}
 use Rattle.bus_msg.specs.declared.entry.What.{What}
 use Rattle.bus_msg.specs.declared.entry.What.TheVariants.{Mail}
 use Rattle.bus_msg.specs.Places.{same_pid}
 use Rattle.cert_sched.specs.Built.{is_unlost}
-use Rattle.cert_sched.specs.Deeds.{is_end_of}
+use Rattle.cert_sched.specs.Deeds.{is_end_of, letter_for, to_process}
 use Rattle.cert_sched.proofs.StepLaws.{Tells}
 use Rattle.cert_sched.proofs.MailLaws.{with_arrival}
-use Rattle.cluster_core.specs.View.{Held, Runs, Rolls, Waits, all_run, arrived, arrived_held, held_of, is_running}
+use Rattle.cluster_core.specs.View.{Held, Runs, Rolls, arrived, arrived_held, held_of}
 use Rattle.cluster_core.specs.Residents.{pids_in, with_changed}
 use Rattle.cluster_core.specs.Calls.{here_after, with_letter}
 use Rattle.cluster_core.proofs.ByKind.{by_kind}

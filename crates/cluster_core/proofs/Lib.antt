@@ -10,6 +10,7 @@ pub mod Passing
 pub mod Booted
 pub mod Following
 pub mod Owning
+mod Catching
 pub mod Working
 pub mod Resting
 pub mod Turning

@@ -9,7 +9,6 @@ use Rattle.sys_text.specs.declared.system.System.{System}
 use Rattle.sys_text.specs.Valid.{is_system}
 use Rattle.proc_state.specs.declared.process.Process.{Process}
 use Rattle.proc_state.specs.State.{state_of}
-use Rattle.sys_calls.specs.declared.steps.Emission.{Emission}
 use Rattle.sys_calls.specs.Small.{weight}
 use Rattle.sys_calls.proofs.Weighing.{emits_leaves, silently_leaves}
 use Rattle.bus_msg.specs.declared.entry.Entry.{Entry}
@@ -25,10 +24,11 @@ use Rattle.cert_sched.proofs.PidLaws.{apart_fewer, apart_of, placed_pids}
 use Rattle.cert_sched.proofs.RisingLaws.{NoTwo, either_not, rising-any, rising-apart}
 use Rattle.cert_sched.proofs.RootPids.{root_pids_differ}
 use Rattle.cluster_core.specs.declared.worked.Worked.TheVariants.{Moved, Queued}
-use Rattle.cluster_core.specs.View.{ClusterView, Held, Runs, held_load, held_of, load}
+use Rattle.roll_forward.proofs.RolledLaws.{rolled_keeps}
+use Rattle.cluster_core.specs.View.{ClusterView, Held, Runs, Rolls, Waits, held_load, held_of, load}
 use Rattle.cluster_core.specs.Calls.{FollowsSome, WorkIs}
-use Rattle.cluster_core.specs.Quantum.{RunsAndSends}
-use Rattle.cluster_core.specs.Residents.{pids_in}
+use Rattle.cluster_core.specs.Quantum.{RollsTo, RunsTo, going}
+use Rattle.cluster_core.specs.Residents.{pids_in, with_changed}
 
 -- ---- no pid stands twice
 
@@ -92,49 +92,64 @@ held_apart c valid f =
 
 -- ---- one of them has fewer steps left
 
-abbrev with_held : Pid → Process → List (Pid × Held) → List (Pid × Held)
-with_held p now here = map (λ (e : Pid × Held). cond (same_pid e.0 p) (p, Runs now) e) here
-
 abbrev sum_held : List (Pid × Held) → ℕ
 sum_held here = sum_by (λ (e : Pid × Held). held_load e.1) here
 
 abbrev weight_of : Pid × Held → ℕ
 weight_of e = held_load e.1
 
-others_same : (p : Pid) (now : Process) (here : List (Pid × Held)) → list_any (λ m. eqb m p.0) (pids_in here) ≡ false → sum_held (with_held p now here) ≡ sum_held here
+others_same : (p : Pid) (now : Held) (here : List (Pid × Held)) → list_any (λ m. eqb m p.0) (pids_in here) ≡ false → sum_held (with_changed p now here) ≡ sum_held here
 others_same p now [] none = refl
 others_same p now (e ∷ here) none =
     let parts = either_not (eqb (e.0).0 p.0) (list_any (λ m. eqb m p.0) (pids_in here)) none in
-    ap (λ b. sum_held (cond b (p, Runs now) e ∷ with_held p now here)) parts.0 ∙ sum_by-cons weight_of e (with_held p now here) ∙ ap (λ n. held_load e.1 + n) (others_same p now here parts.1)
+    ap (λ b. sum_held (cond b (p, now) e ∷ with_changed p now here)) parts.0 ∙ sum_by-cons weight_of e (with_changed p now here) ∙ ap (λ n. held_load e.1 + n) (others_same p now here parts.1)
     ∙ sym (sum_by-cons weight_of e here)
 
-one_lighter : (p : Pid) (was now : Process) (n : ℕ) (here : List (Pid × Held)) → NoTwo (pids_in here) → held_of here p ≡ Some (Runs was) → weight now.small + n ≤ weight was.small → sum_held (with_held p now here) + n ≤ sum_held here
+one_lighter : (p : Pid) (was now : Held) (n : ℕ) (here : List (Pid × Held)) → NoTwo (pids_in here) → held_of here p ≡ Some was → held_load now + n ≤ held_load was → sum_held (with_changed p now here) + n ≤ sum_held here
 one_lighter p was now n [] two at less = cc
 one_lighter p was now n (e ∷ here) two at less = by_test (same_pid e.0 p) refl at (one_lighter p was now n here two.1)
   where
-    by_test : (b : Bool) → same_pid e.0 p ≡ b → option_map (λ (e : Pid × Held). e.1) (cond b (Some e) (find (λ (e : Pid × Held). same_pid e.0 p) here)) ≡ Some (Runs was)
-        → (held_of here p ≡ Some (Runs was) → weight now.small + n ≤ weight was.small → sum_held (with_held p now here) + n ≤ sum_held here)
-        → sum_held (cond b (p, Runs now) e ∷ with_held p now here) + n ≤ sum_held (e ∷ here)
+    by_test : (b : Bool) → same_pid e.0 p ≡ b → option_map (λ (e : Pid × Held). e.1) (cond b (Some e) (find (λ (e : Pid × Held). same_pid e.0 p) here)) ≡ Some was
+        → (held_of here p ≡ Some was → held_load now + n ≤ held_load was → sum_held (with_changed p now here) + n ≤ sum_held here)
+        → sum_held (cond b (p, now) e ∷ with_changed p now here) + n ≤ sum_held (e ∷ here)
     by_test true is at more =
-        let same : e.1 ≡ Runs was = cc in
+        let same : e.1 ≡ was = cc in
         let rest = others_same p now here (ap (λ m. list_any (λ k. eqb k m) (pids_in here)) (sym (eqb-true (e.0).0 p.0 is)) ∙ two.0) in
-        omega (arith, sum_by-cons weight_of (p, Runs now) (with_held p now here), sum_by-cons weight_of e here, ap held_load same, rest, less)
-    by_test false is at more = omega (arith, sum_by-cons weight_of e (with_held p now here), sum_by-cons weight_of e here, more at less)
+        omega (arith, sum_by-cons weight_of (p, now) (with_changed p now here), sum_by-cons weight_of e here, ap held_load same, rest, less)
+    by_test false is at more = omega (arith, sum_by-cons weight_of e (with_changed p now here), sum_by-cons weight_of e here, more at less)
 
 -- ---- a work
 
--- a process that made n silent steps and one that sends has n and one fewer left
-pub sends_leaves : (most : ℕ) (was now : Process) (e : Emission) (runs : RunsAndSends most (state_of was) e (state_of now)) → weight now.small + (runs.steps + 1) ≤ weight was.small
-sends_leaves most was now e runs = omega (arith, silently_leaves runs.steps (state_of was) runs.before runs.silent, emits_leaves runs.before (state_of now) e runs.sends)
+-- steps that are withheld leave so many fewer
+rolled_leaves : (n : ℕ) (was between : Held) → RollsTo n was between → held_load between + n ≤ held_load was
+rolled_leaves n (Runs p) (Runs q) rolls = omega (arith, rolls.0, ap (λ (x : Process). weight x.small) rolls.1)
+rolled_leaves n (Runs p) (Rolls q left unborn) rolls = absurd rolls
+rolled_leaves n (Runs p) (Waits kept) rolls = absurd rolls
+rolled_leaves n (Rolls p counts births) (Runs q) rolls = (rolled_keeps n (going p counts births) (going q rolls.0 rolls.1) (rolls.2).rolled).weight
+rolled_leaves n (Rolls p counts births) (Rolls q left unborn) rolls = (rolled_keeps n (going p counts births) (going q left unborn) (rolls.2).rolled).weight
+rolled_leaves n (Rolls p counts births) (Waits kept) rolls = absurd rolls
+rolled_leaves n (Waits kept) between rolls = absurd rolls
+
+-- and so do silent ones
+silent_leaves : (m : ℕ) (between now : Held) → RunsTo m between now → held_load now + m ≤ held_load between
+silent_leaves m (Runs p) (Runs q) runs = silently_leaves m (state_of p) (state_of q) runs
+silent_leaves m (Runs p) (Rolls q left unborn) runs = absurd runs
+silent_leaves m (Runs p) (Waits kept) runs = absurd runs
+silent_leaves m (Rolls p counts births) now runs = omega (arith, runs.0, ap held_load runs.1)
+silent_leaves m (Waits kept) now runs = absurd runs
 
 pub moved_lightens : (old new : ClusterView) → is_system old.system ≡ true → FollowsSome old → WorkIs old Moved new → load new + 1 ≤ load old
 moved_lightens old new valid f work =
     let one = work.1 in
-    let less : weight (one.now).small + 1 ≤ weight (one.was).small = omega (arith, one.some, silently_leaves one.steps (state_of one.was) (state_of one.now) one.silent) in
+    let m = one.moves in
+    let less : held_load one.now + 1 ≤ held_load one.was = omega (arith, m.some, rolled_leaves m.rolled one.was m.between m.rolls, silent_leaves m.silent m.between one.now m.runs) in
     subst (λ (c : ClusterView). load c + 1 ≤ load old) (sym one.rest) (one_lighter one.pid one.was one.now 1 old.here (held_apart old valid f) one.there less)
 
 pub queued_lightens : (old new : ClusterView) → is_system old.system ≡ true → FollowsSome old → WorkIs old Queued new → load new + 1 ≤ load old
 queued_lightens old new valid f work =
     let one = work.1 in
-    let less : weight (one.now).small + 1 ≤ weight (one.was).small = omega (arith, sends_leaves 64 one.was one.now one.emission one.runs) in
-    subst (λ (c : ClusterView). load c + 1 ≤ load old) (sym one.rest) (one_lighter one.pid one.was one.now 1 old.here (held_apart old valid f) one.there less)
+    let s = one.sends in
+    let same : weight (s.now).small ≡ weight (one.now).small = ap held_load (sym s.new_is) in
+    let less : held_load (Runs one.now) + 1 ≤ held_load one.was =
+    omega (arith, same, rolled_leaves s.rolled one.was (Runs s.between) s.rolls, silently_leaves s.silent (state_of s.between) s.before s.runs, emits_leaves s.before (state_of s.now) one.emission s.sends) in
+    subst (λ (c : ClusterView). load c + 1 ≤ load old) (sym one.rest) (one_lighter one.pid one.was (Runs one.now) 1 old.here (held_apart old valid f) one.there less)

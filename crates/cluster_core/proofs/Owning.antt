@@ -2,11 +2,11 @@
 use Rattle.std.proofs.Common.{◌≡◌, ℕ, ◌+◌, ◌-◌, ◌^◌, ◌<◌, ◌≤◌, ◌∙◌, refl, sym, subst, arith, List, [], ◌∷◌, Bool, true, false, cond, not, ◌&&◌, ◌||◌, eqb-true, Some}
 use Rattle.std.specs.Prelude.{filter, find, option_map}
 use Rattle.t32_base.specs.declared.process.Pid.{Pid}
+use Rattle.t32_base.specs.declared.process.Counts.{Counts}
 use Rattle.t32_base.specs.declared.letter.Letter.{Letter}
 use Rattle.proc_state.specs.declared.process.Process.{Process}
 use Rattle.proc_state.specs.Mail.{carries_signal}
 use Rattle.proc_state.specs.State.{state_of}
-use Rattle.sys_calls.specs.declared.steps.Emission.{Emission}
 use Rattle.sys_calls.specs.Next.{next_step, has_step, silently}
 use Rattle.sys_calls.proofs.Counting.{silently_counts, emits_counts}
 use Rattle.sys_calls.proofs.Quiet.{delivered_quiet, emits_quiet, silently_quiet, takes_none}
@@ -18,7 +18,10 @@ use Rattle.cluster_core.specs.View.{Held, Runs, Rolls, Waits, arrived, arrived_h
 use Rattle.cluster_core.specs.Residents.{with_changed, are_stuck, is_stuck, HasRoom}
 use Rattle.cluster_core.specs.Parts.{IsHeldOwn, IsOwn, AllOwn}
 use Rattle.cluster_core.specs.Calls.{are_at_rest, here_after, is_at_rest}
-use Rattle.cluster_core.specs.Quantum.{RunsAndSends}
+use Rattle.cluster_core.specs.declared.quantum.Sending.{Sending}
+use Rattle.cluster_core.specs.Quantum.{Moves, RollsTo, RunsTo, Sends, going}
+use Rattle.roll_forward.specs.Advancing.{rolled_on}
+use Rattle.roll_forward.proofs.RolledLaws.{rolled_keeps}
 use Rattle.cert_sched.specs.Built.{is_unlost}
 use Rattle.cluster_core.proofs.Here.{pid_same}
 use Rattle.cluster_core.proofs.ByKind.{by_kind}
@@ -75,14 +78,44 @@ own_moved cursor pid was now steps own silent =
       arrived = subst (λ n. n ≤ cursor) (sym counts.next) own.arrived;
     }
 
-pub own_sent : (cursor : ℕ) (pid : Pid) (was now : Process) (e : Emission) → IsOwn cursor pid was → RunsAndSends 64 (state_of was) e (state_of now) → IsOwn cursor pid now
-own_sent cursor pid was now e own runs =
-    let counts = silently_counts runs.steps (state_of was) runs.before runs.silent in
-    let last = emits_counts runs.before (state_of now) e runs.sends in
+own_rolled : (cursor : ℕ) (pid : Pid) (was : Process) (counts left : Counts) (births unborn : List Pid) (n : ℕ) (now : Process) → rolled_on n (going was counts births) ≡ Some (going now left unborn) → IsOwn cursor pid was → IsOwn cursor pid now
+own_rolled cursor pid was counts left births unborn n now rolled own =
+    let kept = rolled_keeps n (going was counts births) (going now left unborn) rolled in
+    record { pid_is = kept.pid ∙ own.pid_is; quiet = kept.quiet own.quiet; arrived = subst (λ n. n ≤ cursor) (sym kept.next) own.arrived }
+
+-- one that made steps that are withheld is its own
+own_between : (cursor : ℕ) (pid : Pid) (n : ℕ) (was between : Held) → IsHeldOwn cursor pid was → RollsTo n was between → IsHeldOwn cursor pid between
+own_between cursor pid n (Runs p) (Runs q) own rolls = subst (IsOwn cursor pid) (sym rolls.1) own
+own_between cursor pid n (Runs p) (Rolls q left unborn) own rolls = absurd rolls
+own_between cursor pid n (Runs p) (Waits kept) own rolls = absurd rolls
+own_between cursor pid n (Rolls p counts births) (Runs q) own rolls = own_rolled cursor pid p counts rolls.0 births rolls.1 n q (rolls.2).rolled own
+own_between cursor pid n (Rolls p counts births) (Rolls q left unborn) own rolls = own_rolled cursor pid p counts left births unborn n q (rolls.2).rolled own
+own_between cursor pid n (Rolls p counts births) (Waits kept) own rolls = absurd rolls
+own_between cursor pid n (Waits kept) between own rolls = absurd rolls
+
+own_after_silent : (cursor : ℕ) (pid : Pid) (m : ℕ) (between now : Held) → IsHeldOwn cursor pid between → RunsTo m between now → IsHeldOwn cursor pid now
+own_after_silent cursor pid m (Runs p) (Runs q) own runs = own_moved cursor pid p q m own runs
+own_after_silent cursor pid m (Runs p) (Rolls q left unborn) own runs = absurd runs
+own_after_silent cursor pid m (Runs p) (Waits kept) own runs = absurd runs
+own_after_silent cursor pid m (Rolls p counts births) now own runs = subst (IsHeldOwn cursor pid) (sym runs.1) own
+own_after_silent cursor pid m (Waits kept) now own runs = absurd runs
+
+-- so is one that had a quantum
+pub own_quantum : (cursor : ℕ) (pid : Pid) (was now : Held) → IsHeldOwn cursor pid was → Moves 64 was now → IsHeldOwn cursor pid now
+own_quantum cursor pid was now own m = own_after_silent cursor pid m.silent m.between now (own_between cursor pid m.rolled was m.between own m.rolls) m.runs
+
+pub own_before_sent : (cursor : ℕ) (pid : Pid) (was : Held) (sending : Sending) (new : Held) → IsHeldOwn cursor pid was → (s : Sends 64 was sending new) → IsOwn cursor pid s.between
+own_before_sent cursor pid was sending new own s = own_between cursor pid s.rolled was (Runs s.between) own s.rolls
+
+pub own_sent : (cursor : ℕ) (pid : Pid) (was : Held) (sending : Sending) (new : Held) → IsHeldOwn cursor pid was → (s : Sends 64 was sending new) → IsOwn cursor pid s.now
+own_sent cursor pid was sending new own s =
+    let mine = own_before_sent cursor pid was sending new own s in
+    let counts = silently_counts s.silent (state_of s.between) s.before s.runs in
+    let last = emits_counts s.before (state_of s.now) sending.emission s.sends in
     record {
-      pid_is = last.pid ∙ counts.pid ∙ own.pid_is;
-      quiet = emits_quiet runs.before (state_of now) e runs.sends (silently_quiet runs.steps (state_of was) runs.before runs.silent own.quiet);
-      arrived = subst (λ n. n ≤ cursor) (sym (last.next ∙ counts.next)) own.arrived;
+      pid_is = last.pid ∙ counts.pid ∙ mine.pid_is;
+      quiet = emits_quiet s.before (state_of s.now) sending.emission s.sends (silently_quiet s.silent (state_of s.between) s.before s.runs mine.quiet);
+      arrived = subst (λ n. n ≤ cursor) (sym (last.next ∙ counts.next)) mine.arrived;
     }
 
 pub own_changed : (cursor : ℕ) (pid : Pid) (now : Held) (here : List (Pid × Held)) → AllOwn cursor here → IsHeldOwn cursor pid now → AllOwn cursor (with_changed pid now here)

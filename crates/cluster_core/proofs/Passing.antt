@@ -12,21 +12,12 @@ use Rattle.cert_sched.proofs.BootPids.{state_pids}
 use Rattle.cert_sched.proofs.RisingLaws.{NoTwo, either_not}
 use Rattle.cluster_core.specs.Booting.{running_at}
 use Rattle.cluster_core.specs.Residents.{pids_in}
-use Rattle.cluster_core.specs.View.{Held, Runs, all_run, held_of}
+use Rattle.cluster_core.specs.View.{Held, Runs, held_of}
 use Rattle.cluster_core.proofs.Slots.{at_key_is}
 
 -- under their pids
 abbrev pub passing : (ℕ → Bool) → List (ℕ × Process) → List (Pid × Held)
 passing test es = map running_at (filter (λ (e : ℕ × Process). test e.0) es)
-
--- each of them runs
-pub passing_run : (test : ℕ → Bool) (es : List (ℕ × Process)) → all_run (passing test es) ≡ true
-passing_run test [] = refl
-passing_run test (e ∷ es) = by_test (test e.0) (passing_run test es)
-  where
-    by_test : (b : Bool) → all_run (passing test es) ≡ true → all_run (map running_at (cond b (e ∷ filter (λ (e : ℕ × Process). test e.0) es) (filter (λ (e : ℕ × Process). test e.0) es))) ≡ true
-    by_test true more = more
-    by_test false more = more
 
 -- among them the process with a pid is that of the map, where the pid passes
 process_passes : (test : ℕ → Bool) (es : List (ℕ × Process)) (p : Pid) → held_of (passing test es) p ≡ cond (test p.0) (option_map Runs (lookup (at_key p.0) es)) None

@@ -2,7 +2,6 @@
 use Rattle.std.proofs.Common.{◌≡◌, ℕ, ◌<◌, ◌&&◌, refl, sym, ◌∙◌, ap, subst, List, [], Option, Some, None, true, false, eq-eqb}
 use Rattle.std.specs.List.{list_all}
 use Rattle.t32_base.specs.declared.process.Pid.{Pid}
-use Rattle.proc_state.specs.declared.process.Process.{Process}
 use Rattle.sys_calls.specs.declared.steps.Emission.{Emission}
 use Rattle.sys_calls.specs.declared.steps.Emission.TheVariants.{Mail as SentMail, Exit as SentExit}
 use Rattle.bus_msg.specs.declared.entry.What.{What}
@@ -16,17 +15,15 @@ use Rattle.cluster_core.specs.declared.quantum.Sending.{Sending}
 use Rattle.cluster_core.specs.declared.quantum.Quantum.TheVariants.{Moved as QuantumMoved, Sent as QuantumSent}
 use Rattle.cluster_core.specs.declared.worked.Worked.{Worked}
 use Rattle.cluster_core.specs.declared.worked.Worked.TheVariants.{Moved, Queued, Waits, Rests}
-use Rattle.cluster_core.specs.View.{ClusterView, Held, Runs, all_run, counted_once, held_at, next_count}
+use Rattle.cluster_core.specs.View.{ClusterView, Held, Runs, counted_once, next_count}
 use Rattle.plain_kernel.specs.Maps.{pid_of}
 use Rattle.cluster_core.specs.Residents.{ResidentsView, TakesTurn, are_stuck, with_changed}
 use Rattle.cluster_core.specs.Parts.{AllOwn, posts_of}
 use Rattle.cluster_core.specs.Calls.{GoesOn, WorkIs}
-use Rattle.cluster_core.specs.Quantum.{Moves, Sends, post_told}
+use Rattle.cluster_core.specs.Quantum.{Sends, post_told}
 use Rattle.cluster_core.specs.Work.{WorksOn}
-use Rattle.cluster_core.proofs.Here.{runs_here}
-use Rattle.cluster_core.proofs.Owning.{own_at, own_changed, own_moved, own_sent}
+use Rattle.cluster_core.proofs.Owning.{own_at, own_before_sent, own_changed, own_quantum, own_sent}
 use Rattle.cluster_core.proofs.ByKind.{by_kind}
-use Rattle.cluster_core.proofs.Quanta.{MovedAlone, SentAlone, moved_alone, sent_alone}
 use Rattle.cluster_core.proofs.Working.{moved_view, moved_goes_on, moved_work, posted_goes_on, posted_work, goes_on_rested, rested}
 
 -- an entry of a kind that is built is no birth
@@ -54,46 +51,35 @@ pub record Works (c : ClusterView) (worked : Worked) (here : List (Pid × Held))
   pub own : list_all (λ (post : Post). is_from c.number post.by) (posts_of queue) ≡ true
   pub built : list_all (λ (post : Post). is_unlost post.what) (posts_of queue) ≡ true
 
--- a cluster in which all run
-module _ (c : ClusterView) (runs : all_run c.here ≡ true) (empty : c.queue ≡ []) (own : AllOwn c.cursor c.here) (valid : is_system c.system ≡ true) (has : (c.number).0 < (c.system).clusters) where
-  moved : (pid : Pid) (was : Process) (new : Held) → held_at c pid ≡ Some (Runs was) → (a : MovedAlone 64 was new) → Works c Moved (with_changed pid (Runs a.now) c.here) None
-  moved pid was new there a = record {
-    goes_on = subst (λ ps. GoesOn c (record (moved_view c (with_changed pid (Runs a.now) c.here)) { queue = ps })) empty (moved_goes_on c pid was new empty there a);
-    work = subst (λ ps. WorkIs c Moved (record (moved_view c (with_changed pid (Runs a.now) c.here)) { queue = ps })) empty (moved_work c pid was new there a);
-    residents = own_changed c.cursor pid (Runs a.now) c.here own (own_moved c.cursor pid was a.now a.steps (own_at c.cursor c.here pid (Runs was) own there) a.silent);
+module _ (c : ClusterView) (empty : c.queue ≡ []) (own : AllOwn c.cursor c.here) (valid : is_system c.system ≡ true) (has : (c.number).0 < (c.system).clusters) where
+  -- who had a turn moved
+  took_moved : (pid : Pid) (here : List (Pid × Held)) → TakesTurn pid c.here QuantumMoved here → Works c Moved here None
+  took_moved pid here takes = subst (λ hs. Works c Moved hs None) (sym takes.here) (record {
+    goes_on = subst (λ ps. GoesOn c (record (moved_view c (with_changed pid takes.now c.here)) { queue = ps })) empty (moved_goes_on c pid takes.was takes.now valid empty takes.there takes.ran);
+    work = subst (λ ps. WorkIs c Moved (record (moved_view c (with_changed pid takes.now c.here)) { queue = ps })) empty (moved_work c pid takes.was takes.now takes.there takes.ran);
+    residents = own_changed c.cursor pid takes.now c.here own (own_quantum c.cursor pid takes.was takes.now (own_at c.cursor c.here pid takes.was own takes.there) takes.ran);
     own = refl;
     built = refl;
-  }
+  })
 
-  sent : (pid : Pid) (was : Process) (sending : Sending) (new : Held) → held_at c pid ≡ Some (Runs was) → (a : SentAlone 64 was sending new)
-      → Works c Queued (with_changed pid (Runs a.now) c.here) (Some (post_told c.number sending.pid sending.at sending.emission))
-  sent pid was sending new there a =
-      let mine = own_at c.cursor c.here pid (Runs was) own there in
-      let now_own = own_sent c.cursor pid was a.now sending.emission mine a.runs in
-      let named : sending.pid ≡ pid = a.pid_is ∙ now_own.pid_is in
-      let post : Post = post_told c.number sending.pid sending.at sending.emission in
-      let is : post ≡ post_told c.number pid ((a.now).small).steps sending.emission = λ i. post_told c.number (named i) (a.at_is i) sending.emission in
-      record {
-        goes_on = posted_goes_on c pid was a.now post sending.emission a.runs is empty there mine valid has;
-        work = posted_work c pid was a.now post sending.emission a.runs is empty there mine;
-        residents = own_changed c.cursor pid (Runs a.now) c.here own now_own;
-        own = told_own c.number sending.pid sending.at sending.emission;
-        built = told_built c.number sending.pid sending.at sending.emission;
-      }
-
-  -- who had a turn ran
-  took_moved : (pid : Pid) (here : List (Pid × Held)) → TakesTurn pid c.here QuantumMoved here → Works c Moved here None
-  took_moved pid here takes =
-      let one = runs_here c.here pid takes.was runs takes.there in
-      let a = moved_alone 64 one.process takes.now (subst (λ (h : Held). Moves 64 h takes.now) one.is takes.ran) in
-      subst (λ hs. Works c Moved hs None) (sym (takes.here ∙ ap (λ (h : Held). with_changed pid h c.here) a.is)) (moved pid one.process takes.now (takes.there ∙ ap Some one.is) a)
-
+  -- or sent something
   took_sent : (pid : Pid) (sending : Sending) (here : List (Pid × Held)) → TakesTurn pid c.here (QuantumSent sending) here → Works c Queued here (Some (post_told c.number sending.pid sending.at sending.emission))
   took_sent pid sending here takes =
-      let one = runs_here c.here pid takes.was runs takes.there in
-      let a = sent_alone 64 one.process sending takes.now (subst (λ (h : Held). Sends 64 h sending takes.now) one.is takes.ran) in
-      subst (λ hs. Works c Queued hs (Some (post_told c.number sending.pid sending.at sending.emission))) (sym (takes.here ∙ ap (λ (h : Held). with_changed pid h c.here) a.is))
-      (sent pid one.process sending takes.now (takes.there ∙ ap Some one.is) a)
+      let s : Sends 64 takes.was sending takes.now = takes.ran in
+      let mine = own_at c.cursor c.here pid takes.was own takes.there in
+      let before_own = own_before_sent c.cursor pid takes.was sending takes.now mine s in
+      let now_own = own_sent c.cursor pid takes.was sending takes.now mine s in
+      let named : sending.pid ≡ pid = s.pid_is ∙ now_own.pid_is in
+      let post : Post = post_told c.number sending.pid sending.at sending.emission in
+      let is : post ≡ post_told c.number pid ((s.now).small).steps sending.emission = λ i. post_told c.number (named i) (s.at_is i) sending.emission in
+      let changed : with_changed pid (Runs s.now) c.here ≡ here = ap (λ (h : Held). with_changed pid h c.here) (sym s.new_is) ∙ sym takes.here in
+      subst (λ hs. Works c Queued hs (Some post)) changed (record {
+        goes_on = posted_goes_on c pid takes.was sending takes.now s post is empty takes.there before_own valid has;
+        work = posted_work c pid takes.was sending takes.now s post is empty takes.there before_own;
+        residents = own_changed c.cursor pid (Runs s.now) c.here own now_own;
+        own = told_own c.number sending.pid sending.at sending.emission;
+        built = told_built c.number sending.pid sending.at sending.emission;
+      })
 
   resting : (here : List (Pid × Held)) → here ≡ c.here → WorkIs c Rests (counted_once c) → Works c Rests here None
   resting here same work =

@@ -35,17 +35,19 @@ use Rattle.cert_sched.specs.Appended.{entry_of}
 use Rattle.cert_sched.proofs.UnlostLaws.{unlost_births, unlost_clusters}
 use Rattle.cert_sched.proofs.StepLaws.{Tells, sent_applies}
 use Rattle.cluster_core.specs.declared.worked.Worked.TheVariants.{Moved, Queued, Rests}
-use Rattle.cluster_core.specs.View.{ClusterView, Held, Runs, held_at, held_of, next_count, counted_once, tried_once}
+use Rattle.cluster_core.specs.View.{ClusterView, Held, Runs, Rolls, Waits, can_act, held_at, held_of, next_count, counted_once, tried_once}
 use Rattle.cluster_core.specs.Residents.{pids_in, with_changed, are_stuck}
 use Rattle.cluster_core.specs.Parts.{IsOwn, AllOwn}
 use Rattle.cluster_core.specs.Queue.{move_of, taken_by, state_by, state_now}
 use Rattle.cluster_core.specs.Holds.{IsHeldAs}
 use Rattle.cluster_core.specs.Follows.{FollowsBuilt, IsOpen}
 use Rattle.cluster_core.specs.Calls.{GoesOn, WorkIs, is_at_rest, are_at_rest}
-use Rattle.cluster_core.specs.Quantum.{RunsAndSends, told_of, post_told}
-use Rattle.cluster_core.proofs.Here.{FoundChanged, found_changed, is_among, pid_same, pids_changed, run_changed, runs_here}
+use Rattle.cluster_core.specs.declared.quantum.Sending.{Sending}
+use Rattle.cluster_core.specs.Quantum.{Moves, RollsTo, RunsTo, Sends, told_of, post_told}
+use Rattle.cluster_core.proofs.Here.{FoundChanged, found_changed, is_among, pid_same, pids_changed}
 use Rattle.cluster_core.proofs.Telling.{done_is}
-use Rattle.cluster_core.proofs.Quanta.{MovedAlone, sends_has, some_has}
+use Rattle.cluster_core.proofs.Quanta.{moves_can, sends_can}
+use Rattle.cluster_core.proofs.Catching.{rolled_held}
 use Rattle.cluster_core.proofs.Owning.{stuck_rest}
 use Rattle.cluster_core.proofs.Homes.{HomeHere, differ_built, home_here}
 use Rattle.cluster_core.proofs.Following.{no_child}
@@ -127,7 +129,6 @@ rested c own stuck = (stuck_rest c.cursor c.here own ∙ stuck, refl)
 pub goes_on_rested : (c : ClusterView) → GoesOn c (counted_once c)
 goes_on_rested c log now f = record {
   log = record { cursor = (f.log).cursor; places = (f.log).places };
-  running = f.running;
   processes = record { held = (f.processes).held; each_once = (f.processes).each_once };
   queue = record { own = (f.queue).own; legal = (f.queue).legal };
   steps = record { counted = λ kept. more_counted (least_steps log log c.number + cond c.tried 1 0) c.steps ((f.steps).counted kept) };
@@ -144,7 +145,6 @@ more_tried n s false h = omega (arith, h)
 pub follows_tried : (c : ClusterView) (log : List Entry) → FollowsBuilt c.system log c → FollowsBuilt c.system log (tried_once c)
 follows_tried c log f = record {
   log = record { cursor = (f.log).cursor; places = (f.log).places };
-  running = f.running;
   processes = record { held = (f.processes).held; each_once = (f.processes).each_once };
   queue = record { own = (f.queue).own; legal = (f.queue).legal };
   steps = record { counted = λ kept. more_tried (least_steps log log c.number) c.steps c.tried ((f.steps).counted kept) };
@@ -159,63 +159,53 @@ goes_on_tried c log now f = follows_tried c log f
 abbrev pub moved_view : ClusterView → List (Pid × Held) → ClusterView
 moved_view c here = record c { here = here; steps = next_count c.steps }
 
--- where one has a step, not all rest
-some_moves : (here : List (Pid × Held)) (p : Pid) (s : Process) → held_of here p ≡ Some (Runs s) → has_step (next_step (state_of s)) ≡ true → are_at_rest here ≡ false
-some_moves [] p s there some = cc
-some_moves (e ∷ here) p s there some = by_test (same_pid e.0 p) there (some_moves here p s)
+-- where one can move, not all rest
+some_moves : (here : List (Pid × Held)) (p : Pid) (h : Held) → held_of here p ≡ Some h → can_act h ≡ true → are_at_rest here ≡ false
+some_moves [] p h there can = cc
+some_moves (e ∷ here) p h there can = by_test (same_pid e.0 p) there (some_moves here p h)
   where
     none : (a b : Bool) → b ≡ false → (a && b) ≡ false
-    none true b h = h
-    none false b h = refl
+    none true b g = g
+    none false b g = refl
 
-    by_test : (b : Bool) → option_map (λ (e : Pid × Held). e.1) (cond b (Some e) (find (λ (e : Pid × Held). same_pid e.0 p) here)) ≡ Some (Runs s)
-        → (held_of here p ≡ Some (Runs s) → has_step (next_step (state_of s)) ≡ true → are_at_rest here ≡ false) → are_at_rest (e ∷ here) ≡ false
+    first : (a b : Bool) → a ≡ false → (a && b) ≡ false
+    first true b g = absurd (true≢false g)
+    first false b g = refl
+
+    moves : (h : Held) → can_act h ≡ true → is_at_rest h ≡ false
+    moves (Runs s) can = ap (λ b. not (b || can_take (state_of s))) can
+    moves (Rolls s counts births) can = refl
+    moves (Waits kept) can = refl
+
+    by_test : (b : Bool) → option_map (λ (e : Pid × Held). e.1) (cond b (Some e) (find (λ (e : Pid × Held). same_pid e.0 p) here)) ≡ Some h
+        → (held_of here p ≡ Some h → can_act h ≡ true → are_at_rest here ≡ false) → are_at_rest (e ∷ here) ≡ false
     by_test true is more =
-        let same : e.1 ≡ Runs s = cc in
-        ap (λ h. is_at_rest h && are_at_rest here) same ∙ ap (λ b. not (b || can_take (state_of s)) && are_at_rest here) some
-    by_test false is more = none (is_at_rest e.1) (are_at_rest here) (more is some)
+        let same : h ≡ e.1 = cc in
+        first (is_at_rest e.1) (are_at_rest here) (ap is_at_rest (sym same) ∙ moves h can)
+    by_test false is more = none (is_at_rest e.1) (are_at_rest here) (more is can)
 
-pub moved_work : (c : ClusterView) (p : Pid) (was : Process) (new : Held) → held_at c p ≡ Some (Runs was) → (a : MovedAlone 64 was new) → WorkIs c Moved (moved_view c (with_changed p (Runs a.now) c.here))
-moved_work c p was new there a = (
-  some_moves c.here p was there (some_has a.steps (state_of was) (state_of a.now) a.some a.silent),
-  record { pid = p; was = was; now = a.now; steps = a.steps; some = a.some; few = a.few; there = there; silent = a.silent; rest = refl },
+pub moved_work : (c : ClusterView) (p : Pid) (was now : Held) → held_at c p ≡ Some was → Moves 64 was now → WorkIs c Moved (moved_view c (with_changed p now c.here))
+moved_work c p was now there moves = (
+  some_moves c.here p was there (moves_can 64 was now moves),
+  record { pid = p; was = was; now = now; there = there; moves = moves; rest = refl },
 )
 
 -- what is held after one process has changed, where the others are held as before
-held_beside : (c : ClusterView) (log : List Entry) (p : Pid) (now : Process) (queue : List Post) → FollowsBuilt c.system log c
-    → IsHeldAs c.system log queue p (Runs now) → ((q : Pid) (s : Process) → same_pid q p ≡ false → IsHeldAs c.system log c.queue q (Runs s) → IsHeldAs c.system log queue q (Runs s))
-    → (q : Pid) (h : Held) → held_of (with_changed p (Runs now) c.here) q ≡ Some h → IsHeldAs c.system log queue q h
+held_beside : (c : ClusterView) (log : List Entry) (p : Pid) (now : Held) (queue : List Post) → FollowsBuilt c.system log c
+    → IsHeldAs c.system log queue p now → ((q : Pid) (h : Held) → same_pid q p ≡ false → IsHeldAs c.system log c.queue q h → IsHeldAs c.system log queue q h)
+    → (q : Pid) (h : Held) → held_of (with_changed p now c.here) q ≡ Some h → IsHeldAs c.system log queue q h
 held_beside c log p now queue f mine others q h at = by_pid (same_pid q p) refl
   where
-    w : FoundChanged p (Runs now) c.here q h
-    w = found_changed p (Runs now) c.here q h at
+    w : FoundChanged p now c.here q h
+    w = found_changed p now c.here q h at
 
     by_pid : (b : Bool) → same_pid q p ≡ b → IsHeldAs c.system log queue q h
     by_pid true own =
-        let At : Pid → Type 0 = λ r. IsHeldAs c.system log queue r (Runs now) in
+        let At : Pid → Type 0 = λ r. IsHeldAs c.system log queue r now in
         subst (λ (x : Held). IsHeldAs c.system log queue q x) (sym (w.is.0 own)) (subst At (sym (pid_same q p (eqb-true q.0 p.0 own))) mine)
     by_pid false other =
-        let one = runs_here c.here q w.was f.running w.there in
-        let old : IsHeldAs c.system log c.queue q (Runs one.process) = subst (λ (x : Held). IsHeldAs c.system log c.queue q x) one.is ((f.processes).held q w.was w.there) in
-        subst (λ (x : Held). IsHeldAs c.system log queue q x) (sym (w.is.1 other ∙ one.is)) (others q one.process other old)
-
-pub moved_goes_on : (c : ClusterView) (p : Pid) (was : Process) (new : Held) → c.queue ≡ [] → held_at c p ≡ Some (Runs was) → (a : MovedAlone 64 was new) → GoesOn c (moved_view c (with_changed p (Runs a.now) c.here))
-moved_goes_on c p was new empty there a log go f = record {
-  log = record { cursor = (f.log).cursor; places = (f.log).places };
-  running = run_changed p a.now c.here f.running;
-  processes = record {
-    held =
-        let ahead_now : silent_upto c.system log p ((a.now).small).steps ≡ Some (state_of a.now) = ahead_moved c.system log p (state_of was) (state_of a.now) a.steps (held_before c log p was empty f there) a.silent in
-        let mine : IsHeldAs c.system log c.queue p (Runs a.now) = ap (λ ps. state_now c.system log ps p ((a.now).small).steps) empty ∙ ahead_now in
-        held_beside c log p a.now c.queue f mine (λ q s other as_before. as_before);
-    each_once = ap rising (pids_changed p (Runs a.now) c.here) ∙ (f.processes).each_once;
-  };
-  queue = record { own = (f.queue).own; legal = (f.queue).legal };
-  steps = record { counted = λ kept. more_counted (least_steps log log c.number + cond c.tried 1 0) c.steps ((f.steps).counted kept) };
-  records = f.records;
-}
-
--- ---- one of them posted something
+        let old : IsHeldAs c.system log c.queue q w.was = (f.processes).held q w.was w.there in
+        subst (λ (x : Held). IsHeldAs c.system log queue q x) (sym (w.is.1 other)) (others q w.was other old)
 
 -- each cluster of a system lives in such a log
 pub lives_built : (system : System) (log : List Entry) (k : ClusterNo) → IsLegalBy UnlostMayFollow system log → k.0 < system.clusters → is_living (placement system log) (Cluster k) ≡ true
@@ -226,6 +216,42 @@ lives_built system log k legal has =
     let at : slice_get (map (boot_cluster roots) (range_with_len 0 system.clusters)) k.0 ≡ Some (boot_cluster roots k.0) = slice_get-map (boot_cluster roots) (range_with_len 0 system.clusters) k.0 ∙ ap (option_map (boot_cluster roots)) number in
     ap (λ (cs : List ClusterPlace). option_map_or (λ (c : ClusterPlace). c.lives) (slice_get cs k.0) false) (unlost_clusters system log legal)
     ∙ ap (λ (o : Option ClusterPlace). option_map_or (λ (c : ClusterPlace). c.lives) o false) at
+
+-- a process of a cluster that follows a log, with its cluster
+module _ (c : ClusterView) (p : Pid) (was : Held) (empty : c.queue ≡ []) (there : held_at c p ≡ Some was) (valid : is_system c.system ≡ true) (log : List Entry) (now : IsOpen UnlostMayFollow c.system log) (f : FollowsBuilt c.system log c) where
+  pub home_of_it : HomeHere (placement c.system log) p c.number
+  home_of_it = home_here (placement c.system log) c.number (pids_in c.here) p (differ_built c.system log valid now.0) (f.processes).each_once (is_among c.here p was there)
+
+  -- after steps that are withheld it is held as the log says
+  pub held_between : (n : ℕ) (between : Held) → RollsTo n was between → IsHeldAs c.system log [] p between
+  held_between n between rolls =
+      rolled_held c.system log p valid now (ap is_some home_of_it.found) n was between
+      (subst (λ ps. IsHeldAs c.system log ps p was) empty ((f.processes).held p was there)) rolls
+
+  -- and after silent ones
+  pub held_moved : (new : Held) → Moves 64 was new → IsHeldAs c.system log [] p new
+  held_moved new m = by_parts m.between new (held_between m.rolled m.between m.rolls) m.runs
+    where
+      by_parts : (between new : Held) → IsHeldAs c.system log [] p between → RunsTo m.silent between new → IsHeldAs c.system log [] p new
+      by_parts (Runs q) (Runs r) held runs = ahead_moved c.system log p (state_of q) (state_of r) m.silent held runs
+      by_parts (Runs q) (Rolls r left unborn) held runs = absurd runs
+      by_parts (Runs q) (Waits kept) held runs = absurd runs
+      by_parts (Rolls q left unborn) new held runs = subst (λ (x : Held). IsHeldAs c.system log [] p x) (sym runs.1) held
+      by_parts (Waits kept) new held runs = absurd runs
+
+pub moved_goes_on : (c : ClusterView) (p : Pid) (was new : Held) → is_system c.system ≡ true → c.queue ≡ [] → held_at c p ≡ Some was → Moves 64 was new → GoesOn c (moved_view c (with_changed p new c.here))
+moved_goes_on c p was new valid empty there moves log go f = record {
+  log = record { cursor = (f.log).cursor; places = (f.log).places };
+  processes = record {
+    held = held_beside c log p new c.queue f (subst (λ ps. IsHeldAs c.system log ps p new) (sym empty) (held_moved c p was empty there valid log go f new moves)) (λ q h other as_before. as_before);
+    each_once = ap rising (pids_changed p new c.here) ∙ (f.processes).each_once;
+  };
+  queue = record { own = (f.queue).own; legal = (f.queue).legal };
+  steps = record { counted = λ kept. more_counted (least_steps log log c.number + cond c.tried 1 0) c.steps ((f.steps).counted kept) };
+  records = f.records;
+}
+
+-- ---- one of them posted something
 
 abbrev pub posted_view : ClusterView → List (Pid × Held) → Post → ClusterView
 posted_view c here post = record c { here = here; queue = post ∷ []; steps = next_count c.steps }
@@ -277,63 +303,85 @@ moves_no_other : (pid q : Pid) (at : ℕ) (k : ClusterNo) (e : Emission) → Tel
 moves_no_other pid q at k (Sent letter) tells other = ap (λ b. option_map (λ (post : Post). post.what) (cond b (Some (post_told k pid at (Sent letter))) None)) (ap (λ r. same_pid r q) tells.0 ∙ turned pid q other)
 moves_no_other pid q at k (Ended end) tells other = ap (λ b. option_map (λ (post : Post). post.what) (cond b (Some (post_told k pid at (Ended end))) None)) (turned pid q other)
 
-module _ (c : ClusterView) (p : Pid) (was now : Process) (post : Post) (e : Emission) (runs : RunsAndSends 64 (state_of was) e (state_of now))
-    (post_is : post ≡ post_told c.number p (now.small).steps e) (empty : c.queue ≡ []) (there : held_at c p ≡ Some (Runs was)) (own : IsOwn c.cursor p was) where
+-- what it was, where its quantum sent something
+module _ (c : ClusterView) (p : Pid) (was : Held) (sending : Sending) (new : Held) (s : Sends 64 was sending new) (post : Post)
+    (post_is : post ≡ post_told c.number p ((s.now).small).steps sending.emission) (empty : c.queue ≡ []) (there : held_at c p ≡ Some was) (own : IsOwn c.cursor p s.between) where
   abbrev at : ℕ
-  at = (now.small).steps
+  at = ((s.now).small).steps
 
-  before_own : ((runs.before).small).pid ≡ p
-  before_own = (silently_counts runs.steps (state_of was) runs.before runs.silent).pid ∙ own.pid_is
+  abbrev e : Emission
+  e = sending.emission
+
+  before_own : ((s.before).small).pid ≡ p
+  before_own = (silently_counts s.silent (state_of s.between) s.before s.runs).pid ∙ own.pid_is
+
+  now_own : ((s.now).small).pid ≡ p
+  now_own = (emits_counts s.before (state_of s.now) e s.sends).pid ∙ before_own
 
   tells : Tells p at e (told_of p at e)
-  tells = tells_of runs.before (state_of now) p at e runs.sends before_own
-
-  emission_is : (log : List Entry) → FollowsBuilt c.system log c → emission_at c.system log p at ≡ Some (e, state_of now)
-  emission_is log f = ahead_sent c.system log p (state_of was) runs.before (state_of now) runs.steps e (held_before c log p was empty f there) runs.silent runs.sends
+  tells = tells_of s.before (state_of s.now) p at e s.sends before_own
 
   posted_own : is_from c.number post.by ≡ true
   posted_own = ap (λ (p : Post). is_from c.number p.by) post_is ∙ eq-eqb (c.number).0 (c.number).0 refl
 
-  may_follow : (log : List Entry) → IsOpen UnlostMayFollow c.system log → FollowsBuilt c.system log c → is_system c.system ≡ true → (c.number).0 < (c.system).clusters → UnlostMayFollow c.system log (entry_of c.system log (post_told c.number p at e))
-  may_follow log go f valid has =
-      let home = home_here (placement c.system log) c.number (pids_in c.here) p (differ_built c.system log valid go.0) (f.processes).each_once (is_among c.here p (Runs was) there) in
-      record {
-        stands = record {
-          placed = (refl, refl, go.1);
-          by_right = right_of_post (placement c.system log) c.number p at e tells (home_by (placement c.system log) c.number p (lives_built c.system log c.number go.0 has) home);
-          applies = sent_applies c.system log (entry_of c.system log (post_told c.number p at e)) p at e (state_of now) (emission_is log f) tells;
-          kind = kind_of_post c.system log c.number p at e (state_of now) tells (emission_is log f) go.0;
-        };
-        built = built_of p at e;
-      }
+  module _ (valid : is_system c.system ≡ true) (has : (c.number).0 < (c.system).clusters) (log : List Entry) (go : IsOpen UnlostMayFollow c.system log) (f : FollowsBuilt c.system log c) where
+    emission_is : emission_at c.system log p at ≡ Some (e, state_of s.now)
+    emission_is = ahead_sent c.system log p (state_of s.between) s.before (state_of s.now) s.silent e (held_between c p was empty there valid log go f s.rolled (Runs s.between) s.rolls) s.runs s.sends
 
-  pub posted_goes_on : is_system c.system ≡ true → (c.number).0 < (c.system).clusters → GoesOn c (posted_view c (with_changed p (Runs now) c.here) post)
+    may_follow : UnlostMayFollow c.system log (entry_of c.system log (post_told c.number p at e))
+    may_follow = record {
+      stands = record {
+        placed = (refl, refl, go.1);
+        by_right =
+            right_of_post (placement c.system log) c.number p at e tells
+            (home_by (placement c.system log) c.number p (lives_built c.system log c.number go.0 has) (home_of_it c p was empty there valid log go f));
+        applies = sent_applies c.system log (entry_of c.system log (post_told c.number p at e)) p at e (state_of s.now) emission_is tells;
+        kind = kind_of_post c.system log c.number p at e (state_of s.now) tells emission_is go.0;
+      };
+      built = built_of p at e;
+    }
+
+    -- the others are held as before, since the post moves none of them
+    others : (q : Pid) (h : Held) → same_pid q p ≡ false → IsHeldAs c.system log c.queue q h → IsHeldAs c.system log (post ∷ []) q h
+    others q (Runs r) other as_before =
+        ap (λ (x : Post). state_now c.system log (x ∷ []) q (r.small).steps) post_is ∙ ap (state_by c.system log q (r.small).steps) (moves_no_other p q at c.number e tells other)
+        ∙ sym (ap (λ ps. state_now c.system log ps q (r.small).steps) empty) ∙ as_before
+    others q (Rolls r counts births) other as_before = (ap (λ (x : Post). move_of q (x ∷ [])) post_is ∙ moves_no_other p q at c.number e tells other, as_before.1)
+    others q (Waits kept) other as_before = as_before
+
+  pub posted_goes_on : is_system c.system ≡ true → (c.number).0 < (c.system).clusters → GoesOn c (posted_view c (with_changed p (Runs s.now) c.here) post)
   posted_goes_on valid has log go f = record {
     log = record { cursor = (f.log).cursor; places = (f.log).places };
-    running = run_changed p now c.here f.running;
     processes = record {
       held =
-          let mine : IsHeldAs c.system log (post ∷ []) p (Runs now) =
+          let mine : IsHeldAs c.system log (post ∷ []) p (Runs s.now) =
           ap (λ (q : Post). state_now c.system log (q ∷ []) p at) post_is ∙ ap (state_by c.system log p at) (moves_of p at c.number e tells)
-          ∙ items_of_post c.system log p at e (state_of now) tells (emission_is log f) in
-          held_beside c log p now (post ∷ []) f mine others;
-      each_once = ap rising (pids_changed p (Runs now) c.here) ∙ (f.processes).each_once;
+          ∙ items_of_post c.system log p at e (state_of s.now) tells (emission_is valid has log go f) in
+          held_beside c log p (Runs s.now) (post ∷ []) f mine (others valid has log go f);
+      each_once = ap rising (pids_changed p (Runs s.now) c.here) ∙ (f.processes).each_once;
     };
     queue = record {
       own = ap (λ b. b && true) posted_own;
-      legal = (subst (λ (q : Post). UnlostMayFollow c.system log (entry_of c.system log q)) (sym post_is) (may_follow log go f valid has), tt);
+      legal = (subst (λ (q : Post). UnlostMayFollow c.system log (entry_of c.system log q)) (sym post_is) (may_follow valid has log go f), tt);
     };
     steps = record { counted = λ kept. more_counted (least_steps log log c.number + cond c.tried 1 0) c.steps ((f.steps).counted kept) };
     records = f.records;
   }
-    where
-      others : (q : Pid) (s : Process) → same_pid q p ≡ false → IsHeldAs c.system log c.queue q (Runs s) → IsHeldAs c.system log (post ∷ []) q (Runs s)
-      others q s other as_before =
-          ap (λ (x : Post). state_now c.system log (x ∷ []) q (s.small).steps) post_is ∙ ap (state_by c.system log q (s.small).steps) (moves_no_other p q at c.number e tells other)
-          ∙ sym (ap (λ ps. state_now c.system log ps q (s.small).steps) empty) ∙ as_before
 
-  pub posted_work : WorkIs c Queued (posted_view c (with_changed p (Runs now) c.here) post)
-  posted_work = (
-    some_moves c.here p was there (sends_has 64 (state_of was) (state_of now) e runs),
-    record { pid = p; was = was; now = now; emission = e; post = post; there = there; runs = runs; post_is = post_is; rest = refl },
-  )
+  pub posted_work : WorkIs c Queued (posted_view c (with_changed p (Runs s.now) c.here) post)
+  posted_work =
+      let named : sending.pid ≡ p = s.pid_is ∙ now_own in
+      let one : Sending = record { pid = p; at = at; emission = e } in
+      let same : sending ≡ one = λ i. record { pid = named i; at = s.at_is i; emission = e } in
+      (
+        some_moves c.here p was there (sends_can 64 was sending new s),
+        record {
+          pid = p;
+          was = was;
+          now = s.now;
+          emission = e;
+          there = there;
+          sends = subst (λ (x : Held). Sends 64 was one x) s.new_is (subst (λ (x : Sending). Sends 64 was x new) same s);
+          rest = λ i. record c { here = with_changed p (Runs s.now) c.here; queue = post_is i ∷ []; steps = next_count c.steps };
+        },
+      )

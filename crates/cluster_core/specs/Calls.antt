@@ -8,7 +8,6 @@ use Rattle.sys_text.specs.declared.system.System.{System}
 use Rattle.proc_state.specs.declared.process.Process.{Process}
 use Rattle.proc_state.specs.State.{state_of}
 use Rattle.sys_calls.specs.declared.steps.Emission.{Emission}
-use Rattle.sys_calls.specs.Next.{silently}
 use Rattle.bus_msg.specs.declared.entry.What.{What}
 use Rattle.bus_msg.specs.declared.entry.What.TheVariants.{Mail, Exit}
 use Rattle.bus_msg.specs.declared.entry.Post.{Post}
@@ -23,7 +22,8 @@ use Rattle.cluster_core.specs.declared.worked.Worked.{Worked}
 use Rattle.cluster_core.specs.declared.worked.Worked.TheVariants.{Moved, Queued, Waits as IsWaiting, Rests}
 use Rattle.backup_records.specs.Records.{records_after}
 use Rattle.cluster_core.specs.View.{ClusterView, Held, Runs, Rolls, Waits, arrived_held, held_at, steps_of_held, next_count, counted_once}
-use Rattle.cluster_core.specs.Quantum.{RunsAndSends, post_told}
+use Rattle.cluster_core.specs.Quantum.{Moves, Sends, post_told}
+use Rattle.cluster_core.specs.Residents.{with_changed}
 use Rattle.cluster_core.specs.Follows.{FollowsBuilt, IsOpen, StandsBetween}
 
 -- ---- the start

@@ -20,7 +20,7 @@ returns-clause-follows c =
     let has = subst (λ (v : ClusterView). (v.number).0 < (v.system).clusters) c.self.view_is c.self.invariant.has in
     let valid = subst (λ (v : ClusterView). is_system v.system ≡ true) c.self.view_is c.self.invariant.valid in
     let turn = subst (λ (v : ClusterView). WorksOn v.number c.self.inside.here c.in_ok-worked.worked c.work_on.new.here c.work_on.new.queue) c.self.view_is c.in_ok-worked.ensures.ok in
-    let done = works old c.requires.follows.follows.running c.requires.empty own valid has c.self.inside.here c.work_on.new.here c.in_ok-worked.worked c.work_on.new.queue (ap (λ (v : ClusterView). v.here) c.self.view_is) turn in
+    let done = works old c.requires.empty own valid has c.self.inside.here c.work_on.new.here c.in_ok-worked.worked c.work_on.new.queue (ap (λ (v : ClusterView). v.here) c.self.view_is) turn in
     let whole : c.count_step.new.self ≡ worked_view old c.work_on.new.here.here c.work_on.new.queue = c.count_step.ensures ∙ ap (λ (v : ClusterView). worked_view v c.work_on.new.here.here c.work_on.new.queue) c.self.view_is in
     subst (GoesOn old) (sym whole) done.goes_on
 
@@ -31,7 +31,7 @@ returns-clause-work c =
     let has = subst (λ (v : ClusterView). (v.number).0 < (v.system).clusters) c.self.view_is c.self.invariant.has in
     let valid = subst (λ (v : ClusterView). is_system v.system ≡ true) c.self.view_is c.self.invariant.valid in
     let turn = subst (λ (v : ClusterView). WorksOn v.number c.self.inside.here c.in_ok-worked.worked c.work_on.new.here c.work_on.new.queue) c.self.view_is c.in_ok-worked.ensures.ok in
-    let done = works old c.requires.follows.follows.running c.requires.empty own valid has c.self.inside.here c.work_on.new.here c.in_ok-worked.worked c.work_on.new.queue (ap (λ (v : ClusterView). v.here) c.self.view_is) turn in
+    let done = works old c.requires.empty own valid has c.self.inside.here c.work_on.new.here c.in_ok-worked.worked c.work_on.new.queue (ap (λ (v : ClusterView). v.here) c.self.view_is) turn in
     let whole : c.count_step.new.self ≡ worked_view old c.work_on.new.here.here c.work_on.new.queue = c.count_step.ensures ∙ ap (λ (v : ClusterView). worked_view v c.work_on.new.here.here c.work_on.new.queue) c.self.view_is in
     subst (WorkIs old c.in_ok-worked.worked) (sym whole) done.work
 
@@ -42,7 +42,7 @@ invariant_of-self-2 c =
     let has = subst (λ (v : ClusterView). (v.number).0 < (v.system).clusters) c.self.view_is c.self.invariant.has in
     let valid = subst (λ (v : ClusterView). is_system v.system ≡ true) c.self.view_is c.self.invariant.valid in
     let turn = subst (λ (v : ClusterView). WorksOn v.number c.self.inside.here c.in_ok-worked.worked c.work_on.new.here c.work_on.new.queue) c.self.view_is c.in_ok-worked.ensures.ok in
-    let done = works old c.requires.follows.follows.running c.requires.empty own valid has c.self.inside.here c.work_on.new.here c.in_ok-worked.worked c.work_on.new.queue (ap (λ (v : ClusterView). v.here) c.self.view_is) turn in
+    let done = works old c.requires.empty own valid has c.self.inside.here c.work_on.new.here c.in_ok-worked.worked c.work_on.new.queue (ap (λ (v : ClusterView). v.here) c.self.view_is) turn in
     record {
       valid = c.self.invariant.valid;
       has = c.self.invariant.has;

@@ -1,0 +1,63 @@
+-- A process that rolls forward in a cluster, in each log that the cluster follows.
+use Rattle.std.proofs.Common.{◌≡◌, ℕ, ◌+◌, ◌≤◌, refl, sym, ◌∙◌, ap, subst, arith, [], Bool, true, false, Option, Some, None, is_some, true≢false}
+use Rattle.t32_base.specs.declared.process.Pid.{Pid}
+use Rattle.t32_base.specs.declared.process.Counts.{Counts}
+use Rattle.sys_text.specs.declared.system.System.{System}
+use Rattle.sys_text.specs.Valid.{is_system}
+use Rattle.proc_state.specs.declared.process.Process.{Process}
+use Rattle.proc_state.specs.State.{ProcState, state_of}
+use Rattle.bus_msg.specs.declared.entry.Entry.{Entry}
+use Rattle.roll_forward.specs.RunsOut.{RunsOut, nothing_left}
+use Rattle.cert_sched.specs.Built.{UnlostMayFollow}
+use Rattle.cert_sched.specs.Rolling.{RollsAs}
+use Rattle.cert_sched.specs.Schedule.{process_after}
+use Rattle.cert_sched.specs.Simulation.{IsUnended}
+use Rattle.cert_sched.proofs.MailLaws.{unlost_is_plain}
+use Rattle.cert_sched.proofs.ThereLaws.{unended_there}
+use Rattle.recovery_laws.proofs.Reaching.{led_unended}
+use Rattle.recovery_laws.proofs.Stepping.{went_on}
+use Rattle.recovery_laws.proofs.CaughtUp.{caught_up}
+use Rattle.cluster_core.specs.View.{Held, Runs, Rolls, Waits}
+use Rattle.cluster_core.specs.Quantum.{RollsTo, going}
+use Rattle.cluster_core.specs.Follows.{IsOpen}
+use Rattle.cluster_core.specs.Holds.{IsHeldAs}
+use Rattle.cluster_core.proofs.Telling.{at_once}
+
+-- the process in the kernel without failures
+record InKernel (system : System) (log : List Entry) (p : Pid) : Type 0 where
+  pub now : ProcState
+  pub there : process_after system log p ≡ Some now
+
+in_kernel : (system : System) (log : List Entry) (p : Pid) → is_some (process_after system log p) ≡ true → InKernel system log p
+in_kernel system log p some = by_process (process_after system log p) refl some
+  where
+    by_process : (o : Option ProcState) → process_after system log p ≡ o → is_some o ≡ true → InKernel system log p
+    by_process None is h = absurd (true≢false (sym h))
+    by_process (Some now) is h = record { now = now; there = is }
+
+module _ (system : System) (log : List Entry) (p : Pid) (valid : is_system system ≡ true) (open_log : IsOpen UnlostMayFollow system log) (unended : IsUnended system log p) where
+  kernel : InKernel system log p
+  kernel = in_kernel system log p (unended_there UnlostMayFollow (λ system log e may. may.stands) system log p valid open_log.0 unended)
+
+  -- after steps that are withheld one that rolls forward is held as the log says, whether it still rolls forward or runs
+  pub rolled_held : (n : ℕ) (was between : Held) → IsHeldAs system log [] p was → RollsTo n was between → IsHeldAs system log [] p between
+  rolled_held n (Runs s) (Runs q) held rolls = subst (λ (x : Process). IsHeldAs system log [] p (Runs x)) (sym rolls.1) held
+  rolled_held n (Runs s) (Rolls q left unborn) held rolls = absurd rolls
+  rolled_held n (Runs s) (Waits kept) held rolls = absurd rolls
+  rolled_held n (Rolls s counts births) (Rolls q left unborn) held rolls =
+      let on = rolls.2 in
+      let led = led_unended UnlostMayFollow (λ system log e may. may.stands) system log p kernel.now valid open_log.0 unended kernel.there in
+      let went = went_on system log p kernel.now led (n + rolls.0) n (going s counts births) (going q left unborn) held.1 on.runs_out (omega arith) on.rolled in
+      (refl, went.rolls)
+  rolled_held n (Rolls s counts births) (Runs q) held rolls =
+      let left = rolls.0 in
+      let unborn = rolls.1 in
+      let on = rolls.2 in
+      let led = led_unended UnlostMayFollow (λ system log e may. may.stands) system log p kernel.now valid open_log.0 unended kernel.there in
+      let went = went_on system log p kernel.now led (n + 0) n (going s counts births) (going q left unborn) held.1 on.runs_out (omega arith) on.rolled in
+      let sum = went.sum in
+      let none : went.left ≡ 0 = omega (arith, sum) in
+      let out : RunsOut (state_of q) left unborn 0 = subst (RunsOut (state_of q) left unborn) none went.runs_out in
+      at_once system log p (state_of q) (caught_up UnlostMayFollow unlost_is_plain system log p (state_of q) left unborn valid open_log.0 open_log.1 unended went.rolls out)
+  rolled_held n (Rolls s counts births) (Waits kept) held rolls = absurd rolls
+  rolled_held n (Waits kept) between held rolls = absurd rolls
