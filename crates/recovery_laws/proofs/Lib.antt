@@ -3,4 +3,5 @@ pub mod Beginning
 pub mod Entries
 pub mod Reaching
 pub mod Stepping
+pub mod Exact
 pub mod RunningOut
