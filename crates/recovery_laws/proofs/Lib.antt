@@ -3,5 +3,6 @@ pub mod Beginning
 pub mod Entries
 pub mod Reaching
 pub mod Stepping
-pub mod Exact
 pub mod RunningOut
+pub mod Exact
+pub mod CaughtUp
