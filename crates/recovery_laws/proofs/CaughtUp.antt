@@ -16,11 +16,11 @@ use Rattle.cert_sched.specs.Rolling.{refilled, RollsAs}
 use Rattle.cert_sched.specs.Legal.{IsLegalBy}
 use Rattle.cert_sched.specs.Simulation.{IsUnended}
 use Rattle.cert_sched.proofs.MailLaws.{IsPlainRule}
-use Rattle.cert_sched.proofs.ReplayLaws.{Replays, Sharp, sharp_replays, replays_counts}
+use Rattle.cert_sched.proofs.ReplayLaws.{Replays, Sharp, sharp_replays, replays_counts, replays_computes}
 use Rattle.cert_sched.proofs.RunsOutLaws.{AllFine, replays_fine, sharp_runs_out, start_ends}
 use Rattle.cert_sched.proofs.OpenLaws.{unended_open}
 use Rattle.cert_sched.proofs.ThereLaws.{unended_there}
-use Rattle.recovery_laws.specs.Behind.{RollsBehind}
+use Rattle.recovery_laws.specs.Behind.{RollsBehind, EndsExactly}
 use Rattle.recovery_laws.proofs.Replaying.{Part, Rolling, rolling_of, sharp_split}
 use Rattle.recovery_laws.proofs.Reaching.{Led, Reach, on_way, beyond, reach, fine_left, same_part, done_is}
 use Rattle.recovery_laws.proofs.Exact.{IsExact, exact_unended}
@@ -82,3 +82,16 @@ caught_up May plain system log p s counts births valid legal goes_on unended rol
     by_process (Some now) is there =
         is ∙ ap Some (caught_up_exact system log p now s counts births is (unended_open May (λ system log e may. (plain system log e may).0) system log p valid legal unended now is)
         (exact_unended May plain system log p now valid legal goes_on unended is) rolls none)
+
+-- ---- where it is just where its last deed led it
+
+pub ends_exactly : (system : System) (log : List Entry) (p : Pid) (now : ProcState) → has_ended (now.small).status ≡ false → IsExact system log p now → EndsExactly system log p now
+ends_exactly system log p now goes_on x =
+    let replays = sharp_replays x.made (refilled log p x.start) now (since log p) x.sharp in
+    record {
+      start = x.start;
+      started = x.started;
+      ahead = x.made;
+      runs_out = sharp_runs_out x.made (refilled log p x.start) now (since log p) (replays_fine x.made (refilled log p x.start) now (since log p) goes_on (start_ends system log p x.start x.started) replays) x.sharp;
+      leads = replays_computes x.made (refilled log p x.start) now (since log p) replays;
+    }

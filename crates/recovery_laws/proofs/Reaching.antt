@@ -22,6 +22,7 @@ use Rattle.cert_sched.proofs.CameLaws.{IsStandingRule}
 use Rattle.cert_sched.proofs.RollLaws.{Rolls, all_roll}
 use Rattle.cert_sched.proofs.RunsOutLaws.{AllFine, replays_fine, start_ends}
 use Rattle.cert_sched.proofs.OpenLaws.{unended_open}
+use Rattle.cert_sched.proofs.ThereLaws.{unended_there}
 use Rattle.recovery_laws.specs.Behind.{IsBehind}
 use Rattle.recovery_laws.proofs.Replaying.{Part, Rolling, replays_split, replays_beyond}
 
@@ -64,6 +65,19 @@ pub led_unended : (May : System → List Entry → Entry → Type 0) → IsStand
     → IsUnended system log p → process_after system log p ≡ Some now → Led system log p now
 led_unended May standing system log p now valid legal unended there =
     led_open May standing system log p now valid legal there (unended_open May standing system log p valid legal unended now there)
+
+-- it is in the kernel, and is led there
+pub record LedThere (system : System) (log : List Entry) (p : Pid) : Type 0 where
+  pub now : ProcState
+  pub there : process_after system log p ≡ Some now
+  pub led : Led system log p now
+
+pub led_there : (May : System → List Entry → Entry → Type 0) → IsStandingRule May → (system : System) (log : List Entry) (p : Pid) → is_system system ≡ true → IsLegalBy May system log → IsUnended system log p → LedThere system log p
+led_there May standing system log p valid legal unended = by_process (process_after system log p) refl (unended_there May standing system log p valid legal unended)
+  where
+    by_process : (o : Option ProcState) → process_after system log p ≡ o → is_some o ≡ true → LedThere system log p
+    by_process None is there = absurd (true≢false (sym there))
+    by_process (Some now) is there = record { now = now; there = is; led = led_unended May standing system log p now valid legal unended is }
 
 -- ---- where a part of it stands
 
