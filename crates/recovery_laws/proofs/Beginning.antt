@@ -35,12 +35,17 @@ state_is : (stated : Bool) (x small : SmallState) → cond stated (Some x) None 
 state_is true x small e = sym (some_same x small e)
 state_is false x small e = cc
 
+-- the small state of its record is that of the start
+pub state_of_record : (system : System) (log : List Entry) (p : Pid) (start : ProcState) (kept : BackRec) (small : SmallState) → start_of system log p ≡ Some start → backup_record system log p ≡ Some kept → kept.state ≡ Some small → small ≡ start.small
+state_of_record system log p start kept small is kept_is stated =
+    state_is (has_state system log p) start.small small (ap (λ (r : BackRec). r.state) (record_of system log p start kept is kept_is) ∙ stated)
+
 -- The process of its record, with the memory of its start: it has to do again what the record counts.
 pub rolls_from_record : (system : System) (log : List Entry) (p : Pid) (start : ProcState) (kept : BackRec) (small : SmallState) (ram : Memory) → start_of system log p ≡ Some start → backup_record system log p ≡ Some kept
     → kept.state ≡ Some small → ram.bytes ≡ start.memory → RollsAs system log p (started small ram kept.saved kept.next) kept.counts kept.births
 rolls_from_record system log p start kept small ram is kept_is stated bytes =
     let same = record_of system log p start kept is kept_is in
-    let state : small ≡ start.small = state_is (has_state system log p) start.small small (ap (λ (r : BackRec). r.state) same ∙ stated) in
+    let state = state_of_record system log p start kept small is kept_is stated in
     let there : refilled log p start ≡ started small ram kept.saved kept.next =
     λ i. record { small = sym state i; memory = sym bytes i; mail = (same i).saved; next = (same i).next } in
     subst (λ s. RollsAs system log p s kept.counts kept.births) there

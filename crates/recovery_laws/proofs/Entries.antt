@@ -1,5 +1,6 @@
 -- A process that rolls forward, where the log has an entry more: the letters of the entry arrive, and what is left stays.
 use Rattle.std.proofs.Common.{◌≡◌, ℕ, ◌+◌, refl, sym, ◌∙◌, ap, subst, arith, List, [], ◌∷◌, ◌++◌, length, length-append, append-nil, Bool, true, false, cond, ◌||◌, Option, Some, None, is_some, true≢false}
+use Rattle.std.specs.Prelude.{fold}
 use Rattle.std.proofs.lemmas.Grind.{flat_map-append}
 use Rattle.t32_base.specs.declared.process.Pid.{Pid}
 use Rattle.t32_base.specs.declared.process.ClusterNo.{ClusterNo}
@@ -34,6 +35,11 @@ use Rattle.cert_sched.proofs.ThereLaws.{unended_there}
 use Rattle.recovery_laws.proofs.Replaying.{Part, Rolling, rolling_of, rolls_as}
 
 -- ---- the letters that came to a process
+
+-- letters that arrive, one after another
+pub fold_delivered : (s : ProcState) (letters : List Letter) → fold delivered s letters ≡ all_delivered s letters
+fold_delivered s [] = refl
+fold_delivered s (letter ∷ letters) = fold_delivered (delivered s letter) letters
 
 -- the letters that had arrived where it started, with those that came since, are those that came to it
 abbrev pub CountsLetters : System → List Entry → Pid → Type 0

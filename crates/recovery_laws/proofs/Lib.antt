@@ -4,3 +4,7 @@ pub mod Entries
 pub mod Reaching
 pub mod Stepping
 pub mod RunningOut
+pub mod NotEnded
+pub mod KeepingBehind
+pub mod Exact
+pub mod CaughtUp

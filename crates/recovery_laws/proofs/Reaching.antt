@@ -1,24 +1,29 @@
 -- Where a process that rolls forward stands beside the process in the kernel, which has not ended: steps that do what is left lead there, or nothing is left.
 use Rattle.std.proofs.Common.{◌≡◌, ℕ, zero, suc, ◌+◌, ◌-◌, ◌≤◌, refl, sym, ◌∙◌, ap, subst, arith, List, [], ◌∷◌, ◌++◌, Bool, true, false, leb, Option, Some, None, is_some, true≢false, append_assoc, append-nil}
+use Rattle.std.specs.Prelude.{option_and_then}
+use Rattle.std.specs.Option.{option_map_or}
 use Rattle.std.proofs.lemmas.Bool.Decides.{nat_tests}
 use Rattle.t32_base.specs.declared.process.Pid.{Pid}
 use Rattle.t32_base.specs.declared.process.Counts.{Counts}
 use Rattle.sys_text.specs.declared.system.System.{System}
 use Rattle.sys_text.specs.Valid.{is_system}
 use Rattle.proc_state.specs.State.{ProcState, has_ended}
+use Rattle.plain_kernel.specs.Kernel.{Kernel, process_at}
 use Rattle.plain_kernel.proofs.Entries.{some_same}
 use Rattle.bus_msg.specs.declared.entry.Entry.{Entry}
 use Rattle.roll_forward.specs.Deeds.{Deed}
-use Rattle.cert_sched.specs.Schedule.{process_after}
+use Rattle.cert_sched.specs.Schedule.{done, plain_after, process_after, done_after}
 use Rattle.cert_sched.specs.Deeds.{start_of, since}
 use Rattle.cert_sched.specs.Rolling.{refilled}
 use Rattle.cert_sched.specs.Legal.{IsLegalBy}
 use Rattle.cert_sched.specs.Simulation.{IsUnended}
-use Rattle.cert_sched.proofs.ReplayLaws.{Replays, replays_on}
+use Rattle.cert_sched.proofs.ReplayLaws.{Replays, replays_on, replays_counts}
 use Rattle.cert_sched.proofs.CameLaws.{IsStandingRule}
 use Rattle.cert_sched.proofs.RollLaws.{Rolls, all_roll}
 use Rattle.cert_sched.proofs.RunsOutLaws.{AllFine, replays_fine, start_ends}
 use Rattle.cert_sched.proofs.OpenLaws.{unended_open}
+use Rattle.cert_sched.proofs.ThereLaws.{unended_there}
+use Rattle.recovery_laws.specs.Behind.{IsBehind}
 use Rattle.recovery_laws.proofs.Replaying.{Part, Rolling, replays_split, replays_beyond}
 
 -- ---- the way of the process in the kernel
@@ -31,6 +36,15 @@ pub record Led (system : System) (log : List Entry) (p : Pid) (now : ProcState) 
   pub replays : Replays made (refilled log p start) (since log p) now
   pub open_still : has_ended (now.small).status ≡ false
   pub fine : AllFine (since log p)
+  pub count : done_after system log p ≡ (now.small).steps
+
+-- the steps of a process in the kernel after a log
+pub done_is : (system : System) (log : List Entry) (p : Pid) (now : ProcState) → process_after system log p ≡ Some now → done_after system log p ≡ (now.small).steps
+done_is system log p now there = by_kernel (plain_after system log) there
+  where
+    by_kernel : (o : Option Kernel) → option_and_then (λ k. process_at k p) o ≡ Some now → option_map_or (λ k. done k p) o 0 ≡ (now.small).steps
+    by_kernel None is = cc
+    by_kernel (Some k) is = ap (λ o. option_map_or (λ (s : ProcState). (s.small).steps) o 0) is
 
 pub led_open : (May : System → List Entry → Entry → Type 0) → IsStandingRule May → (system : System) (log : List Entry) (p : Pid) (now : ProcState) → is_system system ≡ true → IsLegalBy May system log
     → process_after system log p ≡ Some now → has_ended (now.small).status ≡ false → Led system log p now
@@ -43,6 +57,7 @@ led_open May standing system log p now valid legal there goes_on =
       replays = r.replays;
       open_still = goes_on;
       fine = replays_fine r.made (refilled log p r.start) now (since log p) goes_on (start_ends system log p r.start r.started) r.replays;
+      count = done_is system log p now there;
     }
 
 -- so it is for each process that the placement has among those that have not ended
@@ -50,6 +65,19 @@ pub led_unended : (May : System → List Entry → Entry → Type 0) → IsStand
     → IsUnended system log p → process_after system log p ≡ Some now → Led system log p now
 led_unended May standing system log p now valid legal unended there =
     led_open May standing system log p now valid legal there (unended_open May standing system log p valid legal unended now there)
+
+-- it is in the kernel, and is led there
+pub record LedThere (system : System) (log : List Entry) (p : Pid) : Type 0 where
+  pub now : ProcState
+  pub there : process_after system log p ≡ Some now
+  pub led : Led system log p now
+
+pub led_there : (May : System → List Entry → Entry → Type 0) → IsStandingRule May → (system : System) (log : List Entry) (p : Pid) → is_system system ≡ true → IsLegalBy May system log → IsUnended system log p → LedThere system log p
+led_there May standing system log p valid legal unended = by_process (process_after system log p) refl (unended_there May standing system log p valid legal unended)
+  where
+    by_process : (o : Option ProcState) → process_after system log p ≡ o → is_some o ≡ true → LedThere system log p
+    by_process None is there = absurd (true≢false (sym there))
+    by_process (Some now) is there = record { now = now; there = is; led = led_unended May standing system log p now valid legal unended is }
 
 -- ---- where a part of it stands
 
@@ -103,3 +131,10 @@ fine_left from all s rest part fine = fine_rest part.done rest (subst AllFine pa
 pub same_part : (system : System) (log : List Entry) (p : Pid) (now s : ProcState) (counts : Counts) (births : List Pid) → (led : Led system log p now) → (r : Rolling system log p s counts births) → Part (refilled log p led.start) (since log p) s r.rest
 same_part system log p now s counts births led r =
     subst (λ (x : ProcState). Part (refilled log p x) (since log p) s r.rest) (some_same r.start led.start (sym r.started ∙ led.started)) r.part
+
+-- it starts behind the process in the kernel
+pub start_behind : (system : System) (log : List Entry) (p : Pid) (now : ProcState) → (led : Led system log p now) → IsBehind system log p (refilled log p led.start)
+start_behind system log p now led =
+    let count = led.count in
+    let steps = (replays_counts led.made (refilled log p led.start) now (since log p) led.replays).steps in
+    omega (arith, count, steps)

@@ -133,17 +133,18 @@ rolls_as system log p s counts births r = record {
 cons_none : (d : Deed) (ds : List Deed) → (d ∷ ds) ≡ [] → ⊥
 cons_none d ds e = cc
 
-step_split : (n m : ℕ) (s t u : ProcState) (rest : List Deed) (next : Next) (ds : List Deed) → ReplaysBy s (λ x r. Replays n x r t) next ds → ReplaysBy s (λ x r. Replays (n + m) x r u) next (ds ++ rest)
-    → ((x : ProcState) (r : List Deed) → Replays n x r t → Replays (n + m) x (r ++ rest) u → Replays m t rest u) → Replays m t rest u
-step_split n m s t u rest (Silent x) ds h g on = on x ds h g
-step_split n m s t u rest Blocked ds h g on = absurd h
-step_split n m s t u rest Forks [] h g on = absurd h
-step_split n m s t u rest Forks (Sends e ∷ more) h g on = absurd h
-step_split n m s t u rest Forks (Bears child ∷ more) h g on = on (fork_parent s child) more h g
-step_split n m s t u rest (Emits e x) [] h g on = absurd h
-step_split n m s t u rest (Emits e x) (Sends d ∷ more) h g on = on x more h.1 g.1
-step_split n m s t u rest (Emits e x) (Bears child ∷ more) h g on = absurd h
-step_split n m s t u rest Over ds h g on = absurd h
+-- what a step asks for a part, and what it asks for the whole, are asked of one step
+step_both : (s : ProcState) (A B : ProcState → List Deed → Type 0) (C : Type 0) (rest : List Deed) (next : Next) (ds : List Deed) → ReplaysBy s A next ds → ReplaysBy s B next (ds ++ rest)
+    → ((x : ProcState) (r : List Deed) → A x r → B x (r ++ rest) → C) → C
+step_both s A B C rest (Silent x) ds h g on = on x ds h g
+step_both s A B C rest Blocked ds h g on = absurd h
+step_both s A B C rest Forks [] h g on = absurd h
+step_both s A B C rest Forks (Sends e ∷ more) h g on = absurd h
+step_both s A B C rest Forks (Bears child ∷ more) h g on = on (fork_parent s child) more h g
+step_both s A B C rest (Emits e x) [] h g on = absurd h
+step_both s A B C rest (Emits e x) (Sends d ∷ more) h g on = on x more h.1 g.1
+step_both s A B C rest (Emits e x) (Bears child ∷ more) h g on = absurd h
+step_both s A B C rest Over ds h g on = absurd h
 
 -- a part leads on to where the whole leads, by the rest of the steps, which do the rest of the deeds
 pub replays_split : (n m : ℕ) (s t u : ProcState) (ds rest : List Deed) → Replays n s ds t → Replays (n + m) s (ds ++ rest) u → Replays m t rest u
@@ -152,7 +153,16 @@ replays_split zero m s t u ds rest first all =
 replays_split (suc n) m s t u ds rest first all =
     let same : suc n + m ≡ suc (n + m) = omega arith in
     let whole : Replays (suc (n + m)) s (ds ++ rest) u = subst (λ k. Replays k s (ds ++ rest) u) same all in
-    step_split n m s t u rest (next_step s) ds first whole (λ x r h g. replays_split n m x t u r rest h g)
+    step_both s (λ x r. Replays n x r t) (λ x r. Replays (n + m) x r u) (Replays m t rest u) rest (next_step s) ds first whole (λ x r h g. replays_split n m x t u r rest h g)
+
+-- the same up to the last deed
+pub sharp_split : (n m : ℕ) (s t u : ProcState) (ds rest : List Deed) → Replays n s ds t → Sharp (n + m) s (ds ++ rest) u → Sharp m t rest u
+sharp_split zero m s t u ds rest first all =
+    subst (λ x. Sharp m x rest u) (sym first.1) (subst (λ xs. Sharp m s (xs ++ rest) u) first.0 (subst (λ k. Sharp k s (ds ++ rest) u) (zero-add m) all))
+sharp_split (suc n) m s t u ds rest first all =
+    let same : suc n + m ≡ suc (n + m) = omega arith in
+    let whole : Sharp (suc (n + m)) s (ds ++ rest) u = subst (λ k. Sharp k s (ds ++ rest) u) same all in
+    step_both s (λ x r. Replays n x r t) (λ x r. Sharp (n + m) x r u) (Sharp m t rest u) rest (next_step s) ds first whole.1 (λ x r h g. sharp_split n m x t u r rest h g)
 
 -- the steps that were made beyond the whole are silent, and nothing is left
 pub record Beyond (k : ℕ) (u : ProcState) (rest : List Deed) (t : ProcState) : Type 0 where
@@ -162,18 +172,6 @@ pub record Beyond (k : ℕ) (u : ProcState) (rest : List Deed) (t : ProcState) :
 both_none : (xs ys : List Deed) → xs ++ ys ≡ [] → (xs ≡ []) × (ys ≡ [])
 both_none [] ys e = (refl, e)
 both_none (x ∷ xs) ys e = absurd (cons_none x (xs ++ ys) e)
-
-step_beyond : (n k : ℕ) (s t u : ProcState) (rest : List Deed) (next : Next) (ds : List Deed) → ReplaysBy s (λ x r. Replays (n + k) x r t) next ds → ReplaysBy s (λ x r. Replays n x r u) next (ds ++ rest)
-    → ((x : ProcState) (r : List Deed) → Replays (n + k) x r t → Replays n x (r ++ rest) u → Beyond k u rest t) → Beyond k u rest t
-step_beyond n k s t u rest (Silent x) ds h g on = on x ds h g
-step_beyond n k s t u rest Blocked ds h g on = absurd h
-step_beyond n k s t u rest Forks [] h g on = absurd h
-step_beyond n k s t u rest Forks (Sends e ∷ more) h g on = absurd h
-step_beyond n k s t u rest Forks (Bears child ∷ more) h g on = on (fork_parent s child) more h g
-step_beyond n k s t u rest (Emits e x) [] h g on = absurd h
-step_beyond n k s t u rest (Emits e x) (Sends d ∷ more) h g on = on x more h.1 g.1
-step_beyond n k s t u rest (Emits e x) (Bears child ∷ more) h g on = absurd h
-step_beyond n k s t u rest Over ds h g on = absurd h
 
 pub replays_beyond : (n k : ℕ) (s t u : ProcState) (ds rest : List Deed) → Replays (n + k) s ds t → Replays n s (ds ++ rest) u → Beyond k u rest t
 replays_beyond zero k s t u ds rest made all =
@@ -185,4 +183,4 @@ replays_beyond zero k s t u ds rest made all =
 replays_beyond (suc n) k s t u ds rest made all =
     let same : suc n + k ≡ suc (n + k) = omega arith in
     let longer : Replays (suc (n + k)) s ds t = subst (λ m. Replays m s ds t) same made in
-    step_beyond n k s t u rest (next_step s) ds longer all (λ x r h g. replays_beyond n k x t u r rest h g)
+    step_both s (λ x r. Replays (n + k) x r t) (λ x r. Replays n x r u) (Beyond k u rest t) rest (next_step s) ds longer all (λ x r h g. replays_beyond n k x t u r rest h g)

@@ -9,38 +9,36 @@ use Rattle.bus_msg.specs.declared.entry.Entry.{Entry}
 use Rattle.roll_forward.specs.Deeds.{Deed, letters_in, births_in}
 use Rattle.roll_forward.specs.RunsOut.{RunsOut, nothing_left}
 use Rattle.roll_forward.specs.Rolling.{CanRoll}
+use Rattle.cert_sched.specs.Schedule.{done_after}
 use Rattle.cert_sched.specs.Deeds.{since}
 use Rattle.cert_sched.specs.Rolling.{refilled, RollsAs}
 use Rattle.cert_sched.proofs.ReplayLaws.{Replays, replays_counts}
 use Rattle.cert_sched.proofs.RunsOutLaws.{replays_run_out}
+use Rattle.recovery_laws.specs.Behind.{RunsAhead}
 use Rattle.recovery_laws.proofs.Replaying.{Part, Rolling, rolling_of}
 use Rattle.recovery_laws.proofs.Reaching.{Led, Reach, on_way, beyond, reach, fine_left, same_part}
 
--- so many steps are ahead, which the process in the kernel has more
-pub record RunsAhead (s : ProcState) (counts : Counts) (births : List Pid) (now : ProcState) : Type 0 where
-  pub ahead : ℕ
-  pub runs_out : RunsOut s counts births ahead
-  pub within : ahead ≤ (now.small).steps - (s.small).steps
-
-pub runs_ahead : (system : System) (log : List Entry) (p : Pid) (now s : ProcState) (counts : Counts) (births : List Pid) → Led system log p now → RollsAs system log p s counts births → RunsAhead s counts births now
+pub runs_ahead : (system : System) (log : List Entry) (p : Pid) (now s : ProcState) (counts : Counts) (births : List Pid) → Led system log p now → RollsAs system log p s counts births → RunsAhead system log p s counts births
 runs_ahead system log p now s counts births led rolls =
     let r = rolling_of system log p s counts births rolls in
     let part = same_part system log p now s counts births led r in
     let runs = by_reach r.rest part (reach (refilled log p led.start) (since log p) s r.rest led.made now part led.replays) in
-    subst (λ c. RunsAhead s c births now) (sym r.counts_left) (subst (λ b. RunsAhead s (counts_of (letters_in r.rest)) b now) (sym r.births_left) runs)
+    subst (λ c. RunsAhead system log p s c births) (sym r.counts_left) (subst (λ b. RunsAhead system log p s (counts_of (letters_in r.rest)) b) (sym r.births_left) runs)
   where
-    by_reach : (rest : List Deed) (part : Part (refilled log p led.start) (since log p) s rest) → Reach part.steps led.made s rest now → RunsAhead s (counts_of (letters_in rest)) (births_in rest) now
+    by_reach : (rest : List Deed) (part : Part (refilled log p led.start) (since log p) s rest) → Reach part.steps led.made s rest now → RunsAhead system log p s (counts_of (letters_in rest)) (births_in rest)
     by_reach rest part (on_way m sum on) =
         let out = replays_run_out m s now rest (fine_left (refilled log p led.start) (since log p) s rest part led.fine) on in
         let steps = (replays_counts m s now rest on).steps in
         let count = out.count in
-        record { ahead = out.ahead; runs_out = out.runs_out; within = omega (arith, steps, count) }
+        let done = led.count in
+        record { ahead = out.ahead; runs_out = out.runs_out; within = omega (arith, steps, count, done) }
     by_reach rest part (beyond k sum none silent) =
         record { ahead = 0; runs_out = ap (λ ds. nothing_left (counts_of (letters_in ds)) (births_in ds)) none; within = omega arith }
 
--- so it can roll
+-- so it can roll, where the steps of the process in the kernel are fewer than 2 ^ 64
 pub can_roll : (system : System) (log : List Entry) (p : Pid) (now s : ProcState) (counts : Counts) (births : List Pid) → Led system log p now → (now.small).steps < 2 ^ 64 → RollsAs system log p s counts births → CanRoll s counts births
 can_roll system log p now s counts births led fits rolls =
     let r = runs_ahead system log p now s counts births led rolls in
     let within = r.within in
-    record { ahead = r.ahead; fits = omega (arith, within, fits); runs_out = r.runs_out }
+    let done = led.count in
+    record { ahead = r.ahead; fits = omega (arith, within, fits, done); runs_out = r.runs_out }

@@ -1,0 +1,248 @@
+-- In a log of letters, exits and losses the last step of a process in the kernel is its last deed: no silent step lies behind it.
+use Rattle.std.proofs.Common.{◌≡◌, ℕ, zero, suc, ◌+◌, ◌-◌, refl, sym, ◌∙◌, ap, subst, List, [], ◌∷◌, ◌++◌, append-nil, Bool, true, false, cond, eq-eqb, Option, Some, None, true≢false}
+use Rattle.std.specs.Prelude.{option_and_then, option_map}
+use Rattle.t32_base.specs.declared.process.Pid.{Pid}
+use Rattle.t32_base.specs.declared.process.ClusterNo.{ClusterNo}
+use Rattle.t32_base.specs.declared.process.End.{End}
+use Rattle.t32_base.specs.declared.letter.Letter.{Letter}
+use Rattle.sys_text.specs.declared.system.System.{System}
+use Rattle.sys_text.specs.Valid.{is_system}
+use Rattle.proc_state.specs.State.{ProcState, has_ended}
+use Rattle.sys_calls.specs.declared.steps.Emission.{Emission}
+use Rattle.sys_calls.specs.declared.steps.Emission.TheVariants.{Mail as Sent, Exit as Ended}
+use Rattle.sys_calls.proofs.Counting.{last_sent, exit_ends}
+use Rattle.sys_calls.proofs.RunLemma.{all_delivered}
+use Rattle.plain_kernel.specs.Kernel.{process_at}
+use Rattle.plain_kernel.proofs.Entries.{some_same}
+use Rattle.bus_msg.specs.declared.entry.What.{What}
+use Rattle.bus_msg.specs.declared.entry.What.TheVariants.{Mail, Birth, Exit, Page, Sync, Fetch, PageIs, Crash, Return, Rebackup, Done, Stop}
+use Rattle.bus_msg.specs.declared.entry.Cause.{Cause}
+use Rattle.bus_msg.specs.declared.entry.Entry.{Entry}
+use Rattle.bus_msg.specs.Places.{same_pid}
+use Rattle.bus_msg.specs.PlacedAfter.{what}
+use Rattle.roll_forward.specs.Deeds.{Deed, Sends}
+use Rattle.cert_sched.specs.Schedule.{done, plain_after, process_after, placement}
+use Rattle.cert_sched.specs.Deeds.{start_of, since, deeds_in, letter_for, saved_letters, arrived_count}
+use Rattle.cert_sched.specs.Steps.{emission_at}
+use Rattle.cert_sched.specs.Kinds.{KindHolds}
+use Rattle.cert_sched.specs.Rules.{is_over, ends_run}
+use Rattle.cert_sched.specs.Rolling.{refilled}
+use Rattle.cert_sched.specs.Legal.{IsLegalBy}
+use Rattle.cert_sched.specs.Simulation.{IsUnended}
+use Rattle.cert_sched.proofs.LogLaws.{IsLegal-snoc}
+use Rattle.cert_sched.proofs.RecordLaws.{since-snoc}
+use Rattle.cert_sched.proofs.Induction.{legal_induction, is_over-snoc}
+use Rattle.cert_sched.proofs.StepLaws.{is_sent, sent_from}
+use Rattle.cert_sched.proofs.MailLaws.{IsPlainRule, is_plain, sender_goes_on, received, received-ended, process_after-sender, process_after-receiver, lost, boot_arrived}
+use Rattle.cert_sched.proofs.EndedLaws.{letter_told}
+use Rattle.cert_sched.proofs.ReplayLaws.{Sharp, sharp_replays, sharp_on, sharp_last, sharp_all_delivered}
+use Rattle.cert_sched.proofs.CameLaws.{received-all, same_of, apart_from}
+use Rattle.cert_sched.proofs.OpenLaws.{unended_open}
+use Rattle.cert_sched.proofs.RollLaws.{refilled_more}
+use Rattle.recovery_laws.proofs.Entries.{CountsLetters, plain_counts, plain_starts_none, quiet_of, same_start}
+
+-- ---- what an entry makes of a process
+
+-- The process did the deeds of the entry by some steps, of which the last does the last deed, and then the letters of the entry arrived.
+record Did (system : System) (log : List Entry) (w : What) (p : Pid) (now : ProcState) : Type 0 where
+  pub was : ProcState
+  pub there : process_after system log p ≡ Some was
+  pub open_still : has_ended (was.small).status ≡ false
+  pub made : ℕ
+  pub to : ProcState
+  pub sharp : Sharp made was (deeds_in p w) to
+  pub arrives : now ≡ all_delivered to (letter_for p w)
+
+module _ (system : System) (log : List Entry) (e : Entry) where
+  abbrev Here : What → Pid → Type 0
+  Here w p = (now : ProcState) → process_after system (log ++ e ∷ []) p ≡ Some now → has_ended (now.small).status ≡ false → Did system log w p now
+
+  mail_did : (at : ℕ) (letter : Letter) → what e ≡ Mail at letter → KindHolds system log e (Mail at letter) → (p : Pid) → Here (Mail at letter) p
+  mail_did at letter is kind p = by_pid (same_pid letter.from p) refl
+    where
+      sent : Here (Mail at letter) letter.from
+      sent now there goes_on =
+          let s = is_sent system log letter.from at (Sent letter) kind in
+          let f = sent_from system log letter.from at (Sent letter) s.after s.is in
+          record {
+            was = f.was;
+            there = ap (option_and_then (λ k. process_at k letter.from)) f.before ∙ f.there;
+            open_still = sender_goes_on (at - done f.kernel letter.from) f.was (Sent letter) s.after f.sends;
+            made = at - done f.kernel letter.from;
+            to = s.after;
+            sharp = subst (λ ds. Sharp (at - done f.kernel letter.from) f.was ds s.after) (sym (ap (λ (b : Bool). cond b (Sends (Sent letter) ∷ []) []) (eq-eqb (letter.from).0 (letter.from).0 refl)))
+                (sharp_last (at - done f.kernel letter.from) f.was s.after (Sent letter) f.sends);
+            arrives = some_same now (received (Sent letter) letter.from s.after) (sym there ∙ process_after-sender system log e letter.from at (Sent letter) s.after s.is (refl, is))
+                ∙ received-all letter letter.from s.after (letter_told system log letter.from at letter s.after s.is);
+          }
+
+      other : same_pid letter.from p ≡ false → Here (Mail at letter) p
+      other apart now there goes_on =
+          let s = is_sent system log letter.from at (Sent letter) kind in
+          by_process (process_after system log p) refl (sym (process_after-receiver system log e letter.from at (Sent letter) s.after p s.is (refl, is) (apart_from letter.from p apart)) ∙ there)
+        where
+          by_status : (was : ProcState) → received (Sent letter) p was ≡ now → (b : Bool) → has_ended (was.small).status ≡ b → b ≡ false
+          by_status was same true ended = sym (sym (ap (λ (s : ProcState). has_ended (s.small).status) (sym (received-ended (Sent letter) p was ended) ∙ same)) ∙ ended) ∙ goes_on
+          by_status was same false open_still = refl
+
+          by_process : (o : Option ProcState) → process_after system log p ≡ o → option_map (received (Sent letter) p) o ≡ Some now → Did system log (Mail at letter) p now
+          by_process None here same = cc
+          by_process (Some was) here same =
+              let to : received (Sent letter) p was ≡ now = some_same (received (Sent letter) p was) now same in
+              let open_still : has_ended (was.small).status ≡ false = by_status was to (has_ended (was.small).status) refl in
+              record {
+                was = was;
+                there = here;
+                open_still = open_still;
+                made = 0;
+                to = was;
+                sharp = (ap (λ b. cond b (Sends (Sent letter) ∷ []) []) apart, refl);
+                arrives = sym to ∙ received-all letter p was open_still;
+              }
+
+      by_pid : (b : Bool) → same_pid letter.from p ≡ b → Here (Mail at letter) p
+      by_pid true same = subst (Here (Mail at letter)) (same_of letter.from p same) sent
+      by_pid false apart = other apart
+
+  exit_did : (q : Pid) (at : ℕ) (end : End) → what e ≡ Exit q at end → KindHolds system log e (Exit q at end) → (p : Pid) → Here (Exit q at end) p
+  exit_did q at end is kind p = by_pid (same_pid q p) refl
+    where
+      sent : Here (Exit q at end) q
+      sent now there goes_on =
+          let s = is_sent system log q at (Ended end) kind.0 in
+          let f = sent_from system log q at (Ended end) s.after s.is in
+          let l = last_sent (at - done f.kernel q) f.was (Ended end) s.after f.sends in
+          let same : s.after ≡ now = some_same s.after now (sym (process_after-sender system log e q at (Ended end) s.after s.is is) ∙ there) in
+          absurd (true≢false (sym (exit_ends l.before s.after end l.last) ∙ ap (λ (x : ProcState). has_ended (x.small).status) same ∙ goes_on))
+
+      other : same_pid q p ≡ false → Here (Exit q at end) p
+      other apart now there goes_on =
+          let s = is_sent system log q at (Ended end) kind.0 in
+          by_process (process_after system log p) refl (sym (process_after-receiver system log e q at (Ended end) s.after p s.is is (apart_from q p apart)) ∙ there)
+        where
+          by_process : (o : Option ProcState) → process_after system log p ≡ o → option_map (received (Ended end) p) o ≡ Some now → Did system log (Exit q at end) p now
+          by_process None here same = cc
+          by_process (Some was) here same =
+              let to : was ≡ now = some_same was now same in
+              record {
+                was = was;
+                there = here;
+                open_still = ap (λ (x : ProcState). has_ended (x.small).status) to ∙ goes_on;
+                made = 0;
+                to = was;
+                sharp = (ap (λ b. cond b (Sends (Ended end) ∷ []) []) apart, refl);
+                arrives = sym to;
+              }
+
+      by_pid : (b : Bool) → same_pid q p ≡ b → Here (Exit q at end) p
+      by_pid true same =
+          let pid : q ≡ p = same_of q p same in
+          subst (Here (Exit q at end)) pid sent
+      by_pid false apart = other apart
+
+  crash_did : (k : ClusterNo) (cause : Cause) → what e ≡ Crash k cause → (p : Pid) → Here (Crash k cause) p
+  crash_did k cause is p now there goes_on = record {
+    was = now;
+    there = sym (ap (option_and_then (λ n. process_at n p)) (lost system log e k cause is)) ∙ there;
+    open_still = goes_on;
+    made = 0;
+    to = now;
+    sharp = (refl, refl);
+    arrives = refl;
+  }
+
+  did : (w : What) → what e ≡ w → is_plain w ≡ true → KindHolds system log e w → ends_run (placement system log) w ≡ false → (p : Pid) → Here w p
+  did (Mail at letter) is plain kind goes_on p = mail_did at letter is kind p
+  did (Birth parent at child end) is plain kind goes_on p = absurd (true≢false (sym plain))
+  did (Exit q at end) is plain kind goes_on p = exit_did q at end is kind p
+  did (Page q at index bytes) is plain kind goes_on p = absurd (true≢false (sym plain))
+  did (Sync q small read took) is plain kind goes_on p = absurd (true≢false (sym plain))
+  did (Fetch q index) is plain kind goes_on p = absurd (true≢false (sym plain))
+  did (PageIs q index bytes) is plain kind goes_on p = absurd (true≢false (sym plain))
+  did (Crash k cause) is plain kind goes_on p = crash_did k cause is p
+  did (Return k) is plain kind goes_on p = absurd (true≢false (sym plain))
+  did (Rebackup to fresh recs) is plain kind goes_on p = absurd (true≢false (sym plain))
+  did (Done rests) is plain kind goes_on p = absurd (true≢false goes_on)
+  did Stop is plain kind goes_on p = absurd (true≢false goes_on)
+
+-- ---- the invariant
+
+-- From its start, with the saved letters, so many steps do what it did since, the last of them the last deed, and lead to where it is.
+pub record IsExact (system : System) (log : List Entry) (p : Pid) (now : ProcState) : Type 0 where
+  pub start : ProcState
+  pub started : start_of system log p ≡ Some start
+  pub made : ℕ
+  pub sharp : Sharp made (refilled log p start) (since log p) now
+
+-- steps up to a last deed, and then some up to another
+record Joined (s : ProcState) (ds : List Deed) (t : ProcState) : Type 0 where
+  pub made : ℕ
+  pub sharp : Sharp made s ds t
+
+joined : (n m : ℕ) (s t u : ProcState) (ds es : List Deed) → Sharp n s ds t → Sharp m t es u → Joined s (ds ++ es) u
+joined n zero s t u ds es first rest =
+    let none : ds ≡ ds ++ es = sym (append-nil ds) ∙ ap (λ xs. ds ++ xs) (sym rest.0) in
+    record { made = n; sharp = subst (λ xs. Sharp n s xs u) none (subst (λ x. Sharp n s ds x) (sym rest.1) first) }
+joined n (suc m) s t u ds [] first rest = absurd rest.0
+joined n (suc m) s t u ds (d ∷ es) first rest = record { made = n + suc m; sharp = sharp_on n (suc m) s t u ds d es (sharp_replays n s t ds first) rest }
+
+exact_more : (system : System) (log : List Entry) (e : Entry) (p : Pid) (now : ProcState) → is_plain (what e) ≡ true → CountsLetters system log p → (d : Did system log (what e) p now) → IsExact system log p d.was → IsExact system (log ++ e ∷ []) p now
+exact_more system log e p now plain letters d x =
+    let none = plain_starts_none p (what e) plain in
+    let quiet = quiet_of system log e p none.0 none.1 in
+    let came = letter_for p (what e) in
+    let both = joined x.made d.made (refilled log p x.start) d.was d.to (since log p) (deeds_in p (what e)) x.sharp d.sharp in
+    let deeds : since log p ++ deeds_in p (what e) ≡ since (log ++ e ∷ []) p = sym (since-snoc log e p ∙ ap (λ b. cond b [] (since log p ++ deeds_in p (what e))) quiet) in
+    let more : all_delivered (refilled log p x.start) came ≡ refilled (log ++ e ∷ []) p x.start = refilled_more system log e p x.start quiet none.1 (letters x.start x.started) in
+    record {
+      start = x.start;
+      started = same_start system log e p quiet ∙ x.started;
+      made = both.made;
+      sharp =
+          subst (λ s. Sharp both.made s (since (log ++ e ∷ []) p) now) more
+          (subst (λ ds. Sharp both.made (all_delivered (refilled log p x.start) came) ds now) deeds
+          (subst (Sharp both.made (all_delivered (refilled log p x.start) came) (since log p ++ deeds_in p (what e))) (sym d.arrives)
+          (sharp_all_delivered both.made (refilled log p x.start) d.to (since log p ++ deeds_in p (what e)) came both.sharp)));
+    }
+
+-- ---- the whole
+
+AllExact : System → List Entry → Type 0
+AllExact system log = is_over system log ≡ false → (p : Pid) (now : ProcState) → process_after system log p ≡ Some now → has_ended (now.small).status ≡ false → IsExact system log p now
+
+record Both (May : System → List Entry → Entry → Type 0) (system : System) (log : List Entry) : Type 0 where
+  pub legal : IsLegalBy May system log
+  pub exact : AllExact system log
+
+exact_at_boot : (system : System) → AllExact system []
+unfolding plain_after AllExact
+exact_at_boot system goes_on p now there open_still =
+    let arrived : now.next ≡ 0 = boot_arrived system p now there in
+    record { start = now; started = there; made = 0; sharp = (refl, λ i. record now { mail = sym (append-nil now.mail) i; next = arrived i }) }
+
+none_legal : (May : System → List Entry → Entry → Type 0) (system : System) → IsLegalBy May system []
+unfolding IsLegalBy
+none_legal May system = tt
+
+both_more : (May : System → List Entry → Entry → Type 0) → IsPlainRule May → (system : System) (log : List Entry) (e : Entry) → Both May system log → May system log e → Both May system (log ++ e ∷ [])
+unfolding AllExact
+both_more May plain system log e both may =
+    let h = plain system log e may in
+    record {
+      legal = IsLegal-snoc May system log e both.legal may;
+      exact = λ goes_on p now there open_still.
+          let d = did system log e (what e) refl h.1 (h.0).kind (sym (is_over-snoc system log e) ∙ goes_on) p now there open_still in
+          exact_more system log e p now h.1 (plain_counts May plain system log p both.legal) d (both.exact ((h.0).placed).2 p d.was d.there d.open_still);
+    }
+
+-- In a legal log of letters, exits and losses that is not over, each process that has not ended is just where its last deed led it.
+pub exact_open : (May : System → List Entry → Entry → Type 0) → IsPlainRule May → (system : System) (log : List Entry) (p : Pid) (now : ProcState) → IsLegalBy May system log → is_over system log ≡ false
+    → process_after system log p ≡ Some now → has_ended (now.small).status ≡ false → IsExact system log p now
+unfolding AllExact
+exact_open May plain system log p now legal goes_on there open_still =
+    (legal_induction May system (Both May system) (record { legal = none_legal May system; exact = exact_at_boot system }) (λ log e both may. both_more May plain system log e both may) log legal).exact goes_on p now there open_still
+
+pub exact_unended : (May : System → List Entry → Entry → Type 0) → IsPlainRule May → (system : System) (log : List Entry) (p : Pid) (now : ProcState) → is_system system ≡ true → IsLegalBy May system log → is_over system log ≡ false
+    → IsUnended system log p → process_after system log p ≡ Some now → IsExact system log p now
+exact_unended May plain system log p now valid legal goes_on unended there =
+    exact_open May plain system log p now legal goes_on there (unended_open May (λ system log e may. (plain system log e may).0) system log p valid legal unended now there)
