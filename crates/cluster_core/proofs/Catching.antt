@@ -7,13 +7,17 @@ use Rattle.sys_text.specs.Valid.{is_system}
 use Rattle.proc_state.specs.declared.process.Process.{Process}
 use Rattle.proc_state.specs.State.{ProcState, state_of}
 use Rattle.bus_msg.specs.declared.entry.Entry.{Entry}
+use Rattle.roll_forward.specs.Advancing.{Going, rolled_on}
 use Rattle.roll_forward.specs.RunsOut.{RunsOut, nothing_left}
 use Rattle.cert_sched.specs.Built.{UnlostMayFollow}
-use Rattle.cert_sched.specs.Rolling.{RollsAs}
+use Rattle.cert_sched.specs.Legal.{IsLegalBy, Stands}
 use Rattle.cert_sched.specs.Schedule.{process_after}
 use Rattle.cert_sched.specs.Simulation.{IsUnended}
 use Rattle.cert_sched.proofs.MailLaws.{unlost_is_plain}
 use Rattle.cert_sched.proofs.ThereLaws.{unended_there}
+use Rattle.record_laws.proofs.Standing.{legal_stands}
+use Rattle.recovery_laws.specs.Behind.{RollsBehind}
+use Rattle.recovery_laws.proofs.ByRule.{standing_behind}
 use Rattle.recovery_laws.proofs.Reaching.{led_unended}
 use Rattle.recovery_laws.proofs.Stepping.{went_on}
 use Rattle.recovery_laws.proofs.CaughtUp.{caught_up}
@@ -39,6 +43,18 @@ module _ (system : System) (log : List Entry) (p : Pid) (valid : is_system syste
   kernel : InKernel system log p
   kernel = in_kernel system log p (unended_there UnlostMayFollow (λ system log e may. may.stands) system log p valid open_log.0 unended)
 
+  stands : IsLegalBy Stands system log
+  stands = legal_stands UnlostMayFollow (λ system log e may. may.stands) system log open_log.0
+
+  -- after all steps that were ahead nothing is left
+  none_left : (n : ℕ) (g h : Going) → RollsBehind system log p g.state g.counts g.births → RunsOut g.state g.counts g.births (n + 0) → rolled_on n g ≡ Some h → nothing_left h.counts h.births ≡ true
+  none_left n g h rolls out rolled =
+      let led = led_unended UnlostMayFollow (λ system log e may. may.stands) system log p kernel.now valid open_log.0 unended kernel.there in
+      let went = went_on system log p kernel.now led (n + 0) n g h rolls.rolls out (omega arith) rolled in
+      let sum = went.sum in
+      let none : went.left ≡ 0 = omega (arith, sum) in
+      subst (RunsOut h.state h.counts h.births) none went.runs_out
+
   -- after steps that are withheld one that rolls forward is held as the log says, whether it still rolls forward or runs
   pub rolled_held : (n : ℕ) (was between : Held) → IsHeldAs system log [] p was → RollsTo n was between → IsHeldAs system log [] p between
   rolled_held n (Runs s) (Runs q) held rolls = subst (λ (x : Process). IsHeldAs system log [] p (Runs x)) (sym rolls.1) held
@@ -46,18 +62,13 @@ module _ (system : System) (log : List Entry) (p : Pid) (valid : is_system syste
   rolled_held n (Runs s) (Waits kept) held rolls = absurd rolls
   rolled_held n (Rolls s counts births) (Rolls q left unborn) held rolls =
       let on = rolls.2 in
-      let led = led_unended UnlostMayFollow (λ system log e may. may.stands) system log p kernel.now valid open_log.0 unended kernel.there in
-      let went = went_on system log p kernel.now led (n + rolls.0) n (going s counts births) (going q left unborn) held.1 on.runs_out (omega arith) on.rolled in
-      (refl, went.rolls)
+      (refl, standing_behind system log p (n + rolls.0) n (going s counts births) (going q left unborn) valid stands unended held.1 on.runs_out (omega arith) on.rolled)
   rolled_held n (Rolls s counts births) (Runs q) held rolls =
       let left = rolls.0 in
       let unborn = rolls.1 in
       let on = rolls.2 in
-      let led = led_unended UnlostMayFollow (λ system log e may. may.stands) system log p kernel.now valid open_log.0 unended kernel.there in
-      let went = went_on system log p kernel.now led (n + 0) n (going s counts births) (going q left unborn) held.1 on.runs_out (omega arith) on.rolled in
-      let sum = went.sum in
-      let none : went.left ≡ 0 = omega (arith, sum) in
-      let out : RunsOut (state_of q) left unborn 0 = subst (RunsOut (state_of q) left unborn) none went.runs_out in
-      at_once system log p (state_of q) (caught_up UnlostMayFollow unlost_is_plain system log p (state_of q) left unborn valid open_log.0 open_log.1 unended went.rolls out)
+      let behind = standing_behind system log p (n + 0) n (going s counts births) (going q left unborn) valid stands unended held.1 on.runs_out (omega arith) on.rolled in
+      let none = none_left n (going s counts births) (going q left unborn) held.1 on.runs_out on.rolled in
+      at_once system log p (state_of q) (caught_up UnlostMayFollow unlost_is_plain system log p (state_of q) left unborn valid open_log.0 open_log.1 unended behind none)
   rolled_held n (Rolls s counts births) (Waits kept) held rolls = absurd rolls
   rolled_held n (Waits kept) between held rolls = absurd rolls
