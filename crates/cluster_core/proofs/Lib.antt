@@ -17,4 +17,5 @@ pub mod Lightening
 pub mod WorkedViews
 pub mod Arriving
 mod Noting
+mod FirstRecords
 pub mod ByKind

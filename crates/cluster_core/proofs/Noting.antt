@@ -1,5 +1,5 @@
--- An entry that does not go to a cluster leaves its records as they are.
-use Rattle.std.proofs.Common.{◌≡◌, ℕ, zero, suc, ◌+◌, ◌≤◌, ◌<◌, refl, sym, ◌∙◌, ap, arith, List, [], ◌∷◌, ◌++◌, length, map, Bool, true, false, cond, not, ◌||◌, eqb, eqb-true, eq-eqb, Option, Some, None, is_some, slice_get, true≢false, inl, inr}
+-- The entry for which a cluster is ready may be noted in its records, and leaves them as they are where it does not go to the cluster.
+use Rattle.std.proofs.Common.{◌≡◌, ℕ, zero, suc, ◌+◌, ◌≤◌, ◌<◌, refl, sym, ◌∙◌, ap, arith, List, [], ◌∷◌, ◌++◌, length, map, Bool, true, false, cond, not, ◌||◌, eqb, eqb-true, eq-eqb, Option, Some, None, is_some, slice_get, true≢false, inl, inr, ◌-◌, subst}
 use Rattle.std.specs.Prelude.{◌^◌, bit_or, find, filter}
 use Rattle.std.specs.Option.{option_map_or}
 use Rattle.std.specs.Int.{bit_at}
@@ -13,6 +13,7 @@ use Rattle.t32_base.specs.declared.letter.BackRec.{BackRec}
 use Rattle.t32_base.specs.declared.letter.To.{To}
 use Rattle.t32_base.specs.declared.letter.To.TheVariants.{Proc, Tty}
 use Rattle.sys_text.specs.declared.system.System.{System}
+use Rattle.sys_text.specs.Valid.{is_system}
 use Rattle.bus_msg.specs.declared.entry.What.{What}
 use Rattle.bus_msg.specs.declared.entry.What.TheVariants.{Mail, Exit}
 use Rattle.bus_msg.specs.declared.entry.Entry.{Entry}
@@ -23,11 +24,17 @@ use Rattle.bus_msg.specs.Route.{backup_of, home_of, bits_of, letter_dests, route
 use Rattle.cert_sched.specs.Built.{is_unlost}
 use Rattle.cert_sched.specs.Schedule.{placement}
 use Rattle.cert_sched.specs.Record.{backup_record}
-use Rattle.backup_records.specs.Records.{record_in, record_after, records_after, is_receiver, saved_by_receiver, with_saved, with_counted}
+use Rattle.backup_records.specs.Records.{CanNote, record_in, record_after, records_after, is_receiver, saved_by_receiver, with_saved, with_counted}
 use Rattle.record_laws.specs.Kept.{KeepsRecords, has_backup_in}
+use Rattle.record_laws.proofs.BuiltLaws.{built_can_note}
+use Rattle.cert_sched.proofs.UnlostLaws.{legal_unlost}
+use Rattle.cluster_core.specs.View.{ClusterView}
+use Rattle.cluster_core.specs.Calls.{IsReady, ReadyFor}
 use Rattle.cluster_core.specs.Absorbing.{IsNotedHere, goes_to}
 use Rattle.cluster_core.proofs.Here.{pid_same, same_itself}
 use Rattle.cluster_core.proofs.ByKind.{by_kind}
+use Rattle.cluster_core.proofs.Following.{Next, left_of, next_of}
+use Rattle.cluster_core.proofs.Working.{lives_built}
 
 -- ---- the clusters that an entry goes to
 
@@ -172,3 +179,33 @@ noted_here system log e k recs routed unlost lives keeps elsewhere =
     (λ at letter away. letter_left system log k recs at letter lives keeps away)
     (λ pid at end away. absurd (true≢false (sym (named_goes (placement system log) k (all_clusters (placement system log)) lives (all_named (placement system log) k lives)) ∙ away)))
     (λ rests away. refl) (λ away. refl) (what e) unlost (ap (λ dests. goes_to dests k) (sym routed) ∙ elsewhere)
+
+-- ---- the entry for which a cluster is ready
+
+-- what a cluster that is ready for the next entry of a log holds of it
+record Kept (c : ClusterView) (log : List Entry) : Type 0 where
+  pub cursor : c.cursor ≡ length log
+  pub records : KeepsRecords c.system log c.number c.records
+
+kept_of : (c : ClusterView) (log : List Entry) (e : Entry) (n : Next c.system log e) → IsReady log e c → Kept c log
+kept_of c log e n (inl f) = record { cursor = ((f.0).log).cursor; records = (f.0).records }
+kept_of c log e n (inr s) =
+    let l = left_of c log e (n.may).built s.1 s.0 in
+    let number : (l.before).number ≡ c.number = sym (ap (λ (d : ClusterView). d.number) l.same) in
+    record {
+      cursor = ap (λ (d : ClusterView). d.cursor) l.same ∙ ((l.followed).log).cursor;
+      records = subst (λ recs. KeepsRecords c.system log c.number recs) (sym (ap (λ (d : ClusterView). d.records) l.same)) (subst (λ k. KeepsRecords c.system log k (l.before).records) number (l.followed).records);
+    }
+
+-- the entry may be noted
+pub can_note_next : (c : ClusterView) (e : Entry) → is_system c.system ≡ true → ReadyFor e c → c.cursor < 2 ^ 64 - 1 → CanNote (what e) c.records
+can_note_next c e valid r room =
+    let n = next_of c.system r.log e r.open_log r.open_next in
+    let kept = kept_of c r.log e n r.ready in
+    built_can_note c.system r.log e c.number c.records valid (legal_unlost c.system (r.log ++ e ∷ []) n.more) (subst (λ m. m < 2 ^ 64 - 1) kept.cursor room) kept.records
+
+-- and where it does not go to the cluster, it leaves the records as they are
+pub noted_next : (c : ClusterView) (e : Entry) → (c.number).0 < (c.system).clusters → ReadyFor e c → IsNotedHere c.number e c.records
+noted_next c e has r =
+    let n = next_of c.system r.log e r.open_log r.open_next in
+    noted_here c.system r.log e c.number c.records ((((n.may).stands).placed).1) (n.may).built (lives_built c.system r.log c.number n.legal has) (kept_of c r.log e n r.ready).records
