@@ -29,9 +29,13 @@ KeepsRecords system log k recs = (p : Pid) → record_in recs p ≡ (if has_back
 abbrev pub record_at_boot : Pid × ProcState → BackRec
 record_at_boot e = record { pid = e.0; state = Some (e.1).small; saved = []; next = 0; counts = no_counts; births = [] }
 
--- the records of a cluster at boot: those of the processes whose backup is there, by rising pid
+-- those of these processes whose backup is in the cluster
+abbrev pub boot_records_of : System → ClusterNo → List (Pid × ProcState) → List BackRec
+boot_records_of system k processes = map record_at_boot (filter (λ (e : Pid × ProcState). has_backup_in system [] k e.0) processes)
+
+-- the records of a cluster at boot, by rising pid
 abbrev pub records_at_boot : System → ClusterNo → List BackRec
-records_at_boot system k = map record_at_boot (filter (λ (e : Pid × ProcState). has_backup_in system [] k e.0) (boot system).processes)
+records_at_boot system k = boot_records_of system k (boot system).processes
 
 -- the kinds that start no process, again or anew: all but births, synchronisations and new backups
 abbrev pub starts_none : What → Bool
