@@ -1,5 +1,5 @@
 -- The records of the processes of a kernel at its start, one after another.
-use Rattle.std.proofs.Common.{◌≡◌, ℕ, refl, sym, ◌∙◌, ap, arith, List, [], ◌∷◌, ◌++◌, map, Bool, true, false, cond, eqb, eqb-true, eq-eqb, ltb, Option, Some, None, true≢false}
+use Rattle.std.proofs.Common.{◌≡◌, ℕ, refl, sym, ◌∙◌, ap, arith, List, [], ◌∷◌, ◌++◌, map, Bool, true, false, cond, eqb, eqb-true, eq-eqb, ltb, Option, Some, None, true≢false, Bor}
 use Rattle.std.specs.Prelude.{option_map}
 use Rattle.std.specs.FinMap as finmap
 use Rattle.std.specs.Map.{lookup}
@@ -31,6 +31,14 @@ use Rattle.cluster_core.specs.Booting.{AreFirstRecords}
 use Rattle.cluster_core.proofs.Booted.{boot_has}
 use Rattle.cluster_core.proofs.Here.{pid_same}
 use Rattle.cluster_core.proofs.Slots.{at_key_is}
+
+-- the entries of a map that were seen
+abbrev pub seen : List (Bor ℕ × Bor Process) → List (ℕ × Process)
+seen es = map (λ (e : Bor ℕ × Bor Process). ((e.0).now, (e.1).now)) es
+
+pub seen_last : (es : List (Bor ℕ × Bor Process)) (e : Bor ℕ × Bor Process) → seen (es ++ e ∷ []) ≡ seen es ++ ((e.0).now, (e.1).now) ∷ []
+seen_last [] e = refl
+seen_last (d ∷ es) e = ap (λ ds. ((d.0).now, (d.1).now) ∷ ds) (seen_last es e)
 
 -- ---- one record more
 

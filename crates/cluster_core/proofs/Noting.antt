@@ -6,6 +6,8 @@ use Rattle.std.specs.Int.{bit_at}
 use Rattle.std.specs.List.{list_any, range_with_len}
 use Rattle.std.proofs.lemmas.Nat.Bits.{bit_at-lt, bit_at-pow_same, bit_at_or}
 use Rattle.std.proofs.lemmas.List.Folds.{list_any-append}
+use Rattle.std.proofs.lemmas.Option.{slice_get_within}
+use Rattle.std.proofs.lemmas.Bool.Decides.{nat_tests}
 use Rattle.t32_base.specs.declared.process.Pid.{Pid}
 use Rattle.t32_base.specs.declared.process.ClusterNo.{ClusterNo}
 use Rattle.t32_base.specs.declared.letter.Letter.{Letter}
@@ -70,18 +72,21 @@ named_goes places k (j ∷ ks) lives any = by_test (same_cluster j k) refl any (
 
 in_range : (k : ClusterNo) (a len : ℕ) → a ≤ k.0 → k.0 < a + len → list_any (λ j. same_cluster j k) (map cluster_no (range_with_len a len)) ≡ true
 in_range k a zero low high = absurd (omega (arith, low, high))
-in_range k a (suc len) low high = by_test (eqb a k.0) refl
+in_range k a (suc len) low high = by_test (eqb a k.0) refl (λ later. in_range k (a + 1) len later (omega (arith, high)))
   where
-    by_test : (b : Bool) → eqb a k.0 ≡ b → (b || list_any (λ j. same_cluster j k) (map cluster_no (range_with_len (a + 1) len))) ≡ true
-    by_test true is = refl
-    by_test false is = in_range k (a + 1) len (grind (arith, low, is)) (omega (arith, high))
+    above : eqb a k.0 ≡ false → a + 1 ≤ k.0
+    above other = grind (arith, low, nat_tests)
+
+    by_test : (b : Bool) → eqb a k.0 ≡ b → (a + 1 ≤ k.0 → list_any (λ j. same_cluster j k) (map cluster_no (range_with_len (a + 1) len)) ≡ true) → (b || list_any (λ j. same_cluster j k) (map cluster_no (range_with_len (a + 1) len))) ≡ true
+    by_test true is more = refl
+    by_test false is more = more (above is)
 
 within : (places : Places) (k : ClusterNo) → lives_in places k ≡ true → k.0 < length places.clusters
 within places k lives = by_place (slice_get places.clusters k.0) refl lives
   where
     by_place : (o : Option ClusterPlace) → slice_get places.clusters k.0 ≡ o → option_map_or (λ (c : ClusterPlace). c.lives) o false ≡ true → k.0 < length places.clusters
     by_place None at h = absurd (true≢false (sym h))
-    by_place (Some c) at h = grind (at)
+    by_place (Some c) at h = slice_get_within places.clusters k.0 c at
 
 all_named : (places : Places) (k : ClusterNo) → lives_in places k ≡ true → list_any (λ j. same_cluster j k) (all_clusters places) ≡ true
 all_named places k lives = in_range k 0 (length places.clusters) (omega arith) (omega (arith, within places k lives))
@@ -111,19 +116,18 @@ receiver_goes : (places : Places) (k : ClusterNo) (from p : Pid) (to : To) → l
 receiver_goes places k from p (Proc q end) lives is named =
     let same : p ≡ q = sym (pid_same q p (eqb-true q.0 p.0 is)) in
     named_goes places k (home_of places q ++ backup_of places q ++ backup_of places from) lives
-    (list_any-append (λ j. same_cluster j k) (home_of places q) (backup_of places q ++ backup_of places from)
-    ∙ or_last (list_any (λ j. same_cluster j k) (home_of places q)) _
-        (list_any-append (λ j. same_cluster j k) (backup_of places q) (backup_of places from)
-        ∙ or_first (list_any (λ j. same_cluster j k) (backup_of places q)) _ (ap (λ r. list_any (λ j. same_cluster j k) (backup_of places r)) (sym same) ∙ named)))
+    (list_any-append (λ j. same_cluster j k) (home_of places q ++ backup_of places q) (backup_of places from)
+    ∙ or_first _ (list_any (λ j. same_cluster j k) (backup_of places from))
+        (list_any-append (λ j. same_cluster j k) (home_of places q) (backup_of places q)
+        ∙ or_last (list_any (λ j. same_cluster j k) (home_of places q)) _ (ap (λ r. list_any (λ j. same_cluster j k) (backup_of places r)) (sym same) ∙ named)))
 receiver_goes places k from p (Tty t) lives is named = absurd (true≢false (sym is))
 
 -- and to that of its sender
 sender_goes : (places : Places) (k : ClusterNo) (from : Pid) (to : To) → lives_in places k ≡ true → list_any (λ j. same_cluster j k) (backup_of places from) ≡ true → goes_to (letter_dests places from to) k ≡ true
 sender_goes places k from (Proc q end) lives named =
     named_goes places k (home_of places q ++ backup_of places q ++ backup_of places from) lives
-    (list_any-append (λ j. same_cluster j k) (home_of places q) (backup_of places q ++ backup_of places from)
-    ∙ or_last (list_any (λ j. same_cluster j k) (home_of places q)) _
-        (list_any-append (λ j. same_cluster j k) (backup_of places q) (backup_of places from) ∙ or_last (list_any (λ j. same_cluster j k) (backup_of places q)) _ named))
+    (list_any-append (λ j. same_cluster j k) (home_of places q ++ backup_of places q) (backup_of places from)
+    ∙ or_last (list_any (λ j. same_cluster j k) (home_of places q ++ backup_of places q)) _ named)
 sender_goes places k from (Tty t) lives named = named_goes places k (backup_of places from) lives named
 
 -- ---- the records that are left as they are

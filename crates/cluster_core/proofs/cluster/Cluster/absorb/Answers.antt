@@ -40,8 +40,8 @@ note-requires-clause-here c =
     let has = subst (λ (v : ClusterView). (v.number).0 < (v.system).clusters) c.self.view_is c.self.invariant.has in
     subst (λ (v : ClusterView). IsNotedHere v.number c.args.entry.now v.records) (sym c.self.view_is) (noted_next old c.args.entry.now has c.requires.ready)
 
-pub note-2-requires : goal.note-2-requires
-note-2-requires c = built_no_birth (what c.args.entry.now) (ready_built c.args.self.now c.args.entry.now c.requires.ready)
+pub note-requires-2 : goal.note-requires-2
+note-requires-2 c = built_no_birth (what c.args.entry.now) (ready_built c.args.self.now c.args.entry.now c.requires.ready)
 
 pub invariant_of-self-2 : goal.invariant_of-self-2
 invariant_of-self-2 c =
