@@ -43,7 +43,7 @@ use Rattle.cluster_core.proofs.Telling.{at_once}
 
 -- ---- the kernel at boot
 
-boot_has : (system : System) → (boot system).processes ≡ linked_processes system
+pub boot_has : (system : System) → (boot system).processes ≡ linked_processes system
 boot_has system = ap (λ (k : Kernel). k.processes) (sym (booted system (linked_processes system) (booted_ttys system.roots) refl refl))
 
 -- what is here at boot is a process of the kernel, which runs
@@ -165,7 +165,7 @@ boot_view system number here recs = record {
   failed = None;
 }
 
-placed_at_boot : (system : System) → places_at_boot system ≡ placement system []
+pub placed_at_boot : (system : System) → places_at_boot system ≡ placement system []
 unfolding placement
 placed_at_boot system = refl
 

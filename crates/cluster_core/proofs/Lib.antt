@@ -18,4 +18,5 @@ pub mod Lightening
 pub mod WorkedViews
 pub mod Arriving
 mod Noting
+mod FirstRecords
 pub mod ByKind

@@ -1,11 +1,13 @@
--- An entry that does not go to a cluster leaves its records as they are.
-use Rattle.std.proofs.Common.{◌≡◌, ℕ, zero, suc, ◌+◌, ◌≤◌, ◌<◌, refl, sym, ◌∙◌, ap, arith, List, [], ◌∷◌, ◌++◌, length, map, Bool, true, false, cond, not, ◌||◌, eqb, eqb-true, eq-eqb, Option, Some, None, is_some, slice_get, true≢false, inl, inr}
+-- The entry for which a cluster is ready may be noted in its records, and leaves them as they are where it does not go to the cluster.
+use Rattle.std.proofs.Common.{◌≡◌, ℕ, zero, suc, ◌+◌, ◌≤◌, ◌<◌, refl, sym, ◌∙◌, ap, arith, List, [], ◌∷◌, ◌++◌, length, map, Bool, true, false, cond, not, ◌||◌, eqb, eqb-true, eq-eqb, Option, Some, None, is_some, slice_get, true≢false, inl, inr, ◌-◌, subst}
 use Rattle.std.specs.Prelude.{◌^◌, bit_or, find, filter}
 use Rattle.std.specs.Option.{option_map_or}
 use Rattle.std.specs.Int.{bit_at}
 use Rattle.std.specs.List.{list_any, range_with_len}
 use Rattle.std.proofs.lemmas.Nat.Bits.{bit_at-lt, bit_at-pow_same, bit_at_or}
 use Rattle.std.proofs.lemmas.List.Folds.{list_any-append}
+use Rattle.std.proofs.lemmas.Option.{slice_get_within}
+use Rattle.std.proofs.lemmas.Bool.Decides.{nat_tests}
 use Rattle.t32_base.specs.declared.process.Pid.{Pid}
 use Rattle.t32_base.specs.declared.process.ClusterNo.{ClusterNo}
 use Rattle.t32_base.specs.declared.letter.Letter.{Letter}
@@ -13,6 +15,7 @@ use Rattle.t32_base.specs.declared.letter.BackRec.{BackRec}
 use Rattle.t32_base.specs.declared.letter.To.{To}
 use Rattle.t32_base.specs.declared.letter.To.TheVariants.{Proc, Tty}
 use Rattle.sys_text.specs.declared.system.System.{System}
+use Rattle.sys_text.specs.Valid.{is_system}
 use Rattle.bus_msg.specs.declared.entry.What.{What}
 use Rattle.bus_msg.specs.declared.entry.What.TheVariants.{Mail, Exit}
 use Rattle.bus_msg.specs.declared.entry.Entry.{Entry}
@@ -23,11 +26,17 @@ use Rattle.bus_msg.specs.Route.{backup_of, home_of, bits_of, letter_dests, route
 use Rattle.cert_sched.specs.Built.{is_unlost}
 use Rattle.cert_sched.specs.Schedule.{placement}
 use Rattle.cert_sched.specs.Record.{backup_record}
-use Rattle.backup_records.specs.Records.{record_in, record_after, records_after, is_receiver, saved_by_receiver, with_saved, with_counted}
+use Rattle.backup_records.specs.Records.{CanNote, record_in, record_after, records_after, is_receiver, saved_by_receiver, with_saved, with_counted}
 use Rattle.record_laws.specs.Kept.{KeepsRecords, has_backup_in}
+use Rattle.record_laws.proofs.BuiltLaws.{built_can_note}
+use Rattle.cert_sched.proofs.UnlostLaws.{legal_unlost}
+use Rattle.cluster_core.specs.View.{ClusterView}
+use Rattle.cluster_core.specs.Calls.{IsReady, ReadyFor}
 use Rattle.cluster_core.specs.Absorbing.{IsNotedHere, goes_to}
 use Rattle.cluster_core.proofs.Here.{pid_same, same_itself}
 use Rattle.cluster_core.proofs.ByKind.{by_kind}
+use Rattle.cluster_core.proofs.Following.{Next, left_of, next_of}
+use Rattle.cluster_core.proofs.Working.{lives_built}
 
 -- ---- the clusters that an entry goes to
 
@@ -63,18 +72,21 @@ named_goes places k (j ∷ ks) lives any = by_test (same_cluster j k) refl any (
 
 in_range : (k : ClusterNo) (a len : ℕ) → a ≤ k.0 → k.0 < a + len → list_any (λ j. same_cluster j k) (map cluster_no (range_with_len a len)) ≡ true
 in_range k a zero low high = absurd (omega (arith, low, high))
-in_range k a (suc len) low high = by_test (eqb a k.0) refl
+in_range k a (suc len) low high = by_test (eqb a k.0) refl (λ later. in_range k (a + 1) len later (omega (arith, high)))
   where
-    by_test : (b : Bool) → eqb a k.0 ≡ b → (b || list_any (λ j. same_cluster j k) (map cluster_no (range_with_len (a + 1) len))) ≡ true
-    by_test true is = refl
-    by_test false is = in_range k (a + 1) len (grind (arith, low, is)) (omega (arith, high))
+    above : eqb a k.0 ≡ false → a + 1 ≤ k.0
+    above other = grind (arith, low, nat_tests)
+
+    by_test : (b : Bool) → eqb a k.0 ≡ b → (a + 1 ≤ k.0 → list_any (λ j. same_cluster j k) (map cluster_no (range_with_len (a + 1) len)) ≡ true) → (b || list_any (λ j. same_cluster j k) (map cluster_no (range_with_len (a + 1) len))) ≡ true
+    by_test true is more = refl
+    by_test false is more = more (above is)
 
 within : (places : Places) (k : ClusterNo) → lives_in places k ≡ true → k.0 < length places.clusters
 within places k lives = by_place (slice_get places.clusters k.0) refl lives
   where
     by_place : (o : Option ClusterPlace) → slice_get places.clusters k.0 ≡ o → option_map_or (λ (c : ClusterPlace). c.lives) o false ≡ true → k.0 < length places.clusters
     by_place None at h = absurd (true≢false (sym h))
-    by_place (Some c) at h = grind (at)
+    by_place (Some c) at h = slice_get_within places.clusters k.0 c at
 
 all_named : (places : Places) (k : ClusterNo) → lives_in places k ≡ true → list_any (λ j. same_cluster j k) (all_clusters places) ≡ true
 all_named places k lives = in_range k 0 (length places.clusters) (omega arith) (omega (arith, within places k lives))
@@ -104,19 +116,18 @@ receiver_goes : (places : Places) (k : ClusterNo) (from p : Pid) (to : To) → l
 receiver_goes places k from p (Proc q end) lives is named =
     let same : p ≡ q = sym (pid_same q p (eqb-true q.0 p.0 is)) in
     named_goes places k (home_of places q ++ backup_of places q ++ backup_of places from) lives
-    (list_any-append (λ j. same_cluster j k) (home_of places q) (backup_of places q ++ backup_of places from)
-    ∙ or_last (list_any (λ j. same_cluster j k) (home_of places q)) _
-        (list_any-append (λ j. same_cluster j k) (backup_of places q) (backup_of places from)
-        ∙ or_first (list_any (λ j. same_cluster j k) (backup_of places q)) _ (ap (λ r. list_any (λ j. same_cluster j k) (backup_of places r)) (sym same) ∙ named)))
+    (list_any-append (λ j. same_cluster j k) (home_of places q ++ backup_of places q) (backup_of places from)
+    ∙ or_first _ (list_any (λ j. same_cluster j k) (backup_of places from))
+        (list_any-append (λ j. same_cluster j k) (home_of places q) (backup_of places q)
+        ∙ or_last (list_any (λ j. same_cluster j k) (home_of places q)) _ (ap (λ r. list_any (λ j. same_cluster j k) (backup_of places r)) (sym same) ∙ named)))
 receiver_goes places k from p (Tty t) lives is named = absurd (true≢false (sym is))
 
 -- and to that of its sender
 sender_goes : (places : Places) (k : ClusterNo) (from : Pid) (to : To) → lives_in places k ≡ true → list_any (λ j. same_cluster j k) (backup_of places from) ≡ true → goes_to (letter_dests places from to) k ≡ true
 sender_goes places k from (Proc q end) lives named =
     named_goes places k (home_of places q ++ backup_of places q ++ backup_of places from) lives
-    (list_any-append (λ j. same_cluster j k) (home_of places q) (backup_of places q ++ backup_of places from)
-    ∙ or_last (list_any (λ j. same_cluster j k) (home_of places q)) _
-        (list_any-append (λ j. same_cluster j k) (backup_of places q) (backup_of places from) ∙ or_last (list_any (λ j. same_cluster j k) (backup_of places q)) _ named))
+    (list_any-append (λ j. same_cluster j k) (home_of places q ++ backup_of places q) (backup_of places from)
+    ∙ or_last (list_any (λ j. same_cluster j k) (home_of places q ++ backup_of places q)) _ named)
 sender_goes places k from (Tty t) lives named = named_goes places k (backup_of places from) lives named
 
 -- ---- the records that are left as they are
@@ -172,3 +183,33 @@ noted_here system log e k recs routed unlost lives keeps elsewhere =
     (λ at letter away. letter_left system log k recs at letter lives keeps away)
     (λ pid at end away. absurd (true≢false (sym (named_goes (placement system log) k (all_clusters (placement system log)) lives (all_named (placement system log) k lives)) ∙ away)))
     (λ rests away. refl) (λ away. refl) (what e) unlost (ap (λ dests. goes_to dests k) (sym routed) ∙ elsewhere)
+
+-- ---- the entry for which a cluster is ready
+
+-- what a cluster that is ready for the next entry of a log holds of it
+record Kept (c : ClusterView) (log : List Entry) : Type 0 where
+  pub cursor : c.cursor ≡ length log
+  pub records : KeepsRecords c.system log c.number c.records
+
+kept_of : (c : ClusterView) (log : List Entry) (e : Entry) (n : Next c.system log e) → IsReady log e c → Kept c log
+kept_of c log e n (inl f) = record { cursor = ((f.0).log).cursor; records = (f.0).records }
+kept_of c log e n (inr s) =
+    let l = left_of c log e (n.may).built s.1 s.0 in
+    let number : (l.before).number ≡ c.number = sym (ap (λ (d : ClusterView). d.number) l.same) in
+    record {
+      cursor = ap (λ (d : ClusterView). d.cursor) l.same ∙ ((l.followed).log).cursor;
+      records = subst (λ recs. KeepsRecords c.system log c.number recs) (sym (ap (λ (d : ClusterView). d.records) l.same)) (subst (λ k. KeepsRecords c.system log k (l.before).records) number (l.followed).records);
+    }
+
+-- the entry may be noted
+pub can_note_next : (c : ClusterView) (e : Entry) → is_system c.system ≡ true → ReadyFor e c → c.cursor < 2 ^ 64 - 1 → CanNote (what e) c.records
+can_note_next c e valid r room =
+    let n = next_of c.system r.log e r.open_log r.open_next in
+    let kept = kept_of c r.log e n r.ready in
+    built_can_note c.system r.log e c.number c.records valid (legal_unlost c.system (r.log ++ e ∷ []) n.more) (subst (λ m. m < 2 ^ 64 - 1) kept.cursor room) kept.records
+
+-- and where it does not go to the cluster, it leaves the records as they are
+pub noted_next : (c : ClusterView) (e : Entry) → (c.number).0 < (c.system).clusters → ReadyFor e c → IsNotedHere c.number e c.records
+noted_next c e has r =
+    let n = next_of c.system r.log e r.open_log r.open_next in
+    noted_here c.system r.log e c.number c.records ((((n.may).stands).placed).1) (n.may).built (lives_built c.system r.log c.number n.legal has) (kept_of c r.log e n r.ready).records

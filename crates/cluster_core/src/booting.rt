@@ -1,5 +1,5 @@
 //! The start of a cluster: the roots that are at home there, and the records of those whose backup is there.
-ghost use Rattle.std.specs.Prelude.{◌≡◌, IfOk, true, [], map, filter};
+ghost use Rattle.std.specs.Prelude.{◌≡◌, IfOk, true, false, [], map, filter};
 ghost use Rattle.std.specs.Option.{option_map_or};
 ghost use Rattle.std.specs.List.Sorted.{IsStrictlySortedBy};
 ghost use Rattle.std.specs.Map.{keys_of};

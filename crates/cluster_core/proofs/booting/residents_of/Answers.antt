@@ -69,8 +69,8 @@ passing_last test (d ∷ es) e is = by_test (test d.0) (passing_last test es e i
     by_test true more = ap (λ ds. running_at d ∷ ds) more
     by_test false more = more
 
-pub loop-pid-preserved-in-Continue-branch-2 : goal.loop-pid-preserved-in-Continue-branch-2
-loop-pid-preserved-in-Continue-branch-2 c =
+pub loop-pid-preserved-in-Continue-1 : goal.loop-pid-preserved-in-Continue-1
+loop-pid-preserved-in-Continue-1 c =
     let test = belongs_to c.args.number in
     let e : ℕ × Process = (c.in-Some.pid, c.in-Some.process) in
     let ordered = rw c.in-Some.ensures.steps at c.loop-pid.invariant.ordered in

@@ -7,7 +7,7 @@ use Rattle.cluster_core.proofs.booting.residents_of.Given as goal
 
 abbrev pub invariant-loop-pid : goal.invariant-loop-pid
 invariant-loop-pid l = record {
-  all : l.yielded ++ l.pid-iterator ≡ l.processes.entries;
+  all : l.yielded ++ l.pid-iterator ≡ l.fn.processes.entries;
   ordered : IsStrictlySortedBy nat_cmp (map (λ e. e.0) (l.yielded ++ l.pid-iterator));
   own : l.here.here ≡ passing (belongs_to l.number) l.yielded;
 }
