@@ -1,5 +1,5 @@
 -- A process that rolls forward has caught up where nothing is left: it is the process in the kernel.
-use Rattle.std.proofs.Common.{◌≡◌, ℕ, zero, suc, ◌+◌, ◌≤◌, refl, sym, ◌∙◌, ap, subst, arith, List, [], ◌∷◌, ◌++◌, Bool, true, false, Option, Some, None, is_some, true≢false}
+use Rattle.std.proofs.Common.{◌≡◌, ℕ, zero, suc, ◌+◌, refl, sym, ◌∙◌, ap, subst, arith, List, [], true, false, Option, Some, None, is_some, true≢false}
 use Rattle.t32_base.specs.declared.process.Pid.{Pid}
 use Rattle.t32_base.specs.declared.process.Counts.{Counts}
 use Rattle.sys_text.specs.declared.system.System.{System}
@@ -8,11 +8,11 @@ use Rattle.proc_state.specs.State.{ProcState, has_ended}
 use Rattle.write_count.specs.Counting.{counts_of}
 use Rattle.bus_msg.specs.declared.entry.Entry.{Entry}
 use Rattle.roll_forward.specs.Deeds.{Deed, letters_in, births_in}
-use Rattle.roll_forward.specs.RunsOut.{RunsOut, nothing_left}
+use Rattle.roll_forward.specs.RunsOut.{nothing_left}
 use Rattle.cert_sched.specs.Schedule.{process_after}
 use Rattle.cert_sched.specs.Deeds.{since}
 use Rattle.cert_sched.specs.Rules.{is_over}
-use Rattle.cert_sched.specs.Rolling.{refilled, RollsAs}
+use Rattle.cert_sched.specs.Rolling.{refilled}
 use Rattle.cert_sched.specs.Legal.{IsLegalBy}
 use Rattle.cert_sched.specs.Simulation.{IsUnended}
 use Rattle.cert_sched.proofs.MailLaws.{IsPlainRule}
@@ -21,7 +21,7 @@ use Rattle.cert_sched.proofs.RunsOutLaws.{AllFine, replays_fine, sharp_runs_out,
 use Rattle.cert_sched.proofs.OpenLaws.{unended_open}
 use Rattle.cert_sched.proofs.ThereLaws.{unended_there}
 use Rattle.recovery_laws.specs.Behind.{RollsBehind, EndsExactly}
-use Rattle.recovery_laws.proofs.Replaying.{Part, Rolling, rolling_of, sharp_split}
+use Rattle.recovery_laws.proofs.Replaying.{Part, rolling_of, sharp_split}
 use Rattle.recovery_laws.proofs.Reaching.{Led, Reach, on_way, beyond, reach, fine_left, same_part, done_is}
 use Rattle.recovery_laws.proofs.Exact.{IsExact, exact_unended}
 

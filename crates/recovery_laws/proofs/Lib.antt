@@ -8,3 +8,4 @@ pub mod NotEnded
 pub mod KeepingBehind
 pub mod Exact
 pub mod CaughtUp
+pub mod ByRule
