@@ -9,3 +9,4 @@ pub mod KeepingBehind
 pub mod Exact
 pub mod CaughtUp
 pub mod ByRule
+mod WorkedRolling
