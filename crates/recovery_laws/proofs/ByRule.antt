@@ -19,6 +19,7 @@ use Rattle.roll_forward.specs.Advancing.{Advances, Going, rolled_on}
 use Rattle.roll_forward.specs.declared.rolled.Rolled.{Rolled}
 use Rattle.cert_sched.specs.Schedule.{process_after}
 use Rattle.cert_sched.specs.Deeds.{is_cut, is_birth_of, start_of, deeds_in, letter_for}
+use Rattle.cert_sched.specs.Steps.{silent_upto}
 use Rattle.cert_sched.specs.Record.{backup_record}
 use Rattle.cert_sched.specs.Rules.{is_over}
 use Rattle.cert_sched.specs.Legal.{IsLegalBy, Stands}
@@ -36,7 +37,7 @@ use Rattle.recovery_laws.proofs.RunningOut.{runs_ahead, can_roll}
 use Rattle.recovery_laws.proofs.NotEnded.{rolls_not_ended, rolls_not_blocked}
 use Rattle.recovery_laws.proofs.KeepingBehind.{behind_from_record, behind_entry}
 use Rattle.recovery_laws.proofs.Exact.{exact_unended}
-use Rattle.recovery_laws.proofs.CaughtUp.{caught_up, ends_exactly}
+use Rattle.recovery_laws.proofs.CaughtUp.{caught_up, caught_up_after, caught_up_from, ends_exactly, silent_here}
 
 -- each entry stands by the rule of the entries that stand, and by that of those that are built so far
 pub itself : IsStandingRule Stands
@@ -136,3 +137,15 @@ built_exact system log p now valid legal goes_on unended there =
 pub built_caught_up : (system : System) (log : List Entry) (p : Pid) (s : ProcState) (counts : Counts) (births : List Pid) → is_system system ≡ true → IsLegalBy BuiltMayFollow system log → is_over system log ≡ false → IsUnended system log p
     → RollsBehind system log p s counts births → nothing_left counts births ≡ true → process_after system log p ≡ Some s
 built_caught_up = caught_up BuiltMayFollow built_is_plain
+
+pub built_silent : (system : System) (log : List Entry) (p : Pid) (s : ProcState) (counts : Counts) (births : List Pid) → is_system system ≡ true → IsLegalBy BuiltMayFollow system log → is_over system log ≡ false → IsUnended system log p
+    → RollsBehind system log p s counts births → nothing_left counts births ≡ true → silent_upto system log p (s.small).steps ≡ Some s
+built_silent system log p s counts births valid legal goes_on unended rolls none = silent_here system log p s (built_caught_up system log p s counts births valid legal goes_on unended rolls none)
+
+pub built_after : (system : System) (log : List Entry) (p : Pid) (ahead : ℕ) (g h : Going) → is_system system ≡ true → IsLegalBy BuiltMayFollow system log → is_over system log ≡ false → IsUnended system log p
+    → RollsBehind system log p g.state g.counts g.births → RunsOut g.state g.counts g.births ahead → rolled_on ahead g ≡ Some h → process_after system log p ≡ Some h.state
+built_after = caught_up_after BuiltMayFollow built_is_plain
+
+pub built_from : (system : System) (log : List Entry) (p : Pid) (ahead : ℕ) (g h : Going) → is_system system ≡ true → IsLegalBy BuiltMayFollow system log → is_over system log ≡ false → IsUnended system log p
+    → RollsAs system log p g.state g.counts g.births → nothing_left g.counts g.births ≡ false → RunsOut g.state g.counts g.births ahead → rolled_on ahead g ≡ Some h → process_after system log p ≡ Some h.state
+built_from = caught_up_from BuiltMayFollow built_is_plain

@@ -12,14 +12,18 @@ ghost use Rattle.proc_state.specs.State.{ProcState, delivered, has_ended, state_
 ghost use Rattle.sys_calls.specs.Next.{next_step, is_blocked};
 ghost use Rattle.write_count.specs.Counting.{counts_of};
 ghost use Rattle.bus_msg.specs.declared.entry.Entry.{Entry};
+ghost use Rattle.bus_msg.specs.declared.placed.Placed.{Placed};
+ghost use Rattle.bus_msg.specs.Places.{unended_at};
 ghost use Rattle.bus_msg.specs.PlacedAfter.{what};
 ghost use Rattle.roll_forward.specs.Deeds.{letters_in, births_in};
 ghost use Rattle.roll_forward.specs.RunsOut.{RunsOut, RunsOn, nothing_left};
 ghost use Rattle.roll_forward.specs.Rolling.{CanRoll, RollingState, started};
 ghost use Rattle.roll_forward.specs.Advancing.{Advances, Going, rolled_on};
 ghost use Rattle.roll_forward.specs.declared.rolled.Rolled.{Rolled};
-ghost use Rattle.cert_sched.specs.Schedule.{done_after, process_after};
-ghost use Rattle.cert_sched.specs.Deeds.{is_cut, is_birth_of, start_of, since, deeds_in, letter_for};
+ghost use Rattle.cert_sched.specs.Schedule.{placement, process_after};
+ghost use Rattle.cert_sched.specs.Deeds.{is_cut, is_birth_of, start_of, since, deeds_in, letter_for, arrived_count};
+ghost use Rattle.cert_sched.specs.Steps.{silent_upto};
+ghost use Rattle.cert_sched.specs.Losses.{is_from};
 ghost use Rattle.cert_sched.specs.Record.{backup_record};
 ghost use Rattle.cert_sched.specs.Rules.{is_over};
 ghost use Rattle.cert_sched.specs.Legal.{IsLegalBy, Stands};
@@ -40,6 +44,8 @@ pub fn rolling_begins()
 
 /// A law and no code: what the log brings to a process that rolls forward.
 pub fn entries_reach_it()
+    // An entry that another than its home sends tells of none of its deeds.
+    ensures others { (system : System) (log : List Entry) (e : Entry) (p : Pid) (q : Placed) → Stands system log e → unended_at (placement system log) p ≡ Some q → is_from q.home e.post.by ≡ false → deeds_in p (what e) ≡ [] }
     // An entry that tells of none of its deeds, and starts it neither again nor anew, brings it its letters and leaves what is left.
     ensures standing { (system : System) (log : List Entry) (e : Entry) (p : Pid) (s : ProcState) (counts : Counts) (births : List Pid) → is_system system ≡ true → IsLegalBy Stands system (log ++ e ∷ []) → IsUnended system log p → is_cut p (what e) ≡ false → is_birth_of p (what e) ≡ false → deeds_in p (what e) ≡ [] → RollsAs system log p s counts births → RollsAs system (log ++ e ∷ []) p (fold delivered s (letter_for p (what e))) counts births }
     // So does each entry of a kind that is built so far,
@@ -77,14 +83,25 @@ pub fn rolling_has_not_ended()
     ensures moves { (system : System) (log : List Entry) (p : Pid) (s : ProcState) (counts : Counts) (births : List Pid) → is_system system ≡ true → IsLegalBy Stands system log → IsUnended system log p → RollsAs system log p s counts births → nothing_left counts births ≡ false → is_blocked (next_step s) ≡ false }
 {}
 
+/// A law and no code: what a process that rolls forward has of its own.
+pub fn rolling_keeps_its_numbers()
+    // As many letters have arrived as came to it.
+    ensures next { (system : System) (log : List Entry) (p : Pid) (s : ProcState) (counts : Counts) (births : List Pid) → RollsAs system log p s counts births → s.next ≡ arrived_count log p }
+    ensures pid { (system : System) (log : List Entry) (p : Pid) (s : ProcState) (counts : Counts) (births : List Pid) → RollsAs system log p s counts births → s.small.pid ≡ p }
+{}
+
 /// A law and no code: while the entries are of the kinds that are built so far, the last step of a process in the
 /// kernel without failures is its last deed.
 pub fn last_steps_are_deeds()
     ensures { (system : System) (log : List Entry) (p : Pid) (now : ProcState) → is_system system ≡ true → IsLegalBy BuiltMayFollow system log → is_over system log ≡ false → IsUnended system log p → process_after system log p ≡ Some now → EndsExactly system log p now }
 {}
 
-/// A law and no code: so a process that rolls forward, is not beyond where it was and has nothing left is the
-/// process in that kernel.
+/// A law and no code: so a process that rolls forward catches up with the process in that kernel.
 pub fn rolling_catches_up()
-    ensures { (system : System) (log : List Entry) (p : Pid) (s : ProcState) (counts : Counts) (births : List Pid) → is_system system ≡ true → IsLegalBy BuiltMayFollow system log → is_over system log ≡ false → IsUnended system log p → RollsBehind system log p s counts births → nothing_left counts births ≡ true → process_after system log p ≡ Some s }
+    // Where it is not beyond where it was and has nothing left it is that process, and stands in the log at its own steps.
+    ensures there { (system : System) (log : List Entry) (p : Pid) (s : ProcState) (counts : Counts) (births : List Pid) → is_system system ≡ true → IsLegalBy BuiltMayFollow system log → is_over system log ≡ false → IsUnended system log p → RollsBehind system log p s counts births → nothing_left counts births ≡ true → process_after system log p ≡ Some s }
+    ensures silent { (system : System) (log : List Entry) (p : Pid) (s : ProcState) (counts : Counts) (births : List Pid) → is_system system ≡ true → IsLegalBy BuiltMayFollow system log → is_over system log ≡ false → IsUnended system log p → RollsBehind system log p s counts births → nothing_left counts births ≡ true → silent_upto system log p s.small.steps ≡ Some s }
+    // So it is after all the steps ahead, where it was not beyond before them, or where something was left.
+    ensures after { (system : System) (log : List Entry) (p : Pid) (ahead : ℕ) (g h : Going) → is_system system ≡ true → IsLegalBy BuiltMayFollow system log → is_over system log ≡ false → IsUnended system log p → RollsBehind system log p g.state g.counts g.births → RunsOut g.state g.counts g.births ahead → rolled_on ahead g ≡ Some h → process_after system log p ≡ Some h.state }
+    ensures from_left { (system : System) (log : List Entry) (p : Pid) (ahead : ℕ) (g h : Going) → is_system system ≡ true → IsLegalBy BuiltMayFollow system log → is_over system log ≡ false → IsUnended system log p → RollsAs system log p g.state g.counts g.births → nothing_left g.counts g.births ≡ false → RunsOut g.state g.counts g.births ahead → rolled_on ahead g ≡ Some h → process_after system log p ≡ Some h.state }
 {}
