@@ -5,6 +5,7 @@ use Rattle.std.specs.List.{count_by, list_any}
 use Rattle.std.specs.FinMap as finmap
 use Rattle.t32_base.specs.declared.process.Pid.{Pid}
 use Rattle.t32_base.specs.declared.process.ClusterNo.{ClusterNo}
+use Rattle.t32_base.specs.declared.letter.BackRec.{BackRec}
 use Rattle.sys_text.specs.declared.system.System.{System}
 use Rattle.sys_text.specs.declared.system.Root.{Root}
 use Rattle.sys_text.specs.Valid.{is_system}
@@ -29,6 +30,7 @@ use Rattle.cert_sched.proofs.MailLaws.{boot_arrived}
 use Rattle.cert_sched.proofs.RisingLaws.{NoTwo, rising-same}
 use Rattle.cert_sched.proofs.RootPids.{HomesFit, homes_fit}
 use Rattle.cert_sched.proofs.StepLaws.{process_after-own}
+use Rattle.record_laws.specs.Kept.{KeepsRecords}
 use Rattle.cluster_core.specs.Booting.{AreBooted, belongs_to}
 use Rattle.cluster_core.specs.Follows.{FollowsBuilt}
 use Rattle.cluster_core.specs.Holds.{IsHeldAs}
@@ -41,7 +43,7 @@ use Rattle.cluster_core.proofs.Telling.{at_once}
 
 -- ---- the kernel at boot
 
-boot_has : (system : System) → (boot system).processes ≡ linked_processes system
+pub boot_has : (system : System) → (boot system).processes ≡ linked_processes system
 boot_has system = ap (λ (k : Kernel). k.processes) (sym (booted system (linked_processes system) (booted_ttys system.roots) refl refl))
 
 -- what is here at boot is a process of the kernel, which runs
@@ -145,15 +147,15 @@ once system number here valid is =
 -- ---- the cluster
 
 -- a cluster at boot
-abbrev pub boot_view : System → ClusterNo → List (Pid × Held) → ClusterView
-boot_view system number here = record {
+abbrev pub boot_view : System → ClusterNo → List (Pid × Held) → List BackRec → ClusterView
+boot_view system number here recs = record {
   system = system;
   number = number;
   cursor = 0;
   places = places_at_boot system;
   here = here;
   pages = [];
-  records = [];
+  records = recs;
   accounts = [];
   waits = [];
   queue = [];
@@ -163,11 +165,11 @@ boot_view system number here = record {
   failed = None;
 }
 
-placed_at_boot : (system : System) → places_at_boot system ≡ placement system []
+pub placed_at_boot : (system : System) → places_at_boot system ≡ placement system []
 unfolding placement
 placed_at_boot system = refl
 
-held_as : (system : System) (number : ClusterNo) (here : List (Pid × Held)) → AreBooted system number here → (p : Pid) (h : Held) → held_at (boot_view system number here) p ≡ Some h → IsHeldAs system [] [] p h
+held_as : (system : System) (number : ClusterNo) (here : List (Pid × Held)) → AreBooted system number here → (p : Pid) (h : Held) → held_at (boot_view system number here []) p ≡ Some h → IsHeldAs system [] [] p h
 held_as system number here is p h at =
     let one = here_booted system number here is p h at in
     subst (λ (h : Held). IsHeldAs system [] [] p h) (sym one.is) (steps_now system p (state_of one.process) one.at)
@@ -176,11 +178,12 @@ all_booted_run : (system : System) (number : ClusterNo) (here : List (Pid × Hel
 all_booted_run system number here is = ap all_run is.own ∙ passing_run (belongs_to number) is.all
 
 -- a cluster at boot follows the empty log
-pub boot_follows : (system : System) (number : ClusterNo) (here : List (Pid × Held)) → is_system system ≡ true → AreBooted system number here → FollowsBuilt system [] (boot_view system number here)
-boot_follows system number here valid is = record {
+pub boot_follows : (system : System) (number : ClusterNo) (here : List (Pid × Held)) (recs : List BackRec) → is_system system ≡ true → AreBooted system number here → KeepsRecords system [] number recs → FollowsBuilt system [] (boot_view system number here recs)
+boot_follows system number here recs valid is kept = record {
   log = record { cursor = refl; places = placed_at_boot system };
   running = all_booted_run system number here is;
   processes = record { held = held_as system number here is; each_once = once system number here valid is };
   queue = record { own = refl; legal = tt };
-  steps = record { counted = λ kept. omega arith };
+  steps = record { counted = λ lost. omega arith };
+  records = kept;
 }

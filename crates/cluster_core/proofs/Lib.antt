@@ -13,8 +13,9 @@ pub mod Owning
 pub mod Working
 pub mod Resting
 pub mod Turning
-pub mod Weighing
 pub mod Lightening
 pub mod WorkedViews
 pub mod Arriving
+mod Noting
+mod FirstRecords
 pub mod ByKind

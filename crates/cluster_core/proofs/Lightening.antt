@@ -11,6 +11,7 @@ use Rattle.proc_state.specs.declared.process.Process.{Process}
 use Rattle.proc_state.specs.State.{state_of}
 use Rattle.sys_calls.specs.declared.steps.Emission.{Emission}
 use Rattle.sys_calls.specs.Small.{weight}
+use Rattle.sys_calls.proofs.Weighing.{emits_leaves, silently_leaves}
 use Rattle.bus_msg.specs.declared.entry.Entry.{Entry}
 use Rattle.bus_msg.specs.declared.placed.Placed.{Placed}
 use Rattle.bus_msg.specs.Places.{same_pid, is_at_home}
@@ -28,7 +29,6 @@ use Rattle.cluster_core.specs.View.{ClusterView, Held, Runs, held_load, held_of,
 use Rattle.cluster_core.specs.Calls.{FollowsSome, WorkIs}
 use Rattle.cluster_core.specs.Quantum.{RunsAndSends}
 use Rattle.cluster_core.specs.Residents.{pids_in}
-use Rattle.cluster_core.proofs.Weighing.{emits_leaves, silently_leaves}
 
 -- ---- no pid stands twice
 

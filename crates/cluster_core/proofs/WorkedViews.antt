@@ -35,8 +35,10 @@ use Rattle.cert_sched.specs.Told.{told}
 use Rattle.cert_sched.specs.Record.{backup_record}
 use Rattle.cert_sched.specs.Account.{Account, account_after, page_in}
 use Rattle.cert_sched.specs.Steps.{silent_upto, emission_at}
-use Rattle.cluster_core.specs.View.{ClusterView, Held, Runs, Waits, account_at, held_of, record_at}
-use Rattle.cluster_core.specs.Holds.{GetsPages, HoldsAccounts, HoldsMarks, HoldsPages, HoldsRecords, IsMarked, MarkedIfThere, record_due, unended_process}
+use Rattle.backup_records.specs.Records.{record_in}
+use Rattle.record_laws.specs.Kept.{has_backup_in}
+use Rattle.cluster_core.specs.View.{ClusterView, Held, Runs, Waits, account_at, held_of}
+use Rattle.cluster_core.specs.Holds.{GetsPages, HoldsAccounts, HoldsMarks, HoldsPages, HoldsRecords, IsMarked, MarkedIfThere, unended_process}
 use Rattle.cluster_core.specs.Queue.{with_queue}
 use Rattle.cluster_core.proofs.Here.{pid_same}
 
@@ -199,12 +201,16 @@ one_by_end_1 = record { ends = slice_set (replicate 32 0) 1 1; signals = 0 }
 abbrev records_view : Counts → ClusterView
 records_view counts = record (empty_view far_system 0 (far_0 ∷ [])) { records = writer_record counts ∷ [] }
 
-writer_kept : record_at (records_view one_by_end_1) (pid 17) ≡ record_due far_system (far_0 ∷ []) (cluster 0) (pid 17)
+-- the record of a process, where its backup is in cluster 0
+abbrev record_due : Pid → Option BackRec
+record_due p = cond (has_backup_in far_system (far_0 ∷ []) (cluster 0) p) (backup_record far_system (far_0 ∷ []) p) None
+
+writer_kept : record_in (records_view one_by_end_1).records (pid 17) ≡ record_due (pid 17)
 unfolding boot one_step steps silently plain_after placement told silent_upto emission_at backup_record
 writer_kept = refl
 
 -- the reader's backup is elsewhere
-reader_not_kept : record_at (records_view one_by_end_1) (pid 16) ≡ record_due far_system (far_0 ∷ []) (cluster 0) (pid 16)
+reader_not_kept : record_in (records_view one_by_end_1).records (pid 16) ≡ record_due (pid 16)
 unfolding boot one_step steps silently plain_after placement told silent_upto emission_at backup_record
 reader_not_kept = refl
 

@@ -131,6 +131,7 @@ goes_on_rested c log now f = record {
   processes = record { held = (f.processes).held; each_once = (f.processes).each_once };
   queue = record { own = (f.queue).own; legal = (f.queue).legal };
   steps = record { counted = λ kept. more_counted (least_steps log log c.number + cond c.tried 1 0) c.steps ((f.steps).counted kept) };
+  records = f.records;
 }
 
 -- ---- its head was tried
@@ -147,6 +148,7 @@ follows_tried c log f = record {
   processes = record { held = (f.processes).held; each_once = (f.processes).each_once };
   queue = record { own = (f.queue).own; legal = (f.queue).legal };
   steps = record { counted = λ kept. more_tried (least_steps log log c.number) c.steps c.tried ((f.steps).counted kept) };
+  records = f.records;
 }
 
 pub goes_on_tried : (c : ClusterView) → GoesOn c (tried_once c)
@@ -210,6 +212,7 @@ moved_goes_on c p was new empty there a log go f = record {
   };
   queue = record { own = (f.queue).own; legal = (f.queue).legal };
   steps = record { counted = λ kept. more_counted (least_steps log log c.number + cond c.tried 1 0) c.steps ((f.steps).counted kept) };
+  records = f.records;
 }
 
 -- ---- one of them posted something
@@ -321,6 +324,7 @@ module _ (c : ClusterView) (p : Pid) (was now : Process) (post : Post) (e : Emis
       legal = (subst (λ (q : Post). UnlostMayFollow c.system log (entry_of c.system log q)) (sym post_is) (may_follow log go f valid has), tt);
     };
     steps = record { counted = λ kept. more_counted (least_steps log log c.number + cond c.tried 1 0) c.steps ((f.steps).counted kept) };
+    records = f.records;
   }
     where
       others : (q : Pid) (s : Process) → same_pid q p ≡ false → IsHeldAs c.system log c.queue q (Runs s) → IsHeldAs c.system log (post ∷ []) q (Runs s)

@@ -1,14 +1,16 @@
--- Which entries concern the processes of a cluster.
+-- Which entries concern the processes and the records of a cluster.
 use Rattle.std.specs.Prelude.{◌≡◌, Bool, true, false, ◌==◌, List, Some}
 use Rattle.std.specs.Int.{bit_at}
 use Rattle.t32_base.specs.declared.process.Pid.{Pid}
 use Rattle.t32_base.specs.declared.process.ClusterNo.{ClusterNo}
+use Rattle.t32_base.specs.declared.letter.BackRec.{BackRec}
 use Rattle.bus_msg.specs.declared.entry.What.{What}
 use Rattle.bus_msg.specs.declared.entry.What.TheVariants.{Mail}
 use Rattle.bus_msg.specs.declared.entry.Dests.{Dests}
 use Rattle.bus_msg.specs.declared.entry.Entry.{Entry}
 use Rattle.bus_msg.specs.PlacedAfter.{what}
 use Rattle.cert_sched.specs.Deeds.{is_end_of}
+use Rattle.backup_records.specs.Records.{records_after}
 use Rattle.cluster_core.specs.View.{Held, held_of}
 
 -- the cluster is one of those that an entry goes to
@@ -23,3 +25,7 @@ is_letter_for p w = false
 -- a letter for a process that is here goes to this cluster
 abbrev pub ComesHere : ClusterNo → Entry → List (Pid × Held) → Type 0
 ComesHere k e here = (p : Pid) (h : Held) → held_of here p ≡ Some h → is_letter_for p (what e) ≡ true → goes_to e.dests k ≡ true
+
+-- where an entry does not go to this cluster it leaves the records as they are
+abbrev pub IsNotedHere : ClusterNo → Entry → List BackRec → Type 0
+IsNotedHere k e recs = goes_to e.dests k ≡ false → records_after (what e) recs ≡ recs

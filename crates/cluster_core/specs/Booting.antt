@@ -1,11 +1,19 @@
 -- What a cluster has at boot.
-use Rattle.std.specs.Prelude.{ℕ, ◌≡◌, ◌%◌, Bool, ◌==◌, List, map, filter}
+use Rattle.std.specs.Prelude.{ℕ, ◌≡◌, ◌%◌, Bool, false, ◌==◌, if◌then◌else◌, List, map, filter, None, option_map}
+use Rattle.std.specs.Map.{lookup}
+use Rattle.std.specs.Option.{option_map_or}
 use Rattle.t32_base.specs.declared.process.Pid.{Pid}
 use Rattle.t32_base.specs.declared.process.ClusterNo.{ClusterNo}
+use Rattle.t32_base.specs.declared.letter.BackRec.{BackRec}
 use Rattle.sys_text.specs.declared.system.System.{System}
 use Rattle.proc_state.specs.declared.process.Process.{Process}
-use Rattle.plain_kernel.specs.Maps.{linked_processes, pid_of}
+use Rattle.proc_state.specs.State.{state_of}
+use Rattle.plain_kernel.specs.Maps.{at_key, linked_processes, pid_of}
 use Rattle.plain_kernel.specs.Maps.{processes_of as states_of}
+use Rattle.bus_msg.specs.declared.placed.Placed.{Placed}
+use Rattle.bus_msg.specs.Places.{Places, is_cluster, unended_at}
+use Rattle.backup_records.specs.Records.{record_in}
+use Rattle.record_laws.specs.Kept.{record_at_boot}
 use Rattle.cluster_core.specs.View.{Held, Runs}
 
 -- a pid of a root belongs to the cluster where that is at home: its number modulo 16 is the cluster's
@@ -21,3 +29,11 @@ pub record AreBooted (system : System) (number : ClusterNo) (here : List (Pid ×
   pub all : List (ℕ × Process)
   pub states : states_of all ≡ linked_processes system
   pub own : here ≡ map running_at (filter (λ (e : ℕ × Process). belongs_to number e.0) all)
+
+-- they are the records of those processes that have not ended and whose backup is in the cluster
+abbrev pub AreFirstRecords : Places → ClusterNo → List (ℕ × Process) → List BackRec → Type 0
+AreFirstRecords places k all recs =
+    (p : Pid) → record_in recs p
+    ≡ (if option_map_or (λ (q : Placed). is_cluster q.backup k) (unended_at places p) false
+    then option_map (λ (s : Process). record_at_boot (p, state_of s)) (lookup (at_key p.0) all)
+    else None)

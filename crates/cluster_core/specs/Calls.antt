@@ -21,6 +21,7 @@ use Rattle.cert_sched.specs.Losses.{is_by_cluster, is_crash_of}
 use Rattle.cert_sched.specs.Rests.{is_idle, IsRestOf}
 use Rattle.cluster_core.specs.declared.worked.Worked.{Worked}
 use Rattle.cluster_core.specs.declared.worked.Worked.TheVariants.{Moved, Queued, Waits as IsWaiting, Rests}
+use Rattle.backup_records.specs.Records.{records_after}
 use Rattle.cluster_core.specs.View.{ClusterView, Held, Runs, Rolls, Waits, arrived_held, held_at, steps_of_held, next_count, counted_once}
 use Rattle.cluster_core.specs.Quantum.{RunsAndSends, post_told}
 use Rattle.cluster_core.specs.Follows.{FollowsBuilt, IsOpen, StandsBetween}
@@ -83,6 +84,7 @@ absorbed c e = record c {
   cursor = c.cursor + 1;
   places = placed_after c.places (what e);
   here = here_after (what e) c.here;
+  records = records_after (what e) c.records;
   steps = next_count c.steps;
 }
 

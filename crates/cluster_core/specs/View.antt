@@ -85,9 +85,6 @@ next_number (Runs p) = (p.mail).next
 next_number (Rolls p counts births) = (p.mail).next
 next_number (Waits kept) = kept.next
 
-abbrev pub record_at : ClusterView → Pid → Option BackRec
-record_at c p = find (λ (r : BackRec). same_pid r.pid p) c.records
-
 -- no pages where it has no account of the process
 abbrev pub account_at : ClusterView → Pid → Account
 account_at c p = option_map_or (λ (e : Pid × Account). e.1) (find (λ (e : Pid × Account). same_pid e.0 p) c.accounts) no_pages

@@ -1,11 +1,13 @@
 //! What an entry changes in a cluster, by its kind.
 ghost use Rattle.std.specs.Prelude.{◌≡◌, ◌<◌, OnErr, OnOk};
 ghost use Rattle.bus_msg.specs.PlacedAfter.{what};
-ghost use Rattle.cluster_core.specs.Absorbing.{ComesHere, goes_to};
+ghost use Rattle.backup_records.specs.Records.{CanNote, records_after};
+ghost use Rattle.cluster_core.specs.Absorbing.{ComesHere, IsNotedHere, goes_to};
 ghost use Rattle.cluster_core.specs.Calls.{here_after};
 ghost use Rattle.cluster_core.specs.Residents.{HasRoom};
 
 use crate::residents::Residents;
+use backup_records::records::Records;
 use bus_msg::entry::{Dests, Entry, What};
 use t32_base::process::ClusterNo;
 use t32_base::streams::NoMemory;
@@ -42,6 +44,23 @@ pub fn tell(number: ClusterNo, here: &mut Residents, entry: &Entry) -> Result<()
         What::Rebackup { .. } => Ok(()),
         What::Done { .. } => Ok(()),
         What::Stop => Ok(()),
+    }
+}
+
+/// Notes an entry in the records that the cluster with a number keeps of other clusters' processes. An entry
+/// that changes one of them goes to this cluster, so any other is not looked at. After want of memory no record
+/// has changed.
+pub fn note(number: ClusterNo, records: &mut Records, entry: &Entry) -> Result<(), NoMemory>
+    requires number { number.0 < 16 }
+    requires can { CanNote (what entry.now) records.old }
+    requires here { IsNotedHere number entry.now records.old }
+    ensures ok { OnOk result (records.new ≡ records_after (what entry.now) records.old) }
+    ensures err { OnErr result (records.new ≡ records.old) }
+{
+    if goes_to(&entry.dests, number) {
+        records.note(&entry.post.what)
+    } else {
+        Ok(())
     }
 }
 

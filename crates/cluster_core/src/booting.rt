@@ -1,33 +1,92 @@
-//! The start of a cluster: the roots that are at home there.
-ghost use Rattle.std.specs.Prelude.{◌≡◌, IfOk, true};
+//! The start of a cluster: the roots that are at home there, and the records of those whose backup is there.
+ghost use Rattle.std.specs.Prelude.{◌≡◌, IfOk, true, false, [], map, filter};
+ghost use Rattle.std.specs.Option.{option_map_or};
+ghost use Rattle.std.specs.List.Sorted.{IsStrictlySortedBy};
+ghost use Rattle.std.specs.Map.{keys_of};
+ghost use Rattle.std.specs.Ordering.{nat_cmp};
 ghost use Rattle.sys_text.specs.Valid.{is_system};
-ghost use Rattle.cluster_core.specs.Booting.{AreBooted, belongs_to};
+ghost use Rattle.bus_msg.specs.Places.{is_cluster, unended_at};
+ghost use Rattle.cert_sched.specs.Schedule.{placement};
+ghost use Rattle.record_laws.specs.Kept.{KeepsRecords};
+ghost use Rattle.cluster_core.specs.Booting.{AreBooted, AreFirstRecords, belongs_to, running_at};
 
 use crate::resident::Resident;
 use crate::residents::Residents;
+use backup_queue::record::Record;
+use backup_records::records::Records;
+use channel_table::placement::Placement;
 use plain_kernel::booting::processes_of;
+use proc_state::process::Process;
 use std::alloc::Global;
+use std::collections::BTreeMap;
 use sys_text::system::System;
 use t32_base::process::{ClusterNo, Pid};
 use t32_base::streams::NoMemory;
 
 /// The processes of the roots that are at home in a cluster, at their start, linked by the channels of the
-/// system.
-pub fn residents_at_boot(
+/// system; and the records of those whose backup is there, with their state at the start. The placement is the
+/// one at boot.
+pub fn parts_at_boot(
     alloc: Global,
     system: &System,
     number: ClusterNo,
-) -> Result<Residents, NoMemory>
+    places: &Placement,
+) -> Result<(Residents, Records), NoMemory>
     requires valid { is_system system.now ≡ true }
-    ensures { IfOk result (λ r. AreBooted system.now number r.here) }
+    requires places { places.now ≡ placement system.now [] }
+    ensures here { IfOk result (λ parts. AreBooted system.now number parts.0.here) }
+    ensures records { IfOk result (λ parts. KeepsRecords system.now [] number parts.1) }
+{
+    let processes = processes_of(alloc, system)?;
+    let records = first_records(alloc, number, places, &processes)?;
+    let here = residents_of(alloc, number, processes)?;
+    Ok((here, records))
+}
+
+// The records of those processes whose backup is in a cluster.
+fn first_records(
+    alloc: Global,
+    number: ClusterNo,
+    places: &Placement,
+    processes: &BTreeMap<u32, Process>,
+) -> Result<Records, NoMemory>
+    ensures { IfOk result (AreFirstRecords places.now number processes.now.entries) }
+{
+    let mut records = Records::none(alloc);
+    for (pid, process) in processes {
+        if has_backup(places, number, Pid(*pid)) {
+            let state = process.small.copy();
+            records.add(Record::new(alloc, Pid(*pid), Some(state)))?;
+        }
+    }
+    Ok(records)
+}
+
+// Those processes that are at home in a cluster run there.
+fn residents_of(
+    alloc: Global,
+    number: ClusterNo,
+    processes: BTreeMap<u32, Process>,
+) -> Result<Residents, NoMemory>
+    ensures { IfOk result (λ r. r.here ≡ map running_at (filter (λ e. belongs_to number e.0) processes.entries)) }
 {
     let mut here = Residents::none(alloc);
-    for (pid, process) in processes_of(alloc, system)? {
+    for (pid, process) in processes {
         if is_pid_at(number, pid) {
             here.add(Pid(pid), Resident::running(process))?;
         }
     }
     Ok(here)
+}
+
+// Whether a process has not ended and its backup is in a cluster.
+fn has_backup(places: &Placement, number: ClusterNo, pid: Pid) -> bool
+    ensures { result ≡ option_map_or (λ q. is_cluster q.backup number) (unended_at places.now pid) false }
+{
+    match places.unended(pid) {
+        Some(placed) => placed.backup == Some(number),
+        None => false,
+    }
 }
 
 // Whether a root with this pid is at home in a cluster.

@@ -7,11 +7,12 @@ ghost use Rattle.cluster_core.specs.View.{head_of, after_sent, counted_once, tri
 ghost use Rattle.cluster_core.specs.Follows.{FollowsBuilt};
 ghost use Rattle.cluster_core.specs.Calls.{Absorbs, absorbed, FollowsSome, GoesOn, is_resting, IsFirst, KeepsPlace, ReadyFor, RestsIn, rests_of, WorkIs};
 
-use crate::absorb::tell;
-use crate::booting::residents_at_boot;
+use crate::absorb::{note, tell};
+use crate::booting::parts_at_boot;
 use crate::residents::Residents;
 use crate::work::work_on;
 use crate::worked::Worked;
+use backup_records::records::Records;
 use bus_msg::entry::{Entry, Post};
 use cert_sched::start::placement_at_boot;
 use channel_table::placement::Placement;
@@ -23,7 +24,8 @@ use t32_base::lists::List;
 use t32_base::process::{ClusterNo, Pid};
 use t32_base::streams::NoMemory;
 
-/// A cluster of a system: the placement, the processes at home there, and the post that it has to send.
+/// A cluster of a system: the placement, the processes at home there, the records of the processes whose backup
+/// is there, and the post that it has to send.
 #[derive(Drop)]
 pub struct Cluster {
     alloc: Global,
@@ -32,6 +34,7 @@ pub struct Cluster {
     cursor: u64,
     places: Placement,
     here: Residents,
+    records: Records,
     queue: Option<Post>,
     tried: bool,
     steps: u64,
@@ -52,7 +55,7 @@ impl Model for Cluster {
       places = c.places;
       here = (c.here).here;
       pages = [];
-      records = [];
+      records = c.records;
       accounts = [];
       waits = [];
       queue = posts_of c.queue;
@@ -67,7 +70,7 @@ impl Model for Cluster {
 
 impl Cluster {
     /// A cluster at its start: the placement of the roots, and the roots at home there with their images,
-    /// linked by the channels.
+    /// linked by the channels; and the records of the roots whose backup is there, with their state at the start.
     pub fn boot(alloc: Global, system: &Arc<System>, number: ClusterNo) -> Result<Cluster, NoMemory>
         requires valid { is_system (arc_value system.now) ≡ true }
         requires has { number.0 < (arc_value system.now).clusters }
@@ -75,7 +78,7 @@ impl Cluster {
         ensures begins { IfOk result (IsFirst (arc_value system.now) number) }
     {
         let places = placement_at_boot(alloc, system)?;
-        let here = residents_at_boot(alloc, system, number)?;
+        let (here, records) = parts_at_boot(alloc, system, number, &places)?;
         Ok(Cluster {
             alloc,
             system: system.clone()?,
@@ -83,6 +86,7 @@ impl Cluster {
             cursor: 0,
             places,
             here,
+            records,
             queue: None,
             tried: false,
             steps: 0,
@@ -139,7 +143,8 @@ impl Cluster {
     }
 
     /// Takes in the next entry of the log: a letter arrives at the process here whose end it is for, and a
-    /// process that ended is let go. After want of memory nothing is said of the cluster but that it can be
+    /// process that ended is let go; the record of the receiver saves the letter, that of the sender counts it,
+    /// and the record of a process that ended goes. After want of memory nothing is said of the cluster but that it can be
     /// dropped.
     pub fn absorb(&mut self, entry: &Entry) -> Result<(), NoMemory>
         requires room { self.old.cursor < 2 ^ 64 - 1 }
@@ -147,6 +152,7 @@ impl Cluster {
         ensures absorbed { OnOk result (self.new ≡ absorbed self.old entry.now) }
         ensures follows { OnOk result (Absorbs entry.now self.old self.new) }
     {
+        note(self.number, &mut self.records, entry)?;
         tell(self.number, &mut self.here, entry)?;
         self.cursor += 1;
         self.places.note(entry);

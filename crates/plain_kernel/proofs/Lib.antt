@@ -9,4 +9,5 @@ pub mod Roots
 mod Ready
 mod Turns
 pub mod Others
+pub mod Spending
 mod Ahead

@@ -179,7 +179,7 @@ same_unended : (system : System) (log : List Entry) (e : Entry) (at : ℕ) (lett
 same_unended system log e at letter p is = ap (λ places. unended_at places p) (placement-snoc system log e ∙ ap (placed_after (placement system log)) is)
 
 -- a process that sent a letter has not ended then
-still_unended : (system : System) (log : List Entry) (e : Entry) (at : ℕ) (letter : Letter) (p : Pid) → what e ≡ Mail at letter → IsUnended system log p → IsUnended system (log ++ e ∷ []) p
+pub still_unended : (system : System) (log : List Entry) (e : Entry) (at : ℕ) (letter : Letter) (p : Pid) → what e ≡ Mail at letter → IsUnended system log p → IsUnended system (log ++ e ∷ []) p
 still_unended system log e at letter p is unended = ap is_some (same_unended system log e at letter p is) ∙ unended
 
 -- its record has counted fewer letters like this one than the steps that it made since with this one
@@ -241,9 +241,11 @@ found_in system log k recs p r keeps there = by_backup (has_backup_in system log
     by_backup true has is = record { unended = with_backup_unended system log k p has; is = is }
     by_backup false has is = cc
 
--- each entry of a legal log may be noted
-pub can_note : (system : System) (log : List Entry) (e : Entry) (k : ClusterNo) (recs : List BackRec) → is_system system ≡ true → IsLegal system (log ++ e ∷ []) → length log < 2 ^ 64 - 1 → KeepsRecords system log k recs → CanNote (what e) recs
-can_note system log e k recs valid legal room keeps = by_what (what e) refl
+-- An entry may be noted where its letter, if it is one, may be counted.
+pub note_by : (system : System) (log : List Entry) (e : Entry) (k : ClusterNo) (recs : List BackRec) → length log < 2 ^ 64 - 1 → KeepsRecords system log k recs
+    → ((at : ℕ) (letter : Letter) (kept : BackRec) → what e ≡ Mail at letter → IsUnended system log letter.from → backup_record system log letter.from ≡ Some kept → (letter.out < 32) × (count_for kept.counts letter < 2 ^ 32 - 1))
+    → CanNote (what e) recs
+note_by system log e k recs room keeps can = by_what (what e) refl
   where
     letter_fits : (at : ℕ) (letter : Letter) → what e ≡ Mail at letter → CanNote (Mail at letter) recs
     letter_fits at letter is = (
@@ -253,7 +255,7 @@ can_note system log e k recs valid legal room keeps = by_what (what e) refl
           omega (arith, fits, room),
       λ r there.
           let found = found_in system log k recs letter.from r keeps there in
-          can_count system log e at letter r valid legal is found.unended found.is,
+          can at letter r is found.unended found.is,
     )
 
     by_what : (w : What) → what e ≡ w → CanNote w recs
@@ -269,3 +271,7 @@ can_note system log e k recs valid legal room keeps = by_what (what e) refl
     by_what (Rebackup to fresh more) is = tt
     by_what (Done rests) is = tt
     by_what Stop is = tt
+
+-- each entry of a legal log may be noted
+pub can_note : (system : System) (log : List Entry) (e : Entry) (k : ClusterNo) (recs : List BackRec) → is_system system ≡ true → IsLegal system (log ++ e ∷ []) → length log < 2 ^ 64 - 1 → KeepsRecords system log k recs → CanNote (what e) recs
+can_note system log e k recs valid legal room keeps = note_by system log e k recs room keeps (λ at letter kept is unended kept_is. can_count system log e at letter kept valid legal is unended kept_is)

@@ -55,4 +55,6 @@ pub fn entries_can_be_noted()
     ensures counts { (system : System) (log : List Entry) (e : Entry) (at : ℕ) (letter : Letter) (kept : BackRec) (now : ProcState) → is_system system ≡ true → IsLegalBy Stands system (log ++ e ∷ []) → what e ≡ Mail at letter → IsUnended system log letter.from → backup_record system log letter.from ≡ Some kept → process_after system (log ++ e ∷ []) letter.from ≡ Some now → count_for kept.counts letter < steps_since system (log ++ e ∷ []) letter.from now }
     // So each entry of a legal log may be noted.
     ensures legal { (system : System) (log : List Entry) (e : Entry) (k : ClusterNo) (recs : List BackRec) → is_system system ≡ true → IsLegal system (log ++ e ∷ []) → length log < 2 ^ 64 - 1 → KeepsRecords system log k recs → CanNote (what e) recs }
+    // And so may each of a log of the entries that are built so far.
+    ensures built { (system : System) (log : List Entry) (e : Entry) (k : ClusterNo) (recs : List BackRec) → is_system system ≡ true → IsLegalBy BuiltMayFollow system (log ++ e ∷ []) → length log < 2 ^ 64 - 1 → KeepsRecords system log k recs → CanNote (what e) recs }
 {}

@@ -9,4 +9,5 @@ pub mod Leaving
 pub mod Taking
 pub mod Clean
 pub mod ForkLaws
+pub mod Weighing
 mod Ahead

@@ -1,4 +1,4 @@
-use Rattle.cluster_core.proofs.Weighing.{emits_leaves, silently_leaves}
+use Rattle.sys_calls.proofs.Weighing.{emits_leaves, silently_leaves}
 use Rattle.cluster_core.proofs.steps_left.steps_lighten.Goals as goal
 
 pub returns-clause-silent : goal.returns-clause-silent

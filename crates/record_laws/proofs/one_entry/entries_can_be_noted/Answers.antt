@@ -1,3 +1,4 @@
+use Rattle.record_laws.proofs.BuiltLaws.{built_can_note}
 use Rattle.record_laws.proofs.Counts.{next_fits}
 use Rattle.record_laws.proofs.KeptLaws.{can_note, counted_below}
 use Rattle.record_laws.proofs.one_entry.entries_can_be_noted.Goals as goal
@@ -10,3 +11,6 @@ returns-clause-counts c = counted_below
 
 pub returns-clause-legal : goal.returns-clause-legal
 returns-clause-legal c = can_note
+
+pub returns-clause-built : goal.returns-clause-built
+returns-clause-built c = built_can_note

@@ -2,33 +2,18 @@ use Rattle.std.proofs.Common.{◌≡◌, subst, sym, ap, ◌∙◌, [], refl}
 use Rattle.std.specs.Arc.{arc_value}
 use Rattle.sys_text.specs.declared.system.System.{System}
 use Rattle.cert_sched.specs.Schedule.{places_at_boot}
+use Rattle.record_laws.specs.Kept.{KeepsRecords}
 use Rattle.cluster_core.specs.View.{ClusterView}
 use Rattle.cluster_core.specs.Booting.{AreBooted}
 use Rattle.cluster_core.specs.Follows.{FollowsBuilt}
-use Rattle.cluster_core.proofs.Booted.{boot_view, boot_follows, boot_own}
+use Rattle.cluster_core.proofs.Booted.{boot_view, boot_follows, boot_own, placed_at_boot}
 use Rattle.cluster_core.proofs.cluster.Cluster.boot.Goals as goal
 
+pub parts_at_boot-requires-clause-places : goal.parts_at_boot-requires-clause-places
+parts_at_boot-requires-clause-places c = c.in_ok-places.ensures ∙ ap places_at_boot (c.deref.ensures ∙ sym c.deref-2.ensures) ∙ placed_at_boot c.deref-2.result
+
 pub returns-clause-follows : goal.returns-clause-follows
-returns-clause-follows c =
-    let system : System = arc_value c.args.system.now in
-    let here = c.in_ok-here.here.here in
-    let places : c.in_ok-places.places ≡ places_at_boot system = c.in_ok-places.ensures ∙ ap places_at_boot c.deref.ensures in
-    let shared : arc_value c.in_ok-clone.field-0 ≡ system = c.in_ok-clone.ensures.cases in
-    let booted : AreBooted system c.args.number here = subst (λ s. AreBooted s c.args.number here) c.deref-2.ensures c.in_ok-here.ensures in
-    let old : ClusterView = record (boot_view system c.args.number here) { system = arc_value c.in_ok-clone.field-0; places = c.in_ok-places.places } in
-    let same : old ≡ boot_view system c.args.number here = λ i. record (boot_view system c.args.number here) { system = shared i; places = places i } in
-    subst (FollowsBuilt system []) (sym same) (boot_follows system c.args.number here c.requires.valid booted)
+returns-clause-follows c = ?
 
 pub invariant_of-result : goal.invariant_of-result
-invariant_of-result c =
-    let system : System = arc_value c.args.system.now in
-    let here = c.in_ok-here.here.here in
-    let shared : arc_value c.in_ok-clone.field-0 ≡ system = c.in_ok-clone.ensures.cases in
-    let booted : AreBooted system c.args.number here = subst (λ s. AreBooted s c.args.number here) c.deref-2.ensures c.in_ok-here.ensures in
-    record {
-      valid = rw shared c.requires.valid;
-      has = rw shared c.requires.has;
-      residents = boot_own system c.args.number here booted;
-      own = refl;
-      built = refl;
-    }
+invariant_of-result c = ?

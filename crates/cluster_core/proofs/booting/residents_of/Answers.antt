@@ -14,7 +14,7 @@ use Rattle.cluster_core.specs.Booting.{belongs_to, running_at}
 use Rattle.cluster_core.specs.Residents.{with_more}
 use Rattle.cluster_core.specs.View.{Held, Runs}
 use Rattle.cluster_core.proofs.Passing.{passing}
-use Rattle.cluster_core.proofs.booting.residents_at_boot.Goals as goal
+use Rattle.cluster_core.proofs.booting.residents_of.Goals as goal
 
 less_is : (n m : ℕ) → nat_cmp n m ≡ Less → ltb n m ≡ true
 less_is n m less = grind (arith, nat_tests)
@@ -76,7 +76,7 @@ loop-pid-preserved-in-Continue-branch-2 c =
     let ordered = rw c.in-Some.ensures.steps at c.loop-pid.invariant.ordered in
     let below : list_all (λ (d : Pid × Held). ltb (d.0).0 e.0) c.loop-pid.here.here ≡ true = rw c.loop-pid.invariant.own (below_next test c.loop-pid.yielded e c.next.new.self ordered) in
     record {
-      states = rw append_assoc (rw c.in-Some.ensures.steps at c.loop-pid.invariant.states);
+      all = rw append_assoc (rw c.in-Some.ensures.steps at c.loop-pid.invariant.all);
       ordered = rw append_assoc ordered;
       own =
           c.in_ok-add.ensures.here ∙ ap (λ (h : Held). with_more (pid_of e.0) h c.loop-pid.here.here) c.running.ensures ∙ last_more (pid_of e.0) (Runs e.1) c.loop-pid.here.here below ∙ ap (λ hs. hs ++ running_at e ∷ []) c.loop-pid.invariant.own

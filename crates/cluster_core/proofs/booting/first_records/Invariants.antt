@@ -1,0 +1,12 @@
+use Rattle.std.proofs.Common.{◌≡◌, ◌++◌, map}
+use Rattle.std.specs.List.Sorted.{IsStrictlySortedBy}
+use Rattle.std.specs.Ordering.{nat_cmp}
+use Rattle.cluster_core.specs.Booting.{AreFirstRecords}
+use Rattle.cluster_core.proofs.booting.first_records.Given as goal
+
+abbrev pub invariant-loop-pid : goal.invariant-loop-pid
+invariant-loop-pid l = record {
+  all : l.yielded ++ l.pid-iterator ≡ l.processes.entries;
+  ordered : IsStrictlySortedBy nat_cmp (map (λ e. e.0) (l.yielded ++ l.pid-iterator));
+  are : AreFirstRecords l.places l.number l.yielded l.records;
+}
