@@ -1,16 +1,20 @@
 -- A process that rolls forward has caught up where nothing is left: it is the process in the kernel.
-use Rattle.std.proofs.Common.{◌≡◌, ℕ, zero, suc, ◌+◌, ◌≤◌, refl, sym, ◌∙◌, ap, subst, arith, List, [], ◌∷◌, ◌++◌, Bool, true, false, Option, Some, None, is_some, true≢false}
+use Rattle.std.proofs.Common.{◌≡◌, ℕ, zero, suc, ◌+◌, ◌-◌, ◌<◌, refl, sym, ◌∙◌, ap, subst, arith, List, [], true, false, Option, Some, None, is_some, true≢false}
+use Rattle.std.specs.Prelude.{option_and_then}
 use Rattle.t32_base.specs.declared.process.Pid.{Pid}
 use Rattle.t32_base.specs.declared.process.Counts.{Counts}
 use Rattle.sys_text.specs.declared.system.System.{System}
 use Rattle.sys_text.specs.Valid.{is_system}
 use Rattle.proc_state.specs.State.{ProcState, has_ended}
+use Rattle.sys_calls.specs.Next.{silently}
 use Rattle.write_count.specs.Counting.{counts_of}
 use Rattle.bus_msg.specs.declared.entry.Entry.{Entry}
 use Rattle.roll_forward.specs.Deeds.{Deed, letters_in, births_in}
 use Rattle.roll_forward.specs.RunsOut.{RunsOut, nothing_left}
-use Rattle.cert_sched.specs.Schedule.{process_after}
+use Rattle.roll_forward.specs.Advancing.{Going, rolled_on}
+use Rattle.cert_sched.specs.Schedule.{process_after, done_after}
 use Rattle.cert_sched.specs.Deeds.{since}
+use Rattle.cert_sched.specs.Steps.{silent_upto}
 use Rattle.cert_sched.specs.Rules.{is_over}
 use Rattle.cert_sched.specs.Rolling.{refilled, RollsAs}
 use Rattle.cert_sched.specs.Legal.{IsLegalBy}
@@ -21,8 +25,9 @@ use Rattle.cert_sched.proofs.RunsOutLaws.{AllFine, replays_fine, sharp_runs_out,
 use Rattle.cert_sched.proofs.OpenLaws.{unended_open}
 use Rattle.cert_sched.proofs.ThereLaws.{unended_there}
 use Rattle.recovery_laws.specs.Behind.{RollsBehind, EndsExactly}
-use Rattle.recovery_laws.proofs.Replaying.{Part, Rolling, rolling_of, sharp_split}
-use Rattle.recovery_laws.proofs.Reaching.{Led, Reach, on_way, beyond, reach, fine_left, same_part, done_is}
+use Rattle.recovery_laws.proofs.Replaying.{Part, rolling_of, sharp_split}
+use Rattle.recovery_laws.proofs.Reaching.{Led, led_there, Reach, on_way, beyond, reach, fine_left, same_part, done_is}
+use Rattle.recovery_laws.proofs.Stepping.{behind_on, went_on}
 use Rattle.recovery_laws.proofs.Exact.{IsExact, exact_unended}
 
 -- the way of a process that is just where its last deed led it
@@ -82,6 +87,39 @@ caught_up May plain system log p s counts births valid legal goes_on unended rol
     by_process (Some now) is there =
         is ∙ ap Some (caught_up_exact system log p now s counts births is (unended_open May (λ system log e may. (plain system log e may).0) system log p valid legal unended now is)
         (exact_unended May plain system log p now valid legal goes_on unended is) rolls none)
+
+-- it stands in the log where its own steps are
+pub silent_here : (system : System) (log : List Entry) (p : Pid) (s : ProcState) → process_after system log p ≡ Some s → silent_upto system log p (s.small).steps ≡ Some s
+unfolding silent_upto silently
+silent_here system log p s there =
+    let none : (s.small).steps - done_after system log p ≡ 0 = let count = done_is system log p s there in omega (arith, count) in
+    ap (λ n. option_and_then (silently n) (process_after system log p)) none ∙ ap (option_and_then (silently 0)) there
+
+-- where all steps ahead are made nothing is left
+none_ahead : (left ahead : ℕ) (h : Going) → left + ahead ≡ ahead → RunsOut h.state h.counts h.births left → nothing_left h.counts h.births ≡ true
+none_ahead zero ahead h sum runs = runs
+none_ahead (suc left) ahead h sum runs = absurd (omega (arith, sum))
+
+-- after all the steps ahead it has caught up: where it was not beyond before, or where something was left
+pub caught_up_after : (May : System → List Entry → Entry → Type 0) → IsPlainRule May → (system : System) (log : List Entry) (p : Pid) (ahead : ℕ) (g h : Going) → is_system system ≡ true → IsLegalBy May system log
+    → is_over system log ≡ false → IsUnended system log p → RollsBehind system log p g.state g.counts g.births → RunsOut g.state g.counts g.births ahead → rolled_on ahead g ≡ Some h → process_after system log p ≡ Some h.state
+caught_up_after May plain system log p ahead g h valid legal goes_on unended rolls runs is =
+    let l = led_there May (λ system log e may. (plain system log e may).0) system log p valid legal unended in
+    let behind = behind_on system log p l.now l.led ahead ahead g h rolls runs (omega arith) is in
+    let w = went_on system log p l.now l.led ahead ahead g h rolls.rolls runs (omega arith) is in
+    caught_up May plain system log p h.state h.counts h.births valid legal goes_on unended behind (none_ahead w.left ahead h w.sum w.runs_out)
+
+pub caught_up_from : (May : System → List Entry → Entry → Type 0) → IsPlainRule May → (system : System) (log : List Entry) (p : Pid) (ahead : ℕ) (g h : Going) → is_system system ≡ true → IsLegalBy May system log
+    → is_over system log ≡ false → IsUnended system log p → RollsAs system log p g.state g.counts g.births → nothing_left g.counts g.births ≡ false → RunsOut g.state g.counts g.births ahead → rolled_on ahead g ≡ Some h
+    → process_after system log p ≡ Some h.state
+caught_up_from May plain system log p ahead g h valid legal goes_on unended rolls left runs is =
+    let l = led_there May (λ system log e may. (plain system log e may).0) system log p valid legal unended in
+    let w = went_on system log p l.now l.led ahead ahead g h rolls runs (omega arith) is in
+    caught_up May plain system log p h.state h.counts h.births valid legal goes_on unended (record { rolls = w.rolls; behind = w.behind (some ahead runs) }) (none_ahead w.left ahead h w.sum w.runs_out)
+  where
+    some : (ahead : ℕ) → RunsOut g.state g.counts g.births ahead → 0 < ahead
+    some zero runs = absurd (true≢false (sym runs ∙ left))
+    some (suc ahead) runs = omega arith
 
 -- ---- where it is just where its last deed led it
 

@@ -1,5 +1,5 @@
 -- A process that rolls forward, where the log has an entry more: the letters of the entry arrive, and what is left stays.
-use Rattle.std.proofs.Common.{◌≡◌, ℕ, ◌+◌, refl, sym, ◌∙◌, ap, subst, arith, List, [], ◌∷◌, ◌++◌, length, length-append, append-nil, Bool, true, false, cond, ◌||◌, Option, Some, None, is_some, true≢false}
+use Rattle.std.proofs.Common.{◌≡◌, ◌+◌, refl, sym, ◌∙◌, ap, subst, arith, List, [], ◌∷◌, ◌++◌, length, length-append, append-nil, true, false, cond, ◌||◌, Option, Some, None, is_some, true≢false}
 use Rattle.std.specs.Prelude.{fold}
 use Rattle.std.proofs.lemmas.Grind.{flat_map-append}
 use Rattle.t32_base.specs.declared.process.Pid.{Pid}
@@ -20,7 +20,7 @@ use Rattle.cert_sched.specs.Parts.{after_last}
 use Rattle.cert_sched.specs.Schedule.{plain_after, process_after}
 use Rattle.cert_sched.specs.Deeds.{starts, is_cut, is_birth_of, start_of, since, deeds_in, letter_for, letters_to, arrived_count}
 use Rattle.cert_sched.specs.Rolling.{refilled, RollsAs}
-use Rattle.cert_sched.specs.Legal.{IsLegalBy, Stands}
+use Rattle.cert_sched.specs.Legal.{IsLegalBy}
 use Rattle.cert_sched.specs.Simulation.{IsUnended}
 use Rattle.cert_sched.proofs.ListLaws.{after_last-snoc}
 use Rattle.cert_sched.proofs.LogLaws.{IsLegal-before, IsLegal-last}
@@ -29,10 +29,10 @@ use Rattle.cert_sched.proofs.Induction.{legal_induction}
 use Rattle.cert_sched.proofs.MailLaws.{IsPlainRule, is_plain, boot_arrived}
 use Rattle.cert_sched.proofs.ReplayLaws.{Replays, replays_all_delivered}
 use Rattle.cert_sched.proofs.CameLaws.{IsStandingRule}
-use Rattle.cert_sched.proofs.RollLaws.{Rolls, all_roll, refilled_more}
+use Rattle.cert_sched.proofs.RollLaws.{all_roll, refilled_more}
 use Rattle.cert_sched.proofs.OpenLaws.{unended_open}
 use Rattle.cert_sched.proofs.ThereLaws.{unended_there}
-use Rattle.recovery_laws.proofs.Replaying.{Part, Rolling, rolling_of, rolls_as}
+use Rattle.recovery_laws.proofs.Replaying.{rolling_of, rolls_as}
 
 -- ---- the letters that came to a process
 

@@ -8,7 +8,6 @@ use Rattle.t32_base.specs.declared.letter.Letter.{Letter}
 use Rattle.sys_text.specs.declared.system.System.{System}
 use Rattle.sys_text.specs.Valid.{is_system}
 use Rattle.proc_state.specs.State.{ProcState, has_ended}
-use Rattle.sys_calls.specs.declared.steps.Emission.{Emission}
 use Rattle.sys_calls.specs.declared.steps.Emission.TheVariants.{Mail as Sent, Exit as Ended}
 use Rattle.sys_calls.proofs.Counting.{last_sent, exit_ends}
 use Rattle.sys_calls.proofs.RunLemma.{all_delivered}
@@ -22,8 +21,7 @@ use Rattle.bus_msg.specs.Places.{same_pid}
 use Rattle.bus_msg.specs.PlacedAfter.{what}
 use Rattle.roll_forward.specs.Deeds.{Deed, Sends}
 use Rattle.cert_sched.specs.Schedule.{done, plain_after, process_after, placement}
-use Rattle.cert_sched.specs.Deeds.{start_of, since, deeds_in, letter_for, saved_letters, arrived_count}
-use Rattle.cert_sched.specs.Steps.{emission_at}
+use Rattle.cert_sched.specs.Deeds.{start_of, since, deeds_in, letter_for}
 use Rattle.cert_sched.specs.Kinds.{KindHolds}
 use Rattle.cert_sched.specs.Rules.{is_over, ends_run}
 use Rattle.cert_sched.specs.Rolling.{refilled}

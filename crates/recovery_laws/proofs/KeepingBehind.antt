@@ -1,31 +1,29 @@
 -- A process that rolls forward and is not beyond where it was: so it begins, and so an entry more leaves it.
-use Rattle.std.proofs.Common.{◌≡◌, ℕ, ◌+◌, ◌≤◌, refl, sym, ◌∙◌, ap, subst, arith, List, [], ◌∷◌, ◌++◌, Bool, true, false, cond, eqb, eq-eqb, Option, Some, None, is_some, true≢false}
-use Rattle.std.specs.Prelude.{◌≢◌, option_map, fold}
+use Rattle.std.proofs.Common.{◌≡◌, ◌≤◌, refl, sym, ◌∙◌, ap, subst, arith, List, [], ◌∷◌, ◌++◌, Bool, true, false, cond, eq-eqb, Option, Some, None, is_some, true≢false}
+use Rattle.std.specs.Prelude.{option_map}
 use Rattle.t32_base.specs.declared.process.Pid.{Pid}
 use Rattle.t32_base.specs.declared.process.Counts.{Counts}
 use Rattle.t32_base.specs.declared.letter.BackRec.{BackRec}
-use Rattle.t32_base.specs.declared.letter.Letter.{Letter}
 use Rattle.t32_base.specs.Small.{SmallState}
 use Rattle.sys_text.specs.declared.system.System.{System}
 use Rattle.sys_text.specs.Valid.{is_system}
 use Rattle.rv_mem.specs.Memory.{Memory}
-use Rattle.proc_state.specs.State.{ProcState, has_ended}
-use Rattle.sys_calls.specs.declared.steps.Emission.TheVariants.{Mail as Sent, Exit as Ended}
+use Rattle.proc_state.specs.State.{ProcState}
+use Rattle.sys_calls.specs.declared.steps.Emission.TheVariants.{Exit as Ended}
 use Rattle.sys_calls.proofs.RunLemma.{all_delivered}
 use Rattle.plain_kernel.proofs.Entries.{some_same}
 use Rattle.bus_msg.specs.declared.entry.What.{What}
 use Rattle.bus_msg.specs.declared.entry.What.TheVariants.{Mail, Birth, Exit, Page, Sync, Fetch, PageIs, Crash, Return, Rebackup, Done, Stop}
 use Rattle.bus_msg.specs.declared.entry.Entry.{Entry}
 use Rattle.bus_msg.specs.declared.placed.Placed.{Placed}
-use Rattle.bus_msg.specs.Places.{Places, same_pid, unended_at}
+use Rattle.bus_msg.specs.Places.{same_pid, unended_at}
 use Rattle.bus_msg.specs.PlacedAfter.{what, placed_after, after_loss}
 use Rattle.roll_forward.specs.Deeds.{Deed, Sends}
 use Rattle.roll_forward.specs.Rolling.{started}
 use Rattle.cert_sched.specs.Schedule.{process_after, done_after, placement}
 use Rattle.cert_sched.specs.Deeds.{is_cut, is_birth_of, start_of, deeds_in, letter_for}
 use Rattle.cert_sched.specs.Record.{backup_record}
-use Rattle.cert_sched.specs.Rolling.{refilled, RollsAs}
-use Rattle.cert_sched.specs.Legal.{IsLegalBy, Stands}
+use Rattle.cert_sched.specs.Legal.{IsLegalBy}
 use Rattle.cert_sched.specs.Simulation.{IsUnended}
 use Rattle.cert_sched.proofs.LogLaws.{placement-snoc, IsLegal-before, IsLegal-last}
 use Rattle.cert_sched.proofs.ExitLaws.{unended_exit}
@@ -36,7 +34,7 @@ use Rattle.cert_sched.proofs.CameLaws.{IsStandingRule, Came, went_on, was_cut, w
 use Rattle.cert_sched.proofs.RollLaws.{all_roll, two_apart}
 use Rattle.cert_sched.proofs.OpenLaws.{unended_open}
 use Rattle.cert_sched.proofs.ThereLaws.{unended_there}
-use Rattle.recovery_laws.specs.Behind.{IsBehind, RollsBehind}
+use Rattle.recovery_laws.specs.Behind.{RollsBehind}
 use Rattle.recovery_laws.proofs.Beginning.{rolls_from_record, state_of_record}
 use Rattle.recovery_laws.proofs.Entries.{plain_starts_none, rolls_entry_plain}
 use Rattle.recovery_laws.proofs.Reaching.{Led, done_is, start_behind}

@@ -5,6 +5,9 @@ pub mod Reaching
 pub mod Stepping
 pub mod RunningOut
 pub mod NotEnded
+pub mod Others
 pub mod KeepingBehind
 pub mod Exact
 pub mod CaughtUp
+pub mod ByRule
+mod WorkedRolling

@@ -1,5 +1,5 @@
 -- A process that rolls forward has not ended, and does not wait while something is left.
-use Rattle.std.proofs.Common.{◌≡◌, ℕ, refl, sym, ◌∙◌, ap, subst, List, [], Bool, true, false, Some}
+use Rattle.std.proofs.Common.{◌≡◌, refl, ◌∙◌, List, false}
 use Rattle.t32_base.specs.declared.process.Pid.{Pid}
 use Rattle.t32_base.specs.declared.process.Counts.{Counts}
 use Rattle.sys_text.specs.declared.system.System.{System}
@@ -12,10 +12,10 @@ use Rattle.roll_forward.specs.RunsOut.{RunsOn, nothing_left}
 use Rattle.cert_sched.specs.Deeds.{since}
 use Rattle.cert_sched.specs.Rolling.{refilled, RollsAs}
 use Rattle.cert_sched.proofs.MailLaws.{silently_ends}
-use Rattle.cert_sched.proofs.ReplayLaws.{Replays, replays_goes_on}
+use Rattle.cert_sched.proofs.ReplayLaws.{replays_goes_on}
 use Rattle.cert_sched.proofs.RunsOutLaws.{replays_no_deed}
 use Rattle.recovery_laws.specs.Behind.{RollsBehind}
-use Rattle.recovery_laws.proofs.Replaying.{Part, Rolling, rolling_of}
+use Rattle.recovery_laws.proofs.Replaying.{Part, rolling_of}
 use Rattle.recovery_laws.proofs.Reaching.{Led, Reach, on_way, beyond, reach, same_part}
 use Rattle.recovery_laws.proofs.Stepping.{rolls_on}
 

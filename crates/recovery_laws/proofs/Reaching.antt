@@ -1,5 +1,5 @@
 -- Where a process that rolls forward stands beside the process in the kernel, which has not ended: steps that do what is left lead there, or nothing is left.
-use Rattle.std.proofs.Common.{◌≡◌, ℕ, zero, suc, ◌+◌, ◌-◌, ◌≤◌, refl, sym, ◌∙◌, ap, subst, arith, List, [], ◌∷◌, ◌++◌, Bool, true, false, leb, Option, Some, None, is_some, true≢false, append_assoc, append-nil}
+use Rattle.std.proofs.Common.{◌≡◌, ℕ, ◌+◌, ◌-◌, ◌≤◌, refl, sym, ◌∙◌, ap, subst, arith, List, [], ◌∷◌, ◌++◌, Bool, true, false, leb, Option, Some, None, is_some, true≢false, append_assoc}
 use Rattle.std.specs.Prelude.{option_and_then}
 use Rattle.std.specs.Option.{option_map_or}
 use Rattle.std.proofs.lemmas.Bool.Decides.{nat_tests}
@@ -19,7 +19,7 @@ use Rattle.cert_sched.specs.Legal.{IsLegalBy}
 use Rattle.cert_sched.specs.Simulation.{IsUnended}
 use Rattle.cert_sched.proofs.ReplayLaws.{Replays, replays_on, replays_counts}
 use Rattle.cert_sched.proofs.CameLaws.{IsStandingRule}
-use Rattle.cert_sched.proofs.RollLaws.{Rolls, all_roll}
+use Rattle.cert_sched.proofs.RollLaws.{all_roll}
 use Rattle.cert_sched.proofs.RunsOutLaws.{AllFine, replays_fine, start_ends}
 use Rattle.cert_sched.proofs.OpenLaws.{unended_open}
 use Rattle.cert_sched.proofs.ThereLaws.{unended_there}

@@ -1,5 +1,5 @@
 -- A process that rolls forward runs out, within the steps that the process in the kernel has more.
-use Rattle.std.proofs.Common.{◌≡◌, ℕ, ◌+◌, ◌-◌, ◌^◌, ◌<◌, ◌≤◌, refl, sym, ◌∙◌, ap, subst, arith, List, [], true, Some}
+use Rattle.std.proofs.Common.{◌^◌, ◌<◌, sym, ap, subst, arith, List}
 use Rattle.t32_base.specs.declared.process.Pid.{Pid}
 use Rattle.t32_base.specs.declared.process.Counts.{Counts}
 use Rattle.sys_text.specs.declared.system.System.{System}
@@ -7,15 +7,14 @@ use Rattle.proc_state.specs.State.{ProcState}
 use Rattle.write_count.specs.Counting.{counts_of}
 use Rattle.bus_msg.specs.declared.entry.Entry.{Entry}
 use Rattle.roll_forward.specs.Deeds.{Deed, letters_in, births_in}
-use Rattle.roll_forward.specs.RunsOut.{RunsOut, nothing_left}
+use Rattle.roll_forward.specs.RunsOut.{nothing_left}
 use Rattle.roll_forward.specs.Rolling.{CanRoll}
-use Rattle.cert_sched.specs.Schedule.{done_after}
 use Rattle.cert_sched.specs.Deeds.{since}
 use Rattle.cert_sched.specs.Rolling.{refilled, RollsAs}
-use Rattle.cert_sched.proofs.ReplayLaws.{Replays, replays_counts}
+use Rattle.cert_sched.proofs.ReplayLaws.{replays_counts}
 use Rattle.cert_sched.proofs.RunsOutLaws.{replays_run_out}
 use Rattle.recovery_laws.specs.Behind.{RunsAhead}
-use Rattle.recovery_laws.proofs.Replaying.{Part, Rolling, rolling_of}
+use Rattle.recovery_laws.proofs.Replaying.{Part, rolling_of}
 use Rattle.recovery_laws.proofs.Reaching.{Led, Reach, on_way, beyond, reach, fine_left, same_part}
 
 pub runs_ahead : (system : System) (log : List Entry) (p : Pid) (now s : ProcState) (counts : Counts) (births : List Pid) → Led system log p now → RollsAs system log p s counts births → RunsAhead system log p s counts births

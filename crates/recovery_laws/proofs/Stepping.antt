@@ -1,17 +1,14 @@
 -- The steps of a process that rolls forward: each does again what is next, and is followed by a process that rolls forward.
-use Rattle.std.proofs.Common.{◌≡◌, ℕ, zero, suc, ◌+◌, ◌<◌, ◌≤◌, refl, sym, ◌∙◌, ap, subst, arith, List, [], ◌∷◌, ◌++◌, Bool, true, false, Option, Some, None, true≢false, add-zero}
+use Rattle.std.proofs.Common.{◌≡◌, ℕ, zero, suc, ◌+◌, ◌<◌, ◌≤◌, refl, sym, ◌∙◌, ap, subst, arith, List, [], ◌∷◌, ◌++◌, false, Option, Some, None, true≢false, add-zero}
 use Rattle.std.specs.Prelude.{option_and_then}
 use Rattle.t32_base.specs.declared.process.Pid.{Pid}
 use Rattle.t32_base.specs.declared.process.Counts.{Counts}
-use Rattle.t32_base.specs.declared.letter.Letter.{Letter}
 use Rattle.sys_text.specs.declared.system.System.{System}
 use Rattle.proc_state.specs.State.{ProcState, state_of}
-use Rattle.sys_calls.specs.declared.steps.Emission.{Emission}
 use Rattle.sys_calls.specs.declared.steps.Emission.TheVariants.{Mail as Sent, Exit as Ended}
 use Rattle.sys_calls.specs.Calls.{Next, Silent, Blocked, Forks, Emits, Over}
-use Rattle.sys_calls.specs.Next.{next_step, step_marks, letter_taken}
+use Rattle.sys_calls.specs.Next.{next_step}
 use Rattle.sys_calls.specs.Fork.{fork_parent}
-use Rattle.sys_calls.specs.Steps.{read_after}
 use Rattle.write_count.specs.Counting.{counts_of, count_for, lowered}
 use Rattle.write_count.proofs.CountLaws.{counts_of-cons, count_for-raised, length-counts_of}
 use Rattle.write_count.proofs.Prefix.{lowered-counts_of}
@@ -24,12 +21,12 @@ use Rattle.roll_forward.specs.Advancing.{Advances, Going, Makes, born, counts_af
 use Rattle.roll_forward.specs.declared.rolled.Rolled.{Rolled}
 use Rattle.roll_forward.specs.declared.rolled.Rolled.TheVariants.{Silent as WasSilent, Withheld, Born}
 use Rattle.roll_forward.proofs.RollLaws.{none_rolled}
-use Rattle.cert_sched.specs.Deeds.{start_of, since}
+use Rattle.cert_sched.specs.Deeds.{since}
 use Rattle.cert_sched.specs.Rolling.{refilled, RollsAs}
 use Rattle.cert_sched.proofs.ReplayLaws.{Replays, ReplaysBy, replays_counts, replays_silent, replays_sent, replays_fork}
 use Rattle.cert_sched.proofs.RunsOutLaws.{AllFine}
 use Rattle.recovery_laws.specs.Behind.{IsBehind, RollsBehind}
-use Rattle.recovery_laws.proofs.Replaying.{Part, Rolling, rolling_of, rolls_as}
+use Rattle.recovery_laws.proofs.Replaying.{Part, rolling_of, rolls_as}
 use Rattle.recovery_laws.proofs.Reaching.{Led, Reach, on_way, beyond, reach, part_on, fine_left, same_part}
 
 no_deed : (d : Deed) (ds : List Deed) → (d ∷ ds) ≡ [] → ⊥

@@ -1,0 +1,8 @@
+use Rattle.recovery_laws.proofs.ByRule.{standing_ahead, standing_can}
+use Rattle.recovery_laws.proofs.rolling_on.rolling_runs_out.Goals as goal
+
+pub returns-clause-ahead : goal.returns-clause-ahead
+returns-clause-ahead c = standing_ahead
+
+pub returns-clause-can : goal.returns-clause-can
+returns-clause-can c = standing_can
