@@ -1,5 +1,5 @@
 -- A cluster that works goes on to follow each log that it followed.
-use Rattle.std.proofs.Common.{◌≡◌, ℕ, zero, suc, ◌+◌, ◌-◌, ◌≤◌, ◌<◌, refl, sym, ◌∙◌, ap, subst, arith, List, [], ◌∷◌, map, length, Bool, true, false, cond, not, ◌&&◌, ◌||◌, eqb-true, eq-eqb, add-zero, zero-add, Option, Some, None, slice_get, true≢false}
+use Rattle.std.proofs.Common.{◌≡◌, ℕ, zero, suc, ◌+◌, ◌-◌, ◌≤◌, ◌<◌, refl, sym, ◌∙◌, ap, subst, arith, List, [], ◌∷◌, map, length, Bool, true, false, cond, not, ◌&&◌, ◌||◌, eqb-true, eq-eqb, add-zero, zero-add, Option, Some, None, is_some, slice_get, true≢false}
 use Rattle.std.specs.Prelude.{option_map, option_and_then, find}
 use Rattle.std.specs.List.{range_with_len}
 use Rattle.std.specs.Option.{option_map_or}

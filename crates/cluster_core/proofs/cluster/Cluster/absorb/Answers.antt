@@ -82,7 +82,8 @@ returns-clause-follows c =
     ∙ ap (λ (v : ClusterView). record v { cursor = v.cursor + 1; places = c.note-2.new.self; here = c.tell.new.here.here; records = c.note.new.records; steps = next_count v.steps }) c.self.view_is
     ∙ (λ i. record old { cursor = old.cursor + 1; places = places i; here = here i; records = recs i; steps = next_count old.steps }) in
     let valid : is_system old.system ≡ true = subst (λ (v : ClusterView). is_system v.system ≡ true) c.self.view_is c.self.invariant.valid in
-    subst (Absorbs e old) (sym whole) (absorbs old e c.self.inside.queue (ap (λ (v : ClusterView). v.queue) (sym c.self.view_is)) valid)
+    let own = subst (λ (v : ClusterView). AllOwn v.cursor v.here) c.self.view_is c.self.invariant.residents in
+    subst (Absorbs e old) (sym whole) (absorbs old e c.self.inside.queue (ap (λ (v : ClusterView). v.queue) (sym c.self.view_is)) valid own)
 
 pub tell-requires-clause-number : goal.tell-requires-clause-number
 tell-requires-clause-number c = omega (arith, c.self.invariant.has, (system_bounds (arc_value c.self.inside.system) c.self.invariant.valid).clusters)
