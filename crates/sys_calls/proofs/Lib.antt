@@ -3,6 +3,7 @@ pub mod Running
 pub mod RunLemma
 mod Shutting
 mod Waiting
+mod Wanting
 pub mod Counting
 pub mod Quiet
 pub mod Leaving

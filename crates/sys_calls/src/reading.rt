@@ -1,11 +1,13 @@
 //! The calls that read letters.
 ghost use Rattle.std.specs.Prelude.{◌≡◌, ◌+◌, ◌<◌, ◌≤◌, true, length, option_map};
+ghost use Rattle.std.specs.Option.{option_copied};
+ghost use Rattle.t32_base.specs.declared.letter.Arrived.{Arrived};
 ghost use Rattle.rv_cpu.specs.Exec.{reg};
 ghost use Rattle.rv_mem.specs.Memory.{is_inside, written};
-ghost use Rattle.proc_state.specs.Mail.{end_of, without_first};
+ghost use Rattle.proc_state.specs.Mail.{end_of};
 ghost use Rattle.proc_state.specs.State.{state_of, with_small};
 ghost use Rattle.sys_calls.specs.Small.{spent, weight, with_ends};
-ghost use Rattle.sys_calls.specs.Calls.{call_of, ends_after, first_wanted, is_wanted, marks_read, read_answered, read_any_checked, read_call, read_checked, reading_of, said_within, wanted_letter, IsSound};
+ghost use Rattle.sys_calls.specs.Calls.{call_of, ends_after, first_wanted, marks_read, read_answered, read_any_checked, read_call, read_checked, reading_of, said_within, wanted_letter, IsSound};
 ghost use Rattle.sys_calls.specs.Next.{is_blocked};
 ghost use Rattle.sys_calls.specs.Steps.{Makes, Marks, Shorter, TakesLetter, Took, Touches, taken_by};
 
@@ -94,21 +96,17 @@ pub fn waits(p: &Process, reading: Reading) -> bool
     match reading {
         Reading::Refused(_) => false,
         Reading::AtEnd => false,
-        Reading::Wants(wanted, _, _) => first_number(p, wanted).is_none(),
+        Reading::Wants(wanted, _, _) => first(p, wanted).is_none(),
     }
 }
 
-// The number of the first letter that a read wants.
-fn first_number(p: &Process, wanted: Wanted) -> Option<u64>
-    ensures { result ≡ option_map (λ a. a.number) (first_wanted (state_of p.now) wanted) }
+// The first letter that a read wants.
+fn first(p: &Process, wanted: Wanted) -> Option<&Arrived>
+    ensures { option_copied result ≡ first_wanted (state_of p.now) wanted }
 {
-    let first = match wanted {
+    match wanted {
         Wanted::On(end) => p.mail.first_on(end),
         Wanted::AnyLinked => p.mail.first_linked(&p.small.ends),
-    };
-    match first {
-        Some(arrived) => Some(arrived.number),
-        None => None,
     }
 }
 
@@ -140,26 +138,26 @@ pub fn make_read(p: &mut Process, reading: Reading) -> Result<Step, NoMemory>
     }
 }
 
-// Takes the first letter that a read wants, and notes its number; memory for the number comes first.
+// The end and the number of the first letter that a read wants.
+fn first_place(p: &Process, wanted: Wanted) -> Option<(u8, u64)>
+    ensures { result ≡ option_map (λ (a : Arrived). (end_of (a.letter).to, a.number)) (first_wanted (state_of p.now) wanted) }
+{
+    match first(p, wanted) {
+        Some(arrived) => Some((end_number(arrived.letter.to), arrived.number)),
+        None => None,
+    }
+}
+
+// Takes the first letter that a read wants, which is the first for its end, and notes its number; memory for the number
+// comes first.
 fn take_letter(p: &mut Process, wanted: Wanted) -> Result<Option<Arrived>, NoMemory>
     ensures { TakesLetter wanted result p.old p.new }
 {
-    let Some(number) = first_number(p, wanted) else {
+    let Some((end, number)) = first_place(p, wanted) else {
         return Ok(None);
     };
     p.read.push(number)?;
-    Ok(take_wanted(p, wanted))
-}
-
-// Takes the first letter that a read wants out of the mailbox.
-fn take_wanted(p: &mut Process, wanted: Wanted) -> Option<Arrived>
-    ensures taken { result ≡ first_wanted (state_of p.old) wanted }
-    ensures left { p.new ≡ record p.old { mail = record (p.old.mail) { letters = without_first (is_wanted p.old.small.ends wanted) p.old.mail.letters } } }
-{
-    match wanted {
-        Wanted::On(end) => p.mail.take_on(end),
-        Wanted::AnyLinked => p.mail.take_linked(&p.small.ends),
-    }
+    Ok(p.mail.take_on(end))
 }
 
 // Reads a letter: its bytes go to memory, an end letter finishes its end, and the answers are given.
