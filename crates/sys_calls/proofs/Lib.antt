@@ -11,3 +11,4 @@ pub mod Taking
 pub mod Clean
 pub mod ForkLaws
 mod Ahead
+mod Passing
