@@ -105,6 +105,25 @@ fn a_fault_of_a_reader_or_a_writer_is_counted(rt: HostRuntime) -> Result<(), Fai
     Ok(())
 }
 
+#[test]
+fn a_long_text_is_read_in_longer_pieces(rt: HostRuntime) -> Result<(), Fail> {
+    let alloc = rt.alloc();
+    let text = [7; 20000];
+    let mut source = StdSource::new(Cursor::new(text));
+    for (room, answer) in [(65536, 2048), (65536, 16384), (65536, 1568), (65536, 100)] {
+        assert_eq!(rt; took(source.take(alloc, room)), answer);
+    }
+    let mut bytes = Bytes::new(alloc);
+    let mut source = StdSource::new(Cursor::new(b"abcde"));
+    for room in [2, 1, 65536] {
+        if let Ok(Taken::Got(piece)) = source.take(alloc, room) {
+            bytes.extend(piece.as_slice())?;
+        }
+    }
+    assert_eq!(rt; bytes.as_slice(), b"abcde".as_slice());
+    Ok(())
+}
+
 // The number of bytes that a letter says.
 fn size_said(body: &Body) -> Option<usize> {
     match body {
