@@ -5,6 +5,8 @@
 #[cfg(test)]
 mod assembler;
 #[cfg(test)]
+mod asserts;
+#[cfg(test)]
 mod printing;
 #[cfg(test)]
 mod reading;
