@@ -1,10 +1,9 @@
 //! Programs and their words, from outside, and which line and rule of the others is named.
-use crate::asserts::{assert_bytes, assert_same};
 use rv_asm::{AsmRefused, assemble, words_text};
 use std::alloc::Global;
-use std::process::Abort;
 use std::test::Fail;
 use t32_base::lists::Text;
+use test_asserts::same;
 
 const HI: &str =
     "li a7, 2\nli a0, 0\nla a1, m\nli a2, 3\necall\nli a7, 1\nli a0, 0\necall\nm: .ascii \"hi\\n\"\n";
@@ -35,10 +34,9 @@ fn printed(alloc: Global, text: &str) -> Result<Text, AsmRefused> {
     Ok(words_text(alloc, words.as_slice())?)
 }
 
-fn assert_printed(rt: &(impl Abort + AllocGlobal), text: &str, wanted: &str) -> Result<(), Fail> {
-    let printed = printed(rt.alloc(), text)?;
-    assert_bytes(rt, printed.as_slice(), wanted.as_bytes(), text);
-    Ok(())
+fn assert_printed(alloc: Global, text: &str, wanted: &str) -> Result<(), Fail> {
+    let printed = printed(alloc, text)?;
+    same(text, &printed.as_slice(), &wanted.as_bytes())
 }
 
 static PRINTED: [(&str, &str); 2] = [
@@ -52,7 +50,7 @@ static PRINTED: [(&str, &str); 2] = [
 #[test]
 fn programs_assemble(rt: HostRuntime) -> Result<(), Fail> {
     for row in PRINTED.iter() {
-        assert_printed(&rt, row.0, row.1)?;
+        assert_printed(rt.alloc(), row.0, row.1)?;
     }
     Ok(())
 }
@@ -67,27 +65,22 @@ static COUNTS: [(&str, usize); 6] = [
     (SIG, 21),
 ];
 
-fn assert_count(
-    rt: &(impl Abort + AllocGlobal),
-    text: &str,
-    count: usize,
-) -> Result<(), AsmRefused> {
-    let words = assemble(rt.alloc(), text.as_bytes())?;
-    assert_same(rt, &words.len(), &count, text);
-    Ok(())
+fn assert_count(alloc: Global, text: &str, count: usize) -> Result<(), Fail> {
+    let words = assemble(alloc, text.as_bytes())?;
+    same(text, &words.len(), &count)
 }
 
 #[test]
 fn longer_programs_assemble(rt: HostRuntime) -> Result<(), Fail> {
     for row in COUNTS.iter() {
-        assert_count(&rt, row.0, row.1)?;
+        assert_count(rt.alloc(), row.0, row.1)?;
     }
     Ok(())
 }
 
-fn assert_refused(rt: &(impl Abort + AllocGlobal), text: &str, line: u64, rule: u8) {
-    let refused = assemble(rt.alloc(), text.as_bytes()).err();
-    assert_same(rt, &refused, &Some(AsmRefused::Line { line, rule }), text);
+fn assert_refused(alloc: Global, text: &str, line: u64, rule: u8) -> Result<(), Fail> {
+    let refused = assemble(alloc, text.as_bytes()).err();
+    same(text, &refused, &Some(AsmRefused::Line { line, rule }))
 }
 
 static REFUSED: [(&str, u64, u8); 10] = [
@@ -104,10 +97,11 @@ static REFUSED: [(&str, u64, u8); 10] = [
 ];
 
 #[test]
-fn the_first_broken_line_is_named(rt: HostRuntime) {
+fn the_first_broken_line_is_named(rt: HostRuntime) -> Result<(), Fail> {
     for row in REFUSED.iter() {
-        assert_refused(&rt, row.0, row.1, row.2);
+        assert_refused(rt.alloc(), row.0, row.1, row.2)?;
     }
+    Ok(())
 }
 
 /// A text that begins with `first` and goes on with `line` so many times.
@@ -129,15 +123,13 @@ fn branch_over(alloc: Global, count: u32) -> Result<String, Fail> {
 #[test]
 fn far_labels_are_refused(rt: HostRuntime) -> Result<(), Fail> {
     let text = branch_over(rt.alloc(), 1023)?;
-    assert_refused(&rt, text.as_str(), 1, 7);
-    Ok(())
+    assert_refused(rt.alloc(), text.as_str(), 1, 7)
 }
 
 #[test]
 fn long_programs_are_refused(rt: HostRuntime) -> Result<(), Fail> {
     let text = repeated(rt.alloc(), "", "ecall\n", 16385)?;
-    assert_refused(&rt, text.as_str(), 16385, 8);
-    Ok(())
+    assert_refused(rt.alloc(), text.as_str(), 16385, 8)
 }
 
 fn push_label(alloc: Global, text: &mut String, n: u32) -> Result<(), Fail> {
@@ -157,7 +149,7 @@ fn labelled(alloc: Global, count: u32) -> Result<String, Fail> {
 #[test]
 fn many_labels_assemble(rt: HostRuntime) -> Result<(), Fail> {
     let text = labelled(rt.alloc(), 100_000)?;
-    assert_printed(&rt, text.as_str(), "words 0040006f\n")
+    assert_printed(rt.alloc(), text.as_str(), "words 0040006f\n")
 }
 
 fn told(alloc: Global, refused: AsmRefused) -> Result<String, Fail> {
@@ -169,6 +161,5 @@ const TOLD: &str = "line 3 breaks rule 6: no line defines the label that it name
 #[test]
 fn a_refusal_says_line_and_rule(rt: HostRuntime) -> Result<(), Fail> {
     let told = told(rt.alloc(), AsmRefused::Line { line: 3, rule: 6 })?;
-    assert_bytes(&rt, told.as_bytes(), TOLD.as_bytes(), "line 3");
-    Ok(())
+    same("line 3", &told.as_bytes(), &TOLD.as_bytes())
 }

@@ -5,8 +5,6 @@
 #[cfg(test)]
 mod assembler;
 #[cfg(test)]
-mod asserts;
-#[cfg(test)]
 mod printing;
 #[cfg(test)]
 mod reading;

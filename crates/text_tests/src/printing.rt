@@ -1,5 +1,4 @@
 //! What the clauses leave to a reader: that a text looks as the format says, and which texts are read.
-use crate::asserts::assert_same;
 use std::alloc::Global;
 use std::test::Fail;
 use sys_text::printer::system_text;
@@ -8,6 +7,7 @@ use sys_text::valid::is_system;
 use t32_base::lists::{Bytes, List, Text};
 use t32_base::process::{ClusterNo, Mode};
 use t32_base::streams::NoMemory;
+use test_asserts::same;
 
 const PAIR: &str =
     "clusters 4\npager 2 3\nsyncreads 1\nsyncsteps 64\nimage ping 1\nwords 00000000 ffffffff 0000006f deadbeef 00000001 0000000a 00100073 00000010\nwords 0abcdef1\nend\nimage b2 256\nend\nroot 0 1 quarter ping 100000 0 15\nroot 1 0 half b2 1 2 0\nroot 3 2 full ping 10 0 1\nchan 1 2\nchan 3 1\n";
@@ -76,6 +76,5 @@ fn printed(alloc: Global) -> Result<(bool, Text), NoMemory> {
 fn a_system_is_printed_in_its_canonical_form(rt: HostRuntime) -> Result<(), Fail> {
     let (is_system, text) = printed(rt.alloc())?;
     let shown = (is_system, text.as_slice());
-    assert_same(&rt, &shown, &(true, PAIR.as_bytes()), "the pair");
-    Ok(())
+    same("the pair", &shown, &(true, PAIR.as_bytes()))
 }

@@ -1,12 +1,11 @@
 //! Which texts are read, and which line and rule of the others is named.
-use crate::asserts::{assert_bytes, assert_same};
 use std::alloc::Global;
-use std::process::Abort;
 use std::test::Fail;
 use sys_text::printer::system_text;
 use sys_text::system::{Root, System};
 use sys_text::{SystemRefused, read_system};
 use t32_base::lists::Text;
+use test_asserts::same;
 
 const FRONT: &str = "clusters 2\npager 0 1\nsyncreads 32\nsyncsteps 4096\n";
 
@@ -32,13 +31,13 @@ fn refused(alloc: Global, text: &[u8]) -> Option<SystemRefused> {
     read_system(alloc, text).err()
 }
 
-fn assert_refused(rt: &(impl Abort + AllocGlobal), text: &[u8], line: u64, rule: u8, what: &str) {
+fn assert_refused(alloc: Global, text: &[u8], line: u64, rule: u8, what: &str) -> Result<(), Fail> {
     let wanted = Some(SystemRefused::BadLine { line, rule });
-    assert_same(rt, &refused(rt.alloc(), text), &wanted, what);
+    same(what, &refused(alloc, text), &wanted)
 }
 
-fn assert_read(rt: &(impl Abort + AllocGlobal), text: &[u8], what: &str) {
-    assert_same(rt, &refused(rt.alloc(), text), &None, what);
+fn assert_read(alloc: Global, text: &[u8], what: &str) -> Result<(), Fail> {
+    same(what, &refused(alloc, text), &None)
 }
 
 // A text with its program in words or in lines of the assembler, read and printed.
@@ -49,10 +48,9 @@ fn reprinted(alloc: Global, block: &str) -> Result<Text, Fail> {
 }
 
 // It is printed with its words.
-fn assert_reprinted(rt: &(impl Abort + AllocGlobal), block: &str) -> Result<(), Fail> {
-    let printed = reprinted(rt.alloc(), block)?;
-    assert_bytes(rt, printed.as_slice(), CANONICAL.as_bytes(), block);
-    Ok(())
+fn assert_reprinted(alloc: Global, block: &str) -> Result<(), Fail> {
+    let printed = reprinted(alloc, block)?;
+    same(block, &printed.as_slice(), &CANONICAL.as_bytes())
 }
 
 const CANONICAL: &str =
@@ -60,8 +58,8 @@ const CANONICAL: &str =
 
 #[test]
 fn a_program_is_read_as_its_words(rt: HostRuntime) -> Result<(), Fail> {
-    assert_reprinted(&rt, HI)?;
-    assert_reprinted(&rt, HI_PROGRAM)
+    assert_reprinted(rt.alloc(), HI)?;
+    assert_reprinted(rt.alloc(), HI_PROGRAM)
 }
 
 // Three parts of a text; the line and the rule that is named, and why.
@@ -115,16 +113,15 @@ fn text_of(alloc: Global, front: &str, amid: &str, last: &str) -> Result<String,
     Ok(format!(in alloc; "{front}{amid}{last}")?)
 }
 
-fn assert_example(rt: &(impl Abort + AllocGlobal), row: &Example) -> Result<(), Fail> {
-    let text = text_of(rt.alloc(), row.0, row.1, row.2)?;
-    assert_refused(rt, text.as_bytes(), row.3, row.4, row.5);
-    Ok(())
+fn assert_example(alloc: Global, row: &Example) -> Result<(), Fail> {
+    let text = text_of(alloc, row.0, row.1, row.2)?;
+    assert_refused(alloc, text.as_bytes(), row.3, row.4, row.5)
 }
 
 #[test]
 fn the_examples_of_refusals(rt: HostRuntime) -> Result<(), Fail> {
     for row in EXAMPLES.iter() {
-        assert_example(&rt, row)?;
+        assert_example(rt.alloc(), row)?;
     }
     Ok(())
 }
@@ -273,26 +270,31 @@ fn last_line(alloc: Global, front: &str, amid: &str, line: &str) -> Result<Strin
 }
 
 fn assert_last_line(
-    rt: &(impl Abort + AllocGlobal),
+    alloc: Global,
     front: &str,
     amid: &str,
     line: &str,
     rule: u8,
 ) -> Result<(), Fail> {
-    let text = last_line(rt.alloc(), front, amid, line)?;
-    assert_refused(rt, text.as_bytes(), lines_of(text.as_bytes()), rule, line);
-    Ok(())
+    let text = last_line(alloc, front, amid, line)?;
+    assert_refused(
+        alloc,
+        text.as_bytes(),
+        lines_of(text.as_bytes()),
+        rule,
+        line,
+    )
 }
 
 // The last line of each text breaks the rule.
 fn assert_last_lines(
-    rt: &(impl Abort + AllocGlobal),
+    alloc: Global,
     front: &str,
     amid: &str,
     rows: &[(&str, u8)],
 ) -> Result<(), Fail> {
     for row in rows {
-        assert_last_line(rt, front, amid, row.0, row.1)?;
+        assert_last_line(alloc, front, amid, row.0, row.1)?;
     }
     Ok(())
 }
@@ -300,7 +302,7 @@ fn assert_last_lines(
 #[test]
 fn each_rule_in_each_line(rt: HostRuntime) -> Result<(), Fail> {
     for rule in RULES.iter() {
-        assert_last_lines(&rt, rule.0, rule.1, rule.2)?;
+        assert_last_lines(rt.alloc(), rule.0, rule.1, rule.2)?;
     }
     Ok(())
 }
@@ -331,15 +333,13 @@ fn channels(alloc: Global, count: u32) -> Result<Vec<u8>, Fail> {
 #[test]
 fn there_is_no_room_for_32_channels(rt: HostRuntime) -> Result<(), Fail> {
     let text = channels(rt.alloc(), 32)?;
-    assert_refused(&rt, text.as_slice(), 40, 8, "end 32");
-    Ok(())
+    assert_refused(rt.alloc(), text.as_slice(), 40, 8, "end 32")
 }
 
 #[test]
 fn there_is_room_for_31_channels(rt: HostRuntime) -> Result<(), Fail> {
     let text = channels(rt.alloc(), 31)?;
-    assert_read(&rt, text.as_slice(), "31 channels");
-    Ok(())
+    assert_read(rt.alloc(), text.as_slice(), "31 channels")
 }
 
 // A block of one page, with one of its lines so many times.
@@ -350,29 +350,22 @@ fn block_of(alloc: Global, first: &str, line: &str, count: u32) -> Result<Vec<u8
     Ok(text)
 }
 
-fn assert_full(
-    rt: &(impl Abort + AllocGlobal),
-    first: &str,
-    word: &str,
-    line: u64,
-) -> Result<(), Fail> {
-    let text = block_of(rt.alloc(), first, word, 65)?;
-    assert_refused(rt, text.as_slice(), line, 8, "65 words in a page");
-    Ok(())
+fn assert_full(alloc: Global, first: &str, word: &str, line: u64) -> Result<(), Fail> {
+    let text = block_of(alloc, first, word, 65)?;
+    assert_refused(alloc, text.as_slice(), line, 8, "65 words in a page")
 }
 
 #[test]
 fn there_is_no_room_for_65_words_in_a_page(rt: HostRuntime) -> Result<(), Fail> {
-    assert_full(&rt, "image a 1\n", "words 00000000\n", 70)?;
-    assert_full(&rt, "asm a 1\n", "ecall\n", 71)
+    assert_full(rt.alloc(), "image a 1\n", "words 00000000\n", 70)?;
+    assert_full(rt.alloc(), "asm a 1\n", "ecall\n", 71)
 }
 
 #[test]
 fn a_long_line_is_read(rt: HostRuntime) -> Result<(), Fail> {
     let block = b"image a 256\nwords";
     let text = repeated(rt.alloc(), FRONT.as_bytes(), block, b" 00000000", 70_000)?;
-    assert_refused(&rt, text.as_slice(), 6, 8, "a line of 70,000 fields");
-    Ok(())
+    assert_refused(rt.alloc(), text.as_slice(), 6, 8, "a line of 70,000 fields")
 }
 
 // So many comments, and a system behind them.
@@ -387,8 +380,7 @@ fn commented(alloc: Global, count: u32) -> Result<Vec<u8>, Fail> {
 #[test]
 fn many_comments_are_read(rt: HostRuntime) -> Result<(), Fail> {
     let text = commented(rt.alloc(), 100_000)?;
-    assert_read(&rt, text.as_slice(), "100,000 comments");
-    Ok(())
+    assert_read(rt.alloc(), text.as_slice(), "100,000 comments")
 }
 
 fn push_image(alloc: Global, text: &mut Vec<u8>, number: u32) -> Result<(), Fail> {
@@ -426,8 +418,7 @@ fn two_images(roots: &[Root]) -> Option<(u64, u64)> {
 fn many_images_are_found_by_their_names(rt: HostRuntime) -> Result<(), Fail> {
     let system = with_last_and_first(rt.alloc())?;
     let found = (system.images.len(), two_images(system.roots.as_slice()));
-    assert_same(&rt, &found, &(80_000, Some((79_999, 0))), "80,000 images");
-    Ok(())
+    same("80,000 images", &found, &(80_000, Some((79_999, 0))))
 }
 
 static NAMES: [(&str, &str); 3] = [
@@ -436,22 +427,16 @@ static NAMES: [(&str, &str); 3] = [
     ("root 0 1 full a80000 1 0 0\n", "an unknown name"),
 ];
 
-fn assert_name_refused(
-    rt: &(impl Abort + AllocGlobal),
-    images: &[u8],
-    last: &str,
-    what: &str,
-) -> Result<(), Fail> {
-    let text = repeated(rt.alloc(), images, b"", last.as_bytes(), 1)?;
-    assert_refused(rt, text.as_slice(), 160_005, 7, what);
-    Ok(())
+fn assert_name_refused(alloc: Global, images: &[u8], last: &str, what: &str) -> Result<(), Fail> {
+    let text = repeated(alloc, images, b"", last.as_bytes(), 1)?;
+    assert_refused(alloc, text.as_slice(), 160_005, 7, what)
 }
 
 #[test]
 fn names_among_many_are_refused(rt: HostRuntime) -> Result<(), Fail> {
     let images = many_images(rt.alloc(), 80_000)?;
     for name in NAMES.iter() {
-        assert_name_refused(&rt, images.as_slice(), name.0, name.1)?;
+        assert_name_refused(rt.alloc(), images.as_slice(), name.0, name.1)?;
     }
     Ok(())
 }
