@@ -1,12 +1,12 @@
 //! Copies of records and of bytes.
 use std::alloc::Global;
-use std::process::Abort;
 use std::test::Fail;
 use t32_base::letter::{Arrived, BackRec, Body, Letter, To};
 use t32_base::lists::List;
 use t32_base::process::{Counts, Pid};
 use t32_base::shared_bytes::SharedBytes;
 use t32_base::streams::NoMemory;
+use test_asserts::same;
 
 fn letter(number: u64, body: Body) -> Arrived {
     let letter = Letter {
@@ -112,8 +112,7 @@ const WANTED: (Rest, Option<[Seen; 3]>) = (
 
 #[test]
 fn a_record_is_copied_with_its_letters(rt: HostRuntime) -> Result<(), Fail> {
-    assert_eq!(rt; copy_shown(rt.alloc())?, WANTED);
-    Ok(())
+    same("the copy", &copy_shown(rt.alloc())?, &WANTED)
 }
 
 fn copied(alloc: Global, bytes: &[u8]) -> Result<SharedBytes, NoMemory> {
@@ -121,21 +120,19 @@ fn copied(alloc: Global, bytes: &[u8]) -> Result<SharedBytes, NoMemory> {
     made.copy()
 }
 
-fn assert_copied(rt: &(impl Abort + AllocGlobal), bytes: &[u8]) -> Result<(), NoMemory> {
-    let copy = copied(rt.alloc(), bytes)?;
+fn assert_copied(alloc: Global, bytes: &[u8]) -> Result<(), Fail> {
+    let copy = copied(alloc, bytes)?;
     let shown = (copy.as_slice(), copy.len(), copy.is_empty());
-    assert_eq!(rt; shown, (bytes, bytes.len(), bytes.is_empty()));
-    Ok(())
+    same("the copy", &shown, &(bytes, bytes.len(), bytes.is_empty()))
 }
 
 static MANY: [u8; 300] = [7; 300];
 
 #[test]
 fn short_and_long_bytes_are_copied(rt: HostRuntime) -> Result<(), Fail> {
-    assert_copied(&rt, &MANY[..0])?;
-    assert_copied(&rt, &MANY[..1])?;
-    assert_copied(&rt, &MANY[..22])?;
-    assert_copied(&rt, &MANY[..23])?;
-    assert_copied(&rt, &MANY[..300])?;
-    Ok(())
+    assert_copied(rt.alloc(), &MANY[..0])?;
+    assert_copied(rt.alloc(), &MANY[..1])?;
+    assert_copied(rt.alloc(), &MANY[..22])?;
+    assert_copied(rt.alloc(), &MANY[..23])?;
+    assert_copied(rt.alloc(), &MANY[..300])
 }

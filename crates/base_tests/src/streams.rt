@@ -9,6 +9,7 @@ use t32_base::lists::{Bytes, List};
 use t32_base::memory::{MemSink, MemSource};
 use t32_base::standard::{StdSink, StdSource};
 use t32_base::streams::{Failed, NoMemory, Sink, Source, TakeFault, Taken};
+use test_asserts::same;
 
 // How many bytes a call took; 100 for the end, 200 for a fault.
 fn took(taken: Result<Taken, TakeFault>) -> usize {
@@ -67,8 +68,11 @@ const ASKED: [(usize, u64); 7] = [
 
 #[test]
 fn a_source_over_memory_fails_at_the_listed_calls_only(rt: HostRuntime) -> Result<(), Fail> {
-    assert_eq!(rt; asked_on(rt.alloc())?, ASKED);
-    Ok(())
+    same(
+        "what each call took, and the faults then",
+        &asked_on(rt.alloc())?,
+        &ASKED,
+    )
 }
 
 // What a call answered, and the faults then.
@@ -113,8 +117,11 @@ const GAVE: [Gave; 5] = [
 #[test]
 fn a_sink_over_memory_fails_at_the_listed_calls_and_when_full(rt: HostRuntime) -> Result<(), Fail> {
     let (gave, bytes) = sink_filled(rt.alloc())?;
-    assert_eq!(rt; (gave, bytes.as_slice()), (GAVE, b"abcde".as_slice()));
-    Ok(())
+    same(
+        "what each call answered, the faults then, and the bytes",
+        &(gave, bytes.as_slice()),
+        &(GAVE, b"abcde".as_slice()),
+    )
 }
 
 // Gives two bytes a call, and fails at its second call.
@@ -157,8 +164,12 @@ fn read_on(alloc: Global) -> [(usize, u64); 4] {
 const READ: [(usize, u64); 4] = [(2, 0), (200, 1), (2, 1), (100, 1)];
 
 #[test]
-fn a_fault_of_a_reader_is_counted(rt: HostRuntime) {
-    assert_eq!(rt; read_on(rt.alloc()), READ);
+fn a_fault_of_a_reader_is_counted(rt: HostRuntime) -> Result<(), Fail> {
+    same(
+        "what each call took, and the faults then",
+        &read_on(rt.alloc()),
+        &READ,
+    )
 }
 
 fn write_once(sink: &mut StdSink<Cursor<[u8; 4]>>) -> Gave {
@@ -179,6 +190,10 @@ fn written_on() -> [Gave; 3] {
 const WRITTEN: [Gave; 3] = [(Ok(3), 0), (Ok(1), 0), (Err(Failed), 1)];
 
 #[test]
-fn a_fault_of_a_writer_is_counted(rt: HostRuntime) {
-    assert_eq!(rt; written_on(), WRITTEN);
+fn a_fault_of_a_writer_is_counted() -> Result<(), Fail> {
+    same(
+        "what each call answered, and the faults then",
+        &written_on(),
+        &WRITTEN,
+    )
 }

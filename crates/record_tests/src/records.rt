@@ -15,6 +15,7 @@ use t32_base::lists::List;
 use t32_base::process::{ClusterNo, Counts, End, Mode, Pid};
 use t32_base::shared_bytes::SharedBytes;
 use t32_base::streams::NoMemory;
+use test_asserts::same;
 
 // The records of these processes, which have saved and counted nothing.
 fn records(alloc: Global, pids: &[u32]) -> Result<Records, NoMemory> {
@@ -136,8 +137,11 @@ const NOTED: [[Told; 3]; 5] = [
 fn a_letter_is_saved_by_its_receiver_and_counted_by_its_sender(
     rt: HostRuntime,
 ) -> Result<(), Fail> {
-    assert_eq!(rt; all_noted(rt.alloc())?, (2, NOTED));
-    Ok(())
+    same(
+        "what is told after each letter",
+        &all_noted(rt.alloc())?,
+        &(2, NOTED),
+    )
 }
 
 // How many records there are, and whether there is one of 16, 17 and 32.
@@ -164,8 +168,11 @@ fn ended(alloc: Global) -> Result<(usize, [bool; 3]), NoMemory> {
 
 #[test]
 fn the_record_of_a_process_that_ended_goes(rt: HostRuntime) -> Result<(), Fail> {
-    assert_eq!(rt; ended(rt.alloc())?, (2, [true, false, true]));
-    Ok(())
+    same(
+        "the records",
+        &ended(rt.alloc())?,
+        &(2, [true, false, true]),
+    )
 }
 
 // Four processes; the homes of 16, 32 and 64 are in cluster 0, and the backups of 16, 17 and 64 in cluster 1.
@@ -262,6 +269,5 @@ const MOVED: Moved = (
 
 #[test]
 fn a_loss_takes_the_records_that_move_here_with_their_letters(rt: HostRuntime) -> Result<(), Fail> {
-    assert_eq!(rt; shown(rt.alloc())?, MOVED);
-    Ok(())
+    same("what moved and what stays", &shown(rt.alloc())?, &MOVED)
 }

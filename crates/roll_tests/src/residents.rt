@@ -6,6 +6,7 @@ use std::alloc::Global;
 use std::test::Fail;
 use sys_calls::steps::Emission;
 use t32_base::streams::NoMemory;
+use test_asserts::same;
 
 fn resident_lost(alloc: Global) -> Result<Resident, NoMemory> {
     Ok(Resident::rolling(two_lost(alloc)?))
@@ -39,6 +40,5 @@ fn ran(alloc: Global) -> Result<Ran, NoMemory> {
 
 #[test]
 fn a_process_catches_up_and_sends_in_one_quantum(rt: HostRuntime) -> Result<(), Fail> {
-    assert_eq!(rt; ran(rt.alloc())?, ((true, 0), Some(9), 9));
-    Ok(())
+    same("the quantum", &ran(rt.alloc())?, &((true, 0), Some(9), 9))
 }
