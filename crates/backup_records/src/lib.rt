@@ -3,5 +3,3 @@
 
 pub mod by_pid;
 pub mod records;
-#[cfg(test)]
-mod tests;

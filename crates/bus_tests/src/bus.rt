@@ -1,20 +1,32 @@
 //! A bus at its start, call by call, and one that is stopped.
+ghost use Rattle.std.specs.Prelude.{◌≡◌, IfOk, true};
+ghost use Rattle.std.specs.Arc.{arc_value};
+ghost use Rattle.sys_text.specs.Valid.{is_system};
+
 use bus_msg::entry::What;
 use bus_order::bus::Bus;
 use std::alloc::Global;
 use std::sync::Arc;
 use std::test::Fail;
 use sys_text::read_system;
+use sys_text::system::System;
 use t32_base::process::{ClusterNo, Pid};
 use t32_base::streams::NoMemory;
+use test_asserts::same;
 
 // One root, at home in cluster 0 with its backup in cluster 1, in an image of one word.
 const ONE_ROOT: &str =
     "clusters 2\npager 0 1\nsyncreads 32\nsyncsteps 4096\nimage spin 1\nwords 0000006f\nend\nroot 0 1 quarter spin 1000 0 0\n";
 
-fn booted(alloc: Global) -> Result<Bus, Fail> {
+fn system(alloc: Global) -> Result<Arc<System>, Fail>
+    ensures { IfOk result (λ shared. is_system (arc_value shared) ≡ true) }
+{
     let system = read_system(alloc, ONE_ROOT.as_bytes())?;
-    let system = Arc::new(alloc, system)?;
+    Ok(Arc::new(alloc, system)?)
+}
+
+fn booted(alloc: Global) -> Result<Bus, Fail> {
+    let system = system(alloc)?;
     Ok(Bus::boot(alloc, &system)?)
 }
 
@@ -29,16 +41,32 @@ fn placed(bus: &Bus, pid: Pid) -> Option<(ClusterNo, Option<ClusterNo>)> {
     Some((placed.home, placed.backup))
 }
 
+// The counts, the places of 16 and 17, and whether the clusters 0 and 2 have a mark.
+type Start = (
+    (u64, bool, usize),
+    [Option<(ClusterNo, Option<ClusterNo>)>; 2],
+    [bool; 2],
+);
+
+fn start(bus: &Bus) -> Start {
+    let places = [placed(bus, Pid(16)), placed(bus, Pid(17))];
+    let marked = [
+        bus.marked(ClusterNo(0)).is_some(),
+        bus.marked(ClusterNo(2)).is_some(),
+    ];
+    (counts(bus), places, marked)
+}
+
+fn started(alloc: Global) -> Result<Start, Fail> {
+    let bus = booted(alloc)?;
+    Ok(start(&bus))
+}
+
 #[test]
 fn a_bus_starts_without_an_entry(rt: HostRuntime) -> Result<(), Fail> {
-    let bus = booted(rt.alloc())?;
-    assert_eq!(rt; counts(&bus), (0, false, 0));
     let root = (ClusterNo(0), Some(ClusterNo(1)));
-    assert_eq!(rt; placed(&bus, Pid(16)), Some(root));
-    assert_eq!(rt; placed(&bus, Pid(17)), None);
-    assert_eq!(rt; bus.marked(ClusterNo(0)), None);
-    assert_eq!(rt; bus.marked(ClusterNo(2)), None);
-    Ok(())
+    let wanted = ((0, false, 0), [Some(root), None], [false, false]);
+    same("the start", &started(rt.alloc())?, &wanted)
 }
 
 // A bus that was stopped, and the place of the stop.
@@ -53,27 +81,41 @@ fn end(bus: &Bus) -> (u64, bool, bool) {
     (bus.length(), bus.is_over(), bus.is_finished())
 }
 
-#[test]
-fn a_stop_is_the_last_entry(rt: HostRuntime) -> Result<(), Fail> {
-    let (bus, at) = stopped(rt.alloc())?;
-    assert_eq!(rt; at, Some(0));
-    assert_eq!(rt; end(&bus), (1, true, false));
-    Ok(())
+fn one_stop(alloc: Global) -> Result<(Option<u64>, (u64, bool, bool)), Fail> {
+    let (bus, at) = stopped(alloc)?;
+    Ok((at, end(&bus)))
 }
 
-// Whether the first entry is a stop, where there is one, and how many entries stand before the stop.
+#[test]
+fn a_stop_is_the_last_entry(rt: HostRuntime) -> Result<(), Fail> {
+    let wanted = (Some(0), (1, true, false));
+    same("the stop", &one_stop(rt.alloc())?, &wanted)
+}
+
+// Whether the first entry is a stop, where there is one.
+fn is_stop(bus: &Bus) -> Option<bool> {
+    let entry = bus.entry(0)?;
+    Some(matches!(entry.post.what, What::Stop))
+}
+
+// The same, and how many entries stand before the stop.
 fn entries(bus: &Bus) -> Result<(Option<bool>, usize), NoMemory> {
-    let is_stop = match bus.entry(0) {
-        Some(entry) => Some(matches!(entry.post.what, What::Stop)),
-        None => None,
-    };
-    Ok((is_stop, bus.shared_from(0)?.len()))
+    let before = bus.shared_from(0)?.len();
+    Ok((is_stop(bus), before))
+}
+
+// The place of a second stop, the length of the log, and its entries.
+type Second = (Option<u64>, u64, (Option<bool>, usize));
+
+fn second_stop(alloc: Global) -> Result<Second, Fail> {
+    let (mut bus, _) = stopped(alloc)?;
+    let at = bus.stop();
+    let entries = entries(&bus)?;
+    Ok((at, bus.length(), entries))
 }
 
 #[test]
 fn a_second_stop_adds_nothing(rt: HostRuntime) -> Result<(), Fail> {
-    let (mut bus, _) = stopped(rt.alloc())?;
-    assert_eq!(rt; (bus.stop(), bus.length()), (None, 1));
-    assert_eq!(rt; entries(&bus)?, (Some(true), 0));
-    Ok(())
+    let wanted = (None, 1, (Some(true), 0));
+    same("the second stop", &second_stop(rt.alloc())?, &wanted)
 }

@@ -10,6 +10,7 @@ use sys_calls::stepping::can_step;
 use t32_base::letter::Body;
 use t32_base::process::{EndState, Pid};
 use t32_base::streams::NoMemory;
+use test_asserts::same;
 
 // Whether a process can make a step, and whether it was blocked when it tried.
 fn tried(alloc: Global, p: &mut Process) -> Result<(bool, bool), NoMemory> {
@@ -32,20 +33,43 @@ fn with_two_letters(alloc: Global) -> Result<Process, NoMemory> {
     Ok(p)
 }
 
+type ReadAgain = (bool, u32, bool);
+
+fn read_three(alloc: Global, p: &mut Process) -> Result<[ReadAgain; 3], NoMemory> {
+    let first = read_again(alloc, p)?;
+    let second = read_again(alloc, p)?;
+    Ok([first, second, read_again(alloc, p)?])
+}
+
+// The two bytes that were read and the byte behind them, and the numbers of the letters.
+fn has_read(p: &Process) -> ([Option<u32>; 2], Option<(u64, u64)>) {
+    let bytes = [p.ram.load(0x10010, 2).ok(), p.ram.load(0x10012, 1).ok()];
+    let numbers = match p.read.as_slice() {
+        [first, second] => Some((*first, *second)),
+        _ => None,
+    };
+    (bytes, numbers)
+}
+
+// The end that it is linked by, its three reads, and what it has read.
+type Reads = (u8, [ReadAgain; 3], ([Option<u32>; 2], Option<(u64, u64)>));
+
+fn all_read(alloc: Global) -> Result<Reads, NoMemory> {
+    let mut p = with_two_letters(alloc)?;
+    let end = p.link(Pid(17), 1);
+    let reads = read_three(alloc, &mut p)?;
+    Ok((end, reads, has_read(&p)))
+}
+
+const READS: Reads = (
+    1,
+    [(true, 2, true), (true, 0, false), (true, 0, false)],
+    ([Some(0x6261), Some(0)], Some((0, 1))),
+);
+
 #[test]
 fn a_read_takes_the_first_letter_of_its_end(rt: HostRuntime) -> Result<(), Fail> {
-    let alloc = rt.alloc();
-    let mut p = with_two_letters(alloc)?;
-    assert_eq!(rt; p.link(Pid(17), 1), 1);
-    for (answer, more) in [(2, true), (0, false), (0, false)] {
-        assert_eq!(rt; read_again(alloc, &mut p)?, (true, answer, more));
-    }
-    assert_eq!(rt;
-        (p.ram.load(0x10010, 2), p.ram.load(0x10012, 1)),
-        (Ok(0x6261), Ok(0))
-    );
-    assert_eq!(rt; p.read.as_slice(), [0, 1].as_slice());
-    Ok(())
+    same("the reads", &all_read(rt.alloc())?, &READS)
 }
 
 // Reads again from any end: whether it could, whether the step was silent, and its answers.
@@ -65,19 +89,36 @@ fn with_two_ends(alloc: Global) -> Result<Process, NoMemory> {
     Ok(p)
 }
 
+fn link_three(p: &mut Process) -> [u8; 3] {
+    [p.link(Pid(17), 1), p.link(Pid(17), 1), p.link(Pid(17), 1)]
+}
+
+type ReadAny = (bool, bool, (u32, u32));
+
+// Two reads, and whether a third can be made and was blocked.
+fn read_two(alloc: Global, p: &mut Process) -> Result<([ReadAny; 2], (bool, bool)), NoMemory> {
+    let first = read_any_again(alloc, p)?;
+    let second = read_any_again(alloc, p)?;
+    again(&mut p.small, 0x10010);
+    Ok(([first, second], tried(alloc, p)?))
+}
+
+type ReadsOfAny = ([u8; 3], ([ReadAny; 2], (bool, bool)));
+
+fn any_read(alloc: Global) -> Result<ReadsOfAny, NoMemory> {
+    let mut p = with_two_ends(alloc)?;
+    let ends = link_three(&mut p);
+    Ok((ends, read_two(alloc, &mut p)?))
+}
+
+const READS_OF_ANY: ReadsOfAny = (
+    [1, 2, 3],
+    ([(true, true, (5, 3)), (true, true, (3, 1))], (false, true)),
+);
+
 #[test]
 fn a_read_of_any_end_takes_the_letters_as_they_came(rt: HostRuntime) -> Result<(), Fail> {
-    let alloc = rt.alloc();
-    let mut p = with_two_ends(alloc)?;
-    for number in [1, 2, 3] {
-        assert_eq!(rt; p.link(Pid(17), 1), number);
-    }
-    for (end, count) in [(3, 5), (1, 3)] {
-        assert_eq!(rt; read_any_again(alloc, &mut p)?, (true, true, (count, end)));
-    }
-    again(&mut p.small, 0x10010);
-    assert_eq!(rt; tried(alloc, &mut p)?, (false, true));
-    Ok(())
+    same("the reads", &any_read(rt.alloc())?, &READS_OF_ANY)
 }
 
 // A read by a process with its letters: whether it could be made, whether it was silent, its answer, and
@@ -94,35 +135,34 @@ fn read_one(
     Ok((can, silent, answers(&p).0, letters(&p)))
 }
 
+// The end, the address and the most bytes; the answer, and whether a letter stays on end 1.
+static READ_ONE: [(u32, u32, u32, u32, bool); 19] = [
+    (0, 0x10000, 1, REFUSED_END, true),
+    (0, 0x10100, 1, REFUSED_END, true),
+    (3, 0x10000, 1, REFUSED_END, true),
+    (4, 0x10100, 1, REFUSED_END, true),
+    (32, 0x10000, 1, REFUSED_END, true),
+    (0x101, 0x10000, 1, REFUSED_END, true),
+    (0xffffffff, 0x10000, 1, REFUSED_END, true),
+    (1, 0x10100, 1, REFUSED_ADDRESS, true),
+    (1, 0xffff, 1, REFUSED_ADDRESS, true),
+    (1, 0x100ff, 2, REFUSED_ADDRESS, true),
+    (1, 0x10001, 257, REFUSED_ADDRESS, true),
+    (31, 0x10100, 1, REFUSED_ADDRESS, true),
+    (2, 0x10100, 1, REFUSED_ADDRESS, true),
+    (2, 0x10000, 1, 0, true),
+    (1, 0x100ff, 1, 1, false),
+    (1, 0x10000, 256, 5, false),
+    (1, 0x10000, 257, 5, false),
+    (1, 0x10000, 0xffffffff, 5, false),
+    (1, 0, 0, 0, false),
+];
+
 #[test]
 fn a_read_checks_its_end_and_then_its_buffer(rt: HostRuntime) -> Result<(), Fail> {
-    let alloc = rt.alloc();
-    // The end, the address and the most bytes; the answer, and whether a letter stays on end 1.
-    for (end, ptr, max, answer, stays) in [
-        (0, 0x10000, 1, REFUSED_END, true),
-        (0, 0x10100, 1, REFUSED_END, true),
-        (3, 0x10000, 1, REFUSED_END, true),
-        (4, 0x10100, 1, REFUSED_END, true),
-        (32, 0x10000, 1, REFUSED_END, true),
-        (0x101, 0x10000, 1, REFUSED_END, true),
-        (0xffffffff, 0x10000, 1, REFUSED_END, true),
-        (1, 0x10100, 1, REFUSED_ADDRESS, true),
-        (1, 0xffff, 1, REFUSED_ADDRESS, true),
-        (1, 0x100ff, 2, REFUSED_ADDRESS, true),
-        (1, 0x10001, 257, REFUSED_ADDRESS, true),
-        (31, 0x10100, 1, REFUSED_ADDRESS, true),
-        (2, 0x10100, 1, REFUSED_ADDRESS, true),
-        (2, 0x10000, 1, 0, true),
-        (1, 0x100ff, 1, 1, false),
-        (1, 0x10000, 256, 5, false),
-        (1, 0x10000, 257, 5, false),
-        (1, 0x10000, 0xffffffff, 5, false),
-        (1, 0, 0, 0, false),
-    ] {
-        assert_eq!(rt;
-            read_one(alloc, end, ptr, max)?,
-            (true, true, answer, (stays, true, true))
-        );
+    for row in READ_ONE.iter() {
+        let made = read_one(rt.alloc(), row.0, row.1, row.2)?;
+        same("a read", &made, &(true, true, row.3, (row.4, true, true)))?;
     }
     Ok(())
 }
@@ -135,19 +175,20 @@ fn read_any(alloc: Global, ptr: u32, max: u32) -> Result<(bool, (u32, u32), bool
     Ok((silent, answers(&p), letters(&p).2))
 }
 
+// The address and the most bytes; a0 and a1 after it.
+static READ_ANY: [(u32, u32, (u32, u32)); 5] = [
+    (0x10100, 1, (REFUSED_ADDRESS, 1)),
+    (0x10001, 257, (REFUSED_ADDRESS, 257)),
+    (0x10000, 257, (5, 2)),
+    (0x100ff, 1, (1, 2)),
+    (0, 0, (0, 2)),
+];
+
 #[test]
 fn a_read_of_any_end_checks_its_buffer_and_then_its_ends(rt: HostRuntime) -> Result<(), Fail> {
-    let alloc = rt.alloc();
-    // The address and the most bytes; a0 and a1 after it.
-    for (ptr, max, answer, end) in [
-        (0x10100, 1, REFUSED_ADDRESS, 1),
-        (0x10001, 257, REFUSED_ADDRESS, 257),
-        (0x10000, 257, 5, 2),
-        (0x100ff, 1, 1, 2),
-        (0, 0, 0, 2),
-    ] {
-        let made = read_any(alloc, ptr, max)?;
-        assert_eq!(rt; made, (true, (answer, end), true));
+    for row in READ_ANY.iter() {
+        let made = read_any(rt.alloc(), row.0, row.1)?;
+        same("a read", &made, &(true, row.2, true))?;
     }
     Ok(())
 }
@@ -165,10 +206,10 @@ fn read_finished(alloc: Global, ptr: u32) -> Result<(bool, u32), NoMemory> {
 
 #[test]
 fn a_read_of_any_end_is_refused_where_all_are_finished(rt: HostRuntime) -> Result<(), Fail> {
-    for (ptr, answer) in [(0x10100, REFUSED_ADDRESS), (0x10000, REFUSED_END)] {
-        assert_eq!(rt; read_finished(rt.alloc(), ptr)?, (true, answer));
-    }
-    Ok(())
+    let outside = read_finished(rt.alloc(), 0x10100)?;
+    let within = read_finished(rt.alloc(), 0x10000)?;
+    let wanted = ((true, REFUSED_ADDRESS), (true, REFUSED_END));
+    same("the reads", &(outside, within), &wanted)
 }
 
 // A process that reads end 31, for which nothing has come.
@@ -178,11 +219,14 @@ fn with_no_letter(alloc: Global) -> Result<Process, NoMemory> {
     Ok(p)
 }
 
+fn none_read(alloc: Global) -> Result<((bool, bool), (u32, u32, u64)), NoMemory> {
+    let mut p = with_no_letter(alloc)?;
+    let tried = tried(alloc, &mut p)?;
+    Ok((tried, shown(&p)))
+}
+
 #[test]
 fn a_read_without_a_letter_waits(rt: HostRuntime) -> Result<(), Fail> {
-    let alloc = rt.alloc();
-    let mut p = with_no_letter(alloc)?;
-    assert_eq!(rt; tried(alloc, &mut p)?, (false, true));
-    assert_eq!(rt; shown(&p), (31, 0x10000, 0));
-    Ok(())
+    let wanted = ((false, true), (31, 0x10000, 0));
+    same("the read", &none_read(rt.alloc())?, &wanted)
 }

@@ -7,6 +7,7 @@ use sys_calls::stepping::run_on;
 use sys_calls::steps::{Emission, Step};
 use t32_base::process::{End, Pid};
 use t32_base::streams::NoMemory;
+use test_asserts::same;
 
 // li a7, 2 / li a0, 0 / la a1, m / li a2, 2 / ecall / addi a1, a1, 2 / li a0, 0 / ecall / li a7, 1 / li a0, 0 /
 // ecall / m: .ascii "a\nb\n"
@@ -41,35 +42,54 @@ fn ran(alloc: Global, p: &mut Process) -> Result<(Stop, u64), NoMemory> {
     Ok((stop, p.small.steps))
 }
 
+fn rooted(alloc: Global, limit: u32) -> Result<Process, NoMemory> {
+    Process::root(alloc, Pid(16), 1, &TWO, limit, 0, 0)
+}
+
+fn run_four(alloc: Global, p: &mut Process) -> Result<[(Stop, u64); 4], NoMemory> {
+    let first = ran(alloc, p)?;
+    let second = ran(alloc, p)?;
+    let third = ran(alloc, p)?;
+    Ok([first, second, third, ran(alloc, p)?])
+}
+
+fn two_ran(alloc: Global) -> Result<[(Stop, u64); 4], NoMemory> {
+    let mut two = rooted(alloc, 1000)?;
+    run_four(alloc, &mut two)
+}
+
+const STOPS: [(Stop, u64); 4] = [
+    (Stop::Letter, 6),
+    (Stop::Letter, 9),
+    (Stop::Exit(End::Exit(0)), 13),
+    (Stop::Over, 13),
+];
+
 #[test]
 fn a_process_runs_on_to_each_letter_and_to_its_end(rt: HostRuntime) -> Result<(), Fail> {
-    let alloc = rt.alloc();
-    let exit = Stop::Exit(End::Exit(0));
-    let mut two = Process::root(alloc, Pid(16), 1, &TWO, 1000, 0, 0)?;
-    for stop in [
-        (Stop::Letter, 6),
-        (Stop::Letter, 9),
-        (exit, 13),
-        (Stop::Over, 13),
-    ] {
-        assert_eq!(rt; ran(alloc, &mut two)?, stop);
-    }
-    Ok(())
+    same("the stops", &two_ran(rt.alloc())?, &STOPS)
+}
+
+fn short_ran(alloc: Global) -> Result<(Stop, u64), NoMemory> {
+    let mut short = rooted(alloc, 5)?;
+    ran(alloc, &mut short)
 }
 
 #[test]
 fn a_process_without_instructions_runs_on_to_its_end(rt: HostRuntime) -> Result<(), Fail> {
-    let alloc = rt.alloc();
-    let mut short = Process::root(alloc, Pid(16), 1, &TWO, 5, 0, 0)?;
-    assert_eq!(rt; ran(alloc, &mut short)?, (Stop::Exit(End::Limit), 7));
-    Ok(())
+    let wanted = (Stop::Exit(End::Limit), 7);
+    same("the stop", &short_ran(rt.alloc())?, &wanted)
+}
+
+// The end by which it is linked, and at what it stopped.
+fn reading_ran(alloc: Global) -> Result<(u8, (Stop, u64)), NoMemory> {
+    let mut reading = calling(alloc, 1, 0x10010, 2, 3)?;
+    let end = reading.link(Pid(17), 1);
+    Ok((end, ran(alloc, &mut reading)?))
 }
 
 #[test]
 fn a_process_that_waits_runs_no_further(rt: HostRuntime) -> Result<(), Fail> {
-    let alloc = rt.alloc();
-    let mut reading = calling(alloc, 1, 0x10010, 2, 3)?;
-    assert_eq!(rt; reading.link(Pid(17), 1), 1);
-    assert_eq!(rt; ran(alloc, &mut reading)?, (Stop::Blocked, 0));
-    Ok(())
+    let wanted = (1, (Stop::Blocked, 0));
+    same("the stop", &reading_ran(rt.alloc())?, &wanted)
 }

@@ -6,6 +6,7 @@ use std::test::Fail;
 use t32_base::letter::To;
 use t32_base::process::{End, EndState, Pid, Small, Status};
 use t32_base::streams::NoMemory;
+use test_asserts::same;
 
 // A call: whether its step was silent, the status, the register a0 and the program counter after it.
 fn called(alloc: Global, number: u32, a0: u32) -> Result<(bool, Status, u32, u32), NoMemory> {
@@ -15,24 +16,23 @@ fn called(alloc: Global, number: u32, a0: u32) -> Result<(bool, Status, u32, u32
     Ok((silent, p.small.status, answer, pc))
 }
 
+// The number of the call and its argument; the status and the register a0 after it.
+static CALLS: [(u32, u32, Status, u32); 8] = [
+    (1, 0x1ff, Status::Closing(End::Exit(255)), 0x1ff),
+    (6, 7, Status::Live, 16),
+    (0, 7, Status::Live, 0xffffffea),
+    (3, 7, Status::Live, 0xfffffff7),
+    (4, 0, Status::Live, 0xfffffff7),
+    (10, 7, Status::Live, 0xfffffff7),
+    (11, 7, Status::Live, 0xffffffea),
+    (0xffffffff, 7, Status::Live, 0xffffffea),
+];
+
 #[test]
 fn each_call_answers(rt: HostRuntime) -> Result<(), Fail> {
-    let alloc = rt.alloc();
-    // The number of the call; the status and the register a0 after it.
-    for (number, argument, status, answer) in [
-        (1, 0x1ff, Status::Closing(End::Exit(255)), 0x1ff),
-        (6, 7, Status::Live, 16),
-        (0, 7, Status::Live, 0xffffffea),
-        (3, 7, Status::Live, 0xfffffff7),
-        (4, 0, Status::Live, 0xfffffff7),
-        (10, 7, Status::Live, 0xfffffff7),
-        (11, 7, Status::Live, 0xffffffea),
-        (0xffffffff, 7, Status::Live, 0xffffffea),
-    ] {
-        assert_eq!(rt;
-            called(alloc, number, argument)?,
-            (true, status, answer, 0x10004)
-        );
+    for row in CALLS.iter() {
+        let made = called(rt.alloc(), row.0, row.1)?;
+        same("a call", &made, &(true, row.2, row.3, 0x10004))?;
     }
     Ok(())
 }
@@ -59,17 +59,40 @@ fn over(alloc: Global, p: &mut Process) -> Result<(bool, Status, u64), NoMemory>
     Ok((over, status, p.small.steps))
 }
 
+// The end letters of two steps.
+type Shut = [Option<(u8, To)>; 2];
+
+fn shut_two(alloc: Global, p: &mut Process) -> Result<Shut, NoMemory> {
+    let first = ended(alloc, p)?;
+    Ok([first, ended(alloc, p)?])
+}
+
+// Whether the exit is silent, the end letters, the end, and that there is no step any more.
+type Closing = (bool, Shut, Option<End>, (bool, Status, u64));
+
+fn close(alloc: Global, p: &mut Process) -> Result<Closing, NoMemory> {
+    let silent = is_silent(alloc, p)?;
+    let shut = shut_two(alloc, p)?;
+    let end = exit(alloc, p)?;
+    Ok((silent, shut, end, over(alloc, p)?))
+}
+
+fn closed(alloc: Global) -> Result<Closing, NoMemory> {
+    let mut p = exiting(alloc)?;
+    close(alloc, &mut p)
+}
+
+const CLOSING: Closing = (
+    true,
+    [
+        Some((3, To::Proc(Pid(17), 5))),
+        Some((31, To::Proc(Pid(17), 5))),
+    ],
+    Some(End::Exit(0)),
+    (true, Status::Ended(End::Exit(0)), 4),
+);
+
 #[test]
 fn a_closing_process_shuts_its_ends_and_then_exits(rt: HostRuntime) -> Result<(), Fail> {
-    let alloc = rt.alloc();
-    let mut p = exiting(alloc)?;
-    assert!(rt; is_silent(alloc, &mut p)?);
-    for end in [3, 31] {
-        let letter = ended(alloc, &mut p)?;
-        assert_eq!(rt; letter, Some((end, To::Proc(Pid(17), 5))));
-    }
-    assert_eq!(rt; exit(alloc, &mut p)?, Some(End::Exit(0)));
-    let status = Status::Ended(End::Exit(0));
-    assert_eq!(rt; over(alloc, &mut p)?, (true, status, 4));
-    Ok(())
+    same("the steps", &closed(rt.alloc())?, &CLOSING)
 }

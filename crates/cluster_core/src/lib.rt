@@ -4,11 +4,9 @@
 mod absorb;
 mod booting;
 pub mod cluster;
-mod quantum;
-mod resident;
+pub mod quantum;
+pub mod resident;
 mod residents;
 pub mod steps_left;
-#[cfg(test)]
-mod tests;
 mod work;
 pub mod worked;

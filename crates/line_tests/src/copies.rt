@@ -1,8 +1,10 @@
 //! Copies, and what of them no line shows.
 use crate::entries::{page_of, rebackup_of, rests_of, sync_of};
 use bus_msg::entry::{By, Post, What};
+use std::alloc::Global;
 use std::test::Fail;
 use t32_base::letter::BackRec;
+use t32_base::lists::List;
 use t32_base::process::{ClusterNo, Pid};
 use t32_base::streams::NoMemory;
 
@@ -10,72 +12,105 @@ fn copied(by: By, what: What) -> Result<Post, NoMemory> {
     Post { by, what }.copy()
 }
 
+// The two of a list that has just two.
+fn both<T: Copy>(list: &List<T>) -> Option<(T, T)> {
+    match list.as_slice() {
+        [first, second] => Some((*first, *second)),
+        _ => None,
+    }
+}
+
 // The handler, the numbers of the letters read and the signal taken, where it is a synchronisation.
-fn synced(post: &Post) -> Option<(u32, &[u64], Option<u8>)> {
-    match &post.what {
+type Synced = (u32, Option<(u64, u64)>, Option<u8>);
+
+fn synced(post: &Post) -> (By, Option<Synced>) {
+    let what = match &post.what {
         What::Sync {
             small,
             read,
             took,
             ..
-        } => Some((small.get().handler, read.as_slice(), *took)),
+        } => Some((small.get().handler, both(read), *took)),
         _ => None,
-    }
+    };
+    (post.by, what)
+}
+
+fn copied_sync(alloc: Global, by: By) -> Result<(By, Option<Synced>), NoMemory> {
+    let copy = copied(by, sync_of(alloc, Some(10))?)?;
+    Ok(synced(&copy))
 }
 
 #[test]
 fn a_synchronisation_is_copied_with_what_is_not_printed(rt: HostRuntime) -> Result<(), Fail> {
     let by = By::Cluster(ClusterNo(3));
-    let copy = copied(by, sync_of(rt.alloc(), Some(10))?)?;
-    assert_eq!(&rt; copy.by, by);
-    let wanted = Some((65600, [5, 3].as_slice(), Some(10)));
-    assert_eq!(&rt; synced(&copy), wanted);
+    let wanted = Some((65600, Some((5, 3)), Some(10)));
+    assert_eq!(&rt; copied_sync(rt.alloc(), by)?, (by, wanted));
     Ok(())
 }
 
-// The steps of those that have not ended, where it is the end.
-fn rests(post: &Post) -> Option<&[(Pid, u64)]> {
+// The steps of the two that have not ended, where it is the end.
+type Rests = Option<((Pid, u64), (Pid, u64))>;
+
+fn rests(post: &Post) -> Rests {
     match &post.what {
-        What::Done { rests } => Some(rests.as_slice()),
+        What::Done { rests } => both(rests),
         _ => None,
     }
+}
+
+fn copied_end(alloc: Global) -> Result<Rests, NoMemory> {
+    let made = rests_of(alloc)?;
+    let copy = copied(By::Bus, What::Done { rests: made })?;
+    Ok(rests(&copy))
 }
 
 #[test]
 fn an_end_is_copied_with_what_is_not_printed(rt: HostRuntime) -> Result<(), Fail> {
-    let made = rests_of(rt.alloc())?;
-    let copy = copied(By::Bus, What::Done { rests: made })?;
-    let wanted = [(Pid(16), 10), (Pid(33), 18446744073709551615)];
-    assert_eq!(&rt; rests(&copy), Some(wanted.as_slice()));
+    let wanted = ((Pid(16), 10), (Pid(33), 18446744073709551615));
+    assert_eq!(&rt; copied_end(rt.alloc())?, Some(wanted));
     Ok(())
 }
 
-// The records, where it is a new backup.
-fn records(post: &Post) -> Option<&[BackRec]> {
-    match &post.what {
-        What::Rebackup { recs, .. } => Some(recs.as_slice()),
+// The number of the next letter, the signals counted, how many letters are saved, and the one birth.
+type Held = (u64, u32, usize, Option<Pid>);
+
+fn only(births: &[Pid]) -> Option<Pid> {
+    match births {
+        [birth] => Some(*birth),
         _ => None,
     }
 }
 
-// The number of the next letter, the signals counted, how many letters are saved, and the births.
-fn held(rec: &BackRec) -> (u64, u32, usize, &[Pid]) {
+fn held(rec: &BackRec) -> Held {
     (
         rec.next,
         rec.counts.signals,
         rec.saved.len(),
-        rec.births.as_slice(),
+        only(rec.births.as_slice()),
     )
+}
+
+// What the records hold, where it is a new backup of just two.
+fn both_held(post: &Post) -> Option<(Held, Held)> {
+    match &post.what {
+        What::Rebackup { recs, .. } => match recs.as_slice() {
+            [first, second] => Some((held(first), held(second))),
+            _ => None,
+        },
+        _ => None,
+    }
+}
+
+fn copied_records(alloc: Global) -> Result<Option<(Held, Held)>, NoMemory> {
+    let copy = copied(By::Bus, rebackup_of(alloc, false)?)?;
+    Ok(both_held(&copy))
 }
 
 #[test]
 fn records_are_copied(rt: HostRuntime) -> Result<(), Fail> {
-    let copy = copied(By::Bus, rebackup_of(rt.alloc(), false)?)?;
-    let recs = records(&copy).ok_or("no new backup")?;
-    assert_eq!(&rt; recs.len(), 2);
-    for rec in recs {
-        assert_eq!(&rt; held(rec), (7, 5, 1, [Pid(48)].as_slice()));
-    }
+    let wanted = (7, 5, 1, Some(Pid(48)));
+    assert_eq!(&rt; copied_records(rt.alloc())?, Some((wanted, wanted)));
     Ok(())
 }
 
@@ -87,14 +122,18 @@ fn page_ends(post: &Post) -> Option<(u8, u8)> {
     }
 }
 
-#[test]
-fn a_page_is_copied(rt: HostRuntime) -> Result<(), Fail> {
+fn copied_page(alloc: Global) -> Result<Option<(u8, u8)>, NoMemory> {
     let answer = What::PageIs {
         pid: Pid(16),
         index: 2,
-        bytes: page_of(rt.alloc(), 9)?,
+        bytes: page_of(alloc, 9)?,
     };
     let copy = copied(By::Bus, answer)?;
-    assert_eq!(&rt; page_ends(&copy), Some((0, 9)));
+    Ok(page_ends(&copy))
+}
+
+#[test]
+fn a_page_is_copied(rt: HostRuntime) -> Result<(), Fail> {
+    assert_eq!(&rt; copied_page(rt.alloc())?, Some((0, 9)));
     Ok(())
 }

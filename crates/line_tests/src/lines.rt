@@ -11,19 +11,26 @@ use t32_base::process::{ClusterNo, End, Pid};
 use t32_base::shared_bytes::SharedBytes;
 use t32_base::streams::NoMemory;
 
-// The text of the copy of an entry, and where the copy goes.
-fn copied(alloc: Global, entry: &Entry) -> Result<(Bytes, Dests), NoMemory> {
-    let copy = entry.copy()?;
-    let text = entry_text(alloc, &copy)?;
-    Ok((text, copy.dests))
+// The text of an entry, and where it goes.
+fn shown(alloc: Global, entry: &Entry) -> Result<(Bytes, Dests), NoMemory> {
+    Ok((entry_text(alloc, entry)?, entry.dests))
 }
 
-// The text that is made of an entry, that of its copy, and where the copy goes.
+fn copied(alloc: Global, entry: &Entry) -> Result<(Bytes, Dests), NoMemory> {
+    let copy = entry.copy()?;
+    shown(alloc, &copy)
+}
+
+// The text of an entry, that of its copy, and where the copy goes.
+fn both(alloc: Global, entry: &Entry) -> Result<(Bytes, Bytes, Dests), NoMemory> {
+    let text = entry_text(alloc, entry)?;
+    let (copy, dests) = copied(alloc, entry)?;
+    Ok((text, copy, dests))
+}
+
 fn printed(alloc: Global, by: By, what: What) -> Result<(Bytes, Bytes, Dests), NoMemory> {
     let entry = entry_of(7, by, what);
-    let text = entry_text(alloc, &entry)?;
-    let (copy, dests) = copied(alloc, &entry)?;
-    Ok((text, copy, dests))
+    both(alloc, &entry)
 }
 
 // The line stands in the text that is made of the entry, and in that of its copy.
@@ -34,9 +41,8 @@ fn assert_line(
     line: &[u8],
 ) -> Result<(), Fail> {
     let (text, copy, dests) = printed(rt.alloc(), by, what)?;
-    assert_eq!(rt; text.as_slice(), line);
-    assert_eq!(rt; copy.as_slice(), line);
-    assert_eq!(rt; dests, DESTS);
+    let shown = (text.as_slice(), copy.as_slice(), dests);
+    assert_eq!(rt; shown, (line, line, DESTS));
     Ok(())
 }
 
@@ -173,6 +179,26 @@ fn what_the_bus_says_is_printed(rt: HostRuntime) -> Result<(), Fail> {
     Ok(())
 }
 
+// An end in words by itself.
+fn assert_words(rt: &(impl Abort + AllocGlobal), end: End, words: &[u8]) -> Result<(), Fail> {
+    let text = end_line(rt.alloc(), end)?;
+    assert_eq!(rt; text.as_bytes(), words);
+    Ok(())
+}
+
+// An end in words, by itself and in its line.
+fn assert_end(
+    rt: &(impl Abort + AllocGlobal),
+    end: End,
+    words: &[u8],
+    line: &[u8],
+) -> Result<(), Fail> {
+    assert_words(rt, end, words)?;
+    let (pid, at) = (Pid(16), 10);
+    let what = What::Exit { pid, at, end };
+    assert_line(rt, By::Cluster(ClusterNo(0)), what, line)
+}
+
 #[test]
 fn ends_are_printed(rt: HostRuntime) -> Result<(), Fail> {
     for (end, words, line) in [
@@ -197,25 +223,28 @@ fn ends_are_printed(rt: HostRuntime) -> Result<(), Fail> {
             b"7 0 exit 16 at 10 limit".as_slice(),
         ),
     ] {
-        let text = end_line(rt.alloc(), end)?;
-        assert_eq!(&rt; text.as_bytes(), words);
-        let what = What::Exit {
-            pid: Pid(16),
-            at: 10,
-            end,
-        };
-        assert_line(&rt, By::Cluster(ClusterNo(0)), what, line)?;
+        assert_end(&rt, end, words, line)?;
     }
     Ok(())
 }
 
+fn put_stop(alloc: Global, text: &mut Bytes, place: u64) -> Result<(), NoMemory> {
+    let stop = entry_of(place, By::Bus, What::Stop);
+    put_entry(alloc, text, &stop)
+}
+
+fn log_of_two(alloc: Global) -> Result<Bytes, NoMemory> {
+    let mut text = Bytes::copy_of(alloc, b"log\n")?;
+    put_stop(alloc, &mut text, 8)?;
+    text.extend(b"\n")?;
+    put_stop(alloc, &mut text, 18446744073709551615)?;
+    text.extend(b"\n")?;
+    Ok(text)
+}
+
 #[test]
 fn lines_stand_one_behind_the_other(rt: HostRuntime) -> Result<(), Fail> {
-    let mut text = Bytes::copy_of(rt.alloc(), b"log\n")?;
-    for place in [8, 18446744073709551615] {
-        put_entry(rt.alloc(), &mut text, &entry_of(place, By::Bus, What::Stop))?;
-        text.extend(b"\n")?;
-    }
+    let text = log_of_two(rt.alloc())?;
     let wanted = b"log\n8 bus stop\n18446744073709551615 bus stop\n".as_slice();
     assert_eq!(&rt; text.as_slice(), wanted);
     Ok(())

@@ -6,6 +6,7 @@ use bus_msg::placed::Placed;
 use bus_msg::shared::Shared;
 use channel_table::placement::Placement;
 use std::alloc::Global;
+use std::process::Abort;
 use std::test::Fail;
 use t32_base::letter::{BackRec, Body, Letter, To};
 use t32_base::lists::List;
@@ -265,60 +266,100 @@ fn after_shows(
 
 #[test]
 fn a_log_is_taken_in_entry_by_entry(rt: HostRuntime) -> Result<(), Fail> {
-    for (steps, wanted, covered) in LOG {
-        let shown = after_shows(rt.alloc(), steps, wanted, covered)?;
-        assert_eq!(rt; shown, (true, true, true), "after {steps}");
+    for row in LOG.iter() {
+        let shown = after_shows(rt.alloc(), row.0, row.1, row.2)?;
+        assert_eq!(rt; shown, (true, true, true), "after {}", row.0);
     }
     Ok(())
 }
 
 // Whether a cluster lives and serves pages, and what serial its next child gets.
-fn stands(places: &Placement, k: ClusterNo) -> (bool, bool, u32) {
+type Stands = (bool, bool, u32);
+
+fn stands(places: &Placement, k: ClusterNo) -> Stands {
     (places.living(k), places.is_server(k), places.next_serial(k))
+}
+
+// How many entries were taken in; a cluster, and how it stands.
+static STANDING: [(u8, u8, Stands); 9] = [
+    (0, 0, (true, false, 2)),
+    (0, 1, (true, true, 2)),
+    (0, 2, (true, true, 1)),
+    (0, 3, (false, false, 0)),
+    (2, 0, (true, false, 4)),
+    (5, 0, (false, false, 4)),
+    (6, 0, (true, false, 4)),
+    (8, 2, (false, false, 1)),
+    (9, 2, (true, false, 1)),
+];
+
+// How a cluster stands after so many entries, how many clusters there are, and the first that serves pages.
+fn after_stands(
+    alloc: Global,
+    steps: u8,
+    k: u8,
+) -> Result<(Stands, u8, Option<ClusterNo>), NoMemory> {
+    let places = after(alloc, steps)?;
+    let stands = stands(&places, ClusterNo(k));
+    Ok((stands, places.clusters(), places.first_server()))
+}
+
+fn assert_stands(
+    rt: &(impl Abort + AllocGlobal),
+    steps: u8,
+    k: u8,
+    wanted: Stands,
+) -> Result<(), NoMemory> {
+    let shown = after_stands(rt.alloc(), steps, k)?;
+    assert_eq!(rt; shown, (wanted, 3, Some(ClusterNo(1))), "{k} after {steps}");
+    Ok(())
 }
 
 #[test]
 fn clusters_are_lost_and_return(rt: HostRuntime) -> Result<(), Fail> {
-    let alloc = rt.alloc();
-    for (steps, k, wanted) in [
-        (0, 0, (true, false, 2)),
-        (0, 1, (true, true, 2)),
-        (0, 2, (true, true, 1)),
-        (0, 3, (false, false, 0)),
-        (2, 0, (true, false, 4)),
-        (5, 0, (false, false, 4)),
-        (6, 0, (true, false, 4)),
-        (8, 2, (false, false, 1)),
-        (9, 2, (true, false, 1)),
-    ] {
-        let places = after(alloc, steps)?;
-        assert_eq!(rt; stands(&places, ClusterNo(k)), wanted, "{k} after {steps}");
-        assert_eq!(rt; places.clusters(), 3);
-        assert_eq!(rt; places.first_server(), Some(ClusterNo(1)));
+    for row in STANDING.iter() {
+        assert_stands(&rt, row.0, row.1, row.2)?;
     }
     Ok(())
 }
 
+// A process that has not ended by each of two pids, and the homes by the first and by a third.
+type Found = ([Option<Placed>; 2], [Option<ClusterNo>; 2]);
+
+fn found_after(alloc: Global, steps: u8) -> Result<Found, NoMemory> {
+    let places = after(alloc, steps)?;
+    let unended = [places.unended(Pid(32)), places.unended(Pid(17))];
+    Ok((unended, [places.home(Pid(32)), places.home(Pid(64))]))
+}
+
 #[test]
 fn a_process_that_ended_is_found_only_where_asked(rt: HostRuntime) -> Result<(), Fail> {
-    let places = after(rt.alloc(), 3)?;
-    assert_eq!(rt; places.unended(Pid(32)), None);
-    assert_eq!(rt; places.home(Pid(32)), Some(ClusterNo(0)));
-    assert_eq!(rt; places.unended(Pid(17)), Some(SECOND));
-    assert_eq!(rt; places.home(Pid(64)), None);
+    let wanted = ([None, Some(SECOND)], [Some(ClusterNo(0)), None]);
+    assert_eq!(rt; found_after(rt.alloc(), 3)?, wanted);
     Ok(())
+}
+
+// One backup is set and one cluster lost, which returns.
+fn set_by_hand(alloc: Global) -> Result<Placement, NoMemory> {
+    let mut places = booted(alloc)?;
+    places.set_backup(Pid(16), ClusterNo(2));
+    places.move_after_crash(ClusterNo(1));
+    places.come_back(ClusterNo(1));
+    Ok(places)
+}
+
+// Whether cluster 1 lives, the first that serves pages, the home of 17, and whether cluster 2 is covered.
+fn by_hand(alloc: Global) -> Result<(bool, [Option<ClusterNo>; 2], bool), NoMemory> {
+    let places = set_by_hand(alloc)?;
+    let numbers = [places.first_server(), places.home(Pid(17))];
+    let living = places.living(ClusterNo(1));
+    Ok((living, numbers, places.covered(ClusterNo(2))))
 }
 
 #[test]
 fn one_backup_is_set_and_one_cluster_lost_by_hand(rt: HostRuntime) -> Result<(), Fail> {
-    let mut places = booted(rt.alloc())?;
-    places.set_backup(Pid(16), ClusterNo(2));
-    places.move_after_crash(ClusterNo(1));
-    places.come_back(ClusterNo(1));
-    assert!(rt; places.living(ClusterNo(1)));
-    assert_eq!(rt; places.first_server(), Some(ClusterNo(2)));
-    assert_eq!(rt; places.home(Pid(17)), Some(ClusterNo(2)));
-    assert!(rt; !places.covered(ClusterNo(2)));
+    let second = Some(ClusterNo(2));
+    assert_eq!(rt; by_hand(rt.alloc())?, (true, [second, second], false));
     Ok(())
 }
 
@@ -347,27 +388,26 @@ fn mail(alloc: Global, places: &Placement, from: u32, to: To) -> Result<Dests, N
     Ok(routes(places, What::Mail { at: 1, letter }))
 }
 
+// The sender and the receiver of a letter; the clusters to which it goes, and the terminal.
+static LETTERS: [(u32, To, (u16, Option<u8>)); 5] = [
+    (17, To::Proc(Pid(16), 0), (0b111, None)),
+    (16, To::Proc(Pid(16), 0), (0b011, None)),
+    (32, To::Proc(Pid(16), 0), (0b011, None)),
+    (17, To::Proc(Pid(32), 0), (0b100, None)),
+    (16, To::Tty(5), (0b010, Some(5))),
+];
+
+fn mail_after(alloc: Global, steps: u8, from: u32, to: To) -> Result<Dests, NoMemory> {
+    let places = after(alloc, steps)?;
+    mail(alloc, &places, from, to)
+}
+
 #[test]
 fn letters_go_to_homes_and_backups(rt: HostRuntime) -> Result<(), Fail> {
-    let alloc = rt.alloc();
-    let places = after(alloc, 3)?;
-    for (from, receiver, clusters) in [
-        (17, 16, 0b111),
-        (16, 16, 0b011),
-        (32, 16, 0b011),
-        (17, 32, 0b100),
-    ] {
-        let receiver = To::Proc(Pid(receiver), 0);
-        assert_eq!(rt; mail(alloc, &places, from, receiver)?, to(clusters));
+    for row in LETTERS.iter() {
+        let dests = mail_after(rt.alloc(), 3, row.0, row.1)?;
+        assert_eq!(rt; (dests.clusters, dests.tty), row.2);
     }
-    let line = mail(alloc, &places, 16, To::Tty(5))?;
-    assert_eq!(rt;
-        line,
-        Dests {
-            clusters: 0b010,
-            tty: Some(5)
-        }
-    );
     Ok(())
 }
 
@@ -402,29 +442,45 @@ fn page_routes(alloc: Global, places: &Placement, pid: Pid) -> Result<[Dests; 4]
     ])
 }
 
+fn page_routes_after(alloc: Global, steps: u8, pid: u32) -> Result<[Dests; 4], NoMemory> {
+    let places = after(alloc, steps)?;
+    page_routes(alloc, &places, Pid(pid))
+}
+
+// How many entries were taken in; a process, and the clusters to which each of those goes.
+static PAGES: [(u8, u32, [u16; 4]); 4] = [
+    (0, 16, [0b110, 0b110, 0b111, 0b110]),
+    (0, 17, [0b110, 0b110, 0b110, 0b110]),
+    (7, 16, [0b110, 0b110, 0b110, 0b111]),
+    (9, 16, [0b010, 0b010, 0b010, 0b011]),
+];
+
 #[test]
 fn pages_and_synchronisations_go_to_the_servers(rt: HostRuntime) -> Result<(), Fail> {
-    let alloc = rt.alloc();
-    for (steps, pid, clusters) in [
-        (0, 16, [0b110, 0b110, 0b111, 0b110]),
-        (0, 17, [0b110, 0b110, 0b110, 0b110]),
-        (7, 16, [0b110, 0b110, 0b110, 0b111]),
-        (9, 16, [0b010, 0b010, 0b010, 0b011]),
-    ] {
-        let places = after(alloc, steps)?;
-        assert_eq!(rt; page_routes(alloc, &places, Pid(pid))?, clusters.map(to));
+    for row in PAGES.iter() {
+        assert_eq!(rt; page_routes_after(rt.alloc(), row.0, row.1)?, row.2.map(to));
     }
     Ok(())
 }
 
+// Where the end of a run and the return of cluster 0 go, where there are three clusters.
+fn two_routes(places: &Placement) -> Option<(Dests, Dests)> {
+    if places.clusters() != 3 {
+        return None;
+    }
+    let stop = routes(places, What::Stop);
+    Some((stop, routes(places, What::Return { k: ClusterNo(0) })))
+}
+
+// The same after the loss of cluster 0.
+fn routes_after_loss(alloc: Global) -> Result<Option<(Dests, Dests)>, NoMemory> {
+    let places = after(alloc, 5)?;
+    Ok(two_routes(&places))
+}
+
 #[test]
 fn a_lost_cluster_gets_nothing_but_its_return(rt: HostRuntime) -> Result<(), Fail> {
-    let places = after(rt.alloc(), 5)?;
-    assert_eq!(rt; routes(&places, What::Stop), to(0b110));
-    assert_eq!(rt; places.clusters(), 3);
-    assert_eq!(rt;
-        routes(&places, What::Return { k: ClusterNo(0) }),
-        to(0b111)
-    );
+    let shown = routes_after_loss(rt.alloc())?;
+    assert_eq!(rt; shown, Some((to(0b110), to(0b111))));
     Ok(())
 }

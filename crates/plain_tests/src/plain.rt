@@ -1,6 +1,5 @@
 //! Runs of the kernel without failures by the word `plain`.
-use crate::answers::assert_answer;
-use std::process::Abort;
+use program_calls::assert_answer;
 use std::sync::Wait;
 use std::test::Fail;
 use std::thread::Threads;
@@ -26,7 +25,7 @@ fn the_default_run_is_reported(rt: HostRuntime) -> Result<(), Fail> {
 }
 
 // What the program answers to a system with a schedule behind it.
-fn assert_scheduled<R: Abort + AllocGlobal + Threads + Wait + Sync>(
+fn assert_scheduled<R: AllocGlobal + Threads + Wait + Sync>(
     rt: &R,
     system: &str,
     schedule: &str,

@@ -1,5 +1,5 @@
 //! Texts of systems and of programs: printed by the words `check` and `asm`, or refused.
-use crate::answers::assert_answer;
+use program_calls::assert_answer;
 use std::test::Fail;
 use test_systems::{COMMENTED, CUT, HI, HI_PROGRAM, HI_WORDS, LINKED, PAIR, SAME};
 

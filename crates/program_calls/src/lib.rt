@@ -4,12 +4,14 @@
 use cluster_run::life::Ran;
 use std::alloc::Global;
 use std::sync::Wait;
+use std::test::Fail;
 use std::thread::Threads;
 use t32_base::gate::OpenGate;
 use t32_base::lists::{Bytes, List, Text};
 use t32_base::memory::{MemSink, MemSource};
 use t32_base::streams::NoMemory;
 use targon_cli::top::targon;
+use test_asserts::same;
 
 // More than any of the tests writes.
 const ROOM: u32 = 20000;
@@ -71,4 +73,17 @@ pub fn answer<R: AllocGlobal + Threads + Wait + Sync>(
     let mut output = sink(rt.alloc())?;
     let (status, _) = call(rt, line, &mut input, &mut output)?;
     Ok((status, output.bytes))
+}
+
+/// To these words and this input the program writes just this, and ends with this status; or the test fails.
+pub fn assert_answer<R: AllocGlobal + Threads + Wait + Sync>(
+    rt: &R,
+    line: &[u8],
+    text: &str,
+    status: u8,
+    written: &str,
+) -> Result<(), Fail> {
+    let (ended, output) = answer(rt, line, text.as_bytes())?;
+    let shown = (ended, output.as_slice());
+    same("the answer", &shown, &(status, written.as_bytes()))
 }

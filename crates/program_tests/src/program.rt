@@ -7,6 +7,7 @@ use std::thread::Threads;
 use t32_base::lists::{Bytes, List};
 use t32_base::memory::{MemSink, MemSource};
 use t32_base::streams::{NoMemory, Sink, Source};
+use test_asserts::same;
 use test_systems::HI;
 
 // One byte more than is read.
@@ -17,19 +18,32 @@ fn large_source(alloc: Global) -> Result<MemSource, NoMemory> {
     Ok(MemSource::new(Bytes::from_vec(text), List::new(alloc), 1000000))
 }
 
+// What the program answers over a source, and what it wrote.
+fn called_over<R: AllocGlobal + Threads + Wait + Sync>(
+    rt: &R,
+    line: &[u8],
+    input: &mut MemSource,
+) -> Result<((u8, bool), Vec<u8>), NoMemory> {
+    let mut output = sink(rt.alloc())?;
+    let answer = call(rt, line, input, &mut output)?;
+    Ok((answer, output.bytes))
+}
+
+fn assert_too_long<R: AllocGlobal + Threads + Wait + Sync>(
+    rt: &R,
+    word: &[u8],
+) -> Result<(), Fail> {
+    let mut input = large_source(rt.alloc())?;
+    let (answer, bytes) = called_over(rt, word, &mut input)?;
+    let wanted = ((8, false), b"t32: input too long\n".as_slice());
+    same("the answer", &(answer, bytes.as_slice()), &wanted)
+}
+
 #[test]
 fn a_long_input_is_refused(rt: HostRuntime) -> Result<(), Fail> {
-    for word in [b"plain".as_slice(), b"check", b"asm"] {
-        let mut input = large_source(rt.alloc())?;
-        let mut output = sink(rt.alloc())?;
-        let answer = call(&rt, word, &mut input, &mut output)?;
-        assert_eq!(rt; answer, (8, false));
-        assert_eq!(rt;
-            output.bytes.as_slice(),
-            b"t32: input too long\n".as_slice()
-        );
-    }
-    Ok(())
+    assert_too_long(&rt, b"plain")?;
+    assert_too_long(&rt, b"check")?;
+    assert_too_long(&rt, b"asm")
 }
 
 // The words are read as `command_words` reads them; here are those that show it, with the status.
@@ -68,31 +82,47 @@ fn used<R: AllocGlobal + Threads + Wait + Sync>(
     Ok((status, usage, ran, input.calls != 0))
 }
 
+fn assert_used<R: AllocGlobal + Threads + Wait + Sync>(
+    rt: &R,
+    line: &[u8],
+    status: u8,
+) -> Result<(), Fail> {
+    let usage = status == 1;
+    let wanted = (status, usage, !usage, !usage);
+    same("the line", &(line, used(rt, line)?), &(line, wanted))
+}
+
 #[test]
 fn words_are_a_command_or_usage(rt: HostRuntime) -> Result<(), Fail> {
-    for (line, expected) in WORDS {
-        let usage = expected == 1;
-        let wanted = (expected, usage, !usage, !usage);
-        assert_eq!(rt; used(&rt, line)?, wanted, "at {line:?}");
+    for row in WORDS.iter() {
+        assert_used(&rt, row.0, row.1)?;
     }
     Ok(())
 }
 
-/// A sink that takes five bytes and then fails.
-pub fn failing_sink(alloc: Global) -> Result<MemSink, NoMemory> {
+// A sink that takes five bytes and then fails.
+fn failing_sink(alloc: Global) -> Result<MemSink, NoMemory> {
     let failing = List::from_vec(vec![in alloc; 1u64]?);
     MemSink::new(alloc, 1000, failing, 5)
 }
 
-#[test]
-fn a_sink_that_fails_keeps_what_it_took(rt: HostRuntime) -> Result<(), Fail> {
+/// What the program answers over such a sink, what the sink took, and how often it failed.
+pub fn failed<R: AllocGlobal + Threads + Wait + Sync>(
+    rt: &R,
+    line: &[u8],
+) -> Result<((u8, bool), Vec<u8>, u64), NoMemory> {
     let mut input = source(rt.alloc(), HI.as_bytes())?;
     let mut output = failing_sink(rt.alloc())?;
-    let answer = call(&rt, b"plain", &mut input, &mut output)?;
-    assert_eq!(rt; answer, (5, false));
-    assert_eq!(rt; output.bytes.as_slice(), b"tty 0".as_slice());
-    assert_eq!(rt; output.faults(), 1);
-    Ok(())
+    let answer = call(rt, line, &mut input, &mut output)?;
+    let faults = output.faults();
+    Ok((answer, output.bytes, faults))
+}
+
+#[test]
+fn a_sink_that_fails_keeps_what_it_took(rt: HostRuntime) -> Result<(), Fail> {
+    let (answer, bytes, faults) = failed(&rt, b"plain")?;
+    let shown = (answer, bytes.as_slice(), faults);
+    same("the answer", &shown, &((5, false), b"tty 0".as_slice(), 1))
 }
 
 // A source that fails at this call.
@@ -102,16 +132,20 @@ fn failing_source(alloc: Global, call: u64) -> Result<MemSource, NoMemory> {
     Ok(MemSource::new(text, failing, 100))
 }
 
+fn assert_fault<R: AllocGlobal + Threads + Wait + Sync>(
+    rt: &R,
+    failing_call: u64,
+) -> Result<(), Fail> {
+    let mut input = failing_source(rt.alloc(), failing_call)?;
+    let (answer, bytes) = called_over(rt, b"plain", &mut input)?;
+    let wanted = ((4, false), b"t32: read fault\n".as_slice(), 1);
+    let shown = (answer, bytes.as_slice(), input.faults());
+    same("the answer", &shown, &wanted)
+}
+
 // At its first call, or in mid-stream.
 #[test]
 fn a_source_that_fails_is_told(rt: HostRuntime) -> Result<(), Fail> {
-    for failing_call in [0, 1] {
-        let mut input = failing_source(rt.alloc(), failing_call)?;
-        let mut output = sink(rt.alloc())?;
-        let answer = call(&rt, b"plain", &mut input, &mut output)?;
-        assert_eq!(rt; answer, (4, false));
-        assert_eq!(rt; output.bytes.as_slice(), b"t32: read fault\n".as_slice());
-        assert_eq!(rt; input.faults(), 1);
-    }
-    Ok(())
+    assert_fault(&rt, 0)?;
+    assert_fault(&rt, 1)
 }

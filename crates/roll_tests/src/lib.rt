@@ -1,5 +1,7 @@
-//! Tests of processes that roll forward.
+//! Tests of processes that roll forward, by themselves and as residents of a cluster.
 #![tactic(auto)]
 
+#[cfg(test)]
+mod residents;
 #[cfg(test)]
 mod rolls;

@@ -1,7 +1,7 @@
 //! A system of sixteen clusters by the word `sim`: the order in which they go.
 ghost use Rattle.std.specs.Prelude.{◌<◌};
 
-use crate::answers::assert_answer;
+use program_calls::assert_answer;
 use std::alloc::{AllocError, Global};
 use std::test::Fail;
 

@@ -1,5 +1,5 @@
 //! What is printed of a run by the words `sim` and `run`.
-use crate::answers::assert_answer;
+use program_calls::assert_answer;
 use std::test::Fail;
 use test_systems::{BAD, CUT, HI, SPIN};
 

@@ -1,7 +1,7 @@
 //! Runs of clusters by the word `sim` whose processes send letters to each other, or share a home. The expected
 //! schedules follow from the programs and the rule of the turns, by hand: the first item of each process is
 //! counted from its first instruction to what it sends first, and each later one from there to the next.
-use crate::answers::assert_answer;
+use program_calls::assert_answer;
 use std::test::Fail;
 use test_systems::{BUSY, CONVERSATION, LINKED, NEIGHBOURS, TALK, THREE, WAIT, WAITING_NEIGHBOURS};
 

@@ -1,5 +1,5 @@
 -- Silent steps one after another, and what comes after them.
-use Rattle.std.proofs.Common.{◌≡◌, ℕ, zero, suc, ◌+◌, ◌-◌, ◌<◌, ◌≤◌, refl, sym, ◌∙◌, ap, subst, arith, Bool, true, false, cond, Option, Some, None, option_and_then, Result, Ok, Err, eqb, length}
+use Rattle.std.proofs.Common.{◌≡◌, ℕ, zero, suc, ◌+◌, ◌-◌, ◌<◌, ◌≤◌, refl, sym, ◌∙◌, ap, arith, Bool, true, false, Option, Some, None, option_and_then, Result, Ok, Err, eqb}
 use Rattle.std.specs.Prelude.{nat_lt, IfOk}
 use Rattle.std.proofs.lemmas.Bool.Decides.{nat_tests}
 use Rattle.proc_state.specs.declared.process.Process.{Process}
@@ -11,9 +11,9 @@ use Rattle.t32_base.specs.Small.{SmallState}
 use Rattle.t32_base.specs.declared.streams.NoMemory.{NoMemory}
 use Rattle.t32_base.specs.declared.process.Status.TheVariants.{Live}
 use Rattle.rv_cpu.specs.Run.{machine_of, ran}
-use Rattle.sys_calls.specs.Calls.{Next, Silent}
-use Rattle.sys_calls.specs.Next.{live_step, next_step, silent_of, silently, step_by}
-use Rattle.sys_calls.specs.Small.{after_instructions, weight}
+use Rattle.sys_calls.specs.Calls.{Silent}
+use Rattle.sys_calls.specs.Next.{next_step, silent_of, silently}
+use Rattle.sys_calls.specs.Small.{after_instructions}
 use Rattle.sys_calls.specs.Steps.{is_silent, marked, Makes, RunsOn, Shorter, Touches}
 use Rattle.sys_calls.proofs.Running.{ran_silently, silently-marked}
 
@@ -21,7 +21,7 @@ pub none_made : (s : ProcState) → silently 0 s ≡ Some s
 unfolding silently
 none_made s = refl
 
-one_more : (n : ℕ) (s q t : ProcState) → silently n s ≡ Some q → next_step q ≡ Silent t → silently (suc n) s ≡ Some t
+pub one_more : (n : ℕ) (s q t : ProcState) → silently n s ≡ Some q → next_step q ≡ Silent t → silently (suc n) s ≡ Some t
 unfolding silently
 one_more n s q t made step = ap (option_and_then (λ p. silent_of (next_step p))) made ∙ ap silent_of step
 
@@ -43,35 +43,15 @@ joined a (suc b) s =
     let e : a + suc b ≡ suc (a + b) = omega arith in
     ap (λ (k : ℕ). silently k s) e ∙ ap (option_and_then (λ q. silent_of (next_step q))) (joined a b s) ∙ again b (silently a s)
 
-more : (a b : ℕ) (s q t : ProcState) → silently a s ≡ Some q → silently b q ≡ Some t → silently (a + b) s ≡ Some t
+pub more : (a b : ℕ) (s q t : ProcState) → silently a s ≡ Some q → silently b q ≡ Some t → silently (a + b) s ≡ Some t
 more a b s q t first then = joined a b s ∙ ap (option_and_then (silently b)) first ∙ then
 
--- a silent step, and what comes after it
-pub runs_again : (step : Step) (old mid new : Process) → RunsOn WasSilent old mid → RunsOn step mid new → RunsOn step old new
-runs_again step old mid new first then = record {
-  steps = suc first.steps + then.steps;
-  before = then.before;
-  silent = more (suc first.steps) then.steps (state_of old) (state_of mid) (state_of then.before) (one_more first.steps (state_of old) (state_of first.before) (state_of mid) first.silent first.makes) then.silent;
-  lighter = omega (arith, first.lighter, then.lighter, first.shorter.0);
-  makes = then.makes;
-  shorter = then.shorter;
-  touches = then.touches;
-}
-
-pub was_silent : (step : Step) → is_silent step ≡ true → step ≡ WasSilent
-was_silent WasSilent is = refl
-was_silent WasBlocked is = cc
-was_silent WouldFork is = cc
-was_silent (Emit e) is = cc
-was_silent WasOver is = cc
-
--- after it no more steps are left, and fewer where it was silent
-pub falls : (step : Step) (old new : Process) → RunsOn step old new → weight new.small + cond (is_silent step) 1 0 ≤ weight old.small
-falls WasSilent old new r = omega (arith, r.lighter, r.shorter.0)
-falls WasBlocked old new r = let same = ap (λ (p : Process). weight p.small) r.touches in omega (arith, r.lighter, same)
-falls WouldFork old new r = let same = ap (λ (p : Process). weight p.small) r.touches in omega (arith, r.lighter, same)
-falls (Emit e) old new r = omega (arith, r.lighter, r.shorter.0)
-falls WasOver old new r = let same = ap (λ (p : Process). weight p.small) r.touches in omega (arith, r.lighter, same)
+pub was_silent_step : (step : Step) → is_silent step ≡ true → step ≡ WasSilent
+was_silent_step WasSilent is = refl
+was_silent_step WasBlocked is = cc
+was_silent_step WouldFork is = cc
+was_silent_step (Emit e) is = cc
+was_silent_step WasOver is = cc
 
 -- as many as there could be
 pub all_made : (n most : ℕ) → n ≤ most → (n < most → ⊥) → n ≡ most
@@ -95,22 +75,6 @@ ran_on n p mid live some made small mail =
     silently-marked n (marked p) (record { state = record (state_of p) { small = after_instructions n p.small (mid.small).regs; memory = (mid.ram).bytes }; marks = (mid.ram).dirty })
     (ran_silently n (state_of p) (p.ram).dirty (machine_of (mid.small).regs mid.ram) live some made)
     ∙ λ i. Some (record { small = sym small i; memory = (mid.ram).bytes; mail = (sym mail i).letters; next = (sym mail i).next })
-
--- instructions of a live process, and then its next step
-pub ran_then : (n : ℕ) (p mid new : Process) (b : Bool) (r : Result Step NoMemory) → silently n (state_of p) ≡ Some (state_of mid) → weight mid.small + n ≡ weight p.small → (mid.small).status ≡ Live → eqb (mid.small).left 0 ≡ b
-    → Makes (live_step b (state_of mid)) r (state_of mid) (state_of new) → Shorter r mid.small new.small → Touches r mid new → IfOk r (λ step. RunsOn step p new)
-ran_then n p mid new b (Ok step) made lighter live is makes shorter touches =
-    let next : next_step (state_of mid) ≡ live_step b (state_of mid) = ap (λ s. step_by s (state_of mid)) live ∙ ap (λ c. live_step c (state_of mid)) is in
-    record {
-      steps = n;
-      before = mid;
-      silent = made;
-      lighter = omega (arith, lighter);
-      makes = subst (λ (x : Next). Makes x (Ok step) (state_of mid) (state_of new)) (sym next) makes;
-      shorter = shorter;
-      touches = touches;
-    }
-ran_then n p mid new b (Err e) made lighter live is makes shorter touches = tt
 
 -- the next step alone
 pub alone : (old new : Process) (r : Result Step NoMemory) → Makes (next_step (state_of old)) r (state_of old) (state_of new) → Shorter r old.small new.small → Touches r old new → IfOk r (λ step. RunsOn step old new)

@@ -3,6 +3,7 @@ pub mod Running
 pub mod RunLemma
 mod Shutting
 mod Waiting
+mod Wanting
 pub mod Counting
 pub mod Quiet
 pub mod Leaving
@@ -11,3 +12,4 @@ pub mod Clean
 pub mod ForkLaws
 pub mod Weighing
 mod Ahead
+mod Passing

@@ -95,3 +95,13 @@ pub reads : (p : ProcState) (reading : Reading) → eqb (p.small).left 0 ≡ fal
 reads p reading some is read =
     a_read p (call_of (reg (p.small).regs 17)) reading read
     ∙ sym (ap (λ b. is_blocked (live_step b p)) some ∙ ap (λ x. is_blocked (after_exec x (with_small p (spent p.small)))) (calls (exec (p.small).regs p.memory) is))
+
+-- a read is made as after its checks
+pub reads_called : (p : ProcState) (c : Call) (reading : Reading) → reading_of c p ≡ Some reading → called c (with_small p (spent p.small)) ≡ read_call (with_small p (spent p.small)) reading
+reads_called p ExitCall reading e = cc
+reads_called p Write reading e = cc
+reads_called p Read reading e = ap (λ r. read_call (with_small p (spent p.small)) r) (some_same (read_checked p) reading e)
+reads_called p ReadAny reading e = ap (λ r. read_call (with_small p (spent p.small)) r) (some_same (read_any_checked p) reading e)
+reads_called p GetPid reading e = cc
+reads_called p Close reading e = cc
+reads_called p Unknown reading e = cc

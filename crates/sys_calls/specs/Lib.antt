@@ -4,3 +4,4 @@ pub mod Next
 pub mod Steps
 pub mod Fork
 pub mod Take
+pub mod Passing

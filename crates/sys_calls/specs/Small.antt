@@ -7,9 +7,7 @@ use Rattle.t32_base.specs.declared.letter.To.{To}
 use Rattle.t32_base.specs.declared.letter.To.TheVariants.{Proc}
 use Rattle.t32_base.specs.Registers.{Registers}
 use Rattle.t32_base.specs.Small.{SmallState, steps_left}
-use Rattle.rv_cpu.specs.Exec.{Executed, Steps, Calls, Traps, set_reg, onward}
-use Rattle.t32_base.specs.declared.process.End.TheVariants.{Trap}
-use Rattle.t32_base.specs.declared.process.Status.TheVariants.{Closing}
+use Rattle.rv_cpu.specs.Exec.{set_reg, onward}
 
 -- a step is counted
 abbrev pub stepped : SmallState → SmallState

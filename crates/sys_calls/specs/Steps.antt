@@ -53,6 +53,12 @@ TakesLetter wanted (Ok (Some a)) old new =
 TakesLetter wanted (Ok None) old new = (first_wanted (state_of old) wanted ≡ None) × (new ≡ old)
 TakesLetter wanted (Err e) old new = new ≡ old
 
+-- the step that a read makes, by whether there was a letter
+abbrev pub step_of_read : Result Bool NoMemory → Result Step NoMemory
+step_of_read (Ok true) = Ok WasSilent
+step_of_read (Ok false) = Ok WasBlocked
+step_of_read (Err e) = Err e
+
 -- the marks after the call are those of the step that was made
 abbrev pub Marks : Result Step NoMemory → List Bool → List Bool → List Bool → Type 0
 Marks (Ok step) marks old new = new ≡ marks
@@ -82,6 +88,11 @@ is_silent WasBlocked = false
 is_silent WouldFork = false
 is_silent (Emit e) = false
 is_silent WasOver = false
+
+-- a step was made that sent nothing
+abbrev pub was_silent : Result Step NoMemory → Bool
+was_silent (Ok step) = is_silent step
+was_silent (Err e) = false
 
 -- silent steps, and then what the call `step` answers
 pub record RunsOn (step : Step) (old new : Process) : Type 0 where

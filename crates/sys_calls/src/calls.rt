@@ -5,7 +5,7 @@ ghost use Rattle.proc_state.specs.Ends.{leads_to};
 ghost use Rattle.proc_state.specs.State.{state_of, with_small};
 ghost use Rattle.sys_calls.specs.Small.{spent};
 ghost use Rattle.sys_calls.specs.Calls.{call_of, called, close_call, letter_called, marks_called, write_call, ExitCall};
-ghost use Rattle.sys_calls.specs.Steps.{Makes, Marks, SameCount, Shorter, Took, Touches, taken_by};
+ghost use Rattle.sys_calls.specs.Steps.{Makes, Marks, SameCount, Shorter, Took, Touches, step_of_read, taken_by};
 
 use crate::ends::{destination, shut};
 use crate::reading::{make_read, read_any_checked, read_checked};
@@ -38,11 +38,11 @@ pub fn call(alloc: Global, p: &mut Process) -> Result<Step, NoMemory>
         2 => write(alloc, p),
         3 => {
             let reading = read_checked(p);
-            make_read(p, reading)
+            read_step(make_read(p, reading))
         }
         4 => {
             let reading = read_any_checked(p);
-            make_read(p, reading)
+            read_step(make_read(p, reading))
         }
         6 => {
             let pid = p.small.pid.0;
@@ -51,6 +51,17 @@ pub fn call(alloc: Global, p: &mut Process) -> Result<Step, NoMemory>
         }
         10 => Ok(close_end(p)),
         _ => Ok(refuse(p, BAD_ARGUMENT)),
+    }
+}
+
+// The step that a read made.
+fn read_step(read: Result<bool, NoMemory>) -> Result<Step, NoMemory>
+    ensures { result ≡ step_of_read read }
+{
+    match read {
+        Ok(true) => Ok(Step::Silent),
+        Ok(false) => Ok(Step::Blocked),
+        Err(refused) => Err(refused),
     }
 }
 

@@ -1,18 +1,19 @@
 //! The calls that read letters.
-ghost use Rattle.std.specs.Prelude.{◌≡◌, ◌+◌, ◌<◌, ◌≤◌, true, length, option_map};
+ghost use Rattle.std.specs.Prelude.{◌≡◌, ◌+◌, ◌<◌, ◌≤◌, true, length, option_map, IfSome};
+ghost use Rattle.std.specs.Option.{option_copied};
+ghost use Rattle.t32_base.specs.declared.letter.Arrived.{Arrived};
 ghost use Rattle.rv_cpu.specs.Exec.{reg};
 ghost use Rattle.rv_mem.specs.Memory.{is_inside, written};
-ghost use Rattle.proc_state.specs.Mail.{end_of, without_first};
+ghost use Rattle.proc_state.specs.Mail.{end_of};
 ghost use Rattle.proc_state.specs.State.{state_of, with_small};
 ghost use Rattle.sys_calls.specs.Small.{spent, weight, with_ends};
-ghost use Rattle.sys_calls.specs.Calls.{call_of, ends_after, first_wanted, is_wanted, marks_read, read_answered, read_any_checked, read_call, read_checked, reading_of, said_within, wanted_letter, IsSound};
+ghost use Rattle.sys_calls.specs.Calls.{call_of, ends_after, first_wanted, marks_read, read_answered, read_any_checked, read_call, read_checked, reading_of, said_within, wanted_letter, IsSound};
 ghost use Rattle.sys_calls.specs.Next.{is_blocked};
-ghost use Rattle.sys_calls.specs.Steps.{Makes, Marks, Shorter, TakesLetter, Took, Touches, taken_by};
+ghost use Rattle.sys_calls.specs.Steps.{Makes, Marks, Shorter, TakesLetter, Took, Touches, step_of_read, taken_by};
 
 use crate::ends::{any_unfinished, destination, finish, is_unfinished_at};
-use crate::refusal::{BAD_ADDRESS, BAD_END, refuse};
+use crate::refusal::{BAD_ADDRESS, BAD_END, refusal};
 use crate::small::{answer, answer_both};
-use crate::steps::Step;
 use proc_state::mailbox::end_number;
 use proc_state::process::Process;
 use rv_cpu::registers::read;
@@ -78,7 +79,8 @@ pub fn read_any_checked(p: &Process) -> Reading
 
 /// The read whose number is in a7, after its checks. Takes no memory.
 pub fn reading_next(p: &Process) -> Option<Reading>
-    ensures { result ≡ reading_of (call_of (reg p.now.small.regs 17)) (state_of p.now) }
+    ensures checked { result ≡ reading_of (call_of (reg p.now.small.regs 17)) (state_of p.now) }
+    ensures sound { IfSome result (IsSound p.now.ram.bytes) }
 {
     match read(&p.small.regs, 17) {
         3 => Some(read_checked(p)),
@@ -94,72 +96,72 @@ pub fn waits(p: &Process, reading: Reading) -> bool
     match reading {
         Reading::Refused(_) => false,
         Reading::AtEnd => false,
-        Reading::Wants(wanted, _, _) => first_number(p, wanted).is_none(),
+        Reading::Wants(wanted, _, _) => first(p, wanted).is_none(),
     }
 }
 
-// The number of the first letter that a read wants.
-fn first_number(p: &Process, wanted: Wanted) -> Option<u64>
-    ensures { result ≡ option_map (λ a. a.number) (first_wanted (state_of p.now) wanted) }
+// The first letter that a read wants.
+fn first(p: &Process, wanted: Wanted) -> Option<&Arrived>
+    ensures { option_copied result ≡ first_wanted (state_of p.now) wanted }
 {
-    let first = match wanted {
+    match wanted {
         Wanted::On(end) => p.mail.first_on(end),
         Wanted::AnyLinked => p.mail.first_linked(&p.small.ends),
-    };
-    match first {
-        Some(arrived) => Some(arrived.number),
-        None => None,
     }
 }
 
 /// Makes a read after its checks: an error is answered, or 0 where no letter will come, or the first letter
-/// that is wanted is read. Where there is none the process is as it was, and so it is after want of memory.
-pub fn make_read(p: &mut Process, reading: Reading) -> Result<Step, NoMemory>
+/// that is wanted is read. Answers no where there is none: the process is as it was then, and so it is after want
+/// of memory.
+pub fn make_read(p: &mut Process, reading: Reading) -> Result<bool, NoMemory>
     requires some { 0 < p.old.small.left }
     requires sound { IsSound p.old.ram.bytes reading }
-    ensures makes { Makes (read_call (with_small (state_of p.old) (spent p.old.small)) reading) result (state_of p.old) (state_of p.new) }
-    ensures marks { Marks result (marks_read (state_of p.old) p.old.ram.dirty reading) p.old.ram.dirty p.new.ram.dirty }
-    ensures count { Took (taken_by result (wanted_letter (state_of p.old) reading)) p.old p.new }
-    ensures shorter { Shorter result p.old.small p.new.small }
-    ensures touches { Touches result p.old p.new }
+    ensures makes { Makes (read_call (with_small (state_of p.old) (spent p.old.small)) reading) (step_of_read result) (state_of p.old) (state_of p.new) }
+    ensures marks { Marks (step_of_read result) (marks_read (state_of p.old) p.old.ram.dirty reading) p.old.ram.dirty p.new.ram.dirty }
+    ensures count { Took (taken_by (step_of_read result) (wanted_letter (state_of p.old) reading)) p.old p.new }
+    ensures shorter { Shorter (step_of_read result) p.old.small p.new.small }
+    ensures touches { Touches (step_of_read result) p.old p.new }
 {
     match reading {
-        Reading::Refused(error) => Ok(refuse(p, error)),
+        Reading::Refused(error) => {
+            answer(&mut p.small, refusal(error));
+            Ok(true)
+        }
         Reading::AtEnd => {
             answer(&mut p.small, 0);
-            Ok(Step::Silent)
+            Ok(true)
         }
         Reading::Wants(wanted, ptr, room) => match take_letter(p, wanted)? {
             Some(arrived) => {
                 let letter = &arrived.letter;
                 read_letter(&mut p.small, &mut p.ram, wanted, ptr, room, letter);
-                Ok(Step::Silent)
+                Ok(true)
             }
-            None => Ok(Step::Blocked),
+            None => Ok(false),
         },
     }
 }
 
-// Takes the first letter that a read wants, and notes its number; memory for the number comes first.
+// The end and the number of the first letter that a read wants.
+fn first_place(p: &Process, wanted: Wanted) -> Option<(u8, u64)>
+    ensures { result ≡ option_map (λ (a : Arrived). (end_of (a.letter).to, a.number)) (first_wanted (state_of p.now) wanted) }
+{
+    match first(p, wanted) {
+        Some(arrived) => Some((end_number(arrived.letter.to), arrived.number)),
+        None => None,
+    }
+}
+
+// Takes the first letter that a read wants, which is the first for its end, and notes its number; memory for the number
+// comes first.
 fn take_letter(p: &mut Process, wanted: Wanted) -> Result<Option<Arrived>, NoMemory>
     ensures { TakesLetter wanted result p.old p.new }
 {
-    let Some(number) = first_number(p, wanted) else {
+    let Some((end, number)) = first_place(p, wanted) else {
         return Ok(None);
     };
     p.read.push(number)?;
-    Ok(take_wanted(p, wanted))
-}
-
-// Takes the first letter that a read wants out of the mailbox.
-fn take_wanted(p: &mut Process, wanted: Wanted) -> Option<Arrived>
-    ensures taken { result ≡ first_wanted (state_of p.old) wanted }
-    ensures left { p.new ≡ record p.old { mail = record (p.old.mail) { letters = without_first (is_wanted p.old.small.ends wanted) p.old.mail.letters } } }
-{
-    match wanted {
-        Wanted::On(end) => p.mail.take_on(end),
-        Wanted::AnyLinked => p.mail.take_linked(&p.small.ends),
-    }
+    Ok(p.mail.take_on(end))
 }
 
 // Reads a letter: its bytes go to memory, an end letter finishes its end, and the answers are given.

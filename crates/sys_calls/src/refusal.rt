@@ -1,5 +1,5 @@
 //! Calls that a check refuses.
-ghost use Rattle.std.specs.Prelude.{◌≡◌, ◌<◌, Ok};
+ghost use Rattle.std.specs.Prelude.{◌≡◌, ◌<◌, ◌-◌, ◌^◌, Ok};
 ghost use Rattle.proc_state.specs.State.{state_of, with_small};
 ghost use Rattle.sys_calls.specs.Small.{spent};
 ghost use Rattle.sys_calls.specs.Calls.{refused};
@@ -28,6 +28,14 @@ pub fn refuse(p: &mut Process, error: u32) -> Step
     ensures shorter { Shorter (Ok result) p.old.small p.new.small }
     ensures touches { Touches (Ok result) p.old p.new }
 {
-    answer(&mut p.small, u32::MAX - (error - 1));
+    answer(&mut p.small, refusal(error));
     Step::Silent
+}
+
+/// What a refused call answers: minus the error's number.
+pub fn refusal(error: u32) -> u32
+    requires { 0 < error }
+    ensures { result ≡ 2 ^ 32 - error }
+{
+    u32::MAX - (error - 1)
 }

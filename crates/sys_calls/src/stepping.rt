@@ -5,10 +5,11 @@ ghost use Rattle.rv_cpu.specs.Exec.{bytes_after, did_of, exec, exec_marks, is_ca
 ghost use Rattle.proc_state.specs.State.{state_of};
 ghost use Rattle.sys_calls.specs.Next.{closing_step, has_step, is_blocked, letter_live, letter_taken, live_step, marks_live, next_step, silently_marked, step_marks};
 ghost use Rattle.sys_calls.specs.Small.{after_instructions, lowest_linked, weight, with_regs};
-ghost use Rattle.sys_calls.specs.Steps.{is_silent, marked, Makes, Marks, RunsOn, SameCount, Shorter, Took, Touches, taken_by};
+ghost use Rattle.sys_calls.specs.Passing.{IsAtCall, Passes, PassesCall};
+ghost use Rattle.sys_calls.specs.Steps.{is_silent, marked, was_silent, Makes, Marks, RunsOn, SameCount, Shorter, Took, Touches, taken_by};
 
 use crate::calls::call;
-use crate::reading::{reading_next, waits};
+use crate::reading::{make_read, reading_next, waits};
 use crate::small::{
     at_most, close, finish, instructions_left, is_live, is_spent_up, run_out, shut_lowest, spend,
 };
@@ -76,40 +77,76 @@ pub fn run_on(alloc: Global, p: &mut Process) -> Result<Step, NoMemory>
     ensures runs { IfOk result (λ step. RunsOn step p.old p.new) }
     ensures heard { IfOk result (λ step. is_silent step ≡ false) }
 {
-    let mut step = run_once(alloc, p)?;
-    'steps: while is_silent(&step) {
-        step = run_once(alloc, p)?;
-    }
-    Ok(step)
-}
-
-// Whether a step sent nothing.
-fn is_silent(step: &Step) -> bool
-    ensures { result ≡ is_silent step.now }
-{
-    matches!(step, Step::Silent)
-}
-
-// Makes as many instructions as a process has up to a system call or a trap, and then the next step.
-fn run_once(alloc: Global, p: &mut Process) -> Result<Step, NoMemory>
-    ensures { IfOk result (λ step. RunsOn step p.old p.new) }
-{
-    match p.small.status {
-        Status::Live => run_live(alloc, p),
-        Status::Closing(_) | Status::Ended(_) => step(alloc, p),
+    'steps: loop {
+        match pass(p)? {
+            Passed::Silently => {}
+            Passed::Waiting => return Ok(Step::Blocked),
+            Passed::Calling => {
+                let made = call(alloc, p);
+                if !was_silent(&made) {
+                    return made;
+                }
+            }
+            Passed::Leaving => {
+                let made = step(alloc, p);
+                if !was_silent(&made) {
+                    return made;
+                }
+            }
+        }
     }
 }
 
-// The same of a live process: the instruction at which it stops is not looked at again.
-fn run_live(alloc: Global, p: &mut Process) -> Result<Step, NoMemory>
-    requires live { p.old.small.status ≡ Status.Live }
-    ensures { IfOk result (λ step. RunsOn step p.old p.new) }
+// Whether a step was made that sent nothing.
+fn was_silent(made: &Result<Step, NoMemory>) -> bool
+    ensures { result ≡ was_silent made.now }
 {
+    matches!(made, Ok(Step::Silent))
+}
+
+// What a process came to by instructions, and then by a read where it stood at one. It is told apart from a step, which
+// is a large value.
+#[derive(Clone, Copy, PartialEq, Eq, Debug)]
+enum Passed {
+    // It has read.
+    Silently,
+    // It waits for a letter.
+    Waiting,
+    // It stands at a system call that is no read.
+    Calling,
+    // Its next step is any.
+    Leaving,
+}
+
+// Makes as many instructions as a process has up to a system call or a trap, and then a read.
+#[inline(always)]
+fn pass(p: &mut Process) -> Result<Passed, NoMemory>
+    ensures { IfOk result (λ passed. Passes passed p.old p.new) }
+{
+    if !is_live(&p.small) {
+        return Ok(Passed::Leaving);
+    }
     let most = instructions_left(&p.small);
     let (_, did) = instructions(&mut p.small, &mut p.ram, most);
     match did {
-        Did::Stepped => Ok(limited(p)),
-        did => stopped(alloc, p, did),
+        Did::Call => pass_call(p),
+        Did::Stepped | Did::Trap(_) => Ok(Passed::Leaving),
+    }
+}
+
+// Makes the system call at which a process stands, if it is a read.
+#[inline(always)]
+fn pass_call(p: &mut Process) -> Result<Passed, NoMemory>
+    requires { IsAtCall p.old }
+    ensures { IfOk result (λ passed. PassesCall passed p.old p.new) }
+{
+    let Some(reading) = reading_next(p) else {
+        return Ok(Passed::Calling);
+    };
+    match make_read(p, reading) {
+        Ok(true) => Ok(Passed::Silently),
+        Ok(false) => Ok(Passed::Waiting),
+        Err(refused) => Err(refused),
     }
 }
 

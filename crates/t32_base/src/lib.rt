@@ -9,5 +9,3 @@ pub mod process;
 pub mod shared_bytes;
 pub mod standard;
 pub mod streams;
-#[cfg(test)]
-mod tests;

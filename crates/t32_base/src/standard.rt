@@ -1,5 +1,6 @@
 //! Standard input and output as a source and a sink. They tell nothing of what they have left or hold.
-ghost use Rattle.std.specs.Prelude.{None};
+ghost use Rattle.std.specs.Prelude.{◌≡◌, ◌≤◌, None, length};
+ghost use Rattle.t32_base.specs.Streams.{TakeCause, Took, is_end};
 
 use crate::lists::Bytes;
 use crate::streams::{Failed, Sink, Source, TakeFault, Taken};
@@ -9,12 +10,18 @@ use std::io::{Read, Write};
 /// The most bytes of one read or write.
 pub const PIECE: usize = 16384;
 
+// The most bytes of a read while the one before did not fill its place: it is cleared first, and a short text needs no
+// larger one.
+const SHORT_PIECE: usize = 2048;
+
 /// A reader as a source. An error of the reader is a fault.
 #[derive(Drop)]
 pub struct StdSource<R: Read> {
     pub reader: R,
     pub fault_calls: u64,
     pub at_end: bool,
+    // The last read filled its place, so more may be left.
+    filled: bool,
 }
 
 impl<R: Read> StdSource<R> {
@@ -23,6 +30,35 @@ impl<R: Read> StdSource<R> {
             reader,
             fault_calls: 0,
             at_end: false,
+            filled: false,
+        }
+    }
+
+    // Reads into a place, and answers a copy of what was read.
+    fn take_by(&mut self, alloc: Global, place: &mut [u8]) -> Result<Taken, TakeFault>
+        requires { 1 ≤ length place.old }
+        ensures bytes { Took (length place.old) None None result }
+        ensures end { self.new.at_end ≡ is_end result }
+        ensures cause { TakeCause self.old.fault_calls self.new.fault_calls result }
+    {
+        self.at_end = false;
+        self.filled = false;
+        match self.reader.read(place) {
+            Ok(0) => {
+                self.at_end = true;
+                Ok(Taken::End)
+            }
+            Ok(count) => {
+                self.filled = count == place.len();
+                match Bytes::copy_of(alloc, &place[..count]) {
+                    Ok(piece) => Ok(Taken::Got(piece)),
+                    Err(_) => Err(TakeFault::NoMemory),
+                }
+            }
+            Err(_) => {
+                self.fault_calls = self.fault_calls.saturating_add(1);
+                Err(TakeFault::Failed)
+            }
         }
     }
 }
@@ -39,23 +75,13 @@ impl<R: Read> Source for StdSource<R> {
     }
 
     fn take(&mut self, alloc: Global, room: u32) -> Result<Taken, TakeFault> {
-        self.at_end = false;
-        let mut buffer = [0u8; PIECE];
-        let size = PIECE.min(room as usize);
-        match self.reader.read(&mut buffer[..size]) {
-            Ok(0) => {
-                self.at_end = true;
-                Ok(Taken::End)
-            }
-            Ok(count) => match Bytes::copy_of(alloc, &buffer[..count]) {
-                Ok(piece) => Ok(Taken::Got(piece)),
-                Err(_) => Err(TakeFault::NoMemory),
-            },
-            Err(_) => {
-                self.fault_calls = self.fault_calls.saturating_add(1);
-                Err(TakeFault::Failed)
-            }
+        let most = room as usize;
+        if self.filled {
+            let mut place = [0u8; PIECE];
+            return self.take_by(alloc, &mut place[..most.min(PIECE)]);
         }
+        let mut place = [0u8; SHORT_PIECE];
+        self.take_by(alloc, &mut place[..most.min(SHORT_PIECE)])
     }
 }
 

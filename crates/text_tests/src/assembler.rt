@@ -1,9 +1,9 @@
 //! Programs and their words, from outside, and which line and rule of the others is named.
 use rv_asm::{AsmRefused, assemble, words_text};
 use std::alloc::Global;
-use std::process::Abort;
 use std::test::Fail;
 use t32_base::lists::Text;
+use test_asserts::same;
 
 const HI: &str =
     "li a7, 2\nli a0, 0\nla a1, m\nli a2, 3\necall\nli a7, 1\nli a0, 0\necall\nm: .ascii \"hi\\n\"\n";
@@ -34,63 +34,74 @@ fn printed(alloc: Global, text: &str) -> Result<Text, AsmRefused> {
     Ok(words_text(alloc, words.as_slice())?)
 }
 
-fn assert_printed(rt: &(impl Abort + AllocGlobal), text: &str, wanted: &str) -> Result<(), Fail> {
-    let printed = printed(rt.alloc(), text)?;
-    assert_eq!(rt; printed.as_slice(), wanted.as_bytes(), "{text}");
-    Ok(())
+fn assert_printed(alloc: Global, text: &str, wanted: &str) -> Result<(), Fail> {
+    let printed = printed(alloc, text)?;
+    same(text, &printed.as_slice(), &wanted.as_bytes())
 }
+
+static PRINTED: [(&str, &str); 2] = [
+    (
+        HI,
+        "words 00200893 00000513 000105b7 02458593 00300613 00000073 00100893 00000513\nwords 00000073 000a6968\n",
+    ),
+    (WAIT, "words 00300893 00100513 000105b7 00100613 00000073\n"),
+];
 
 #[test]
 fn programs_assemble(rt: HostRuntime) -> Result<(), Fail> {
-    assert_printed(
-        &rt,
-        HI,
-        "words 00200893 00000513 000105b7 02458593 00300613 00000073 00100893 00000513\nwords 00000073 000a6968\n",
-    )?;
-    assert_printed(
-        &rt,
-        WAIT,
-        "words 00300893 00100513 000105b7 00100613 00000073\n",
-    )?;
-    for (text, count) in [
-        (TWO, 13),
-        (WRITER, 10),
-        (READER, 14),
-        (FORKER, 16),
-        (EARLY, 9),
-        (SIG, 21),
-    ] {
-        let words = assemble(rt.alloc(), text.as_bytes())?;
-        assert_eq!(&rt; words.len(), count, "{text}");
+    for row in PRINTED.iter() {
+        assert_printed(rt.alloc(), row.0, row.1)?;
     }
     Ok(())
 }
 
-fn assert_refused(rt: &(impl Abort + AllocGlobal), text: &str, line: u64, rule: u8) {
-    let refused = assemble(rt.alloc(), text.as_bytes());
-    assert_eq!(rt;
-        refused.err(),
-        Some(AsmRefused::Line { line, rule }),
-        "{text}"
-    );
+// How many words each of these programs has.
+static COUNTS: [(&str, usize); 6] = [
+    (TWO, 13),
+    (WRITER, 10),
+    (READER, 14),
+    (FORKER, 16),
+    (EARLY, 9),
+    (SIG, 21),
+];
+
+fn assert_count(alloc: Global, text: &str, count: usize) -> Result<(), Fail> {
+    let words = assemble(alloc, text.as_bytes())?;
+    same(text, &words.len(), &count)
 }
 
 #[test]
-fn the_first_broken_line_is_named(rt: HostRuntime) {
-    for (text, line, rule) in [
-        ("addd a0, a0, a0", 1, 2),
-        ("ecall\r\n", 1, 1),
-        ("ecall\n\tecall", 2, 1),
-        ("li a0, 0xFFFFFFFFF", 1, 3),
-        ("li a0, 99999999999", 1, 4),
-        ("a:\na: ecall", 2, 5),
-        ("ecall\nj nowhere", 2, 6),
-        ("9x: ecall", 1, 3),
-        (".ascii \"ab # c", 1, 3),
-        ("end", 1, 2),
-    ] {
-        assert_refused(&rt, text, line, rule);
+fn longer_programs_assemble(rt: HostRuntime) -> Result<(), Fail> {
+    for row in COUNTS.iter() {
+        assert_count(rt.alloc(), row.0, row.1)?;
     }
+    Ok(())
+}
+
+fn assert_refused(alloc: Global, text: &str, line: u64, rule: u8) -> Result<(), Fail> {
+    let refused = assemble(alloc, text.as_bytes()).err();
+    same(text, &refused, &Some(AsmRefused::Line { line, rule }))
+}
+
+static REFUSED: [(&str, u64, u8); 10] = [
+    ("addd a0, a0, a0", 1, 2),
+    ("ecall\r\n", 1, 1),
+    ("ecall\n\tecall", 2, 1),
+    ("li a0, 0xFFFFFFFFF", 1, 3),
+    ("li a0, 99999999999", 1, 4),
+    ("a:\na: ecall", 2, 5),
+    ("ecall\nj nowhere", 2, 6),
+    ("9x: ecall", 1, 3),
+    (".ascii \"ab # c", 1, 3),
+    ("end", 1, 2),
+];
+
+#[test]
+fn the_first_broken_line_is_named(rt: HostRuntime) -> Result<(), Fail> {
+    for row in REFUSED.iter() {
+        assert_refused(rt.alloc(), row.0, row.1, row.2)?;
+    }
+    Ok(())
 }
 
 /// A text that begins with `first` and goes on with `line` so many times.
@@ -102,33 +113,53 @@ fn repeated(alloc: Global, first: &str, line: &str, count: u32) -> Result<String
     Ok(text)
 }
 
-#[test]
-fn far_labels_and_long_programs_are_refused(rt: HostRuntime) -> Result<(), Fail> {
-    let mut text = repeated(rt.alloc(), "beq a0, a1, far\n", "ecall\n", 1023)?;
+/// A branch over so many instructions.
+fn branch_over(alloc: Global, count: u32) -> Result<String, Fail> {
+    let mut text = repeated(alloc, "beq a0, a1, far\n", "ecall\n", count)?;
     text.push_str("far: ecall\n")?;
-    assert_refused(&rt, text.as_str(), 1, 7);
+    Ok(text)
+}
+
+#[test]
+fn far_labels_are_refused(rt: HostRuntime) -> Result<(), Fail> {
+    let text = branch_over(rt.alloc(), 1023)?;
+    assert_refused(rt.alloc(), text.as_str(), 1, 7)
+}
+
+#[test]
+fn long_programs_are_refused(rt: HostRuntime) -> Result<(), Fail> {
     let text = repeated(rt.alloc(), "", "ecall\n", 16385)?;
-    assert_refused(&rt, text.as_str(), 16385, 8);
+    assert_refused(rt.alloc(), text.as_str(), 16385, 8)
+}
+
+fn push_label(alloc: Global, text: &mut String, n: u32) -> Result<(), Fail> {
+    text.push_str(format!(in alloc; "a{n}:\n")?.as_str())?;
     Ok(())
+}
+
+/// A jump to the last of so many labels.
+fn labelled(alloc: Global, count: u32) -> Result<String, Fail> {
+    let mut text = String::from_str(alloc, "j a99999\n")?;
+    for n in 0..count {
+        push_label(alloc, &mut text, n)?;
+    }
+    Ok(text)
 }
 
 #[test]
 fn many_labels_assemble(rt: HostRuntime) -> Result<(), Fail> {
-    let alloc = rt.alloc();
-    let mut text = String::from_str(alloc, "j a99999\n")?;
-    for n in 0..100_000u32 {
-        text.push_str(format!(in alloc; "a{n}:\n")?.as_str())?;
-    }
-    assert_printed(&rt, text.as_str(), "words 0040006f\n")
+    let text = labelled(rt.alloc(), 100_000)?;
+    assert_printed(rt.alloc(), text.as_str(), "words 0040006f\n")
 }
+
+fn told(alloc: Global, refused: AsmRefused) -> Result<String, Fail> {
+    Ok(format!(in alloc; "{refused}")?)
+}
+
+const TOLD: &str = "line 3 breaks rule 6: no line defines the label that it names";
 
 #[test]
 fn a_refusal_says_line_and_rule(rt: HostRuntime) -> Result<(), Fail> {
-    let refused = AsmRefused::Line { line: 3, rule: 6 };
-    let message = format!(in rt.alloc(); "{refused}")?;
-    assert_eq!(&rt;
-        message.as_str(),
-        "line 3 breaks rule 6: no line defines the label that it names"
-    );
-    Ok(())
+    let told = told(rt.alloc(), AsmRefused::Line { line: 3, rule: 6 })?;
+    same("line 3", &told.as_bytes(), &TOLD.as_bytes())
 }

@@ -4,9 +4,10 @@ use std::test::Fail;
 use sys_text::printer::system_text;
 use sys_text::system::{Image, Root, System};
 use sys_text::valid::is_system;
-use t32_base::lists::{Bytes, List};
+use t32_base::lists::{Bytes, List, Text};
 use t32_base::process::{ClusterNo, Mode};
 use t32_base::streams::NoMemory;
+use test_asserts::same;
 
 const PAIR: &str =
     "clusters 4\npager 2 3\nsyncreads 1\nsyncsteps 64\nimage ping 1\nwords 00000000 ffffffff 0000006f deadbeef 00000001 0000000a 00100073 00000010\nwords 0abcdef1\nend\nimage b2 256\nend\nroot 0 1 quarter ping 100000 0 15\nroot 1 0 half b2 1 2 0\nroot 3 2 full ping 10 0 1\nchan 1 2\nchan 3 1\n";
@@ -31,20 +32,28 @@ fn image(alloc: Global, name: &str, pages: u16, words: &[u32]) -> Result<Image, 
     })
 }
 
-fn pair(alloc: Global) -> Result<System, NoMemory> {
-    let words = [
-        0u32, 0xffffffff, 0x6f, 0xdeadbeef, 1, 10, 0x100073, 16, 0xabcdef1,
-    ];
-    let ping = image(alloc, "ping", 1, &words)?;
-    let b2 = image(alloc, "b2", 256, &[])?;
+const WORDS: [u32; 9] = [
+    0, 0xffffffff, 0x6f, 0xdeadbeef, 1, 10, 0x100073, 16, 0xabcdef1,
+];
+
+fn images(alloc: Global) -> Result<Vec<Image>, NoMemory> {
     let mut images = Vec::new(alloc);
-    images.push(ping)?;
-    images.push(b2)?;
-    let roots = vec![in alloc;
+    images.push(image(alloc, "ping", 1, &WORDS)?)?;
+    images.push(image(alloc, "b2", 256, &[])?)?;
+    Ok(images)
+}
+
+fn roots(alloc: Global) -> Result<Vec<Root>, NoMemory> {
+    Ok(vec![in alloc;
         root(0, 1, Mode::Quarter, 0, (100000, 0, 15)),
         root(1, 0, Mode::Half, 1, (1, 2, 0)),
         root(3, 2, Mode::Full, 0, (10, 0, 1)),
-    ]?;
+    ]?)
+}
+
+fn pair(alloc: Global) -> Result<System, NoMemory> {
+    let images = images(alloc)?;
+    let roots = roots(alloc)?;
     let chans = vec![in alloc; (1u8, 2u8), (3u8, 1u8)]?;
     Ok(System {
         clusters: 4,
@@ -57,12 +66,15 @@ fn pair(alloc: Global) -> Result<System, NoMemory> {
     })
 }
 
+// Whether it is a system by the rules, and its text.
+fn printed(alloc: Global) -> Result<(bool, Text), NoMemory> {
+    let system = pair(alloc)?;
+    Ok((is_system(&system), system_text(alloc, &system)?))
+}
+
 #[test]
 fn a_system_is_printed_in_its_canonical_form(rt: HostRuntime) -> Result<(), Fail> {
-    let alloc = rt.alloc();
-    let system = pair(alloc)?;
-    assert!(rt; is_system(&system));
-    let text = system_text(alloc, &system)?;
-    assert_eq!(rt; text.as_slice(), PAIR.as_bytes());
-    Ok(())
+    let (is_system, text) = printed(rt.alloc())?;
+    let shown = (is_system, text.as_slice());
+    same("the pair", &shown, &(true, PAIR.as_bytes()))
 }

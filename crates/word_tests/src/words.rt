@@ -3,9 +3,10 @@ use cert_sched::script::{Script, ScriptWord};
 use command_words::{Command, allowed, command_of};
 use std::alloc::Global;
 use std::test::Fail;
-use t32_base::lists::{Bytes, List, Text};
+use t32_base::lists::{Bytes, Text};
 use t32_base::process::ClusterNo;
 use t32_base::streams::NoMemory;
+use test_asserts::same;
 
 // A command, as the rows below write it; `Usage` is none.
 #[derive(Clone, Copy, PartialEq, Eq, Debug)]
@@ -19,6 +20,11 @@ enum Read {
     Load(u32, bool),
 }
 
+fn push_word(alloc: Global, words: &mut Vec<Text>, word: &[u8]) -> Result<(), NoMemory> {
+    let word = Bytes::copy_of(alloc, word)?;
+    Ok(words.push(word)?)
+}
+
 // The words of a line, which single spaces part. An empty line has none.
 fn words(alloc: Global, line: &[u8]) -> Result<Vec<Text>, NoMemory> {
     let mut words = Vec::new(alloc);
@@ -26,24 +32,58 @@ fn words(alloc: Global, line: &[u8]) -> Result<Vec<Text>, NoMemory> {
         return Ok(words);
     }
     for word in line.split(|b| *b == b' ') {
-        words.push(Bytes::copy_of(alloc, word)?)?;
+        push_word(alloc, &mut words, word)?;
     }
     Ok(words)
 }
 
-// What the words of a line are read as, and the script.
-fn read_line(alloc: Global, line: &[u8]) -> Result<(Read, Script), NoMemory> {
-    let none = List::new(alloc);
+fn command(alloc: Global, line: &[u8]) -> Result<Option<Command>, NoMemory> {
     let words = words(alloc, line)?;
-    Ok(match command_of(alloc, words.as_slice())? {
-        None => (Read::Usage, none),
-        Some(Command::Plain) => (Read::Plain, none),
-        Some(Command::Check) => (Read::Check, none),
-        Some(Command::Asm) => (Read::Asm, none),
-        Some(Command::Sim { pick, log, script }) => (Read::Sim(pick, log), script),
-        Some(Command::Run { log, script }) => (Read::Run(log), script),
-        Some(Command::Load { size, text, script }) => (Read::Load(size, text), script),
-    })
+    command_of(alloc, words.as_slice())
+}
+
+// What a command is, without its script.
+fn kind_of(command: &Option<Command>) -> Read {
+    match command {
+        None => Read::Usage,
+        Some(Command::Plain) => Read::Plain,
+        Some(Command::Check) => Read::Check,
+        Some(Command::Asm) => Read::Asm,
+        Some(Command::Sim { pick, log, .. }) => Read::Sim(*pick, *log),
+        Some(Command::Run { log, .. }) => Read::Run(*log),
+        Some(Command::Load { size, text, .. }) => Read::Load(*size, *text),
+    }
+}
+
+// The script of a command that has one.
+fn script(command: &Option<Command>) -> Option<&Script> {
+    match command {
+        Some(
+            Command::Sim { script, .. }
+            | Command::Run { script, .. }
+            | Command::Load { script, .. },
+        ) => Some(script),
+        _ => None,
+    }
+}
+
+// Whether its script has just these words.
+fn has_script(command: &Option<Command>, words: &[ScriptWord]) -> bool {
+    match script(command) {
+        Some(script) => script.as_slice() == words,
+        None => words.is_empty(),
+    }
+}
+
+// What the words of a line are read as, and whether the script has just these words.
+fn read_line(alloc: Global, line: &[u8], words: &[ScriptWord]) -> Result<(Read, bool), NoMemory> {
+    let command = command(alloc, line)?;
+    Ok((kind_of(&command), has_script(&command, words)))
+}
+
+fn assert_read(alloc: Global, line: &[u8], wanted: Read, words: &[ScriptWord]) -> Result<(), Fail> {
+    let shown = read_line(alloc, line, words)?;
+    same("the line", &(line, shown), &(line, (wanted, true)))
 }
 
 static OPTIONS: [(&[u8], Read); 101] = [
@@ -152,9 +192,8 @@ static OPTIONS: [(&[u8], Read); 101] = [
 
 #[test]
 fn commands_and_options_are_read(rt: HostRuntime) -> Result<(), Fail> {
-    for (line, expected) in OPTIONS {
-        let (command, script) = read_line(rt.alloc(), line)?;
-        assert!(&rt; command == expected && script.is_empty(), "at {line:?}");
+    for row in OPTIONS.iter() {
+        assert_read(rt.alloc(), row.0, row.1, &[])?;
     }
     Ok(())
 }
@@ -280,37 +319,43 @@ static SCRIPTS: [(&[u8], Read, &[ScriptWord]); 53] = [
 
 #[test]
 fn script_words_are_read(rt: HostRuntime) -> Result<(), Fail> {
-    for (line, expected, words) in SCRIPTS {
-        let (command, script) = read_line(rt.alloc(), line)?;
-        assert!(&rt;
-            command == expected && script.as_slice() == words,
-            "at {line:?}"
-        );
+    for row in SCRIPTS.iter() {
+        assert_read(rt.alloc(), row.0, row.1, row.2)?;
     }
     Ok(())
 }
 
 // The words of a system with four clusters, of which 0 and 2 are page servers.
+static ALLOWED: [(&[u8], bool); 13] = [
+    (b"sim", true),
+    (b"sim crash:3@bus:9", true),
+    (b"sim crash:4@bus:9", false),
+    (b"sim crash:3@step:9", true),
+    (b"sim crash:4@step:9", false),
+    (b"sim crash:300@step:9", false),
+    (b"sim return:3@bus:9", true),
+    (b"sim return:4@bus:9", false),
+    (b"sim disk:0@9", true),
+    (b"sim disk:1@9", false),
+    (b"sim disk:2@9", true),
+    (b"sim disk:256@9", false),
+    (b"sim crash:3@bus:9 return:4@bus:9", false),
+];
+
+// Whether the script of a line is allowed, where it is that of the word `sim`.
+fn is_allowed(alloc: Global, line: &[u8]) -> Result<Option<bool>, NoMemory> {
+    let command = command(alloc, line)?;
+    match script(&command) {
+        Some(script) => Ok(Some(allowed(script, 4, (ClusterNo(0), ClusterNo(2))))),
+        None => Ok(None),
+    }
+}
+
 #[test]
 fn words_are_allowed_by_the_system(rt: HostRuntime) -> Result<(), Fail> {
-    for (line, expected) in [
-        (b"sim".as_slice(), true),
-        (b"sim crash:3@bus:9", true),
-        (b"sim crash:4@bus:9", false),
-        (b"sim crash:3@step:9", true),
-        (b"sim crash:4@step:9", false),
-        (b"sim crash:300@step:9", false),
-        (b"sim return:3@bus:9", true),
-        (b"sim return:4@bus:9", false),
-        (b"sim disk:0@9", true),
-        (b"sim disk:1@9", false),
-        (b"sim disk:2@9", true),
-        (b"sim disk:256@9", false),
-        (b"sim crash:3@bus:9 return:4@bus:9", false),
-    ] {
-        let (_, script) = read_line(rt.alloc(), line)?;
-        let answer = allowed(&script, 4, (ClusterNo(0), ClusterNo(2)));
-        assert!(&rt; answer == expected, "at {line:?}");
+    for row in ALLOWED.iter() {
+        let answer = is_allowed(rt.alloc(), row.0)?;
+        same("the line", &(row.0, answer), &(row.0, Some(row.1)))?;
     }
     Ok(())
 }

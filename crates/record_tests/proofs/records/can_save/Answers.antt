@@ -6,7 +6,7 @@ use Rattle.t32_base.specs.declared.letter.To.{To}
 use Rattle.t32_base.specs.declared.letter.To.TheVariants.{Proc}
 use Rattle.t32_base.specs.declared.letter.BackRec.{BackRec}
 use Rattle.backup_records.specs.Records.{is_receiver, record_in}
-use Rattle.backup_records.proofs.tests.can_save.Goals as goal
+use Rattle.record_tests.proofs.records.can_save.Goals as goal
 
 receiver_is : (p q : Pid) (end : ℕ) (to : To) → to ≡ Proc q end → is_receiver p to ≡ true → q ≡ p
 receiver_is p q end to is for = λ i. record { 0 = eqb-true q.0 p.0 (ap (is_receiver p) (sym is) ∙ for) i }

@@ -1,0 +1,5 @@
+//! Tests of the records of a cluster, with what entries make of them. The expected values were worked by hand.
+#![tactic(auto)]
+
+#[cfg(test)]
+mod records;

@@ -1,0 +1,273 @@
+//! The records of a few processes, with what entries make of them.
+ghost use Rattle.std.specs.Prelude.{◌≡◌, ◌<◌, ◌^◌, ◌-◌, IsTrue, true};
+ghost use Rattle.write_count.specs.Counting.{count_for};
+ghost use Rattle.backup_records.specs.Records.{CanCount, CanSave};
+
+use backup_queue::record::Record;
+use backup_records::records::Records;
+use bus_msg::entry::What;
+use bus_msg::placed::Placed;
+use channel_table::placement::Placement;
+use std::alloc::Global;
+use std::test::Fail;
+use t32_base::letter::{Arrived, Body, Letter, To};
+use t32_base::lists::List;
+use t32_base::process::{ClusterNo, Counts, End, Mode, Pid};
+use t32_base::shared_bytes::SharedBytes;
+use t32_base::streams::NoMemory;
+use test_asserts::same;
+
+// The records of these processes, which have saved and counted nothing.
+fn records(alloc: Global, pids: &[u32]) -> Result<Records, NoMemory> {
+    let mut records = Records::none(alloc);
+    for pid in pids {
+        records.add(Record::new(alloc, Pid(*pid), None))?;
+    }
+    Ok(records)
+}
+
+// Whether the counts are small, as those of a test stay.
+fn is_small(counts: &Counts, letter: &Letter) -> bool
+    ensures { IsTrue result → (letter.now.out < 32) × (count_for counts.now letter.now < 2 ^ 32 - 1) }
+{
+    if letter.out >= 32 {
+        return false;
+    }
+    match letter.body {
+        Body::Signal(_) => counts.signals < 9,
+        _ => counts.ends[usize::from(letter.out)] < 9,
+    }
+}
+
+fn can_save(records: &Records, letter: &Letter) -> bool
+    ensures { IsTrue result → CanSave letter.now records.now }
+{
+    match letter.to {
+        To::Proc(pid, _) => match records.get(pid) {
+            Some(record) => record.next() < 9,
+            None => true,
+        },
+        To::Tty(_) => true,
+    }
+}
+
+fn can_count(records: &Records, letter: &Letter) -> bool
+    ensures { IsTrue result → CanCount letter.now records.now }
+{
+    match records.get(letter.from) {
+        Some(record) => is_small(record.counts(), letter),
+        None => true,
+    }
+}
+
+// Notes a letter where it may be noted, which it may in these tests.
+fn note(records: &mut Records, letter: Letter) -> Result<(), Fail> {
+    if !can_save(records, &letter) || !can_count(records, &letter) {
+        return Err("the letter may not be noted".into());
+    }
+    records.note(&What::Mail { at: 1, letter })?;
+    Ok(())
+}
+
+// The letters that arrived at a process, those that left from its end 2, and its signals.
+type Told = Option<(u64, u32, u32)>;
+
+fn told(records: &Records, pid: u32) -> Told {
+    let record = records.get(Pid(pid))?;
+    let counts = record.counts();
+    Some((record.next(), counts.ends[2], counts.signals))
+}
+
+// The same of the processes 16, 17 and 32.
+fn each_told(records: &Records) -> [Told; 3] {
+    [told(records, 16), told(records, 17), told(records, 32)]
+}
+
+fn line(alloc: Global, from: u32, to: To) -> Result<Letter, NoMemory> {
+    Ok(Letter {
+        from: Pid(from),
+        out: 2,
+        to,
+        body: Body::Said(SharedBytes::copy_of(alloc, b"ok\n")?),
+    })
+}
+
+fn note_line(alloc: Global, records: &mut Records, from: u32, to: To) -> Result<[Told; 3], Fail> {
+    let letter = line(alloc, from, to)?;
+    note(records, letter)?;
+    Ok(each_told(records))
+}
+
+fn note_signal(records: &mut Records) -> Result<[Told; 3], Fail> {
+    let signal = Letter {
+        from: Pid(17),
+        out: 0,
+        to: To::Proc(Pid(17), 0),
+        body: Body::Signal(11),
+    };
+    note(records, signal)?;
+    Ok(each_told(records))
+}
+
+// What is told after each of four lines and a signal.
+fn note_all(alloc: Global, records: &mut Records) -> Result<[[Told; 3]; 5], Fail> {
+    let to_other = note_line(alloc, records, 16, To::Proc(Pid(17), 1))?;
+    let to_tty = note_line(alloc, records, 16, To::Tty(0))?;
+    let to_unknown = note_line(alloc, records, 16, To::Proc(Pid(32), 1))?;
+    let by_unknown = note_line(alloc, records, 32, To::Proc(Pid(17), 1))?;
+    let signal = note_signal(records)?;
+    Ok([to_other, to_tty, to_unknown, by_unknown, signal])
+}
+
+fn all_noted(alloc: Global) -> Result<(usize, [[Told; 3]; 5]), Fail> {
+    let mut kept = records(alloc, &[17, 16])?;
+    let told = note_all(alloc, &mut kept)?;
+    Ok((kept.len(), told))
+}
+
+const NOTED: [[Told; 3]; 5] = [
+    [Some((0, 1, 0)), Some((1, 0, 0)), None],
+    [Some((0, 2, 0)), Some((1, 0, 0)), None],
+    [Some((0, 3, 0)), Some((1, 0, 0)), None],
+    [Some((0, 3, 0)), Some((2, 0, 0)), None],
+    [Some((0, 3, 0)), Some((3, 0, 1)), None],
+];
+
+#[test]
+fn a_letter_is_saved_by_its_receiver_and_counted_by_its_sender(
+    rt: HostRuntime,
+) -> Result<(), Fail> {
+    same(
+        "what is told after each letter",
+        &all_noted(rt.alloc())?,
+        &(2, NOTED),
+    )
+}
+
+// How many records there are, and whether there is one of 16, 17 and 32.
+fn there(records: &Records) -> (usize, [bool; 3]) {
+    let each = [
+        records.get(Pid(16)).is_some(),
+        records.get(Pid(17)).is_some(),
+        records.get(Pid(32)).is_some(),
+    ];
+    (records.len(), each)
+}
+
+// After an exit, and after the end of a run, which is no process's.
+fn ended(alloc: Global) -> Result<(usize, [bool; 3]), NoMemory> {
+    let mut kept = records(alloc, &[16, 17, 32])?;
+    kept.note(&What::Exit {
+        pid: Pid(17),
+        at: 9,
+        end: End::Exit(0),
+    })?;
+    kept.note(&What::Stop)?;
+    Ok(there(&kept))
+}
+
+#[test]
+fn the_record_of_a_process_that_ended_goes(rt: HostRuntime) -> Result<(), Fail> {
+    same(
+        "the records",
+        &ended(rt.alloc())?,
+        &(2, [true, false, true]),
+    )
+}
+
+// Four processes; the homes of 16, 32 and 64 are in cluster 0, and the backups of 16, 17 and 64 in cluster 1.
+const FIRST: Placed = Placed {
+    pid: Pid(16),
+    home: ClusterNo(0),
+    backup: Some(ClusterNo(1)),
+    mode: Mode::Quarter,
+    lost: None,
+    ended: false,
+    synced: false,
+};
+
+const AWAY: Placed = Placed {
+    pid: Pid(17),
+    home: ClusterNo(2),
+    ..FIRST
+};
+
+const SAVED_AWAY: Placed = Placed {
+    pid: Pid(32),
+    backup: Some(ClusterNo(2)),
+    ..FIRST
+};
+
+const LAST: Placed = Placed {
+    pid: Pid(64),
+    ..FIRST
+};
+
+fn placed(alloc: Global) -> Result<Placement, NoMemory> {
+    let roots = [FIRST, AWAY, SAVED_AWAY, LAST];
+    Placement::boot(alloc, 3, (ClusterNo(0), ClusterNo(1)), &roots)
+}
+
+// The records of cluster 1, with a letter of 17 to 64.
+fn with_letter(alloc: Global) -> Result<Records, Fail> {
+    let mut kept = records(alloc, &[64, 17, 16])?;
+    let letter = line(alloc, 17, To::Proc(Pid(64), 1))?;
+    note(&mut kept, letter)?;
+    Ok(kept)
+}
+
+// The records that move at the loss of cluster 0; how many stay, and what is told of 17, which stays.
+fn moved(alloc: Global) -> Result<(List<Record>, (usize, Told)), Fail> {
+    let before = placed(alloc)?;
+    let mut kept = with_letter(alloc)?;
+    let moved = kept.take_moved(alloc, ClusterNo(0), ClusterNo(1), &before)?;
+    Ok((moved, (kept.len(), told(&kept, 17))))
+}
+
+fn two_pids(records: &List<Record>) -> Option<(u32, u32)> {
+    match records.as_slice() {
+        [first, second] => Some((first.pid().0, second.pid().0)),
+        _ => None,
+    }
+}
+
+// The letter that the last record saved for end 1.
+fn saved_last(records: List<Record>) -> Option<Arrived> {
+    let last = records.into_vec().pop()?;
+    let mut saved = last.into_parts().saved;
+    saved.take_on(1)
+}
+
+// The number of a letter, and the three bytes that it says.
+fn said(letter: &Arrived) -> (u64, Option<[u8; 3]>) {
+    let bytes = match &letter.letter.body {
+        Body::Said(bytes) => bytes.as_slice().try_into().ok(),
+        _ => None,
+    };
+    (letter.number, bytes)
+}
+
+// What stays, the two that moved, and the letter of the last.
+type Moved = (
+    (usize, Told),
+    Option<(u32, u32)>,
+    Option<(u64, Option<[u8; 3]>)>,
+);
+
+fn shown(alloc: Global) -> Result<Moved, Fail> {
+    let (moved, stays) = moved(alloc)?;
+    let pids = two_pids(&moved);
+    let letter = saved_last(moved);
+    Ok((stays, pids, letter.as_ref().map(said)))
+}
+
+const MOVED: Moved = (
+    (1, Some((0, 1, 0))),
+    Some((16, 64)),
+    Some((0, Some(*b"ok\n"))),
+);
+
+#[test]
+fn a_loss_takes_the_records_that_move_here_with_their_letters(rt: HostRuntime) -> Result<(), Fail> {
+    same("what moved and what stays", &shown(rt.alloc())?, &MOVED)
+}
