@@ -50,7 +50,7 @@ built_clusters-length system log legal =
     ∙ same_length (what e) (not_birth system log e (may.stands).applies (what e) refl) (placement system log) ∙ same) log legal
 
 -- a cluster that lives is one of them
-lives_within : (places : Places) (k : ClusterNo) → lives_in places k ≡ true → k.0 < length places.clusters
+pub lives_within : (places : Places) (k : ClusterNo) → lives_in places k ≡ true → k.0 < length places.clusters
 lives_within places k lives = by_cluster (slice_get places.clusters k.0) refl lives
   where
     by_cluster : (o : Option ClusterPlace) → slice_get places.clusters k.0 ≡ o → option_map_or (λ (c : ClusterPlace). c.lives) o false ≡ true → k.0 < length places.clusters
