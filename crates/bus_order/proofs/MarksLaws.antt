@@ -8,6 +8,7 @@ use Rattle.t32_base.specs.declared.process.ClusterNo.{ClusterNo}
 use Rattle.sys_text.specs.declared.system.System.{System}
 use Rattle.bus_msg.specs.declared.entry.Entry.{Entry}
 use Rattle.bus_msg.specs.Places.{cluster_no}
+use Rattle.cert_sched.specs.declared.script.ScriptWord.{ScriptWord}
 use Rattle.cert_sched.proofs.RisingLaws.{either_not}
 use Rattle.bus_order.specs.declared.marks.Mark.{Mark}
 use Rattle.bus_order.specs.View.{mark_in, no_marks, MarkHolds}
@@ -39,20 +40,20 @@ mark_in-replicate n k = at n k.0
     at (suc n) (suc i) = at n i
 
 -- every mark holds still where one is changed to one that holds
-pub holds_set : (system : System) (log : List Entry) (marks : List (Option Mark)) (k : ClusterNo) (m : Option Mark) → k.0 < length marks → ((j : ClusterNo) → MarkHolds system log j (mark_in marks j)) → MarkHolds system log k m
-    → (j : ClusterNo) → MarkHolds system log j (mark_in (slice_set marks k.0 m) j)
-holds_set system log marks k m within all here j = by_test (eqb j.0 k.0) refl
+pub holds_set : (system : System) (script : List ScriptWord) (log : List Entry) (marks : List (Option Mark)) (k : ClusterNo) (m : Option Mark) → k.0 < length marks → ((j : ClusterNo) → MarkHolds system script log j (mark_in marks j)) → MarkHolds system script log k m
+    → (j : ClusterNo) → MarkHolds system script log j (mark_in (slice_set marks k.0 m) j)
+holds_set system script log marks k m within all here j = by_test (eqb j.0 k.0) refl
   where
-    by_test : (b : Bool) → eqb j.0 k.0 ≡ b → MarkHolds system log j (mark_in (slice_set marks k.0 m) j)
+    by_test : (b : Bool) → eqb j.0 k.0 ≡ b → MarkHolds system script log j (mark_in (slice_set marks k.0 m) j)
     by_test true is =
         let number : j.0 ≡ k.0 = eqb-true j.0 k.0 is in
         let same : k ≡ j = λ i. record { 0 = sym number i } in
         let value : mark_in (slice_set marks k.0 m) k ≡ m = mark_in-get_or (slice_set marks k.0 m) k ∙ get_or-set_same marks k.0 m None within in
-        subst (λ j. MarkHolds system log j (mark_in (slice_set marks k.0 m) j)) same (subst (MarkHolds system log k) (sym value) here)
+        subst (λ j. MarkHolds system script log j (mark_in (slice_set marks k.0 m) j)) same (subst (MarkHolds system script log k) (sym value) here)
     by_test false is =
         let value : mark_in (slice_set marks k.0 m) j ≡ mark_in marks j =
         mark_in-get_or (slice_set marks k.0 m) j ∙ get_or-set_other marks k.0 j.0 m None (λ e. true≢false (sym (eq-eqb j.0 k.0 e) ∙ is)) ∙ sym (mark_in-get_or marks j) in
-        subst (MarkHolds system log j) (sym value) (all j)
+        subst (MarkHolds system script log j) (sym value) (all j)
 
 -- a mark that is put back
 pub marks_restored : (marks : List (Option Mark)) (k : ClusterNo) (m : Option Mark) → slice_set (slice_set marks k.0 m) k.0 (mark_in marks k) ≡ marks

@@ -18,21 +18,20 @@ use Rattle.bus_msg.specs.declared.entry.Entry.{Entry}
 use Rattle.bus_msg.specs.declared.placed.Placed.{Placed}
 use Rattle.bus_msg.specs.Places.{same_pid, unended_in}
 use Rattle.cert_sched.specs.Parts.{rising}
-use Rattle.cert_sched.specs.Schedule.{plain_after, after_entry, placement, places_at_boot}
+use Rattle.cert_sched.specs.Schedule.{plain_after, after_entry, placement}
 use Rattle.cert_sched.specs.Steps.{silent_upto}
 use Rattle.cert_sched.specs.Rules.{is_over}
 use Rattle.cert_sched.specs.Kinds.{is_silent_rest}
 use Rattle.cert_sched.specs.Rests.{is_idle, is_idle_at}
 use Rattle.cert_sched.specs.Legal.{IsLegalBy}
-use Rattle.cert_sched.specs.Built.{UnlostMayFollow}
+use Rattle.cert_sched.specs.Built.{BuiltMayFollow}
 use Rattle.cert_sched.specs.Appended.{entry_of}
 use Rattle.cert_sched.proofs.ListLaws.{list_all-weaker}
 use Rattle.cert_sched.proofs.LogLaws.{plain_after-snoc}
 use Rattle.cert_sched.proofs.StepLaws.{plain_after-pids}
-use Rattle.cert_sched.proofs.RootPids.{root_pids_differ}
-use Rattle.cert_sched.proofs.UnlostLaws.{Kept, kept, unlost_kept, legal_unlost}
 use Rattle.cert_sched.proofs.RisingLaws.{NoTwo, rising-any, rising-apart}
-use Rattle.cert_sched.proofs.PidLaws.{placed_pids, apart_of, apart_fewer}
+use Rattle.cert_sched.proofs.PidLaws.{placed_pids, apart_fewer}
+use Rattle.cert_sched.proofs.FreshLaws.{numbered}
 use Rattle.cert_sched.proofs.RunsLaws.{rest_pids, led, led-silent_upto, after_runs, RunsTo, runs_made}
 use Rattle.cert_sched.proofs.EndedLaws.{EndsTold, built_ended}
 use Rattle.cert_sched.proofs.StillLaws.{still_where_none_acts}
@@ -45,19 +44,9 @@ pub record AllRest (system : System) (log : List Entry) (rests : List (Pid × �
 
 -- ---- the pids
 
-abbrev kept_pids : List Kept → List ℕ
-kept_pids ks = map (λ (k : Kept). (k.pid).0) ks
-
-pids_kept : (qs : List Placed) → kept_pids (map kept qs) ≡ placed_pids qs
-pids_kept [] = refl
-pids_kept (q ∷ qs) = ap (λ ns. (q.pid).0 ∷ ns) (pids_kept qs)
-
 -- no two processes of such a log have one pid
-built_apart : (system : System) (log : List Entry) → is_system system ≡ true → IsLegalBy UnlostMayFollow system log → NoTwo (placed_pids (placement system log).placed)
-built_apart system log valid legal =
-    let same : placed_pids (placement system log).placed ≡ placed_pids (places_at_boot system).placed =
-    sym (pids_kept (placement system log).placed) ∙ ap kept_pids (unlost_kept system log legal) ∙ pids_kept (places_at_boot system).placed in
-    subst NoTwo (sym same) (apart_of (places_at_boot system).placed (root_pids_differ system valid))
+pub built_apart : (system : System) (log : List Entry) → is_system system ≡ true → IsLegalBy BuiltMayFollow system log → NoTwo (placed_pids (placement system log).placed)
+built_apart system log valid legal = (numbered BuiltMayFollow (λ system log e may. may.stands) system log valid legal).two
 
 -- a process that is none of those that have not ended is not found among them
 unnamed : (qs : List Placed) (p : Pid) → list_any (λ m. eqb m p.0) (placed_pids (filter (λ (q : Placed). not q.ended) qs)) ≡ false → find (λ (q : Placed). same_pid q.pid p && not q.ended) qs ≡ None
@@ -111,8 +100,8 @@ idle_reached system log r idle =
     let halves = and_parts (is_silent_rest system log r) (option_map_or is_idle (silent_upto system log r.0 r.1) false) idle in
     (and_parts _ (is_some (silent_upto system log r.0 r.1)) halves.0).1
 
-done_kernel : (system : System) (log : List Entry) (rests : List (Pid × ℕ)) → is_system system ≡ true → IsLegalBy UnlostMayFollow system log → AllRest system log rests → DoneKernel system log rests
-done_kernel system log rests valid legal rest = by_kernel (plain_after system log) refl (legal_applies system log (legal_unlost system log legal))
+done_kernel : (system : System) (log : List Entry) (rests : List (Pid × ℕ)) → is_system system ≡ true → IsLegalBy BuiltMayFollow system log → AllRest system log rests → DoneKernel system log rests
+done_kernel system log rests valid legal rest = by_kernel (plain_after system log) refl (legal_applies system log legal)
   where
     two : NoTwo (rest_pids rests)
     two = subst NoTwo (sym rest.named) (rising-apart (placed_pids (unended_in (placement system log))) (apart_fewer (λ (q : Placed). not q.ended) (placement system log).placed (built_apart system log valid legal)))
@@ -124,12 +113,12 @@ done_kernel system log rests valid legal rest = by_kernel (plain_after system lo
         runs : RunsTo k k rests
         runs = runs_made k rests two (list_all-weaker (is_idle_at system log) (λ r. is_some (led k r)) (λ r idle. sym (ap is_some (led-silent_upto system log k r is)) ∙ idle_reached system log r idle) rests rest.idle)
 
-done_still : (system : System) (log : List Entry) (rests : List (Pid × ℕ)) → IsLegalBy UnlostMayFollow system log → is_over system log ≡ false → AllRest system log rests → (d : DoneKernel system log rests) → is_still (d.runs).to ≡ true
+done_still : (system : System) (log : List Entry) (rests : List (Pid × ℕ)) → IsLegalBy BuiltMayFollow system log → is_over system log ≡ false → AllRest system log rests → (d : DoneKernel system log rests) → is_still (d.runs).to ≡ true
 done_still system log rests legal goes_on rest d =
     still_where_none_acts (d.runs).to (plain_after-pids system (log ++ done_entry system log rests ∷ []) (d.runs).to d.after).rising none_moves
   where
     told : EndsTold system log
-    told = built_ended system log (legal_unlost system log legal) goes_on
+    told = built_ended system log legal goes_on
 
     idle : list_all (λ r. option_map_or is_idle (led d.kernel r) false) rests ≡ true
     idle = list_all-weaker (is_idle_at system log) (λ r. option_map_or is_idle (led d.kernel r) false)
@@ -143,8 +132,8 @@ done_still system log rests legal goes_on rest d =
         ap has_step (ended_is_over s (told q s (ap (option_and_then (λ k. process_at k q)) d.before ∙ was) (unnamed (placement system log).placed q apart))))
 
 -- where all rest, the end of the run may stand next
-pub done_may_follow : (system : System) (log : List Entry) (rests : List (Pid × ℕ)) → is_system system ≡ true → IsLegalBy UnlostMayFollow system log → is_over system log ≡ false → AllRest system log rests
-    → UnlostMayFollow system log (done_entry system log rests)
+pub done_may_follow : (system : System) (log : List Entry) (rests : List (Pid × ℕ)) → is_system system ≡ true → IsLegalBy BuiltMayFollow system log → is_over system log ≡ false → AllRest system log rests
+    → BuiltMayFollow system log (done_entry system log rests)
 done_may_follow system log rests valid legal goes_on rest =
     let d = done_kernel system log rests valid legal rest in
     record {

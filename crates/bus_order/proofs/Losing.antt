@@ -1,0 +1,138 @@
+-- The loss of a cluster may stand next, by a word for a place that was reached, or by one for a step.
+use Rattle.std.proofs.Common.{◌≡◌, ℕ, ◌+◌, ◌<◌, refl, sym, ◌∙◌, ap, subst, arith, List, [], ◌∷◌, ◌++◌, length, Bool, cond, ◌&&◌, true, false, eqb, eqb-true, Option, Some, None, is_some, true≢false}
+use Rattle.std.specs.Prelude.{filter, count_by, remove, find}
+use Rattle.std.specs.List.{list_all}
+use Rattle.std.specs.Option.{option_map}
+use Rattle.std.proofs.lemmas.Bool.{and_parts}
+use Rattle.proc_state.specs.Mail.{without_first}
+use Rattle.t32_base.specs.declared.process.ClusterNo.{ClusterNo}
+use Rattle.sys_text.specs.declared.system.System.{System}
+use Rattle.bus_msg.specs.declared.entry.What.{What}
+use Rattle.bus_msg.specs.declared.entry.What.TheVariants.{Crash}
+use Rattle.bus_msg.specs.declared.entry.Cause.{Cause}
+use Rattle.bus_msg.specs.declared.entry.Cause.TheVariants.{Place, Step, Disk}
+use Rattle.bus_msg.specs.declared.entry.Entry.{Entry}
+use Rattle.bus_msg.specs.Places.{Places, same_cluster, lives_in}
+use Rattle.bus_msg.specs.PlacedAfter.{what}
+use Rattle.cert_sched.specs.declared.script.ScriptWord.{ScriptWord}
+use Rattle.cert_sched.specs.declared.script.ScriptWord.TheVariants.{CrashAt, CrashStep, DiskAt, ReturnAt}
+use Rattle.cert_sched.specs.CertAfter.{CertView}
+use Rattle.cert_sched.specs.Schedule.{placement}
+use Rattle.cert_sched.specs.Rules.{is_over}
+use Rattle.cert_sched.specs.Legal.{IsLegalBy}
+use Rattle.cert_sched.specs.Built.{BuiltMayFollow, is_built_word}
+use Rattle.cert_sched.specs.Looked.{Looked, gives, goes_on, is_bus_word, is_reached, given_by, without_reached}
+use Rattle.cert_sched.specs.Losses.{is_scripted_cause, is_step_crash, is_step_word}
+use Rattle.cert_sched.specs.Simulation.{crash_entry}
+use Rattle.cert_sched.proofs.CameLaws.{no_items}
+use Rattle.cert_sched.proofs.ThereLaws.{plain_there}
+use Rattle.bus_order.specs.Script.{AccountsFor, IsFirst, is_word_for}
+use Rattle.bus_order.specs.View.{BusView, IsKept, MayLose, MayPass}
+use Rattle.bus_order.proofs.WordsLaws.{find-filter, without-filter, filter-without, all-without, all-found, count-without}
+use Rattle.bus_order.proofs.Keeping.{IsMore, accounts_more, reached_bus, steps_stay}
+
+-- the crash of a cluster that lives may stand next in a log that goes on
+pub crash_may_follow : (system : System) (log : List Entry) (k : ClusterNo) (cause : Cause) → IsLegalBy BuiltMayFollow system log → is_over system log ≡ false → lives_in (placement system log) k ≡ true → BuiltMayFollow system log (crash_entry system log k cause)
+crash_may_follow system log k cause legal goes_on lives = record {
+  stands = record {
+    placed = (refl, refl, goes_on);
+    by_right = refl;
+    applies = ap is_some (no_items system log (crash_entry system log k cause) (λ k. refl)) ∙ plain_there BuiltMayFollow (λ system log e may. may.stands) system log legal;
+    kind = lives;
+  };
+  built = refl;
+}
+
+pub loss_more : (b : BusView) (over : Bool) (places : Places) (cert : CertView) (k : ClusterNo) (cause : Cause) (left : List ScriptWord) → IsKept b over places cert → MayLose b k cause left → IsMore b (crash_entry b.system b.log k cause) left
+loss_more b over places cert k cause left kept may = record {
+  may = crash_may_follow b.system b.log k cause kept.legal may.goes_on may.lives;
+  words = may.words;
+  looked = may.looked;
+  scripted = may.scripted;
+  used = may.used;
+}
+
+-- ---- by a word for a place
+
+-- what it gives is a crash of a cluster that lives
+given_lives : (places : Places) (w : ScriptWord) (k : ClusterNo) → given_by places w ≡ Some (Crash k Place) → is_built_word w ≡ true → lives_in places k ≡ true
+given_lives places (CrashAt j place) k given built = by_test (lives_in places j) refl given
+  where
+    by_test : (b : Bool) → lives_in places j ≡ b → cond b (Some (Crash j Place)) None ≡ Some (Crash k Place) → lives_in places k ≡ true
+    by_test true is e = let same : j ≡ k = cc in ap (lives_in places) (sym same) ∙ is
+    by_test false is e = cc
+given_lives places (CrashStep j step) k given built = cc
+given_lives places (DiskAt j call) k given built = cc
+given_lives places (ReturnAt j place) k given built = absurd (true≢false (sym built))
+
+no_place_step : (j k : ClusterNo) (n : ℕ) → is_step_crash j n (Crash k Place) ≡ false
+no_place_step j k n = by_test (same_cluster k j)
+  where
+    by_test : (b : Bool) → (b && false) ≡ false
+    by_test true = refl
+    by_test false = refl
+
+pub place_loses : (b : BusView) (over : Bool) (places : Places) (cert : CertView) (number : ℕ) (w : ScriptWord) (k : ClusterNo) → IsKept b over places cert → is_over b.system b.log ≡ false → IsFirst (is_reached (length b.log)) b.left number w
+    → given_by (placement b.system b.log) w ≡ Some (Crash k Place) → MayLose b k Place (remove b.left number)
+place_loses b over places cert number w k kept goes_on first given = subst (MayLose b k Place) (sym first.2) (record {
+  goes_on = goes_on;
+  lives = given_lives (placement b.system b.log) w k given (all-found (is_reached (length b.log)) is_built_word b.left w kept.words first.0).1;
+  words = all-without (is_reached (length b.log)) is_built_word b.left kept.words;
+  looked =
+      subst (Looked b.system b.script (b.log ++ crash_entry b.system b.log k Place ∷ [])) (without-filter (is_reached (length b.log)) is_bus_word (reached_bus (length b.log)) b.left)
+      (gives (kept.scripted).looked w (crash_entry b.system b.log k Place) (find-filter (is_reached (length b.log)) is_bus_word (reached_bus (length b.log)) b.left ∙ first.0) given);
+  scripted = refl;
+  used = accounts_more b.script b.left (without_reached b.log b.left) b.log (crash_entry b.system b.log k Place) (kept.scripted).used (λ j n.
+      let stay = steps_stay (length b.log) b.left w j n kept.words first.0 in
+      let none : ◌≡◌ {A = ℕ} (cond (is_step_crash j n (Crash k Place)) 1 0) 0 = ap (λ (c : Bool). cond c 1 0) (no_place_step j k n) in
+      omega (arith, stay, none));
+})
+
+-- a word that was reached and loses no cluster gives nothing
+pub passes : (b : BusView) (number : ℕ) (w : ScriptWord) (o : Option ClusterNo) → IsFirst (is_reached (length b.log)) b.left number w → o ≡ None → given_by (placement b.system b.log) w ≡ option_map (λ k. Crash k Place) o → MayPass b number
+passes b number w o first none given = record { word = w; first = first; nothing = given ∙ ap (option_map (λ k. Crash k Place)) none }
+
+-- ---- by a word for a step
+
+step_not_bus : (k : ClusterNo) (n : ℕ) (w : ScriptWord) → is_step_word k n w ≡ true → is_bus_word w ≡ false
+step_not_bus k n (CrashAt j place) h = absurd (true≢false (sym h))
+step_not_bus k n (CrashStep j step) h = refl
+step_not_bus k n (DiskAt j call) h = refl
+step_not_bus k n (ReturnAt j place) h = absurd (true≢false (sym h))
+
+-- it is a word for another step exactly where the crash is one at that step
+same_step : (k : ClusterNo) (n : ℕ) (w : ScriptWord) (j : ClusterNo) (m : ℕ) → is_step_word k n w ≡ true → is_step_word j m w ≡ is_step_crash j m (Crash k (Step n))
+same_step k n (CrashAt i place) j m h = absurd (true≢false (sym h))
+same_step k n (CrashStep i step) j m h =
+    let parts = and_parts (same_cluster i k) (eqb step n) h in
+    ap (λ a. eqb a j.0 && eqb step m) (eqb-true i.0 k.0 parts.0) ∙ ap (λ a. eqb k.0 j.0 && eqb a m) (eqb-true step n parts.1)
+same_step k n (DiskAt i call) j m h = absurd (true≢false (sym h))
+same_step k n (ReturnAt i place) j m h = absurd (true≢false (sym h))
+
+no_disk_word : (k : ClusterNo) (n : ℕ) (w : ScriptWord) → is_word_for k (Disk n) w ≡ true → is_built_word w ≡ true → ⊥
+no_disk_word k n (CrashAt j place) h built = true≢false (sym h)
+no_disk_word k n (CrashStep j step) h built = true≢false (sym h)
+no_disk_word k n (DiskAt j call) h built = true≢false (sym built)
+no_disk_word k n (ReturnAt j place) h built = true≢false (sym h)
+
+pub step_loses : (b : BusView) (over : Bool) (places : Places) (cert : CertView) (number : ℕ) (w : ScriptWord) (k : ClusterNo) (cause : Cause) → IsKept b over places cert → is_over b.system b.log ≡ false → lives_in (placement b.system b.log) k ≡ true
+    → IsFirst (is_word_for k cause) b.left number w → is_scripted_cause b.system b.script b.log k cause ≡ true → MayLose b k cause (remove b.left number)
+step_loses b over places cert number w k Place kept open lives first scripted =
+    absurd (true≢false (sym (all-found (is_word_for k Place) is_built_word b.left w kept.words first.0).0))
+step_loses b over places cert number w k (Disk n) kept open lives first scripted =
+    let found = all-found (is_word_for k (Disk n)) is_built_word b.left w kept.words first.0 in
+    absurd (no_disk_word k n w found.0 found.1)
+step_loses b over places cert number w k (Step n) kept open lives first scripted = subst (MayLose b k (Step n)) (sym first.2) (record {
+  goes_on = open;
+  lives = lives;
+  words = all-without (is_step_word k n) is_built_word b.left kept.words;
+  looked =
+      subst (Looked b.system b.script (b.log ++ crash_entry b.system b.log k (Step n) ∷ [])) (sym (filter-without (is_step_word k n) is_bus_word (step_not_bus k n) b.left))
+      (goes_on (kept.scripted).looked (crash_entry b.system b.log k (Step n)) refl);
+  scripted = scripted;
+  used = accounts_more b.script b.left (without_first (is_step_word k n) b.left) b.log (crash_entry b.system b.log k (Step n)) (kept.scripted).used (λ j m.
+      let counted = count-without (is_step_word k n) (is_step_word j m) b.left w first.0 in
+      let same : ◌≡◌ {A = ℕ} (cond (is_step_word j m w) 1 0) (cond (is_step_crash j m (Crash k (Step n))) 1 0) =
+      ap (λ (c : Bool). cond c 1 0) (same_step k n w j m (all-found (is_step_word k n) is_built_word b.left w kept.words first.0).0) in
+      omega (arith, counted, same));
+})

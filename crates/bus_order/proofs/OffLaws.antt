@@ -1,0 +1,117 @@
+-- A cluster of the system lives exactly where no crash of it stands that no return follows.
+use Rattle.std.proofs.Common.{◌≡◌, ℕ, ◌<◌, refl, sym, ◌∙◌, ap, arith, List, [], ◌∷◌, ◌++◌, map, Bool, true, false, cond, ◌||◌, eqb, eqb-true, eq-eqb, Option, Some, None, is_none, true≢false}
+use Rattle.std.specs.Prelude.{slice_get}
+use Rattle.std.specs.List.{list_any}
+use Rattle.std.specs.Option.{option_map_or}
+use Rattle.std.proofs.lemmas.List.Folds.{list_any-append}
+use Rattle.t32_base.specs.declared.process.ClusterNo.{ClusterNo}
+use Rattle.sys_text.specs.declared.system.System.{System}
+use Rattle.sys_text.specs.Boot.{roots_of}
+use Rattle.bus_msg.specs.declared.entry.What.{What}
+use Rattle.bus_msg.specs.declared.entry.What.TheVariants.{Mail, Birth, Exit, Page, Sync, Fetch, PageIs, Crash, Return, Rebackup, Done, Stop}
+use Rattle.bus_msg.specs.declared.entry.Cause.{Cause}
+use Rattle.bus_msg.specs.declared.entry.Entry.{Entry}
+use Rattle.bus_msg.specs.Places.{ClusterPlace, Places, same_cluster, lives_in}
+use Rattle.bus_msg.specs.PlacedAfter.{what, placed_after, changed_at, lost_cluster}
+use Rattle.cert_sched.specs.Parts.{last_that}
+use Rattle.cert_sched.specs.Schedule.{placement, placed_root}
+use Rattle.cert_sched.specs.Losses.{is_crash_of}
+use Rattle.cert_sched.specs.Legal.{IsLegalBy}
+use Rattle.cert_sched.specs.Built.{BuiltMayFollow, is_built}
+use Rattle.cert_sched.proofs.LogLaws.{placement-snoc}
+use Rattle.cert_sched.proofs.Induction.{legal_induction}
+use Rattle.cert_sched.proofs.FreshLaws.{kept_elsewhere, put_here}
+use Rattle.cert_sched.proofs.LiveLaws.{boot_lives}
+use Rattle.cert_sched.proofs.HomesLaws.{lives_within, built_clusters-length}
+use Rattle.bus_order.specs.Script.{off_at, place_of_loss, turns}
+
+-- ---- one more entry
+
+or_last : (a b : Bool) → (a || (b || false)) ≡ cond b true a
+or_last true true = refl
+or_last true false = refl
+or_last false true = refl
+or_last false false = refl
+
+any-snoc : {X : Type 0} (t : X → Bool) (xs : List X) (x : X) → list_any t (xs ++ x ∷ []) ≡ cond (t x) true (list_any t xs)
+any-snoc t xs x = list_any-append t xs (x ∷ []) ∙ or_last (list_any t xs) (t x)
+
+last_that-snoc : {X : Type 0} (t : X → Bool) (xs : List X) (x : X) → last_that t (xs ++ x ∷ []) ≡ cond (t x) (Some x) (last_that t xs)
+last_that-snoc t [] x = refl
+last_that-snoc t (y ∷ ys) x = rw (any-snoc t ys x, last_that-snoc t ys x) (by_cases (t x) (list_any t ys) (t y))
+  where
+    by_cases : (last any here : Bool) → cond (cond last true any) (cond last (Some x) (last_that t ys)) (cond here (Some y) None) ≡ cond last (Some x) (cond any (last_that t ys) (cond here (Some y) None))
+    by_cases true any here = refl
+    by_cases false true here = refl
+    by_cases false false true = refl
+    by_cases false false false = refl
+
+pub off_at-snoc : (log : List Entry) (e : Entry) (k : ClusterNo) → off_at (log ++ e ∷ []) k ≡ cond (turns k (what e)) (place_of_loss k (Some e)) (off_at log k)
+off_at-snoc log e k = ap (place_of_loss k) (last_that-snoc (λ (e : Entry). turns k (what e)) log e) ∙ by_test (turns k (what e))
+  where
+    by_test : (b : Bool) → place_of_loss k (cond b (Some e) (last_that (λ (e : Entry). turns k (what e)) log)) ≡ cond b (place_of_loss k (Some e)) (off_at log k)
+    by_test true = refl
+    by_test false = refl
+
+-- ---- who lives
+
+crash_lives : (places : Places) (j k : ClusterNo) (cause : Cause) → lives_in (placed_after places (Crash j cause)) k ≡ cond (same_cluster j k) false (lives_in places k)
+crash_lives places j k cause = by_number (eqb j.0 k.0) refl
+  where
+    at : Option ClusterPlace → Bool
+    at o = option_map_or (λ (c : ClusterPlace). c.lives) o false
+
+    by_number : (b : Bool) → eqb j.0 k.0 ≡ b → at (slice_get (changed_at j.0 lost_cluster (slice_get places.clusters j.0) places.clusters) k.0) ≡ cond b false (at (slice_get places.clusters k.0))
+    by_number true same =
+        sym (ap (λ n. at (slice_get (changed_at j.0 lost_cluster (slice_get places.clusters j.0) places.clusters) n)) (eqb-true j.0 k.0 same)) ∙ here (slice_get places.clusters j.0) refl
+      where
+        here : (o : Option ClusterPlace) → slice_get places.clusters j.0 ≡ o → at (slice_get (changed_at j.0 lost_cluster o places.clusters) j.0) ≡ false
+        here None there = ap at there
+        here (Some c) there = ap at (put_here places.clusters j.0 (lost_cluster c) c there)
+    by_number false apart = elsewhere (slice_get places.clusters j.0)
+      where
+        elsewhere : (o : Option ClusterPlace) → at (slice_get (changed_at j.0 lost_cluster o places.clusters) k.0) ≡ at (slice_get places.clusters k.0)
+        elsewhere None = refl
+        elsewhere (Some c) = ap at (kept_elsewhere places.clusters j.0 k.0 (lost_cluster c) (λ e. true≢false (sym (eq-eqb j.0 k.0 (sym e)) ∙ apart)))
+
+-- whether it lives after an entry, where it lives exactly where it is not off
+lives_after : (places : Places) (off : Option ℕ) (k : ClusterNo) (e : Entry) (w : What) → what e ≡ w → is_built w ≡ true → lives_in places k ≡ is_none off → lives_in (placed_after places w) k ≡ is_none (cond (turns k w) (place_of_loss k (Some e)) off)
+lives_after places off k e (Mail at letter) is built before = before
+lives_after places off k e (Birth parent at child end) is built before = absurd (true≢false (sym built))
+lives_after places off k e (Exit pid at end) is built before = before
+lives_after places off k e (Page pid at index bytes) is built before = absurd (true≢false (sym built))
+lives_after places off k e (Sync pid small read took) is built before = absurd (true≢false (sym built))
+lives_after places off k e (Fetch pid index) is built before = absurd (true≢false (sym built))
+lives_after places off k e (PageIs pid index bytes) is built before = absurd (true≢false (sym built))
+lives_after places off k e (Crash j cause) is built before = crash_lives places j k cause ∙ by_test (same_cluster j k) refl
+  where
+    by_test : (b : Bool) → same_cluster j k ≡ b → cond b false (lives_in places k) ≡ is_none (cond b (place_of_loss k (Some e)) off)
+    by_test true same = sym (ap (λ c. is_none (cond c (Some e.place) None)) (ap (is_crash_of k) is ∙ same))
+    by_test false apart = before
+lives_after places off k e (Return j) is built before = absurd (true≢false (sym built))
+lives_after places off k e (Rebackup to fresh recs) is built before = absurd (true≢false (sym built))
+lives_after places off k e (Done rests) is built before = before
+lives_after places off k e Stop is built before = before
+
+lives_unless_off : (system : System) (log : List Entry) (k : ClusterNo) → IsLegalBy BuiltMayFollow system log → k.0 < system.clusters → lives_in (placement system log) k ≡ is_none (off_at log k)
+unfolding placement
+lives_unless_off system log k legal within =
+    legal_induction BuiltMayFollow system (λ log. lives_in (placement system log) k ≡ is_none (off_at log k)) (boot_lives system (map placed_root (roots_of system)) k.0 within)
+    (λ log e before may.
+    ap (λ p. lives_in p k) (placement-snoc system log e)
+    ∙ lives_after (placement system log) (off_at log k) k e (what e) refl may.built before
+    ∙ sym (ap is_none (off_at-snoc log e k))) log legal
+
+is_nothing : (o : Option ℕ) → is_none o ≡ true → o ≡ None
+is_nothing None h = refl
+is_nothing (Some n) h = absurd (true≢false (sym h))
+
+-- a cluster that lives is not off
+pub living_not_off : (system : System) (log : List Entry) (k : ClusterNo) → IsLegalBy BuiltMayFollow system log → lives_in (placement system log) k ≡ true → off_at log k ≡ None
+living_not_off system log k legal lives =
+    let within : k.0 < system.clusters = omega (arith, lives_within (placement system log) k lives, built_clusters-length system log legal) in
+    is_nothing (off_at log k) (sym (lives_unless_off system log k legal within) ∙ lives)
+
+-- and one of the system that is not off lives
+pub not_off_lives : (system : System) (log : List Entry) (k : ClusterNo) → IsLegalBy BuiltMayFollow system log → k.0 < system.clusters → off_at log k ≡ None → lives_in (placement system log) k ≡ true
+not_off_lives system log k legal within none = lives_unless_off system log k legal within ∙ ap is_none none

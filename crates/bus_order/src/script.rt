@@ -1,0 +1,92 @@
+//! The words of a script that are left.
+ghost use Rattle.std.specs.Prelude.{◌≡◌, None, find, length, position, true, IfNone, IfSome};
+ghost use Rattle.std.specs.Option.{option_map};
+ghost use Rattle.bus_msg.specs.declared.entry.What.TheVariants.{Crash as ACrash};
+ghost use Rattle.bus_msg.specs.declared.entry.Cause.TheVariants.{Place as AtPlace};
+ghost use Rattle.cert_sched.specs.Built.{is_built_word};
+ghost use Rattle.cert_sched.specs.Looked.{given_by, is_reached};
+ghost use Rattle.bus_order.specs.Script.{IsFirst, has_unused, is_word_for};
+
+use bus_msg::entry::Cause;
+use cert_sched::script::ScriptWord;
+use channel_table::placement::Placement;
+use t32_base::process::ClusterNo;
+
+/// The first word whose place a log of this length has reached, with its number among the words. Takes no memory.
+pub fn first_reached(words: &[ScriptWord], length: u64) -> Option<(usize, ScriptWord)>
+    ensures none { IfNone result (find (is_reached length) words.now ≡ None) }
+    ensures some { IfSome result (λ f. IsFirst (is_reached length) words.now f.0 f.1) }
+{
+    let number = reached(words, length)?;
+    Some((number, words[number]))
+}
+
+/// The number of the first word for this loss of this cluster. Takes no memory.
+pub fn first_for(words: &[ScriptWord], k: ClusterNo, cause: Cause) -> Option<(usize, ScriptWord)>
+    ensures none { IfNone result (find (is_word_for k cause) words.now ≡ None) }
+    ensures some { IfSome result (λ f. IsFirst (is_word_for k cause) words.now f.0 f.1) }
+{
+    let number = meant(words, k, cause)?;
+    Some((number, words[number]))
+}
+
+/// Whether a word for this loss of this cluster is left. Takes no memory.
+pub fn has_unused(words: &[ScriptWord], k: ClusterNo, cause: Cause) -> bool
+    ensures { result ≡ has_unused words.now k cause }
+{
+    words.iter().any(|word| is_word_for(*word, k, cause))
+}
+
+/// The cluster that is lost when this word is looked at. Takes no memory.
+pub fn lost_by(places: &Placement, word: ScriptWord) -> Option<ClusterNo>
+    requires { is_built_word word ≡ true }
+    ensures { given_by places.now word ≡ option_map (λ k. ACrash k AtPlace) result }
+{
+    match word {
+        ScriptWord::CrashAt { k, .. } => {
+            if places.living(k) {
+                Some(k)
+            } else {
+                None
+            }
+        }
+        _ => None,
+    }
+}
+
+// Where the first word stands whose place was reached.
+fn reached(words: &[ScriptWord], length: u64) -> Option<usize>
+    ensures { result ≡ position (is_reached length) words.now }
+{
+    words.iter().position(|word| is_reached(*word, length))
+}
+
+// Where the first word for this loss stands.
+fn meant(words: &[ScriptWord], k: ClusterNo, cause: Cause) -> Option<usize>
+    ensures { result ≡ position (is_word_for k cause) words.now }
+{
+    words.iter().position(|word| is_word_for(*word, k, cause))
+}
+
+fn is_reached(word: ScriptWord, length: u64) -> bool
+    ensures { result ≡ is_reached length word }
+{
+    match word {
+        ScriptWord::CrashAt { place, .. } | ScriptWord::ReturnAt { place, .. } => place <= length,
+        ScriptWord::CrashStep { .. } | ScriptWord::DiskAt { .. } => false,
+    }
+}
+
+fn is_word_for(word: ScriptWord, k: ClusterNo, cause: Cause) -> bool
+    ensures { result ≡ is_word_for k cause word }
+{
+    match (word, cause) {
+        (ScriptWord::CrashStep { k: other, step }, Cause::Step(number)) => {
+            other == k && step == number
+        }
+        (ScriptWord::DiskAt { k: other, call }, Cause::Disk(number)) => {
+            other == k && call == number
+        }
+        _ => false,
+    }
+}
