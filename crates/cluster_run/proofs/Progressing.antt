@@ -16,9 +16,10 @@ use Rattle.cluster_core.specs.View.{ClusterView, load}
 use Rattle.bus_order.specs.declared.marks.Mark.{Mark}
 use Rattle.bus_order.specs.declared.marks.Idled.{Idled}
 use Rattle.bus_order.specs.declared.marks.Idled.TheVariants.{Marked, Done as WasDone}
-use Rattle.bus_order.specs.View.{BusView, Idles, is_awaited, mark_in, with_mark}
+use Rattle.bus_order.specs.View.{BusView, is_awaited, mark_in, with_mark}
 use Rattle.bus_order.proofs.MarksLaws.{mark_in-get_or}
 use Rattle.cluster_run.specs.Progress.{Falls, GetsOn, HasMark, IsAtMost, IsAwaiting, IsOver, Remaining, Rests, remaining, remaining_of, total, unseen}
+use Rattle.cluster_run.specs.Offers.{IdlesPlainly}
 use Rattle.cluster_run.specs.Turns.{TurnsOwn}
 use Rattle.cert_sched.specs.Legal.{IsLegalBy}
 use Rattle.cert_sched.specs.Built.{UnlostMayFollow}
@@ -46,7 +47,7 @@ marked_still b k m n within had = by_place (nat_eq n k.0) refl had
     ]
 
 -- what a bus made of an idle cluster
-pub told_rest : (b after : BusView) (k : ClusterNo) (cursor : ℕ) (m : Mark) (idled : Idled) → Idles b k cursor m (Ok idled) after → k.0 < length b.marks → IsOver after ⊎ ((after.log ≡ b.log) × Rests b after k.0 (k.0 + 1))
+pub told_rest : (b after : BusView) (k : ClusterNo) (cursor : ℕ) (m : Mark) (idled : Idled) → IdlesPlainly b k cursor m (Ok idled) after → k.0 < length b.marks → IsOver after ⊎ ((after.log ≡ b.log) × Rests b after k.0 (k.0 + 1))
 told_rest b after k cursor m Marked idles within = inr (
   ap (λ (x : BusView). x.log) idles.3,
   record {
