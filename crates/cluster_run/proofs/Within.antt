@@ -103,7 +103,8 @@ replayed_leaves (suc n) s t births ds is = by_next (next_step s) refl is (replay
 
 held_within : (system : System) (log : List Entry) (p : Pid) (h : Held) → IsHeldAs system log [] p h → held_load h ≤ boot_load system
 held_within system log p (Runs process) is = silent_within system log p (process.small).steps (state_of process) is
-held_within system log p (Rolls process counts births) rolls =
+held_within system log p (Rolls process counts births) held =
+    let rolls = (held.1).rolls in
     let start = process_within system (upto_last (starts p) log) p rolls.start rolls.started in
     omega (arith, start, replayed_leaves rolls.steps (refilled log p rolls.start) (state_of process) (births_in (since log p)) rolls.done rolls.replays)
 held_within system log p (Waits kept) is = omega arith
