@@ -12,7 +12,7 @@ use Rattle.bus_order.specs.declared.refused.Refused.TheVariants.{Over, Off, Behi
 use Rattle.bus_order.specs.View.{Admits, BusView, Idles, IsMarkOf, MayIdle, MayTransmit, Transmits, after_words}
 use Rattle.bus_order.proofs.Looking.{Grown, grown, same_log}
 
-grown_after : (old mid : BusView) → mid ≡ after_words old → Grown old mid
+pub grown_after : (old mid : BusView) → mid ≡ after_words old → Grown old mid
 grown_after old mid same = subst (Grown old) (sym same) (grown (length old.left) old)
 
 module _ (old mid : BusView) (cursor : ℕ) (same : mid ≡ after_words old) (seen : cursor ≤ length old.log) (goes_on : is_over mid.system mid.log ≡ false) (all : length mid.log ≤ cursor) where

@@ -15,7 +15,7 @@ const ONE_ROOT: &str =
 fn booted(alloc: Global) -> Result<Bus, Fail> {
     let system = read_system(alloc, ONE_ROOT.as_bytes())?;
     let system = Arc::new(alloc, system)?;
-    Ok(Bus::boot(alloc, &system)?)
+    Ok(Bus::boot(alloc, &system, &[])?)
 }
 
 // The length of the log, whether an entry stands first, and how many items its schedule has.

@@ -17,9 +17,9 @@ loop-place-preserved c =
     let n = c.loop-place.place in
     let k = c.args.k in
     elim c.match-get.branch [
-        in-Some w ↦
-            let there : slice_get log n ≡ Some w.in-Some.entry.now = sym c.get.ensures ∙ ap option_copied w.in-Some.is in
-            w.off-is ∙ w.off_after-off.ensures ∙ ap (cond (turns k (what w.in-Some.entry.now)) (place_of_loss k (Some w.in-Some.entry.now))) c.loop-place.invariant ∙ sym (off_taken log n w.in-Some.entry.now k there)
+      | in-Some w ↦
+          let there : slice_get log n ≡ Some w.in-Some.entry.now = sym c.get.ensures ∙ ap option_copied w.in-Some.is in
+          w.off-is ∙ w.off_after-off.ensures ∙ ap (cond (turns k (what w.in-Some.entry.now)) (place_of_loss k (Some w.in-Some.entry.now))) c.loop-place.invariant ∙ sym (off_taken log n w.in-Some.entry.now k there)
       | in_default w ↦ absurd (got log n c.get.result c.get.ensures (omega (arith, c.loop-place-test.true, c.len-place-end.ensures)) w.in_default.not-Some)
     ]
 
