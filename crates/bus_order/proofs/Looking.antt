@@ -1,9 +1,12 @@
 -- The looks at the words of a script: what they change, and that after enough of them none is due.
-use Rattle.std.proofs.Common.{◌≡◌, ℕ, zero, suc, ◌+◌, ◌<◌, ◌≤◌, refl, sym, ◌∙◌, ap, subst, arith, List, [], ◌∷◌, ◌++◌, length, length-append, Bool, true, false, cond, ◌⊎◌, inl, inr, Option, Some, None, true≢false}
+use Rattle.std.proofs.Common.{◌≡◌, ℕ, zero, suc, ◌+◌, ◌<◌, ◌≤◌, refl, sym, ◌∙◌, ap, subst, arith, List, [], ◌∷◌, ◌++◌, length, length-append, Bool, true, false, cond, ◌⊎◌, inl, inr, Option, Some, None, Result, Ok, Err, true≢false}
+use Rattle.std.specs.Prelude.{OnErr}
 use Rattle.std.specs.List.{list_any}
 use Rattle.sys_text.specs.declared.system.System.{System}
 use Rattle.bus_msg.specs.declared.entry.What.{What}
 use Rattle.bus_msg.specs.declared.entry.Entry.{Entry}
+use Rattle.bus_msg.specs.declared.entry.By.TheVariants.{Bus}
+use Rattle.cert_sched.specs.Appended.{entry_of}
 use Rattle.cert_sched.specs.declared.script.ScriptWord.{ScriptWord}
 use Rattle.cert_sched.specs.Schedule.{placement}
 use Rattle.cert_sched.specs.Looked.{first_reached, given_by, is_reached, without_reached}
@@ -47,20 +50,20 @@ none_in t (x ∷ xs) none = absurd (omega (arith, none))
 
 settled_within : (n : ℕ) (b : BusView) → length b.left ≤ n → IsSettled (looks n b)
 settled_within zero b few = λ goes_on. none_in (is_reached (length b.log)) b.left few
-settled_within (suc n) b few = by_end (is_over b.system b.log) refl
+settled_within (suc n) b few = by_end (is_over b.system b.log) refl (settled_within n (look_once b))
   where
-    by_first : (o : Option ScriptWord) → is_over b.system b.log ≡ false → first_reached b.log b.left ≡ o → IsSettled (looks n (look_once b))
-    by_first None goes_on first =
+    by_first : (o : Option ScriptWord) → is_over b.system b.log ≡ false → first_reached b.log b.left ≡ o → (length (look_once b).left ≤ n → IsSettled (looks n (look_once b))) → IsSettled (looks n (look_once b))
+    by_first None goes_on first more =
         subst IsSettled (sym (settled_stays (suc n) b (look_some b None goes_on first))) (λ goes_on. none-found (is_reached (length b.log)) b.left first)
-    by_first (Some w) goes_on first =
+    by_first (Some w) goes_on first more =
         let fewer = length-without (is_reached (length b.log)) b.left w first in
         let left : (look_once b).left ≡ without_reached b.log b.left = ap (λ (b : BusView). b.left) (look_some b (Some w) goes_on first) in
         let long : length (look_once b).left ≡ length (without_reached b.log b.left) = ap length left in
-        settled_within n (look_once b) (omega (arith, few, fewer, long))
+        more (omega (arith, few, fewer, long))
 
-    by_end : (c : Bool) → is_over b.system b.log ≡ c → IsSettled (looks n (look_once b))
-    by_end true over = subst IsSettled (sym (settled_stays (suc n) b (look_over b over))) (λ goes_on. absurd (true≢false (sym over ∙ goes_on)))
-    by_end false goes_on = by_first (first_reached b.log b.left) goes_on refl
+    by_end : (c : Bool) → is_over b.system b.log ≡ c → (length (look_once b).left ≤ n → IsSettled (looks n (look_once b))) → IsSettled (looks n (look_once b))
+    by_end true over more = subst IsSettled (sym (settled_stays (suc n) b (look_over b over))) (λ goes_on. absurd (true≢false (sym over ∙ goes_on)))
+    by_end false goes_on more = by_first (first_reached b.log b.left) goes_on refl more
 
 pub settled_after : (b : BusView) → IsSettled (after_words b)
 settled_after b = settled_within (length b.left) b (omega arith)
@@ -78,7 +81,7 @@ grown_same b = record { system = refl; script = refl; log = inl refl }
 
 grown_given : (b : BusView) (o : Option What) (left : List ScriptWord) → Grown b (record (with_given b o) { left = left })
 grown_given b None left = record { system = refl; script = refl; log = inl refl }
-grown_given b (Some w) left = record { system = refl; script = refl; log = inr (omega (arith, length-append b.log (_ ∷ []))) }
+grown_given b (Some w) left = record { system = refl; script = refl; log = inr (omega (arith, length-append b.log (entry_of b.system b.log (record { by = Bus; what = w }) ∷ []))) }
 
 grown_look : (b : BusView) (o : Option ScriptWord) → Grown b (with_look b o)
 grown_look b None = grown_same b
@@ -111,3 +114,9 @@ same_log old new cursor grown seen all = by_log grown.log
     by_log : (new.log ≡ old.log) ⊎ (length old.log < length new.log) → new.log ≡ old.log
     by_log (inl same) = same
     by_log (inr longer) = absurd (omega (arith, longer, seen, all))
+
+-- ---- answers
+
+pub on_err : {T E : Type 0} (r : Result T E) {P : Type 0} → P → OnErr r P
+on_err (Ok x) p = tt
+on_err (Err e) p = p

@@ -21,7 +21,7 @@ use Rattle.cert_sched.specs.Schedule.{placement}
 use Rattle.cert_sched.specs.Rules.{is_over}
 use Rattle.cert_sched.specs.Legal.{IsLegalBy}
 use Rattle.cert_sched.specs.Built.{BuiltMayFollow, is_built_word}
-use Rattle.cert_sched.specs.Looked.{Looked, gives, goes_on, is_bus_word, is_reached, given_by, without_reached}
+use Rattle.cert_sched.specs.Looked.{Looked, gives, goes_on as goes_by, is_bus_word, is_reached, given_by, without_reached}
 use Rattle.cert_sched.specs.Losses.{is_scripted_cause, is_step_crash, is_step_word}
 use Rattle.cert_sched.specs.Simulation.{crash_entry}
 use Rattle.cert_sched.proofs.CameLaws.{no_items}
@@ -117,18 +117,18 @@ no_disk_word k n (ReturnAt j place) h built = true≢false (sym h)
 
 pub step_loses : (b : BusView) (over : Bool) (places : Places) (cert : CertView) (number : ℕ) (w : ScriptWord) (k : ClusterNo) (cause : Cause) → IsKept b over places cert → is_over b.system b.log ≡ false → lives_in (placement b.system b.log) k ≡ true
     → IsFirst (is_word_for k cause) b.left number w → is_scripted_cause b.system b.script b.log k cause ≡ true → MayLose b k cause (remove b.left number)
-step_loses b over places cert number w k Place kept open lives first scripted =
+step_loses b over places cert number w k Place kept going lives first scripted =
     absurd (true≢false (sym (all-found (is_word_for k Place) is_built_word b.left w kept.words first.0).0))
-step_loses b over places cert number w k (Disk n) kept open lives first scripted =
+step_loses b over places cert number w k (Disk n) kept going lives first scripted =
     let found = all-found (is_word_for k (Disk n)) is_built_word b.left w kept.words first.0 in
     absurd (no_disk_word k n w found.0 found.1)
-step_loses b over places cert number w k (Step n) kept open lives first scripted = subst (MayLose b k (Step n)) (sym first.2) (record {
-  goes_on = open;
+step_loses b over places cert number w k (Step n) kept going lives first scripted = subst (MayLose b k (Step n)) (sym first.2) (record {
+  goes_on = going;
   lives = lives;
   words = all-without (is_step_word k n) is_built_word b.left kept.words;
   looked =
       subst (Looked b.system b.script (b.log ++ crash_entry b.system b.log k (Step n) ∷ [])) (sym (filter-without (is_step_word k n) is_bus_word (step_not_bus k n) b.left))
-      (goes_on (kept.scripted).looked (crash_entry b.system b.log k (Step n)) refl);
+      (goes_by (kept.scripted).looked (crash_entry b.system b.log k (Step n)) refl);
   scripted = scripted;
   used = accounts_more b.script b.left (without_first (is_step_word k n) b.left) b.log (crash_entry b.system b.log k (Step n)) (kept.scripted).used (λ j m.
       let counted = count-without (is_step_word k n) (is_step_word j m) b.left w first.0 in

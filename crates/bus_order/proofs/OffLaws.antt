@@ -1,8 +1,8 @@
 -- A cluster of the system lives exactly where no crash of it stands that no return follows.
-use Rattle.std.proofs.Common.{◌≡◌, ℕ, ◌<◌, refl, sym, ◌∙◌, ap, arith, List, [], ◌∷◌, ◌++◌, map, Bool, true, false, cond, ◌||◌, eqb, eqb-true, eq-eqb, Option, Some, None, is_none, true≢false}
+use Rattle.std.proofs.Common.{◌≡◌, ℕ, zero, suc, ◌+◌, ◌<◌, length, take, refl, sym, ◌∙◌, ap, arith, List, [], ◌∷◌, ◌++◌, map, Bool, true, false, cond, ◌||◌, eqb, eqb-true, eq-eqb, Option, Some, None, is_none, Bor, true≢false}
 use Rattle.std.specs.Prelude.{slice_get}
 use Rattle.std.specs.List.{list_any}
-use Rattle.std.specs.Option.{option_map_or}
+use Rattle.std.specs.Option.{option_copied, option_map_or}
 use Rattle.std.proofs.lemmas.List.Folds.{list_any-append}
 use Rattle.t32_base.specs.declared.process.ClusterNo.{ClusterNo}
 use Rattle.sys_text.specs.declared.system.System.{System}
@@ -24,6 +24,7 @@ use Rattle.cert_sched.proofs.FreshLaws.{kept_elsewhere, put_here}
 use Rattle.cert_sched.proofs.LiveLaws.{boot_lives}
 use Rattle.cert_sched.proofs.HomesLaws.{lives_within, built_clusters-length}
 use Rattle.bus_order.specs.Script.{off_at, place_of_loss, turns}
+use Rattle.bus_order.proofs.LogParts.{take_one}
 
 -- ---- one more entry
 
@@ -52,6 +53,17 @@ off_at-snoc log e k = ap (place_of_loss k) (last_that-snoc (λ (e : Entry). turn
     by_test : (b : Bool) → place_of_loss k (cond b (Some e) (last_that (λ (e : Entry). turns k (what e)) log)) ≡ cond b (place_of_loss k (Some e)) (off_at log k)
     by_test true = refl
     by_test false = refl
+
+-- of the first entries
+pub off_taken : (log : List Entry) (n : ℕ) (e : Entry) (k : ClusterNo) → slice_get log n ≡ Some e → off_at (take (n + 1) log) k ≡ cond (turns k (what e)) (place_of_loss k (Some e)) (off_at (take n log) k)
+off_taken log n e k there =
+    ap (λ m. off_at (take m log) k) (let m : n + 1 ≡ suc n = omega arith in m) ∙ ap (λ l. off_at l k) (take_one log n e there) ∙ off_at-snoc (take n log) e k
+
+-- there is one at each place below the length
+pub none_within : (log : List Entry) (n : ℕ) → n < length log → slice_get log n ≡ None → ⊥
+none_within [] n within none = absurd (omega (arith, within))
+none_within (e ∷ log) zero within none = cc
+none_within (e ∷ log) (suc n) within none = none_within log n (omega (arith, within)) none
 
 -- ---- who lives
 
@@ -115,3 +127,8 @@ living_not_off system log k legal lives =
 -- and one of the system that is not off lives
 pub not_off_lives : (system : System) (log : List Entry) (k : ClusterNo) → IsLegalBy BuiltMayFollow system log → k.0 < system.clusters → off_at log k ≡ None → lives_in (placement system log) k ≡ true
 not_off_lives system log k legal within none = lives_unless_off system log k legal within ∙ ap is_none none
+
+-- what is read at a place below the length is there
+pub got : (log : List Entry) (n : ℕ) (r : Option (Bor Entry)) → option_copied r ≡ slice_get log n → n < length log → ((x : Bor Entry) → r ≡ Some x → ⊥) → ⊥
+got log n None is within none = none_within log n within (sym is)
+got log n (Some x) is within none = none x refl

@@ -87,33 +87,33 @@ length-without t (x ∷ xs) w found = by_test (t x) found (length-without t xs w
 
 pub all-without : {X : Type 0} (t p : X → Bool) (xs : List X) → list_all p xs ≡ true → list_all p (without_first t xs) ≡ true
 all-without t p [] all = refl
-all-without t p (x ∷ xs) all = by_test (t x)
+all-without t p (x ∷ xs) all = by_test (t x) (all-without t p xs parts.1)
   where
     parts : (p x ≡ true) × (list_all p xs ≡ true)
     parts = and_parts (p x) (list_all p xs) all
 
-    by_test : (a : Bool) → list_all p (cond a xs (x ∷ without_first t xs)) ≡ true
-    by_test true = parts.1
-    by_test false = and_from (p x) (list_all p (without_first t xs)) parts.0 (all-without t p xs parts.1)
+    by_test : (a : Bool) → list_all p (without_first t xs) ≡ true → list_all p (cond a xs (x ∷ without_first t xs)) ≡ true
+    by_test true more = parts.1
+    by_test false more = and_from (p x) (list_all p (without_first t xs)) parts.0 more
 
 pub all-found : {X : Type 0} (t p : X → Bool) (xs : List X) (w : X) → list_all p xs ≡ true → find t xs ≡ Some w → (t w ≡ true) × (p w ≡ true)
 all-found t p [] w all found = cc
-all-found t p (x ∷ xs) w all found = by_test (t x) refl found
+all-found t p (x ∷ xs) w all found = by_test (t x) refl found (all-found t p xs w parts.1)
   where
     parts : (p x ≡ true) × (list_all p xs ≡ true)
     parts = and_parts (p x) (list_all p xs) all
 
-    by_test : (a : Bool) → t x ≡ a → cond a (Some x) (find t xs) ≡ Some w → (t w ≡ true) × (p w ≡ true)
-    by_test true is e = let same : x ≡ w = ap (λ o. unwrap_or o x) e in (ap t (sym same) ∙ is, ap p (sym same) ∙ parts.0)
-    by_test false is e = all-found t p xs w parts.1 e
+    by_test : (a : Bool) → t x ≡ a → cond a (Some x) (find t xs) ≡ Some w → (find t xs ≡ Some w → (t w ≡ true) × (p w ≡ true)) → (t w ≡ true) × (p w ≡ true)
+    by_test true is e more = let same : x ≡ w = ap (λ o. unwrap_or o x) e in (ap t (sym same) ∙ is, ap p (sym same) ∙ parts.0)
+    by_test false is e more = more e
 
 pub none-found : {X : Type 0} (t : X → Bool) (xs : List X) → find t xs ≡ None → list_any t xs ≡ false
 none-found t [] none = refl
-none-found t (x ∷ xs) none = by_test (t x) none
+none-found t (x ∷ xs) none = by_test (t x) none (none-found t xs)
   where
-    by_test : (a : Bool) → cond a (Some x) (find t xs) ≡ None → (a || list_any t xs) ≡ false
-    by_test true e = cc
-    by_test false e = none-found t xs e
+    by_test : (a : Bool) → cond a (Some x) (find t xs) ≡ None → (find t xs ≡ None → list_any t xs ≡ false) → (a || list_any t xs) ≡ false
+    by_test true e more = cc
+    by_test false e more = more e
 
 -- ---- its number
 
@@ -146,3 +146,6 @@ not_first t xs is = find_at t xs ∙ by_test (ltb (position_or_len t xs) (length
     by_test : (b : Bool) → ltb (position_or_len t xs) (length xs) ≡ b → cond b (Some (position_or_len t xs)) None ≡ None → slice_get xs (position_or_len t xs) ≡ None
     by_test true less e = cc
     by_test false less e = slice_get_past xs (position_or_len t xs) (let l : length xs ≤ position_or_len t xs = grind (arith, nat_tests) in l)
+
+pub first_within : {X : Type 0} (t : X → Bool) (xs : List X) (n : ℕ) → position t xs ≡ Some n → n < length xs
+first_within t xs n at = let place = placed_first t xs n at in subst (λ m. m < length xs) place.1 place.0

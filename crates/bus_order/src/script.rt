@@ -43,13 +43,7 @@ pub fn lost_by(places: &Placement, word: ScriptWord) -> Option<ClusterNo>
     ensures { given_by places.now word ≡ option_map (λ k. ACrash k AtPlace) result }
 {
     match word {
-        ScriptWord::CrashAt { k, .. } => {
-            if places.living(k) {
-                Some(k)
-            } else {
-                None
-            }
-        }
+        ScriptWord::CrashAt { k, .. } => { if places.living(k) { Some(k) } else { None } }
         _ => None,
     }
 }

@@ -27,7 +27,7 @@ fn system(alloc: Global) -> Result<Arc<System>, Fail>
 
 fn booted(alloc: Global) -> Result<Bus, Fail> {
     let system = system(alloc)?;
-    Ok(Bus::boot(alloc, &system)?)
+    Ok(Bus::boot(alloc, &system, &[])?)
 }
 
 // The length of the log, whether an entry stands first, and how many items its schedule has.

@@ -3,3 +3,5 @@
 
 #[cfg(test)]
 mod bus;
+#[cfg(test)]
+mod script;

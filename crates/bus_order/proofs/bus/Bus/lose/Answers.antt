@@ -1,0 +1,38 @@
+use Rattle.std.proofs.Common.{◌≡◌, subst, sym, ap, ◌∙◌, arith, length, not, ◌++◌, ◌∷◌, []}
+use Rattle.std.specs.Prelude.{remove}
+use Rattle.std.specs.Arc.{arc_value}
+use Rattle.std.specs.Vec.{with_items}
+use Rattle.std.proofs.lemmas.List.{with_items_is}
+use Rattle.bus_msg.specs.declared.entry.Entry.{Entry}
+use Rattle.bus_msg.specs.PlacedAfter.{what}
+use Rattle.cert_sched.specs.Rules.{ends_run}
+use Rattle.cert_sched.specs.Simulation.{crash_entry}
+use Rattle.bus_order.specs.View.{BusView, IsKept, MayLose, no_marks}
+use Rattle.bus_order.proofs.Keeping.{IsMore, kept_more}
+use Rattle.bus_order.proofs.Losing.{loss_more}
+use Rattle.bus_order.proofs.OverLaws.{open_inside}
+use Rattle.bus_order.proofs.bus.Bus.lose.Goals as goal
+
+pub append-requires-clause-goes_on : goal.append-requires-clause-goes_on
+append-requires-clause-goes_on c = open_inside c.self.view_is c.self.invariant c.requires.may.goes_on
+
+pub invariant_of-self-2 : goal.invariant_of-self-2
+invariant_of-self-2 c =
+    let b : BusView = record { system = arc_value c.self.inside.system; script = c.self.inside.script.items; left = c.self.inside.left.items; log = c.self.inside.log; marks = c.self.inside.marks.items } in
+    let k = c.args.k in
+    let cause = c.args.cause in
+    let left = remove b.left c.args.number in
+    let over = c.self.inside.over in
+    let places = c.self.inside.places in
+    let e : Entry = c.entry_of-entry.result in
+    let same : e ≡ crash_entry b.system b.log k cause = c.entry_of-entry.ensures ∙ ap (λ (v : BusView). crash_entry v.system v.log k cause) (sym c.self.view_is) in
+    let may : MayLose b k cause left = subst (λ (v : BusView). MayLose v k cause (remove v.left c.args.number)) (sym c.self.view_is) c.requires.may in
+    let more : IsMore b e left = subst (λ e. IsMore b e left) (sym same) (loss_more b over places c.self.inside.cert k cause left c.self.invariant may) in
+    let ends : not c.covered-over.result ≡ ends_run places (what e) = ap not c.covered-over.ensures ∙ sym (ap (λ e. ends_run places (what e)) same) in
+    let cleared : c.clear.new.marks ≡ no_marks b.marks = c.clear.ensures ∙ ap no_marks c.deref_mut.ensures.value in
+    let long : length c.clear.new.marks ≡ c.self.inside.marks.len = omega (arith, c.deref_mut.ensures.len, c.clear.auto.marks) in
+    let marks = (with_items c.self.inside.marks c.clear.new.marks).items in
+    subst (λ l. IsKept (record b { left = c.remove.new.self.items; log = l; marks = marks }) (not c.covered-over.result) c.append.new.places c.append.new.cert) (sym c.in_ok-place.ensures.log)
+    (subst (λ ws. IsKept (record b { left = ws; log = b.log ++ e ∷ []; marks = marks }) (not c.covered-over.result) c.append.new.places c.append.new.cert) (sym c.remove.ensures.items)
+    (kept_more b over (not c.covered-over.result) places c.append.new.places c.self.inside.cert c.append.new.cert e left marks c.self.invariant more ends c.in_ok-place.ensures.places c.in_ok-place.ensures.cert
+    (with_items_is c.self.inside.marks c.clear.new.marks long ∙ cleared)))
