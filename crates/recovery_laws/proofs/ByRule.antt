@@ -36,6 +36,7 @@ use Rattle.recovery_laws.proofs.Stepping.{rolls_on, went_on, behind_on, rolls_ad
 use Rattle.recovery_laws.proofs.RunningOut.{runs_ahead, can_roll}
 use Rattle.recovery_laws.proofs.NotEnded.{rolls_not_ended, rolls_not_blocked}
 use Rattle.recovery_laws.proofs.KeepingBehind.{behind_from_record, behind_entry}
+use Rattle.recovery_laws.proofs.FromBoot.{stated_at_boot, behind_from_boot}
 use Rattle.recovery_laws.proofs.Exact.{exact_unended}
 use Rattle.recovery_laws.proofs.CaughtUp.{caught_up, caught_up_after, caught_up_from, ends_exactly, silent_here}
 
@@ -51,6 +52,14 @@ pub begins_behind : (system : System) (log : List Entry) (p : Pid) (start : Proc
 begins_behind system log p start kept small ram valid legal unended =
     let l = led_there Stands itself system log p valid legal unended in
     behind_from_record system log p l.now start kept small ram l.led
+
+pub built_stated : (system : System) (log : List Entry) (p : Pid) (start : ProcState) (kept : BackRec) → IsLegalBy BuiltMayFollow system log → IsUnended system log p → process_after system [] p ≡ Some start → backup_record system log p ≡ Some kept
+    → kept.state ≡ Some start.small
+built_stated = stated_at_boot BuiltMayFollow built_is_plain
+
+pub built_from_boot : (system : System) (log : List Entry) (p : Pid) (start : ProcState) (kept : BackRec) (ram : Memory) → is_system system ≡ true → IsLegalBy BuiltMayFollow system log → IsUnended system log p → process_after system [] p ≡ Some start
+    → backup_record system log p ≡ Some kept → ram.bytes ≡ start.memory → RollsBehind system log p (started start.small ram kept.saved kept.next) kept.counts kept.births
+built_from_boot = behind_from_boot BuiltMayFollow built_is_plain
 
 -- ---- entries
 

@@ -40,6 +40,9 @@ pub fn rolling_begins()
     ensures recorded { (system : System) (log : List Entry) (p : Pid) (start : ProcState) (kept : BackRec) (small : SmallState) (ram : Memory) → start_of system log p ≡ Some start → backup_record system log p ≡ Some kept → kept.state ≡ Some small → ram.bytes ≡ start.memory → RollsAs system log p (started small ram kept.saved kept.next) kept.counts kept.births }
     // Where it has not ended it is not beyond where it was.
     ensures behind { (system : System) (log : List Entry) (p : Pid) (start : ProcState) (kept : BackRec) (small : SmallState) (ram : Memory) → is_system system ≡ true → IsLegalBy Stands system log → IsUnended system log p → start_of system log p ≡ Some start → backup_record system log p ≡ Some kept → kept.state ≡ Some small → ram.bytes ≡ start.memory → RollsBehind system log p (started small ram kept.saved kept.next) kept.counts kept.births }
+    // While the entries are of the kinds that are built so far it starts from boot: its record has the state that it had there, and with the memory that it had there it rolls forward.
+    ensures stated { (system : System) (log : List Entry) (p : Pid) (start : ProcState) (kept : BackRec) → IsLegalBy BuiltMayFollow system log → IsUnended system log p → process_after system [] p ≡ Some start → backup_record system log p ≡ Some kept → kept.state ≡ Some start.small }
+    ensures from_boot { (system : System) (log : List Entry) (p : Pid) (start : ProcState) (kept : BackRec) (ram : Memory) → is_system system ≡ true → IsLegalBy BuiltMayFollow system log → IsUnended system log p → process_after system [] p ≡ Some start → backup_record system log p ≡ Some kept → ram.bytes ≡ start.memory → RollsBehind system log p (started start.small ram kept.saved kept.next) kept.counts kept.births }
 {}
 
 /// A law and no code: what the log brings to a process that rolls forward.
