@@ -76,8 +76,12 @@ pub fn rolling_goes_on()
 /// A law and no code: a process that rolls forward runs out, within the steps that the process in the kernel
 /// without failures has made more.
 pub fn rolling_runs_out()
+    // The steps until nothing is left are no more than those that that process has made more.
     ensures ahead { (system : System) (log : List Entry) (p : Pid) (s : ProcState) (counts : Counts) (births : List Pid) → is_system system ≡ true → IsLegalBy Stands system log → IsUnended system log p → RollsAs system log p s counts births → RunsAhead system log p s counts births }
+    // So it can roll, where that process has made fewer than 2 ^ 64.
     ensures can { (system : System) (log : List Entry) (p : Pid) (now s : ProcState) (counts : Counts) (births : List Pid) → is_system system ≡ true → IsLegalBy Stands system log → IsUnended system log p → process_after system log p ≡ Some now → now.small.steps < 2 ^ 64 → RollsAs system log p s counts births → CanRoll s counts births }
+    // No process makes so many steps.
+    ensures always { (system : System) (log : List Entry) (p : Pid) (s : ProcState) (counts : Counts) (births : List Pid) → is_system system ≡ true → IsLegalBy Stands system log → IsUnended system log p → RollsAs system log p s counts births → CanRoll s counts births }
 {}
 
 /// A law and no code: a process that rolls forward has not ended, and while something is left it does not wait.
