@@ -1,5 +1,5 @@
 -- The laws of a process that rolls forward, by the rules under which they are promised.
-use Rattle.std.proofs.Common.{◌≡◌, ℕ, ◌<◌, ◌≤◌, ◌^◌, sym, subst, List, [], ◌∷◌, ◌++◌, true, false, Some}
+use Rattle.std.proofs.Common.{◌≡◌, ℕ, arith, ◌<◌, ◌≤◌, ◌^◌, sym, subst, List, [], ◌∷◌, ◌++◌, true, false, Some}
 use Rattle.std.specs.Prelude.{fold}
 use Rattle.t32_base.specs.declared.process.Pid.{Pid}
 use Rattle.t32_base.specs.declared.process.Counts.{Counts}
@@ -26,6 +26,7 @@ use Rattle.cert_sched.specs.Legal.{IsLegalBy, Stands}
 use Rattle.cert_sched.specs.Built.{BuiltMayFollow}
 use Rattle.cert_sched.specs.Simulation.{IsUnended}
 use Rattle.cert_sched.specs.Rolling.{RollsAs}
+use Rattle.cert_sched.proofs.SpentLaws.{few_steps_after}
 use Rattle.cert_sched.proofs.MailLaws.{built_is_plain}
 use Rattle.cert_sched.proofs.CameLaws.{IsStandingRule}
 use Rattle.cert_sched.proofs.OpenLaws.{unended_open}
@@ -36,6 +37,7 @@ use Rattle.recovery_laws.proofs.Stepping.{rolls_on, went_on, behind_on, rolls_ad
 use Rattle.recovery_laws.proofs.RunningOut.{runs_ahead, can_roll}
 use Rattle.recovery_laws.proofs.NotEnded.{rolls_not_ended, rolls_not_blocked}
 use Rattle.recovery_laws.proofs.KeepingBehind.{behind_from_record, behind_entry}
+use Rattle.recovery_laws.proofs.FromBoot.{stated_at_boot, behind_from_boot}
 use Rattle.recovery_laws.proofs.Exact.{exact_unended}
 use Rattle.recovery_laws.proofs.CaughtUp.{caught_up, caught_up_after, caught_up_from, ends_exactly, silent_here}
 
@@ -51,6 +53,14 @@ pub begins_behind : (system : System) (log : List Entry) (p : Pid) (start : Proc
 begins_behind system log p start kept small ram valid legal unended =
     let l = led_there Stands itself system log p valid legal unended in
     behind_from_record system log p l.now start kept small ram l.led
+
+pub built_stated : (system : System) (log : List Entry) (p : Pid) (start : ProcState) (kept : BackRec) → IsLegalBy BuiltMayFollow system log → IsUnended system log p → process_after system [] p ≡ Some start → backup_record system log p ≡ Some kept
+    → kept.state ≡ Some start.small
+built_stated = stated_at_boot BuiltMayFollow built_is_plain
+
+pub built_from_boot : (system : System) (log : List Entry) (p : Pid) (start : ProcState) (kept : BackRec) (ram : Memory) → is_system system ≡ true → IsLegalBy BuiltMayFollow system log → IsUnended system log p → process_after system [] p ≡ Some start
+    → backup_record system log p ≡ Some kept → ram.bytes ≡ start.memory → RollsBehind system log p (started start.small ram kept.saved kept.next) kept.counts kept.births
+built_from_boot = behind_from_boot BuiltMayFollow built_is_plain
 
 -- ---- entries
 
@@ -115,6 +125,13 @@ pub standing_can : (system : System) (log : List Entry) (p : Pid) (now s : ProcS
     → (now.small).steps < 2 ^ 64 → RollsAs system log p s counts births → CanRoll s counts births
 standing_can system log p now s counts births valid legal unended there =
     can_roll system log p now s counts births (led_unended Stands itself system log p now valid legal unended there)
+
+-- no process makes so many steps
+pub standing_always : (system : System) (log : List Entry) (p : Pid) (s : ProcState) (counts : Counts) (births : List Pid) → is_system system ≡ true → IsLegalBy Stands system log → IsUnended system log p → RollsAs system log p s counts births → CanRoll s counts births
+standing_always system log p s counts births valid legal unended rolls =
+    let l = led_there Stands itself system log p valid legal unended in
+    let few = few_steps_after system log p l.now valid l.there in
+    can_roll system log p l.now s counts births l.led (omega (arith, few)) rolls
 
 pub standing_open : (system : System) (log : List Entry) (p : Pid) (s : ProcState) (counts : Counts) (births : List Pid) → is_system system ≡ true → IsLegalBy Stands system log → IsUnended system log p → RollsAs system log p s counts births
     → has_ended (s.small).status ≡ false

@@ -7,6 +7,7 @@ pub mod RunningOut
 pub mod NotEnded
 pub mod Others
 pub mod KeepingBehind
+pub mod FromBoot
 pub mod Exact
 pub mod CaughtUp
 pub mod ByRule

@@ -40,6 +40,9 @@ pub fn rolling_begins()
     ensures recorded { (system : System) (log : List Entry) (p : Pid) (start : ProcState) (kept : BackRec) (small : SmallState) (ram : Memory) → start_of system log p ≡ Some start → backup_record system log p ≡ Some kept → kept.state ≡ Some small → ram.bytes ≡ start.memory → RollsAs system log p (started small ram kept.saved kept.next) kept.counts kept.births }
     // Where it has not ended it is not beyond where it was.
     ensures behind { (system : System) (log : List Entry) (p : Pid) (start : ProcState) (kept : BackRec) (small : SmallState) (ram : Memory) → is_system system ≡ true → IsLegalBy Stands system log → IsUnended system log p → start_of system log p ≡ Some start → backup_record system log p ≡ Some kept → kept.state ≡ Some small → ram.bytes ≡ start.memory → RollsBehind system log p (started small ram kept.saved kept.next) kept.counts kept.births }
+    // While the entries are of the kinds that are built so far it starts from boot: its record has the state that it had there, and with the memory that it had there it rolls forward.
+    ensures stated { (system : System) (log : List Entry) (p : Pid) (start : ProcState) (kept : BackRec) → IsLegalBy BuiltMayFollow system log → IsUnended system log p → process_after system [] p ≡ Some start → backup_record system log p ≡ Some kept → kept.state ≡ Some start.small }
+    ensures from_boot { (system : System) (log : List Entry) (p : Pid) (start : ProcState) (kept : BackRec) (ram : Memory) → is_system system ≡ true → IsLegalBy BuiltMayFollow system log → IsUnended system log p → process_after system [] p ≡ Some start → backup_record system log p ≡ Some kept → ram.bytes ≡ start.memory → RollsBehind system log p (started start.small ram kept.saved kept.next) kept.counts kept.births }
 {}
 
 /// A law and no code: what the log brings to a process that rolls forward.
@@ -73,8 +76,12 @@ pub fn rolling_goes_on()
 /// A law and no code: a process that rolls forward runs out, within the steps that the process in the kernel
 /// without failures has made more.
 pub fn rolling_runs_out()
+    // The steps until nothing is left are no more than those that that process has made more.
     ensures ahead { (system : System) (log : List Entry) (p : Pid) (s : ProcState) (counts : Counts) (births : List Pid) → is_system system ≡ true → IsLegalBy Stands system log → IsUnended system log p → RollsAs system log p s counts births → RunsAhead system log p s counts births }
+    // So it can roll, where that process has made fewer than 2 ^ 64.
     ensures can { (system : System) (log : List Entry) (p : Pid) (now s : ProcState) (counts : Counts) (births : List Pid) → is_system system ≡ true → IsLegalBy Stands system log → IsUnended system log p → process_after system log p ≡ Some now → now.small.steps < 2 ^ 64 → RollsAs system log p s counts births → CanRoll s counts births }
+    // No process makes so many steps.
+    ensures always { (system : System) (log : List Entry) (p : Pid) (s : ProcState) (counts : Counts) (births : List Pid) → is_system system ≡ true → IsLegalBy Stands system log → IsUnended system log p → RollsAs system log p s counts births → CanRoll s counts births }
 {}
 
 /// A law and no code: a process that rolls forward has not ended, and while something is left it does not wait.
