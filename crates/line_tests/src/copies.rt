@@ -7,6 +7,7 @@ use t32_base::letter::BackRec;
 use t32_base::lists::List;
 use t32_base::process::{ClusterNo, Pid};
 use t32_base::streams::NoMemory;
+use test_asserts::same;
 
 fn copied(by: By, what: What) -> Result<Post, NoMemory> {
     Post { by, what }.copy()
@@ -45,8 +46,7 @@ fn copied_sync(alloc: Global, by: By) -> Result<(By, Option<Synced>), NoMemory> 
 fn a_synchronisation_is_copied_with_what_is_not_printed(rt: HostRuntime) -> Result<(), Fail> {
     let by = By::Cluster(ClusterNo(3));
     let wanted = Some((65600, Some((5, 3)), Some(10)));
-    assert_eq!(&rt; copied_sync(rt.alloc(), by)?, (by, wanted));
-    Ok(())
+    same("the copy", &copied_sync(rt.alloc(), by)?, &(by, wanted))
 }
 
 // The steps of the two that have not ended, where it is the end.
@@ -68,8 +68,7 @@ fn copied_end(alloc: Global) -> Result<Rests, NoMemory> {
 #[test]
 fn an_end_is_copied_with_what_is_not_printed(rt: HostRuntime) -> Result<(), Fail> {
     let wanted = ((Pid(16), 10), (Pid(33), 18446744073709551615));
-    assert_eq!(&rt; copied_end(rt.alloc())?, Some(wanted));
-    Ok(())
+    same("the copy", &copied_end(rt.alloc())?, &Some(wanted))
 }
 
 // The number of the next letter, the signals counted, how many letters are saved, and the one birth.
@@ -110,8 +109,11 @@ fn copied_records(alloc: Global) -> Result<Option<(Held, Held)>, NoMemory> {
 #[test]
 fn records_are_copied(rt: HostRuntime) -> Result<(), Fail> {
     let wanted = (7, 5, 1, Some(Pid(48)));
-    assert_eq!(&rt; copied_records(rt.alloc())?, Some((wanted, wanted)));
-    Ok(())
+    same(
+        "the copy",
+        &copied_records(rt.alloc())?,
+        &Some((wanted, wanted)),
+    )
 }
 
 // The first and the last byte of the page, where it is one that is answered.
@@ -134,6 +136,5 @@ fn copied_page(alloc: Global) -> Result<Option<(u8, u8)>, NoMemory> {
 
 #[test]
 fn a_page_is_copied(rt: HostRuntime) -> Result<(), Fail> {
-    assert_eq!(&rt; copied_page(rt.alloc())?, Some((0, 9)));
-    Ok(())
+    same("the copy", &copied_page(rt.alloc())?, &Some((0, 9)))
 }

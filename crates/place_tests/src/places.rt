@@ -6,13 +6,13 @@ use bus_msg::placed::Placed;
 use bus_msg::shared::Shared;
 use channel_table::placement::Placement;
 use std::alloc::Global;
-use std::process::Abort;
 use std::test::Fail;
 use t32_base::letter::{BackRec, Body, Letter, To};
 use t32_base::lists::List;
 use t32_base::process::{ClusterNo, Counts, End, EndState, Mode, Pid, Regs, Small, Status};
 use t32_base::shared_bytes::SharedBytes;
 use t32_base::streams::NoMemory;
+use test_asserts::same;
 
 // The first root, at home in cluster 0 with its backup in cluster 1.
 const FIRST: Placed = Placed {
@@ -268,7 +268,11 @@ fn after_shows(
 fn a_log_is_taken_in_entry_by_entry(rt: HostRuntime) -> Result<(), Fail> {
     for row in LOG.iter() {
         let shown = after_shows(rt.alloc(), row.0, row.1, row.2)?;
-        assert_eq!(rt; shown, (true, true, true), "after {}", row.0);
+        same(
+            "what stands after so many entries",
+            &(row.0, shown),
+            &(row.0, (true, true, true)),
+        )?;
     }
     Ok(())
 }
@@ -304,21 +308,20 @@ fn after_stands(
     Ok((stands, places.clusters(), places.first_server()))
 }
 
-fn assert_stands(
-    rt: &(impl Abort + AllocGlobal),
-    steps: u8,
-    k: u8,
-    wanted: Stands,
-) -> Result<(), NoMemory> {
-    let shown = after_stands(rt.alloc(), steps, k)?;
-    assert_eq!(rt; shown, (wanted, 3, Some(ClusterNo(1))), "{k} after {steps}");
-    Ok(())
+fn assert_stands(alloc: Global, steps: u8, k: u8, wanted: Stands) -> Result<(), Fail> {
+    let shown = after_stands(alloc, steps, k)?;
+    let wanted = (wanted, 3, Some(ClusterNo(1)));
+    same(
+        "a cluster after so many entries",
+        &((k, steps), shown),
+        &((k, steps), wanted),
+    )
 }
 
 #[test]
 fn clusters_are_lost_and_return(rt: HostRuntime) -> Result<(), Fail> {
     for row in STANDING.iter() {
-        assert_stands(&rt, row.0, row.1, row.2)?;
+        assert_stands(rt.alloc(), row.0, row.1, row.2)?;
     }
     Ok(())
 }
@@ -335,8 +338,11 @@ fn found_after(alloc: Global, steps: u8) -> Result<Found, NoMemory> {
 #[test]
 fn a_process_that_ended_is_found_only_where_asked(rt: HostRuntime) -> Result<(), Fail> {
     let wanted = ([None, Some(SECOND)], [Some(ClusterNo(0)), None]);
-    assert_eq!(rt; found_after(rt.alloc(), 3)?, wanted);
-    Ok(())
+    same(
+        "the processes and homes",
+        &found_after(rt.alloc(), 3)?,
+        &wanted,
+    )
 }
 
 // One backup is set and one cluster lost, which returns.
@@ -359,8 +365,11 @@ fn by_hand(alloc: Global) -> Result<(bool, [Option<ClusterNo>; 2], bool), NoMemo
 #[test]
 fn one_backup_is_set_and_one_cluster_lost_by_hand(rt: HostRuntime) -> Result<(), Fail> {
     let second = Some(ClusterNo(2));
-    assert_eq!(rt; by_hand(rt.alloc())?, (true, [second, second], false));
-    Ok(())
+    same(
+        "cluster 1",
+        &by_hand(rt.alloc())?,
+        &(true, [second, second], false),
+    )
 }
 
 // ---- routes
@@ -406,7 +415,7 @@ fn mail_after(alloc: Global, steps: u8, from: u32, to: To) -> Result<Dests, NoMe
 fn letters_go_to_homes_and_backups(rt: HostRuntime) -> Result<(), Fail> {
     for row in LETTERS.iter() {
         let dests = mail_after(rt.alloc(), 3, row.0, row.1)?;
-        assert_eq!(rt; (dests.clusters, dests.tty), row.2);
+        same("a letter", &(dests.clusters, dests.tty), &row.2)?;
     }
     Ok(())
 }
@@ -458,7 +467,8 @@ static PAGES: [(u8, u32, [u16; 4]); 4] = [
 #[test]
 fn pages_and_synchronisations_go_to_the_servers(rt: HostRuntime) -> Result<(), Fail> {
     for row in PAGES.iter() {
-        assert_eq!(rt; page_routes_after(rt.alloc(), row.0, row.1)?, row.2.map(to));
+        let routes = page_routes_after(rt.alloc(), row.0, row.1)?;
+        same("the routes of pages", &routes, &row.2.map(to))?;
     }
     Ok(())
 }
@@ -481,6 +491,5 @@ fn routes_after_loss(alloc: Global) -> Result<Option<(Dests, Dests)>, NoMemory> 
 #[test]
 fn a_lost_cluster_gets_nothing_but_its_return(rt: HostRuntime) -> Result<(), Fail> {
     let shown = routes_after_loss(rt.alloc())?;
-    assert_eq!(rt; shown, Some((to(0b110), to(0b111))));
-    Ok(())
+    same("the routes", &shown, &Some((to(0b110), to(0b111))))
 }
