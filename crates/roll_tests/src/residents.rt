@@ -9,7 +9,10 @@ use t32_base::streams::NoMemory;
 use test_asserts::same;
 
 fn resident_lost(alloc: Global) -> Result<Resident, NoMemory> {
-    Ok(Resident::rolling(two_lost(alloc)?))
+    let rolling = two_lost(alloc)?;
+    // What it answers says that the counts run out.
+    let _process = rolling.process();
+    Ok(Resident::rolling(rolling))
 }
 
 // The step by which a quantum sent a letter.
