@@ -22,7 +22,6 @@ use Rattle.sys_calls.specs.declared.steps.Emission.TheVariants.{Mail as Sent, Ex
 use Rattle.sys_calls.specs.Calls.{Next, Silent, Blocked, Forks, Emits, Over}
 use Rattle.sys_calls.specs.Next.{next_step}
 use Rattle.sys_calls.proofs.Counting.{last_sent}
-use Rattle.sys_calls.proofs.Weighing.{Leaves, emits_leaves, next_leaves, silently_leaves}
 use Rattle.plain_kernel.specs.Kernel.{Kernel, boot, pid_cmp, process_at, with_process, letter_put, letter_to, emitted}
 use Rattle.plain_kernel.specs.Apply.{after_step, one_step}
 use Rattle.plain_kernel.proofs.Entries.{some_same}
@@ -41,6 +40,7 @@ use Rattle.cert_sched.specs.Kinds.{KindHolds}
 use Rattle.cert_sched.specs.Losses.{is_from}
 use Rattle.cert_sched.specs.Built.{UnlostMayFollow, is_unlost}
 use Rattle.cert_sched.proofs.StepLaws.{Tells, is_sent, plain_after-keeps, plain_after-sent, sent_from}
+use Rattle.sys_calls.proofs.Weighing.{Leaves, emits_leaves, next_leaves, silently_leaves}
 use Rattle.cluster_run.specs.Progress.{kernel_load, log_load}
 
 abbrev pub weight_of : Pid × ProcState → ℕ

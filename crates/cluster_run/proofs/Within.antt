@@ -17,7 +17,6 @@ use Rattle.sys_calls.specs.Calls.{Next, Silent, Blocked, Forks, Emits, Over}
 use Rattle.sys_calls.specs.Next.{next_step}
 use Rattle.sys_calls.specs.declared.steps.Emission.{Emission}
 use Rattle.sys_calls.proofs.Quiet.{no_fork}
-use Rattle.sys_calls.proofs.Weighing.{Leaves, next_leaves, silently_leaves}
 use Rattle.plain_kernel.specs.Kernel.{Kernel, boot, process_at}
 use Rattle.bus_msg.specs.declared.entry.Entry.{Entry}
 use Rattle.bus_msg.specs.declared.placed.Placed.{Placed}
@@ -42,6 +41,7 @@ use Rattle.cluster_core.specs.Follows.{FollowsBuilt}
 use Rattle.cluster_core.proofs.Here.{same_itself}
 use Rattle.cluster_core.specs.Residents.{pids_in}
 use Rattle.cluster_core.proofs.Lightening.{held_apart}
+use Rattle.sys_calls.proofs.Weighing.{Leaves, next_leaves, silently_leaves}
 use Rattle.bus_order.specs.View.{BusView}
 use Rattle.cluster_run.specs.Along.{AllAlong, IsMember, IsOwned, IsSound}
 use Rattle.cluster_run.specs.Progress.{Falls, IsOver, Remaining, kernel_load, remaining, total, unseen}
