@@ -55,11 +55,26 @@ fn lost_by(entry: Option<&Entry>) -> Option<u8> {
 fn words_are_looked_at_in_order(rt: HostRuntime) -> Result<(), Fail> {
     let alloc = rt.alloc();
     let script = [
-        ScriptWord::CrashAt { k: ClusterNo(4), place: 1 },
-        ScriptWord::CrashStep { k: ClusterNo(3), step: 5 },
-        ScriptWord::CrashAt { k: ClusterNo(1), place: 9 },
-        ScriptWord::CrashAt { k: ClusterNo(0), place: 1 },
-        ScriptWord::CrashAt { k: ClusterNo(4), place: 1 },
+        ScriptWord::CrashAt {
+            k: ClusterNo(4),
+            place: 1,
+        },
+        ScriptWord::CrashStep {
+            k: ClusterNo(3),
+            step: 5,
+        },
+        ScriptWord::CrashAt {
+            k: ClusterNo(1),
+            place: 9,
+        },
+        ScriptWord::CrashAt {
+            k: ClusterNo(0),
+            place: 1,
+        },
+        ScriptWord::CrashAt {
+            k: ClusterNo(4),
+            place: 1,
+        },
     ];
     let system = shared(alloc, read_system(alloc, FIVE.as_bytes())?)?;
     let mut bus = Bus::boot(alloc, &system, &script)?;
@@ -71,7 +86,14 @@ fn words_are_looked_at_in_order(rt: HostRuntime) -> Result<(), Fail> {
     let answer = bus.transmit(ClusterNo(0), 0, &exit_by(ClusterNo(0)));
     assert_eq!(rt; answer, Err(Refused::Off { at: 2 }));
     assert_eq!(rt; bus.length(), 3);
-    assert_eq!(rt; (lost_by(bus.entry(0)), lost_by(bus.entry(1)), lost_by(bus.entry(2))), (Some(3), Some(4), Some(0)));
+    assert_eq!(rt;
+        (
+            lost_by(bus.entry(0)),
+            lost_by(bus.entry(1)),
+            lost_by(bus.entry(2))
+        ),
+        (Some(3), Some(4), Some(0))
+    );
     let answer = bus.transmit(ClusterNo(1), 0, &exit_by(ClusterNo(1)));
     assert_eq!(rt; answer, Err(Refused::Behind { length: 3 }));
     assert_eq!(rt; bus.length(), 3);
@@ -83,9 +105,18 @@ fn words_are_looked_at_in_order(rt: HostRuntime) -> Result<(), Fail> {
 fn an_uncovered_loss_ends_the_log(rt: HostRuntime) -> Result<(), Fail> {
     let alloc = rt.alloc();
     let script = [
-        ScriptWord::CrashStep { k: ClusterNo(0), step: 5 },
-        ScriptWord::CrashAt { k: ClusterNo(1), place: 1 },
-        ScriptWord::CrashAt { k: ClusterNo(2), place: 1 },
+        ScriptWord::CrashStep {
+            k: ClusterNo(0),
+            step: 5,
+        },
+        ScriptWord::CrashAt {
+            k: ClusterNo(1),
+            place: 1,
+        },
+        ScriptWord::CrashAt {
+            k: ClusterNo(2),
+            place: 1,
+        },
     ];
     let system = shared(alloc, read_system(alloc, FIVE.as_bytes())?)?;
     let mut bus = Bus::boot(alloc, &system, &script)?;
@@ -95,7 +126,10 @@ fn an_uncovered_loss_ends_the_log(rt: HostRuntime) -> Result<(), Fail> {
     assert_eq!(rt; bus.length(), 1);
     let answer = bus.transmit(ClusterNo(0), 0, &exit_by(ClusterNo(0)));
     assert_eq!(rt; answer, Err(Refused::Over { at: 1 }));
-    assert_eq!(rt; (bus.length(), bus.is_over(), bus.is_finished()), (2, true, false));
+    assert_eq!(rt;
+        (bus.length(), bus.is_over(), bus.is_finished()),
+        (2, true, false)
+    );
     assert_eq!(rt; bus.stop(), None);
     assert_eq!(rt; bus.shared_from(0)?.len(), 2);
     Ok(())
