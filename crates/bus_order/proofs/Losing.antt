@@ -28,7 +28,7 @@ use Rattle.cert_sched.proofs.CameLaws.{no_items}
 use Rattle.cert_sched.proofs.ThereLaws.{plain_there}
 use Rattle.bus_order.specs.Script.{AccountsFor, IsFirst, is_word_for}
 use Rattle.bus_order.specs.View.{BusView, IsKept, MayLose, MayPass}
-use Rattle.bus_order.proofs.WordsLaws.{find-filter, without-filter, filter-without, all-without, all-found, count-without}
+use Rattle.bus_order.proofs.WordsLaws.{find-filter, without-filter, filter-without, all-without, all-found, count-without, length-without}
 use Rattle.bus_order.proofs.Keeping.{IsMore, accounts_more, reached_bus, steps_stay}
 
 -- the crash of a cluster that lives may stand next in a log that goes on
@@ -50,6 +50,7 @@ loss_more b over places cert k cause left kept may = record {
   looked = may.looked;
   scripted = may.scripted;
   used = may.used;
+  fewer = may.fewer;
 }
 
 -- ---- by a word for a place
@@ -86,6 +87,7 @@ place_loses b over places cert number w k kept goes_on first given = subst (MayL
       let stay = steps_stay (length b.log) b.left w j n kept.words first.0 in
       let none : ◌≡◌ {A = ℕ} (cond (is_step_crash j n (Crash k Place)) 1 0) 0 = ap (λ (c : Bool). cond c 1 0) (no_place_step j k n) in
       omega (arith, stay, none));
+  fewer = let one = length-without (is_reached (length b.log)) b.left w first.0 in omega (arith, one);
 })
 
 -- a word that was reached and loses no cluster gives nothing
@@ -135,4 +137,5 @@ step_loses b over places cert number w k (Step n) kept going lives first scripte
       let same : ◌≡◌ {A = ℕ} (cond (is_step_word j m w) 1 0) (cond (is_step_crash j m (Crash k (Step n))) 1 0) =
       ap (λ (c : Bool). cond c 1 0) (same_step k n w j m (all-found (is_step_word k n) is_built_word b.left w kept.words first.0).0) in
       omega (arith, counted, same));
+  fewer = let one = length-without (is_step_word k n) b.left w first.0 in omega (arith, one);
 })
