@@ -16,7 +16,9 @@ use Rattle.cert_sched.specs.Scripted.{closes, is_closed}
 use Rattle.cert_sched.proofs.Induction.{legal_induction, is_over-snoc}
 use Rattle.cert_sched.proofs.UnlostLaws.{unscripted_unlost}
 use Rattle.bus_order.specs.Script.{off_at, place_of_loss, turns}
-use Rattle.bus_order.specs.View.{BusView, KeepsScript, after_words, looks}
+use Rattle.cert_sched.specs.Looked.{first_reached}
+use Rattle.bus_order.specs.View.{BusView, KeepsScript, after_words, look_once, looks}
+use Rattle.bus_order.proofs.Looking.{look_over, look_some, settled_stays}
 use Rattle.bus_order.proofs.OffLaws.{off_at-snoc}
 use Rattle.bus_order.proofs.OverLaws.{closed-snoc, none_over}
 
@@ -79,3 +81,18 @@ over_closed system log legal = legal_induction UnlostMayFollow system (λ log. i
 pub closed_long : (log : List Entry) → is_closed log ≡ true → 1 ≤ length log
 closed_long [] h = absurd (true≢false (sym h))
 closed_long (e ∷ log) h = omega arith
+
+pub none_unlost : (system : System) → IsLegalBy UnlostMayFollow system []
+unfolding IsLegalBy
+none_unlost system = tt
+
+-- a look changes nothing
+look_none : (b : BusView) → b.left ≡ [] → look_once b ≡ b
+look_none b none = by_end (is_over b.system b.log) refl
+  where
+    by_end : (c : Bool) → is_over b.system b.log ≡ c → look_once b ≡ b
+    by_end true over = look_over b over
+    by_end false goes_on = look_some b None goes_on (ap (first_reached b.log) none)
+
+pub looks_none : (n : ℕ) (b : BusView) → b.left ≡ [] → looks n b ≡ b
+looks_none n b none = settled_stays n b (look_none b none)
