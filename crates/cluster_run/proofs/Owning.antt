@@ -31,6 +31,7 @@ use Rattle.cluster_run.proofs.Sending.{IsSent, sent_goes_on, sent_spends}
 pub adds_more : (k : ClusterNo) (a b c : BusView) → Adds k a b → Adds k b c → Adds k a c
 adds_more k a b c one two = record {
   system = two.system ∙ one.system;
+  script = two.script ∙ one.script;
   more = one.more ++ two.more;
   log = two.log ∙ ap (λ l. l ++ two.more) one.log ∙ append_assoc a.log one.more two.more;
   may = All-append (MayAdd author_of k.0) one.more two.more one.may two.may;

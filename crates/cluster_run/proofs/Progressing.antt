@@ -12,11 +12,13 @@ use Rattle.cert_sched.specs.Schedule.{placement}
 use Rattle.cert_sched.specs.Rules.{is_over}
 use Rattle.cert_sched.proofs.Induction.{is_over-snoc}
 use Rattle.cert_sched.proofs.HomesLaws.{built_clusters-length}
+use Rattle.cert_sched.proofs.UnlostLaws.{legal_unlost}
 use Rattle.cluster_core.specs.View.{ClusterView, load}
 use Rattle.bus_order.specs.declared.marks.Mark.{Mark}
 use Rattle.bus_order.specs.declared.marks.Idled.{Idled}
 use Rattle.bus_order.specs.declared.marks.Idled.TheVariants.{Marked, Done as WasDone}
-use Rattle.bus_order.specs.View.{BusView, Idles, is_awaited, mark_in, with_mark}
+use Rattle.bus_order.specs.View.{BusView, is_awaited, mark_in, with_mark}
+use Rattle.cluster_run.specs.Offers.{TakesMark}
 use Rattle.bus_order.proofs.MarksLaws.{mark_in-get_or}
 use Rattle.cluster_run.specs.Progress.{Falls, GetsOn, HasMark, IsAtMost, IsAwaiting, IsOver, Remaining, Rests, remaining, remaining_of, total, unseen}
 use Rattle.cluster_run.specs.Turns.{TurnsOwn}
@@ -46,7 +48,7 @@ marked_still b k m n within had = by_place (nat_eq n k.0) refl had
     ]
 
 -- what a bus made of an idle cluster
-pub told_rest : (b after : BusView) (k : ClusterNo) (cursor : ℕ) (m : Mark) (idled : Idled) → Idles b k cursor m (Ok idled) after → k.0 < length b.marks → IsOver after ⊎ ((after.log ≡ b.log) × Rests b after k.0 (k.0 + 1))
+pub told_rest : (b after : BusView) (k : ClusterNo) (cursor : ℕ) (m : Mark) (idled : Idled) → TakesMark b k cursor m idled after → k.0 < length b.marks → IsOver after ⊎ ((after.log ≡ b.log) × Rests b after k.0 (k.0 + 1))
 told_rest b after k cursor m Marked idles within = inr (
   ap (λ (x : BusView). x.log) idles.3,
   record {
@@ -201,7 +203,7 @@ none_awaited b legal all = any_none (λ k. lives_in (placement b.system b.log) k
     one n k None at is = cc
     one n k (Some i) at is =
         let place = range_at 0 (length (placement b.system b.log).clusters) n i at in
-        let within : i < (b.system).clusters = omega (arith, place.0, place.1, built_clusters-length b.system b.log legal) in
+        let within : i < (b.system).clusters = omega (arith, place.0, place.1, built_clusters-length b.system b.log (legal_unlost b.system b.log legal)) in
         let same : cluster_no i ≡ k = cc in
         subst (λ k. (lives_in (placement b.system b.log) k && is_none (mark_in b.marks k)) ≡ false) same (not_none (lives_in (placement b.system b.log) (cluster_no i)) (mark_in b.marks (cluster_no i)) (all i within))
 

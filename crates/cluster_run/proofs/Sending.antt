@@ -21,7 +21,8 @@ use Rattle.cluster_core.specs.Follows.{FollowsBuilt, IsOpen}
 use Rattle.cluster_core.specs.Calls.{Absorbs, IsReady, ReadyFor, absorbed}
 use Rattle.cluster_core.proofs.Following.{no_end}
 use Rattle.bus_order.specs.View.{BusView}
-use Rattle.bus_order.proofs.OverLaws.{closed-snoc, over_closed}
+use Rattle.bus_order.proofs.OverLaws.{closed-snoc}
+use Rattle.bus_order.proofs.Unscripted.{over_closed}
 use Rattle.cluster_run.specs.Along.{IsAlong, IsBeside, IsReadyAt, IsSound, TakesNext}
 use Rattle.cluster_run.specs.Progress.{log_load}
 use Rattle.cluster_run.proofs.Prefixes.{drop_whole, get_last}

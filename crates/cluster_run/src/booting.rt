@@ -22,7 +22,7 @@ pub fn start(alloc: Global, system: &Arc<System>) -> Result<(Bus, Vec<Cluster>),
     ensures system { IfOk result (λ started. started.0.system ≡ arc_value system.now) }
     ensures none { IfOk result (λ started. started.0.log ≡ []) }
 {
-    let bus = Bus::boot(alloc, system)?;
+    let bus = Bus::boot(alloc, system, &[])?;
     let clusters = clusters_at_boot(alloc, system)?;
     Ok((bus, clusters))
 }

@@ -6,7 +6,7 @@ ghost use Rattle.cert_sched.specs.Rules.{is_over};
 ghost use Rattle.bus_lock.specs.Seats.{IsOf, seat_origin, seen, told, view_of};
 ghost use Rattle.bus_lock.specs.Views.{retold};
 ghost use Rattle.cluster_run.specs.Along.{IsSame};
-ghost use Rattle.cluster_run.specs.Seated.{IsSeatOf, Shows};
+ghost use Rattle.cluster_run.specs.Seated.{IsSeatOf, Shows, bare};
 ghost use Rattle.cluster_run.specs.Threads.{HasEnded, OneEnded, Starts};
 
 use crate::locked::stop;
@@ -76,11 +76,11 @@ fn follow_on<R: Wait, G: Gate>(
     cluster: &mut Cluster,
 ) -> Result<(), NoMemory>
     requires seat { IsSeatOf port.old.lock.now cluster.old.number port.old.seat }
-    requires origin { seat_origin port.old.seat ≡ Some (arc_value port.old.system.now) }
+    requires origin { seat_origin port.old.seat ≡ Some (bare (arc_value port.old.system.now)) }
     requires shows { Shows (arc_value port.old.system.now) port.old.seat port.old.news cluster.old }
     requires empty { cluster.old.queue ≡ [] }
     ensures seat { IsSeatOf port.old.lock.now cluster.old.number port.new.seat }
-    ensures origin { seat_origin port.new.seat ≡ Some (arc_value port.old.system.now) }
+    ensures origin { seat_origin port.new.seat ≡ Some (bare (arc_value port.old.system.now)) }
     ensures ended { OnOk result (HasEnded (arc_value port.old.system.now) cluster.old.number.0 (seen port.new.seat) cluster.new) }
 {
     let rt = port.rt;

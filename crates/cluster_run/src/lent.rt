@@ -29,11 +29,7 @@ impl Port for Bus {
     }
 
     fn open_length(&self) -> u64 {
-        let length = self.length();
-        if self.is_over() {
-            return length - 1;
-        }
-        length
+        self.length_without_end()
     }
 
     fn shown(&self, place: u64) -> &Entry {

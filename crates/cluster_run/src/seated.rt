@@ -87,9 +87,10 @@ impl<'a, R: Wait, G: Gate> Port for Seated<'a, R, G> {
     ghost use Rattle.bus_lock.specs.Seats.{seat_origin, seen};
     ghost use Rattle.bus_order.specs.View.{BusView};
     ghost use Rattle.cluster_run.specs.Offers.{IsNews};
-    ghost use Rattle.cluster_run.specs.Seated.{IsSeatOf, bus_of};
+    ghost use Rattle.bus_order.specs.declared.shared.Origin.{Origin as AnOrigin};
+    ghost use Rattle.cluster_run.specs.Seated.{IsSeatOf, bare, bus_of};
 
-    ghost Root = { ALogLock BusView AnEntry ASystem × ASystem };
+    ghost Root = { ALogLock BusView AnEntry AnOrigin × ASystem };
 
     ghost alone = { false };
 
@@ -101,7 +102,7 @@ impl<'a, R: Wait, G: Gate> Port for Seated<'a, R, G> {
 
     ghost shows = { λ p. IsNews (arc_value p.system.now) (seen p.seat) p.news };
 
-    ghost sits = { λ k p. IsSeatOf p.lock.now k p.seat × (seat_origin p.seat ≡ Some (arc_value p.system.now)) };
+    ghost sits = { λ k p. IsSeatOf p.lock.now k p.seat × (seat_origin p.seat ≡ Some (bare (arc_value p.system.now))) };
 
     fn look(&mut self, cluster: &Cluster) -> Result<(), NoMemory> {
         if !has_grown(self.lock, &mut self.seat, &self.news) {
