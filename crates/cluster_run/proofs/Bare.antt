@@ -1,9 +1,13 @@
 -- What the calls of a bus without a script answer.
-use Rattle.std.proofs.Common.{◌≡◌, ℕ, ◌<◌, ◌≤◌, sym, ◌∙◌, ap, subst, arith, List, [], length, Bool, true, false, Option, Some, None, Result, Ok, Err}
+use Rattle.std.proofs.Common.{◌≡◌, ℕ, ◌^◌, ◌<◌, ◌≤◌, sym, ◌∙◌, ap, subst, arith, List, [], length, Bool, true, false, Option, Some, None, Result, Ok, Err}
+use Rattle.std.specs.Option.{option_map_or}
 use Rattle.t32_base.specs.declared.process.ClusterNo.{ClusterNo}
+use Rattle.sys_text.specs.declared.system.System.{System}
 use Rattle.bus_msg.specs.declared.entry.Post.{Post}
 use Rattle.cert_sched.specs.Appended.{entry_of}
 use Rattle.cert_sched.specs.Rules.{is_over}
+use Rattle.cert_sched.specs.Legal.{IsLegalBy}
+use Rattle.cert_sched.specs.Built.{BuiltMayFollow}
 use Rattle.cert_sched.specs.Schedule.{placement}
 use Rattle.cert_sched.proofs.UnlostLaws.{may_unlost}
 use Rattle.bus_order.specs.declared.marks.Mark.{Mark}
@@ -12,9 +16,11 @@ use Rattle.bus_order.specs.declared.marks.Idled.TheVariants.{Marked, Done as Was
 use Rattle.bus_order.specs.declared.refused.Refused.{Refused}
 use Rattle.bus_order.specs.declared.refused.Refused.TheVariants.{Over, Off, Behind, NoMemory}
 use Rattle.bus_order.specs.Script.{off_at}
-use Rattle.bus_order.specs.View.{Admits, BusView, Ends, Idles, MayTransmit, Transmits, after_words, is_awaited, with_mark, with_post}
-use Rattle.bus_order.proofs.Unscripted.{after_none, looks_none, never_off}
+use Rattle.bus_order.specs.View.{Admits, BusView, Ends, Idles, KeepsScript, MayTransmit, Transmits, after_words, is_awaited, with_mark, with_post}
+use Rattle.bus_order.specs.declared.shared.Origin.{Origin}
+use Rattle.bus_order.proofs.Unscripted.{after_none, left_none, looks_none, never_off, unscripted_legal}
 use Rattle.cluster_run.specs.Along.{IsSound}
+use Rattle.cluster_run.specs.Seated.{bare, origin_of}
 use Rattle.cluster_run.specs.Offers.{MayOffer, OffersBare, TakesMark, TellsBare}
 
 pub may_transmit : (b : BusView) (by : ClusterNo) (cursor : ℕ) (post : Post) → MayOffer b by cursor post → MayTransmit b by cursor post
@@ -64,3 +70,16 @@ tells_bare old new by cursor m (Err (Behind n)) sound seen t =
     let a : Admits old by cursor (Err (Behind n)) = subst (λ b. Admits b by cursor (Err (Behind n))) same t.0 in
     (a.0, subst (λ n. cursor < n) a.2 a.3, t.1 ∙ same)
 tells_bare old new by cursor m (Err NoMemory) sound seen t = t.1 ∙ looks_none t.0 old (sound.bare).left
+
+-- ---- it is sound
+
+pub sound_of : (b : BusView) → b.script ≡ [] → IsLegalBy BuiltMayFollow b.system b.log → KeepsScript b → length b.log < 2 ^ 64 → IsSound b
+sound_of b none legal keeps fits = record { bare = record { script = none; left = left_none b keeps none }; legal = unscripted_legal b keeps none legal; fits = fits }
+
+-- a bus that came from one without a script has none
+pub from_bare : (b : BusView) (system : System) (o : Option Origin) → o ≡ Some (origin_of b) → o ≡ Some (bare system) → b.script ≡ []
+from_bare b system o is from = ap (λ (o : Option Origin). option_map_or (λ (a : Origin). a.script) o b.script) (sym is ∙ from)
+
+pub takes_script : (found left : BusView) (k : ClusterNo) (cursor : ℕ) (m : Mark) (idled : Idled) → TakesMark found k cursor m idled left → left.script ≡ found.script
+takes_script found left k cursor m Marked is = ap (λ (b : BusView). b.script) is.3
+takes_script found left k cursor m (WasDone at) is = ap (λ (b : BusView). b.script) (is.3).ended

@@ -1,0 +1,16 @@
+use Rattle.std.proofs.Common.{◌≡◌, sym, ap, subst, arith, length, []}
+use Rattle.cert_sched.specs.Legal.{IsLegalBy}
+use Rattle.cert_sched.specs.Built.{BuiltMayFollow}
+use Rattle.bus_lock.specs.Seats.{seat_origin}
+use Rattle.bus_order.specs.View.{BusView, KeepsScript}
+use Rattle.cluster_run.proofs.Bare.{from_bare, sound_of}
+use Rattle.cluster_run.proofs.locked.take_for.Goals as goal
+
+pub returns-clause-sound : goal.returns-clause-sound
+returns-clause-sound g c =
+    let b : BusView = c.take-bus.result.value in
+    let none : b.script ≡ [] = from_bare b c.args.cluster.now.system (seat_origin c.args.seat.now) c.take-bus.ensures.origin c.requires.origin in
+    let same : c.deref.result.now ≡ b = c.deref.ensures in
+    let long = ap (λ (v : BusView). length v.log) same in
+    sound_of b none (subst (λ (v : BusView). IsLegalBy BuiltMayFollow v.system v.log) same c.length-sound.ensures.legal) (subst KeepsScript same c.length-sound.ensures.scripted)
+    (omega (arith, c.length-sound.ensures.length, c.length-sound.type_inv, long))
