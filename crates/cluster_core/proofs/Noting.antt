@@ -118,8 +118,8 @@ receiver_goes places k from p (Proc q end) lives is named =
     named_goes places k (home_of places q ++ backup_of places q ++ backup_of places from) lives
     (list_any-append (λ j. same_cluster j k) (home_of places q ++ backup_of places q) (backup_of places from)
     ∙ or_first _ (list_any (λ j. same_cluster j k) (backup_of places from))
-        (list_any-append (λ j. same_cluster j k) (home_of places q) (backup_of places q)
-        ∙ or_last (list_any (λ j. same_cluster j k) (home_of places q)) _ (ap (λ r. list_any (λ j. same_cluster j k) (backup_of places r)) (sym same) ∙ named)))
+    (list_any-append (λ j. same_cluster j k) (home_of places q) (backup_of places q)
+    ∙ or_last (list_any (λ j. same_cluster j k) (home_of places q)) _ (ap (λ r. list_any (λ j. same_cluster j k) (backup_of places r)) (sym same) ∙ named)))
 receiver_goes places k from p (Tty t) lives is named = absurd (true≢false (sym is))
 
 -- and to that of its sender

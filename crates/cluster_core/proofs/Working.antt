@@ -372,8 +372,7 @@ module _ (c : ClusterView) (p : Pid) (was : Held) (sending : Sending) (new : Hel
   posted_work =
       let named : sending.pid ≡ p = s.pid_is ∙ now_own in
       let one : Sending = record { pid = p; at = at; emission = e } in
-      let same : sending ≡ one = λ i. record { pid = named i; at = s.at_is i; emission = e } in
-      (
+      let same : sending ≡ one = λ i. record { pid = named i; at = s.at_is i; emission = e } in (
         some_moves c.here p was there (sends_can 64 was sending new s),
         record {
           pid = p;
