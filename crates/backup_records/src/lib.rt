@@ -1,4 +1,4 @@
-//! The records that a cluster keeps of the processes whose backup it has. No cluster uses them yet.
+//! The records that a cluster keeps of the processes whose backup it has.
 #![tactic(auto)]
 
 pub mod by_pid;
