@@ -1,0 +1,4 @@
+mod BootSizes
+mod Found
+mod OneEnd
+mod Waiting
