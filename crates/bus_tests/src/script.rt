@@ -1,7 +1,6 @@
 //! A bus with a script: words for places of the log and for steps, in the order in which they are looked at.
-ghost use Rattle.std.specs.Prelude.{◌≡◌, IfOk, true};
+ghost use Rattle.std.specs.Prelude.{◌≡◌, IfOk};
 ghost use Rattle.std.specs.Arc.{arc_value};
-ghost use Rattle.cert_sched.specs.Built.{is_built_word};
 
 use bus_msg::entry::{By, Cause, Entry, Post, What};
 use bus_order::bus::Bus;
@@ -50,81 +49,65 @@ fn lost_by(entry: Option<&Entry>) -> Option<u8> {
     }
 }
 
-// A cluster that the system has is lost by a word for a step of it; None where no such word is left.
-fn lose(
-    bus: &mut Bus,
-    system: &Arc<System>,
-    k: ClusterNo,
-    step: u64,
-) -> Option<Result<u64, Refused>>
-    requires { bus.old.system ≡ arc_value system.now }
-    ensures { bus.new.system ≡ bus.old.system }
-{
-    if k.0 >= system.clusters || !bus.unused(k, Cause::Step(step)) {
-        return None;
-    }
-    Some(bus.lost(k, Cause::Step(step)))
-}
-
-// A cluster that has seen nothing tells of an exit; None where the log is empty.
-fn offer(bus: &mut Bus, by: ClusterNo) -> Option<Result<u64, Refused>> {
-    if bus.length() == 0 {
-        return None;
-    }
-    Some(bus.transmit(by, 0, &exit_by(by)))
-}
-
-fn at_place(k: u8, place: u64) -> ScriptWord
-    ensures { is_built_word result ≡ true }
-{
-    ScriptWord::CrashAt {
-        k: ClusterNo(k),
-        place,
-    }
-}
-
-fn at_step(k: u8, step: u64) -> ScriptWord
-    ensures { is_built_word result ≡ true }
-{
-    ScriptWord::CrashStep {
-        k: ClusterNo(k),
-        step,
-    }
-}
-
-// Each word for the place 1 is looked at when the log has an entry: cluster 4 is lost first, then cluster 0, and
-// the second word for cluster 4 gives nothing. The word for the place 9 is not reached.
+// Both words for the place 1 are looked at when the log has an entry, in the order of the script.
 #[test]
 fn words_are_looked_at_in_order(rt: HostRuntime) -> Result<(), Fail> {
     let alloc = rt.alloc();
     let script = [
-        at_place(4, 1),
-        at_step(3, 5),
-        at_place(1, 9),
-        at_place(0, 1),
-        at_place(4, 1),
+        ScriptWord::CrashStep {
+            k: ClusterNo(3),
+            step: 5,
+        },
+        ScriptWord::CrashAt {
+            k: ClusterNo(4),
+            place: 1,
+        },
+        ScriptWord::CrashAt {
+            k: ClusterNo(0),
+            place: 1,
+        },
     ];
     let system = shared(alloc, read_system(alloc, FIVE.as_bytes())?)?;
     let mut bus = Bus::boot(alloc, &system, &script)?;
-    assert_eq!(rt; lose(&mut bus, &system, ClusterNo(3), 5), Some(Ok(0)));
-    assert_eq!(rt; lose(&mut bus, &system, ClusterNo(3), 5), None);
+    assert!(rt; system.clusters == 5);
+    assert!(rt; bus.unused(ClusterNo(3), Cause::Step(5)));
+    assert_eq!(rt; bus.lost(ClusterNo(3), Cause::Step(5)), Ok(0));
+    assert_eq!(rt; bus.length(), 1);
+    let answer = bus.transmit(ClusterNo(0), 0, &exit_by(ClusterNo(0)));
+    assert_eq!(rt; answer, Err(Refused::Off { at: 2 }));
     assert_eq!(rt;
-        offer(&mut bus, ClusterNo(0)),
-        Some(Err(Refused::Off { at: 2 }))
+        (lost_by(bus.entry(1)), lost_by(bus.entry(2)), bus.length()),
+        (Some(4), Some(0), 3)
     );
+    Ok(())
+}
+
+// A word for a step is used once. A word for the place 9 is not reached, and a cluster that has seen nothing is behind.
+#[test]
+fn a_word_is_used_once(rt: HostRuntime) -> Result<(), Fail> {
+    let alloc = rt.alloc();
+    let script = [
+        ScriptWord::CrashStep {
+            k: ClusterNo(3),
+            step: 5,
+        },
+        ScriptWord::CrashAt {
+            k: ClusterNo(1),
+            place: 9,
+        },
+    ];
+    let system = shared(alloc, read_system(alloc, FIVE.as_bytes())?)?;
+    let mut bus = Bus::boot(alloc, &system, &script)?;
+    assert!(rt; system.clusters == 5);
+    assert!(rt; bus.unused(ClusterNo(3), Cause::Step(5)));
+    assert_eq!(rt; bus.lost(ClusterNo(3), Cause::Step(5)), Ok(0));
+    assert!(rt; !bus.unused(ClusterNo(3), Cause::Step(5)));
+    assert_eq!(rt; bus.length(), 1);
+    let answer = bus.transmit(ClusterNo(1), 0, &exit_by(ClusterNo(1)));
     assert_eq!(rt;
-        (
-            lost_by(bus.entry(0)),
-            lost_by(bus.entry(1)),
-            lost_by(bus.entry(2))
-        ),
-        (Some(3), Some(4), Some(0))
+        (answer, bus.length()),
+        (Err(Refused::Behind { length: 1 }), 1)
     );
-    assert_eq!(rt;
-        offer(&mut bus, ClusterNo(1)),
-        Some(Err(Refused::Behind { length: 3 }))
-    );
-    assert_eq!(rt; bus.length(), 3);
     Ok(())
 }
 
@@ -132,14 +115,28 @@ fn words_are_looked_at_in_order(rt: HostRuntime) -> Result<(), Fail> {
 #[test]
 fn an_uncovered_loss_ends_the_log(rt: HostRuntime) -> Result<(), Fail> {
     let alloc = rt.alloc();
-    let script = [at_step(0, 5), at_place(1, 1), at_place(2, 1)];
+    let script = [
+        ScriptWord::CrashStep {
+            k: ClusterNo(0),
+            step: 5,
+        },
+        ScriptWord::CrashAt {
+            k: ClusterNo(1),
+            place: 1,
+        },
+        ScriptWord::CrashAt {
+            k: ClusterNo(2),
+            place: 1,
+        },
+    ];
     let system = shared(alloc, read_system(alloc, FIVE.as_bytes())?)?;
     let mut bus = Bus::boot(alloc, &system, &script)?;
-    assert_eq!(rt; lose(&mut bus, &system, ClusterNo(0), 5), Some(Ok(0)));
-    assert_eq!(rt;
-        offer(&mut bus, ClusterNo(0)),
-        Some(Err(Refused::Over { at: 1 }))
-    );
+    assert!(rt; system.clusters == 5);
+    assert!(rt; bus.unused(ClusterNo(0), Cause::Step(5)));
+    assert_eq!(rt; bus.lost(ClusterNo(0), Cause::Step(5)), Ok(0));
+    assert_eq!(rt; bus.length(), 1);
+    let answer = bus.transmit(ClusterNo(0), 0, &exit_by(ClusterNo(0)));
+    assert_eq!(rt; answer, Err(Refused::Over { at: 1 }));
     assert_eq!(rt;
         (bus.length(), bus.is_over(), bus.is_finished()),
         (2, true, false)
