@@ -55,7 +55,7 @@ fn words_are_looked_at_in_order(rt: HostRuntime) -> Result<(), Fail> {
     let alloc = rt.alloc();
     let script = [
         ScriptWord::CrashStep {
-            k: ClusterNo(3),
+            k: ClusterNo(0),
             step: 5,
         },
         ScriptWord::CrashAt {
@@ -63,21 +63,21 @@ fn words_are_looked_at_in_order(rt: HostRuntime) -> Result<(), Fail> {
             place: 1,
         },
         ScriptWord::CrashAt {
-            k: ClusterNo(0),
+            k: ClusterNo(3),
             place: 1,
         },
     ];
     let system = shared(alloc, read_system(alloc, FIVE.as_bytes())?)?;
     let mut bus = Bus::boot(alloc, &system, &script)?;
     assert!(rt; system.clusters == 5);
-    assert!(rt; bus.unused(ClusterNo(3), Cause::Step(5)));
-    assert_eq!(rt; bus.lost(ClusterNo(3), Cause::Step(5)), Ok(0));
+    assert!(rt; bus.unused(ClusterNo(0), Cause::Step(5)));
+    assert_eq!(rt; bus.lost(ClusterNo(0), Cause::Step(5)), Ok(0));
     assert_eq!(rt; bus.length(), 1);
-    let answer = bus.transmit(ClusterNo(0), 0, &exit_by(ClusterNo(0)));
+    let answer = bus.transmit(ClusterNo(3), 0, &exit_by(ClusterNo(3)));
     assert_eq!(rt; answer, Err(Refused::Off { at: 2 }));
     assert_eq!(rt;
         (lost_by(bus.entry(1)), lost_by(bus.entry(2)), bus.length()),
-        (Some(4), Some(0), 3)
+        (Some(4), Some(3), 3)
     );
     Ok(())
 }
@@ -88,7 +88,7 @@ fn a_word_is_used_once(rt: HostRuntime) -> Result<(), Fail> {
     let alloc = rt.alloc();
     let script = [
         ScriptWord::CrashStep {
-            k: ClusterNo(3),
+            k: ClusterNo(0),
             step: 5,
         },
         ScriptWord::CrashAt {
@@ -99,9 +99,9 @@ fn a_word_is_used_once(rt: HostRuntime) -> Result<(), Fail> {
     let system = shared(alloc, read_system(alloc, FIVE.as_bytes())?)?;
     let mut bus = Bus::boot(alloc, &system, &script)?;
     assert!(rt; system.clusters == 5);
-    assert!(rt; bus.unused(ClusterNo(3), Cause::Step(5)));
-    assert_eq!(rt; bus.lost(ClusterNo(3), Cause::Step(5)), Ok(0));
-    assert!(rt; !bus.unused(ClusterNo(3), Cause::Step(5)));
+    assert!(rt; bus.unused(ClusterNo(0), Cause::Step(5)));
+    assert_eq!(rt; bus.lost(ClusterNo(0), Cause::Step(5)), Ok(0));
+    assert!(rt; !bus.unused(ClusterNo(0), Cause::Step(5)));
     assert_eq!(rt; bus.length(), 1);
     let answer = bus.transmit(ClusterNo(1), 0, &exit_by(ClusterNo(1)));
     assert_eq!(rt;
