@@ -9,6 +9,7 @@ use Rattle.std.specs.Option.{option_to_list}
 use Rattle.std.specs.Ordering.{nat_cmp, match_ordering}
 use Rattle.std.specs.declared.cmp.Ordering.{Ordering}
 use Rattle.std.specs.declared.cmp.Ordering.TheVariants.{Less, Equal, Greater}
+use Rattle.std.proofs.lemmas.Bool.{and_parts}
 use Rattle.std.proofs.lemmas.Bool.Decides.{nat_tests}
 use Rattle.t32_base.specs.declared.process.Pid.{Pid}
 use Rattle.t32_base.specs.declared.letter.BackRec.{BackRec}
@@ -300,3 +301,24 @@ left_that test (e ∷ es) ordered = by_test (test e.1) (left_that test es ordere
     by_test : (b : Bool) → values_of (left_after (keys_that test es) es) ≡ others → values_of (left_after (keys_of (cond b (e ∷ passing) passing)) (e ∷ es)) ≡ cond (not b) (e.1 ∷ others) others
     by_test true more = (λ i. values_of (left_after (keys_of passing) (cond (at_own e.0 i) es (e ∷ remove_entry (at e.0) es)))) ∙ more
     by_test false more = ap values_of (first_stays e (keys_of passing) es (keys_above test e.0 es ordered.0)) ∙ ap (λ rs. e.1 ∷ rs) more
+
+-- so are some of them
+above_some : (n : ℕ) (t : BackRec → Bool) (recs : List BackRec) → list_all (λ (s : BackRec). nat_lt n (s.pid).0) recs ≡ true → list_all (λ (s : BackRec). nat_lt n (s.pid).0) (filter t recs) ≡ true
+above_some n t [] above = refl
+above_some n t (r ∷ recs) above =
+    let parts = and_parts (nat_lt n (r.pid).0) (list_all (λ (s : BackRec). nat_lt n (s.pid).0) recs) above in
+    by_test (t r) (above_some n t recs parts.1) parts.0
+  where
+    by_test : (b : Bool) → list_all (λ (s : BackRec). nat_lt n (s.pid).0) (filter t recs) ≡ true → nat_lt n (r.pid).0 ≡ true → list_all (λ (s : BackRec). nat_lt n (s.pid).0) (cond b (r ∷ filter t recs) (filter t recs)) ≡ true
+    by_test true more first = λ i. first i && more i
+    by_test false more first = more
+
+pub rising_some : (t : BackRec → Bool) (recs : List BackRec) → are_rising recs ≡ true → are_rising (filter t recs) ≡ true
+rising_some t [] is = refl
+rising_some t (r ∷ recs) is =
+    let parts = and_parts (list_all (λ (s : BackRec). nat_lt (r.pid).0 (s.pid).0) recs) (are_rising recs) is in
+    by_test (t r) (above_some (r.pid).0 t recs parts.0) (rising_some t recs parts.1)
+  where
+    by_test : (b : Bool) → list_all (λ (s : BackRec). nat_lt (r.pid).0 (s.pid).0) (filter t recs) ≡ true → are_rising (filter t recs) ≡ true → are_rising (cond b (r ∷ filter t recs) (filter t recs)) ≡ true
+    by_test true above more = λ i. above i && more i
+    by_test false above more = more

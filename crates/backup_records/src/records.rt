@@ -115,6 +115,7 @@ impl Records {
     ) -> Result<List<Record>, NoMemory>
         ensures moved { IfOk result (λ moved. moved ≡ filter (moves_here before.now lost here) self.old) }
         ensures stay { OnOk result (self.new ≡ filter (stays before.now lost here) self.old) }
+        ensures rising { IfOk result (λ moved. are_rising moved ≡ true) }
         ensures err { OnErr result (self.new ≡ self.old) }
     {
         let pids = moved_pids(alloc, &self.by_pid, lost, here, before)?;

@@ -14,7 +14,7 @@ use Rattle.bus_msg.specs.declared.entry.Post.{Post}
 use Rattle.bus_msg.specs.declared.entry.Entry.{Entry}
 use Rattle.bus_msg.specs.Places.{same_pid}
 use Rattle.bus_msg.specs.PlacedAfter.{what, placed_after}
-use Rattle.cert_sched.specs.Built.{UnlostMayFollow}
+use Rattle.cert_sched.specs.Built.{BuiltMayFollow}
 use Rattle.cert_sched.specs.Deeds.{is_end_of}
 use Rattle.cert_sched.specs.Losses.{is_by_cluster, is_crash_of}
 use Rattle.cert_sched.specs.Rests.{is_idle, IsRestOf}
@@ -24,6 +24,7 @@ use Rattle.backup_records.specs.Records.{records_after}
 use Rattle.cluster_core.specs.View.{ClusterView, Held, Runs, Rolls, Waits, arrived_held, held_at, steps_of_held, next_count, counted_once}
 use Rattle.cluster_core.specs.Quantum.{Moves, Sends, post_told}
 use Rattle.cluster_core.specs.Residents.{with_changed}
+use Rattle.cluster_core.specs.Recovered.{left_by, moved_by, with_all_recovered}
 use Rattle.cluster_core.specs.Follows.{FollowsBuilt, IsOpen, StandsBetween}
 
 -- ---- the start
@@ -42,12 +43,12 @@ pub record IsFirst (system : System) (number : ClusterNo) (c : ClusterView) : Ty
 -- the cluster follows some log that goes on
 pub record FollowsSome (c : ClusterView) : Type 0 where
   pub log : List Entry
-  pub open_log : IsOpen UnlostMayFollow c.system log
+  pub open_log : IsOpen BuiltMayFollow c.system log
   pub follows : FollowsBuilt c.system log c
 
 -- every log that the cluster followed it follows still
 abbrev pub GoesOn : ClusterView → ClusterView → Type 0
-GoesOn old new = (log : List Entry) → IsOpen UnlostMayFollow old.system log → FollowsBuilt old.system log old → FollowsBuilt old.system log new
+GoesOn old new = (log : List Entry) → IsOpen BuiltMayFollow old.system log → FollowsBuilt old.system log old → FollowsBuilt old.system log new
 
 -- the cluster follows the log, and the entry is not its own; or it has sent the entry, its last post, and follows it next
 abbrev pub IsReady : List Entry → Entry → ClusterView → Type 0
@@ -58,14 +59,14 @@ IsReady log e c =
 -- the entry is the next one of some log, for which the cluster is ready
 pub record ReadyFor (e : Entry) (c : ClusterView) : Type 0 where
   pub log : List Entry
-  pub open_log : IsOpen UnlostMayFollow c.system log
-  pub open_next : IsOpen UnlostMayFollow c.system (log ++ e ∷ [])
+  pub open_log : IsOpen BuiltMayFollow c.system log
+  pub open_next : IsOpen BuiltMayFollow c.system (log ++ e ∷ [])
   pub ready : IsReady log e c
 
 -- after the entry the cluster follows the log with it, whichever log it was
 abbrev pub Absorbs : Entry → ClusterView → ClusterView → Type 0
 Absorbs e old new =
-    (log : List Entry) → IsOpen UnlostMayFollow old.system log → IsOpen UnlostMayFollow old.system (log ++ e ∷ []) → IsReady log e old →
+    (log : List Entry) → IsOpen BuiltMayFollow old.system log → IsOpen BuiltMayFollow old.system (log ++ e ∷ []) → IsReady log e old →
     FollowsBuilt old.system (log ++ e ∷ []) new
 
 -- a letter to an end of a process that is here arrives
@@ -78,13 +79,13 @@ here_after (Mail at letter) here = with_letter letter here
 here_after (Exit pid at end) here = filter (λ (e : Pid × Held). not (same_pid e.0 pid)) here
 here_after w here = here
 
--- the cluster with one more entry of the log taken in, by one kernel step
+-- the cluster with one more entry of the log taken in, by one kernel step; at the loss of another it has the processes that this moves here, and no record of them
 abbrev pub absorbed : ClusterView → Entry → ClusterView
 absorbed c e = record c {
   cursor = c.cursor + 1;
   places = placed_after c.places (what e);
-  here = here_after (what e) c.here;
-  records = records_after (what e) c.records;
+  here = with_all_recovered c.system (moved_by c.places c.number (what e) (records_after (what e) c.records)) (here_after (what e) c.here);
+  records = left_by c.places c.number (what e) (records_after (what e) c.records);
   steps = next_count c.steps;
 }
 
@@ -112,7 +113,7 @@ rests_of c = rests_in c.here
 
 -- where nothing is to be sent, these are the processes that rest here, in each log that the cluster follows
 abbrev pub RestsIn : ClusterView → List (Pid × ℕ) → Type 0
-RestsIn c rests = c.queue ≡ [] → (log : List Entry) → IsOpen UnlostMayFollow c.system log → FollowsBuilt c.system log c → IsRestOf c.system log c.number rests
+RestsIn c rests = c.queue ≡ [] → (log : List Entry) → IsOpen BuiltMayFollow c.system log → FollowsBuilt c.system log c → IsRestOf c.system log c.number rests
 
 -- one process made 1 to 64 steps, of which none sent anything that was not withheld, and nothing else changed
 pub record MovedOne (old new : ClusterView) : Type 0 where

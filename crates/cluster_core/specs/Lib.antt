@@ -1,6 +1,7 @@
 pub mod View
 pub mod Quantum
 pub mod Resident
+pub mod Recovered
 pub mod Residents
 pub mod Work
 pub mod Parts

@@ -10,6 +10,7 @@ ghost use Rattle.cluster_core.specs.Calls.{Absorbs, absorbed, FollowsSome, GoesO
 use crate::absorb::{note, tell};
 use crate::booting::parts_at_boot;
 use crate::residents::Residents;
+use crate::taking_over::take_over;
 use crate::work::work_on;
 use crate::worked::Worked;
 use backup_records::records::Records;
@@ -144,8 +145,9 @@ impl Cluster {
 
     /// Takes in the next entry of the log: a letter arrives at the process here whose end it is for, and a
     /// process that ended is let go; the record of the receiver saves the letter, that of the sender counts it,
-    /// and the record of a process that ended goes. After want of memory nothing is said of the cluster but that it can be
-    /// dropped.
+    /// and the record of a process that ended goes. At the loss of another cluster the processes that this moves here
+    /// begin again from their records, which are kept no more. After want of memory nothing is said of the cluster but
+    /// that it can be dropped.
     pub fn absorb(&mut self, entry: &Entry) -> Result<(), NoMemory>
         requires room { self.old.cursor < 2 ^ 64 - 1 }
         requires ready { ReadyFor entry.now self.old }
@@ -154,6 +156,15 @@ impl Cluster {
     {
         note(self.number, &mut self.records, entry)?;
         tell(self.number, &mut self.here, entry)?;
+        take_over(
+            self.alloc,
+            &self.system,
+            self.number,
+            &self.places,
+            &mut self.records,
+            &mut self.here,
+            entry,
+        )?;
         self.cursor += 1;
         self.places.note(entry);
         self.count_step();

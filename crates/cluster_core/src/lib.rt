@@ -8,5 +8,6 @@ pub mod quantum;
 pub mod resident;
 mod residents;
 pub mod steps_left;
+mod taking_over;
 mod work;
 pub mod worked;
