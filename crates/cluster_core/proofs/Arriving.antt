@@ -1,5 +1,5 @@
 -- A letter for a process that is here goes to this cluster.
-use Rattle.std.proofs.Common.{◌≡◌, ℕ, ◌<◌, refl, sym, ◌∙◌, ap, subst, arith, List, [], ◌∷◌, ◌++◌, Bool, true, false, cond, eqb, eqb-true, inl, inr, Option, Some, true≢false}
+use Rattle.std.proofs.Common.{◌≡◌, ◌⊎◌, ℕ, refl, sym, ◌∙◌, ap, subst, arith, List, [], ◌∷◌, ◌++◌, Bool, true, false, cond, eqb, eqb-true, inl, inr, Option, Some, true≢false}
 use Rattle.std.specs.Prelude.{◌^◌, bit_or, find, option_map}
 use Rattle.std.specs.Option.{option_map_or}
 use Rattle.std.specs.Int.{bit_at}
@@ -18,20 +18,20 @@ use Rattle.bus_msg.specs.declared.placed.Placed.{Placed}
 use Rattle.bus_msg.specs.Places.{Places, lives_in, same_pid}
 use Rattle.bus_msg.specs.PlacedAfter.{what}
 use Rattle.bus_msg.specs.Route.{backup_of, bits_of, letter_dests, route}
-use Rattle.cert_sched.specs.Built.{is_unlost}
+use Rattle.cert_sched.specs.Built.{BuiltMayFollow, is_unlost}
 use Rattle.cert_sched.specs.Deeds.{is_end_of}
 use Rattle.cert_sched.specs.Parts.{rising}
 use Rattle.cert_sched.specs.Rests.{home_pids}
 use Rattle.cert_sched.specs.Schedule.{placement}
+use Rattle.cert_sched.proofs.LogLaws.{IsLegal-last}
 use Rattle.cluster_core.specs.Absorbing.{ComesHere, goes_to, is_letter_for}
 use Rattle.cluster_core.specs.Calls.{IsReady, ReadyFor, here_after}
 use Rattle.cluster_core.specs.Residents.{pids_in}
 use Rattle.cluster_core.specs.View.{ClusterView, Held, arrived_held, held_of}
 use Rattle.cluster_core.proofs.Following.{Next, left_of, next_of}
 use Rattle.cluster_core.proofs.Here.{is_among, pid_same, same_itself}
-use Rattle.cluster_core.proofs.Homes.{HomeHere, differ_built, home_here}
-use Rattle.cluster_core.proofs.ByKind.{by_kind}
-use Rattle.cluster_core.proofs.Working.{lives_built}
+use Rattle.cluster_core.proofs.Homes.{HomeHere, differ_built, home_here, home_lives}
+use Rattle.cluster_core.proofs.ByKind.{IsLoss, by_kind, loss_or_none}
 
 -- ---- a letter that goes elsewhere
 
@@ -82,19 +82,23 @@ entry_comes places k p w lives home =
 
 -- ---- the entry for which a cluster is ready
 
-comes_of : (system : System) (log : List Entry) (e : Entry) (k : ClusterNo) (here : List (Pid × Held)) → is_system system ≡ true → k.0 < system.clusters → Next system log e
+comes_of : (system : System) (log : List Entry) (e : Entry) (k : ClusterNo) (here : List (Pid × Held)) → is_system system ≡ true → Next system log e
     → rising (pids_in here) ≡ rising (home_pids system log k) → ComesHere k e here
-comes_of system log e k here valid has n once p h there is =
+comes_of system log e k here valid n once p h there is =
     let home = home_here (placement system log) k (pids_in here) p (differ_built system log valid n.legal) once (is_among here p h there) in
-    ap (λ dests. goes_to dests k) ((((n.may).stands).placed).1) ∙ entry_comes (placement system log) k p (what e) (lives_built system log k n.legal has) home (n.may).built is
+    ap (λ dests. goes_to dests k) ((((n.may).stands).placed).1) ∙ entry_comes (placement system log) k p (what e) (home_lives system log p k valid n.legal n.before home) home (n.may).built is
 
-pub comes_here : (c : ClusterView) (e : Entry) → is_system c.system ≡ true → (c.number).0 < (c.system).clusters → ReadyFor e c → ComesHere c.number e c.here
-comes_here c e valid has r = by_case (next_of c.system r.log e r.open_log r.open_next) r.ready
+pub comes_here : (c : ClusterView) (e : Entry) → is_system c.system ≡ true → ReadyFor e c → ComesHere c.number e c.here
+comes_here c e valid r = by_loss (loss_or_none (what e) (IsLegal-last BuiltMayFollow c.system r.log e r.open_next.0).built)
   where
     by_case : Next c.system r.log e → IsReady r.log e c → ComesHere c.number e c.here
-    by_case n (inl f) = comes_of c.system r.log e c.number c.here valid has n ((f.0).processes).each_once
+    by_case n (inl f) = comes_of c.system r.log e c.number c.here valid n ((f.0).processes).each_once
     by_case n (inr s) =
         let l = left_of c r.log e (n.may).built s.1 s.0 in
         let here_is : (l.before).here ≡ c.here = sym (ap (λ (d : ClusterView). d.here) l.same) in
         let number : (l.before).number ≡ c.number = sym (ap (λ (d : ClusterView). d.number) l.same) in
-        comes_of c.system r.log e c.number c.here valid has n (ap (λ hs. rising (pids_in hs)) (sym here_is) ∙ ((l.followed).processes).each_once ∙ ap (λ k. rising (home_pids c.system r.log k)) number)
+        comes_of c.system r.log e c.number c.here valid n (ap (λ hs. rising (pids_in hs)) (sym here_is) ∙ ((l.followed).processes).each_once ∙ ap (λ k. rising (home_pids c.system r.log k)) number)
+
+    by_loss : (is_unlost (what e) ≡ true) ⊎ IsLoss (what e) → ComesHere c.number e c.here
+    by_loss (inl unlost) = by_case (next_of c.system r.log e unlost r.open_log r.open_next) r.ready
+    by_loss (inr loss) = λ p h there is. absurd (true≢false (sym is ∙ ap (is_letter_for p) loss.same))

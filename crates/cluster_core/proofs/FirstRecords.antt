@@ -16,7 +16,7 @@ use Rattle.sys_text.specs.declared.system.System.{System}
 use Rattle.sys_text.specs.Valid.{is_system}
 use Rattle.proc_state.specs.declared.process.Process.{Process}
 use Rattle.proc_state.specs.State.{ProcState, state_of}
-use Rattle.plain_kernel.specs.Kernel.{Kernel, boot, pid_cmp, process_at}
+use Rattle.plain_kernel.specs.Kernel.{boot, pid_cmp, process_at}
 use Rattle.plain_kernel.specs.Maps.{at_key, linked_processes, pid_of}
 use Rattle.plain_kernel.specs.Maps.{processes_of as states_of}
 use Rattle.plain_kernel.proofs.Entries.{lookup_state}

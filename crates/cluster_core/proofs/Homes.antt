@@ -6,19 +6,21 @@ use Rattle.std.proofs.lemmas.Bool.{and_parts}
 use Rattle.t32_base.specs.declared.process.Pid.{Pid}
 use Rattle.t32_base.specs.declared.process.ClusterNo.{ClusterNo}
 use Rattle.bus_msg.specs.declared.placed.Placed.{Placed}
-use Rattle.bus_msg.specs.Places.{Places, same_pid, same_cluster, is_at_home, unended_at}
+use Rattle.bus_msg.specs.Places.{Places, lives_in, same_pid, same_cluster, is_at_home, unended_at}
 use Rattle.bus_msg.specs.PlacedAfter.{after_exit}
 use Rattle.channel_table.specs.Changes.{pids_differ}
 use Rattle.cert_sched.specs.Parts.{rising}
 use Rattle.sys_text.specs.declared.system.System.{System}
 use Rattle.sys_text.specs.Valid.{is_system}
 use Rattle.bus_msg.specs.declared.entry.Entry.{Entry}
-use Rattle.cert_sched.specs.Built.{UnlostMayFollow}
+use Rattle.cert_sched.specs.Built.{BuiltMayFollow}
 use Rattle.cert_sched.specs.Legal.{IsLegalBy}
-use Rattle.cert_sched.specs.Schedule.{placement, places_at_boot}
-use Rattle.cert_sched.proofs.UnlostLaws.{Kept, unlost_kept, kept}
-use Rattle.cert_sched.proofs.RisingLaws.{rising-any}
-use Rattle.cert_sched.proofs.RootPids.{root_pids_differ}
+use Rattle.cert_sched.specs.Rules.{is_over}
+use Rattle.cert_sched.specs.Schedule.{placement}
+use Rattle.cert_sched.proofs.LiveLaws.{homes_live}
+use Rattle.cert_sched.proofs.PidLaws.{placed_pids}
+use Rattle.cert_sched.proofs.RisingLaws.{NoTwo, rising-any}
+use Rattle.cert_sched.proofs.RollLaws.{all_roll, two_apart}
 
 -- ---- the pids at home
 
@@ -26,7 +28,7 @@ abbrev pub pids_home : ClusterNo → List Placed → List ℕ
 pids_home k qs = map (λ (q : Placed). (q.pid).0) (filter (is_at_home k) qs)
 
 -- one more process
-home_more : (k : ClusterNo) (q : Placed) (qs : List Placed) → pids_home k (q ∷ qs) ≡ cond (is_at_home k q) ((q.pid).0 ∷ pids_home k qs) (pids_home k qs)
+pub home_more : (k : ClusterNo) (q : Placed) (qs : List Placed) → pids_home k (q ∷ qs) ≡ cond (is_at_home k q) ((q.pid).0 ∷ pids_home k qs) (pids_home k qs)
 home_more k q qs = by_test (is_at_home k q)
   where
     by_test : (b : Bool) → map (λ (q : Placed). (q.pid).0) (cond b (q ∷ filter (is_at_home k) qs) (filter (is_at_home k) qs)) ≡ cond b ((q.pid).0 ∷ pids_home k qs) (pids_home k qs)
@@ -94,22 +96,25 @@ home_here places k ns p differ same here =
 
 -- ---- that no pid stands twice
 
-abbrev differ_in : List Kept → Bool
-differ_in [] = true
-differ_in (k ∷ ks) = not (list_any (λ (j : Kept). same_pid j.pid k.pid) ks) && differ_in ks
-
-differ_kept : (qs : List Placed) → pids_differ qs ≡ differ_in (map kept qs)
-differ_kept [] = refl
-differ_kept (q ∷ qs) = λ i. not (any_kept q.pid qs i) && differ_kept qs i
+differ_of : (qs : List Placed) → NoTwo (placed_pids qs) → pids_differ qs ≡ true
+differ_of [] two = refl
+differ_of (q ∷ qs) two = λ i. not ((any_placed qs ∙ two.0) i) && differ_of qs two.1 i
   where
-    any_kept : (p : Pid) (qs : List Placed) → list_any (λ (r : Placed). same_pid r.pid p) qs ≡ list_any (λ (j : Kept). same_pid j.pid p) (map kept qs)
-    any_kept p [] = refl
-    any_kept p (q ∷ qs) = ap (λ b. same_pid q.pid p || b) (any_kept p qs)
+    any_placed : (rs : List Placed) → list_any (λ (r : Placed). same_pid r.pid q.pid) rs ≡ list_any (λ m. eqb m (q.pid).0) (placed_pids rs)
+    any_placed [] = refl
+    any_placed (r ∷ rs) = ap (λ b. same_pid r.pid q.pid || b) (any_placed rs)
 
--- so it is at boot, and no entry that is built places a process
-pub differ_built : (system : System) (log : List Entry) → is_system system ≡ true → IsLegalBy UnlostMayFollow system log → pids_differ (placement system log).placed ≡ true
-differ_built system log valid legal =
-    differ_kept (placement system log).placed ∙ ap differ_in (unlost_kept system log legal) ∙ sym (differ_kept (places_at_boot system).placed) ∙ root_pids_differ system valid
+-- so it is in each log that is built
+pub differ_built : (system : System) (log : List Entry) → is_system system ≡ true → IsLegalBy BuiltMayFollow system log → pids_differ (placement system log).placed ≡ true
+differ_built system log valid legal = differ_of (placement system log).placed (two_apart system log (all_roll BuiltMayFollow (λ system log e may. may.stands) system log valid legal))
+
+-- ---- who is at home lives
+
+-- a cluster lives in which a process is at home, while the log goes on
+pub home_lives : (system : System) (log : List Entry) (p : Pid) (k : ClusterNo) → is_system system ≡ true → IsLegalBy BuiltMayFollow system log → is_over system log ≡ false → HomeHere (placement system log) p k → lives_in (placement system log) k ≡ true
+home_lives system log p k valid legal goes_on here =
+    let same : (here.placed).home ≡ k = λ i. record { 0 = eqb-true ((here.placed).home).0 k.0 here.home i } in
+    ap (lives_in (placement system log)) (sym same) ∙ homes_live BuiltMayFollow (λ system log e may. may.stands) system log valid legal goes_on p here.placed here.found
 
 -- ---- an exit
 

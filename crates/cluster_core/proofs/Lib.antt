@@ -6,6 +6,14 @@ pub mod Slots
 pub mod Kept
 pub mod Choosing
 pub mod Homes
+mod MovedRecords
+mod RecoveredHere
+mod HomesMoved
+mod QuietSaved
+mod Moving
+mod Recovering
+mod BackupsLive
+mod Losing
 pub mod Passing
 pub mod Booted
 pub mod Following
@@ -14,6 +22,7 @@ mod Catching
 pub mod Working
 pub mod Resting
 pub mod Turning
+mod Absorbed
 pub mod Lightening
 pub mod WorkedViews
 pub mod Arriving

@@ -1,5 +1,5 @@
 -- A cluster that works has fewer steps left.
-use Rattle.std.proofs.Common.{◌≡◌, ℕ, ◌+◌, ◌≤◌, refl, sym, ◌∙◌, ap, subst, arith, List, [], ◌∷◌, map, Bool, true, false, cond, ◌||◌, eqb, ltb, eqb-true, eq-eqb, true≢false, Some}
+use Rattle.std.proofs.Common.{◌≡◌, ℕ, ◌+◌, ◌≤◌, refl, sym, ◌∙◌, ap, subst, arith, List, [], ◌∷◌, Bool, true, false, cond, ◌||◌, eqb, ltb, eqb-true, eq-eqb, true≢false, Some}
 use Rattle.std.specs.Prelude.{find, option_map}
 use Rattle.std.specs.List.{list_any, sum_by}
 use Rattle.std.proofs.lemmas.List.Sums.{sum_by-cons}
@@ -12,17 +12,15 @@ use Rattle.proc_state.specs.State.{state_of}
 use Rattle.sys_calls.specs.Small.{weight}
 use Rattle.sys_calls.proofs.Weighing.{emits_leaves, silently_leaves}
 use Rattle.bus_msg.specs.declared.entry.Entry.{Entry}
-use Rattle.bus_msg.specs.declared.placed.Placed.{Placed}
 use Rattle.bus_msg.specs.Places.{same_pid, is_at_home}
-use Rattle.cert_sched.specs.Built.{UnlostMayFollow}
+use Rattle.cert_sched.specs.Built.{BuiltMayFollow}
 use Rattle.cert_sched.specs.Legal.{IsLegalBy}
 use Rattle.cert_sched.specs.Parts.{put_rising, rising}
 use Rattle.cert_sched.specs.Rests.{home_pids}
-use Rattle.cert_sched.specs.Schedule.{placement, places_at_boot}
-use Rattle.cert_sched.proofs.UnlostLaws.{Kept, unlost_kept, kept}
-use Rattle.cert_sched.proofs.PidLaws.{apart_fewer, apart_of, placed_pids}
+use Rattle.cert_sched.specs.Schedule.{placement}
+use Rattle.cert_sched.proofs.PidLaws.{apart_fewer}
 use Rattle.cert_sched.proofs.RisingLaws.{NoTwo, either_not, rising-any, rising-apart}
-use Rattle.cert_sched.proofs.RootPids.{root_pids_differ}
+use Rattle.cert_sched.proofs.RollLaws.{all_roll, two_apart}
 use Rattle.cluster_core.specs.declared.worked.Worked.TheVariants.{Moved, Queued}
 use Rattle.roll_forward.proofs.RolledLaws.{rolled_keeps}
 use Rattle.cluster_core.specs.View.{ClusterView, Held, Runs, Rolls, Waits, held_load, held_of, load}
@@ -72,18 +70,9 @@ apart_unsorted (x ∷ xs) two =
     let parts = put_two x (rising xs) two in
     (sym (rising-any (λ m. eqb m x) xs) ∙ parts.0, apart_unsorted xs parts.1)
 
-abbrev kept_pids : List Kept → List ℕ
-kept_pids ks = map (λ (k : Kept). (k.pid).0) ks
-
-pids_kept : (qs : List Placed) → kept_pids (map kept qs) ≡ placed_pids qs
-pids_kept [] = refl
-pids_kept (q ∷ qs) = ap (λ ns. (q.pid).0 ∷ ns) (pids_kept qs)
-
-homes_apart : (system : System) (log : List Entry) (k : ClusterNo) → is_system system ≡ true → IsLegalBy UnlostMayFollow system log → NoTwo (home_pids system log k)
+homes_apart : (system : System) (log : List Entry) (k : ClusterNo) → is_system system ≡ true → IsLegalBy BuiltMayFollow system log → NoTwo (home_pids system log k)
 homes_apart system log k valid legal =
-    let same : placed_pids (placement system log).placed ≡ placed_pids (places_at_boot system).placed =
-    sym (pids_kept (placement system log).placed) ∙ ap kept_pids (unlost_kept system log legal) ∙ pids_kept (places_at_boot system).placed in
-    apart_fewer (is_at_home k) (placement system log).placed (subst NoTwo (sym same) (apart_of (places_at_boot system).placed (root_pids_differ system valid)))
+    apart_fewer (is_at_home k) (placement system log).placed (two_apart system log (all_roll BuiltMayFollow (λ system log e may. may.stands) system log valid legal))
 
 pub held_apart : (c : ClusterView) → is_system c.system ≡ true → FollowsSome c → NoTwo (pids_in c.here)
 held_apart c valid f =

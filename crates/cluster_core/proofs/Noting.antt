@@ -1,6 +1,6 @@
 -- The entry for which a cluster is ready may be noted in its records, and leaves them as they are where it does not go to the cluster.
-use Rattle.std.proofs.Common.{◌≡◌, ℕ, zero, suc, ◌+◌, ◌≤◌, ◌<◌, refl, sym, ◌∙◌, ap, arith, List, [], ◌∷◌, ◌++◌, length, map, Bool, true, false, cond, not, ◌||◌, eqb, eqb-true, eq-eqb, Option, Some, None, is_some, slice_get, true≢false, inl, inr, ◌-◌, subst}
-use Rattle.std.specs.Prelude.{◌^◌, bit_or, find, filter}
+use Rattle.std.proofs.Common.{◌≡◌, ◌⊎◌, ℕ, zero, suc, ◌+◌, ◌≤◌, ◌<◌, refl, sym, ◌∙◌, ap, arith, List, [], ◌∷◌, ◌++◌, length, map, Bool, true, false, cond, ◌||◌, eqb, eqb-true, Option, Some, None, is_some, slice_get, true≢false, inl, inr, ◌-◌, subst}
+use Rattle.std.specs.Prelude.{◌^◌, bit_or}
 use Rattle.std.specs.Option.{option_map_or}
 use Rattle.std.specs.Int.{bit_at}
 use Rattle.std.specs.List.{list_any, range_with_len}
@@ -10,33 +10,33 @@ use Rattle.std.proofs.lemmas.Option.{slice_get_within}
 use Rattle.std.proofs.lemmas.Bool.Decides.{nat_tests}
 use Rattle.t32_base.specs.declared.process.Pid.{Pid}
 use Rattle.t32_base.specs.declared.process.ClusterNo.{ClusterNo}
+use Rattle.t32_base.specs.declared.process.End.{End}
 use Rattle.t32_base.specs.declared.letter.Letter.{Letter}
 use Rattle.t32_base.specs.declared.letter.BackRec.{BackRec}
 use Rattle.t32_base.specs.declared.letter.To.{To}
 use Rattle.t32_base.specs.declared.letter.To.TheVariants.{Proc, Tty}
 use Rattle.sys_text.specs.declared.system.System.{System}
 use Rattle.sys_text.specs.Valid.{is_system}
-use Rattle.bus_msg.specs.declared.entry.What.{What}
 use Rattle.bus_msg.specs.declared.entry.What.TheVariants.{Mail, Exit}
 use Rattle.bus_msg.specs.declared.entry.Entry.{Entry}
 use Rattle.bus_msg.specs.declared.placed.Placed.{Placed}
 use Rattle.bus_msg.specs.Places.{Places, ClusterPlace, lives_in, same_pid, same_cluster, is_cluster, unended_at, all_clusters, cluster_no}
 use Rattle.bus_msg.specs.PlacedAfter.{what}
 use Rattle.bus_msg.specs.Route.{backup_of, home_of, bits_of, letter_dests, route, to_list, to_all}
-use Rattle.cert_sched.specs.Built.{is_unlost}
+use Rattle.cert_sched.specs.Built.{BuiltMayFollow, is_unlost}
 use Rattle.cert_sched.specs.Schedule.{placement}
 use Rattle.cert_sched.specs.Record.{backup_record}
-use Rattle.backup_records.specs.Records.{CanNote, record_in, record_after, records_after, is_receiver, saved_by_receiver, with_saved, with_counted}
+use Rattle.backup_records.specs.Records.{CanNote, record_in, record_after, records_after, is_receiver, with_saved, with_counted}
 use Rattle.record_laws.specs.Kept.{KeepsRecords, has_backup_in}
 use Rattle.record_laws.proofs.BuiltLaws.{built_can_note}
-use Rattle.cert_sched.proofs.UnlostLaws.{legal_unlost}
+use Rattle.cert_sched.proofs.LogLaws.{IsLegal-last}
 use Rattle.cluster_core.specs.View.{ClusterView}
 use Rattle.cluster_core.specs.Calls.{IsReady, ReadyFor}
 use Rattle.cluster_core.specs.Absorbing.{IsNotedHere, goes_to}
 use Rattle.cluster_core.proofs.Here.{pid_same, same_itself}
-use Rattle.cluster_core.proofs.ByKind.{by_kind}
-use Rattle.cluster_core.proofs.Following.{Next, left_of, next_of}
-use Rattle.cluster_core.proofs.Working.{lives_built}
+use Rattle.cluster_core.proofs.ByKind.{IsLoss, by_kind, loss_or_none}
+use Rattle.cluster_core.proofs.Following.{left_of, own_is_unlost}
+use Rattle.cluster_core.proofs.BackupsLive.{BackupsLive, backups_live}
 
 -- ---- the clusters that an entry goes to
 
@@ -130,6 +130,18 @@ sender_goes places k from (Proc q end) lives named =
     ∙ or_last (list_any (λ j. same_cluster j k) (home_of places q ++ backup_of places q)) _ named)
 sender_goes places k from (Tty t) lives named = named_goes places k (backup_of places from) lives named
 
+-- a cluster that has the backup of a process lives
+backup_lives : (system : System) (log : List Entry) (k : ClusterNo) (p : Pid) → BackupsLive (placement system log) → has_backup_in system log k p ≡ true → lives_in (placement system log) k ≡ true
+backup_lives system log k p live here = by_placed (unended_at (placement system log) p) refl here
+  where
+    by_backup : (q : Placed) (o : Option ClusterNo) → unended_at (placement system log) p ≡ Some q → q.backup ≡ o → is_cluster o k ≡ true → lives_in (placement system log) k ≡ true
+    by_backup q None there is at = absurd (true≢false (sym at))
+    by_backup q (Some b) there is at = let same : b ≡ k = λ i. record { 0 = eqb-true b.0 k.0 at i } in ap (lives_in (placement system log)) (sym same) ∙ live p q b there is
+
+    by_placed : (o : Option Placed) → unended_at (placement system log) p ≡ o → option_map_or (λ (q : Placed). is_cluster q.backup k) o false ≡ true → lives_in (placement system log) k ≡ true
+    by_placed None there at = absurd (true≢false (sym at))
+    by_placed (Some q) there at = by_backup q q.backup there refl at
+
 -- ---- the records that are left as they are
 
 -- what leaves each record of such a process as it is leaves them all
@@ -151,9 +163,9 @@ backed system log k recs keeps p there = by_test (has_backup_in system log k p) 
     by_test true h = refl
     by_test false h = absurd (true≢false (sym h))
 
-letter_left : (system : System) (log : List Entry) (k : ClusterNo) (recs : List BackRec) (at : ℕ) (letter : Letter) → lives_in (placement system log) k ≡ true → KeepsRecords system log k recs
+letter_left : (system : System) (log : List Entry) (k : ClusterNo) (recs : List BackRec) (at : ℕ) (letter : Letter) → BackupsLive (placement system log) → KeepsRecords system log k recs
     → goes_to (letter_dests (placement system log) letter.from letter.to) k ≡ false → map (record_after (Mail at letter)) recs ≡ recs
-letter_left system log k recs at letter lives keeps elsewhere = all_left (has_backup_in system log k) (record_after (Mail at letter)) recs (backed system log k recs keeps) one
+letter_left system log k recs at letter live keeps elsewhere = all_left (has_backup_in system log k) (record_after (Mail at letter)) recs (backed system log k recs keeps) one
   where
     places : Places
     places = placement system log
@@ -163,6 +175,9 @@ letter_left system log k recs at letter lives keeps elsewhere = all_left (has_ba
       where
         named : list_any (λ j. same_cluster j k) (backup_of places r.pid) ≡ true
         named = backup_named places k r.pid here
+
+        lives : lives_in places k ≡ true
+        lives = backup_lives system log k r.pid live here
 
         by_sender : (b : Bool) → same_pid letter.from r.pid ≡ b → cond b (with_counted letter r) r ≡ r
         by_sender true is =
@@ -175,13 +190,28 @@ letter_left system log k recs at letter lives keeps elsewhere = all_left (has_ba
         by_receiver false is =
             ap (λ b. let saved : BackRec = cond b (with_saved letter r) r in cond (same_pid letter.from saved.pid) (with_counted letter saved) saved) is ∙ by_sender (same_pid letter.from r.pid) refl
 
--- where an entry does not go to a cluster that lives, it leaves the records there as they are
-pub noted_here : (system : System) (log : List Entry) (e : Entry) (k : ClusterNo) (recs : List BackRec) → e.dests ≡ route (placement system log) (what e) → is_unlost (what e) ≡ true → lives_in (placement system log) k ≡ true
+-- an exit goes to each cluster that lives, and one that does not has no records
+exit_left : (system : System) (log : List Entry) (k : ClusterNo) (recs : List BackRec) (pid : Pid) (at : ℕ) (end : End) → BackupsLive (placement system log) → KeepsRecords system log k recs
+    → goes_to (to_all (placement system log)) k ≡ false → records_after (Exit pid at end) recs ≡ recs
+exit_left system log k recs pid at end live keeps elsewhere = by_first recs refl
+  where
+    places : Places
+    places = placement system log
+
+    by_first : (rs : List BackRec) → recs ≡ rs → records_after (Exit pid at end) recs ≡ recs
+    by_first [] is = ap (records_after (Exit pid at end)) is ∙ sym is
+    by_first (r ∷ rest) is =
+        let there : is_some (record_in recs r.pid) ≡ true = ap (λ rs. is_some (record_in rs r.pid)) is ∙ ap (λ b. is_some (cond b (Some r) (record_in rest r.pid))) (same_itself r.pid) in
+        let lives = backup_lives system log k r.pid live (backed system log k recs keeps r.pid there) in
+        absurd (true≢false (sym (named_goes places k (all_clusters places) lives (all_named places k lives)) ∙ elsewhere))
+
+-- where an entry does not go to a cluster, it leaves the records there as they are
+pub noted_here : (system : System) (log : List Entry) (e : Entry) (k : ClusterNo) (recs : List BackRec) → e.dests ≡ route (placement system log) (what e) → is_unlost (what e) ≡ true → BackupsLive (placement system log)
     → KeepsRecords system log k recs → IsNotedHere k e recs
-noted_here system log e k recs routed unlost lives keeps elsewhere =
+noted_here system log e k recs routed unlost live keeps elsewhere =
     by_kind (λ w. goes_to (route (placement system log) w) k ≡ false → records_after w recs ≡ recs)
-    (λ at letter away. letter_left system log k recs at letter lives keeps away)
-    (λ pid at end away. absurd (true≢false (sym (named_goes (placement system log) k (all_clusters (placement system log)) lives (all_named (placement system log) k lives)) ∙ away)))
+    (λ at letter away. letter_left system log k recs at letter live keeps away)
+    (λ pid at end away. exit_left system log k recs pid at end live keeps away)
     (λ rests away. refl) (λ away. refl) (what e) unlost (ap (λ dests. goes_to dests k) (sym routed) ∙ elsewhere)
 
 -- ---- the entry for which a cluster is ready
@@ -191,10 +221,10 @@ record Kept (c : ClusterView) (log : List Entry) : Type 0 where
   pub cursor : c.cursor ≡ length log
   pub records : KeepsRecords c.system log c.number c.records
 
-kept_of : (c : ClusterView) (log : List Entry) (e : Entry) (n : Next c.system log e) → IsReady log e c → Kept c log
-kept_of c log e n (inl f) = record { cursor = ((f.0).log).cursor; records = (f.0).records }
-kept_of c log e n (inr s) =
-    let l = left_of c log e (n.may).built s.1 s.0 in
+kept_of : (c : ClusterView) (log : List Entry) (e : Entry) → IsReady log e c → Kept c log
+kept_of c log e (inl f) = record { cursor = ((f.0).log).cursor; records = (f.0).records }
+kept_of c log e (inr s) =
+    let l = left_of c log e (own_is_unlost c log e s.0) s.1 s.0 in
     let number : (l.before).number ≡ c.number = sym (ap (λ (d : ClusterView). d.number) l.same) in
     record {
       cursor = ap (λ (d : ClusterView). d.cursor) l.same ∙ ((l.followed).log).cursor;
@@ -204,12 +234,16 @@ kept_of c log e n (inr s) =
 -- the entry may be noted
 pub can_note_next : (c : ClusterView) (e : Entry) → is_system c.system ≡ true → ReadyFor e c → c.cursor < 2 ^ 64 - 1 → CanNote (what e) c.records
 can_note_next c e valid r room =
-    let n = next_of c.system r.log e r.open_log r.open_next in
-    let kept = kept_of c r.log e n r.ready in
-    built_can_note c.system r.log e c.number c.records valid (legal_unlost c.system (r.log ++ e ∷ []) n.more) (subst (λ m. m < 2 ^ 64 - 1) kept.cursor room) kept.records
+    let kept = kept_of c r.log e r.ready in
+    built_can_note c.system r.log e c.number c.records valid (r.open_next).0 (subst (λ m. m < 2 ^ 64 - 1) kept.cursor room) kept.records
 
 -- and where it does not go to the cluster, it leaves the records as they are
-pub noted_next : (c : ClusterView) (e : Entry) → (c.number).0 < (c.system).clusters → ReadyFor e c → IsNotedHere c.number e c.records
-noted_next c e has r =
-    let n = next_of c.system r.log e r.open_log r.open_next in
-    noted_here c.system r.log e c.number c.records ((((n.may).stands).placed).1) (n.may).built (lives_built c.system r.log c.number n.legal has) (kept_of c r.log e n r.ready).records
+pub noted_next : (c : ClusterView) (e : Entry) → is_system c.system ≡ true → ReadyFor e c → IsNotedHere c.number e c.records
+noted_next c e valid r elsewhere = by_loss (loss_or_none (what e) may.built)
+  where
+    may : BuiltMayFollow c.system r.log e
+    may = IsLegal-last BuiltMayFollow c.system r.log e (r.open_next).0
+
+    by_loss : (is_unlost (what e) ≡ true) ⊎ IsLoss (what e) → records_after (what e) c.records ≡ c.records
+    by_loss (inl unlost) = noted_here c.system r.log e c.number c.records (((may.stands).placed).1) unlost (backups_live c.system r.log valid (r.open_log).0) (kept_of c r.log e r.ready).records elsewhere
+    by_loss (inr loss) = ap (λ w. records_after w c.records) loss.same

@@ -138,7 +138,7 @@ one_later cursor pid (Runs s) own = record { pid_is = own.pid_is; quiet = own.qu
 one_later cursor pid (Rolls s counts births) own = record { pid_is = own.pid_is; quiet = own.quiet; arrived = omega (arith, own.arrived) }
 one_later cursor pid (Waits kept) own = absurd own
 
-own_later : (cursor : ℕ) (here : List (Pid × Held)) → AllOwn cursor here → AllOwn (cursor + 1) here
+pub own_later : (cursor : ℕ) (here : List (Pid × Held)) → AllOwn cursor here → AllOwn (cursor + 1) here
 own_later cursor [] own = tt
 own_later cursor (e ∷ here) own = (one_later cursor e.0 e.1 own.0, own_later cursor here own.1)
 

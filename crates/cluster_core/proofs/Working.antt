@@ -1,38 +1,34 @@
 -- A cluster that works goes on to follow each log that it followed.
-use Rattle.std.proofs.Common.{◌≡◌, ℕ, zero, suc, ◌+◌, ◌-◌, ◌≤◌, ◌<◌, refl, sym, ◌∙◌, ap, subst, arith, List, [], ◌∷◌, map, length, Bool, true, false, cond, not, ◌&&◌, ◌||◌, eqb-true, eq-eqb, add-zero, zero-add, Option, Some, None, is_some, slice_get, true≢false}
+use Rattle.std.proofs.Common.{◌≡◌, ℕ, zero, suc, ◌+◌, ◌-◌, ◌≤◌, ◌<◌, refl, sym, ◌∙◌, ap, subst, arith, List, [], ◌∷◌, Bool, true, false, cond, not, ◌&&◌, ◌||◌, eqb-true, eq-eqb, add-zero, Option, Some, None, is_some, true≢false}
 use Rattle.std.specs.Prelude.{option_map, option_and_then, find}
-use Rattle.std.specs.List.{range_with_len}
 use Rattle.std.specs.Option.{option_map_or}
-use Rattle.std.proofs.lemmas.Option.{slice_get-map, slice_get-get_or}
-use Rattle.std.proofs.lemmas.List.FromFn.{get_or-range_with_len, length-range_with_len}
 use Rattle.t32_base.specs.declared.process.Pid.{Pid}
 use Rattle.t32_base.specs.declared.process.ClusterNo.{ClusterNo}
 use Rattle.sys_text.specs.declared.system.System.{System}
-use Rattle.sys_text.specs.Boot.{roots_of}
 use Rattle.sys_text.specs.Valid.{is_system}
 use Rattle.proc_state.specs.declared.process.Process.{Process}
 use Rattle.proc_state.specs.State.{ProcState, state_of, can_take}
 use Rattle.sys_calls.specs.declared.steps.Emission.{Emission}
 use Rattle.sys_calls.specs.declared.steps.Emission.TheVariants.{Mail as Sent, Exit as Ended}
 use Rattle.sys_calls.specs.Calls.{Emits}
-use Rattle.sys_calls.specs.Next.{next_step, has_step, silently, silent_of, emission_of, last_emission}
+use Rattle.sys_calls.specs.Next.{next_step, silently, silent_of, emission_of, last_emission}
 use Rattle.sys_calls.proofs.Counting.{silently_counts, emits_counts, letter_is_own}
 use Rattle.bus_msg.specs.declared.entry.What.TheVariants.{Mail, Exit}
 use Rattle.bus_msg.specs.declared.entry.By.TheVariants.{Cluster}
 use Rattle.bus_msg.specs.declared.entry.Post.{Post}
 use Rattle.bus_msg.specs.declared.entry.Entry.{Entry}
 use Rattle.bus_msg.specs.declared.placed.Placed.{Placed}
-use Rattle.bus_msg.specs.Places.{Places, ClusterPlace, boot_cluster, same_pid, same_cluster}
+use Rattle.bus_msg.specs.Places.{Places, same_pid, same_cluster}
 use Rattle.cert_sched.specs.Parts.{rising}
-use Rattle.cert_sched.specs.Schedule.{placed_root, placement, process_after, done_after}
+use Rattle.cert_sched.specs.Schedule.{placement, process_after, done_after}
 use Rattle.cert_sched.specs.Steps.{silent_upto, emission_at, after_items}
 use Rattle.cert_sched.specs.Rules.{is_by, is_living, is_by_home, is_by_right, home_at}
 use Rattle.cert_sched.specs.Kinds.{KindHolds}
 use Rattle.cert_sched.specs.Legal.{IsLegalBy}
-use Rattle.cert_sched.specs.Built.{is_unlost, UnlostMayFollow}
+use Rattle.cert_sched.specs.Built.{is_unlost, BuiltMayFollow, UnlostMayFollow}
 use Rattle.cert_sched.specs.Losses.{least_steps, capped, is_from}
 use Rattle.cert_sched.specs.Appended.{entry_of}
-use Rattle.cert_sched.proofs.UnlostLaws.{unlost_births, unlost_clusters}
+use Rattle.cert_sched.proofs.UnlostLaws.{built_births}
 use Rattle.cert_sched.proofs.StepLaws.{Tells, sent_applies}
 use Rattle.cluster_core.specs.declared.worked.Worked.TheVariants.{Moved, Queued, Rests}
 use Rattle.cluster_core.specs.View.{ClusterView, Held, Runs, Rolls, Waits, can_act, held_at, held_of, next_count, counted_once, tried_once}
@@ -49,7 +45,7 @@ use Rattle.cluster_core.proofs.Telling.{done_is}
 use Rattle.cluster_core.proofs.Quanta.{moves_can, sends_can}
 use Rattle.cluster_core.proofs.Catching.{rolled_held}
 use Rattle.cluster_core.proofs.Owning.{stuck_rest}
-use Rattle.cluster_core.proofs.Homes.{HomeHere, differ_built, home_here}
+use Rattle.cluster_core.proofs.Homes.{HomeHere, differ_built, home_here, home_lives}
 use Rattle.cluster_core.proofs.Following.{no_child}
 
 -- ---- kernel steps
@@ -207,18 +203,8 @@ held_beside c log p now queue f mine others q h at = by_pid (same_pid q p) refl
         let old : IsHeldAs c.system log c.queue q w.was = (f.processes).held q w.was w.there in
         subst (λ (x : Held). IsHeldAs c.system log queue q x) (sym (w.is.1 other)) (others q w.was other old)
 
--- each cluster of a system lives in such a log
-pub lives_built : (system : System) (log : List Entry) (k : ClusterNo) → IsLegalBy UnlostMayFollow system log → k.0 < system.clusters → is_living (placement system log) (Cluster k) ≡ true
-lives_built system log k legal has =
-    let roots : List Placed = map placed_root (roots_of system) in
-    let size : k.0 < length (range_with_len 0 system.clusters) = omega (arith, length-range_with_len 0 system.clusters, has) in
-    let number : slice_get (range_with_len 0 system.clusters) k.0 ≡ Some k.0 = slice_get-get_or (range_with_len 0 system.clusters) k.0 0 size ∙ ap Some (get_or-range_with_len 0 system.clusters k.0 0 has ∙ zero-add k.0) in
-    let at : slice_get (map (boot_cluster roots) (range_with_len 0 system.clusters)) k.0 ≡ Some (boot_cluster roots k.0) = slice_get-map (boot_cluster roots) (range_with_len 0 system.clusters) k.0 ∙ ap (option_map (boot_cluster roots)) number in
-    ap (λ (cs : List ClusterPlace). option_map_or (λ (c : ClusterPlace). c.lives) (slice_get cs k.0) false) (unlost_clusters system log legal)
-    ∙ ap (λ (o : Option ClusterPlace). option_map_or (λ (c : ClusterPlace). c.lives) o false) at
-
 -- a process of a cluster that follows a log, with its cluster
-module _ (c : ClusterView) (p : Pid) (was : Held) (empty : c.queue ≡ []) (there : held_at c p ≡ Some was) (valid : is_system c.system ≡ true) (log : List Entry) (now : IsOpen UnlostMayFollow c.system log) (f : FollowsBuilt c.system log c) where
+module _ (c : ClusterView) (p : Pid) (was : Held) (empty : c.queue ≡ []) (there : held_at c p ≡ Some was) (valid : is_system c.system ≡ true) (log : List Entry) (now : IsOpen BuiltMayFollow c.system log) (f : FollowsBuilt c.system log c) where
   pub home_of_it : HomeHere (placement c.system log) p c.number
   home_of_it = home_here (placement c.system log) c.number (pids_in c.here) p (differ_built c.system log valid now.0) (f.processes).each_once (is_among c.here p was there)
 
@@ -276,10 +262,10 @@ items_of_post system log pid at (Sent letter) t tells is =
     ap (λ p. option_map (taken_by (Mail at letter)) (option_map (λ (r : Emission × ProcState). r.1) (emission_at system log p at))) tells.0 ∙ ap (λ o. option_map (taken_by (Mail at letter)) (option_map (λ (r : Emission × ProcState). r.1) o)) is
 items_of_post system log pid at (Ended end) t tells is = ap (λ o. option_map (taken_by (Exit pid at end)) (option_map (λ (r : Emission × ProcState). r.1) o)) is
 
-kind_of_post : (system : System) (log : List Entry) (k : ClusterNo) (pid : Pid) (at : ℕ) (e : Emission) (t : ProcState) → Tells pid at e (told_of pid at e) → emission_at system log pid at ≡ Some (e, t) → IsLegalBy UnlostMayFollow system log
+kind_of_post : (system : System) (log : List Entry) (k : ClusterNo) (pid : Pid) (at : ℕ) (e : Emission) (t : ProcState) → Tells pid at e (told_of pid at e) → emission_at system log pid at ≡ Some (e, t) → IsLegalBy BuiltMayFollow system log
     → KindHolds system log (entry_of system log (post_told k pid at e)) (told_of pid at e)
 kind_of_post system log k pid at (Sent letter) t tells is legal = ap (λ p. option_map (λ (r : Emission × ProcState). r.0) (emission_at system log p at)) tells.0 ∙ ap (option_map (λ (r : Emission × ProcState). r.0)) is
-kind_of_post system log k pid at (Ended end) t tells is legal = (ap (option_map (λ (r : Emission × ProcState). r.0)) is, no_child system log pid (unlost_births system log legal))
+kind_of_post system log k pid at (Ended end) t tells is legal = (ap (option_map (λ (r : Emission × ProcState). r.0)) is, no_child system log pid (built_births system log legal))
 
 right_of_post : (places : Places) (k : ClusterNo) (pid : Pid) (at : ℕ) (e : Emission) → Tells pid at e (told_of pid at e) → is_by_home places (Cluster k) (Some pid) ≡ true → is_by_right places (Cluster k) (told_of pid at e) ≡ true
 right_of_post places k pid at (Sent letter) tells h = ap (λ p. is_by_home places (Cluster k) (Some p)) tells.0 ∙ h
@@ -324,7 +310,7 @@ module _ (c : ClusterView) (p : Pid) (was : Held) (sending : Sending) (new : Hel
   posted_own : is_from c.number post.by ≡ true
   posted_own = ap (λ (p : Post). is_from c.number p.by) post_is ∙ eq-eqb (c.number).0 (c.number).0 refl
 
-  module _ (valid : is_system c.system ≡ true) (has : (c.number).0 < (c.system).clusters) (log : List Entry) (go : IsOpen UnlostMayFollow c.system log) (f : FollowsBuilt c.system log c) where
+  module _ (valid : is_system c.system ≡ true) (has : (c.number).0 < (c.system).clusters) (log : List Entry) (go : IsOpen BuiltMayFollow c.system log) (f : FollowsBuilt c.system log c) where
     emission_is : emission_at c.system log p at ≡ Some (e, state_of s.now)
     emission_is = ahead_sent c.system log p (state_of s.between) s.before (state_of s.now) s.silent e (held_between c p was empty there valid log go f s.rolled (Runs s.between) s.rolls) s.runs s.sends
 
@@ -334,7 +320,7 @@ module _ (c : ClusterView) (p : Pid) (was : Held) (sending : Sending) (new : Hel
         placed = (refl, refl, go.1);
         by_right =
             right_of_post (placement c.system log) c.number p at e tells
-            (home_by (placement c.system log) c.number p (lives_built c.system log c.number go.0 has) (home_of_it c p was empty there valid log go f));
+            (home_by (placement c.system log) c.number p (home_lives c.system log p c.number valid go.0 go.1 (home_of_it c p was empty there valid log go f)) (home_of_it c p was empty there valid log go f));
         applies = sent_applies c.system log (entry_of c.system log (post_told c.number p at e)) p at e (state_of s.now) emission_is tells;
         kind = kind_of_post c.system log c.number p at e (state_of s.now) tells emission_is go.0;
       };

@@ -1,6 +1,6 @@
 -- What the loss of another cluster makes of the records and the processes here.
-use Rattle.std.specs.Prelude.{◌≡◌, Bool, false, if◌then◌else◌, List, [], ◌∷◌, fold, filter}
-use Rattle.std.specs.List.{AllByRecursion, list_any}
+use Rattle.std.specs.Prelude.{◌≡◌, false, if◌then◌else◌, List, [], fold, filter, Some}
+use Rattle.std.specs.List.{list_any}
 use Rattle.std.specs.Option.{option_map_or}
 use Rattle.t32_base.specs.declared.process.Pid.{Pid}
 use Rattle.t32_base.specs.declared.process.ClusterNo.{ClusterNo}
@@ -13,6 +13,7 @@ use Rattle.bus_msg.specs.declared.entry.What.TheVariants.{Crash}
 use Rattle.bus_msg.specs.Places.{Places, same_pid}
 use Rattle.crash_notice.specs.Splitting.{moves_here, stays}
 use Rattle.roll_forward.specs.RunsOut.{nothing_left}
+use Rattle.backup_records.specs.Records.{record_in}
 use Rattle.recovery.specs.Begun.{begun, CanBegin}
 use Rattle.cluster_core.specs.View.{Held, Runs, Rolls}
 use Rattle.cluster_core.specs.Residents.{with_more}
@@ -39,12 +40,6 @@ with_recovered system here r = option_map_or (λ (start : ProcState). with_more 
 abbrev pub with_all_recovered : System → List BackRec → List (Pid × Held) → List (Pid × Held)
 with_all_recovered system moved here = fold (with_recovered system) here moved
 
--- none of these processes is here, and no two of the records are of one process
-abbrev pub AreNew : List (Pid × Held) → List BackRec → Type 0
-AreNew here [] = Unit {0}
-AreNew here (r ∷ rest) = (list_any (λ (e : Pid × Held). same_pid e.0 r.pid) here ≡ false) × (list_any (λ (s : BackRec). same_pid s.pid r.pid) rest ≡ false) × AreNew here rest
-
--- the processes of these records may be here too: each starts with its system, and none is here already
-pub record CanRecover (system : System) (moved : List BackRec) (here : List (Pid × Held)) : Type 0 where
-  pub begin_so : AllByRecursion (CanBegin system) moved
-  pub fresh : AreNew here moved
+-- each process of which there is a record among these starts with its system, and is not here already
+abbrev pub CanRecover : System → List BackRec → List (Pid × Held) → Type 0
+CanRecover system moved here = (p : Pid) (r : BackRec) → record_in moved p ≡ Some r → CanBegin system r × (list_any (λ (e : Pid × Held). same_pid e.0 p) here ≡ false)

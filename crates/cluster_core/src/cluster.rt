@@ -156,6 +156,7 @@ impl Cluster {
     {
         note(self.number, &mut self.records, entry)?;
         tell(self.number, &mut self.here, entry)?;
+        self.cursor += 1;
         take_over(
             self.alloc,
             &self.system,
@@ -165,7 +166,6 @@ impl Cluster {
             &mut self.here,
             entry,
         )?;
-        self.cursor += 1;
         self.places.note(entry);
         self.count_step();
         Ok(())

@@ -1,4 +1,3 @@
-use Rattle.std.proofs.Common.{◌≡◌}
 use Rattle.cluster_core.proofs.FirstRecords.{first_kept}
 use Rattle.cluster_core.proofs.booting.parts_at_boot.Goals as goal
 

@@ -3,23 +3,17 @@ use Rattle.std.specs.Arc.{arc_value}
 use Rattle.bus_msg.specs.PlacedAfter.{what, placed_after}
 use Rattle.sys_text.specs.Valid.{is_system}
 use Rattle.sys_text.proofs.Bounds.{system_bounds}
-use Rattle.bus_msg.specs.declared.entry.Entry.{Entry}
-use Rattle.cert_sched.specs.Built.{UnlostMayFollow, is_unlost}
-use Rattle.cert_sched.proofs.LogLaws.{IsLegal-last}
-use Rattle.backup_records.specs.Records.{CanNote, records_after}
+use Rattle.backup_records.specs.Records.{CanNote, are_rising, records_after}
 use Rattle.cluster_core.specs.View.{ClusterView, next_count}
 use Rattle.cluster_core.specs.Parts.{AllOwn}
-use Rattle.cluster_core.specs.Calls.{Absorbs, ReadyFor, absorbed, here_after}
+use Rattle.cluster_core.specs.Recovered.{CanRecover, left_by, moved_by, with_all_recovered}
+use Rattle.cluster_core.specs.Calls.{Absorbs, absorbed, here_after}
 use Rattle.cluster_core.specs.Absorbing.{ComesHere, IsNotedHere}
 use Rattle.cluster_core.proofs.Arriving.{comes_here}
 use Rattle.cluster_core.proofs.Noting.{can_note_next, noted_next}
-use Rattle.cluster_core.proofs.Owning.{has_room, own_after}
-use Rattle.cluster_core.proofs.Following.{absorbs, ready_quiet}
-use Rattle.cluster_core.proofs.Turning.{built_no_birth}
+use Rattle.cluster_core.proofs.Owning.{has_room}
+use Rattle.cluster_core.proofs.Absorbed.{absorbs, own_either, owns_recovered, ready_no_birth, ready_own, recovers}
 use Rattle.cluster_core.proofs.cluster.Cluster.absorb.Goals as goal
-
-ready_built : (c : ClusterView) (e : Entry) → ReadyFor e c → is_unlost (what e) ≡ true
-ready_built c e r = (IsLegal-last UnlostMayFollow c.system r.log e (r.open_next).0).built
 
 pub tell-requires-clause-room : goal.tell-requires-clause-room
 tell-requires-clause-room c =
@@ -37,53 +31,76 @@ note-requires-clause-can c =
 pub note-requires-clause-here : goal.note-requires-clause-here
 note-requires-clause-here c =
     let old : ClusterView = c.args.self.now in
-    let has = subst (λ (v : ClusterView). (v.number).0 < (v.system).clusters) c.self.view_is c.self.invariant.has in
-    subst (λ (v : ClusterView). IsNotedHere v.number c.args.entry.now v.records) (sym c.self.view_is) (noted_next old c.args.entry.now has c.requires.ready)
+    let valid : is_system old.system ≡ true = subst (λ (v : ClusterView). is_system v.system ≡ true) c.self.view_is c.self.invariant.valid in
+    subst (λ (v : ClusterView). IsNotedHere v.number c.args.entry.now v.records) (sym c.self.view_is) (noted_next old c.args.entry.now valid c.requires.ready)
 
 pub note-requires-2 : goal.note-requires-2
-note-requires-2 c = built_no_birth (what c.args.entry.now) (ready_built c.args.self.now c.args.entry.now c.requires.ready)
+note-requires-2 c = ready_no_birth c.args.self.now c.args.entry.now c.requires.ready
+
+pub take_over-requires-clause-can : goal.take_over-requires-clause-can
+take_over-requires-clause-can c =
+    let e = c.args.entry.now in
+    let w = what e in
+    let valid : is_system c.args.self.now.system ≡ true = subst (λ (v : ClusterView). is_system v.system ≡ true) c.self.view_is c.self.invariant.valid in
+    let can = subst (λ (v : ClusterView). CanRecover v.system (moved_by v.places v.number w (records_after w v.records)) (here_after w v.here)) (sym c.self.view_is) (recovers c.args.self.now e valid c.requires.ready) in
+    subst (λ s. CanRecover s (moved_by c.self.inside.places c.self.inside.number w c.note.new.records) c.tell.new.here.here) (sym c.deref.ensures)
+    (subst (λ recs. CanRecover (arc_value c.self.inside.system) (moved_by c.self.inside.places c.self.inside.number w recs) c.tell.new.here.here) (sym c.in_ok-note.ensures.ok)
+    (subst (λ hs. CanRecover (arc_value c.self.inside.system) (moved_by c.self.inside.places c.self.inside.number w (records_after w c.self.inside.records)) hs) (sym c.in_ok-tell.ensures.ok) can))
+
+pub invariant_of-self-in_err-take_over : goal.invariant_of-self-in_err-take_over
+invariant_of-self-in_err-take_over c =
+    let w = what c.args.entry.now in
+    let told : AllOwn (c.self.inside.cursor + 1) (here_after w c.self.inside.here.here) =
+    subst (λ (v : ClusterView). AllOwn (v.cursor + 1) (here_after w v.here)) (sym c.self.view_is)
+    (ready_own c.args.self.now c.args.entry.now c.requires.ready (subst (λ (v : ClusterView). AllOwn v.cursor v.here) c.self.view_is c.self.invariant.residents)) in
+    record {
+      valid = c.self.invariant.valid;
+      has = c.self.invariant.has;
+      residents = own_either (c.self.inside.cursor + 1) c.tell.new.here.here c.take_over.new.here.here (subst (AllOwn (c.self.inside.cursor + 1)) (sym c.in_ok-tell.ensures.ok) told) c.in_err-take_over.ensures.err;
+      own = c.self.invariant.own;
+      built = c.self.invariant.built;
+    }
 
 pub invariant_of-self-2 : goal.invariant_of-self-2
 invariant_of-self-2 c =
     let old : ClusterView = c.args.self.now in
     let e = c.args.entry.now in
-    let here = c.self.inside.here.here in
-    let taken : c.tell.new.here.here ≡ here_after (what e) here = c.in_ok-tell.ensures.ok in
-    let ready = c.requires.ready in
-    let none = ready_quiet old.system ready.log e ready.open_log ready.open_next in
+    let w = what e in
+    let valid : is_system old.system ≡ true = subst (λ (v : ClusterView). is_system v.system ≡ true) c.self.view_is c.self.invariant.valid in
+    let told = ready_own old e c.requires.ready (subst (λ (v : ClusterView). AllOwn v.cursor v.here) c.self.view_is c.self.invariant.residents) in
+    let order : are_rising (moved_by old.places old.number w (records_after w old.records)) ≡ true =
+    subst (λ (v : ClusterView). are_rising (moved_by v.places v.number w (records_after w v.records)) ≡ true) c.self.view_is
+    (subst (λ recs. are_rising (moved_by c.self.inside.places c.self.inside.number w recs) ≡ true) c.in_ok-note.ensures.ok c.in_ok-take_over.ensures.rising) in
+    let mine : AllOwn (c.self.inside.cursor + 1) (with_all_recovered (arc_value c.self.inside.system) (moved_by c.self.inside.places c.self.inside.number w (records_after w c.self.inside.records)) (here_after w c.self.inside.here.here)) =
+    subst (λ (v : ClusterView). AllOwn (v.cursor + 1) (with_all_recovered v.system (moved_by v.places v.number w (records_after w v.records)) (here_after w v.here))) (sym c.self.view_is)
+    (owns_recovered old e valid c.requires.ready order (here_after w old.here) told) in
+    let here = c.in_ok-take_over.ensures.here ∙ (λ i. with_all_recovered (c.deref.ensures i) (moved_by c.self.inside.places c.self.inside.number w (c.in_ok-note.ensures.ok i)) (c.in_ok-tell.ensures.ok i)) in
     record {
       valid = c.self.invariant.valid;
       has = c.self.invariant.has;
-      residents = subst (AllOwn (c.self.inside.cursor + 1)) (sym taken) (own_after c.self.inside.cursor (what e) here (ready_built old e ready) none c.self.invariant.residents);
+      residents = subst (AllOwn (c.self.inside.cursor + 1)) (sym here) mine;
       own = c.self.invariant.own;
       built = c.self.invariant.built;
     }
-
-pub returns-clause-absorbed : goal.returns-clause-absorbed
-returns-clause-absorbed c =
-    let old : ClusterView = c.args.self.now in
-    let e = c.args.entry.now in
-    let places : c.note-2.new.self ≡ placed_after old.places (what e) = c.note-2.ensures ∙ ap (λ (v : ClusterView). placed_after v.places (what e)) c.self.view_is in
-    let here : c.tell.new.here.here ≡ here_after (what e) old.here = c.in_ok-tell.ensures.ok ∙ ap (λ (v : ClusterView). here_after (what e) v.here) c.self.view_is in
-    let recs : c.note.new.records ≡ records_after (what e) old.records = c.in_ok-note.ensures.ok ∙ ap (λ (v : ClusterView). records_after (what e) v.records) c.self.view_is in
-    c.count_step.ensures
-    ∙ ap (λ (v : ClusterView). record v { cursor = v.cursor + 1; places = c.note-2.new.self; here = c.tell.new.here.here; records = c.note.new.records; steps = next_count v.steps }) c.self.view_is
-    ∙ (λ i. record old { cursor = old.cursor + 1; places = places i; here = here i; records = recs i; steps = next_count old.steps })
 
 pub returns-clause-follows : goal.returns-clause-follows
 returns-clause-follows c =
     let old : ClusterView = c.args.self.now in
     let e = c.args.entry.now in
-    let places : c.note-2.new.self ≡ placed_after old.places (what e) = c.note-2.ensures ∙ ap (λ (v : ClusterView). placed_after v.places (what e)) c.self.view_is in
-    let here : c.tell.new.here.here ≡ here_after (what e) old.here = c.in_ok-tell.ensures.ok ∙ ap (λ (v : ClusterView). here_after (what e) v.here) c.self.view_is in
-    let recs : c.note.new.records ≡ records_after (what e) old.records = c.in_ok-note.ensures.ok ∙ ap (λ (v : ClusterView). records_after (what e) v.records) c.self.view_is in
+    let w = what e in
+    let recs = c.in_ok-take_over.ensures.records ∙ ap (left_by c.self.inside.places c.self.inside.number w) c.in_ok-note.ensures.ok in
+    let here = c.in_ok-take_over.ensures.here ∙ (λ i. with_all_recovered (c.deref.ensures i) (moved_by c.self.inside.places c.self.inside.number w (c.in_ok-note.ensures.ok i)) (c.in_ok-tell.ensures.ok i)) in
     let whole : c.count_step.new.self ≡ absorbed old e =
     c.count_step.ensures
-    ∙ ap (λ (v : ClusterView). record v { cursor = v.cursor + 1; places = c.note-2.new.self; here = c.tell.new.here.here; records = c.note.new.records; steps = next_count v.steps }) c.self.view_is
-    ∙ (λ i. record old { cursor = old.cursor + 1; places = places i; here = here i; records = recs i; steps = next_count old.steps }) in
+    ∙ ap (λ (v : ClusterView). record v { cursor = v.cursor + 1; places = c.note-2.new.self; here = c.take_over.new.here.here; records = c.take_over.new.records; steps = next_count v.steps }) c.self.view_is
+    ∙ (λ i. record old { cursor = old.cursor + 1; places = c.note-2.ensures i; here = here i; records = recs i; steps = next_count old.steps })
+    ∙ ap (λ (v : ClusterView). record old { cursor = old.cursor + 1; places = placed_after v.places w; here = with_all_recovered v.system (moved_by v.places v.number w (records_after w v.records)) (here_after w v.here); records = left_by v.places v.number w (records_after w v.records); steps = next_count old.steps }) c.self.view_is in
     let valid : is_system old.system ≡ true = subst (λ (v : ClusterView). is_system v.system ≡ true) c.self.view_is c.self.invariant.valid in
     let own = subst (λ (v : ClusterView). AllOwn v.cursor v.here) c.self.view_is c.self.invariant.residents in
-    subst (Absorbs e old) (sym whole) (absorbs old e c.self.inside.queue (ap (λ (v : ClusterView). v.queue) (sym c.self.view_is)) valid own)
+    let order : are_rising (moved_by old.places old.number w (records_after w old.records)) ≡ true =
+    subst (λ (v : ClusterView). are_rising (moved_by v.places v.number w (records_after w v.records)) ≡ true) c.self.view_is
+    (subst (λ recs. are_rising (moved_by c.self.inside.places c.self.inside.number w recs) ≡ true) c.in_ok-note.ensures.ok c.in_ok-take_over.ensures.rising) in
+    subst (Absorbs e old) (sym whole) (absorbs old e c.self.inside.queue (ap (λ (v : ClusterView). v.queue) (sym c.self.view_is)) valid own order)
 
 pub tell-requires-clause-number : goal.tell-requires-clause-number
 tell-requires-clause-number c = omega (arith, c.self.invariant.has, (system_bounds (arc_value c.self.inside.system) c.self.invariant.valid).clusters)
@@ -92,5 +109,4 @@ pub tell-requires-clause-comes : goal.tell-requires-clause-comes
 tell-requires-clause-comes c =
     let old : ClusterView = c.args.self.now in
     let valid : is_system old.system ≡ true = subst (λ (v : ClusterView). is_system v.system ≡ true) c.self.view_is c.self.invariant.valid in
-    let has = subst (λ (v : ClusterView). (v.number).0 < (v.system).clusters) c.self.view_is c.self.invariant.has in
-    subst (λ (v : ClusterView). ComesHere v.number c.args.entry.now v.here) (sym c.self.view_is) (comes_here old c.args.entry.now valid has c.requires.ready)
+    subst (λ (v : ClusterView). ComesHere v.number c.args.entry.now v.here) (sym c.self.view_is) (comes_here old c.args.entry.now valid c.requires.ready)

@@ -1,0 +1,106 @@
+-- The backup of a process that has not ended lives, while the entries are of the kinds that are built.
+use Rattle.std.proofs.Common.{◌≡◌, ◌⊎◌, ℕ, ◌+◌, ◌<◌, ◌≤◌, refl, sym, ◌∙◌, ap, subst, length, List, [], ◌∷◌, ◌++◌, map, Bool, true, false, cond, not, ◌&&◌, eqb, Option, Some, None, unwrap_or, inl, inr, true≢false}
+use Rattle.std.specs.Prelude.{count_by, find, option_map}
+use Rattle.std.specs.List.{list_all}
+use Rattle.t32_base.specs.declared.process.Pid.{Pid}
+use Rattle.t32_base.specs.declared.process.ClusterNo.{ClusterNo}
+use Rattle.sys_text.specs.declared.system.System.{System}
+use Rattle.sys_text.specs.declared.system.Root.{Root}
+use Rattle.sys_text.specs.Valid.{is_system, is_root}
+use Rattle.sys_text.specs.Boot.{pid_of, with_pids, roots_of}
+use Rattle.sys_text.proofs.Bounds.{first_of_two, second_of_two, root_fits, root_tests, system_bounds, tests}
+use Rattle.bus_msg.specs.declared.entry.What.TheVariants.{Crash, Exit}
+use Rattle.bus_msg.specs.declared.entry.Cause.{Cause}
+use Rattle.bus_msg.specs.declared.entry.Entry.{Entry}
+use Rattle.bus_msg.specs.declared.placed.Placed.{Placed}
+use Rattle.bus_msg.specs.Places.{Places, same_pid, same_cluster, is_cluster, lives_in, unended_at}
+use Rattle.bus_msg.specs.PlacedAfter.{what, placed_after, after_loss, moved_to}
+use Rattle.t32_base.specs.declared.process.End.{End}
+use Rattle.cert_sched.specs.Built.{BuiltMayFollow, is_unlost}
+use Rattle.cert_sched.specs.Schedule.{placement, placed_root}
+use Rattle.cert_sched.specs.Legal.{IsLegalBy}
+use Rattle.cert_sched.proofs.LogLaws.{placement-snoc}
+use Rattle.cert_sched.proofs.Induction.{legal_induction}
+use Rattle.cert_sched.proofs.FamilyLaws.{exit_there, exit_elsewhere}
+use Rattle.cert_sched.proofs.UnendedLaws.{unended_map, unended_open_at, loss_keeps}
+use Rattle.cert_sched.proofs.CoverLaws.{lives_on}
+use Rattle.cert_sched.proofs.LiveLaws.{boot_lives}
+use Rattle.cluster_core.proofs.ByKind.{IsLoss, by_kind, loss_or_none}
+
+abbrev pub BackupsLive : Places → Type 0
+BackupsLive places = (p : Pid) (q : Placed) (b : ClusterNo) → unended_at places p ≡ Some q → q.backup ≡ Some b → lives_in places b ≡ true
+
+-- ---- the start
+
+roots_below : (s : System) → s.clusters ≤ 16 → (earlier roots : List Root) → list_all (is_root s.clusters (length s.images)) roots ≡ true → (p : Pid) (q : Placed) (b : ClusterNo)
+    → find (λ (q : Placed). same_pid q.pid p && not q.ended) (map placed_root (with_pids earlier roots)) ≡ Some q → q.backup ≡ Some b → b.0 < s.clusters
+roots_below s few earlier [] fit p q b found backup = cc
+roots_below s few earlier (r ∷ roots) fit p q b found backup =
+    by_pid (same_pid (pid_of (r.home).0 (1 + count_by (λ (q : Root). eqb (q.home).0 (r.home).0) earlier)) p) found
+    (λ more. roots_below s few (earlier ++ r ∷ []) roots (second_of_two (is_root s.clusters (length s.images) r) _ fit) p q b more backup)
+  where
+    here : (r.backup).0 < s.clusters
+    here = (root_fits s r few (first_of_two _ (list_all (is_root s.clusters (length s.images)) roots) fit)).backup
+
+    by_pid : (t : Bool) → cond (t && true) (Some (placed_root (pid_of (r.home).0 (1 + count_by (λ (q : Root). eqb (q.home).0 (r.home).0) earlier), r))) (find (λ (q : Placed). same_pid q.pid p && not q.ended) (map placed_root (with_pids (earlier ++ r ∷ []) roots))) ≡ Some q
+        → (find (λ (q : Placed). same_pid q.pid p && not q.ended) (map placed_root (with_pids (earlier ++ r ∷ []) roots)) ≡ Some q → b.0 < s.clusters) → b.0 < s.clusters
+    by_pid true e more =
+        let to : placed_root (pid_of (r.home).0 (1 + count_by (λ (q : Root). eqb (q.home).0 (r.home).0) earlier), r) ≡ q = ap (λ (o : Option Placed). unwrap_or o q) e in
+        let is : Some r.backup ≡ Some b = ap (λ (x : Placed). x.backup) to ∙ backup in
+        let same : r.backup ≡ b = ap (λ (o : Option ClusterNo). unwrap_or o b) is in
+        subst (λ (k : ClusterNo). k.0 < s.clusters) same here
+    by_pid false e more = more e
+
+live_at_boot : (system : System) → is_system system ≡ true → BackupsLive (placement system [])
+unfolding placement
+live_at_boot system valid p q b found backup =
+    boot_lives system (map placed_root (roots_of system)) b.0
+    (roots_below system (system_bounds system valid).clusters [] system.roots (root_tests system.clusters (length system.images) system.roots (tests system valid).roots).each p q b found backup)
+
+-- ---- one more entry
+
+-- what is left of a backup after a loss was one before, in another cluster
+left_backup : (lost : ClusterNo) (q : Placed) (b : ClusterNo) → (after_loss lost q).backup ≡ Some b → q.ended ≡ false → (q.backup ≡ Some b) × (same_cluster b lost ≡ false)
+left_backup lost q b = by_tests q.ended (same_cluster q.home lost) (is_cluster q.backup lost) refl
+  where
+    moved : (o : Option ClusterNo) → q.backup ≡ o → (moved_to q lost o).backup ≡ Some b → (q.backup ≡ Some b) × (same_cluster b lost ≡ false)
+    moved None is left = let none : Some b ≡ None = sym left ∙ is in cc
+    moved (Some c) is left = cc
+
+    by_tests : (e h c : Bool) → is_cluster q.backup lost ≡ c → (cond e q (cond h (moved_to q lost q.backup) (cond c (record q { backup = None; lost = Some lost }) q))).backup ≡ Some b → e ≡ false → (q.backup ≡ Some b) × (same_cluster b lost ≡ false)
+    by_tests true h c is left open_still = absurd (true≢false open_still)
+    by_tests false true c is left open_still = moved q.backup refl left
+    by_tests false false true is left open_still = cc
+    by_tests false false false is left open_still = (left, sym (ap (λ o. is_cluster o lost) left) ∙ is)
+
+loss_live : (places : Places) (lost : ClusterNo) (cause : Cause) → BackupsLive places → BackupsLive (placed_after places (Crash lost cause))
+loss_live places lost cause live p q b found backup = by_found (unended_at places p) refl (sym (unended_map (after_loss lost) (loss_keeps lost) places (placed_after places (Crash lost cause)) refl p) ∙ found)
+  where
+    by_found : (o : Option Placed) → unended_at places p ≡ o → option_map (after_loss lost) o ≡ Some q → lives_in (placed_after places (Crash lost cause)) b ≡ true
+    by_found None there e = cc
+    by_found (Some r) there e =
+        let same : after_loss lost r ≡ q = ap (λ (o : Option Placed). unwrap_or o q) e in
+        let left = left_backup lost r b (ap (λ (x : Placed). x.backup) same ∙ backup) (unended_open_at places p r there) in
+        lives_on places lost b cause left.1 (live p r b there left.0)
+
+exit_live : (places : Places) (r : Pid) (at : ℕ) (end : End) → BackupsLive places → BackupsLive (placed_after places (Exit r at end))
+exit_live places r at end live p q b found backup = by_pid (same_pid p r) refl
+  where
+    by_pid : (t : Bool) → same_pid p r ≡ t → lives_in places b ≡ true
+    by_pid true same = let none : None ≡ Some q = sym (exit_there places r p at end same) ∙ found in cc
+    by_pid false apart = live p q b (sym (exit_elsewhere places r p at end apart) ∙ found) backup
+
+next_live : (system : System) (log : List Entry) (e : Entry) → BackupsLive (placement system log) → BuiltMayFollow system log e → BackupsLive (placement system (log ++ e ∷ []))
+next_live system log e live may = subst BackupsLive (sym (placement-snoc system log e)) (by_loss (loss_or_none (what e) may.built))
+  where
+    places : Places
+    places = placement system log
+
+    by_loss : (is_unlost (what e) ≡ true) ⊎ IsLoss (what e) → BackupsLive (placed_after places (what e))
+    by_loss (inl unlost) = by_kind (λ w. BackupsLive (placed_after places w)) (λ at letter. live) (λ pid at end. exit_live places pid at end live) (λ rests. live) live (what e) unlost
+    by_loss (inr loss) = subst (λ w. BackupsLive (placed_after places w)) (sym loss.same) (loss_live places loss.lost loss.cause live)
+
+-- ---- the whole
+
+pub backups_live : (system : System) (log : List Entry) → is_system system ≡ true → IsLegalBy BuiltMayFollow system log → BackupsLive (placement system log)
+backups_live system log valid legal = legal_induction BuiltMayFollow system (λ log. BackupsLive (placement system log)) (live_at_boot system valid) (λ log e live may. next_live system log e live may) log legal
