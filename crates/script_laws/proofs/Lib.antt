@@ -5,3 +5,4 @@ pub mod CoveredLosses
 pub mod LosingAtStep
 pub mod PassedWords
 pub mod OffLosses
+pub mod LookedOn

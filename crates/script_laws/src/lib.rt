@@ -3,6 +3,7 @@
 
 pub mod counted;
 pub mod covered;
+pub mod looks;
 pub mod lost_at;
 pub mod off;
 pub mod passed;
