@@ -25,6 +25,7 @@ use Rattle.cert_sched.proofs.LogLaws.{IsLegal-snoc}
 use Rattle.cert_sched.proofs.Induction.{legal_induction}
 use Rattle.bus_order.specs.Script.{off_at, place_of_loss, turns}
 use Rattle.bus_order.proofs.Keeping.{none_legal}
+use Rattle.bus_order.proofs.LogParts.{take_one}
 use Rattle.bus_order.proofs.OffLaws.{living_not_off, not_off_lives, off_at-snoc}
 use Rattle.script_laws.specs.Off.{IsItsLoss}
 
@@ -262,3 +263,12 @@ silent_once_lost system log k n legal =
         ∙ none_of (list_any (is_by_cluster k) (drop n log)) (is_by_cluster k e) (before.silent here) (lost_sends_not system log e k before.legal may (taken_lost log n k here))
     by_length log e before may (inr past) lost =
         ap (list_any (is_by_cluster k)) (none_past (log ++ e ∷ []) n (let more = long log e in omega (arith, past, more)))
+
+-- nor after the place since which it is off
+pub silent_once_off : (system : System) (log : List Entry) (k : ClusterNo) (at : ℕ) → IsLegalBy BuiltMayFollow system log → off_at log k ≡ Some at → list_any (is_by_cluster k) (drop (at + 1) log) ≡ false
+silent_once_off system log k at legal off =
+    let loss = off_is_its_loss system log k at legal off in
+    let next : at + 1 ≡ suc at = omega arith in
+    silent_once_lost system log k (at + 1) legal
+    (ap (λ n. was_lost_in (take n log) k) next ∙ ap (λ l. was_lost_in l k) (take_one log at loss.entry loss.there)
+    ∙ lost-snoc (take at log) loss.entry k ∙ ap (λ b. b || is_crash_of k (what loss.entry)) loss.none_before ∙ loss.loses)
