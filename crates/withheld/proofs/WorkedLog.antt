@@ -1,5 +1,7 @@
 -- The worked log is legal, and two letters are withheld in it, by computation.
-use Rattle.std.proofs.Common.{◌≡◌, refl, [], ◌∷◌, true}
+use Rattle.std.proofs.Common.{◌≡◌, refl, sym, subst, List, [], ◌∷◌, true}
+use Rattle.sys_text.specs.declared.system.System.{System}
+use Rattle.bus_msg.specs.declared.entry.Entry.{Entry}
 use Rattle.plain_kernel.specs.Kernel.{boot}
 use Rattle.plain_kernel.specs.Apply.{one_step, steps}
 use Rattle.sys_calls.specs.Next.{silently}
@@ -44,3 +46,7 @@ legal = (follows_0, (follows_1, (follows_2, (follows_3, tt))))
 two_withheld : counted two_writers with_loss ≡ 2
 unfolding boot one_step steps silently plain_after placement told is_over silent_upto emission_at backup_record
 two_withheld = refl
+
+-- so are a system and a log that equal them
+pub legal_as : (system other : System) (log these : List Entry) → IsLegalBy BuiltMayFollow system log → other ≡ system → these ≡ log → IsLegalBy BuiltMayFollow other these
+legal_as system other log these known same are = subst (λ (s : System). IsLegalBy BuiltMayFollow s these) (sym same) (subst (IsLegalBy BuiltMayFollow system) (sym are) known)
