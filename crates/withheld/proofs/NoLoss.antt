@@ -1,5 +1,5 @@
 -- Nothing is withheld in a log without a loss.
-use Rattle.std.proofs.Common.{◌≡◌, ℕ, ◌+◌, refl, ◌∙◌, arith, List, [], ◌∷◌, ◌++◌, true, false, ◌||◌, Option, Some, None, is_some, true≢false}
+use Rattle.std.proofs.Common.{◌≡◌, ℕ, ◌+◌, refl, ◌∙◌, arith, List, [], ◌∷◌, ◌++◌, false, ◌||◌, Option, Some, None, is_some, true≢false}
 use Rattle.std.specs.List.{sum_by}
 use Rattle.std.specs.Option.{option_map_or}
 use Rattle.std.proofs.lemmas.List.Sums.{sum_by-cons}

@@ -1,5 +1,5 @@
 -- What is to be withheld of a process by its record: the letters that it sent in the whole log, as no process is cut yet and none is born.
-use Rattle.std.proofs.Common.{◌≡◌, ℕ, ◌+◌, refl, sym, ◌∙◌, ap, List, [], ◌∷◌, ◌++◌, map, Bool, true, false, cond, ◌&&◌, ◌||◌, not, eqb, Option, Some, None, is_some, true≢false}
+use Rattle.std.proofs.Common.{◌≡◌, ◌+◌, refl, sym, ◌∙◌, ap, List, [], ◌∷◌, ◌++◌, map, Bool, true, false, cond, ◌&&◌, ◌||◌, not, eqb, Option, Some, None, is_some, true≢false}
 use Rattle.std.specs.Prelude.{count_by, find, option_map}
 use Rattle.std.specs.List.{list_any}
 use Rattle.std.specs.Option.{option_map_or}
@@ -18,7 +18,6 @@ use Rattle.cert_sched.specs.Deeds.{deeds_in, since, start_of}
 use Rattle.cert_sched.specs.Record.{backup_record, record_from, withheld_in}
 use Rattle.cert_sched.specs.Legal.{IsLegalBy}
 use Rattle.cert_sched.specs.Built.{BuiltMayFollow}
-use Rattle.cert_sched.specs.Simulation.{IsUnended}
 use Rattle.cert_sched.proofs.Induction.{legal_induction}
 use Rattle.cert_sched.proofs.RecordLaws.{since-snoc}
 use Rattle.cert_sched.proofs.MailLaws.{built_is_plain}

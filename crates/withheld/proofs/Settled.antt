@@ -1,5 +1,5 @@
 -- A process that has no backup gets none, so none is moved twice.
-use Rattle.std.proofs.Common.{◌≡◌, ℕ, ◌+◌, ◌≤◌, refl, sym, ◌∙◌, ap, arith, List, [], ◌∷◌, map, Bool, true, false, cond, not, ◌&&◌, Option, Some, None, is_some}
+use Rattle.std.proofs.Common.{◌≡◌, ◌+◌, ◌≤◌, refl, ◌∙◌, ap, arith, List, [], ◌∷◌, map, Bool, true, false, cond, not, ◌&&◌, Option, Some, None, is_some}
 use Rattle.std.specs.Prelude.{find, option_map}
 use Rattle.std.specs.Option.{option_map_or}
 use Rattle.t32_base.specs.declared.process.Pid.{Pid}

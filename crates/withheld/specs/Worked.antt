@@ -1,7 +1,5 @@
 -- A log that was worked by hand, with its system: of two processes that write, a loss moves one.
 use Rattle.std.specs.Prelude.{ℕ, List, [], ◌∷◌, Some, None}
-use Rattle.t32_base.specs.declared.process.Pid.{Pid}
-use Rattle.t32_base.specs.declared.process.ClusterNo.{ClusterNo}
 use Rattle.t32_base.specs.declared.process.Mode.TheVariants.{Quarter}
 use Rattle.t32_base.specs.declared.letter.Body.TheVariants.{Said}
 use Rattle.t32_base.specs.declared.letter.To.TheVariants.{Tty}
