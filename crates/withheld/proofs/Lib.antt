@@ -1,0 +1,10 @@
+mod Tallies
+mod DeedTotals
+mod MovedLetters
+mod Settled
+mod OneRecord
+mod Sums
+mod Bound
+mod Beginnings
+mod NoLoss
+mod WorkedLog
