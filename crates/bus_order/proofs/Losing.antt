@@ -21,13 +21,13 @@ use Rattle.cert_sched.specs.Schedule.{placement}
 use Rattle.cert_sched.specs.Rules.{is_over}
 use Rattle.cert_sched.specs.Legal.{IsLegalBy}
 use Rattle.cert_sched.specs.Built.{BuiltMayFollow, is_built_word}
-use Rattle.cert_sched.specs.Looked.{Looked, gives, goes_on as goes_by, is_bus_word, is_reached, given_by, without_reached}
+use Rattle.cert_sched.specs.Looked.{Looked, gives, goes_on as goes_by, first_reached, is_bus_word, is_reached, given_by, without_reached}
 use Rattle.cert_sched.specs.Losses.{is_scripted_cause, is_step_crash, is_step_word}
 use Rattle.cert_sched.specs.Simulation.{crash_entry}
 use Rattle.cert_sched.proofs.CameLaws.{no_items}
 use Rattle.cert_sched.proofs.ThereLaws.{plain_there}
 use Rattle.bus_order.specs.Script.{AccountsFor, IsFirst, is_word_for}
-use Rattle.bus_order.specs.View.{BusView, IsKept, MayLose, MayPass}
+use Rattle.bus_order.specs.View.{BusView, IsKept, KeepsScript, MayLose, MayPass}
 use Rattle.bus_order.proofs.WordsLaws.{find-filter, without-filter, filter-without, all-without, all-found, count-without, length-without}
 use Rattle.bus_order.proofs.Keeping.{IsMore, accounts_more, reached_bus, steps_stay}
 
@@ -43,9 +43,9 @@ crash_may_follow system log k cause legal goes_on lives = record {
   built = refl;
 }
 
-pub loss_more : (b : BusView) (over : Bool) (places : Places) (cert : CertView) (k : ClusterNo) (cause : Cause) (left : List ScriptWord) → IsKept b over places cert → MayLose b k cause left → IsMore b (crash_entry b.system b.log k cause) left
-loss_more b over places cert k cause left kept may = record {
-  may = crash_may_follow b.system b.log k cause kept.legal may.goes_on may.lives;
+pub loss_more : (b : BusView) (k : ClusterNo) (cause : Cause) (left : List ScriptWord) → IsLegalBy BuiltMayFollow b.system b.log → MayLose b k cause left → IsMore b (crash_entry b.system b.log k cause) left
+loss_more b k cause left legal may = record {
+  may = crash_may_follow b.system b.log k cause legal may.goes_on may.lives;
   words = may.words;
   looked = may.looked;
   scripted = may.scripted;
@@ -73,22 +73,27 @@ no_place_step j k n = by_test (same_cluster k j)
     by_test true = refl
     by_test false = refl
 
-pub place_loses : (b : BusView) (over : Bool) (places : Places) (cert : CertView) (number : ℕ) (w : ScriptWord) (k : ClusterNo) → IsKept b over places cert → is_over b.system b.log ≡ false → IsFirst (is_reached (length b.log)) b.left number w
-    → given_by (placement b.system b.log) w ≡ Some (Crash k Place) → MayLose b k Place (remove b.left number)
-place_loses b over places cert number w k kept goes_on first given = subst (MayLose b k Place) (sym first.2) (record {
+-- the loss that the first word that was reached gives may stand next
+pub given_loses : (b : BusView) (w : ScriptWord) (k : ClusterNo) → KeepsScript b → list_all is_built_word b.left ≡ true → is_over b.system b.log ≡ false → first_reached b.log b.left ≡ Some w
+    → given_by (placement b.system b.log) w ≡ Some (Crash k Place) → MayLose b k Place (without_reached b.log b.left)
+given_loses b w k keeps built goes_on first given = record {
   goes_on = goes_on;
-  lives = given_lives (placement b.system b.log) w k given (all-found (is_reached (length b.log)) is_built_word b.left w kept.words first.0).1;
-  words = all-without (is_reached (length b.log)) is_built_word b.left kept.words;
+  lives = given_lives (placement b.system b.log) w k given (all-found (is_reached (length b.log)) is_built_word b.left w built first).1;
+  words = all-without (is_reached (length b.log)) is_built_word b.left built;
   looked =
       subst (Looked b.system b.script (b.log ++ crash_entry b.system b.log k Place ∷ [])) (without-filter (is_reached (length b.log)) is_bus_word (reached_bus (length b.log)) b.left)
-      (gives (kept.scripted).looked w (crash_entry b.system b.log k Place) (find-filter (is_reached (length b.log)) is_bus_word (reached_bus (length b.log)) b.left ∙ first.0) given);
+      (gives keeps.looked w (crash_entry b.system b.log k Place) (find-filter (is_reached (length b.log)) is_bus_word (reached_bus (length b.log)) b.left ∙ first) given);
   scripted = refl;
-  used = accounts_more b.script b.left (without_reached b.log b.left) b.log (crash_entry b.system b.log k Place) (kept.scripted).used (λ j n.
-      let stay = steps_stay (length b.log) b.left w j n kept.words first.0 in
+  used = accounts_more b.script b.left (without_reached b.log b.left) b.log (crash_entry b.system b.log k Place) keeps.used (λ j n.
+      let stay = steps_stay (length b.log) b.left w j n built first in
       let none : ◌≡◌ {A = ℕ} (cond (is_step_crash j n (Crash k Place)) 1 0) 0 = ap (λ (c : Bool). cond c 1 0) (no_place_step j k n) in
       omega (arith, stay, none));
-  fewer = let one = length-without (is_reached (length b.log)) b.left w first.0 in omega (arith, one);
-})
+  fewer = let one = length-without (is_reached (length b.log)) b.left w first in omega (arith, one);
+}
+
+pub place_loses : (b : BusView) (over : Bool) (places : Places) (cert : CertView) (number : ℕ) (w : ScriptWord) (k : ClusterNo) → IsKept b over places cert → is_over b.system b.log ≡ false → IsFirst (is_reached (length b.log)) b.left number w
+    → given_by (placement b.system b.log) w ≡ Some (Crash k Place) → MayLose b k Place (remove b.left number)
+place_loses b over places cert number w k kept goes_on first given = subst (MayLose b k Place) (sym first.2) (given_loses b w k kept.scripted kept.words goes_on first.0 given)
 
 -- a word that was reached and loses no cluster gives nothing
 pub passes : (b : BusView) (number : ℕ) (w : ScriptWord) (o : Option ClusterNo) → IsFirst (is_reached (length b.log)) b.left number w → o ≡ None → given_by (placement b.system b.log) w ≡ option_map (λ k. Crash k Place) o → MayPass b number

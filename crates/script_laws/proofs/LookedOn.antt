@@ -1,0 +1,255 @@
+-- The looks at the words of a script add losses alone, and leave the log legal and one of the script.
+use Rattle.std.proofs.Common.{◌≡◌, ℕ, zero, suc, refl, sym, ◌∙◌, ap, subst, arith, List, [], ◌∷◌, ◌++◌, append_assoc, append-nil, length, length-append, Bool, true, false, cond, ◌||◌, eq-eqb, nat_le, Option, Some, None, unwrap_or, true≢false}
+use Rattle.std.specs.Prelude.{find}
+use Rattle.std.specs.List.{list_any, list_all}
+use Rattle.std.proofs.lemmas.Bool.{and_from}
+use Rattle.std.proofs.lemmas.List.Folds.{list_all-append}
+use Rattle.t32_base.specs.declared.process.ClusterNo.{ClusterNo}
+use Rattle.proc_state.specs.Mail.{without_first}
+use Rattle.bus_msg.specs.declared.entry.What.{What}
+use Rattle.bus_msg.specs.declared.entry.What.TheVariants.{Crash}
+use Rattle.bus_msg.specs.declared.entry.Cause.{Cause}
+use Rattle.bus_msg.specs.declared.entry.Cause.TheVariants.{Place, Step, Disk}
+use Rattle.bus_msg.specs.Places.{lives_in, same_cluster}
+use Rattle.cert_sched.specs.declared.script.ScriptWord.{ScriptWord}
+use Rattle.cert_sched.specs.declared.script.ScriptWord.TheVariants.{CrashAt, CrashStep, DiskAt, ReturnAt}
+use Rattle.cert_sched.specs.Schedule.{placement}
+use Rattle.cert_sched.specs.Rules.{is_over}
+use Rattle.cert_sched.specs.Legal.{IsLegalBy}
+use Rattle.cert_sched.specs.Built.{BuiltMayFollow, is_built_word}
+use Rattle.cert_sched.specs.Looked.{first_reached, given_by, is_reached, without_reached}
+use Rattle.cert_sched.specs.Simulation.{crash_entry}
+use Rattle.cert_sched.proofs.ListLaws.{list_all-weaker}
+use Rattle.cert_sched.proofs.LogLaws.{IsLegal-snoc}
+use Rattle.cert_sched.proofs.RisingLaws.{either_not}
+use Rattle.bus_order.specs.Script.{is_word_for}
+use Rattle.bus_order.specs.View.{BusView, KeepsScript, after_words, look_once, looks, no_marks, with_given}
+use Rattle.bus_order.proofs.WordsLaws.{all-found, all-without, length-without}
+use Rattle.bus_order.proofs.Looking.{look_over, look_some, settled_stays}
+use Rattle.bus_order.proofs.Keeping.{IsMore, scripted_more, scripted_passed}
+use Rattle.bus_order.proofs.Losing.{given_loses, loss_more}
+use Rattle.script_laws.specs.Added.{AddsLosses, is_bus_loss, is_its_word}
+
+-- ---- lists
+
+-- where one passes that is found, one passes
+found_any : {X : Type 0} (t u : X → Bool) (xs : List X) (x : X) → find t xs ≡ Some x → u x ≡ true → list_any u xs ≡ true
+found_any t u [] x found is = cc
+found_any t u (y ∷ xs) x found is = by_test (t y) found (found_any t u xs x)
+  where
+    or_right : (a b : Bool) → b ≡ true → (a || b) ≡ true
+    or_right true b h = refl
+    or_right false b h = h
+
+    by_test : (b : Bool) → cond b (Some y) (find t xs) ≡ Some x → (find t xs ≡ Some x → u x ≡ true → list_any u xs ≡ true) → (u y || list_any u xs) ≡ true
+    by_test true e more = let same : y ≡ x = ap (λ o. unwrap_or o y) e in ap (λ b. b || list_any u xs) (ap u same ∙ is)
+    by_test false e more = or_right (u y) (list_any u xs) (more e is)
+
+-- what passes without one of them passes with it
+any-within : {X : Type 0} (t u : X → Bool) (xs : List X) → list_any u (without_first t xs) ≡ true → list_any u xs ≡ true
+any-within t u [] some = some
+any-within t u (x ∷ xs) some = by_test (t x) (u x) some (any-within t u xs)
+  where
+    by_test : (a b : Bool) → list_any u (cond a xs (x ∷ without_first t xs)) ≡ true → (list_any u (without_first t xs) ≡ true → list_any u xs ≡ true) → (u x || list_any u xs) ≡ true
+    by_test true b some more = by_here (u x)
+      where
+        by_here : (c : Bool) → (c || list_any u xs) ≡ true
+        by_here true = refl
+        by_here false = some
+    by_test false b some more = by_here (u x) some
+      where
+        by_here : (c : Bool) → (c || list_any u (without_first t xs)) ≡ true → (c || list_any u xs) ≡ true
+        by_here true h = refl
+        by_here false h = more h
+
+-- one that does not pass changes nothing
+any-without : {X : Type 0} (t u : X → Bool) → ((x : X) → t x ≡ true → u x ≡ false) → (xs : List X) → list_any u (without_first t xs) ≡ list_any u xs
+any-without t u apart [] = refl
+any-without t u apart (x ∷ xs) = by_test (t x) refl (any-without t u apart xs)
+  where
+    by_test : (a : Bool) → t x ≡ a → list_any u (without_first t xs) ≡ list_any u xs → list_any u (cond a xs (x ∷ without_first t xs)) ≡ (u x || list_any u xs)
+    by_test true is more = sym (ap (λ b. b || list_any u xs) (apart x is))
+    by_test false is more = ap (λ b. u x || b) more
+
+none_first : {X : Type 0} (t : X → Bool) (xs : List X) → list_any t xs ≡ false → find t xs ≡ None
+none_first t [] none = refl
+none_first t (x ∷ xs) none =
+    let parts = either_not (t x) (list_any t xs) none in
+    ap (λ b. cond b (Some x) (find t xs)) parts.0 ∙ none_first t xs parts.1
+
+-- ---- what is added
+
+reached_no_word : (m : ℕ) (k : ClusterNo) (cause : Cause) (w : ScriptWord) → is_reached m w ≡ true → is_word_for k cause w ≡ false
+reached_no_word m k Place w reached = refl
+reached_no_word m k (Step n) (CrashAt j place) reached = refl
+reached_no_word m k (Step n) (CrashStep j step) reached = absurd (true≢false (sym reached))
+reached_no_word m k (Step n) (DiskAt j call) reached = refl
+reached_no_word m k (Step n) (ReturnAt j place) reached = refl
+reached_no_word m k (Disk n) (CrashAt j place) reached = refl
+reached_no_word m k (Disk n) (CrashStep j step) reached = refl
+reached_no_word m k (Disk n) (DiskAt j call) reached = absurd (true≢false (sym reached))
+reached_no_word m k (Disk n) (ReturnAt j place) reached = refl
+
+adds_nothing : (b : BusView) → AddsLosses b b
+adds_nothing b = record {
+  system = refl;
+  script = refl;
+  more = [];
+  added = sym (append-nil b.log);
+  losses = refl;
+  by_words = refl;
+  fewer = omega arith;
+  within = λ test some. some;
+  unused = λ k cause. refl;
+}
+
+adds_on : (a b c : BusView) → AddsLosses a b → AddsLosses b c → AddsLosses a c
+adds_on a b c first next = record {
+  system = next.system ∙ first.system;
+  script = next.script ∙ first.script;
+  more = first.more ++ next.more;
+  added = next.added ∙ ap (λ l. l ++ next.more) first.added ∙ append_assoc a.log first.more next.more;
+  losses = list_all-append is_bus_loss first.more next.more ∙ and_from (list_all is_bus_loss first.more) (list_all is_bus_loss next.more) first.losses next.losses;
+  by_words =
+      list_all-append (λ e. list_any (is_its_word e) a.left) first.more next.more
+      ∙ and_from (list_all (λ e. list_any (is_its_word e) a.left) first.more) (list_all (λ e. list_any (is_its_word e) a.left) next.more) first.by_words
+      (list_all-weaker (λ e. list_any (is_its_word e) b.left) (λ e. list_any (is_its_word e) a.left) (λ e some. first.within (is_its_word e) some) next.more next.by_words);
+  fewer = let x = first.fewer in let y = next.fewer in let long = length-append first.more next.more in omega (arith, x, y, long);
+  within = λ test some. first.within test (next.within test some);
+  unused = λ k cause. next.unused k cause ∙ first.unused k cause;
+}
+
+-- a word that gives nothing
+adds_passed : (b : BusView) (w : ScriptWord) → first_reached b.log b.left ≡ Some w → AddsLosses b (record b { left = without_reached b.log b.left })
+adds_passed b w first = record {
+  system = refl;
+  script = refl;
+  more = [];
+  added = sym (append-nil b.log);
+  losses = refl;
+  by_words = refl;
+  fewer = let one = length-without (is_reached (length b.log)) b.left w first in omega (arith, one);
+  within = λ test some. any-within (is_reached (length b.log)) test b.left some;
+  unused = λ k cause. any-without (is_reached (length b.log)) (is_word_for k cause) (reached_no_word (length b.log) k cause) b.left;
+}
+
+-- the bus that has looked at a word that gave this
+abbrev looked_at : BusView → Option What → BusView
+looked_at b o = record (with_given b o) { left = without_reached b.log b.left }
+
+-- a word that gives a loss
+adds_loss : (b : BusView) (j : ClusterNo) (place : ℕ) → first_reached b.log b.left ≡ Some (CrashAt j place) → nat_le place (length b.log) ≡ true → AddsLosses b (looked_at b (Some (Crash j Place)))
+adds_loss b j place first reached = record {
+  system = refl;
+  script = refl;
+  more = crash_entry b.system b.log j Place ∷ [];
+  added = refl;
+  losses = refl;
+  by_words =
+      and_from (list_any (is_its_word (crash_entry b.system b.log j Place)) b.left) true
+      (found_any (is_reached (length b.log)) (is_its_word (crash_entry b.system b.log j Place)) b.left (CrashAt j place) first (and_from (same_cluster j j) (nat_le place (length b.log)) (eq-eqb j.0 j.0 refl) reached)) refl;
+  fewer = let one = length-without (is_reached (length b.log)) b.left (CrashAt j place) first in omega (arith, one);
+  within = λ test some. any-within (is_reached (length b.log)) test b.left some;
+  unused = λ k cause. any-without (is_reached (length b.log)) (is_word_for k cause) (reached_no_word (length b.log) k cause) b.left;
+}
+
+-- ---- one look
+
+-- what a built word gives is a loss at a place
+given_loss : (P : BusView → Type 0) (b : BusView) (w : ScriptWord) (v : What) → is_built_word w ≡ true → given_by (placement b.system b.log) w ≡ Some v
+    → ((j : ClusterNo) (place : ℕ) → w ≡ CrashAt j place → v ≡ Crash j Place → P (looked_at b (Some (Crash j Place)))) → P (looked_at b (Some v))
+given_loss P b (CrashAt j place) v built given more = by_test (lives_in (placement b.system b.log) j) given
+  where
+    by_test : (c : Bool) → cond c (Some (Crash j Place)) None ≡ Some v → P (looked_at b (Some v))
+    by_test true e = let same : Crash j Place ≡ v = ap (λ o. unwrap_or o v) e in subst (λ v. P (looked_at b (Some v))) same (more j place refl (sym same))
+    by_test false e = cc
+given_loss P b (CrashStep j step) v built given more = cc
+given_loss P b (DiskAt j call) v built given more = cc
+given_loss P b (ReturnAt j place) v built given more = absurd (true≢false (sym built))
+
+-- a look changes nothing, passes a word that gives nothing, or adds a loss
+by_look : (P : BusView → Type 0) (b : BusView) → list_all is_built_word b.left ≡ true → P b
+    → ((w : ScriptWord) → first_reached b.log b.left ≡ Some w → given_by (placement b.system b.log) w ≡ None → P (looked_at b None))
+    → ((j : ClusterNo) (place : ℕ) → is_over b.system b.log ≡ false → first_reached b.log b.left ≡ Some (CrashAt j place) → given_by (placement b.system b.log) (CrashAt j place) ≡ Some (Crash j Place) → P (looked_at b (Some (Crash j Place))))
+    → P (look_once b)
+by_look P b built same passed lost = by_end (is_over b.system b.log) refl
+  where
+    by_given : (w : ScriptWord) (o : Option What) → is_over b.system b.log ≡ false → first_reached b.log b.left ≡ Some w → given_by (placement b.system b.log) w ≡ o → P (looked_at b o)
+    by_given w None goes_on first given = passed w first given
+    by_given w (Some v) goes_on first given =
+        given_loss P b w v (all-found (is_reached (length b.log)) is_built_word b.left w built first).1 given
+        (λ j place word is. lost j place goes_on (first ∙ ap Some word) (ap (given_by (placement b.system b.log)) (sym word) ∙ given ∙ ap Some is))
+
+    by_first : (o : Option ScriptWord) → is_over b.system b.log ≡ false → first_reached b.log b.left ≡ o → P (look_once b)
+    by_first None goes_on first = subst P (sym (look_some b None goes_on first)) same
+    by_first (Some w) goes_on first = subst P (sym (look_some b (Some w) goes_on first)) (by_given w (given_by (placement b.system b.log) w) goes_on first refl)
+
+    by_end : (c : Bool) → is_over b.system b.log ≡ c → P (look_once b)
+    by_end true over = subst P (sym (look_over b over)) same
+    by_end false goes_on = by_first (first_reached b.log b.left) goes_on refl
+
+built_once : (b : BusView) → list_all is_built_word b.left ≡ true → list_all is_built_word (look_once b).left ≡ true
+built_once b built =
+    by_look (λ new. list_all is_built_word new.left ≡ true) b built built
+    (λ w first given. all-without (is_reached (length b.log)) is_built_word b.left built)
+    (λ j place goes_on first given. all-without (is_reached (length b.log)) is_built_word b.left built)
+
+adds_once : (b : BusView) → list_all is_built_word b.left ≡ true → AddsLosses b (look_once b)
+adds_once b built =
+    by_look (AddsLosses b) b built (adds_nothing b) (λ w first given. adds_passed b w first)
+    (λ j place goes_on first given. adds_loss b j place first (all-found (is_reached (length b.log)) is_built_word b.left (CrashAt j place) built first).0)
+
+-- ---- many
+
+pub adds_losses : (n : ℕ) (b : BusView) → list_all is_built_word b.left ≡ true → AddsLosses b (looks n b)
+adds_losses zero b built = adds_nothing b
+adds_losses (suc n) b built = adds_on b (look_once b) (looks n (look_once b)) (adds_once b built) (adds_losses n (look_once b) (built_once b built))
+
+pub adds_after : (b : BusView) → list_all is_built_word b.left ≡ true → AddsLosses b (after_words b)
+adds_after b built = adds_losses (length b.left) b built
+
+-- where no word was reached they change nothing
+pub none_is_reached : (n : ℕ) (b : BusView) → list_any (is_reached (length b.log)) b.left ≡ false → looks n b ≡ b
+none_is_reached n b none = settled_stays n b (by_end (is_over b.system b.log) refl)
+  where
+    by_end : (c : Bool) → is_over b.system b.log ≡ c → look_once b ≡ b
+    by_end true over = look_over b over
+    by_end false goes_on = look_some b None goes_on (none_first (is_reached (length b.log)) b.left none)
+
+-- ---- what stays
+
+record Stays (b : BusView) : Type 0 where
+  pub legal : IsLegalBy BuiltMayFollow b.system b.log
+  pub words : list_all is_built_word b.left ≡ true
+  pub scripted : KeepsScript b
+
+stays_once : (b : BusView) → Stays b → Stays (look_once b)
+stays_once b stays =
+    by_look Stays b stays.words stays
+    (λ w first given. record {
+      legal = stays.legal;
+      words = all-without (is_reached (length b.log)) is_built_word b.left stays.words;
+      scripted = scripted_passed b w stays.scripted stays.words first given;
+    })
+    (λ j place goes_on first given.
+    let may = given_loses b (CrashAt j place) j stays.scripted stays.words goes_on first given in
+    let more : IsMore b (crash_entry b.system b.log j Place) (without_reached b.log b.left) = loss_more b j Place (without_reached b.log b.left) stays.legal may in
+    record {
+      legal = IsLegal-snoc BuiltMayFollow b.system b.log (crash_entry b.system b.log j Place) stays.legal more.may;
+      words = more.words;
+      scripted = scripted_more b (crash_entry b.system b.log j Place) (without_reached b.log b.left) (no_marks b.marks) stays.scripted more;
+    })
+
+all_stays : (n : ℕ) (b : BusView) → Stays b → Stays (looks n b)
+all_stays zero b stays = stays
+all_stays (suc n) b stays = all_stays n (look_once b) (stays_once b stays)
+
+pub looks_legal : (n : ℕ) (b : BusView) → IsLegalBy BuiltMayFollow b.system b.log → list_all is_built_word b.left ≡ true → KeepsScript b → IsLegalBy BuiltMayFollow (looks n b).system (looks n b).log
+looks_legal n b legal built keeps = (all_stays n b (record { legal = legal; words = built; scripted = keeps })).legal
+
+pub looks_built : (n : ℕ) (b : BusView) → list_all is_built_word b.left ≡ true → list_all is_built_word (looks n b).left ≡ true
+looks_built zero b built = built
+looks_built (suc n) b built = looks_built n (look_once b) (built_once b built)
+
+pub looks_scripted : (n : ℕ) (b : BusView) → IsLegalBy BuiltMayFollow b.system b.log → list_all is_built_word b.left ≡ true → KeepsScript b → KeepsScript (looks n b)
+looks_scripted n b legal built keeps = (all_stays n b (record { legal = legal; words = built; scripted = keeps })).scripted

@@ -1,0 +1,24 @@
+//! What the log says of a cluster that is off.
+ghost use Rattle.std.specs.Prelude.{ℕ, ◌≡◌, ◌<◌, true, false, not, List, Some, None, take, drop};
+ghost use Rattle.std.specs.List.{list_any};
+ghost use Rattle.t32_base.specs.declared.process.ClusterNo.{ClusterNo};
+ghost use Rattle.sys_text.specs.declared.system.System.{System};
+ghost use Rattle.bus_msg.specs.declared.entry.Entry.{Entry};
+ghost use Rattle.bus_msg.specs.Places.{lives_in};
+ghost use Rattle.cert_sched.specs.Schedule.{placement};
+ghost use Rattle.cert_sched.specs.Losses.{is_by_cluster, was_lost_in};
+ghost use Rattle.cert_sched.specs.Legal.{IsLegalBy};
+ghost use Rattle.cert_sched.specs.Built.{BuiltMayFollow};
+ghost use Rattle.bus_order.specs.Script.{off_at};
+ghost use Rattle.script_laws.specs.Off.{IsItsLoss};
+
+/// A law and no code: while the entries are of the kinds that are built so far, a cluster is off exactly where it was lost.
+pub fn off_is_lost()
+    // It was lost at the place since which it is off, and nowhere else.
+    ensures off { (system : System) (log : List Entry) (k : ClusterNo) (at : ℕ) → IsLegalBy BuiltMayFollow system log → off_at log k ≡ Some at → IsItsLoss log k at }
+    ensures not_off { (system : System) (log : List Entry) (k : ClusterNo) → IsLegalBy BuiltMayFollow system log → off_at log k ≡ None → was_lost_in log k ≡ false }
+    // One of the system lives exactly where it was not lost.
+    ensures lives { (system : System) (log : List Entry) (k : ClusterNo) → IsLegalBy BuiltMayFollow system log → k.0 < system.clusters → lives_in (placement system log) k ≡ not (was_lost_in log k) }
+    // After its loss it sends no entry.
+    ensures silent { (system : System) (log : List Entry) (k : ClusterNo) (n : ℕ) → IsLegalBy BuiltMayFollow system log → was_lost_in (take n log) k ≡ true → list_any (is_by_cluster k) (drop n log) ≡ false }
+{}
