@@ -8,7 +8,8 @@ use Rattle.bus_msg.specs.declared.entry.Entry.{Entry}
 use Rattle.cert_sched.specs.Appended.{entry_of}
 use Rattle.cert_sched.specs.Rules.{is_over}
 use Rattle.cert_sched.specs.Legal.{IsLegalBy}
-use Rattle.cert_sched.specs.Built.{UnlostMayFollow}
+use Rattle.cert_sched.specs.Built.{BuiltMayFollow}
+use Rattle.cert_sched.proofs.UnlostLaws.{legal_unlost}
 use Rattle.cert_sched.specs.Losses.{is_by_cluster}
 use Rattle.cluster_core.specs.declared.worked.Worked.{Worked}
 use Rattle.cluster_core.specs.declared.worked.Worked.TheVariants.{Moved, Queued, Waits, Rests}
@@ -67,7 +68,7 @@ behind_posting Shows from after t new shows low sound few goes_on taken caught =
 pub follows_some : (b : BusView) (c : ClusterView) → IsSound b → IsAlong b c → FollowsSome c
 follows_some b c sound along = record {
   log = take c.cursor b.log;
-  open_log = (subst (λ s. IsLegalBy UnlostMayFollow s (take c.cursor b.log)) (sym along.system) (legal_prefix UnlostMayFollow b.system b.log c.cursor sound.legal), (along.beside).goes_on);
+  open_log = (subst (λ s. IsLegalBy BuiltMayFollow s (take c.cursor b.log)) (sym along.system) (legal_prefix BuiltMayFollow b.system b.log c.cursor (legal_unlost b.system b.log sound.legal)), (along.beside).goes_on);
   follows = (along.beside).follows;
 }
 

@@ -8,21 +8,25 @@ use Rattle.bus_msg.specs.declared.entry.What.{What}
 use Rattle.bus_msg.specs.declared.entry.What.TheVariants.{Mail, Birth, Exit, Page, Sync, Fetch, PageIs, Crash, Return, Rebackup, Done, Stop}
 use Rattle.bus_msg.specs.declared.entry.Post.{Post}
 use Rattle.bus_msg.specs.declared.entry.Entry.{Entry}
+use Rattle.bus_msg.specs.Places.{Places}
+use Rattle.bus_msg.specs.PlacedAfter.{what}
 use Rattle.cert_sched.specs.Schedule.{placement}
+use Rattle.cert_sched.specs.Scripted.{closes}
 use Rattle.cert_sched.specs.Appended.{entry_of}
-use Rattle.cert_sched.specs.Rules.{is_over}
+use Rattle.cert_sched.specs.Rules.{ends_run, is_over}
 use Rattle.cert_sched.specs.Legal.{IsLegalBy}
-use Rattle.cert_sched.specs.Built.{UnlostMayFollow, is_unlost}
+use Rattle.cert_sched.specs.Built.{BuiltMayFollow, UnlostMayFollow, is_unlost}
 use Rattle.cert_sched.specs.Losses.{is_by_cluster, is_from}
+use Rattle.cert_sched.proofs.Induction.{is_over-snoc}
 use Rattle.cert_sched.proofs.LogLaws.{IsLegal-snoc}
+use Rattle.cert_sched.proofs.UnlostLaws.{may_unlost}
 use Rattle.cluster_core.specs.View.{ClusterView, head_of, after_head, after_sent}
 use Rattle.cluster_core.specs.Queue.{IsQueueLegal}
 use Rattle.cluster_core.specs.Follows.{FollowsBuilt, IsOpen}
 use Rattle.cluster_core.specs.Calls.{Absorbs, IsReady, ReadyFor, absorbed}
+use Rattle.cluster_core.proofs.ByKind.{by_kind}
 use Rattle.cluster_core.proofs.Following.{no_end}
 use Rattle.bus_order.specs.View.{BusView}
-use Rattle.bus_order.proofs.OverLaws.{closed-snoc}
-use Rattle.bus_order.proofs.Unscripted.{over_closed}
 use Rattle.cluster_run.specs.Along.{IsAlong, IsBeside, IsReadyAt, IsSound, TakesNext}
 use Rattle.cluster_run.specs.Progress.{log_load}
 use Rattle.cluster_run.proofs.Prefixes.{drop_whole, get_last}
@@ -47,6 +51,10 @@ same_after (Rebackup to fresh recs) c h = absurd (true≢false (sym h))
 same_after (Done rests) c h = refl
 same_after Stop c h = refl
 
+-- a log ends by an entry that is no loss exactly where that closes it
+ends_closed : (places : Places) (w : What) → is_unlost w ≡ true → ends_run places w ≡ closes w
+ends_closed places = by_kind (λ w. ends_run places w ≡ closes w) (λ at letter. refl) (λ pid at end. refl) (λ rests. refl) refl
+
 -- a cluster that had seen all of a log that goes on sent its one post, and the bus has no entry behind it
 pub record IsSent (log : List Entry) (c : ClusterView) (post : Post) (after : BusView) : Type 0 where
   pub beside : IsBeside log c
@@ -54,7 +62,7 @@ pub record IsSent (log : List Entry) (c : ClusterView) (post : Post) (after : Bu
   pub goes_on : is_over c.system log ≡ false
   pub only : c.queue ≡ post ∷ []
   pub tried : c.tried ≡ true
-  pub legal : IsLegalBy UnlostMayFollow c.system log
+  pub legal : IsLegalBy BuiltMayFollow c.system log
   pub system : c.system ≡ after.system
   pub longer : after.log ≡ log ++ entry_of c.system log post ∷ []
 
@@ -76,11 +84,11 @@ module _ (log : List Entry) (c : ClusterView) (post : Post) (after : BusView) (s
   pub clears : after_sent c c.queue ≡ cleared c
   clears = ap (after_sent c) s.only ∙ ap (λ (v : ClusterView). record v { queue = []; tried = false }) (same_after post.what c may.built)
 
-  legal_next : IsLegalBy UnlostMayFollow c.system (log ++ next ∷ [])
-  legal_next = IsLegal-snoc UnlostMayFollow c.system log next s.legal may
+  legal_next : IsLegalBy BuiltMayFollow c.system (log ++ next ∷ [])
+  legal_next = IsLegal-snoc BuiltMayFollow c.system log next s.legal (may_unlost c.system log next may)
 
   goes_on_next : is_over c.system (log ++ next ∷ []) ≡ false
-  goes_on_next = over_closed c.system (log ++ next ∷ []) legal_next ∙ closed-snoc log next ∙ no_end c.number (placement c.system log) post.by post.what may.built own (may.stands).by_right
+  goes_on_next = is_over-snoc c.system log next ∙ ends_closed (placement c.system log) (what next) may.built ∙ no_end c.number (placement c.system log) post.by post.what may.built own (may.stands).by_right
 
   pub sent_goes_on : is_over after.system after.log ≡ false
   sent_goes_on = (λ i. is_over (sym s.system i) (s.longer i)) ∙ goes_on_next
@@ -99,10 +107,10 @@ module _ (log : List Entry) (c : ClusterView) (post : Post) (after : BusView) (s
   at_cursor : slice_get after.log c.cursor ≡ Some next
   at_cursor = (λ i. slice_get (s.longer i) (s.seen i)) ∙ get_last log next
 
-  open_first : IsOpen UnlostMayFollow c.system log
+  open_first : IsOpen BuiltMayFollow c.system log
   open_first = (s.legal, s.goes_on)
 
-  open_next : IsOpen UnlostMayFollow c.system (log ++ next ∷ [])
+  open_next : IsOpen BuiltMayFollow c.system (log ++ next ∷ [])
   open_next = (legal_next, goes_on_next)
 
   between : IsReady log next (cleared c)

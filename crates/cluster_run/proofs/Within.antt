@@ -20,7 +20,10 @@ use Rattle.sys_calls.proofs.Quiet.{no_fork}
 use Rattle.plain_kernel.specs.Kernel.{Kernel, boot, process_at}
 use Rattle.bus_msg.specs.declared.entry.Entry.{Entry}
 use Rattle.bus_msg.specs.declared.placed.Placed.{Placed}
-use Rattle.bus_msg.specs.Places.{is_at_home, same_pid}
+use Rattle.bus_msg.specs.declared.entry.What.{What}
+use Rattle.bus_msg.specs.declared.entry.What.TheVariants.{Mail, Birth, Exit, Page, Sync, Fetch, PageIs, Crash, Return, Rebackup, Done, Stop}
+use Rattle.bus_msg.specs.PlacedAfter.{after_exit, after_loss, placed_after, what}
+use Rattle.bus_msg.specs.Places.{Places, is_at_home, same_pid}
 use Rattle.roll_forward.specs.Deeds.{Deed, Sends, births_in}
 use Rattle.roll_forward.specs.Replay.{put_first, replayed, replay_step}
 use Rattle.cert_sched.specs.Parts.{put_rising, rising, upto_last}
@@ -30,9 +33,10 @@ use Rattle.cert_sched.specs.Schedule.{placement, places_at_boot, plain_after, pr
 use Rattle.cert_sched.specs.Steps.{silent_upto}
 use Rattle.cert_sched.specs.Rests.{home_pids}
 use Rattle.cert_sched.specs.Rules.{is_over}
-use Rattle.cert_sched.specs.Built.{UnlostMayFollow}
+use Rattle.cert_sched.specs.Built.{BuiltMayFollow, is_built}
 use Rattle.cert_sched.specs.Legal.{IsLegalBy}
-use Rattle.cert_sched.proofs.UnlostLaws.{unlost_kept, kept}
+use Rattle.cert_sched.proofs.Induction.{legal_induction}
+use Rattle.cert_sched.proofs.LogLaws.{placement-snoc}
 use Rattle.cert_sched.proofs.RisingLaws.{NoTwo}
 use Rattle.cert_sched.proofs.StepLaws.{silent_from}
 use Rattle.cluster_core.specs.View.{ClusterView, Held, Runs, Rolls, Waits, held_load, held_of, load}
@@ -155,11 +159,28 @@ rising_long (x ∷ xs) = omega (arith, put_long x (rising xs), rising_long xs)
 abbrev pub placed_count : System → ℕ
 placed_count system = length (places_at_boot system).placed
 
-few_placed : (system : System) (log : List Entry) → IsLegalBy UnlostMayFollow system log → length (placement system log).placed ≡ placed_count system
-few_placed system log legal =
-    sym (length-map (placement system log).placed kept) ∙ ap length (unlost_kept system log legal) ∙ length-map (places_at_boot system).placed kept
+-- an entry of a kind that is built places as many as before
+same_count : (w : What) (places : Places) → is_built w ≡ true → length (placed_after places w).placed ≡ length places.placed
+same_count (Mail at letter) places h = refl
+same_count (Birth parent at child end) places h = absurd (true≢false (sym h))
+same_count (Exit pid at end) places h = length-map places.placed (after_exit pid)
+same_count (Page pid at index bytes) places h = absurd (true≢false (sym h))
+same_count (Sync pid small read took) places h = absurd (true≢false (sym h))
+same_count (Fetch pid index) places h = absurd (true≢false (sym h))
+same_count (PageIs pid index bytes) places h = absurd (true≢false (sym h))
+same_count (Crash k cause) places h = length-map places.placed (after_loss k)
+same_count (Return k) places h = absurd (true≢false (sym h))
+same_count (Rebackup to fresh recs) places h = absurd (true≢false (sym h))
+same_count (Done rests) places h = refl
+same_count Stop places h = refl
 
-few_here : (system : System) (log : List Entry) (c : ClusterView) → IsLegalBy UnlostMayFollow system log → rising (pids_in c.here) ≡ rising (home_pids system log c.number) → length c.here ≤ placed_count system
+few_placed : (system : System) (log : List Entry) → IsLegalBy BuiltMayFollow system log → length (placement system log).placed ≡ placed_count system
+unfolding placement
+few_placed system log legal =
+    legal_induction BuiltMayFollow system (λ log. length (placement system log).placed ≡ placed_count system) refl
+    (λ log e same may. ap (λ (p : Places). length p.placed) (placement-snoc system log e) ∙ same_count (what e) (placement system log) may.built ∙ same) log legal
+
+few_here : (system : System) (log : List Entry) (c : ClusterView) → IsLegalBy BuiltMayFollow system log → rising (pids_in c.here) ≡ rising (home_pids system log c.number) → length c.here ≤ placed_count system
 few_here system log c legal same =
     let here : length c.here ≡ length (home_pids system log c.number) = sym (length-map c.here (λ (e : Pid × Held). (e.0).0)) ∙ sym (rising_long (pids_in c.here)) ∙ ap length same ∙ rising_long (home_pids system log c.number) in
     let home : length (home_pids system log c.number) ≡ count_by (is_at_home c.number) (placement system log).placed =
@@ -170,7 +191,7 @@ few_here system log c legal same =
 abbrev pub most_load : System → ℕ
 most_load system = placed_count system * boot_load system
 
-load_within : (system : System) (log : List Entry) (c : ClusterView) → IsLegalBy UnlostMayFollow system log → FollowsBuilt system log c → NoTwo (pids_in c.here) → c.queue ≡ [] → load c ≤ most_load system
+load_within : (system : System) (log : List Entry) (c : ClusterView) → IsLegalBy BuiltMayFollow system log → FollowsBuilt system log c → NoTwo (pids_in c.here) → c.queue ≡ [] → load c ≤ most_load system
 load_within system log c legal follows two empty =
     let each : All (λ (e : Pid × Held). held_load e.1 ≤ boot_load system) c.here =
     each_held (λ h. held_load h ≤ boot_load system) c.here two (λ p h at. held_within system log p h (subst (λ q. IsHeldAs system log q p h) empty ((follows.processes).held p h at))) in
