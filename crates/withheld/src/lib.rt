@@ -23,7 +23,8 @@ use t32_base::streams::NoMemory;
 
 /// How many emissions of a run were to be withheld: at each loss of a cluster, the letters that the processes which it
 /// moves had sent before. In such a log no process synchronises or is born, so their backups had counted just those.
-/// Walks the log once, and once more up to each loss; where no cluster was lost it takes no memory.
+/// Walks the log, and once more up to each loss, of which there is one at most for each cluster, as none returns. Where no
+/// cluster was lost it takes no memory. After want of memory nothing is said.
 pub fn withheld(alloc: Global, system: &System, log: &[Entry]) -> Result<u64, NoMemory>
     requires valid { is_system system.now ≡ true }
     requires legal { IsLegalBy BuiltMayFollow system.now log.now }
