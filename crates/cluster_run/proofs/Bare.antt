@@ -1,85 +1,188 @@
--- What the calls of a bus without a script answer.
-use Rattle.std.proofs.Common.{◌≡◌, ℕ, ◌^◌, ◌<◌, ◌≤◌, sym, ◌∙◌, ap, subst, arith, List, [], length, Bool, true, false, Option, Some, None, Result, Ok, Err}
+-- What the bus answers to a cluster that follows its log, and what a bus without a script is.
+use Rattle.std.proofs.Common.{◌≡◌, ℕ, ◌+◌, ◌^◌, ◌<◌, ◌≤◌, refl, sym, ◌∙◌, ap, subst, arith, inl, inr, List, [], ◌∷◌, length, take, length-append, Bool, true, false, cond, Option, Some, None, Result, Ok, Err, true≢false, eqb-true}
+use Rattle.std.specs.List.{list_all}
 use Rattle.std.specs.Option.{option_map_or}
+use Rattle.std.proofs.lemmas.Bool.{and_parts}
+use Rattle.std.proofs.lemmas.List.{take_all}
+use Rattle.std.proofs.lemmas.List.Elements.{All-nil, All-cons}
 use Rattle.t32_base.specs.declared.process.ClusterNo.{ClusterNo}
 use Rattle.sys_text.specs.declared.system.System.{System}
+use Rattle.bus_msg.specs.declared.entry.By.{By}
+use Rattle.bus_msg.specs.declared.entry.By.TheVariants.{Cluster, Bus}
+use Rattle.bus_msg.specs.declared.entry.What.TheVariants.{Done}
 use Rattle.bus_msg.specs.declared.entry.Post.{Post}
 use Rattle.cert_sched.specs.Appended.{entry_of}
-use Rattle.cert_sched.specs.Rules.{is_over}
+use Rattle.cert_sched.specs.Built.{BuiltMayFollow, UnlostMayFollow}
 use Rattle.cert_sched.specs.Legal.{IsLegalBy}
-use Rattle.cert_sched.specs.Built.{BuiltMayFollow}
+use Rattle.cert_sched.specs.Losses.{is_from, least_steps, capped, was_lost_in}
+use Rattle.cert_sched.specs.Rests.{IsRestOf}
+use Rattle.cert_sched.specs.Rules.{is_over}
 use Rattle.cert_sched.specs.Schedule.{placement}
 use Rattle.cert_sched.proofs.UnlostLaws.{may_unlost}
+use Rattle.cluster_core.specs.View.{ClusterView}
+use Rattle.cluster_core.specs.Follows.{FollowsBuilt}
+use Rattle.cluster_core.specs.Queue.{IsQueueLegal}
+use Rattle.bus_lock.specs.Lists.{MayAdd}
+use Rattle.bus_order.specs.Log.{author, author_of}
 use Rattle.bus_order.specs.declared.marks.Mark.{Mark}
 use Rattle.bus_order.specs.declared.marks.Idled.{Idled}
 use Rattle.bus_order.specs.declared.marks.Idled.TheVariants.{Marked, Done as WasDone}
 use Rattle.bus_order.specs.declared.refused.Refused.{Refused}
 use Rattle.bus_order.specs.declared.refused.Refused.TheVariants.{Over, Off, Behind, NoMemory}
-use Rattle.bus_order.specs.Script.{off_at}
-use Rattle.bus_order.specs.View.{Admits, BusView, Ends, Idles, KeepsScript, MayTransmit, Transmits, after_words, is_awaited, with_mark, with_post}
 use Rattle.bus_order.specs.declared.shared.Origin.{Origin}
-use Rattle.bus_order.proofs.Unscripted.{after_none, left_none, looks_none, never_off, unscripted_legal}
-use Rattle.cluster_run.specs.Along.{IsSound}
+use Rattle.bus_order.specs.Script.{is_unpassed}
+use Rattle.bus_order.specs.View.{Admits, BusView, Ends, Idles, MayIdle, MayTransmit, Transmits, after_words, is_awaited, with_mark, with_post}
+use Rattle.script_laws.proofs.OffLosses.{not_off_not_lost}
+use Rattle.cluster_run.specs.declared.offers.Offered.TheVariants.{Sent, Behind as WasBehind, Over as WasOver, Off as WasOff}
+use Rattle.cluster_run.specs.Along.{IsAlong, IsSound}
+use Rattle.cluster_run.specs.Offers.{Adds, GoesOnFor, IsToldBy, OfferIs, TellIs}
 use Rattle.cluster_run.specs.Seated.{bare, origin_of}
-use Rattle.cluster_run.specs.Offers.{MayOffer, OffersBare, TakesMark, TellsBare}
+use Rattle.cluster_run.proofs.Offering.{adds_worded, along_worded}
+use Rattle.cluster_run.proofs.Owning.{adds_more}
+use Rattle.cluster_run.proofs.TakingIn.{seen_lives}
+use Rattle.cluster_run.proofs.Upto.{lost_where_off}
+use Rattle.cluster_run.proofs.Worded.{Worded, after_worded, looked_worded, none_passed}
 
-pub may_transmit : (b : BusView) (by : ClusterNo) (cursor : ℕ) (post : Post) → MayOffer b by cursor post → MayTransmit b by cursor post
-may_transmit b by cursor post may = record { seen = may.seen; own = may.own; may = λ goes_on seen. may_unlost b.system b.log (entry_of b.system b.log post) (may.may goes_on seen) }
+-- ---- what the calls ask
 
-none_off : (b : BusView) (by : ClusterNo) (at : ℕ) → IsSound b → off_at b.log by ≡ Some at → ⊥
-none_off b by at sound off = let e : ◌≡◌ {A = Option ℕ} None (Some at) = sym (never_off b.system b.log by sound.legal) ∙ off in cc
+-- a post from a cluster is its own
+own_post : (k : ClusterNo) (by : By) → is_from k by ≡ true → by ≡ Cluster k
+own_post k Bus from = absurd (true≢false (sym from))
+own_post k (Cluster j) from = λ i. Cluster (record { 0 = eqb-true j.0 k.0 from i })
 
-pub offers_bare : (old new : BusView) (by : ClusterNo) (cursor : ℕ) (post : Post) (r : Result ℕ Refused) → IsSound old → cursor ≤ length old.log → Transmits old by cursor post r new → OffersBare old cursor post r new
-offers_bare old new by cursor post (Ok at) sound seen t =
-    let same = after_none old (sound.bare).left in
-    let a : Admits old by cursor (Ok tt) = subst (λ b. Admits b by cursor (Ok tt)) same t.0 in
-    (a.0, omega (arith, seen, a.2), t.1 ∙ ap (λ (b : BusView). length b.log) same, t.2 ∙ ap (λ b. with_post b post) same)
-offers_bare old new by cursor post (Err (Over at)) sound seen t =
-    let same = after_none old (sound.bare).left in
-    let a : Admits old by cursor (Err (Over at)) = subst (λ b. Admits b by cursor (Err (Over at))) same t.0 in
-    (a.0, t.1 ∙ same)
-offers_bare old new by cursor post (Err (Off at)) sound seen t =
-    let same = after_none old (sound.bare).left in
-    let a : Admits old by cursor (Err (Off at)) = subst (λ b. Admits b by cursor (Err (Off at))) same t.0 in
-    none_off old by at sound a.1
-offers_bare old new by cursor post (Err (Behind n)) sound seen t =
-    let same = after_none old (sound.bare).left in
-    let a : Admits old by cursor (Err (Behind n)) = subst (λ b. Admits b by cursor (Err (Behind n))) same t.0 in
-    (a.0, subst (λ m. cursor < m) a.2 a.3, t.1 ∙ same)
-offers_bare old new by cursor post (Err NoMemory) sound seen t = t.1 ∙ looks_none t.0 old (sound.bare).left
+-- one that has seen all follows the whole log
+follows_all : (b : BusView) (c : ClusterView) → IsAlong b c → c.cursor ≡ length b.log → FollowsBuilt c.system b.log c
+follows_all b c along seen = subst (λ log. FollowsBuilt c.system log c) (take_all c.cursor b.log (omega (arith, seen))) (along.beside).follows
 
-pub tells_bare : (old new : BusView) (by : ClusterNo) (cursor : ℕ) (m : Mark) (r : Result Idled Refused) → IsSound old → cursor ≤ length old.log → Idles old by cursor m r new → TellsBare old by cursor m r new
-tells_bare old new by cursor m (Ok Marked) sound seen t =
-    let same = after_none old (sound.bare).left in
-    let a : Admits old by cursor (Ok tt) = subst (λ b. Admits b by cursor (Ok tt)) same t.0 in
-    (a.0, omega (arith, seen, a.2), sym (ap (λ (b : BusView). is_awaited (placement old.system b.log) new.marks) same) ∙ t.1, t.2 ∙ ap (λ b. with_mark b by m) same)
-tells_bare old new by cursor m (Ok (WasDone at)) sound seen t =
-    let same = after_none old (sound.bare).left in
-    let a : Admits old by cursor (Ok tt) = subst (λ b. Admits b by cursor (Ok tt)) same t.0 in
-    (a.0, omega (arith, seen, a.2), t.1 ∙ ap (λ (b : BusView). length b.log) same, subst (λ b. Ends (with_mark b by m) new) same t.2)
-tells_bare old new by cursor m (Err (Over at)) sound seen t =
-    let same = after_none old (sound.bare).left in
-    let a : Admits old by cursor (Err (Over at)) = subst (λ b. Admits b by cursor (Err (Over at))) same t.0 in
-    (a.0, t.1 ∙ same)
-tells_bare old new by cursor m (Err (Off at)) sound seen t =
-    let same = after_none old (sound.bare).left in
-    let a : Admits old by cursor (Err (Off at)) = subst (λ b. Admits b by cursor (Err (Off at))) same t.0 in
-    none_off old by at sound a.1
-tells_bare old new by cursor m (Err (Behind n)) sound seen t =
-    let same = after_none old (sound.bare).left in
-    let a : Admits old by cursor (Err (Behind n)) = subst (λ b. Admits b by cursor (Err (Behind n))) same t.0 in
-    (a.0, subst (λ n. cursor < n) a.2 a.3, t.1 ∙ same)
-tells_bare old new by cursor m (Err NoMemory) sound seen t = t.1 ∙ looks_none t.0 old (sound.bare).left
+pub may_be_sent : (b : BusView) (c : ClusterView) (post : Post) (k : ClusterNo) (n : ℕ) → IsAlong b c → c.queue ≡ post ∷ [] → k ≡ c.number → n ≡ c.cursor → MayTransmit b k n post
+may_be_sent b c post k n along only k_is n_is =
+    let At : ClusterNo → Type 0 = λ k. MayTransmit b k n post in
+    let From : ℕ → Type 0 = λ n. MayTransmit b c.number n post in
+    subst At (sym k_is) (subst From (sym n_is) (record {
+      seen = (along.beside).within;
+      own =
+          let all = sym (ap (λ q. list_all (λ (p : Post). is_from c.number p.by) q) only) ∙ (((along.beside).follows).queue).own in
+          own_post c.number post.by (and_parts (is_from c.number post.by) true all).0;
+      may = λ goes_on seen.
+          let follows = follows_all b c along seen in
+          let queue = subst (λ q. IsQueueLegal UnlostMayFollow c.system b.log q) only (follows.queue).legal in
+          let may : UnlostMayFollow c.system b.log (entry_of c.system b.log post) = queue.0 in
+          subst (λ s. BuiltMayFollow s b.log (entry_of s b.log post)) along.system (may_unlost c.system b.log (entry_of c.system b.log post) may);
+    }))
 
--- ---- it is sound
+pub may_be_told : (b : BusView) (c : ClusterView) (m : Mark) (k : ClusterNo) (n : ℕ) → IsSound b → IsAlong b c → IsToldBy c m → k ≡ c.number → n ≡ c.cursor → MayIdle b k n m
+may_be_told b c m k n sound along told k_is n_is =
+    let At : ClusterNo → Type 0 = λ k. MayIdle b k n m in
+    let From : ℕ → Type 0 = λ n. MayIdle b c.number n m in
+    let same = along.system in
+    subst At (sym k_is) (subst From (sym n_is) (record {
+      has = subst (λ (s : System). (c.number).0 < s.clusters) same (along.beside).has;
+      seen = (along.beside).within;
+      may = λ goes_on seen.
+          let follows = follows_all b c along seen in
+          let enough = less (least_steps b.log b.log c.number) c.steps c.tried ((follows.steps).counted (seen_lives b c along seen)) in
+          record {
+            rests = subst (λ s. IsRestOf s b.log c.number m.rests) same (told.rests told.empty b.log (subst (λ s. IsLegalBy BuiltMayFollow s b.log) (sym same) sound.legal, ap (λ s. is_over s b.log) same ∙ goes_on) follows);
+            counted = subst (λ s. capped (least_steps b.log b.log c.number) ≤ s) (sym told.steps) enough;
+            passed = none_passed c.number b.log m.steps b.script sound.words;
+          };
+    }))
+  where
+    less : (n s : ℕ) (b : Bool) → capped (n + cond b 1 0) ≤ s → capped n ≤ s
+    less n s true h = omega (arith, h)
+    less n s false h = omega (arith, h)
 
-pub sound_of : (b : BusView) → b.script ≡ [] → IsLegalBy BuiltMayFollow b.system b.log → KeepsScript b → length b.log < 2 ^ 64 → IsSound b
-sound_of b none legal keeps fits = record { bare = record { script = none; left = left_none b keeps none }; legal = unscripted_legal b keeps none legal; fits = fits }
+-- ---- what they add
+
+adds_post : (k : ClusterNo) (b : BusView) (post : Post) → post.by ≡ Cluster k → Adds k b (with_post b post)
+adds_post k b post own = record {
+  system = refl;
+  script = refl;
+  more = entry_of b.system b.log post ∷ [];
+  log = refl;
+  may = All-cons (MayAdd author_of k.0) (entry_of b.system b.log post) [] (inr (ap (λ by. author by post.what) own)) (All-nil (MayAdd author_of k.0));
+}
+
+adds_words : (k : ClusterNo) (old new : BusView) → new ≡ after_words old → Adds k old new
+adds_words k old new is = subst (Adds k old) (sym is) (adds_worded k old (after_words old) (after_worded old))
+
+pub adds_sent : (old new : BusView) (k : ClusterNo) (n : ℕ) (post : Post) (r : Result ℕ Refused) → post.by ≡ Cluster k → Transmits old k n post r new → Adds k old new
+adds_sent old new k n post (Ok at) own t = subst (Adds k old) (sym t.2) (adds_more k old (after_words old) (with_post (after_words old) post) (adds_worded k old (after_words old) (after_worded old)) (adds_post k (after_words old) post own))
+adds_sent old new k n post (Err (Over at)) own t = adds_words k old new t.1
+adds_sent old new k n post (Err (Off at)) own t = adds_words k old new t.1
+adds_sent old new k n post (Err (Behind m)) own t = adds_words k old new t.1
+adds_sent old new k n post (Err NoMemory) own t = adds_worded k old new (looked_worded old new t)
+
+pub adds_told : (old new : BusView) (k : ClusterNo) (n : ℕ) (m : Mark) (r : Result Idled Refused) → Idles old k n m r new → Adds k old new
+adds_told old new k n m (Ok Marked) t =
+    subst (Adds k old) (sym t.2) (let words = adds_worded k old (after_words old) (after_worded old) in record { system = words.system; script = words.script; more = words.more; log = words.log; may = words.may })
+adds_told old new k n m (Ok (WasDone at)) t =
+    let ends = t.2 in
+    let words : BusView = after_words old in
+    subst (Adds k old) (sym ends.ended) (adds_more k old words _ (adds_worded k old words (after_worded old)) (record {
+      system = refl;
+      script = refl;
+      more = entry_of words.system words.log (record { by = Bus; what = Done ends.rests }) ∷ [];
+      log = refl;
+      may = All-cons (MayAdd author_of k.0) (entry_of words.system words.log (record { by = Bus; what = Done ends.rests })) [] (inl refl) (All-nil (MayAdd author_of k.0));
+    }))
+adds_told old new k n m (Err (Over at)) t = adds_words k old new t.1
+adds_told old new k n m (Err (Off at)) t = adds_words k old new t.1
+adds_told old new k n m (Err (Behind l)) t = adds_words k old new t.1
+adds_told old new k n m (Err NoMemory) t = adds_worded k old new (looked_worded old new t)
+
+-- ---- what they answer
+
+module _ (old new : BusView) (c : ClusterView) (k : ClusterNo) (n : ℕ) (along : IsAlong old c) (legal : IsLegalBy BuiltMayFollow new.system new.log) (k_is : k ≡ c.number) (n_is : n ≡ c.cursor) where
+  abbrev words : BusView
+  words = after_words old
+
+  words_along : IsAlong words c
+  words_along = along_worded old words c (after_worded old) along
+
+  all_seen : length words.log ≤ n → c.cursor ≡ length words.log
+  all_seen past = omega (arith, past, n_is, (words_along.beside).within)
+
+  goes_on_seen : is_over words.system words.log ≡ false → length words.log ≤ n → GoesOnFor c.number words
+  goes_on_seen goes_on past = record { goes_on = goes_on; lives = seen_lives words c words_along (all_seen past) }
+
+  pub is_sent : (post : Post) (at : ℕ) → Transmits old k n post (Ok at) new → OfferIs c.number c.cursor post Sent old new
+  is_sent post at t = (goes_on_seen (t.0).0 (t.0).2, all_seen (t.0).2, t.2)
+
+  legal_words : new ≡ words → IsLegalBy BuiltMayFollow words.system words.log
+  legal_words is = subst (λ (b : BusView). IsLegalBy BuiltMayFollow b.system b.log) is legal
+
+  pub is_behind : (l : ℕ) → Admits words k n (Err (Behind l)) → new ≡ words → GoesOnFor c.number new × (c.cursor < length new.log)
+  is_behind l a is =
+      let lives : was_lost_in words.log k ≡ false = not_off_not_lost words.system words.log k (legal_words is) a.1 in
+      let P : BusView → Type 0 = λ (b : BusView). GoesOnFor c.number b × (c.cursor < length b.log) in
+      let less : c.cursor < length words.log = omega (arith, a.2, a.3, n_is) in
+      subst P (sym is) (record { goes_on = a.0; lives = subst (λ k. was_lost_in words.log k ≡ false) k_is lives }, less)
+
+  pub is_off : (at : ℕ) → Admits words k n (Err (Off at)) → new ≡ words → was_lost_in new.log c.number ≡ true
+  is_off at a is =
+      let lost : was_lost_in words.log k ≡ true = lost_where_off words.system k words.log (legal_words is) at a.1 in
+      let P : BusView → Type 0 = λ (b : BusView). was_lost_in b.log c.number ≡ true in
+      subst P (sym is) (subst (λ k. was_lost_in words.log k ≡ true) k_is lost)
+
+  pub was_over_then : (at : ℕ) → Admits words k n (Err (Over at)) → new ≡ words → is_over new.system new.log ≡ true
+  was_over_then at a is = ap (λ (b : BusView). is_over b.system b.log) is ∙ a.0
+
+  pub is_marked : (m : Mark) (idled : Idled) → Idles old k n m (Ok idled) new → TellIs c.number c.cursor m (Some idled) old new
+  is_marked m Marked t = (
+    goes_on_seen (t.0).0 (t.0).2,
+    all_seen (t.0).2,
+    ap (λ s. is_awaited (placement s words.log) new.marks) (after_worded old).system ∙ t.1,
+    t.2 ∙ ap (λ j. with_mark words j m) k_is,
+  )
+  is_marked m (WasDone at) t = (goes_on_seen (t.0).0 (t.0).2, all_seen (t.0).2, t.1, subst (λ j. Ends (with_mark words j m) new) k_is t.2)
+
+-- ---- no script
+
+-- a bus that came from one of a system is of that
+pub system_from : (b : BusView) (system : System) (o : Option Origin) → o ≡ Some (origin_of b) → o ≡ Some (bare system) → system ≡ b.system
+system_from b system o is from = ap (λ (o : Option Origin). option_map_or (λ (a : Origin). a.system) o b.system) (sym from ∙ is)
 
 -- a bus that came from one without a script has none
 pub from_bare : (b : BusView) (system : System) (o : Option Origin) → o ≡ Some (origin_of b) → o ≡ Some (bare system) → b.script ≡ []
 from_bare b system o is from = ap (λ (o : Option Origin). option_map_or (λ (a : Origin). a.script) o b.script) (sym is ∙ from)
-
-pub takes_script : (found left : BusView) (k : ClusterNo) (cursor : ℕ) (m : Mark) (idled : Idled) → TakesMark found k cursor m idled left → left.script ≡ found.script
-takes_script found left k cursor m Marked is = ap (λ (b : BusView). b.script) is.3
-takes_script found left k cursor m (WasDone at) is = ap (λ (b : BusView). b.script) (is.3).ended

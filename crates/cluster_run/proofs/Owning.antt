@@ -10,23 +10,24 @@ use Rattle.bus_msg.specs.declared.entry.Post.{Post}
 use Rattle.cert_sched.specs.Appended.{entry_of}
 use Rattle.cert_sched.specs.Rules.{is_over}
 use Rattle.cert_sched.specs.Scripted.{is_finished}
-use Rattle.sys_text.specs.Valid.{is_system}
 use Rattle.cluster_core.specs.View.{ClusterView, counted_once, load}
 use Rattle.bus_lock.specs.Lists.{MayAdd}
 use Rattle.bus_order.specs.declared.marks.Mark.{Mark}
 use Rattle.bus_order.specs.declared.marks.Idled.{Idled}
 use Rattle.bus_order.specs.declared.marks.Idled.TheVariants.{Marked, Done as WasDone}
 use Rattle.bus_order.specs.Log.{author_of}
-use Rattle.bus_order.specs.View.{BusView, with_post}
+use Rattle.bus_order.specs.View.{BusView, after_words, with_post}
 use Rattle.bus_order.proofs.OverLaws.{finished-snoc}
-use Rattle.cluster_run.specs.declared.offers.Offered.TheVariants.{Sent, Behind, Over}
+use Rattle.cluster_run.specs.declared.offers.Offered.TheVariants.{Sent, Behind, Over, Off}
 use Rattle.cluster_run.specs.Along.{IsAlong, IsOwned, IsSound, TakesIn}
-use Rattle.cluster_run.specs.Offers.{Adds, OfferIs, TellIs, Visits}
+use Rattle.cluster_run.specs.Offers.{Adds, OfferIs, TakesMark, TellIs, Visits}
 use Rattle.cluster_run.specs.Progress.{Falls, IsAtMost, IsOver, Rests, log_load, remaining_of}
 use Rattle.cluster_run.specs.Turns.{GoesOwn, SendsOwn, TellsOwn, TurnsOwn}
 use Rattle.cluster_run.proofs.Offering.{adds_none, alone_later, alone_left}
 use Rattle.cluster_run.proofs.Progressing.{told_rest}
 use Rattle.cluster_run.proofs.Sending.{IsSent, sent_goes_on, sent_spends}
+use Rattle.cluster_run.proofs.Worded.{lives_without, words_of_none}
+use Rattle.cert_sched.specs.Losses.{was_lost_in}
 
 pub adds_more : (k : ClusterNo) (a b c : BusView) → Adds k a b → Adds k b c → Adds k a c
 adds_more k a b c one two = record {
@@ -46,65 +47,77 @@ sends_more k a b c one two = record { goes_on = two.goes_on; adds = adds_more k 
 -- ---- a post
 
 module _ (a : Bool) (alone : a ≡ true) (b after : BusView) (c : ClusterView) (post : Post) (own : GoesOwn b) where
-  pub sent_own : IsSound after → (v : Visits a c.number b after (OfferIs c.cursor post Sent)) → IsSent (v.found).log c post after → Adds c.number b after → SendsOwn c.number b after
+  words_there : (found : BusView) → found ≡ b → after_words found ≡ b
+  words_there found same = ap after_words same ∙ words_of_none b (own.0).bare
+
+  pub sent_own : IsSound after → (v : Visits a c.number b after (OfferIs c.number c.cursor post Sent)) → IsSent (after_words v.found).log c post after → Adds c.number b after → SendsOwn c.number b after
   sent_own sound v s adds =
-      let is : after ≡ with_post b post = alone_left a v.left after alone v.is_left ∙ (v.done).2 ∙ ap (λ x. with_post x post) (alone_later a c.number b v.found alone v.later) in
+      let is : after ≡ with_post b post = alone_left a v.left after alone v.is_left ∙ (v.done).2 ∙ ap (λ x. with_post x post) (words_there v.found (alone_later a c.number b v.found alone v.later)) in
       record {
         goes_on = (
           record {
-            valid = ap (λ (x : BusView). is_system x.system) is ∙ (own.0).valid;
             sound = sound;
+            bare = record { script = ap (λ (x : BusView). x.script) is ∙ ((own.0).bare).script; left = ap (λ (x : BusView). x.left) is ∙ ((own.0).bare).left };
             marks = ap (λ (x : BusView). length x.marks) is ∙ length-map b.marks (λ m. None) ∙ (own.0).marks ∙ ap (λ (x : BusView). (x.system).clusters) (sym is);
-            unstopped = λ over. absurd (true≢false (sym over ∙ sent_goes_on (v.found).log c post after s));
+            unstopped = λ over. absurd (true≢false (sym over ∙ sent_goes_on (after_words v.found).log c post after s));
           },
-          sent_goes_on (v.found).log c post after s,
+          sent_goes_on (after_words v.found).log c post after s,
         );
         adds = adds;
         spends =
-            let found : v.found ≡ b = alone_later a c.number b v.found alone v.later in
-            let load_is : log_load c.system (v.found).log ≡ log_load b.system b.log = λ i. log_load ((s.system ∙ adds.system) i) (found i).log in
-            let long : length (v.found).log ≡ length b.log = ap (λ (x : BusView). length x.log) found in
-            omega (arith, sent_spends (v.found).log c post after s, load_is, long);
+            let found : after_words v.found ≡ b = words_there v.found (alone_later a c.number b v.found alone v.later) in
+            let load_is : log_load c.system (after_words v.found).log ≡ log_load b.system b.log = λ i. log_load ((s.system ∙ adds.system) i) (found i).log in
+            let long : length (after_words v.found).log ≡ length b.log = ap (λ (x : BusView). length x.log) found in
+            omega (arith, sent_spends (after_words v.found).log c post after s, load_is, long);
       }
 
   -- one that had seen all of the log is not refused
-  pub never_behind : c.cursor ≡ length b.log → Visits a c.number b after (OfferIs c.cursor post Behind) → ⊥
+  pub never_behind : c.cursor ≡ length b.log → Visits a c.number b after (OfferIs c.number c.cursor post Behind) → ⊥
   never_behind seen v =
-      let is : v.found ≡ b = alone_later a c.number b v.found alone v.later in
+      let is : v.left ≡ b = (v.done).2 ∙ words_there v.found (alone_later a c.number b v.found alone v.later) in
       let less : c.cursor < length b.log = subst (λ (x : BusView). c.cursor < length x.log) is (v.done).1 in
       absurd (omega (arith, seen, less))
 
-  pub never_over : Visits a c.number b after (OfferIs c.cursor post Over) → ⊥
+  pub never_over : Visits a c.number b after (OfferIs c.number c.cursor post Over) → ⊥
   never_over v =
-      let is : v.found ≡ b = alone_later a c.number b v.found alone v.later in
+      let is : v.left ≡ b = (v.done).1 ∙ words_there v.found (alone_later a c.number b v.found alone v.later) in
       true≢false (sym (v.done).0 ∙ ap (λ (x : BusView). is_over x.system x.log) is ∙ own.1)
+
+  pub never_lost_there : Visits a c.number b after (OfferIs c.number c.cursor post Off) → ⊥
+  never_lost_there v =
+      let is : v.left ≡ b = (v.done).1 ∙ words_there v.found (alone_later a c.number b v.found alone v.later) in
+      true≢false (sym (v.done).0 ∙ ap (λ (x : BusView). was_lost_in x.log c.number) is ∙ lives_without b c.number (own.0).sound ((own.0).bare).script)
 
 -- ---- a rest
 
 told_owned : (b after : BusView) (k : ClusterNo) (cursor : ℕ) (m : Mark) (t : Option Idled) → GoesOwn b → IsSound after → cursor ≡ length b.log → k.0 < (b.system).clusters → TellIs k cursor m t b after → IsOwned after × (IsOver after ⊎ ((after.log ≡ b.log) × Rests b after k.0 (k.0 + 1)))
-told_owned b after k cursor m (Some Marked) own sound seen has is = (
+told_owned b after k cursor m (Some Marked) own sound seen has told =
+    let is : TakesMark b k cursor m Marked after = subst (λ x. TakesMark x k cursor m Marked after) (words_of_none b (own.0).bare) told in (
   record {
-    valid = ap (λ (x : BusView). is_system x.system) is.3 ∙ (own.0).valid;
     sound = sound;
+    bare = record { script = ap (λ (x : BusView). x.script) is.3 ∙ ((own.0).bare).script; left = ap (λ (x : BusView). x.left) is.3 ∙ ((own.0).bare).left };
     marks = ap (λ (x : BusView). length x.marks) is.3 ∙ length-set b.marks k.0 (Some m) ∙ (own.0).marks ∙ ap (λ (x : BusView). (x.system).clusters) (sym is.3);
     unstopped = λ over. absurd (true≢false (sym over ∙ ap (λ (x : BusView). is_over x.system x.log) is.3 ∙ own.1));
   },
   told_rest b after k cursor m Marked is (omega (arith, has, (own.0).marks)),
 )
-told_owned b after k cursor m (Some (WasDone at)) own sound seen has is =
+told_owned b after k cursor m (Some (WasDone at)) own sound seen has told =
+    let is : TakesMark b k cursor m (WasDone at) after = subst (λ x. TakesMark x k cursor m (WasDone at) after) (words_of_none b (own.0).bare) told in
     let ends = is.3 in (
       record {
-        valid = ap (λ (x : BusView). is_system x.system) ends.ended ∙ (own.0).valid;
         sound = sound;
+        bare = record { script = ap (λ (x : BusView). x.script) ends.ended ∙ ((own.0).bare).script; left = ap (λ (x : BusView). x.left) ends.ended ∙ ((own.0).bare).left };
         marks = ap (λ (x : BusView). length x.marks) ends.ended ∙ length-set b.marks k.0 (Some m) ∙ (own.0).marks ∙ ap (λ (x : BusView). (x.system).clusters) (sym ends.ended);
         unstopped = λ over. ap (λ (x : BusView). is_finished x.log) ends.ended ∙ finished-snoc b.log (entry_of b.system b.log (record { by = Bus; what = Done ends.rests }));
       },
       told_rest b after k cursor m (WasDone at) is (omega (arith, has, (own.0).marks)),
     )
-told_owned b after k cursor m None own sound seen has is = elim is.0 [
-  | inl over ↦ absurd (true≢false (sym over ∙ own.1))
-  | inr behind ↦ absurd (omega (arith, seen, behind))
-]
+told_owned b after k cursor m None own sound seen has told = absurd (never (subst (λ x. after ≡ x) (words_of_none b (own.0).bare) told.1) told.0)
+  where
+    never : after ≡ b → (is_over after.system after.log ≡ true) ⊎ (was_lost_in after.log k ≡ true) ⊎ (cursor < length after.log) → ⊥
+    never is (inl over) = true≢false (sym over ∙ ap (λ (x : BusView). is_over x.system x.log) is ∙ own.1)
+    never is (inr (inl lost)) = true≢false (sym lost ∙ ap (λ (x : BusView). was_lost_in x.log k) is ∙ lives_without b k (own.0).sound ((own.0).bare).script)
+    never is (inr (inr behind)) = let less : cursor < length b.log = subst (λ (x : BusView). cursor < length x.log) is behind in omega (arith, seen, less)
 
 pub told_own : (a : Bool) → a ≡ true → (b after : BusView) (c : ClusterView) (m : Mark) (t : Option Idled) → GoesOwn b → IsSound after → IsAlong b c → c.cursor ≡ length b.log → Adds c.number b after → Visits a c.number b after (TellIs c.number c.cursor m t) → TellsOwn c.number b after
 told_own a alone b after c m t own sound along seen adds v =

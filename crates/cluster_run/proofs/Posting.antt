@@ -9,19 +9,18 @@ use Rattle.cert_sched.specs.Appended.{entry_of}
 use Rattle.cert_sched.specs.Rules.{is_over}
 use Rattle.cert_sched.specs.Legal.{IsLegalBy}
 use Rattle.cert_sched.specs.Built.{BuiltMayFollow}
-use Rattle.cert_sched.proofs.UnlostLaws.{legal_unlost}
-use Rattle.cert_sched.specs.Losses.{is_by_cluster}
+use Rattle.cert_sched.specs.Losses.{is_by_cluster, was_lost_in}
 use Rattle.cluster_core.specs.declared.worked.Worked.{Worked}
 use Rattle.cluster_core.specs.declared.worked.Worked.TheVariants.{Moved, Queued, Waits, Rests}
 use Rattle.cluster_core.specs.Follows.{FollowsBuilt}
 use Rattle.cluster_core.specs.Calls.{FollowsSome, GoesOn, KeepsPlace, WorkIs}
 use Rattle.cluster_core.specs.View.{ClusterView, after_sent, tried_once}
-use Rattle.bus_order.specs.Log.{open_length}
 use Rattle.bus_order.specs.View.{BusView}
-use Rattle.cluster_run.specs.Along.{IsAlong, IsPosting, IsReadyAt, IsShown, IsSound, TakesIn, TakesNext}
+use Rattle.cluster_run.specs.Along.{IsAlong, IsPosting, IsReadyAt, IsShown, IsSound, TakesIn, TakesNext, upto}
+use Rattle.cluster_run.specs.Offers.{GoesOnFor}
 use Rattle.cluster_run.proofs.Prefixes.{legal_prefix}
 use Rattle.cluster_run.proofs.Offering.{along_tried}
-use Rattle.cluster_run.proofs.TakingIn.{open_all}
+use Rattle.cluster_run.proofs.TakingIn.{upto_all}
 use Rattle.cluster_run.proofs.Sending.{IsSent, clears, ready_sent, sent_along, sent_empty, sent_goes_on, sent_seen}
 
 -- its head is tried
@@ -53,12 +52,12 @@ module _ (log : List Entry) (t left : ClusterView) (post : Post) (after : BusVie
       }
 
 -- it was behind, and has taken in what is new
-pub behind_posting : (Shows : Type 0) (from : ℕ) (after : BusView) (t new : ClusterView) → Shows → from ≤ t.cursor → IsSound after → length t.queue ≤ 1 → is_over after.system after.log ≡ false → TakesIn after t new → new.cursor ≡ open_length after.log
+pub behind_posting : (Shows : Type 0) (from : ℕ) (after : BusView) (t new : ClusterView) → Shows → from ≤ t.cursor → IsSound after → length t.queue ≤ 1 → GoesOnFor t.number after → TakesIn after t new → new.cursor ≡ upto new.number after.log
     → IsPosting Shows from after new
-behind_posting Shows from after t new shows low sound few goes_on taken caught = record {
+behind_posting Shows from after t new shows low sound few goes taken caught = record {
   shown = record { shows = shows; from_there = omega (arith, low, taken.order); sound = sound; along = taken.along };
-  seen = caught ∙ open_all after sound goes_on;
-  goes_on = goes_on;
+  seen = caught ∙ ap (λ k. upto k after.log) (taken.same).number ∙ upto_all after t.number sound goes.goes_on goes.lives;
+  goes_on = goes.goes_on;
   few = subst (λ q. length q ≤ 1) (sym taken.queue) few;
 }
 
@@ -68,7 +67,7 @@ behind_posting Shows from after t new shows low sound few goes_on taken caught =
 pub follows_some : (b : BusView) (c : ClusterView) → IsSound b → IsAlong b c → FollowsSome c
 follows_some b c sound along = record {
   log = take c.cursor b.log;
-  open_log = (subst (λ s. IsLegalBy BuiltMayFollow s (take c.cursor b.log)) (sym along.system) (legal_prefix BuiltMayFollow b.system b.log c.cursor (legal_unlost b.system b.log sound.legal)), (along.beside).goes_on);
+  open_log = (subst (λ s. IsLegalBy BuiltMayFollow s (take c.cursor b.log)) (sym along.system) (legal_prefix BuiltMayFollow b.system b.log c.cursor sound.legal), (along.beside).goes_on);
   follows = (along.beside).follows;
 }
 
@@ -82,6 +81,7 @@ worked_along b c new sound along goes keeps failed =
         has = subst (λ (s : System). (new.number).0 < s.clusters) (sym keeps.system) (subst (λ (k : ClusterNo). k.0 < (c.system).clusters) (sym keeps.number) (along.beside).has);
         within = subst (λ n. n ≤ length b.log) (sym keeps.cursor) (along.beside).within;
         goes_on = (λ i. is_over (keeps.system i) (take (keeps.cursor i) b.log)) ∙ (along.beside).goes_on;
+        lives = (λ i. was_lost_in (take (keeps.cursor i) b.log) (keeps.number i)) ∙ (along.beside).lives;
         follows = subst (λ s. FollowsBuilt s (take new.cursor b.log) new) (sym keeps.system)
             (subst (λ n. FollowsBuilt c.system (take n b.log) new) (sym keeps.cursor) (goes (take c.cursor b.log) some.open_log some.follows));
         sent_before = (λ i. list_any (is_by_cluster (keeps.number i)) (drop (keeps.cursor i) b.log)) ∙ (along.beside).sent_before;
@@ -104,10 +104,10 @@ worked_shown Shows from b c new w shown goes keeps is = record {
 }
 
 -- and what it queued is one post
-pub worked_posting : (Shows : Type 0) (from : ℕ) (b : BusView) (c new : ClusterView) → IsShown Shows from b c → c.cursor ≡ open_length b.log → is_over b.system b.log ≡ false → GoesOn c new → KeepsPlace c new → WorkIs c Queued new → IsPosting Shows from b new
-worked_posting Shows from b c new shown caught goes_on goes keeps is = record {
+pub worked_posting : (Shows : Type 0) (from : ℕ) (b : BusView) (c new : ClusterView) → IsShown Shows from b c → c.cursor ≡ upto c.number b.log → GoesOnFor c.number b → GoesOn c new → KeepsPlace c new → WorkIs c Queued new → IsPosting Shows from b new
+worked_posting Shows from b c new shown caught goes_on_for goes keeps is = record {
   shown = worked_shown Shows from b c new Queued shown goes keeps is;
-  seen = keeps.cursor ∙ caught ∙ open_all b shown.sound goes_on;
-  goes_on = goes_on;
+  seen = keeps.cursor ∙ caught ∙ upto_all b c.number shown.sound goes_on_for.goes_on goes_on_for.lives;
+  goes_on = goes_on_for.goes_on;
   few = let one : length new.queue ≡ 1 = ap (λ (v : ClusterView). length v.queue) (is.1).rest in omega (arith, one);
 }

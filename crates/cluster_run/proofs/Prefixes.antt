@@ -1,18 +1,13 @@
 -- Beginnings of a log.
 use Rattle.std.proofs.Common.{◌≡◌, ℕ, zero, suc, refl, sym, ◌∙◌, ap, subst, List, [], ◌∷◌, ◌++◌, length, take, drop, Bool, false, true, ◌||◌, Some, slice_get, true≢false, ◌≢◌, eqb-true}
-use Rattle.std.specs.List.{list_any}
-use Rattle.std.proofs.lemmas.List.Folds.{list_any-append}
 use Rattle.sys_text.specs.declared.system.System.{System}
 use Rattle.t32_base.specs.declared.process.ClusterNo.{ClusterNo}
 use Rattle.bus_msg.specs.declared.entry.Entry.{Entry}
 use Rattle.bus_msg.specs.Places.{same_cluster}
-use Rattle.bus_msg.specs.PlacedAfter.{what}
 use Rattle.cert_sched.specs.Rules.{is_over}
 use Rattle.cert_sched.specs.Legal.{IsLegalBy, IsLegalFrom}
-use Rattle.cert_sched.specs.Built.{UnlostMayFollow}
-use Rattle.cert_sched.specs.Losses.{is_crash_of}
+use Rattle.cert_sched.specs.Built.{BuiltMayFollow}
 use Rattle.cert_sched.proofs.LogLaws.{IsLegal-last}
-use Rattle.cert_sched.proofs.UnlostLaws.{never_lost}
 use Rattle.bus_order.proofs.LogParts.{take_one}
 
 -- ---- lists
@@ -47,18 +42,11 @@ unfolding IsLegalBy
 legal_prefix May system log n legal = legal_from May system [] log n legal
 
 -- the log before an entry of it goes on
-pub goes_on_before : (system : System) (log : List Entry) (n : ℕ) (e : Entry) → IsLegalBy UnlostMayFollow system log → slice_get log n ≡ Some e → is_over system (take n log) ≡ false
+pub goes_on_before : (system : System) (log : List Entry) (n : ℕ) (e : Entry) → IsLegalBy BuiltMayFollow system log → slice_get log n ≡ Some e → is_over system (take n log) ≡ false
 goes_on_before system log n e legal at =
-    let more : IsLegalBy UnlostMayFollow system (take n log ++ e ∷ []) = subst (IsLegalBy UnlostMayFollow system) (take_one log n e at) (legal_prefix UnlostMayFollow system log (suc n) legal) in
-    let may = IsLegal-last UnlostMayFollow system (take n log) e more in
+    let more : IsLegalBy BuiltMayFollow system (take n log ++ e ∷ []) = subst (IsLegalBy BuiltMayFollow system) (take_one log n e at) (legal_prefix BuiltMayFollow system log (suc n) legal) in
+    let may = IsLegal-last BuiltMayFollow system (take n log) e more in
     ((may.stands).placed).2
-
--- no entry of it is a crash
-pub no_crash : (system : System) (log : List Entry) (n : ℕ) (e : Entry) (k : ClusterNo) → IsLegalBy UnlostMayFollow system log → slice_get log n ≡ Some e → is_crash_of k (what e) ≡ false
-no_crash system log n e k legal at =
-    let more : IsLegalBy UnlostMayFollow system (take n log ++ e ∷ []) = subst (IsLegalBy UnlostMayFollow system) (take_one log n e at) (legal_prefix UnlostMayFollow system log (suc n) legal) in
-    let none = sym (list_any-append (λ (e : Entry). is_crash_of k (what e)) (take n log) (e ∷ [])) ∙ never_lost system (take n log ++ e ∷ []) k more in
-    (either (is_crash_of k (what e)) false (either (list_any (λ (e : Entry). is_crash_of k (what e)) (take n log)) (is_crash_of k (what e) || false) none).1).0
 
 -- a cluster that is one is no other
 pub not_same : (i j k : ClusterNo) → same_cluster i k ≡ true → j.0 ≢ k.0 → same_cluster i j ≡ false

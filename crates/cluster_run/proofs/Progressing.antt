@@ -12,7 +12,6 @@ use Rattle.cert_sched.specs.Schedule.{placement}
 use Rattle.cert_sched.specs.Rules.{is_over}
 use Rattle.cert_sched.proofs.Induction.{is_over-snoc}
 use Rattle.cert_sched.proofs.HomesLaws.{built_clusters-length}
-use Rattle.cert_sched.proofs.UnlostLaws.{legal_unlost}
 use Rattle.cluster_core.specs.View.{ClusterView, load}
 use Rattle.bus_order.specs.declared.marks.Mark.{Mark}
 use Rattle.bus_order.specs.declared.marks.Idled.{Idled}
@@ -23,7 +22,7 @@ use Rattle.bus_order.proofs.MarksLaws.{mark_in-get_or}
 use Rattle.cluster_run.specs.Progress.{Falls, GetsOn, HasMark, IsAtMost, IsAwaiting, IsOver, Remaining, Rests, remaining, remaining_of, total, unseen}
 use Rattle.cluster_run.specs.Turns.{TurnsOwn}
 use Rattle.cert_sched.specs.Legal.{IsLegalBy}
-use Rattle.cert_sched.specs.Built.{UnlostMayFollow}
+use Rattle.cert_sched.specs.Built.{BuiltMayFollow}
 
 -- ---- marks
 
@@ -196,19 +195,19 @@ not_none true (Some m) has = refl
 not_none false (Some m) has = refl
 
 -- where each cluster has its mark, none is awaited
-none_awaited : (b : BusView) → IsLegalBy UnlostMayFollow b.system b.log → ((n : ℕ) → n < (b.system).clusters → HasMark b n) → is_awaited (placement b.system b.log) b.marks ≡ false
+none_awaited : (b : BusView) → IsLegalBy BuiltMayFollow b.system b.log → ((n : ℕ) → n < (b.system).clusters → HasMark b n) → is_awaited (placement b.system b.log) b.marks ≡ false
 none_awaited b legal all = any_none (λ k. lives_in (placement b.system b.log) k && is_none (mark_in b.marks k)) (all_clusters (placement b.system b.log)) (λ n k at. one n k (slice_get (range_with_len 0 (length (placement b.system b.log).clusters)) n) refl (sym (slice_get-map cluster_no (range_with_len 0 (length (placement b.system b.log).clusters)) n) ∙ at))
   where
     one : (n : ℕ) (k : ClusterNo) (o : Option ℕ) → slice_get (range_with_len 0 (length (placement b.system b.log).clusters)) n ≡ o → option_map cluster_no o ≡ Some k → (lives_in (placement b.system b.log) k && is_none (mark_in b.marks k)) ≡ false
     one n k None at is = cc
     one n k (Some i) at is =
         let place = range_at 0 (length (placement b.system b.log).clusters) n i at in
-        let within : i < (b.system).clusters = omega (arith, place.0, place.1, built_clusters-length b.system b.log (legal_unlost b.system b.log legal)) in
+        let within : i < (b.system).clusters = omega (arith, place.0, place.1, built_clusters-length b.system b.log legal) in
         let same : cluster_no i ≡ k = cc in
         subst (λ k. (lives_in (placement b.system b.log) k && is_none (mark_in b.marks k)) ≡ false) same (not_none (lives_in (placement b.system b.log) (cluster_no i)) (mark_in b.marks (cluster_no i)) (all i within))
 
 -- a round leaves less to do, or the log is over
-module _ (b then after : BusView) (left still now : Remaining) (first count : ℕ) (legal : IsLegalBy UnlostMayFollow after.system after.log) (each : count ≡ (after.system).clusters) (within : first < count) (over : IsOver then → IsOver after)
+module _ (b then after : BusView) (left still now : Remaining) (first count : ℕ) (legal : IsLegalBy BuiltMayFollow after.system after.log) (each : count ≡ (after.system).clusters) (within : first < count) (over : IsOver then → IsOver after)
     (first_lasts : IsOver then ⊎ IsAtMost left still) (second_lasts : IsOver after ⊎ IsAtMost still now) where
   all_marked : Rests b then first count → Rests then after 0 first → (n : ℕ) → (n < first) ⊎ (first ≤ n) → n < count → HasMark after n
   all_marked one two n (inl earlier) low = two.marked n (omega arith) earlier

@@ -1,9 +1,11 @@
 -- A cluster takes in the entry that it sent.
-use Rattle.std.proofs.Common.{◌≡◌, ◌+◌, ◌≤◌, refl, sym, ◌∙◌, ap, subst, arith, List, [], ◌∷◌, ◌++◌, length, drop, length-append, false, true, Some, slice_get, true≢false, inr}
+use Rattle.std.proofs.Common.{◌≡◌, ◌+◌, ◌≤◌, refl, sym, ◌∙◌, ap, subst, arith, List, [], ◌∷◌, ◌++◌, length, drop, length-append, false, true, ◌||◌, Some, slice_get, true≢false, inr}
 use Rattle.std.specs.Prelude.{option_map}
 use Rattle.std.specs.List.{list_any, list_all}
 use Rattle.std.proofs.lemmas.List.{take_all}
 use Rattle.std.proofs.lemmas.Bool.{and_parts}
+use Rattle.std.proofs.lemmas.List.Folds.{list_any-append}
+use Rattle.t32_base.specs.declared.process.ClusterNo.{ClusterNo}
 use Rattle.bus_msg.specs.declared.entry.What.{What}
 use Rattle.bus_msg.specs.declared.entry.What.TheVariants.{Mail, Birth, Exit, Page, Sync, Fetch, PageIs, Crash, Return, Rebackup, Done, Stop}
 use Rattle.bus_msg.specs.declared.entry.Post.{Post}
@@ -16,7 +18,7 @@ use Rattle.cert_sched.specs.Appended.{entry_of}
 use Rattle.cert_sched.specs.Rules.{ends_run, is_over}
 use Rattle.cert_sched.specs.Legal.{IsLegalBy}
 use Rattle.cert_sched.specs.Built.{BuiltMayFollow, UnlostMayFollow, is_unlost}
-use Rattle.cert_sched.specs.Losses.{is_by_cluster, is_from}
+use Rattle.cert_sched.specs.Losses.{is_by_cluster, is_crash_of, is_from, was_lost_in}
 use Rattle.cert_sched.proofs.Induction.{is_over-snoc}
 use Rattle.cert_sched.proofs.LogLaws.{IsLegal-snoc}
 use Rattle.cert_sched.proofs.UnlostLaws.{may_unlost}
@@ -31,7 +33,7 @@ use Rattle.cluster_run.specs.Along.{IsAlong, IsBeside, IsReadyAt, IsSound, Takes
 use Rattle.cluster_run.specs.Progress.{log_load}
 use Rattle.cluster_run.proofs.Prefixes.{drop_whole, get_last}
 use Rattle.cluster_run.proofs.StepsLeft.{entry_leaves}
-use Rattle.cluster_run.proofs.TakingIn.{open_all}
+use Rattle.cluster_run.proofs.TakingIn.{upto_all}
 
 -- a cluster whose one post was sent
 abbrev pub cleared : ClusterView → ClusterView
@@ -54,6 +56,10 @@ same_after Stop c h = refl
 -- a log ends by an entry that is no loss exactly where that closes it
 ends_closed : (places : Places) (w : What) → is_unlost w ≡ true → ends_run places w ≡ closes w
 ends_closed places = by_kind (λ w. ends_run places w ≡ closes w) (λ at letter. refl) (λ pid at end. refl) (λ rests. refl) refl
+
+-- an entry that is no loss loses no cluster
+no_loss : (k : ClusterNo) (w : What) → is_unlost w ≡ true → is_crash_of k w ≡ false
+no_loss k = by_kind (λ w. is_crash_of k w ≡ false) (λ at letter. refl) (λ pid at end. refl) (λ rests. refl) refl
 
 -- a cluster that had seen all of a log that goes on sent its one post, and the bus has no entry behind it
 pub record IsSent (log : List Entry) (c : ClusterView) (post : Post) (after : BusView) : Type 0 where
@@ -86,6 +92,15 @@ module _ (log : List Entry) (c : ClusterView) (post : Post) (after : BusView) (s
 
   legal_next : IsLegalBy BuiltMayFollow c.system (log ++ next ∷ [])
   legal_next = IsLegal-snoc BuiltMayFollow c.system log next s.legal (may_unlost c.system log next may)
+
+  lives_log : was_lost_in log c.number ≡ false
+  lives_log = ap (λ l. was_lost_in l c.number) (sym (take_all c.cursor log (omega (arith, s.seen)))) ∙ (s.beside).lives
+
+  -- the cluster lives still
+  sent_lives : was_lost_in after.log c.number ≡ false
+  sent_lives =
+      ap (λ l. was_lost_in l c.number) s.longer ∙ list_any-append (λ (e : Entry). is_crash_of c.number (what e)) log (next ∷ [])
+      ∙ (λ i. lives_log i || (no_loss c.number (what next) may.built i || false))
 
   goes_on_next : is_over c.system (log ++ next ∷ []) ≡ false
   goes_on_next = is_over-snoc c.system log next ∙ ends_closed (placement c.system log) (what next) may.built ∙ no_end c.number (placement c.system log) post.by post.what may.built own (may.stands).by_right
@@ -127,7 +142,7 @@ module _ (log : List Entry) (c : ClusterView) (post : Post) (after : BusView) (s
 
   pub ready_sent : IsSound after → IsReadyAt after.log (after_sent c c.queue)
   ready_sent sound = subst (IsReadyAt after.log) (sym clears) (record {
-    within = omega (arith, long, open_all after sound sent_goes_on);
+    within = omega (arith, long, upto_all after c.number sound sent_goes_on sent_lives);
     ready = λ e at.
         let is : next ≡ e = let both_are : Some next ≡ Some e = sym at_cursor ∙ at in cc in
         let P : Entry → Type 0 = λ e. ReadyFor e (cleared c) in
@@ -169,6 +184,7 @@ module _ (log : List Entry) (c : ClusterView) (post : Post) (after : BusView) (s
             has = (s.beside).has;
             within = omega (arith, all);
             goes_on = (λ i. is_over (s.system i) (take_all (c.cursor + 1) after.log (omega (arith, all)) i)) ∙ sent_goes_on;
+            lives = ap (λ l. was_lost_in l c.number) (take_all (c.cursor + 1) after.log (omega (arith, all))) ∙ sent_lives;
             follows = subst (λ l. FollowsBuilt c.system l (absorbed (cleared c) next)) (sym (take_all (c.cursor + 1) after.log (omega (arith, all)) ∙ s.longer)) f;
             sent_before = ap (λ n. list_any (is_by_cluster c.number) (drop n after.log)) (sym all) ∙ ap (list_any (is_by_cluster c.number)) (drop_whole after.log);
             unfailed = (s.beside).unfailed;

@@ -215,7 +215,7 @@ all_members b (d ∷ ds) P all each = All-from_get_or P (d ∷ ds) d (λ n withi
 
 pub total_within : (b : BusView) (cs : List ClusterView) → IsOwned b → is_over b.system b.log ≡ false → AllAlong b cs → total cs ≤ most_total b.system
 total_within b cs owned goes_on all =
-    let each : All (λ (c : ClusterView). load c ≤ most_load b.system) cs = all_members b cs (λ c. load c ≤ most_load b.system) all (λ n c member. (member_within b n c owned.valid owned.sound goes_on member).0) in
+    let each : All (λ (c : ClusterView). load c ≤ most_load b.system) cs = all_members b cs (λ c. load c ≤ most_load b.system) all (λ n c member. (member_within b n c (owned.sound).valid owned.sound goes_on member).0) in
     let sum : total cs ≤ length cs * most_load b.system = sum_by-le load (most_load b.system) cs each in
     subst (λ n. total cs ≤ n * most_load b.system) all.each sum
 

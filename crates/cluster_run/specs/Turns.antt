@@ -4,11 +4,10 @@ use Rattle.t32_base.specs.declared.process.ClusterNo.{ClusterNo}
 use Rattle.bus_msg.specs.declared.entry.Post.{Post}
 use Rattle.cert_sched.specs.Rules.{is_over}
 use Rattle.cluster_core.specs.View.{ClusterView}
-use Rattle.bus_order.specs.Log.{open_length}
 use Rattle.bus_order.specs.View.{BusView}
 use Rattle.cluster_run.specs.declared.turn.Turn.{Turn}
 use Rattle.cluster_run.specs.declared.turn.Turn.TheVariants.{Moved, Rests, Over}
-use Rattle.cluster_run.specs.Along.{IsOwned}
+use Rattle.cluster_run.specs.Along.{IsOwned, is_done_with, upto}
 use Rattle.cluster_run.specs.declared.offers.Offered.{Offered}
 use Rattle.cluster_run.specs.Offers.{Adds, IsLeft, IsTold, OfferIs, Visits}
 use Rattle.cluster_run.specs.Progress.{GetsOn, IsAtMost, IsOver, Rests as RestsThere, log_load, remaining_of}
@@ -17,11 +16,11 @@ use Rattle.cluster_run.specs.Progress.{GetsOn, IsAtMost, IsOver, Rests as RestsT
 abbrev pub HasTold : Bool → ClusterView → BusView → Type 0
 HasTold alone c b = (left : BusView) × IsLeft alone left b × IsTold c left
 
--- How a turn ended. The cluster has nothing to send, and where it rests it told so; or it has followed the log to its end.
+-- How a turn ended. The cluster has nothing to send, and where it rests it told so; or it has followed the log to its end, or to its own loss.
 abbrev pub EndsAs : Bool → Turn → BusView → ClusterView → Type 0
 EndsAs alone Moved b c = c.queue ≡ []
 EndsAs alone Rests b c = (c.queue ≡ []) × HasTold alone c b
-EndsAs alone Over b c = (c.cursor ≡ open_length b.log) × (is_over b.system b.log ≡ true)
+EndsAs alone Over b c = (c.cursor ≡ upto c.number b.log) × (is_done_with c.number b.system b.log ≡ true)
 
 -- a bus that no other has, whose log goes on
 abbrev pub GoesOwn : BusView → Type 0
@@ -50,4 +49,4 @@ pub record TurnsOwn (b after : BusView) (c new : ClusterView) : Type 0 where
 
 -- the one post of a cluster was offered
 abbrev pub OffersHead : Bool → ClusterView → BusView → BusView → Offered → Type 0
-OffersHead alone c old new offered = (post : Post) × (c.queue ≡ post ∷ []) × Visits alone c.number old new (OfferIs c.cursor post offered)
+OffersHead alone c old new offered = (post : Post) × (c.queue ≡ post ∷ []) × Visits alone c.number old new (OfferIs c.number c.cursor post offered)

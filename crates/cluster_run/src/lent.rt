@@ -5,6 +5,7 @@ use bus_msg::entry::{Entry, Post};
 use bus_order::bus::Bus;
 use bus_order::marks::{Idled, Mark};
 use cluster_core::cluster::Cluster;
+use t32_base::process::ClusterNo;
 use t32_base::streams::NoMemory;
 
 impl Port for Bus {
@@ -28,8 +29,11 @@ impl Port for Bus {
         Ok(())
     }
 
-    fn open_length(&self) -> u64 {
-        self.length_without_end()
+    fn upto(&self, number: ClusterNo) -> u64 {
+        match self.off_at(number) {
+            Some(at) => at,
+            None => self.length_without_end(),
+        }
     }
 
     fn shown(&self, place: u64) -> &Entry {
@@ -39,8 +43,8 @@ impl Port for Bus {
         }
     }
 
-    fn has_ended(&self) -> bool {
-        self.is_over()
+    fn has_ended(&self, number: ClusterNo) -> bool {
+        self.is_over() || self.off_at(number).is_some()
     }
 
     fn offer(&mut self, cluster: &Cluster, post: &Post) -> Result<Offered, NoMemory> {

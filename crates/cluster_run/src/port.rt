@@ -3,14 +3,14 @@ ghost use Rattle.std.specs.Prelude.{◌≡◌, ◌≤◌, ◌<◌, ◌∷◌, []
 ghost use Rattle.t32_base.specs.declared.process.ClusterNo.{ClusterNo as AClusterNo};
 ghost use Rattle.bus_order.specs.Log.{open_length};
 ghost use Rattle.bus_order.specs.View.{BusView};
-ghost use Rattle.cert_sched.specs.Rules.{is_over};
-ghost use Rattle.cluster_run.specs.Along.{IsAlong, IsSound};
+ghost use Rattle.cluster_run.specs.Along.{IsAlong, IsSound, is_done_with, upto};
 ghost use Rattle.cluster_run.specs.Offers.{Adds, IsToldBy, Later, OfferIs, TellIs, Visits};
 
 use crate::offers::Offered;
 use bus_msg::entry::{Entry, Post};
 use bus_order::marks::{Idled, Mark};
 use cluster_core::cluster::Cluster;
+use t32_base::process::ClusterNo;
 use t32_base::streams::NoMemory;
 
 /// The way of a cluster to its bus. It shows the log as it was when the cluster last had the bus.
@@ -50,10 +50,11 @@ pub trait Port {
         ensures sound { OnOk result (IsSound (bus self.new)) }
         ensures later { OnOk result (Later alone cluster.now.number (bus self.old) (bus self.new)) };
 
-    /// How many entries the log has, without the end or the stop that may stand last.
-    fn open_length(&self) -> u64
+    /// How far a cluster follows the log: up to its own loss, or else to the end or the stop that may stand last.
+    fn upto(&self, number: ClusterNo) -> u64
         requires shows { shows self.now }
-        ensures { result ≡ open_length (bus self.now).log };
+        requires sound { IsSound (bus self.now) }
+        ensures { result ≡ upto number (bus self.now).log };
 
     /// The entry at a place.
     fn shown(&self, place: u64) -> &Entry
@@ -62,10 +63,11 @@ pub trait Port {
         requires within { place < open_length (bus self.now).log }
         ensures { slice_get (bus self.now).log place ≡ Some result.now };
 
-    /// Whether the log is over.
-    fn has_ended(&self) -> bool
+    /// Whether the log is over, or the cluster was lost in it.
+    fn has_ended(&self, number: ClusterNo) -> bool
         requires shows { shows self.now }
-        ensures { result ≡ is_over (bus self.now).system (bus self.now).log };
+        requires sound { IsSound (bus self.now) }
+        ensures { result ≡ is_done_with number (bus self.now).system (bus self.now).log };
 
     /// Offers the post of a cluster, and shows what is then new.
     fn offer(&mut self, cluster: &Cluster, post: &Post) -> Result<Offered, NoMemory>
@@ -79,10 +81,10 @@ pub trait Port {
         ensures from { OnOk result (from self.new ≤ cluster.now.cursor) }
         ensures sound { OnOk result (IsSound (bus self.new)) }
         ensures adds { alone ≡ true → Adds cluster.now.number (bus self.old) (bus self.new) }
-        ensures offered { IfOk result (λ offered. Visits alone cluster.now.number (bus self.old) (bus self.new) (OfferIs cluster.now.cursor post.now offered)) };
+        ensures offered { IfOk result (λ offered. Visits alone cluster.now.number (bus self.old) (bus self.new) (OfferIs cluster.now.number cluster.now.cursor post.now offered)) };
 
-    /// Tells that nothing can move in a cluster, and shows what is then new. None where the log was over, or the cluster
-    /// had not seen all of it.
+    /// Tells that nothing can move in a cluster, and shows what is then new. None where the log was over, the cluster was
+    /// lost, or it had not seen all of the log.
     fn tell(&mut self, cluster: &Cluster, mark: Mark) -> Result<Option<Idled>, NoMemory>
         requires sits { sits cluster.now.number self.old }
         requires sound { IsSound (bus self.old) }

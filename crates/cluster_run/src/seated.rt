@@ -115,7 +115,7 @@ impl<'a, R: Wait, G: Gate> Port for Seated<'a, R, G> {
         Ok(())
     }
 
-    fn open_length(&self) -> u64 {
+    fn upto(&self, _number: ClusterNo) -> u64 {
         self.news.upto
     }
 
@@ -123,7 +123,7 @@ impl<'a, R: Wait, G: Gate> Port for Seated<'a, R, G> {
         &self.news.entries[(place - self.news.from) as usize]
     }
 
-    fn has_ended(&self) -> bool {
+    fn has_ended(&self, _number: ClusterNo) -> bool {
         self.news.is_over
     }
 

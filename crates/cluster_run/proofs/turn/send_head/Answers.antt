@@ -1,6 +1,7 @@
 use Rattle.std.proofs.Common.{◌≡◌, ◌<◌, refl, ap, subst, arith, length, true}
 use Rattle.t32_base.specs.declared.process.ClusterNo.{ClusterNo}
 use Rattle.cluster_core.specs.View.{ClusterView}
+use Rattle.bus_order.specs.View.{after_words}
 use Rattle.cluster_run.specs.Turns.{OffersHead, SendsOwn}
 use Rattle.cluster_run.proofs.Offering.{sent_longer, was_behind, was_sent}
 use Rattle.cluster_run.proofs.Owning.{sent_own}
@@ -17,7 +18,7 @@ take_next-requires-clause-ready g c =
     let off = subst (λ o. OffersHead a t b after o) c.in-Sent.is c.in_ok-offer_head.ensures.offered in
     let tried : t.tried ≡ true = ap (λ (v : ClusterView). v.tried) c.tried.ensures.tried in
     let s = was_sent a b after t off.0 (p.shown).along c.in_ok-offer_head.ensures.sound off.1 tried off.2 in
-    left_ready ((off.2).found).log t c.sent.new.self off.0 after s c.sent.ensures c.in_ok-offer_head.ensures.sound
+    left_ready (after_words (off.2).found).log t c.sent.new.self off.0 after s c.sent.ensures c.in_ok-offer_head.ensures.sound
 
 pub returns-in_ok-take_next-in-Sent-clause-posting :
     goal.returns-in_ok-take_next-in-Sent-clause-posting
@@ -31,7 +32,7 @@ returns-in_ok-take_next-in-Sent-clause-posting g c goes =
     let tried : t.tried ≡ true = ap (λ (v : ClusterView). v.tried) c.tried.ensures.tried in
     let s = was_sent a b after t off.0 (p.shown).along c.in_ok-offer_head.ensures.sound off.1 tried off.2 in
     let longer = sent_longer a b after t off.0 (p.shown).along off.2 in (
-      sent_posting ((off.2).found).log t c.sent.new.self off.0 after s c.sent.ensures (g.P.Port.shows c.offer_head.new.port) (g.P.Port.from c.offer_head.new.port) c.take_next.new.cluster
+      sent_posting (after_words (off.2).found).log t c.sent.new.self off.0 after s c.sent.ensures (g.P.Port.shows c.offer_head.new.port) (g.P.Port.from c.offer_head.new.port) c.take_next.new.cluster
           c.in_ok-offer_head.ensures.shows c.in_ok-offer_head.ensures.from c.in_ok-offer_head.ensures.sound c.in_ok-take_next-in-Sent.ensures,
       omega (arith, longer, p.seen),
     )

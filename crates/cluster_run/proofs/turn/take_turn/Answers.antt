@@ -8,7 +8,11 @@ use Rattle.cert_sched.specs.Rules.{is_over}
 use Rattle.cluster_run.specs.Turns.{GoesOwn, SendsOwn, TurnsOwn}
 use Rattle.cluster_run.proofs.Owning.{moves_turn, sends_turn, tells_turn, where_ok}
 use Rattle.cluster_run.proofs.Posting.{follows_some, worked_posting, worked_shown}
-use Rattle.cluster_run.proofs.TakingIn.{open_all}
+use Rattle.cluster_run.proofs.Prefixes.{either}
+use Rattle.cluster_run.proofs.TakingIn.{upto_all}
+use Rattle.cluster_run.proofs.Worded.{lives_without}
+use Rattle.cluster_run.specs.Offers.{GoesOnFor}
+use Rattle.cert_sched.specs.Losses.{was_lost_in}
 use Rattle.cluster_run.proofs.turn.take_turn.Goals as goal
 
 pub work-requires-clause-follows : goal.work-requires-clause-follows
@@ -18,9 +22,10 @@ work-requires-clause-follows g c =
 pub send-requires-clause-posting : goal.send-requires-clause-posting
 send-requires-clause-posting g c =
     let b = g.P.Port.bus c.catch_up.new.port in
-    let goes_on : is_over b.system b.log ≡ false = sym c.has_ended.ensures ∙ c.if-has_ended.false in
+    let parts = either (is_over b.system b.log) (was_lost_in b.log c.number.result) (sym c.has_ended.ensures ∙ c.if-has_ended.false) in
+    let goes : GoesOnFor c.catch_up.new.cluster.number b = record { goes_on = parts.0; lives = subst (λ k. was_lost_in b.log k ≡ false) c.number.ensures parts.1 } in
     let is = subst (λ w. WorkIs c.catch_up.new.cluster w c.work.new.self) c.in-Queued.is c.in_ok-work.ensures.work in
-    worked_posting (g.P.Port.shows c.catch_up.new.port) (g.P.Port.from c.catch_up.new.port) b c.catch_up.new.cluster c.work.new.self c.in_ok-catch_up.ensures.shown c.in_ok-catch_up.ensures.caught goes_on c.in_ok-work.ensures.follows c.in_ok-work.ensures.place is
+    worked_posting (g.P.Port.shows c.catch_up.new.port) (g.P.Port.from c.catch_up.new.port) b c.catch_up.new.cluster c.work.new.self c.in_ok-catch_up.ensures.shown c.in_ok-catch_up.ensures.caught goes c.in_ok-work.ensures.follows c.in_ok-work.ensures.place is
 
 pub returns-in-Moved-clause-shown : goal.returns-in-Moved-clause-shown
 returns-in-Moved-clause-shown g c =
@@ -34,7 +39,7 @@ returns-in-Moved-clause-own g c alone own =
     let same = c.in_ok-catch_up.ensures.own alone in
     let is = subst (λ w. WorkIs c.catch_up.new.cluster w worked) c.in-Moved.is c.in_ok-work.ensures.work in
     let follows = follows_some mid c.catch_up.new.cluster c.in_ok-catch_up.ensures.shown.sound c.in_ok-catch_up.ensures.shown.along in
-    let valid : is_system c.catch_up.new.cluster.system ≡ true = ap is_system c.in_ok-catch_up.ensures.shown.along.system ∙ ap (λ (x : BusView). is_system x.system) same ∙ (own.0).valid in
+    let valid : is_system c.catch_up.new.cluster.system ≡ true = ap is_system c.in_ok-catch_up.ensures.shown.along.system ∙ ap (λ (x : BusView). is_system x.system) same ∙ ((own.0).sound).valid in
     moves_turn b mid c.args.cluster.now c.catch_up.new.cluster worked same own c.in_ok-catch_up.ensures.taken (moved_lightens c.catch_up.new.cluster worked valid follows is) c.in_ok-work.ensures.place.cursor
     (ap (λ (v : ClusterView). v.queue) (is.1).rest ∙ c.in_ok-catch_up.ensures.taken.queue ∙ c.requires.empty)
 
@@ -64,5 +69,5 @@ returns-in_ok-tell-in-Rests-clause-own g c alone own =
     let same = c.in_ok-catch_up.ensures.own alone in
     let is = subst (λ w. WorkIs c.catch_up.new.cluster w c.work.new.self) c.in-Rests.is c.in_ok-work.ensures.work in
     let goes : GoesOwn mid = subst GoesOwn (sym same) own in
-    let seen : c.work.new.self.cursor ≡ length mid.log = c.in_ok-work.ensures.place.cursor ∙ c.in_ok-catch_up.ensures.caught ∙ open_all mid c.in_ok-catch_up.ensures.shown.sound goes.1 in
+    let seen : c.work.new.self.cursor ≡ length mid.log = c.in_ok-work.ensures.place.cursor ∙ c.in_ok-catch_up.ensures.caught ∙ upto_all mid c.catch_up.new.cluster.number c.in_ok-catch_up.ensures.shown.sound goes.1 (lives_without mid c.catch_up.new.cluster.number c.in_ok-catch_up.ensures.shown.sound ((goes.0).bare).script) in
     tells_turn b mid (g.P.Port.bus c.tell.new.port) c.args.cluster.now c.catch_up.new.cluster c.work.new.self same c.in_ok-catch_up.ensures.taken is.1 c.requires.empty (c.in_ok-tell-in-Rests.ensures.own alone goes seen)

@@ -1,0 +1,171 @@
+-- What the words that are due add to a bus, and what is known of a bus whose script has few.
+use Rattle.std.proofs.Common.{◌≡◌, ℕ, zero, suc, ◌+◌, ◌^◌, ◌≤◌, ◌<◌, refl, sym, ◌∙◌, ap, subst, arith, inl, List, [], ◌∷◌, ◌++◌, length, append-nil, append_assoc, Bool, true, false, cond, ◌&&◌, Option, Some, None, true≢false}
+use Rattle.std.specs.Prelude.{All}
+use Rattle.std.specs.List.{list_all, list_any}
+use Rattle.std.proofs.lemmas.Bool.{and_parts}
+use Rattle.std.proofs.lemmas.List.Elements.{All-nil, All-cons, All-append}
+use Rattle.std.proofs.lemmas.List.Folds.{list_any-append}
+use Rattle.t32_base.specs.declared.process.ClusterNo.{ClusterNo}
+use Rattle.sys_text.specs.declared.system.System.{System}
+use Rattle.sys_text.specs.Valid.{is_system}
+use Rattle.bus_msg.specs.declared.entry.By.TheVariants.{Bus}
+use Rattle.bus_msg.specs.declared.entry.Cause.TheVariants.{Place}
+use Rattle.bus_msg.specs.declared.entry.What.{What}
+use Rattle.bus_msg.specs.declared.entry.What.TheVariants.{Crash, Return}
+use Rattle.bus_msg.specs.declared.entry.Entry.{Entry}
+use Rattle.bus_msg.specs.Places.{Places, lives_in}
+use Rattle.cert_sched.specs.declared.script.ScriptWord.{ScriptWord}
+use Rattle.cert_sched.specs.declared.script.ScriptWord.TheVariants.{CrashAt, CrashStep, DiskAt, ReturnAt}
+use Rattle.cert_sched.specs.Appended.{entry_of}
+use Rattle.cert_sched.specs.Built.{BuiltMayFollow, UnlostMayFollow, is_built_word}
+use Rattle.cert_sched.specs.Legal.{IsLegalBy}
+use Rattle.cert_sched.specs.Looked.{first_reached, given_by}
+use Rattle.cert_sched.specs.Losses.{is_by_cluster, was_lost_in}
+use Rattle.cert_sched.specs.Rules.{is_over}
+use Rattle.cert_sched.specs.Schedule.{placement}
+use Rattle.cert_sched.specs.Scripted.{is_closed}
+use Rattle.cert_sched.proofs.UnlostLaws.{never_lost}
+use Rattle.bus_lock.specs.Lists.{MayAdd}
+use Rattle.bus_order.specs.Log.{author, author_of}
+use Rattle.bus_order.specs.Script.{is_unpassed}
+use Rattle.bus_order.specs.View.{BusView, HasLooked, KeepsScript, after_words, look_once, looks, with_given, with_look}
+use Rattle.bus_order.proofs.Looking.{look_over, look_some}
+use Rattle.bus_order.proofs.OverLaws.{open_not_closed}
+use Rattle.bus_order.proofs.Unscripted.{after_none, left_none}
+use Rattle.script_laws.proofs.CoveredLosses.{crashless_unlost, few_losses_close}
+use Rattle.script_laws.proofs.CrashLaws.{crashes_within}
+use Rattle.cluster_run.specs.Along.{IsBare, IsSound, is_place_word}
+
+-- ---- what words add
+
+-- a bus has grown, by entries of which no cluster is the author
+pub record Worded (old new : BusView) : Type 0 where
+  pub system : new.system ≡ old.system
+  pub script : new.script ≡ old.script
+  pub more : List Entry
+  pub log : new.log ≡ old.log ++ more
+  pub none : All (λ (e : Entry). author_of e ≡ None) more
+  pub others : (k : ClusterNo) → list_any (is_by_cluster k) more ≡ false
+
+worded_none : (b : BusView) → Worded b b
+worded_none b = record { system = refl; script = refl; more = []; log = sym (append-nil b.log); none = All-nil (λ (e : Entry). author_of e ≡ None); others = λ k. refl }
+
+worded_more : (a b c : BusView) → Worded a b → Worded b c → Worded a c
+worded_more a b c one two = record {
+  system = two.system ∙ one.system;
+  script = two.script ∙ one.script;
+  more = one.more ++ two.more;
+  log = two.log ∙ ap (λ l. l ++ two.more) one.log ∙ append_assoc a.log one.more two.more;
+  none = All-append (λ (e : Entry). author_of e ≡ None) one.more two.more one.none two.none;
+  others = λ k. list_any-append (is_by_cluster k) one.more two.more ∙ (λ i. one.others k i || two.others k i);
+}
+
+-- what a word gives has no author
+no_author : (places : Places) (word : ScriptWord) (w : What) → given_by places word ≡ Some w → author Bus w ≡ None
+no_author places (CrashAt k place) w is = by_test (lives_in places k) is
+  where
+    by_test : (b : Bool) → cond b (Some (Crash k Place)) None ≡ Some w → author Bus w ≡ None
+    by_test true is = let same : Crash k Place ≡ w = cc in ap (author Bus) (sym same)
+    by_test false is = cc
+no_author places (CrashStep k step) w is = cc
+no_author places (DiskAt k call) w is = cc
+no_author places (ReturnAt k place) w is = by_test (lives_in places k) is
+  where
+    by_test : (b : Bool) → cond b None (Some (Return k)) ≡ Some w → author Bus w ≡ None
+    by_test true is = cc
+    by_test false is = let same : Return k ≡ w = cc in ap (author Bus) (sym same)
+
+given_worded : (b : BusView) (o : Option What) → ((w : What) → o ≡ Some w → author Bus w ≡ None) → Worded b (with_given b o)
+given_worded b None none = worded_none b
+given_worded b (Some w) none = record {
+  system = refl;
+  script = refl;
+  more = entry_of b.system b.log (record { by = Bus; what = w }) ∷ [];
+  log = refl;
+  none = All-cons (λ (e : Entry). author_of e ≡ None) (entry_of b.system b.log (record { by = Bus; what = w })) [] (none w refl) (All-nil (λ (e : Entry). author_of e ≡ None));
+  others = λ k. refl;
+}
+
+look_worded : (b : BusView) (o : Option ScriptWord) → Worded b (with_look b o)
+look_worded b None = worded_none b
+look_worded b (Some word) =
+    let w = given_worded b (given_by (placement b.system b.log) word) (λ w is. no_author (placement b.system b.log) word w is) in
+    record { system = w.system; script = w.script; more = w.more; log = w.log; none = w.none; others = w.others }
+
+one_worded : (b : BusView) → Worded b (look_once b)
+one_worded b = by_end (is_over b.system b.log) refl
+  where
+    by_end : (t : Bool) → is_over b.system b.log ≡ t → Worded b (look_once b)
+    by_end true over = subst (Worded b) (sym (look_over b over)) (worded_none b)
+    by_end false goes_on = subst (Worded b) (sym (look_some b (first_reached b.log b.left) goes_on refl)) (look_worded b (first_reached b.log b.left))
+
+looks_worded : (n : ℕ) (b : BusView) → Worded b (looks n b)
+looks_worded zero b = worded_none b
+looks_worded (suc n) b = worded_more b (look_once b) (looks n (look_once b)) (one_worded b) (looks_worded n (look_once b))
+
+pub after_worded : (b : BusView) → Worded b (after_words b)
+after_worded b = looks_worded (length b.left) b
+
+pub looked_worded : (old new : BusView) → HasLooked old new → Worded old new
+looked_worded old new looked = subst (Worded old) (sym looked.1) (looks_worded looked.0 old)
+
+-- a cluster may add what has no author
+pub may_add : (k : ClusterNo) (more : List Entry) → All (λ (e : Entry). author_of e ≡ None) more → All (MayAdd author_of k.0) more
+may_add k more none i d low = inl (none i d low)
+
+-- ---- few words
+
+built_words : (words : List ScriptWord) → list_all is_place_word words ≡ true → list_all is_built_word words ≡ true
+built_words [] all = refl
+built_words (w ∷ words) all =
+    let parts = and_parts (is_place_word w) (list_all is_place_word words) all in
+    λ i. built w parts.0 i && built_words words parts.1 i
+  where
+    built : (w : ScriptWord) → is_place_word w ≡ true → is_built_word w ≡ true
+    built (CrashAt k place) h = refl
+    built (CrashStep k step) h = absurd (true≢false (sym h))
+    built (DiskAt k call) h = absurd (true≢false (sym h))
+    built (ReturnAt k place) h = absurd (true≢false (sym h))
+
+-- no cluster passes a word for a place
+pub none_passed : (k : ClusterNo) (log : List Entry) (steps : ℕ) (words : List ScriptWord) → list_all is_place_word words ≡ true → list_all (is_unpassed k log steps) words ≡ true
+none_passed k log steps [] all = refl
+none_passed k log steps (w ∷ words) all =
+    let parts = and_parts (is_place_word w) (list_all is_place_word words) all in
+    λ i. unpassed w parts.0 i && none_passed k log steps words parts.1 i
+  where
+    unpassed : (w : ScriptWord) → is_place_word w ≡ true → is_unpassed k log steps w ≡ true
+    unpassed (CrashAt j place) h = refl
+    unpassed (CrashStep j step) h = absurd (true≢false (sym h))
+    unpassed (DiskAt j call) h = refl
+    unpassed (ReturnAt j place) h = refl
+
+-- a bus is sound, as far as its script is
+pub sound_of : (b : BusView) → is_system b.system ≡ true → list_all is_place_word b.script ≡ true → length b.script ≤ 1 → IsLegalBy BuiltMayFollow b.system b.log → KeepsScript b → length b.log < 2 ^ 64 → IsSound b
+sound_of b valid words one legal keeps fits = record { valid = valid; words = words; one = one; legal = legal; losses = crashes_within b keeps legal (built_words b.script words); fits = fits }
+
+pub sound_again : (old new : BusView) → IsSound old → new.system ≡ old.system → new.script ≡ old.script → IsLegalBy BuiltMayFollow new.system new.log → KeepsScript new → length new.log < 2 ^ 64 → IsSound new
+sound_again old new sound system script legal keeps fits =
+    sound_of new (ap is_system system ∙ sound.valid) (ap (list_all is_place_word) script ∙ sound.words) (let long = ap length script in omega (arith, long, sound.one)) legal keeps fits
+
+-- its log is over exactly where it is closed
+pub sound_closed : (b : BusView) → IsSound b → is_over b.system b.log ≡ is_closed b.log
+sound_closed b sound = by_test (is_over b.system b.log) refl
+  where
+    by_test : (t : Bool) → is_over b.system b.log ≡ t → is_over b.system b.log ≡ is_closed b.log
+    by_test true over = over ∙ sym (few_losses_close b.system b.log sound.valid sound.legal (omega (arith, sound.losses, sound.one)) over)
+    by_test false is = is ∙ sym (open_not_closed b.system b.log sound.legal is)
+
+-- ---- no word
+
+pub unlost_of : (b : BusView) → IsSound b → b.script ≡ [] → IsLegalBy UnlostMayFollow b.system b.log
+unlost_of b sound none = crashless_unlost b.system b.log sound.legal (let long = ap length none in omega (arith, sound.losses, long))
+
+pub lives_without : (b : BusView) (k : ClusterNo) → IsSound b → b.script ≡ [] → was_lost_in b.log k ≡ false
+lives_without b k sound none = never_lost b.system b.log k (unlost_of b sound none)
+
+pub bare_of : (b : BusView) → KeepsScript b → b.script ≡ [] → IsBare b
+bare_of b keeps none = record { script = none; left = left_none b keeps none }
+
+pub words_of_none : (b : BusView) → IsBare b → after_words b ≡ b
+words_of_none b bare = after_none b bare.left
