@@ -1,5 +1,5 @@
 -- What a cluster makes of a bus that no other has.
-use Rattle.std.proofs.Common.{◌≡◌, ℕ, ◌+◌, ◌-◌, ◌≤◌, ◌<◌, ◌⊎◌, inl, inr, refl, sym, ◌∙◌, ap, subst, arith, [], ◌++◌, length, append_assoc, Bool, true, Option, Some, None, OnOk, Result, Ok, Err, true≢false}
+use Rattle.std.proofs.Common.{◌≡◌, ℕ, ◌+◌, ◌-◌, ◌≤◌, ◌<◌, ◌⊎◌, inl, inr, refl, sym, ◌∙◌, ap, subst, arith, List, [], ◌++◌, length, append_assoc, Bool, true, false, Option, Some, None, OnOk, Result, Ok, Err, true≢false}
 use Rattle.std.proofs.lemmas.List.{length-map, length-set}
 use Rattle.std.proofs.lemmas.List.Elements.{All-append}
 use Rattle.t32_base.specs.declared.process.ClusterNo.{ClusterNo}
@@ -9,7 +9,9 @@ use Rattle.bus_msg.specs.declared.entry.What.TheVariants.{Done}
 use Rattle.bus_msg.specs.declared.entry.Post.{Post}
 use Rattle.cert_sched.specs.Appended.{entry_of}
 use Rattle.cert_sched.specs.Rules.{is_over}
-use Rattle.cert_sched.specs.Scripted.{is_finished}
+use Rattle.cert_sched.specs.declared.script.ScriptWord.{ScriptWord}
+use Rattle.cert_sched.specs.Losses.{was_lost_in}
+use Rattle.cert_sched.specs.Scripted.{is_closed, is_finished}
 use Rattle.cluster_core.specs.View.{ClusterView, counted_once, load}
 use Rattle.bus_lock.specs.Lists.{MayAdd}
 use Rattle.bus_order.specs.declared.marks.Mark.{Mark}
@@ -17,17 +19,21 @@ use Rattle.bus_order.specs.declared.marks.Idled.{Idled}
 use Rattle.bus_order.specs.declared.marks.Idled.TheVariants.{Marked, Done as WasDone}
 use Rattle.bus_order.specs.Log.{author_of}
 use Rattle.bus_order.specs.View.{BusView, after_words, with_post}
-use Rattle.bus_order.proofs.OverLaws.{finished-snoc}
+use Rattle.bus_order.proofs.OverLaws.{finished-snoc, open_not_closed}
+use Rattle.script_laws.specs.Crashes.{crashes}
+use Rattle.script_laws.proofs.CoveredLosses.{few_losses_close}
+use Rattle.cluster_run.specs.declared.offers.Offered.{Offered}
 use Rattle.cluster_run.specs.declared.offers.Offered.TheVariants.{Sent, Behind, Over, Off}
 use Rattle.cluster_run.specs.Along.{IsAlong, IsOwned, IsSound, TakesIn}
-use Rattle.cluster_run.specs.Offers.{Adds, OfferIs, TakesMark, TellIs, Visits}
-use Rattle.cluster_run.specs.Progress.{Falls, IsAtMost, IsOver, Rests, log_load, remaining_of}
-use Rattle.cluster_run.specs.Turns.{GoesOwn, SendsOwn, TellsOwn, TurnsOwn}
+use Rattle.cluster_run.specs.Offers.{Adds, Later, OfferIs, TakesMark, TellIs, Visits}
+use Rattle.cluster_run.specs.Progress.{Falls, GetsOn, IsAtMost, IsLost, IsOver, Rests, log_load, remaining_of}
+use Rattle.cluster_run.specs.Turns.{GoesOwn, HasRested, HasSpent, SendsAll, SendsOwn, Spends, TellsOwn, TriesOwn, TurnsOwn}
 use Rattle.cluster_run.proofs.Offering.{adds_none, alone_later, alone_left}
-use Rattle.cluster_run.proofs.Progressing.{told_rest}
+use Rattle.cluster_run.proofs.Progressing.{lost_rests, told_rest}
 use Rattle.cluster_run.proofs.Sending.{IsSent, sent_goes_on, sent_spends}
-use Rattle.cluster_run.proofs.Worded.{lives_without, words_of_none}
-use Rattle.cert_sched.specs.Losses.{was_lost_in}
+use Rattle.cluster_run.proofs.TakingIn.{seen_lives}
+use Rattle.cluster_run.proofs.Worded.{after_worded}
+use Rattle.cluster_run.proofs.WordsLeft.{IsSameOrFewer, words_fewer, words_marks, words_open}
 
 pub adds_more : (k : ClusterNo) (a b c : BusView) → Adds k a b → Adds k b c → Adds k a c
 adds_more k a b c one two = record {
@@ -39,95 +45,208 @@ adds_more k a b c one two = record {
 }
 
 pub sends_none : (k : ClusterNo) (b : BusView) → GoesOwn b → SendsOwn k b b
-sends_none k b own = record { goes_on = own; adds = adds_none k b; spends = omega arith }
+sends_none k b own = record { goes_on = own; adds = adds_none k b; spends = inr (refl, omega arith) }
+
+spends_more : (a b c : BusView) → Spends a b → Spends b c → Spends a c
+spends_more a b c (inl fewer) (inl more) = inl (omega (arith, fewer, more))
+spends_more a b c (inl fewer) (inr more) = inl (omega (arith, fewer, more.0))
+spends_more a b c (inr less) (inl fewer) = inl (omega (arith, less.0, fewer))
+spends_more a b c (inr less) (inr more) = inr (more.0 ∙ less.0, omega (arith, less.1, more.1))
+
+-- no more words are left than before
+words_spent : (a b : BusView) → Spends a b → length b.left ≤ length a.left
+words_spent a b (inl fewer) = omega (arith, fewer)
+words_spent a b (inr less) = omega (arith, less.0)
 
 pub sends_more : (k : ClusterNo) (a b c : BusView) → SendsOwn k a b → SendsOwn k b c → SendsOwn k a c
-sends_more k a b c one two = record { goes_on = two.goes_on; adds = adds_more k a b c one.adds two.adds; spends = let less = one.spends in let more = two.spends in omega (arith, less, more) }
+sends_more k a b c one two = record { goes_on = two.goes_on; adds = adds_more k a b c one.adds two.adds; spends = spends_more a b c one.spends two.spends }
+
+-- the post after others lost the cluster
+pub sends_lost : (a b c : BusView) (first last : ClusterView) → SendsOwn first.number a b → TriesOwn first.number b c true → SendsAll a c first last
+sends_lost a b c first last one two =
+    let gone = two.lost refl in
+    let fewer = gone.1 in
+    record {
+      sends = sends_more first.number a b c one two.sends;
+      empty = λ lives. absurd (true≢false (sym gone.0 ∙ lives));
+      some = λ there. inl (omega (arith, fewer, words_spent a b one.spends));
+    }
+
+-- ---- the words that are due
+
+-- a sound log that is over is closed, so the words that were due do not end it
+pub words_go_on : (b after : BusView) → GoesOwn b → IsSound after → after ≡ after_words b → is_over after.system after.log ≡ false
+words_go_on b after own sound is = by_end (is_over after.system after.log) refl
+  where
+    by_end : (t : Bool) → is_over after.system after.log ≡ t → t ≡ false
+    by_end false over = refl
+    by_end true over =
+        let few : crashes after.log ≤ 1 = let losses = sound.losses in let one = sound.one in omega (arith, losses, one) in
+        let closed : is_closed after.log ≡ true = few_losses_close after.system after.log sound.valid sound.legal few over in
+        let still : is_closed after.log ≡ false = ap (λ (x : BusView). is_closed x.log) is ∙ words_open b (open_not_closed b.system b.log ((own.0).sound).legal own.1) in
+        sym closed ∙ still
+
+-- what is left of a bus then has a place for each mark
+words_owned : (b after : BusView) → GoesOwn b → IsSound after → after ≡ after_words b → IsOwned after
+words_owned b after own sound is = record {
+  sound = sound;
+  marks = ap (λ (x : BusView). length x.marks) is ∙ words_marks b ∙ (own.0).marks ∙ ap (λ (s : System). s.clusters) (sym (ap (λ (x : BusView). x.system) is ∙ (after_worded b).system));
+  unstopped = λ over. absurd (true≢false (sym over ∙ words_go_on b after own sound is));
+}
+
+-- where they changed it, fewer are left
+fewer_left : (b after : BusView) → after ≡ after_words b → (after ≡ b → ⊥) → length after.left < length b.left
+fewer_left b after is other = by_case (words_fewer b)
+  where
+    by_case : IsSameOrFewer b (after_words b) → length after.left < length b.left
+    by_case (inl same) = absurd (other (is ∙ same))
+    by_case (inr fewer) = subst (λ (x : BusView). length x.left < length b.left) (sym is) fewer
 
 -- ---- a post
 
 module _ (a : Bool) (alone : a ≡ true) (b after : BusView) (c : ClusterView) (post : Post) (own : GoesOwn b) where
-  words_there : (found : BusView) → found ≡ b → after_words found ≡ b
-  words_there found same = ap after_words same ∙ words_of_none b (own.0).bare
+  words_there : (found : BusView) → Later a c.number b found → after_words found ≡ after_words b
+  words_there found later = ap after_words (alone_later a c.number b found alone later)
 
   pub sent_own : IsSound after → (v : Visits a c.number b after (OfferIs c.number c.cursor post Sent)) → IsSent (after_words v.found).log c post after → Adds c.number b after → SendsOwn c.number b after
   sent_own sound v s adds =
-      let is : after ≡ with_post b post = alone_left a v.left after alone v.is_left ∙ (v.done).2 ∙ ap (λ x. with_post x post) (words_there v.found (alone_later a c.number b v.found alone v.later)) in
+      let is : after ≡ with_post (after_words b) post = alone_left a v.left after alone v.is_left ∙ (v.done).2 ∙ ap (λ x. with_post x post) (words_there v.found v.later) in
       record {
         goes_on = (
           record {
             sound = sound;
-            bare = record { script = ap (λ (x : BusView). x.script) is ∙ ((own.0).bare).script; left = ap (λ (x : BusView). x.left) is ∙ ((own.0).bare).left };
-            marks = ap (λ (x : BusView). length x.marks) is ∙ length-map b.marks (λ m. None) ∙ (own.0).marks ∙ ap (λ (x : BusView). (x.system).clusters) (sym is);
+            marks = ap (λ (x : BusView). length x.marks) is ∙ length-map (after_words b).marks (λ m. None) ∙ words_marks b ∙ (own.0).marks ∙ ap (λ (s : System). s.clusters) (sym adds.system);
             unstopped = λ over. absurd (true≢false (sym over ∙ sent_goes_on (after_words v.found).log c post after s));
           },
           sent_goes_on (after_words v.found).log c post after s,
         );
         adds = adds;
-        spends =
-            let found : after_words v.found ≡ b = words_there v.found (alone_later a c.number b v.found alone v.later) in
-            let load_is : log_load c.system (after_words v.found).log ≡ log_load b.system b.log = λ i. log_load ((s.system ∙ adds.system) i) (found i).log in
-            let long : length (after_words v.found).log ≡ length b.log = ap (λ (x : BusView). length x.log) found in
-            omega (arith, sent_spends (after_words v.found).log c post after s, load_is, long);
+        spends = by_case is (words_fewer b);
+      }
+    where
+      by_case : after ≡ with_post (after_words b) post → IsSameOrFewer b (after_words b) → Spends b after
+      by_case is (inr fewer) = inl (subst (λ (x : BusView). length x.left < length b.left) (sym is) fewer)
+      by_case is (inl same) =
+          let found : after_words v.found ≡ b = words_there v.found v.later ∙ same in
+          let load_is : log_load c.system (after_words v.found).log ≡ log_load b.system b.log = λ i. log_load ((s.system ∙ adds.system) i) (found i).log in
+          let long : length (after_words v.found).log ≡ length b.log = ap (λ (x : BusView). length x.log) found in
+          inr (
+            ap (λ (x : BusView). length x.left) is ∙ ap (λ (x : BusView). length x.left) same,
+            omega (arith, sent_spends (after_words v.found).log c post after s, load_is, long),
+          )
+
+  -- one that had seen all of the log is behind only where words were due
+  pub behind_own : IsSound after → c.cursor ≡ length b.log → Visits a c.number b after (OfferIs c.number c.cursor post Behind) → Adds c.number b after → SendsOwn c.number b after
+  behind_own sound seen v adds =
+      let is : after ≡ after_words b = alone_left a v.left after alone v.is_left ∙ (v.done).2 ∙ words_there v.found v.later in
+      let less : c.cursor < length after.log = subst (λ (x : BusView). c.cursor < length x.log) (sym (alone_left a v.left after alone v.is_left)) (v.done).1 in
+      record {
+        goes_on = (words_owned b after own sound is, words_go_on b after own sound is);
+        adds = adds;
+        spends = inl (fewer_left b after is (λ same. let long : length after.log ≡ length b.log = ap (λ (x : BusView). length x.log) same in omega (arith, seen, less, long)));
       }
 
-  -- one that had seen all of the log is not refused
-  pub never_behind : c.cursor ≡ length b.log → Visits a c.number b after (OfferIs c.number c.cursor post Behind) → ⊥
-  never_behind seen v =
-      let is : v.left ≡ b = (v.done).2 ∙ words_there v.found (alone_later a c.number b v.found alone v.later) in
-      let less : c.cursor < length b.log = subst (λ (x : BusView). c.cursor < length x.log) is (v.done).1 in
-      absurd (omega (arith, seen, less))
+  pub never_over : IsSound after → Visits a c.number b after (OfferIs c.number c.cursor post Over) → ⊥
+  never_over sound v =
+      let left_is : after ≡ v.left = alone_left a v.left after alone v.is_left in
+      let is : after ≡ after_words b = left_is ∙ (v.done).1 ∙ words_there v.found v.later in
+      true≢false (sym (v.done).0 ∙ ap (λ (x : BusView). is_over x.system x.log) (sym left_is) ∙ words_go_on b after own sound is)
 
-  pub never_over : Visits a c.number b after (OfferIs c.number c.cursor post Over) → ⊥
-  never_over v =
-      let is : v.left ≡ b = (v.done).1 ∙ words_there v.found (alone_later a c.number b v.found alone v.later) in
-      true≢false (sym (v.done).0 ∙ ap (λ (x : BusView). is_over x.system x.log) is ∙ own.1)
+  -- one that lived is lost by a word that was due
+  pub off_own : IsSound after → was_lost_in b.log c.number ≡ false → Visits a c.number b after (OfferIs c.number c.cursor post Off) → Adds c.number b after
+      → SendsOwn c.number b after × (length after.left < length b.left) × (was_lost_in after.log c.number ≡ true)
+  off_own sound lives v adds =
+      let left_is : after ≡ v.left = alone_left a v.left after alone v.is_left in
+      let is : after ≡ after_words b = left_is ∙ (v.done).1 ∙ words_there v.found v.later in
+      let lost : was_lost_in after.log c.number ≡ true = ap (λ (x : BusView). was_lost_in x.log c.number) left_is ∙ (v.done).0 in
+      let fewer = fewer_left b after is (λ same. true≢false (sym lost ∙ ap (λ (x : BusView). was_lost_in x.log c.number) same ∙ lives)) in
+      (record { goes_on = (words_owned b after own sound is, words_go_on b after own sound is); adds = adds; spends = inl fewer }, fewer, lost)
 
-  pub never_lost_there : Visits a c.number b after (OfferIs c.number c.cursor post Off) → ⊥
-  never_lost_there v =
-      let is : v.left ≡ b = (v.done).1 ∙ words_there v.found (alone_later a c.number b v.found alone v.later) in
-      true≢false (sym (v.done).0 ∙ ap (λ (x : BusView). was_lost_in x.log c.number) is ∙ lives_without b c.number (own.0).sound ((own.0).bare).script)
+  -- where the log is done with, that is so
+  pub done_own : (o : Offered) → (o ≡ Over) ⊎ (o ≡ Off) → IsSound after → was_lost_in b.log c.number ≡ false → Visits a c.number b after (OfferIs c.number c.cursor post o) → Adds c.number b after → TriesOwn c.number b after true
+  done_own o (inl is) sound lives v adds = absurd (never_over sound (subst (λ o. Visits a c.number b after (OfferIs c.number c.cursor post o)) is v))
+  done_own o (inr is) sound lives v adds = let lost = off_own sound lives (subst (λ o. Visits a c.number b after (OfferIs c.number c.cursor post o)) is v) adds in record { sends = lost.0; lost = λ over. (lost.2, lost.1) }
 
 -- ---- a rest
 
-told_owned : (b after : BusView) (k : ClusterNo) (cursor : ℕ) (m : Mark) (t : Option Idled) → GoesOwn b → IsSound after → cursor ≡ length b.log → k.0 < (b.system).clusters → TellIs k cursor m t b after → IsOwned after × (IsOver after ⊎ ((after.log ≡ b.log) × Rests b after k.0 (k.0 + 1)))
-told_owned b after k cursor m (Some Marked) own sound seen has told =
-    let is : TakesMark b k cursor m Marked after = subst (λ x. TakesMark x k cursor m Marked after) (words_of_none b (own.0).bare) told in (
-  record {
-    sound = sound;
-    bare = record { script = ap (λ (x : BusView). x.script) is.3 ∙ ((own.0).bare).script; left = ap (λ (x : BusView). x.left) is.3 ∙ ((own.0).bare).left };
-    marks = ap (λ (x : BusView). length x.marks) is.3 ∙ length-set b.marks k.0 (Some m) ∙ (own.0).marks ∙ ap (λ (x : BusView). (x.system).clusters) (sym is.3);
-    unstopped = λ over. absurd (true≢false (sym over ∙ ap (λ (x : BusView). is_over x.system x.log) is.3 ∙ own.1));
-  },
-  told_rest b after k cursor m Marked is (omega (arith, has, (own.0).marks)),
-)
-told_owned b after k cursor m (Some (WasDone at)) own sound seen has told =
-    let is : TakesMark b k cursor m (WasDone at) after = subst (λ x. TakesMark x k cursor m (WasDone at) after) (words_of_none b (own.0).bare) told in
-    let ends = is.3 in (
-      record {
-        sound = sound;
-        bare = record { script = ap (λ (x : BusView). x.script) ends.ended ∙ ((own.0).bare).script; left = ap (λ (x : BusView). x.left) ends.ended ∙ ((own.0).bare).left };
-        marks = ap (λ (x : BusView). length x.marks) ends.ended ∙ length-set b.marks k.0 (Some m) ∙ (own.0).marks ∙ ap (λ (x : BusView). (x.system).clusters) (sym ends.ended);
-        unstopped = λ over. ap (λ (x : BusView). is_finished x.log) ends.ended ∙ finished-snoc b.log (entry_of b.system b.log (record { by = Bus; what = Done ends.rests }));
-      },
-      told_rest b after k cursor m (WasDone at) is (omega (arith, has, (own.0).marks)),
-    )
-told_owned b after k cursor m None own sound seen has told = absurd (never (subst (λ x. after ≡ x) (words_of_none b (own.0).bare) told.1) told.0)
-  where
-    never : after ≡ b → (is_over after.system after.log ≡ true) ⊎ (was_lost_in after.log k ≡ true) ⊎ (cursor < length after.log) → ⊥
-    never is (inl over) = true≢false (sym over ∙ ap (λ (x : BusView). is_over x.system x.log) is ∙ own.1)
-    never is (inr (inl lost)) = true≢false (sym lost ∙ ap (λ (x : BusView). was_lost_in x.log k) is ∙ lives_without b k (own.0).sound ((own.0).bare).script)
-    never is (inr (inr behind)) = let less : cursor < length b.log = subst (λ (x : BusView). cursor < length x.log) is behind in omega (arith, seen, less)
+module _ (b after : BusView) (k : ClusterNo) (cursor : ℕ) (m : Mark) (own : GoesOwn b) (sound : IsSound after) (seen : cursor ≡ length b.log) (lives : was_lost_in b.log k ≡ false) (has : k.0 < (b.system).clusters) where
+  words_system : (after_words b).system ≡ b.system
+  words_system = (after_worded b).system
+
+  marks_there : length (after_words b).marks ≡ (b.system).clusters
+  marks_there = words_marks b ∙ (own.0).marks
+
+  -- the bus took the mark, where no word was due or some were
+  rests_or : (idled : Idled) → TakesMark (after_words b) k cursor m idled after → after.left ≡ (after_words b).left → IsSameOrFewer b (after_words b) → HasRested k b after
+  rests_or idled took left (inr fewer) = inr (inl (subst (λ (l : List ScriptWord). length l < length b.left) (sym left) fewer))
+  rests_or idled took left (inl same) =
+      elim (told_rest b after k cursor m idled (subst (λ x. TakesMark x k cursor m idled after) same took) (omega (arith, has, (own.0).marks))) [
+        | inl over ↦ inl over
+        | inr rest ↦ inr (inr (ap length left ∙ ap (λ (x : BusView). length x.left) same, rest))
+      ]
+
+  told_owned : (t : Option Idled) → TellIs k cursor m t b after → IsOwned after × HasRested k b after
+  told_owned (Some Marked) told = (
+    record {
+      sound = sound;
+      marks = ap (λ (x : BusView). length x.marks) told.3 ∙ length-set (after_words b).marks k.0 (Some m) ∙ marks_there ∙ ap (λ (s : System). s.clusters) (sym (ap (λ (x : BusView). x.system) told.3 ∙ words_system));
+      unstopped = λ over. absurd (true≢false (sym over ∙ ap (λ (x : BusView). is_over x.system x.log) told.3 ∙ (told.0).goes_on));
+    },
+    rests_or Marked told (ap (λ (x : BusView). x.left) told.3) (words_fewer b),
+  )
+  told_owned (Some (WasDone at)) told =
+      let ends = told.3 in (
+        record {
+          sound = sound;
+          marks = ap (λ (x : BusView). length x.marks) ends.ended ∙ length-set (after_words b).marks k.0 (Some m) ∙ marks_there ∙ ap (λ (s : System). s.clusters) (sym (ap (λ (x : BusView). x.system) ends.ended ∙ words_system));
+          unstopped = λ over. ap (λ (x : BusView). is_finished x.log) ends.ended ∙ finished-snoc (after_words b).log (entry_of (after_words b).system (after_words b).log (record { by = Bus; what = Done ends.rests }));
+        },
+        rests_or (WasDone at) told (ap (λ (x : BusView). x.left) ends.ended) (words_fewer b),
+      )
+  told_owned None told = (words_owned b after own sound told.1, inr (inl (fewer_left b after told.1 (never told.0))))
+    where
+      never : (is_over after.system after.log ≡ true) ⊎ (was_lost_in after.log k ≡ true) ⊎ (cursor < length after.log) → after ≡ b → ⊥
+      never (inl over) same = true≢false (sym over ∙ ap (λ (x : BusView). is_over x.system x.log) same ∙ own.1)
+      never (inr (inl lost)) same = true≢false (sym lost ∙ ap (λ (x : BusView). was_lost_in x.log k) same ∙ lives)
+      never (inr (inr behind)) same = let less : cursor < length b.log = subst (λ (x : BusView). cursor < length x.log) same behind in omega (arith, seen, less)
 
 pub told_own : (a : Bool) → a ≡ true → (b after : BusView) (c : ClusterView) (m : Mark) (t : Option Idled) → GoesOwn b → IsSound after → IsAlong b c → c.cursor ≡ length b.log → Adds c.number b after → Visits a c.number b after (TellIs c.number c.cursor m t) → TellsOwn c.number b after
 told_own a alone b after c m t own sound along seen adds v =
     let is : TellIs c.number c.cursor m t b after =
     subst (λ x. TellIs c.number c.cursor m t b x) (sym (alone_left a v.left after alone v.is_left)) (subst (λ x. TellIs c.number c.cursor m t x v.left) (alone_later a c.number b v.found alone v.later) v.done) in
     let has : (c.number).0 < (b.system).clusters = subst (λ (s : System). (c.number).0 < s.clusters) along.system (along.beside).has in
-    let done = told_owned b after c.number c.cursor m t own sound seen has is in
+    let done = told_owned b after c.number c.cursor m own sound seen (seen_lives b c along seen) has t is in
     record { owned = done.0; adds = adds; rests = done.1 }
 
 -- ---- turns
+
+-- a cluster took in what was new, and nothing else changed
+taken_most : (b : BusView) (c caught : ClusterView) → TakesIn b c caught → IsAtMost (remaining_of b c) (remaining_of b caught)
+taken_most b c caught takes = by_taken takes.some
+  where
+    by_taken : (c.cursor < caught.cursor) ⊎ (caught ≡ c) → IsAtMost (remaining_of b c) (remaining_of b caught)
+    by_taken (inl more) = let within = ((takes.along).beside).within in inl (inr (refl, inr (inl (refl, omega (arith, more, within)))))
+    by_taken (inr is) = inr (refl, refl, ap (λ (v : ClusterView). length b.log - v.cursor) is, ap load is)
+
+-- a cluster that was lost took in what was new up to there
+pub lost_turn : (b mid : BusView) (c caught : ClusterView) → mid ≡ b → GoesOwn b → TakesIn mid c caught → was_lost_in mid.log c.number ≡ true → TurnsOwn b mid c caught
+lost_turn b mid c caught same own taken lost =
+    let takes : TakesIn b c caught = subst (λ x. TakesIn x c caught) same taken in
+    subst (λ x. TurnsOwn b x c caught) (sym same) (record {
+      owned = own.0;
+      adds = adds_none c.number b;
+      empty = λ lives. absurd (true≢false (sym (ap (λ (x : BusView). was_lost_in x.log c.number) (sym same) ∙ lost) ∙ lives));
+      spends = inr (inr (refl, inr refl));
+      lasts = inr (taken_most b c caught takes);
+      gets_on = by_most takes (taken_most b c caught takes);
+    })
+  where
+    lost_there : IsLost b (c.number).0
+    lost_there = ap (λ (x : BusView). was_lost_in x.log c.number) (sym same) ∙ lost
+
+    by_most : TakesIn b c caught → IsAtMost (remaining_of b c) (remaining_of b caught) → GetsOn b b (remaining_of b c) (remaining_of b caught) (c.number).0 ((c.number).0 + 1)
+    by_most takes (inl falls) = inl falls
+    by_most takes (inr as_much) = inr (inr (lost_rests b (c.number).0 lost_there))
 
 -- a process of the cluster moved, and sent nothing
 pub moves_turn : (b mid : BusView) (c caught worked : ClusterView) → mid ≡ b → GoesOwn b → TakesIn mid c caught → load worked + 1 ≤ load caught → worked.cursor ≡ caught.cursor → worked.queue ≡ [] → TurnsOwn b mid c worked
@@ -137,15 +256,15 @@ moves_turn b mid c caught worked same own taken less cursor empty =
     subst (λ x. TurnsOwn b x c worked) (sym same) (record {
       owned = own.0;
       adds = adds_none c.number b;
-      empty = empty;
-      spends = inr (inr refl);
+      empty = λ lives. empty;
+      spends = inr (inr (refl, inr refl));
       lasts = inr (inl falls);
       gets_on = inl falls;
     })
   where
     by_taken : TakesIn b c caught → (c.cursor < caught.cursor) ⊎ (caught ≡ c) → Falls (remaining_of b c) (remaining_of b worked)
-    by_taken takes (inl more) = let within = ((takes.along).beside).within in inr (inl (refl, omega (arith, more, within, cursor)))
-    by_taken takes (inr is) = inr (inr (refl, ap (λ n. length b.log - n) (cursor ∙ ap (λ (v : ClusterView). v.cursor) is), (let heavy : load caught ≡ load c = ap load is in omega (arith, less, heavy))))
+    by_taken takes (inl more) = let within = ((takes.along).beside).within in inr (refl, inr (inl (refl, omega (arith, more, within, cursor))))
+    by_taken takes (inr is) = inr (refl, inr (inr (refl, ap (λ n. length b.log - n) (cursor ∙ ap (λ (v : ClusterView). v.cursor) is), (let heavy : load caught ≡ load c = ap load is in omega (arith, less, heavy)))))
 
 -- the cluster worked and then told so: its turn is over
 pub tells_turn : (b mid after : BusView) (c caught new : ClusterView) → mid ≡ b → TakesIn mid c caught → new ≡ counted_once caught → c.queue ≡ [] → TellsOwn new.number mid after → TurnsOwn b after c new
@@ -156,36 +275,59 @@ tells_turn b mid after c caught new same taken is empty tells =
     record {
       owned = t.owned;
       adds = t.adds;
-      empty = ap (λ (v : ClusterView). v.queue) is ∙ takes.queue ∙ empty;
-      spends = elim t.rests [ inl over ↦ inl over | inr rest ↦ inr (inr rest.0) ];
-      lasts = elim t.rests [ inl over ↦ inl over | inr rest ↦ inr (at_most takes (t.adds).system rest.0 takes.some) ];
-      gets_on = elim t.rests [ inl over ↦ inr (inl over) | inr rest ↦ inr (inr rest.1) ];
+      empty = λ lives. ap (λ (v : ClusterView). v.queue) is ∙ takes.queue ∙ empty;
+      spends = spent t.rests;
+      lasts = lasting takes (t.adds).system t.rests;
+      gets_on = getting t.rests;
     }
   where
-    at_most : TakesIn b c caught → after.system ≡ b.system → after.log ≡ b.log → (c.cursor < caught.cursor) ⊎ (caught ≡ c) → IsAtMost (remaining_of b c) (remaining_of after new)
-    at_most takes system log (inl more) =
+    spent : HasRested c.number b after → HasSpent b after
+    spent (inl over) = inl over
+    spent (inr (inl fewer)) = inr (inl fewer)
+    spent (inr (inr rest)) = inr (inr (rest.0, inr (rest.1).log))
+
+    getting : HasRested c.number b after → GetsOn b after (remaining_of b c) (remaining_of after new) (c.number).0 ((c.number).0 + 1)
+    getting (inl over) = inr (inl over)
+    getting (inr (inl fewer)) = inl (inl fewer)
+    getting (inr (inr rest)) = inr (inr rest.1)
+
+    at_most : length after.left ≡ length b.left → TakesIn b c caught → after.system ≡ b.system → after.log ≡ b.log → (c.cursor < caught.cursor) ⊎ (caught ≡ c) → IsAtMost (remaining_of b c) (remaining_of after new)
+    at_most words takes system log (inl more) =
         let within = ((takes.along).beside).within in
         let cursor : new.cursor ≡ caught.cursor = ap (λ (v : ClusterView). v.cursor) is in
         let long : length after.log ≡ length b.log = ap length log in
-        inl (inr (inl ((λ i. log_load (system i) (log i)), omega (arith, more, within, cursor, long))))
-    at_most takes system log (inr none) = inr ((λ i. log_load (system i) (log i)), (λ i. length (log i) - ((ap (λ (v : ClusterView). v.cursor) is ∙ ap (λ (v : ClusterView). v.cursor) none) i)), ap load is ∙ ap load none)
+        inl (inr (words, inr (inl ((λ i. log_load (system i) (log i)), omega (arith, more, within, cursor, long)))))
+    at_most words takes system log (inr none) = inr (words, (λ i. log_load (system i) (log i)), (λ i. length (log i) - ((ap (λ (v : ClusterView). v.cursor) is ∙ ap (λ (v : ClusterView). v.cursor) none) i)), ap load is ∙ ap load none)
 
--- the cluster worked and then sent its posts
-pub sends_turn : (b mid after : BusView) (c caught worked new : ClusterView) → mid ≡ b → TakesIn mid c caught → worked.number ≡ caught.number → length mid.log < length after.log → SendsOwn worked.number mid after → new.queue ≡ [] → TurnsOwn b after c new
-sends_turn b mid after c caught worked new same taken number_is longer sends empty =
+    lasting : TakesIn b c caught → after.system ≡ b.system → HasRested c.number b after → IsOver after ⊎ IsAtMost (remaining_of b c) (remaining_of after new)
+    lasting takes system (inl over) = inl over
+    lasting takes system (inr (inl fewer)) = inr (inl (inl fewer))
+    lasting takes system (inr (inr rest)) = inr (at_most rest.0 takes system (rest.1).log takes.some)
+
+-- the cluster worked and then sent its posts, or was lost
+pub sends_turn : (b mid after : BusView) (c caught worked new : ClusterView) → mid ≡ b → TakesIn mid c caught → worked.number ≡ caught.number → (length after.left < length mid.left) ⊎ (length mid.log < length after.log) → SendsOwn worked.number mid after
+    → (was_lost_in after.log worked.number ≡ false → new.queue ≡ []) → TurnsOwn b after c new
+sends_turn b mid after c caught worked new same taken number_is more sends empty =
     let number : worked.number ≡ c.number = number_is ∙ (taken.same).number in
     let t : SendsOwn c.number b after = subst (λ x. SendsOwn c.number x after) same (subst (λ k. SendsOwn k mid after) number sends) in
-    let grown : length b.log < length after.log = subst (λ (x : BusView). length x.log < length after.log) same longer in
-    let spent = t.spends in
-    let less : log_load after.system after.log < log_load b.system b.log = omega (arith, grown, spent) in
+    let did = by_more (subst (λ (x : BusView). (length after.left < length x.left) ⊎ (length x.log < length after.log)) same more) t.spends in
     record {
       owned = (t.goes_on).0;
       adds = t.adds;
-      empty = empty;
-      spends = inr (inl less);
-      lasts = inr (inl (inl less));
-      gets_on = inl (inl less);
+      empty = λ lives. empty (ap (was_lost_in after.log) number ∙ lives);
+      spends = elim did [ inl fewer ↦ inr (inl fewer) | inr less ↦ inr (inr (less.0, inl less.1)) ];
+      lasts = inr (inl (falls did));
+      gets_on = inl (falls did);
     }
+  where
+    by_more : (length after.left < length b.left) ⊎ (length b.log < length after.log) → Spends b after → (length after.left < length b.left) ⊎ ((length after.left ≡ length b.left) × (log_load after.system after.log < log_load b.system b.log))
+    by_more more (inl fewer) = inl fewer
+    by_more (inl fewer) (inr less) = inl fewer
+    by_more (inr grown) (inr less) = inr (less.0, omega (arith, grown, less.1))
+
+    falls : (length after.left < length b.left) ⊎ ((length after.left ≡ length b.left) × (log_load after.system after.log < log_load b.system b.log)) → Falls (remaining_of b c) (remaining_of after new)
+    falls (inl fewer) = inl fewer
+    falls (inr less) = inr (less.0, inl less.1)
 
 pub where_ok : {A E : Type 0} (r : Result A E) (P Q : Type 0) → (P → Q) → OnOk r P → OnOk r Q
 where_ok (Ok a) P Q then holds = then holds

@@ -1,5 +1,5 @@
 -- Each turn that does something leaves less to do, and each round does, or ends the run.
-use Rattle.std.proofs.Common.{◌≡◌, ℕ, zero, suc, ◌+◌, ◌≤◌, ◌<◌, ◌≢◌, ◌⊎◌, inl, inr, refl, sym, ◌∙◌, ap, subst, arith, List, [], ◌∷◌, length, Bool, false, true, ◌||◌, ◌&&◌, Option, Some, None, get_or, slice_set, true≢false, eq-eqb, eqb-true, Ok}
+use Rattle.std.proofs.Common.{◌≡◌, ℕ, zero, suc, ◌+◌, ◌≤◌, ◌<◌, ◌≢◌, ◌⊎◌, inl, inr, refl, sym, ◌∙◌, ap, subst, arith, List, [], ◌∷◌, length, Bool, false, true, not, ◌||◌, ◌&&◌, Option, Some, None, get_or, slice_set, true≢false, eq-eqb, eqb-true, Ok}
 use Rattle.std.specs.Prelude.{is_none, is_some, nat_eq, nat_lt, option_map, slice_get}
 use Rattle.std.specs.List.{list_any, range_with_len, sum_by}
 use Rattle.std.proofs.lemmas.List.Sums.{sum_by-set}
@@ -9,7 +9,9 @@ use Rattle.std.proofs.lemmas.List.{get_or-set_same, get_or-set_other}
 use Rattle.t32_base.specs.declared.process.ClusterNo.{ClusterNo}
 use Rattle.bus_msg.specs.Places.{all_clusters, cluster_no, lives_in}
 use Rattle.cert_sched.specs.Schedule.{placement}
+use Rattle.cert_sched.specs.Losses.{was_lost_in}
 use Rattle.cert_sched.specs.Rules.{is_over}
+use Rattle.script_laws.proofs.OffLosses.{lives_unless_lost}
 use Rattle.cert_sched.proofs.Induction.{is_over-snoc}
 use Rattle.cert_sched.proofs.HomesLaws.{built_clusters-length}
 use Rattle.cluster_core.specs.View.{ClusterView, load}
@@ -19,8 +21,8 @@ use Rattle.bus_order.specs.declared.marks.Idled.TheVariants.{Marked, Done as Was
 use Rattle.bus_order.specs.View.{BusView, is_awaited, mark_in, with_mark}
 use Rattle.cluster_run.specs.Offers.{TakesMark}
 use Rattle.bus_order.proofs.MarksLaws.{mark_in-get_or}
-use Rattle.cluster_run.specs.Progress.{Falls, GetsOn, HasMark, IsAtMost, IsAwaiting, IsOver, Remaining, Rests, remaining, remaining_of, total, unseen}
-use Rattle.cluster_run.specs.Turns.{TurnsOwn}
+use Rattle.cluster_run.specs.Progress.{Falls, FallsBehind, GetsOn, HasMark, IsAtMost, IsAwaiting, IsLost, IsOver, LivesMarked, Remaining, Rests, log_load, remaining, remaining_of, total, unseen}
+use Rattle.cluster_run.specs.Turns.{HasSpent, TurnsOwn}
 use Rattle.cert_sched.specs.Legal.{IsLegalBy}
 use Rattle.cert_sched.specs.Built.{BuiltMayFollow}
 
@@ -46,16 +48,14 @@ marked_still b k m n within had = by_place (nat_eq n k.0) refl had
       | inr same ↦ absurd (true≢false (sym (eq-eqb n k.0 same) ∙ is))
     ]
 
--- what a bus made of an idle cluster
-pub told_rest : (b after : BusView) (k : ClusterNo) (cursor : ℕ) (m : Mark) (idled : Idled) → TakesMark b k cursor m idled after → k.0 < length b.marks → IsOver after ⊎ ((after.log ≡ b.log) × Rests b after k.0 (k.0 + 1))
-told_rest b after k cursor m Marked idles within = inr (
-  ap (λ (x : BusView). x.log) idles.3,
-  record {
-    marked = λ n low high. along (λ (x : BusView). HasMark x n) (marked_still b k m n within (inr (omega (arith, low, high))));
-    kept = λ n has. along (λ (x : BusView). HasMark x n) (marked_still b k m n within (inl has));
-    awaits = λ any. let P : BusView → Type 0 = λ x. is_awaited (placement x.system x.log) after.marks ≡ true in subst P (sym (λ i. record (idles.3 i) { marks = b.marks })) idles.2;
-  },
-)
+-- what a bus made of an idle cluster that lives
+pub told_rest : (b after : BusView) (k : ClusterNo) (cursor : ℕ) (m : Mark) (idled : Idled) → TakesMark b k cursor m idled after → k.0 < length b.marks → IsOver after ⊎ Rests b after k.0 (k.0 + 1)
+told_rest b after k cursor m Marked idles within = inr (record {
+  log = ap (λ (x : BusView). x.log) idles.3;
+  marked = λ n low high. inl (along (λ (x : BusView). HasMark x n) (marked_still b k m n within (inr (omega (arith, low, high)))));
+  kept = λ n has. along (λ (x : BusView). HasMark x n) (marked_still b k m n within (inl has));
+  awaits = λ any. let P : BusView → Type 0 = λ x. is_awaited (placement x.system x.log) after.marks ≡ true in subst P (sym (λ i. record (idles.3 i) { marks = b.marks })) idles.2;
+})
   where
     along : (P : BusView → Type 0) → P (with_mark b k m) → P after
     along P holds = subst P (sym idles.3) holds
@@ -65,30 +65,44 @@ told_rest b after k cursor m (WasDone at) idles within =
 
 -- ---- what is left
 
+-- the parts behind the words
+behind_then : (a b c : Remaining) → FallsBehind a b → FallsBehind b c ⊎ ((c.steps ≡ b.steps) × (c.entries ≡ b.entries) × (c.moves ≡ b.moves)) → FallsBehind a c
+behind_then a b c (inl x) (inl (inl y)) = inl (omega (arith, x, y))
+behind_then a b c (inl x) (inl (inr (inl y))) = inl (omega (arith, x, y.0))
+behind_then a b c (inl x) (inl (inr (inr y))) = inl (omega (arith, x, y.0))
+behind_then a b c (inl x) (inr y) = inl (omega (arith, x, y.0))
+behind_then a b c (inr (inl x)) (inl (inl y)) = inl (omega (arith, x.0, y))
+behind_then a b c (inr (inl x)) (inl (inr (inl y))) = inr (inl (y.0 ∙ x.0, omega (arith, x.1, y.1)))
+behind_then a b c (inr (inl x)) (inl (inr (inr y))) = inr (inl (y.0 ∙ x.0, omega (arith, x.1, y.1)))
+behind_then a b c (inr (inl x)) (inr y) = inr (inl (y.0 ∙ x.0, omega (arith, x.1, y.1)))
+behind_then a b c (inr (inr x)) (inl (inl y)) = inl (omega (arith, x.0, y))
+behind_then a b c (inr (inr x)) (inl (inr (inl y))) = inr (inl (y.0 ∙ x.0, omega (arith, x.1, y.1)))
+behind_then a b c (inr (inr x)) (inl (inr (inr y))) = inr (inr (y.0 ∙ x.0, y.1 ∙ x.1, omega (arith, x.2, y.2)))
+behind_then a b c (inr (inr x)) (inr y) = inr (inr (y.0 ∙ x.0, y.1 ∙ x.1, omega (arith, x.2, y.2)))
+
+then_behind : (a b c : Remaining) → (b.steps ≡ a.steps) × (b.entries ≡ a.entries) × (b.moves ≡ a.moves) → FallsBehind b c → FallsBehind a c
+then_behind a b c x (inl y) = inl (omega (arith, x.0, y))
+then_behind a b c x (inr (inl y)) = inr (inl (y.0 ∙ x.0, omega (arith, x.1, y.1)))
+then_behind a b c x (inr (inr y)) = inr (inr (y.0 ∙ x.0, y.1 ∙ x.1, omega (arith, x.2, y.2)))
+
+-- with the words
 pub falls_then : (a b c : Remaining) → Falls a b → IsAtMost b c → Falls a c
 falls_then a b c (inl x) (inl (inl y)) = inl (omega (arith, x, y))
-falls_then a b c (inl x) (inl (inr (inl y))) = inl (omega (arith, x, y.0))
-falls_then a b c (inl x) (inl (inr (inr y))) = inl (omega (arith, x, y.0))
+falls_then a b c (inl x) (inl (inr y)) = inl (omega (arith, x, y.0))
 falls_then a b c (inl x) (inr y) = inl (omega (arith, x, y.0))
-falls_then a b c (inr (inl x)) (inl (inl y)) = inl (omega (arith, x.0, y))
-falls_then a b c (inr (inl x)) (inl (inr (inl y))) = inr (inl (y.0 ∙ x.0, omega (arith, x.1, y.1)))
-falls_then a b c (inr (inl x)) (inl (inr (inr y))) = inr (inl (y.0 ∙ x.0, omega (arith, x.1, y.1)))
-falls_then a b c (inr (inl x)) (inr y) = inr (inl (y.0 ∙ x.0, omega (arith, x.1, y.1)))
-falls_then a b c (inr (inr x)) (inl (inl y)) = inl (omega (arith, x.0, y))
-falls_then a b c (inr (inr x)) (inl (inr (inl y))) = inr (inl (y.0 ∙ x.0, omega (arith, x.1, y.1)))
-falls_then a b c (inr (inr x)) (inl (inr (inr y))) = inr (inr (y.0 ∙ x.0, y.1 ∙ x.1, omega (arith, x.2, y.2)))
-falls_then a b c (inr (inr x)) (inr y) = inr (inr (y.0 ∙ x.0, y.1 ∙ x.1, omega (arith, x.2, y.2)))
+falls_then a b c (inr x) (inl (inl y)) = inl (omega (arith, x.0, y))
+falls_then a b c (inr x) (inl (inr y)) = inr (y.0 ∙ x.0, behind_then a b c x.1 (inl y.1))
+falls_then a b c (inr x) (inr y) = inr (y.0 ∙ x.0, behind_then a b c x.1 (inr (y.1, y.2, y.3)))
 
 pub then_falls : (a b c : Remaining) → IsAtMost a b → Falls b c → Falls a c
 then_falls a b c (inl x) y = falls_then a b c x (inl y)
 then_falls a b c (inr x) (inl y) = inl (omega (arith, x.0, y))
-then_falls a b c (inr x) (inr (inl y)) = inr (inl (y.0 ∙ x.0, omega (arith, x.1, y.1)))
-then_falls a b c (inr x) (inr (inr y)) = inr (inr (y.0 ∙ x.0, y.1 ∙ x.1, omega (arith, x.2, y.2)))
+then_falls a b c (inr x) (inr y) = inr (y.0 ∙ x.0, then_behind a b c (x.1, x.2, x.3) y.1)
 
 pub at_most_then : (a b c : Remaining) → IsAtMost a b → IsAtMost b c → IsAtMost a c
 at_most_then a b c (inl x) y = inl (falls_then a b c x y)
 at_most_then a b c (inr x) (inl y) = inl (then_falls a b c (inr x) y)
-at_most_then a b c (inr x) (inr y) = inr (y.0 ∙ x.0, y.1 ∙ x.1, y.2 ∙ x.2)
+at_most_then a b c (inr x) (inr y) = inr (y.0 ∙ x.0, y.1 ∙ x.1, y.2 ∙ x.2, y.3 ∙ x.3)
 
 -- ---- turns
 
@@ -110,26 +124,33 @@ module _ (b after : BusView) (cs : List ClusterView) (n : ℕ) (d new : ClusterV
       subst (λ l. sum_by (unseen l) (slice_set cs n new) + unseen b.log (get_or cs n d) ≡ sum_by (unseen b.log) cs + unseen l new) (sym same) sums
 
   falls_alone : after.log ≡ b.log → Falls (remaining_of b (get_or cs n d)) (remaining_of after new) → Falls (remaining b cs) (remaining after (slice_set cs n new))
-  falls_alone same (inl less) = inl less
-  falls_alone same (inr (inl less)) = let sums = entries_are same in inr (inl (less.0, omega (arith, less.1, sums)))
-  falls_alone same (inr (inr less)) = let sums = entries_are same in let moves = moves_are in inr (inr (less.0, omega (arith, less.1, sums), omega (arith, less.2, moves)))
+  falls_alone same (inl fewer) = inl fewer
+  falls_alone same (inr (words, inl less)) = inr (words, inl less)
+  falls_alone same (inr (words, inr (inl less))) = let sums = entries_are same in inr (words, inr (inl (less.0, omega (arith, less.1, sums))))
+  falls_alone same (inr (words, inr (inr less))) = let sums = entries_are same in let moves = moves_are in inr (words, inr (inr (less.0, omega (arith, less.1, sums), omega (arith, less.2, moves))))
 
   turn_falls : Falls (remaining_of b (get_or cs n d)) (remaining_of after new) → Falls (remaining b cs) (remaining after (slice_set cs n new)) ⊎ IsOver after
-  turn_falls falls = elim t.spends [
-    | inl over ↦ inr over
-    | inr more ↦ elim more [ inl less ↦ inl (inl less) | inr same ↦ inl (falls_alone same falls) ]
-  ]
+  turn_falls falls = by_spent t.spends
+    where
+      by_spent : HasSpent b after → Falls (remaining b cs) (remaining after (slice_set cs n new)) ⊎ IsOver after
+      by_spent (inl over) = inr over
+      by_spent (inr (inl fewer)) = inl (inl fewer)
+      by_spent (inr (inr (words, inl less))) = inl (inr (words, inl less))
+      by_spent (inr (inr (words, inr same))) = inl (falls_alone same falls)
 
   by_one : after.log ≡ b.log → IsOver after ⊎ IsAtMost (remaining_of b (get_or cs n d)) (remaining_of after new) → IsOver after ⊎ IsAtMost (remaining b cs) (remaining after (slice_set cs n new))
   by_one same (inl over) = inl over
   by_one same (inr (inl falls)) = inr (inl (falls_alone same falls))
-  by_one same (inr (inr kept)) = let sums = entries_are same in let moves = moves_are in inr (inr (kept.0, omega (arith, kept.1, sums), omega (arith, kept.2, moves)))
+  by_one same (inr (inr kept)) = let sums = entries_are same in let moves = moves_are in inr (inr (kept.0, kept.1, omega (arith, kept.2, sums), omega (arith, kept.3, moves)))
 
   pub turn_lasts : IsOver after ⊎ IsAtMost (remaining b cs) (remaining after (slice_set cs n new))
-  turn_lasts = elim t.spends [
-    | inl over ↦ inl over
-    | inr more ↦ elim more [ inl less ↦ inr (inl (inl less)) | inr same ↦ by_one same t.lasts ]
-  ]
+  turn_lasts = by_spent t.spends
+    where
+      by_spent : HasSpent b after → IsOver after ⊎ IsAtMost (remaining b cs) (remaining after (slice_set cs n new))
+      by_spent (inl over) = inl over
+      by_spent (inr (inl fewer)) = inr (inl (inl fewer))
+      by_spent (inr (inr (words, inl less))) = inr (inl (inr (words, inl less)))
+      by_spent (inr (inr (words, inr same))) = by_one same t.lasts
 
   pub turn_gets_on : GetsOn b after (remaining b cs) (remaining after (slice_set cs n new)) n (n + 1)
   turn_gets_on = elim t.gets_on [
@@ -140,10 +161,32 @@ module _ (b after : BusView) (cs : List ClusterView) (n : ℕ) (d new : ClusterV
 -- no turn yet
 pub none_given : (b : BusView) (left : Remaining) (from : ℕ) → GetsOn b b left left from from
 none_given b left from = inr (inr (record {
+  log = refl;
   marked = λ n low high. absurd (omega (arith, low, high));
   kept = λ n has. has;
-  awaits = λ any. elim any [ inl less ↦ absurd (omega (arith, less)) | inr awaiting ↦ awaiting ];
+  awaits = λ any. none_or any;
 }))
+  where
+    none_or : LivesMarked b from from ⊎ IsAwaiting b → IsAwaiting b
+    none_or (inl one) = let low = one.low in let high = one.high in absurd (omega (arith, low, high))
+    none_or (inr awaiting) = awaiting
+
+-- a cluster that was lost rests
+pub lost_rests : (b : BusView) (n : ℕ) → IsLost b n → Rests b b n (n + 1)
+lost_rests b n lost = record {
+  log = refl;
+  marked = λ m low high. inr (subst (IsLost b) (let same : n ≡ m = omega (arith, low, high) in same) lost);
+  kept = λ m has. has;
+  awaits = λ any. none_or any;
+}
+  where
+    none_or : LivesMarked b n (n + 1) ⊎ IsAwaiting b → IsAwaiting b
+    none_or (inl one) =
+        let low = one.low in
+        let high = one.high in
+        let same : one.number ≡ n = omega (arith, low, high) in
+        absurd (true≢false (sym (subst (IsLost b) (sym same) lost) ∙ one.lives))
+    none_or (inr awaiting) = awaiting
 
 -- one turn more
 module _ (b mid after : BusView) (left now still : Remaining) (from n : ℕ) (over : IsOver mid → IsOver after) (first : IsOver mid ⊎ IsAtMost left now) (last : IsOver after ⊎ IsAtMost now still) where
@@ -155,17 +198,36 @@ module _ (b mid after : BusView) (left now still : Remaining) (from n : ℕ) (ov
   by_first falls (inl ended) = inr (inl (over ended))
   by_first falls (inr less) = inl (then_falls left now still less falls)
 
-  by_place : (m : ℕ) → Rests b mid from n → Rests mid after n (n + 1) → (m < n) ⊎ (n ≤ m) → from ≤ m → m < n + 1 → HasMark after m
-  by_place m one two (inl earlier) low high = two.kept m (one.marked m low earlier)
+  by_place : (m : ℕ) → Rests b mid from n → Rests mid after n (n + 1) → (m < n) ⊎ (n ≤ m) → from ≤ m → m < n + 1 → HasMark after m ⊎ IsLost after m
+  by_place m one two (inl earlier) low high = elim (one.marked m low earlier) [ inl has ↦ inl (two.kept m has) | inr lost ↦ inr (ap (λ l. was_lost_in l (cluster_no m)) two.log ∙ lost) ]
   by_place m one two (inr here) low high = two.marked m here high
+
+  -- one of them that lives was marked by a turn
+  by_living : Rests b mid from n → Rests mid after n (n + 1) → (l : LivesMarked after from (n + 1)) → (l.number < n) ⊎ (n ≤ l.number) → IsAwaiting after
+  by_living one two l (inl earlier) = two.awaits (inr (one.awaits (inl (record {
+    number = l.number;
+    low = l.low;
+    high = earlier;
+    lives = lives_mid;
+    marked = elim (one.marked l.number l.low earlier) [ inl has ↦ has | inr lost ↦ absurd (true≢false (sym lost ∙ lives_mid)) ];
+  }))))
+    where
+      lives_mid : was_lost_in mid.log (cluster_no l.number) ≡ false
+      lives_mid = ap (λ x. was_lost_in x (cluster_no l.number)) (sym two.log) ∙ l.lives
+  by_living one two l (inr here) = two.awaits (inl (record { number = l.number; low = here; high = l.high; lives = l.lives; marked = l.marked }))
+
+  by_any : Rests b mid from n → Rests mid after n (n + 1) → LivesMarked after from (n + 1) ⊎ IsAwaiting b → IsAwaiting after
+  by_any one two (inl l) = by_living one two l (nat_lt_or l.number n)
+  by_any one two (inr awaiting) = two.awaits (inr (one.awaits (inr awaiting)))
 
   by_next : Rests b mid from n → GetsOn mid after now still n (n + 1) → GetsOn b after left still from (n + 1)
   by_next one (inl falls) = by_first falls first
   by_next one (inr (inl ended)) = inr (inl ended)
   by_next one (inr (inr two)) = inr (inr (record {
+    log = two.log ∙ one.log;
     marked = λ m low high. by_place m one two (nat_lt_or m n) low high;
     kept = λ m has. two.kept m (one.kept m has);
-    awaits = λ any. two.awaits (inl (omega arith));
+    awaits = by_any one two;
   }))
 
   pub one_given : GetsOn b mid left now from n → GetsOn mid after now still n (n + 1) → GetsOn b after left still from (n + 1)
@@ -179,6 +241,12 @@ lasts_then mid after left now still over (inr less) (inl ended) = inl ended
 lasts_then mid after left now still over (inr less) (inr more) = inr (at_most_then left now still less more)
 
 -- ---- a round
+
+-- one cluster of the system lives
+pub record LivesThere (b : BusView) : Type 0 where
+  pub number : ℕ
+  pub within : number < (b.system).clusters
+  pub lives : was_lost_in b.log (cluster_no number) ≡ false
 
 any_none : {X : Type 0} (test : X → Bool) (xs : List X) → ((n : ℕ) (x : X) → slice_get xs n ≡ Some x → test x ≡ false) → list_any test xs ≡ false
 any_none test [] none = refl
@@ -194,29 +262,48 @@ not_none alive None has = absurd (true≢false (sym has))
 not_none true (Some m) has = refl
 not_none false (Some m) has = refl
 
--- where each cluster has its mark, none is awaited
-none_awaited : (b : BusView) → IsLegalBy BuiltMayFollow b.system b.log → ((n : ℕ) → n < (b.system).clusters → HasMark b n) → is_awaited (placement b.system b.log) b.marks ≡ false
+-- where each cluster has its mark or was lost, none is awaited
+none_awaited : (b : BusView) → IsLegalBy BuiltMayFollow b.system b.log → ((n : ℕ) → n < (b.system).clusters → HasMark b n ⊎ IsLost b n) → is_awaited (placement b.system b.log) b.marks ≡ false
 none_awaited b legal all = any_none (λ k. lives_in (placement b.system b.log) k && is_none (mark_in b.marks k)) (all_clusters (placement b.system b.log)) (λ n k at. one n k (slice_get (range_with_len 0 (length (placement b.system b.log).clusters)) n) refl (sym (slice_get-map cluster_no (range_with_len 0 (length (placement b.system b.log).clusters)) n) ∙ at))
   where
+    marked_or : (i : ℕ) → i < (b.system).clusters → HasMark b i ⊎ IsLost b i → (lives_in (placement b.system b.log) (cluster_no i) && is_none (mark_in b.marks (cluster_no i))) ≡ false
+    marked_or i within (inl has) = not_none (lives_in (placement b.system b.log) (cluster_no i)) (mark_in b.marks (cluster_no i)) has
+    marked_or i within (inr lost) = ap (λ t. t && is_none (mark_in b.marks (cluster_no i))) (lives_unless_lost b.system b.log (cluster_no i) legal within ∙ ap not lost)
+
     one : (n : ℕ) (k : ClusterNo) (o : Option ℕ) → slice_get (range_with_len 0 (length (placement b.system b.log).clusters)) n ≡ o → option_map cluster_no o ≡ Some k → (lives_in (placement b.system b.log) k && is_none (mark_in b.marks k)) ≡ false
     one n k None at is = cc
     one n k (Some i) at is =
         let place = range_at 0 (length (placement b.system b.log).clusters) n i at in
         let within : i < (b.system).clusters = omega (arith, place.0, place.1, built_clusters-length b.system b.log legal) in
         let same : cluster_no i ≡ k = cc in
-        subst (λ k. (lives_in (placement b.system b.log) k && is_none (mark_in b.marks k)) ≡ false) same (not_none (lives_in (placement b.system b.log) (cluster_no i)) (mark_in b.marks (cluster_no i)) (all i within))
+        subst (λ k. (lives_in (placement b.system b.log) k && is_none (mark_in b.marks k)) ≡ false) same (marked_or i within (all i within))
 
--- a round leaves less to do, or the log is over
-module _ (b then after : BusView) (left still now : Remaining) (first count : ℕ) (legal : IsLegalBy BuiltMayFollow after.system after.log) (each : count ≡ (after.system).clusters) (within : first < count) (over : IsOver then → IsOver after)
+-- a round leaves less to do, or the log is over, where one cluster lives
+module _ (b then after : BusView) (left still now : Remaining) (first count : ℕ) (legal : IsLegalBy BuiltMayFollow after.system after.log) (each : count ≡ (after.system).clusters) (alive : LivesThere after) (over : IsOver then → IsOver after)
     (first_lasts : IsOver then ⊎ IsAtMost left still) (second_lasts : IsOver after ⊎ IsAtMost still now) where
-  all_marked : Rests b then first count → Rests then after 0 first → (n : ℕ) → (n < first) ⊎ (first ≤ n) → n < count → HasMark after n
+  all_marked : Rests b then first count → Rests then after 0 first → (n : ℕ) → (n < first) ⊎ (first ≤ n) → n < count → HasMark after n ⊎ IsLost after n
   all_marked one two n (inl earlier) low = two.marked n (omega arith) earlier
-  all_marked one two n (inr later) low = two.kept n (one.marked n later low)
+  all_marked one two n (inr later) low = elim (one.marked n later low) [ inl has ↦ inl (two.kept n has) | inr lost ↦ inr (ap (λ l. was_lost_in l (cluster_no n)) two.log ∙ lost) ]
+
+  -- the one that lives was marked, so that one was awaited still
+  awaited_by : Rests b then first count → Rests then after 0 first → (alive.number < first) ⊎ (first ≤ alive.number) → HasMark after alive.number → IsAwaiting after
+  awaited_by one two (inl earlier) has = two.awaits (inl (record { number = alive.number; low = omega arith; high = earlier; lives = alive.lives; marked = has }))
+  awaited_by one two (inr later) has = two.awaits (inr (one.awaits (inl (record {
+    number = alive.number;
+    low = later;
+    high = let within = alive.within in omega (arith, within, each);
+    lives = lives_then;
+    marked = elim (one.marked alive.number later (let within = alive.within in omega (arith, within, each))) [ inl has ↦ has | inr lost ↦ absurd (true≢false (sym lost ∙ lives_then)) ];
+  }))))
+    where
+      lives_then : was_lost_in then.log (cluster_no alive.number) ≡ false
+      lives_then = ap (λ x. was_lost_in x (cluster_no alive.number)) (sym two.log) ∙ alive.lives
 
   never_rest : Rests b then first count → Rests then after 0 first → ⊥
   never_rest one two =
-      let awaited : IsAwaiting after = two.awaits (inr (one.awaits (inl within))) in
-      true≢false (sym awaited ∙ none_awaited after legal (λ n low. all_marked one two n (nat_lt_or n first) (omega (arith, low, each))))
+      let all = λ (n : ℕ) (low : n < (after.system).clusters). all_marked one two n (nat_lt_or n first) (omega (arith, low, each)) in
+      let has : HasMark after alive.number = elim (all alive.number alive.within) [ inl has ↦ has | inr lost ↦ absurd (true≢false (sym lost ∙ alive.lives)) ] in
+      true≢false (sym (awaited_by one two (nat_lt_or alive.number first) has) ∙ none_awaited after legal all)
 
   second_after : Falls left still → IsOver after ⊎ IsAtMost still now → Falls left now ⊎ IsOver after
   second_after falls (inl ended) = inr ended

@@ -1,5 +1,5 @@
 -- The processes of a cluster that follows a log have no more steps left than so many as the system says.
-use Rattle.std.proofs.Common.{◌≡◌, ℕ, zero, suc, ◌+◌, ◌*◌, ◌^◌, ◌≤◌, ◌<◌, ◌⊎◌, inl, inr, refl, sym, ◌∙◌, ap, subst, arith, List, [], ◌∷◌, length, get_or, Bool, true, false, cond, ◌||◌, eqb, ltb, eqb-true, Option, Some, None, true≢false}
+use Rattle.std.proofs.Common.{◌≡◌, ℕ, zero, suc, ◌+◌, ◌*◌, ◌^◌, ◌≤◌, ◌<◌, ◌⊎◌, inl, inr, refl, sym, ◌∙◌, ap, subst, arith, List, [], ◌∷◌, ◌++◌, length, get_or, Bool, true, false, cond, ◌||◌, eqb, ltb, eqb-true, Option, Some, None, true≢false}
 use Rattle.std.specs.Prelude.{All, count_by, filter, find, option_and_then, option_map}
 use Rattle.std.specs.List.{list_any, sum_by}
 use Rattle.std.specs.Option.{option_map_or}
@@ -18,6 +18,7 @@ use Rattle.sys_calls.specs.Next.{next_step}
 use Rattle.sys_calls.specs.declared.steps.Emission.{Emission}
 use Rattle.sys_calls.proofs.Quiet.{no_fork}
 use Rattle.plain_kernel.specs.Kernel.{Kernel, boot, process_at}
+use Rattle.bus_msg.specs.declared.entry.Post.{Post}
 use Rattle.bus_msg.specs.declared.entry.Entry.{Entry}
 use Rattle.bus_msg.specs.declared.placed.Placed.{Placed}
 use Rattle.bus_msg.specs.declared.entry.What.{What}
@@ -30,25 +31,29 @@ use Rattle.cert_sched.specs.Parts.{put_rising, rising, upto_last}
 use Rattle.cert_sched.specs.Deeds.{since, starts}
 use Rattle.cert_sched.specs.Rolling.{refilled}
 use Rattle.cert_sched.specs.Schedule.{placement, places_at_boot, plain_after, process_after}
-use Rattle.cert_sched.specs.Steps.{silent_upto}
+use Rattle.cert_sched.specs.Steps.{emission_at, silent_upto}
+use Rattle.cert_sched.specs.Appended.{entry_of}
 use Rattle.cert_sched.specs.Rests.{home_pids}
 use Rattle.cert_sched.specs.Rules.{is_over}
-use Rattle.cert_sched.specs.Built.{BuiltMayFollow, is_built}
+use Rattle.cert_sched.specs.Built.{BuiltMayFollow, UnlostMayFollow, is_built, is_unlost}
 use Rattle.cert_sched.specs.Legal.{IsLegalBy}
 use Rattle.cert_sched.proofs.Induction.{legal_induction}
 use Rattle.cert_sched.proofs.LogLaws.{placement-snoc}
 use Rattle.cert_sched.proofs.RisingLaws.{NoTwo}
-use Rattle.cert_sched.proofs.StepLaws.{silent_from}
+use Rattle.cert_sched.proofs.StepLaws.{sent_from, silent_from}
 use Rattle.cluster_core.specs.View.{ClusterView, Held, Runs, Rolls, Waits, held_load, held_of, load}
 use Rattle.cluster_core.specs.Holds.{IsHeldAs}
 use Rattle.cluster_core.specs.Follows.{FollowsBuilt}
+use Rattle.cluster_core.specs.Queue.{IsQueueLegal, is_move_of, state_by}
+use Rattle.cluster_core.proofs.ByKind.{by_kind}
 use Rattle.cluster_core.proofs.Here.{same_itself}
 use Rattle.cluster_core.specs.Residents.{pids_in}
 use Rattle.cluster_core.proofs.Lightening.{held_apart}
-use Rattle.sys_calls.proofs.Weighing.{Leaves, next_leaves, silently_leaves}
+use Rattle.sys_calls.proofs.Counting.{last_sent}
+use Rattle.sys_calls.proofs.Weighing.{Leaves, emits_leaves, next_leaves, silently_leaves}
 use Rattle.bus_order.specs.View.{BusView}
 use Rattle.cluster_run.specs.Along.{AllAlong, IsMember, IsOwned, IsSound}
-use Rattle.cluster_run.specs.Progress.{Falls, IsOver, Remaining, kernel_load, remaining, total, unseen}
+use Rattle.cluster_run.specs.Progress.{Falls, IsOver, Remaining, kernel_load, log_load, remaining, total, unseen}
 use Rattle.cluster_run.proofs.Posting.{follows_some}
 use Rattle.cluster_run.proofs.StepsLeft.{after_log, one_of_all}
 use Rattle.cluster_run.proofs.Together.{one_member}
@@ -105,13 +110,48 @@ replayed_leaves (suc n) s t births ds is = by_next (next_step s) refl is (replay
 
 -- ---- what is held
 
-held_within : (system : System) (log : List Entry) (p : Pid) (h : Held) → IsHeldAs system log [] p h → held_load h ≤ boot_load system
-held_within system log p (Runs process) is = silent_within system log p (process.small).steps (state_of process) is
-held_within system log p (Rolls process counts births) held =
+-- what a process has left after what it sent
+emitted_within : (system : System) (log : List Entry) (p : Pid) (at : ℕ) (t : ProcState) (o : Option (Emission × ProcState)) → emission_at system log p at ≡ o → option_map (λ (r : Emission × ProcState). r.1) o ≡ Some t → weight t.small ≤ boot_load system
+emitted_within system log p at t None is there = cc
+emitted_within system log p at t (Some sent) is there =
+    let s = sent_from system log p at sent.0 sent.1 is in
+    let l = last_sent _ s.was sent.0 sent.1 s.sends in
+    let same : weight (sent.1).small ≡ weight t.small = ap (λ o. option_map_or (λ (u : ProcState). weight u.small) o (weight t.small)) there in
+    omega (arith, same, silently_leaves l.earlier s.was l.before l.silent, emits_leaves l.before sent.1 sent.0 l.last, within_kernel system log p s.was s.kernel s.before s.there)
+
+-- a process that has moved ahead of the log
+moved_within : (system : System) (log : List Entry) (p : Pid) (steps : ℕ) (t : ProcState) (w : What) → is_unlost w ≡ true → state_by system log p steps (Some w) ≡ Some t → weight t.small ≤ boot_load system
+moved_within system log p steps t =
+    by_kind (λ w. state_by system log p steps (Some w) ≡ Some t → weight t.small ≤ boot_load system)
+    (λ at letter there. emitted_within system log letter.from at t (emission_at system log letter.from at) refl (same_option _ ∙ there))
+    (λ pid at end there. emitted_within system log pid at t (emission_at system log pid at) refl (same_option _ ∙ there))
+    (λ rests there. cc) (λ there. cc)
+  where
+    same_option : (o : Option ProcState) → o ≡ option_map (λ (s : ProcState). s) o
+    same_option None = refl
+    same_option (Some s) = refl
+
+-- each post that is found in a legal queue is no loss
+queued_unlost : (system : System) (log : List Entry) (queue : List Post) (test : Post → Bool) (post : Post) → IsQueueLegal UnlostMayFollow system log queue → find test queue ≡ Some post → is_unlost post.what ≡ true
+queued_unlost system log [] test post legal found = cc
+queued_unlost system log (first ∷ queue) test post legal found = by_test (test first) found
+  where
+    by_test : (b : Bool) → cond b (Some first) (find test queue) ≡ Some post → is_unlost post.what ≡ true
+    by_test true found = let same : first ≡ post = cc in subst (λ (p : Post). is_unlost p.what ≡ true) same (legal.0).built
+    by_test false found = queued_unlost system (log ++ entry_of system log first ∷ []) queue test post legal.1 found
+
+runs_within : (system : System) (log : List Entry) (queue : List Post) (p : Pid) (steps : ℕ) (t : ProcState) → IsQueueLegal UnlostMayFollow system log queue → (o : Option Post) → find (is_move_of p) queue ≡ o
+    → state_by system log p steps (option_map (λ (post : Post). post.what) o) ≡ Some t → weight t.small ≤ boot_load system
+runs_within system log queue p steps t legal None found is = silent_within system log p steps t is
+runs_within system log queue p steps t legal (Some post) found is = moved_within system log p steps t post.what (queued_unlost system log queue (is_move_of p) post legal found) is
+
+held_within : (system : System) (log : List Entry) (queue : List Post) (p : Pid) (h : Held) → IsQueueLegal UnlostMayFollow system log queue → IsHeldAs system log queue p h → held_load h ≤ boot_load system
+held_within system log queue p (Runs process) legal is = runs_within system log queue p (process.small).steps (state_of process) legal (find (is_move_of p) queue) refl is
+held_within system log queue p (Rolls process counts births) legal held =
     let rolls = (held.1).rolls in
     let start = process_within system (upto_last (starts p) log) p rolls.start rolls.started in
     omega (arith, start, replayed_leaves rolls.steps (refilled log p rolls.start) (state_of process) (births_in (since log p)) rolls.done rolls.replays)
-held_within system log p (Waits kept) is = omega arith
+held_within system log queue p (Waits kept) legal is = omega arith
 
 -- ---- all that a cluster holds
 
@@ -191,10 +231,10 @@ few_here system log c legal same =
 abbrev pub most_load : System → ℕ
 most_load system = placed_count system * boot_load system
 
-load_within : (system : System) (log : List Entry) (c : ClusterView) → IsLegalBy BuiltMayFollow system log → FollowsBuilt system log c → NoTwo (pids_in c.here) → c.queue ≡ [] → load c ≤ most_load system
-load_within system log c legal follows two empty =
+load_within : (system : System) (log : List Entry) (c : ClusterView) → IsLegalBy BuiltMayFollow system log → FollowsBuilt system log c → NoTwo (pids_in c.here) → load c ≤ most_load system
+load_within system log c legal follows two =
     let each : All (λ (e : Pid × Held). held_load e.1 ≤ boot_load system) c.here =
-    each_held (λ h. held_load h ≤ boot_load system) c.here two (λ p h at. held_within system log p h (subst (λ q. IsHeldAs system log q p h) empty ((follows.processes).held p h at))) in
+    each_held (λ h. held_load h ≤ boot_load system) c.here two (λ p h at. held_within system log c.queue p h (follows.queue).legal ((follows.processes).held p h at)) in
     omega (arith, sum_by-le (λ (e : Pid × Held). held_load e.1) (boot_load system) c.here each, mul-le (length c.here) (boot_load system) (placed_count system) (boot_load system) (few_here system log c legal (follows.processes).each_once) (omega arith))
 
 -- ---- all clusters
@@ -203,19 +243,19 @@ load_within system log c legal follows two empty =
 abbrev pub most_total : System → ℕ
 most_total system = system.clusters * most_load system
 
-member_within : (b : BusView) (n : ℕ) (c : ClusterView) → is_system b.system ≡ true → IsSound b → is_over b.system b.log ≡ false → IsMember b n c → (load c ≤ most_load b.system) × (unseen b.log c ≤ length b.log)
-member_within b n c valid sound goes_on member =
+member_within : (b : BusView) (n : ℕ) (c : ClusterView) → IsSound b → IsMember b n c → load c ≤ most_load b.system
+member_within b n c sound member =
     let some = follows_some b c sound member.along in
-    let within : load c ≤ most_load c.system = load_within c.system some.log c (some.open_log).0 some.follows (held_apart c (ap is_system (member.along).system ∙ valid) some) (member.empty goes_on) in
-    (subst (λ s. load c ≤ most_load s) (member.along).system within, omega arith)
+    let within : load c ≤ most_load c.system = load_within c.system some.log c (some.open_log).0 some.follows (held_apart c (ap is_system (member.along).system ∙ sound.valid) some) in
+    subst (λ s. load c ≤ most_load s) (member.along).system within
 
 all_members : (b : BusView) (cs : List ClusterView) (P : ClusterView → Type 0) → AllAlong b cs → ((n : ℕ) (c : ClusterView) → IsMember b n c → P c) → All P cs
 all_members b [] P all each = All-nil P
 all_members b (d ∷ ds) P all each = All-from_get_or P (d ∷ ds) d (λ n within. each n (get_or (d ∷ ds) n d) (one_member b (d ∷ ds) n d all within))
 
-pub total_within : (b : BusView) (cs : List ClusterView) → IsOwned b → is_over b.system b.log ≡ false → AllAlong b cs → total cs ≤ most_total b.system
-total_within b cs owned goes_on all =
-    let each : All (λ (c : ClusterView). load c ≤ most_load b.system) cs = all_members b cs (λ c. load c ≤ most_load b.system) all (λ n c member. (member_within b n c (owned.sound).valid owned.sound goes_on member).0) in
+pub total_within : (b : BusView) (cs : List ClusterView) → IsOwned b → AllAlong b cs → total cs ≤ most_total b.system
+total_within b cs owned all =
+    let each : All (λ (c : ClusterView). load c ≤ most_load b.system) cs = all_members b cs (λ c. load c ≤ most_load b.system) all (λ n c member. member_within b n c owned.sound member) in
     let sum : total cs ≤ length cs * most_load b.system = sum_by-le load (most_load b.system) cs each in
     subst (λ n. total cs ≤ n * most_load b.system) all.each sum
 
@@ -225,14 +265,31 @@ entries_within b cs owned all =
     let sum : sum_by (unseen b.log) cs ≤ length cs * 2 ^ 64 = sum_by-le (unseen b.log) (2 ^ 64) cs each in
     subst (λ n. sum_by (unseen b.log) cs ≤ n * 2 ^ 64) all.each sum
 
+pub steps_within : (system : System) (log : List Entry) → log_load system log ≤ boot_load system
+steps_within system log = by_kernel (plain_after system log) refl
+  where
+    by_kernel : (o : Option Kernel) → plain_after system log ≡ o → option_map_or kernel_load o 0 ≤ boot_load system
+    by_kernel None before = omega arith
+    by_kernel (Some k) before = after_log system log k before
+
 -- ---- one number for the parts
 
--- by bounds of the later parts, a number that falls where what is left falls
-abbrev pub rank : (entries moves : ℕ) → Remaining → ℕ
-rank entries moves r = (r.steps * (entries + 1) + r.entries) * (moves + 1) + r.moves
+-- the most that the parts behind the words may be
+record Bounds : Type 0 where
+  steps : ℕ
+  entries : ℕ
+  moves : ℕ
+
+-- a number with one more part, which has a bound
+abbrev weighed : (first second bound : ℕ) → ℕ
+weighed first second bound = first * (bound + 1) + second
+
+-- by bounds of the parts behind the words, a number that falls where what is left falls
+abbrev rank : Bounds → Remaining → ℕ
+rank most r = weighed (weighed (weighed r.words r.steps most.steps) r.entries most.entries) r.moves most.moves
 
 -- a first part that falls outweighs a second one that has a bound
-outweighs : (a b c d m : ℕ) → a < c → b ≤ m → a * (m + 1) + b < c * (m + 1) + d
+outweighs : (a b c d m : ℕ) → a < c → b ≤ m → weighed a b m < weighed c d m
 outweighs a b c d m less bound =
     let more : (a + 1) * (m + 1) ≤ c * (m + 1) = mul-le-mul_right (m + 1) (let l : a + 1 ≤ c = omega (arith, less) in l) in
     let one : (a + 1) * (m + 1) ≡ a * (m + 1) + (m + 1) = suc_times a (m + 1) in
@@ -241,18 +298,39 @@ outweighs a b c d m less bound =
     suc_times : (a m : ℕ) → (a + 1) * m ≡ a * m + m
     suc_times a m = omega arith
 
-pub rank_falls : (entries moves : ℕ) (old new : Remaining) → Falls old new → new.entries ≤ entries → new.moves ≤ moves → rank entries moves new < rank entries moves old
-rank_falls entries moves old new (inl less) few bound = outweighs (new.steps * (entries + 1) + new.entries) new.moves (old.steps * (entries + 1) + old.entries) old.moves moves (outweighs new.steps new.entries old.steps old.entries entries less few) bound
-rank_falls entries moves old new (inr (inl less)) few bound =
-    let front : new.steps * (entries + 1) ≡ old.steps * (entries + 1) = ap (λ n. n * (entries + 1)) less.0 in
-    outweighs (new.steps * (entries + 1) + new.entries) new.moves (old.steps * (entries + 1) + old.entries) old.moves moves (let l : new.steps * (entries + 1) + new.entries < old.steps * (entries + 1) + old.entries = omega (arith, front, less.1) in l) bound
-rank_falls entries moves old new (inr (inr less)) few bound =
-    let front : (new.steps * (entries + 1) + new.entries) * (moves + 1) ≡ (old.steps * (entries + 1) + old.entries) * (moves + 1) = λ i. (less.0 i * (entries + 1) + less.1 i) * (moves + 1) in
-    omega (arith, front, less.2)
+-- and where it stays, the second one decides
+weighs_second : (a b c d m : ℕ) → a ≡ c → b < d → weighed a b m < weighed c d m
+weighs_second a b c d m same less = let front : a * (m + 1) ≡ c * (m + 1) = ap (λ n. n * (m + 1)) same in omega (arith, front, less)
+
+module _ (most : Bounds) (old new : Remaining) (steps : new.steps ≤ most.steps) (entries : new.entries ≤ most.entries) (moves : new.moves ≤ most.moves) where
+  abbrev by_steps : Remaining → ℕ
+  by_steps r = weighed r.words r.steps most.steps
+
+  abbrev by_entries : Remaining → ℕ
+  by_entries r = weighed (by_steps r) r.entries most.entries
+
+  steps_fall : by_steps new < by_steps old → rank most new < rank most old
+  steps_fall less = outweighs (by_entries new) new.moves (by_entries old) old.moves most.moves (outweighs (by_steps new) new.entries (by_steps old) old.entries most.entries less entries) moves
+
+  entries_fall : by_steps new ≡ by_steps old → new.entries < old.entries → rank most new < rank most old
+  entries_fall same less = outweighs (by_entries new) new.moves (by_entries old) old.moves most.moves (weighs_second (by_steps new) new.entries (by_steps old) old.entries most.entries same less) moves
+
+  same_steps : new.words ≡ old.words → new.steps ≡ old.steps → by_steps new ≡ by_steps old
+  same_steps words steps = λ i. weighed (words i) (steps i) most.steps
+
+  rank_falls : Falls old new → rank most new < rank most old
+  rank_falls (inl fewer) = steps_fall (outweighs new.words new.steps old.words old.steps most.steps fewer steps)
+  rank_falls (inr (words, inl less)) = steps_fall (weighs_second new.words new.steps old.words old.steps most.steps words less)
+  rank_falls (inr (words, inr (inl less))) = entries_fall (same_steps words less.0) less.1
+  rank_falls (inr (words, inr (inr less))) = weighs_second (by_entries new) new.moves (by_entries old) old.moves most.moves (λ i. weighed (same_steps words less.0 i) (less.1 i) most.entries) less.2
+
+-- the most that may be left of a system
+abbrev most_of : System → Bounds
+most_of system = record { steps = boot_load system; entries = system.clusters * 2 ^ 64; moves = most_total system }
 
 -- what is left to do, as one number
 abbrev pub left_to_do : BusView → List ClusterView → ℕ
-left_to_do b cs = rank ((b.system).clusters * 2 ^ 64) (most_total b.system) (remaining b cs)
+left_to_do b cs = rank (most_of b.system) (remaining b cs)
 
 -- a round makes it fall, where the log then goes on
 pub round_falls : (b after : BusView) (cs new : List ClusterView) → IsOwned after → AllAlong after new → after.system ≡ b.system → is_over b.system b.log ≡ false → Falls (remaining b cs) (remaining after new) ⊎ IsOver after
@@ -263,6 +341,6 @@ round_falls b after cs new owned all system goes_on gets = subst (λ t. cond (is
     by_end true is gets = omega arith
     by_end false is (inr over) = absurd (true≢false (sym over ∙ is))
     by_end false is (inl falls) =
-        let less = rank_falls ((after.system).clusters * 2 ^ 64) (most_total after.system) (remaining b cs) (remaining after new) falls (entries_within after new owned all) (total_within after new owned is all) in
-        let bounds : rank ((after.system).clusters * 2 ^ 64) (most_total after.system) (remaining b cs) ≡ left_to_do b cs = ap (λ (s : System). rank (s.clusters * 2 ^ 64) (most_total s) (remaining b cs)) system in
+        let less = rank_falls (most_of after.system) (remaining b cs) (remaining after new) (steps_within after.system after.log) (entries_within after new owned all) (total_within after new owned all) falls in
+        let bounds : rank (most_of after.system) (remaining b cs) ≡ left_to_do b cs = ap (λ (s : System). rank (most_of s) (remaining b cs)) system in
         omega (arith, less, bounds)

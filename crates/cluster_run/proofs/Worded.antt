@@ -1,5 +1,5 @@
 -- What the words that are due add to a bus, and what is known of a bus whose script has few.
-use Rattle.std.proofs.Common.{◌≡◌, ℕ, zero, suc, ◌+◌, ◌^◌, ◌≤◌, ◌<◌, refl, sym, ◌∙◌, ap, subst, arith, inl, List, [], ◌∷◌, ◌++◌, length, append-nil, append_assoc, Bool, true, false, cond, ◌&&◌, Option, Some, None, true≢false}
+use Rattle.std.proofs.Common.{◌≡◌, ℕ, zero, suc, ◌+◌, ◌^◌, ◌≤◌, ◌<◌, refl, sym, ◌∙◌, ap, subst, arith, inl, List, [], ◌∷◌, ◌++◌, length, append-nil, append_assoc, Bool, true, false, cond, ◌&&◌, Option, Some, None, true≢false, ◌||◌}
 use Rattle.std.specs.Prelude.{All}
 use Rattle.std.specs.List.{list_all, list_any}
 use Rattle.std.proofs.lemmas.Bool.{and_parts}

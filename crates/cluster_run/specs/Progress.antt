@@ -1,5 +1,5 @@
 -- How far a run has come: what is left to do, and who rests.
-use Rattle.std.specs.Prelude.{ℕ, ◌≡◌, ◌-◌, ◌≤◌, ◌<◌, ◌⊎◌, true, List, length, is_some}
+use Rattle.std.specs.Prelude.{ℕ, ◌≡◌, ◌-◌, ◌≤◌, ◌<◌, ◌⊎◌, true, false, List, length, is_some}
 use Rattle.std.specs.List.{sum_by}
 use Rattle.std.specs.Option.{option_map_or}
 use Rattle.t32_base.specs.declared.process.Pid.{Pid}
@@ -10,6 +10,7 @@ use Rattle.plain_kernel.specs.Kernel.{Kernel}
 use Rattle.bus_msg.specs.declared.entry.Entry.{Entry}
 use Rattle.bus_msg.specs.Places.{cluster_no}
 use Rattle.cert_sched.specs.Schedule.{placement, plain_after}
+use Rattle.cert_sched.specs.Losses.{was_lost_in}
 use Rattle.cert_sched.specs.Rules.{is_over}
 use Rattle.cluster_core.specs.View.{ClusterView, load}
 use Rattle.bus_order.specs.View.{BusView, is_awaited, mark_in}
@@ -32,31 +33,40 @@ unseen log c = length log - c.cursor
 abbrev pub total : List ClusterView → ℕ
 total cs = sum_by load cs
 
--- What is left to do, by its parts: the steps that the kernel without failures has left after the log, the entries that clusters have not taken in, and the steps that
--- the processes of the clusters have left. The words of a script that were not used will stand before these.
+-- What is left to do, by its parts: the words of the script that are left, the steps that the kernel without failures has left after the log, the entries that clusters
+-- have not taken in, and the steps that the processes of the clusters have left.
 pub record Remaining : Type 0 where
+  pub words : ℕ
   pub steps : ℕ
   pub entries : ℕ
   pub moves : ℕ
 
 -- what is left to one cluster at a bus
 abbrev pub remaining_of : BusView → ClusterView → Remaining
-remaining_of b c = record { steps = log_load b.system b.log; entries = unseen b.log c; moves = load c }
+remaining_of b c = record { words = length b.left; steps = log_load b.system b.log; entries = unseen b.log c; moves = load c }
 
 -- what is left to all clusters of a bus
 abbrev pub remaining : BusView → List ClusterView → Remaining
-remaining b cs = record { steps = log_load b.system b.log; entries = sum_by (unseen b.log) cs; moves = total cs }
+remaining b cs = record { words = length b.left; steps = log_load b.system b.log; entries = sum_by (unseen b.log) cs; moves = total cs }
 
--- Less is left: the first part that changed has fallen. Those after it may have risen, as where a process that was lost goes back.
-abbrev pub Falls : Remaining → Remaining → Type 0
-Falls old new =
+-- of the parts behind the words the first that changed has fallen
+abbrev pub FallsBehind : Remaining → Remaining → Type 0
+FallsBehind old new =
     (new.steps < old.steps)
     ⊎ ((new.steps ≡ old.steps) × (new.entries < old.entries))
     ⊎ ((new.steps ≡ old.steps) × (new.entries ≡ old.entries) × (new.moves < old.moves))
 
+-- Less is left: the first part that changed has fallen. Those after it may have risen, as where a process that was lost goes back.
+abbrev pub Falls : Remaining → Remaining → Type 0
+Falls old new = (new.words < old.words) ⊎ ((new.words ≡ old.words) × FallsBehind old new)
+
+-- as much is left
+abbrev pub IsAsMuch : Remaining → Remaining → Type 0
+IsAsMuch old new = (new.words ≡ old.words) × (new.steps ≡ old.steps) × (new.entries ≡ old.entries) × (new.moves ≡ old.moves)
+
 -- less is left, or as much
 abbrev pub IsAtMost : Remaining → Remaining → Type 0
-IsAtMost old new = Falls old new ⊎ ((new.steps ≡ old.steps) × (new.entries ≡ old.entries) × (new.moves ≡ old.moves))
+IsAtMost old new = Falls old new ⊎ IsAsMuch old new
 
 -- ---- who rests
 
@@ -70,12 +80,26 @@ HasMark b n = is_some (mark_in b.marks (cluster_no n)) ≡ true
 abbrev pub IsAwaiting : BusView → Type 0
 IsAwaiting b = is_awaited (placement b.system b.log) b.marks ≡ true
 
--- the clusters from one number to another were marked, no mark was taken away, and one is still awaited where one was marked or awaited before
-pub record Rests (b after : BusView) (from upto : ℕ) : Type 0 where
-  pub marked : (n : ℕ) → from ≤ n → n < upto → HasMark after n
-  pub kept : (n : ℕ) → HasMark b n → HasMark after n
-  pub awaits : (from < upto) ⊎ IsAwaiting b → IsAwaiting after
+-- a cluster was lost
+abbrev pub IsLost : BusView → ℕ → Type 0
+IsLost b n = was_lost_in b.log (cluster_no n) ≡ true
 
--- Something was done, of what was left to do. Or the log is over. Or the clusters from one number to another rest.
+-- one of these clusters lives and was marked
+pub record LivesMarked (b : BusView) (from upto : ℕ) : Type 0 where
+  pub number : ℕ
+  pub low : from ≤ number
+  pub high : number < upto
+  pub lives : was_lost_in b.log (cluster_no number) ≡ false
+  pub marked : HasMark b number
+
+-- the log stayed as it was; the clusters from one number to another were marked, but for one that was lost, no mark was taken away, and one is still awaited where one
+-- that lives was marked or one was awaited before
+pub record Rests (b after : BusView) (from upto : ℕ) : Type 0 where
+  pub log : after.log ≡ b.log
+  pub marked : (n : ℕ) → from ≤ n → n < upto → HasMark after n ⊎ IsLost after n
+  pub kept : (n : ℕ) → HasMark b n → HasMark after n
+  pub awaits : LivesMarked after from upto ⊎ IsAwaiting b → IsAwaiting after
+
+-- Something was done, of what was left to do. Or the log is over. Or the clusters from one number to another rest, or were lost.
 abbrev pub GetsOn : (b after : BusView) → (left still : Remaining) → (from upto : ℕ) → Type 0
 GetsOn b after left still from upto = Falls left still ⊎ IsOver after ⊎ Rests b after from upto

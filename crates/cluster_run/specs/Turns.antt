@@ -1,9 +1,10 @@
 -- What a turn makes of a cluster and of its bus.
-use Rattle.std.specs.Prelude.{◌≡◌, ◌+◌, ◌≤◌, ◌<◌, ◌⊎◌, Bool, true, false, [], ◌∷◌, length}
+use Rattle.std.specs.Prelude.{◌≡◌, ◌+◌, ◌≤◌, ◌<◌, ◌⊎◌, Bool, true, false, [], ◌∷◌, length, is_some}
 use Rattle.t32_base.specs.declared.process.ClusterNo.{ClusterNo}
 use Rattle.bus_msg.specs.declared.entry.Post.{Post}
+use Rattle.cert_sched.specs.Losses.{was_lost_in}
 use Rattle.cert_sched.specs.Rules.{is_over}
-use Rattle.cluster_core.specs.View.{ClusterView}
+use Rattle.cluster_core.specs.View.{ClusterView, head_of}
 use Rattle.bus_order.specs.View.{BusView}
 use Rattle.cluster_run.specs.declared.turn.Turn.{Turn}
 use Rattle.cluster_run.specs.declared.turn.Turn.TheVariants.{Moved, Rests, Over}
@@ -26,24 +27,48 @@ EndsAs alone Over b c = (c.cursor ≡ upto c.number b.log) × (is_done_with c.nu
 abbrev pub GoesOwn : BusView → Type 0
 GoesOwn b = IsOwned b × (is_over b.system b.log ≡ false)
 
--- the posts of a cluster were sent to it; each entry that was added leaves the kernel without failures a step fewer, at least
+-- so many words as before are left, and each entry that was added leaves the kernel without failures a step fewer, at least; or fewer words are left
+abbrev pub Spends : BusView → BusView → Type 0
+Spends b after = (length after.left < length b.left) ⊎ ((length after.left ≡ length b.left) × (log_load after.system after.log + length after.log ≤ log_load b.system b.log + length b.log))
+
+-- posts of a cluster were sent to it, and words that were due were carried out
 pub record SendsOwn (k : ClusterNo) (b after : BusView) : Type 0 where
   pub goes_on : GoesOwn after
   pub adds : Adds k b after
-  pub spends : log_load after.system after.log + length after.log ≤ log_load b.system b.log + length b.log
+  pub spends : Spends b after
 
--- the cluster has its mark there and the log is as it was, or it is over
+-- the one post of a cluster was tried: it was sent, or the cluster had not seen all, or it was lost by a word
+pub record TriesOwn (k : ClusterNo) (b after : BusView) (over : Bool) : Type 0 where
+  pub sends : SendsOwn k b after
+  pub lost : over ≡ true → (was_lost_in after.log k ≡ true) × (length after.left < length b.left)
+
+-- all posts of a cluster were sent, or it was lost; where it had one, fewer words are left or the log is longer
+pub record SendsAll (b after : BusView) (c new : ClusterView) : Type 0 where
+  pub sends : SendsOwn c.number b after
+  pub empty : was_lost_in after.log c.number ≡ false → new.queue ≡ []
+  pub some : is_some (head_of c.queue) ≡ true → (length after.left < length b.left) ⊎ (length b.log < length after.log)
+
+-- the cluster has its mark there, and the log is as it was; or it is over; or fewer words are left
+abbrev pub HasRested : ClusterNo → BusView → BusView → Type 0
+HasRested k b after = IsOver after ⊎ (length after.left < length b.left) ⊎ ((length after.left ≡ length b.left) × RestsThere b after k.0 (k.0 + 1))
+
+-- a cluster in which nothing can move told so
 pub record TellsOwn (k : ClusterNo) (b after : BusView) : Type 0 where
   pub owned : IsOwned after
   pub adds : Adds k b after
-  pub rests : IsOver after ⊎ ((after.log ≡ b.log) × RestsThere b after k.0 (k.0 + 1))
+  pub rests : HasRested k b after
 
--- what the turn of a cluster makes of it: where it added to the log, the kernel without failures has fewer steps left
+-- the log is over, or fewer words are left, or the kernel without failures has fewer steps left, or the log is as it was
+abbrev pub HasSpent : BusView → BusView → Type 0
+HasSpent b after = IsOver after ⊎ (length after.left < length b.left) ⊎ ((length after.left ≡ length b.left) × ((log_load after.system after.log < log_load b.system b.log) ⊎ (after.log ≡ b.log)))
+
+-- What the turn of a cluster makes of it. The cluster has nothing to send, or it was lost. Where it added to the log, fewer words are left, or the kernel without failures
+-- has fewer steps left.
 pub record TurnsOwn (b after : BusView) (c new : ClusterView) : Type 0 where
   pub owned : IsOwned after
   pub adds : Adds c.number b after
-  pub empty : new.queue ≡ []
-  pub spends : IsOver after ⊎ (log_load after.system after.log < log_load b.system b.log) ⊎ (after.log ≡ b.log)
+  pub empty : was_lost_in after.log c.number ≡ false → new.queue ≡ []
+  pub spends : HasSpent b after
   pub lasts : IsOver after ⊎ IsAtMost (remaining_of b c) (remaining_of after new)
   pub gets_on : GetsOn b after (remaining_of b c) (remaining_of after new) (c.number).0 ((c.number).0 + 1)
 

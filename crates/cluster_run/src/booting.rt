@@ -1,11 +1,13 @@
 //! The bus of a system and its clusters, at their start.
-ghost use Rattle.std.specs.Prelude.{◌≡◌, ◌<◌, IfOk, length, true, []};
+ghost use Rattle.std.specs.Prelude.{◌≡◌, ◌<◌, ◌≤◌, IfOk, length, true, []};
 ghost use Rattle.std.specs.Arc.{arc_value};
 ghost use Rattle.sys_text.specs.Valid.{is_system};
-ghost use Rattle.cluster_run.specs.Along.{AllAlong, IsOwned};
+ghost use Rattle.std.specs.List.{list_all};
+ghost use Rattle.cluster_run.specs.Along.{AllAlong, IsOwned, is_place_word};
 ghost use Rattle.cluster_run.specs.Started.{AllStarted};
 
 use bus_order::bus::Bus;
+use cert_sched::script::ScriptWord;
 use cluster_core::cluster::Cluster;
 use std::alloc::Global;
 use std::sync::Arc;
@@ -13,16 +15,23 @@ use sys_text::system::System;
 use t32_base::process::ClusterNo;
 use t32_base::streams::NoMemory;
 
-/// The bus of a system and its clusters, at their start.
-pub fn start(alloc: Global, system: &Arc<System>) -> Result<(Bus, Vec<Cluster>), NoMemory>
-    requires { is_system (arc_value system.now) ≡ true }
+/// The bus of a system and a script, and the clusters of the system, at their start.
+pub fn start(
+    alloc: Global,
+    system: &Arc<System>,
+    script: &[ScriptWord],
+) -> Result<(Bus, Vec<Cluster>), NoMemory>
+    requires valid { is_system (arc_value system.now) ≡ true }
+    requires words { list_all is_place_word script.now ≡ true }
+    requires one { length script.now ≤ 1 }
     ensures owned { IfOk result (λ started. IsOwned started.0) }
     ensures along { IfOk result (λ started. AllAlong started.0 started.1.items) }
     ensures some { IfOk result (λ started. 0 < length started.1.items) }
     ensures system { IfOk result (λ started. started.0.system ≡ arc_value system.now) }
+    ensures script { IfOk result (λ started. started.0.script ≡ script.now) }
     ensures none { IfOk result (λ started. started.0.log ≡ []) }
 {
-    let bus = Bus::boot(alloc, system, &[])?;
+    let bus = Bus::boot(alloc, system, script)?;
     let clusters = clusters_at_boot(alloc, system)?;
     Ok((bus, clusters))
 }

@@ -15,6 +15,7 @@ loop-number-preserved c =
       along = one.along;
       within = let long : length c.give_turn.new.clusters ≡ length c.loop-number.clusters = c.give_turn.auto.clusters in omega (arith, long, so_far.within);
       system = one.system ∙ so_far.system;
+      script = one.script ∙ so_far.script;
       over = λ ended. one.over (so_far.over ended);
       lasts = lasts_then c.loop-number.bus c.give_turn.new.bus left now still one.over so_far.lasts one.lasts;
       gets_on = one_given c.args.bus.now c.loop-number.bus c.give_turn.new.bus left now still c.args.from c.loop-number.number one.over so_far.lasts one.lasts so_far.gets_on one.gets_on;

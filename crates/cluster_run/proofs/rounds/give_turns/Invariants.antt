@@ -9,6 +9,7 @@ invariant-loop-number l = record {
   along : AllAlong l.bus l.clusters;
   within : l.upto ≤ length l.clusters;
   system : l.bus.system ≡ l.fn.bus.system;
+  script : l.bus.script ≡ l.fn.bus.script;
   over : IsOver l.fn.bus → IsOver l.bus;
   lasts : IsOver l.bus ⊎ IsAtMost (remaining l.fn.bus l.initial.clusters) (remaining l.bus l.clusters);
   gets_on : GetsOn l.fn.bus l.bus (remaining l.fn.bus l.initial.clusters) (remaining l.bus l.clusters) l.from l.number;

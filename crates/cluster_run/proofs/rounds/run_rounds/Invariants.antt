@@ -11,6 +11,7 @@ invariant-rounds l = record {
   some : 0 < length l.clusters;
   seed : l.seed < 2 ^ 31;
   system : l.bus.system ≡ l.fn.bus.system;
+  script : l.bus.script ≡ l.fn.bus.script;
 }
 
 abbrev pub decreases-rounds : goal.decreases-rounds

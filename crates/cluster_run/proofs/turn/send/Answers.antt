@@ -1,7 +1,7 @@
-use Rattle.std.proofs.Common.{◌∙◌, refl, subst, arith, inl, inr}
+use Rattle.std.proofs.Common.{◌∙◌, refl, subst, arith, inl, inr, true}
 use Rattle.t32_base.specs.declared.process.ClusterNo.{ClusterNo}
-use Rattle.cluster_run.specs.Turns.{SendsOwn}
-use Rattle.cluster_run.proofs.Owning.{sends_more, sends_none}
+use Rattle.cluster_run.specs.Turns.{SendsOwn, TriesOwn}
+use Rattle.cluster_run.proofs.Owning.{sends_lost, sends_more, sends_none}
 use Rattle.cluster_run.proofs.turn.send.Goals as goal
 
 pub posts-init : goal.posts-init
@@ -29,7 +29,16 @@ posts-preserved g c =
       some = λ there. inr (omega (arith, grown, so_far.order));
       own = λ alone own.
           let before = so_far.own alone own in
-          let next = (one.own alone before.goes_on).1 in
+          let next = (one.own alone before.goes_on).sends in
           sends_more c.args.cluster.now.number (g.P.Port.bus c.args.port.now) (g.P.Port.bus c.posts.port) (g.P.Port.bus c.send_head.new.port) before
           (subst (λ (k : ClusterNo). SendsOwn k (g.P.Port.bus c.posts.port) (g.P.Port.bus c.send_head.new.port)) so_far.same.number next);
     }
+
+pub returns-then-branch-clause-own : goal.returns-then-branch-clause-own
+returns-then-branch-clause-own g c alone own =
+    let so_far = c.posts.invariant in
+    let before = so_far.own alone own in
+    let mid = g.P.Port.bus c.posts.port in
+    let after = g.P.Port.bus c.send_head.new.port in
+    let next = subst (λ over. TriesOwn c.posts.cluster.number mid after over) c.if-branch.true (c.in_ok-send_head.ensures.own alone before.goes_on) in
+    sends_lost (g.P.Port.bus c.args.port.now) mid after c.args.cluster.now c.send_head.new.cluster before (subst (λ (k : ClusterNo). TriesOwn k mid after true) so_far.same.number next)

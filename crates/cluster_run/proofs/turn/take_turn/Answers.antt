@@ -1,16 +1,15 @@
-use Rattle.std.proofs.Common.{◌≡◌, ◌<◌, ◌∙◌, [], ap, sym, subst, length, is_some, true, false}
+use Rattle.std.proofs.Common.{◌≡◌, ◌<◌, ◌∙◌, [], ap, sym, subst, length, is_some, true, false, ◌||◌}
 use Rattle.sys_text.specs.Valid.{is_system}
 use Rattle.bus_order.specs.View.{BusView}
 use Rattle.cluster_core.specs.Calls.{WorkIs}
 use Rattle.cluster_core.specs.View.{ClusterView, head_of}
 use Rattle.cluster_core.proofs.Lightening.{moved_lightens}
 use Rattle.cert_sched.specs.Rules.{is_over}
-use Rattle.cluster_run.specs.Turns.{GoesOwn, SendsOwn, TurnsOwn}
-use Rattle.cluster_run.proofs.Owning.{moves_turn, sends_turn, tells_turn, where_ok}
+use Rattle.cluster_run.specs.Turns.{GoesOwn, SendsAll, TurnsOwn}
+use Rattle.cluster_run.proofs.Owning.{lost_turn, moves_turn, sends_turn, tells_turn, where_ok}
 use Rattle.cluster_run.proofs.Posting.{follows_some, worked_posting, worked_shown}
 use Rattle.cluster_run.proofs.Prefixes.{either}
 use Rattle.cluster_run.proofs.TakingIn.{upto_all}
-use Rattle.cluster_run.proofs.Worded.{lives_without}
 use Rattle.cluster_run.specs.Offers.{GoesOnFor}
 use Rattle.cert_sched.specs.Losses.{was_lost_in}
 use Rattle.cluster_run.proofs.turn.take_turn.Goals as goal
@@ -53,13 +52,11 @@ returns-in-Queued-clause-own g c =
     let new : ClusterView = c.send.new.cluster in
     let is = subst (λ w. WorkIs c.catch_up.new.cluster w worked) c.in-Queued.is c.in_ok-work.ensures.work in
     let queued : is_some (head_of worked.queue) ≡ true = ap (λ (v : ClusterView). is_some (head_of v.queue)) (is.1).rest in
-    let grows : Type 0 = is_some (head_of worked.queue) ≡ true → length mid.log < length after.log in
-    let sent : Type 0 = a ≡ true → GoesOwn mid → SendsOwn worked.number mid after × (new.queue ≡ []) × grows in
-    where_ok c.send.result sent (a ≡ true → GoesOwn b → TurnsOwn b after c.args.cluster.now new)
+    where_ok c.send.result (a ≡ true → GoesOwn mid → SendsAll mid after worked new) (a ≡ true → GoesOwn b → TurnsOwn b after c.args.cluster.now new)
     (λ holds alone own.
     let same = c.in_ok-catch_up.ensures.own alone in
     let sends = holds alone (subst GoesOwn (sym same) own) in
-    sends_turn b mid after c.args.cluster.now c.catch_up.new.cluster worked new same c.in_ok-catch_up.ensures.taken c.in_ok-work.ensures.place.number (sends.2 queued) sends.0 sends.1)
+    sends_turn b mid after c.args.cluster.now c.catch_up.new.cluster worked new same c.in_ok-catch_up.ensures.taken c.in_ok-work.ensures.place.number (sends.some queued) sends.sends sends.empty)
     c.send.ensures.own
 
 pub returns-in_ok-tell-in-Rests-clause-own : goal.returns-in_ok-tell-in-Rests-clause-own
@@ -69,5 +66,22 @@ returns-in_ok-tell-in-Rests-clause-own g c alone own =
     let same = c.in_ok-catch_up.ensures.own alone in
     let is = subst (λ w. WorkIs c.catch_up.new.cluster w c.work.new.self) c.in-Rests.is c.in_ok-work.ensures.work in
     let goes : GoesOwn mid = subst GoesOwn (sym same) own in
-    let seen : c.work.new.self.cursor ≡ length mid.log = c.in_ok-work.ensures.place.cursor ∙ c.in_ok-catch_up.ensures.caught ∙ upto_all mid c.catch_up.new.cluster.number c.in_ok-catch_up.ensures.shown.sound goes.1 (lives_without mid c.catch_up.new.cluster.number c.in_ok-catch_up.ensures.shown.sound ((goes.0).bare).script) in
+    let parts = either (is_over mid.system mid.log) (was_lost_in mid.log c.number.result) (sym c.has_ended.ensures ∙ c.if-has_ended.false) in
+    let lives : was_lost_in mid.log c.catch_up.new.cluster.number ≡ false = subst (λ k. was_lost_in mid.log k ≡ false) c.number.ensures parts.1 in
+    let seen : c.work.new.self.cursor ≡ length mid.log = c.in_ok-work.ensures.place.cursor ∙ c.in_ok-catch_up.ensures.caught ∙ upto_all mid c.catch_up.new.cluster.number c.in_ok-catch_up.ensures.shown.sound goes.1 lives in
     tells_turn b mid (g.P.Port.bus c.tell.new.port) c.args.cluster.now c.catch_up.new.cluster c.work.new.self same c.in_ok-catch_up.ensures.taken is.1 c.requires.empty (c.in_ok-tell-in-Rests.ensures.own alone goes seen)
+
+pub returns-then-has_ended-clause-own : goal.returns-then-has_ended-clause-own
+returns-then-has_ended-clause-own g c alone own =
+    let b = g.P.Port.bus c.args.port.now in
+    let mid = g.P.Port.bus c.catch_up.new.port in
+    let same = c.in_ok-catch_up.ensures.own alone in
+    let goes : GoesOwn mid = subst GoesOwn (sym same) own in
+    let done : (is_over mid.system mid.log || was_lost_in mid.log c.number.result) ≡ true = sym c.has_ended.ensures ∙ c.if-has_ended.true in
+    let lost : was_lost_in mid.log c.number.result ≡ true = ap (λ t. t || was_lost_in mid.log c.number.result) (sym goes.1) ∙ done in
+    let number : c.number.result ≡ c.args.cluster.now.number = c.number.ensures ∙ c.in_ok-catch_up.ensures.taken.same.number in
+    lost_turn b mid c.args.cluster.now c.catch_up.new.cluster same own c.in_ok-catch_up.ensures.taken (subst (λ k. was_lost_in mid.log k ≡ true) number lost)
+
+pub tell-requires-clause-shown : goal.tell-requires-clause-shown
+tell-requires-clause-shown g c =
+    worked_shown (g.P.Port.shows c.catch_up.new.port) (g.P.Port.from c.catch_up.new.port) (g.P.Port.bus c.catch_up.new.port) c.catch_up.new.cluster c.work.new.self _ c.in_ok-catch_up.ensures.shown c.in_ok-work.ensures.follows c.in_ok-work.ensures.place c.in_ok-work.ensures.work
