@@ -1,5 +1,5 @@
 -- How the clusters of a bus without a script are left: none was lost, and each followed the log up to its last entry.
-use Rattle.std.proofs.Common.{◌≡◌, ℕ, ◌-◌, ◌≤◌, refl, sym, ◌∙◌, ap, subst, arith, List, [], length, take, true, Option, Some, None, slice_get, inl}
+use Rattle.std.proofs.Common.{◌≡◌, ◌-◌, sym, ap, subst, arith, List, [], length, take, true, inl}
 use Rattle.std.specs.List.{list_all}
 use Rattle.sys_text.specs.Valid.{is_system}
 use Rattle.cert_sched.specs.Legal.{IsLegalBy}
