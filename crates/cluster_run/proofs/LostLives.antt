@@ -1,0 +1,145 @@
+-- What the log says of the life of a cluster from the boot on: where it ends, and by what.
+use Rattle.std.proofs.Common.{◌≡◌, ℕ, zero, suc, ◌+◌, ◌-◌, ◌<◌, refl, sym, ◌∙◌, ap, arith, List, [], ◌∷◌, length, take, Bool, false, true, cond, not, ◌||◌, Option, Some, None, slice_get, get_or, true≢false}
+use Rattle.std.specs.Prelude.{position, nat_lt, option_and_then}
+use Rattle.std.specs.List.{list_any, position_or_len}
+use Rattle.std.specs.Option.{option_map_or}
+use Rattle.std.proofs.lemmas.Bool.{lt-ltb}
+use Rattle.std.proofs.lemmas.List.Quantifiers.{position-Some}
+use Rattle.t32_base.specs.declared.process.ClusterNo.{ClusterNo}
+use Rattle.bus_msg.specs.declared.entry.What.{What}
+use Rattle.bus_msg.specs.declared.entry.What.TheVariants.{Mail, Birth, Exit, Page, Sync, Fetch, PageIs, Crash, Return, Rebackup, Done, Stop}
+use Rattle.bus_msg.specs.declared.entry.Entry.{Entry}
+use Rattle.bus_msg.specs.PlacedAfter.{what}
+use Rattle.cert_sched.specs.Losses.{is_crash_of, was_lost_in}
+use Rattle.cert_sched.specs.Scripted.{is_done, is_finished}
+use Rattle.bus_order.proofs.OverLaws.{last_is}
+use Rattle.cluster_run.specs.Lived.{end_of_life, cause_in, end_cause, ends_at_done}
+use Rattle.cluster_run.proofs.Prefixes.{either}
+
+-- ---- lists
+
+-- where one passes there is a first
+first_within : {X : Type 0} (test : X → Bool) (xs : List X) → list_any test xs ≡ true → position_or_len test xs < length xs
+first_within test [] some = absurd (true≢false (sym some))
+first_within test (x ∷ xs) some = by_first (test x) some (first_within test xs)
+  where
+    by_first : (b : Bool) → (b || list_any test xs) ≡ true → (list_any test xs ≡ true → position_or_len test xs < length xs) → cond (not b) (1 + position_or_len test xs) 0 < length (x ∷ xs)
+    by_first true some more = omega arith
+    by_first false some more = let later = more some in omega (arith, later)
+
+-- where none is first, none passes
+none_passes : {X : Type 0} (test : X → Bool) (xs : List X) → position test xs ≡ None → list_any test xs ≡ false
+none_passes test xs none = by_test (list_any test xs) refl
+  where
+    no_some : (n : ℕ) → ◌≡◌ {A = Option ℕ} (Some n) None → ⊥
+    no_some n h = cc
+
+    by_test : (b : Bool) → list_any test xs ≡ b → list_any test xs ≡ false
+    by_test true some =
+        let within : nat_lt (position_or_len test xs) (length xs) ≡ true = lt-ltb (position_or_len test xs) (length xs) (first_within test xs some) in
+        absurd (no_some (position_or_len test xs) (sym (ap (λ b. cond b (Some (position_or_len test xs)) None) within) ∙ none))
+    by_test false none = none
+
+-- what passes in a part passes in the whole
+pub any_front : {X : Type 0} (test : X → Bool) (xs : List X) (n : ℕ) → list_any test xs ≡ false → list_any test (take n xs) ≡ false
+any_front test xs zero none = refl
+any_front test [] (suc n) none = refl
+any_front test (x ∷ xs) (suc n) none =
+    let parts = either (test x) (list_any test xs) none in
+    λ i. parts.0 i || any_front test xs n parts.1 i
+
+-- ---- where a life ends
+
+-- a life that no crash ends ends with the log
+pub ends_with_log : (log : List Entry) (k : ClusterNo) → was_lost_in log k ≡ false → end_of_life log k 0 ≡ length log - 1
+ends_with_log log k unlost = by_first (position (λ (e : Entry). is_crash_of k (what e)) log) refl
+  where
+    passes : (ys : List Entry) (i : ℕ) (d : Entry) → i < length ys → is_crash_of k (what (get_or ys i d)) ≡ true → was_lost_in ys k ≡ true
+    passes [] i d within here = absurd (omega (arith, within))
+    passes (y ∷ ys) zero d within here = ap (λ b. b || was_lost_in ys k) here
+    passes (y ∷ ys) (suc i) d within here = by_test (is_crash_of k (what y)) (passes ys i d (omega (arith, within)) here)
+      where
+        by_test : (b : Bool) → was_lost_in ys k ≡ true → (b || was_lost_in ys k) ≡ true
+        by_test true more = refl
+        by_test false more = more
+
+    at_first : (ys : List Entry) (i : ℕ) → position (λ (e : Entry). is_crash_of k (what e)) ys ≡ Some i → was_lost_in ys k ≡ true
+    at_first [] i is = cc
+    at_first (y ∷ ys) i is =
+        let found = position-Some (λ (e : Entry). is_crash_of k (what e)) (y ∷ ys) i y is in
+        passes (y ∷ ys) i y found.0 found.1
+
+    by_first : (o : Option ℕ) → position (λ (e : Entry). is_crash_of k (what e)) log ≡ o → option_map_or (λ i. 0 + i) (position (λ (e : Entry). is_crash_of k (what e)) log) (length log - 1) ≡ length log - 1
+    by_first None is = ap (λ o. option_map_or (λ i. 0 + i) o (length log - 1)) is
+    by_first (Some i) is = absurd (true≢false (sym (at_first log i is) ∙ unlost))
+
+-- a crash is not the end of the run
+crash_undone : (k : ClusterNo) (w : What) → is_crash_of k w ≡ true → is_done w ≡ false
+crash_undone k (Mail at letter) h = refl
+crash_undone k (Birth parent at child end) h = refl
+crash_undone k (Exit pid at end) h = refl
+crash_undone k (Page pid at index bytes) h = refl
+crash_undone k (Sync pid small read took) h = refl
+crash_undone k (Fetch pid index) h = refl
+crash_undone k (PageIs pid index bytes) h = refl
+crash_undone k (Crash j cause) h = refl
+crash_undone k (Return j) h = refl
+crash_undone k (Rebackup to fresh recs) h = refl
+crash_undone k (Done rests) h = absurd (true≢false (sym h))
+crash_undone k Stop h = refl
+
+-- a life that ends with the run is one of a cluster that was never lost
+pub done_unlost : (log : List Entry) (k : ClusterNo) → ends_at_done log k 0 ≡ true → was_lost_in log k ≡ false
+done_unlost log k done = by_first (position (λ (e : Entry). is_crash_of k (what e)) log) refl
+  where
+    at_place : (ys : List Entry) (i : ℕ) (o : Option Entry) → slice_get ys i ≡ o → position (λ (e : Entry). is_crash_of k (what e)) ys ≡ Some i → option_map_or (λ (e : Entry). is_done (what e)) o false ≡ false
+    at_place ys i None at is = refl
+    at_place ys i (Some e) at is =
+        let found = position-Some (λ (e : Entry). is_crash_of k (what e)) ys i e is in
+        crash_undone k (what e) (ap (λ (e : Entry). is_crash_of k (what e)) (sym (there ys i e at)) ∙ found.1)
+      where
+        there : (ys : List Entry) (i : ℕ) (e : Entry) → slice_get ys i ≡ Some e → get_or ys i e ≡ e
+        there [] i e at = cc
+        there (y ∷ ys) zero e at = cc
+        there (y ∷ ys) (suc i) e at = there ys i e at
+
+    by_first : (o : Option ℕ) → position (λ (e : Entry). is_crash_of k (what e)) log ≡ o → was_lost_in log k ≡ false
+    by_first None is = none_passes (λ (e : Entry). is_crash_of k (what e)) log is
+    by_first (Some i) is =
+        let last : end_of_life log k 0 ≡ i = ap (λ o. option_map_or (λ i. 0 + i) o (length log - 1)) is ∙ (let n : 0 + i ≡ i = omega arith in n) in
+        absurd (true≢false
+        (sym done ∙ ap (λ n. option_map_or (λ (e : Entry). is_done (what e)) (slice_get log n) false) last ∙ at_place log i (slice_get log i) refl is))
+
+-- so that of a cluster that was lost does not
+pub lost_undone : (log : List Entry) (k : ClusterNo) → was_lost_in log k ≡ true → ends_at_done log k 0 ≡ false
+lost_undone log k lost = by_test (ends_at_done log k 0) refl
+  where
+    by_test : (b : Bool) → ends_at_done log k 0 ≡ b → ends_at_done log k 0 ≡ false
+    by_test true done = absurd (true≢false (sym lost ∙ done_unlost log k done))
+    by_test false not_so = not_so
+
+-- ---- by what it ends
+
+no_cause : (k : ClusterNo) (w : What) → is_done w ≡ true → cause_in k w ≡ None
+no_cause k (Mail at letter) h = refl
+no_cause k (Birth parent at child end) h = refl
+no_cause k (Exit pid at end) h = refl
+no_cause k (Page pid at index bytes) h = refl
+no_cause k (Sync pid small read took) h = refl
+no_cause k (Fetch pid index) h = refl
+no_cause k (PageIs pid index bytes) h = refl
+no_cause k (Crash j cause) h = absurd (true≢false (sym h))
+no_cause k (Return j) h = refl
+no_cause k (Rebackup to fresh recs) h = refl
+no_cause k (Done rests) h = refl
+no_cause k Stop h = refl
+
+done_cause : (k : ClusterNo) (o : Option Entry) → option_map_or (λ (e : Entry). is_done (what e)) o false ≡ true → option_and_then (λ (e : Entry). cause_in k (what e)) o ≡ None
+done_cause k None h = absurd (true≢false (sym h))
+done_cause k (Some e) h = no_cause k (what e) h
+
+-- the run ended the life of a cluster that was never lost
+pub ended_by_done : (log : List Entry) (k : ClusterNo) → was_lost_in log k ≡ false → is_finished log ≡ true → end_cause log k 0 ≡ None
+ended_by_done log k unlost finished =
+    ap (λ n. option_and_then (λ (e : Entry). cause_in k (what e)) (slice_get log n)) (ends_with_log log k unlost)
+    ∙ done_cause k (slice_get log (length log - 1)) (ap (λ o. option_map_or (λ (e : Entry). is_done (what e)) o false) (sym (last_is log)) ∙ finished)
