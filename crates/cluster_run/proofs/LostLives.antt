@@ -147,15 +147,19 @@ ended_by_done log k unlost finished =
 
 -- ---- the life of a cluster that was lost
 
+lost_there : (log : List Entry) (k : ClusterNo) (n : ℕ) (e : Entry) → slice_get log n ≡ Some e → is_crash_of k (what e) ≡ true → was_lost_in log k ≡ true
+lost_there [] k n e there loses = cc
+lost_there (x ∷ log) k zero e there loses = let same : x ≡ e = cc in or_left (is_crash_of k (what x)) (was_lost_in log k) (ap (λ (e : Entry). is_crash_of k (what e)) same ∙ loses)
+lost_there (x ∷ log) k (suc n) e there loses = or_right (is_crash_of k (what x)) (was_lost_in log k) (lost_there log k n e there loses)
+
+-- the log tells of the loss
+pub lost_in : (log : List Entry) (k : ClusterNo) (at : ℕ) → IsItsLoss log k at → was_lost_in log k ≡ true
+lost_in log k at loss = lost_there log k at loss.entry loss.there loss.loses
+
 -- it ends where the cluster was lost
 pub lost_ends : (log : List Entry) (k : ClusterNo) (at : ℕ) → IsItsLoss log k at → end_of_life log k 0 ≡ at
 lost_ends log k at loss = by_first (position (λ (e : Entry). is_crash_of k (what e)) log) refl
   where
-    passes : (ys : List Entry) (i : ℕ) (e : Entry) → slice_get ys i ≡ Some e → is_crash_of k (what e) ≡ true → was_lost_in ys k ≡ true
-    passes [] i e there loses = cc
-    passes (y ∷ ys) zero e there loses = let same : y ≡ e = cc in or_left (is_crash_of k (what y)) (was_lost_in ys k) (ap (λ (e : Entry). is_crash_of k (what e)) same ∙ loses)
-    passes (y ∷ ys) (suc i) e there loses = or_right (is_crash_of k (what y)) (was_lost_in ys k) (passes ys i e there loses)
-
     got : (ys : List Entry) (i : ℕ) (e : Entry) → slice_get ys i ≡ Some e → get_or ys i e ≡ e
     got [] i e there = refl
     got (y ∷ ys) zero e there = cc
@@ -171,7 +175,7 @@ lost_ends log k at loss = by_first (position (λ (e : Entry). is_crash_of k (wha
     same_place i low high = omega (arith, low, high)
 
     by_first : (o : Option ℕ) → position (λ (e : Entry). is_crash_of k (what e)) log ≡ o → end_of_life log k 0 ≡ at
-    by_first None is = absurd (true≢false (sym (passes log at loss.entry loss.there loss.loses) ∙ none_passes (λ (e : Entry). is_crash_of k (what e)) log is))
+    by_first None is = absurd (true≢false (sym (lost_in log k at loss) ∙ none_passes (λ (e : Entry). is_crash_of k (what e)) log is))
     by_first (Some i) is =
         let found = position-Some (λ (e : Entry). is_crash_of k (what e)) log i loss.entry is in
         let low = λ (before : i < at). true≢false (sym (early log at i loss.entry before found.0 found.1) ∙ loss.none_before) in
