@@ -3,7 +3,7 @@ use Rattle.std.proofs.Common.{◌≡◌, ℕ, zero, suc, ◌+◌, ◌-◌, ◌<�
 use Rattle.std.specs.Prelude.{position, nat_lt, option_and_then}
 use Rattle.std.specs.List.{list_any, position_or_len}
 use Rattle.std.specs.Option.{option_map_or}
-use Rattle.std.proofs.lemmas.Bool.{lt-ltb}
+use Rattle.std.proofs.lemmas.Bool.{lt-ltb, or_left, or_right}
 use Rattle.std.proofs.lemmas.List.Quantifiers.{position-Some}
 use Rattle.t32_base.specs.declared.process.ClusterNo.{ClusterNo}
 use Rattle.bus_msg.specs.declared.entry.What.{What}
@@ -13,6 +13,7 @@ use Rattle.bus_msg.specs.PlacedAfter.{what}
 use Rattle.cert_sched.specs.Losses.{is_crash_of, was_lost_in}
 use Rattle.cert_sched.specs.Scripted.{is_done, is_finished}
 use Rattle.bus_order.proofs.OverLaws.{last_is}
+use Rattle.script_laws.specs.Off.{IsItsLoss}
 use Rattle.cluster_run.specs.Lived.{end_of_life, cause_in, end_cause, ends_at_done}
 use Rattle.cluster_run.proofs.Prefixes.{either}
 
@@ -143,3 +144,45 @@ pub ended_by_done : (log : List Entry) (k : ClusterNo) → was_lost_in log k ≡
 ended_by_done log k unlost finished =
     ap (λ n. option_and_then (λ (e : Entry). cause_in k (what e)) (slice_get log n)) (ends_with_log log k unlost)
     ∙ done_cause k (slice_get log (length log - 1)) (ap (λ o. option_map_or (λ (e : Entry). is_done (what e)) o false) (sym (last_is log)) ∙ finished)
+
+-- ---- the life of a cluster that was lost
+
+lost_there : (log : List Entry) (k : ClusterNo) (n : ℕ) (e : Entry) → slice_get log n ≡ Some e → is_crash_of k (what e) ≡ true → was_lost_in log k ≡ true
+lost_there [] k n e there loses = cc
+lost_there (x ∷ log) k zero e there loses = let same : x ≡ e = cc in or_left (is_crash_of k (what x)) (was_lost_in log k) (ap (λ (e : Entry). is_crash_of k (what e)) same ∙ loses)
+lost_there (x ∷ log) k (suc n) e there loses = or_right (is_crash_of k (what x)) (was_lost_in log k) (lost_there log k n e there loses)
+
+-- the log tells of the loss
+pub lost_in : (log : List Entry) (k : ClusterNo) (at : ℕ) → IsItsLoss log k at → was_lost_in log k ≡ true
+lost_in log k at loss = lost_there log k at loss.entry loss.there loss.loses
+
+-- it ends where the cluster was lost
+pub lost_ends : (log : List Entry) (k : ClusterNo) (at : ℕ) → IsItsLoss log k at → end_of_life log k 0 ≡ at
+lost_ends log k at loss = by_first (position (λ (e : Entry). is_crash_of k (what e)) log) refl
+  where
+    got : (ys : List Entry) (i : ℕ) (e : Entry) → slice_get ys i ≡ Some e → get_or ys i e ≡ e
+    got [] i e there = refl
+    got (y ∷ ys) zero e there = cc
+    got (y ∷ ys) (suc i) e there = got ys i e there
+
+    early : (ys : List Entry) (n i : ℕ) (d : Entry) → i < n → i < length ys → is_crash_of k (what (get_or ys i d)) ≡ true → was_lost_in (take n ys) k ≡ true
+    early ys zero i d before within loses = absurd (omega (arith, before))
+    early [] (suc n) i d before within loses = absurd (omega (arith, within))
+    early (y ∷ ys) (suc n) zero d before within loses = or_left (is_crash_of k (what y)) (was_lost_in (take n ys) k) loses
+    early (y ∷ ys) (suc n) (suc i) d before within loses = or_right (is_crash_of k (what y)) (was_lost_in (take n ys) k) (early ys n i d (omega (arith, before)) (omega (arith, within)) loses)
+
+    same_place : (i : ℕ) → (i < at → ⊥) → (at < i → ⊥) → i ≡ at
+    same_place i low high = omega (arith, low, high)
+
+    by_first : (o : Option ℕ) → position (λ (e : Entry). is_crash_of k (what e)) log ≡ o → end_of_life log k 0 ≡ at
+    by_first None is = absurd (true≢false (sym (lost_in log k at loss) ∙ none_passes (λ (e : Entry). is_crash_of k (what e)) log is))
+    by_first (Some i) is =
+        let found = position-Some (λ (e : Entry). is_crash_of k (what e)) log i loss.entry is in
+        let low = λ (before : i < at). true≢false (sym (early log at i loss.entry before found.0 found.1) ∙ loss.none_before) in
+        let high = λ (later : at < i). true≢false (sym (ap (λ (e : Entry). is_crash_of k (what e)) (got log at loss.entry loss.there) ∙ loss.loses) ∙ found.2 at later) in
+        let n : 0 + i ≡ at = omega (arith, same_place i low high) in
+        ap (λ o. option_map_or (λ i. 0 + i) o (length log - 1)) is ∙ n
+
+-- and has the cause of that loss
+pub lost_cause : (log : List Entry) (k : ClusterNo) (at : ℕ) → (loss : IsItsLoss log k at) → end_cause log k 0 ≡ cause_in k (what loss.entry)
+lost_cause log k at loss = ap (λ n. option_and_then (λ (e : Entry). cause_in k (what e)) (slice_get log n)) (lost_ends log k at loss) ∙ ap (option_and_then (λ (e : Entry). cause_in k (what e))) loss.there

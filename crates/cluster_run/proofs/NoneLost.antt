@@ -1,5 +1,5 @@
 -- How the clusters of a bus without a script are left: none was lost, and each followed the log up to its last entry.
-use Rattle.std.proofs.Common.{◌≡◌, ◌-◌, sym, ap, subst, arith, List, [], length, take, true, inl}
+use Rattle.std.proofs.Common.{◌≡◌, ◌-◌, ap, subst, List, [], length, take, true}
 use Rattle.std.specs.List.{list_all}
 use Rattle.sys_text.specs.Valid.{is_system}
 use Rattle.cert_sched.specs.Legal.{IsLegalBy}
@@ -12,25 +12,13 @@ use Rattle.bus_order.specs.Script.{is_unpassed}
 use Rattle.bus_order.specs.View.{BusView}
 use Rattle.cluster_run.specs.Along.{IsAlong}
 use Rattle.cluster_run.specs.Left.{AllLeft, AllTaken, LeftAs}
-use Rattle.cluster_run.specs.Lived.{EndsBy, end_of_life}
-use Rattle.cluster_run.proofs.LostLives.{ended_by_done, ends_with_log}
+use Rattle.cluster_run.proofs.OneLeft.{left_at_end}
 
 one_left : (b : BusView) (c : ClusterView) → IsLegalBy UnlostMayFollow b.system b.log → b.script ≡ [] → is_finished b.log ≡ true → IsAlong b c → c.cursor ≡ length b.log - 1 → LeftAs b c
 one_left b c legal bare finished along at_end =
-    let unlost = never_lost b.system b.log c.number legal in
-    let ends : end_of_life b.log c.number 0 ≡ length b.log - 1 = ends_with_log b.log c.number unlost in
-    record {
-      system = along.system;
-      unfailed = (along.beside).unfailed;
-      within = omega (arith, ends, at_end);
-      followed = inl (record {
-        follows = subst (λ s. FollowsBuilt s (take c.cursor b.log) c) along.system (along.beside).follows;
-        sent_before = (along.beside).sent_before;
-      });
-      to_the_end = λ never. at_end;
-      lost_by = subst (λ o. EndsBy o c) (sym (ended_by_done b.log c.number unlost finished)) tt;
-      passed = ap (list_all (is_unpassed c.number b.log c.steps)) bare;
-    }
+    left_at_end b c (never_lost b.system b.log c.number legal) finished along.system (along.beside).unfailed
+    (subst (λ s. FollowsBuilt s (take c.cursor b.log) c) along.system (along.beside).follows)
+    (along.beside).sent_before at_end (ap (list_all (is_unpassed c.number b.log c.steps)) bare)
 
 pub none_lost : (b : BusView) (cs : List ClusterView) → is_system b.system ≡ true → IsLegalBy UnlostMayFollow b.system b.log → b.script ≡ [] → is_finished b.log ≡ true → AllTaken b (length b.log - 1) cs → AllLeft b cs
 none_lost b cs valid legal bare finished taken = record {
