@@ -115,7 +115,7 @@ may_add k more none i d low = inl (none i d low)
 
 -- ---- few words
 
-built_words : (words : List ScriptWord) → list_all is_place_word words ≡ true → list_all is_built_word words ≡ true
+pub built_words : (words : List ScriptWord) → list_all is_place_word words ≡ true → list_all is_built_word words ≡ true
 built_words [] all = refl
 built_words (w ∷ words) all =
     let parts = and_parts (is_place_word w) (list_all is_place_word words) all in
