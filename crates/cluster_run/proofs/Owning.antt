@@ -19,14 +19,14 @@ use Rattle.bus_order.specs.Log.{author_of}
 use Rattle.bus_order.specs.View.{BusView, after_words, with_post}
 use Rattle.bus_order.proofs.OverLaws.{finished-snoc}
 use Rattle.cluster_run.specs.declared.offers.Offered.TheVariants.{Sent, Behind, Over, Off}
-use Rattle.cluster_run.specs.Along.{IsAlong, IsOwned, IsSound, TakesIn}
+use Rattle.cluster_run.specs.Along.{IsAlong, IsOwned, IsSound, TakesIn, is_done_with}
 use Rattle.cluster_run.specs.Offers.{Adds, OfferIs, TakesMark, TellIs, Visits}
 use Rattle.cluster_run.specs.Progress.{Falls, IsAtMost, IsOver, Rests, log_load, remaining_of}
 use Rattle.cluster_run.specs.Turns.{GoesOwn, SendsOwn, TellsOwn, TurnsOwn}
 use Rattle.cluster_run.proofs.Offering.{adds_none, alone_later, alone_left}
 use Rattle.cluster_run.proofs.Progressing.{told_rest}
 use Rattle.cluster_run.proofs.Sending.{IsSent, sent_goes_on, sent_spends}
-use Rattle.cluster_run.proofs.Worded.{lives_without, words_of_none}
+use Rattle.cluster_run.proofs.Worded.{done_without, lives_without, words_of_none}
 use Rattle.cert_sched.specs.Losses.{was_lost_in}
 
 pub adds_more : (k : ClusterNo) (a b c : BusView) → Adds k a b → Adds k b c → Adds k a c
@@ -190,3 +190,7 @@ sends_turn b mid after c caught worked new same taken number_is longer sends emp
 pub where_ok : {A E : Type 0} (r : Result A E) (P Q : Type 0) → (P → Q) → OnOk r P → OnOk r Q
 where_ok (Ok a) P Q then holds = then holds
 where_ok (Err e) P Q then holds = tt
+
+-- no cluster has done with a log that goes on without a script
+pub never_done : (b : BusView) (k : ClusterNo) → GoesOwn b → is_done_with k b.system b.log ≡ true → ⊥
+never_done b k own done = true≢false (sym done ∙ sym (done_without b k (own.0).sound ((own.0).bare).script) ∙ own.1)

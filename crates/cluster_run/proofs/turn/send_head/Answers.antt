@@ -3,7 +3,7 @@ use Rattle.t32_base.specs.declared.process.ClusterNo.{ClusterNo}
 use Rattle.cluster_core.specs.View.{ClusterView}
 use Rattle.bus_order.specs.View.{after_words}
 use Rattle.cluster_run.specs.Turns.{OffersHead, SendsOwn}
-use Rattle.cluster_run.proofs.Offering.{sent_longer, was_behind, was_sent}
+use Rattle.cluster_run.proofs.Offering.{sent_longer, was_behind, was_off, was_over, was_sent}
 use Rattle.cluster_run.proofs.Owning.{sent_own}
 use Rattle.cluster_run.proofs.Posting.{behind_posting, left_ready, sent_posting, tried_posting}
 use Rattle.cluster_run.proofs.turn.send_head.Goals as goal
@@ -66,3 +66,54 @@ returns-in_ok-take_in-in-Behind-clause-posting g c goes =
           c.in_ok-offer_head.ensures.shows c.in_ok-offer_head.ensures.from c.in_ok-offer_head.ensures.sound p.few behind.1 c.in_ok-take_in-in-Behind.ensures.taken c.in_ok-take_in-in-Behind.ensures.caught,
       omega (arith, less, p.seen),
     )
+
+pub take_in-requires : goal.take_in-requires
+take_in-requires g c =
+    let a = g.P.Port.alone in
+    let b = g.P.Port.bus c.args.port.now in
+    let after = g.P.Port.bus c.offer_head.new.port in
+    let t : ClusterView = c.tried.new.self in
+    let p = tried_posting (g.P.Port.shows c.args.port.now) (g.P.Port.from c.args.port.now) b c.args.cluster.now t c.tried.ensures.tried c.requires.posting in
+    let off = subst (λ o. OffersHead a t b after o) c.in-Behind.is c.in_ok-offer_head.ensures.offered in
+    record {
+      shown = record {
+        shows = c.in_ok-offer_head.ensures.shows;
+        from_there = c.in_ok-offer_head.ensures.from;
+        sound = c.in_ok-offer_head.ensures.sound;
+        along = (was_behind a b after t off.0 (p.shown).along off.2).0;
+      };
+    }
+
+pub take_in-requires-in-Over : goal.take_in-requires-in-Over
+take_in-requires-in-Over g c =
+    let a = g.P.Port.alone in
+    let b = g.P.Port.bus c.args.port.now in
+    let after = g.P.Port.bus c.offer_head.new.port in
+    let t : ClusterView = c.tried.new.self in
+    let p = tried_posting (g.P.Port.shows c.args.port.now) (g.P.Port.from c.args.port.now) b c.args.cluster.now t c.tried.ensures.tried c.requires.posting in
+    let off = subst (λ o. OffersHead a t b after o) c.in-Over.is c.in_ok-offer_head.ensures.offered in
+    record {
+      shown = record {
+        shows = c.in_ok-offer_head.ensures.shows;
+        from_there = c.in_ok-offer_head.ensures.from;
+        sound = c.in_ok-offer_head.ensures.sound;
+        along = (was_over a b after t off.0 (p.shown).along off.2).0;
+      };
+    }
+
+pub take_in-requires-in-Off : goal.take_in-requires-in-Off
+take_in-requires-in-Off g c =
+    let a = g.P.Port.alone in
+    let b = g.P.Port.bus c.args.port.now in
+    let after = g.P.Port.bus c.offer_head.new.port in
+    let t : ClusterView = c.tried.new.self in
+    let p = tried_posting (g.P.Port.shows c.args.port.now) (g.P.Port.from c.args.port.now) b c.args.cluster.now t c.tried.ensures.tried c.requires.posting in
+    let off = subst (λ o. OffersHead a t b after o) c.in-Off.is c.in_ok-offer_head.ensures.offered in
+    record {
+      shown = record {
+        shows = c.in_ok-offer_head.ensures.shows;
+        from_there = c.in_ok-offer_head.ensures.from;
+        sound = c.in_ok-offer_head.ensures.sound;
+        along = (was_off a b after t off.0 (p.shown).along off.2).0;
+      };
+    }

@@ -6,7 +6,7 @@ use Rattle.cluster_core.specs.View.{ClusterView, head_of}
 use Rattle.cluster_core.proofs.Lightening.{moved_lightens}
 use Rattle.cert_sched.specs.Rules.{is_over}
 use Rattle.cluster_run.specs.Turns.{GoesOwn, SendsOwn, TurnsOwn}
-use Rattle.cluster_run.proofs.Owning.{moves_turn, sends_turn, tells_turn, where_ok}
+use Rattle.cluster_run.proofs.Owning.{moves_turn, never_done, sends_turn, tells_turn, where_ok}
 use Rattle.cluster_run.proofs.Posting.{follows_some, worked_posting, worked_shown}
 use Rattle.cluster_run.proofs.Prefixes.{either}
 use Rattle.cluster_run.proofs.TakingIn.{upto_all}
@@ -26,6 +26,16 @@ send-requires-clause-posting g c =
     let goes : GoesOnFor c.catch_up.new.cluster.number b = record { goes_on = parts.0; lives = subst (λ k. was_lost_in b.log k ≡ false) c.number.ensures parts.1 } in
     let is = subst (λ w. WorkIs c.catch_up.new.cluster w c.work.new.self) c.in-Queued.is c.in_ok-work.ensures.work in
     worked_posting (g.P.Port.shows c.catch_up.new.port) (g.P.Port.from c.catch_up.new.port) b c.catch_up.new.cluster c.work.new.self c.in_ok-catch_up.ensures.shown c.in_ok-catch_up.ensures.caught goes c.in_ok-work.ensures.follows c.in_ok-work.ensures.place is
+
+pub returns-then-has_ended-clause-own : goal.returns-then-has_ended-clause-own
+returns-then-has_ended-clause-own g c alone own =
+    let mid = g.P.Port.bus c.catch_up.new.port in
+    let goes : GoesOwn mid = subst GoesOwn (sym (c.in_ok-catch_up.ensures.own alone)) own in
+    absurd (never_done mid c.number.result goes (sym c.has_ended.ensures ∙ c.if-has_ended.true))
+
+pub tell-requires-clause-shown : goal.tell-requires-clause-shown
+tell-requires-clause-shown g c =
+    worked_shown (g.P.Port.shows c.catch_up.new.port) (g.P.Port.from c.catch_up.new.port) (g.P.Port.bus c.catch_up.new.port) c.catch_up.new.cluster c.work.new.self _ c.in_ok-catch_up.ensures.shown c.in_ok-work.ensures.follows c.in_ok-work.ensures.place c.in_ok-work.ensures.work
 
 pub returns-in-Moved-clause-shown : goal.returns-in-Moved-clause-shown
 returns-in-Moved-clause-shown g c =

@@ -1,4 +1,4 @@
-use Rattle.cluster_run.proofs.Offering.{was_told}
+use Rattle.cluster_run.proofs.Offering.{told_along, was_told}
 use Rattle.cluster_run.proofs.Owning.{told_own}
 use Rattle.cluster_run.proofs.turn.tell.Goals as goal
 
@@ -11,3 +11,11 @@ pub returns-clause-own : goal.returns-clause-own
 returns-clause-own g c alone own seen =
     let v = c.in_ok-tell.ensures.told in
     told_own g.P.Port.alone alone (g.P.Port.bus c.args.port.now) (g.P.Port.bus c.tell.new.self) c.args.cluster.now c.in_ok-mark.mark _ own c.in_ok-tell.ensures.sound c.requires.shown.along seen (c.tell.ensures.adds alone) v
+
+pub returns-clause-shown : goal.returns-clause-shown
+returns-clause-shown g c = record {
+  shows = c.in_ok-tell.ensures.shows;
+  from_there = c.in_ok-tell.ensures.from;
+  sound = c.in_ok-tell.ensures.sound;
+  along = told_along g.P.Port.alone (g.P.Port.bus c.args.port.now) (g.P.Port.bus c.tell.new.self) c.args.cluster.now c.in_ok-mark.mark _ c.requires.shown.along c.in_ok-tell.ensures.told;
+}
