@@ -35,7 +35,7 @@ use Rattle.bus_order.specs.View.{Admits, BusView, Ends, Idles, MayIdle, MayTrans
 use Rattle.script_laws.proofs.OffLosses.{not_off_not_lost}
 use Rattle.cluster_run.specs.declared.offers.Offered.TheVariants.{Sent, Behind as WasBehind, Over as WasOver, Off as WasOff}
 use Rattle.cluster_run.specs.Along.{IsAlong, IsSound}
-use Rattle.cluster_run.specs.Offers.{Adds, GoesOnFor, IsToldBy, OfferIs, TellIs}
+use Rattle.cluster_run.specs.Offers.{Adds, GoesOnFor, IsToldBy, OfferAnswers, OfferIs, TellAnswers, TellIs}
 use Rattle.cluster_run.specs.Seated.{bare, origin_of}
 use Rattle.cluster_run.proofs.Offering.{adds_worded, along_worded}
 use Rattle.cluster_run.proofs.Owning.{adds_more}
@@ -53,6 +53,12 @@ own_post k (Cluster j) from = λ i. Cluster (record { 0 = eqb-true j.0 k.0 from 
 -- one that has seen all follows the whole log
 follows_all : (b : BusView) (c : ClusterView) → IsAlong b c → c.cursor ≡ length b.log → FollowsBuilt c.system b.log c
 follows_all b c along seen = subst (λ log. FollowsBuilt c.system log c) (take_all c.cursor b.log (omega (arith, seen))) (along.beside).follows
+
+-- so is the one post of a cluster
+pub own_of : (b : BusView) (c : ClusterView) (post : Post) (k : ClusterNo) → IsAlong b c → c.queue ≡ post ∷ [] → k ≡ c.number → post.by ≡ Cluster k
+own_of b c post k along only k_is =
+    let all = sym (ap (λ q. list_all (λ (p : Post). is_from c.number p.by) q) only) ∙ (((along.beside).follows).queue).own in
+    own_post c.number post.by (and_parts (is_from c.number post.by) true all).0 ∙ ap Cluster (sym k_is)
 
 pub may_be_sent : (b : BusView) (c : ClusterView) (post : Post) (k : ClusterNo) (n : ℕ) → IsAlong b c → c.queue ≡ post ∷ [] → k ≡ c.number → n ≡ c.cursor → MayTransmit b k n post
 may_be_sent b c post k n along only k_is n_is =
@@ -176,6 +182,20 @@ module _ (old new : BusView) (c : ClusterView) (k : ClusterNo) (n : ℕ) (along 
     t.2 ∙ ap (λ j. with_mark words j m) k_is,
   )
   is_marked m (WasDone at) t = (goes_on_seen (t.0).0 (t.0).2, all_seen (t.0).2, t.1, subst (λ j. Ends (with_mark words j m) new) k_is t.2)
+
+  pub offer_answers : (post : Post) (r : Result ℕ Refused) → Transmits old k n post r new → OfferAnswers c.number c.cursor post r old new
+  offer_answers post (Ok at) t = is_sent post at t
+  offer_answers post (Err (Over at)) t = (was_over_then at t.0 t.1, t.1)
+  offer_answers post (Err (Off at)) t = (is_off at t.0 t.1, t.1)
+  offer_answers post (Err (Behind l)) t = let behind = is_behind l t.0 t.1 in (behind.0, behind.1, t.1)
+  offer_answers post (Err NoMemory) t = tt
+
+  pub tell_answers : (m : Mark) (r : Result Idled Refused) → Idles old k n m r new → TellAnswers c.number c.cursor m r old new
+  tell_answers m (Ok idled) t = is_marked m idled t
+  tell_answers m (Err (Over at)) t = (inl (was_over_then at t.0 t.1), t.1)
+  tell_answers m (Err (Off at)) t = (inr (inl (is_off at t.0 t.1)), t.1)
+  tell_answers m (Err (Behind l)) t = let behind = is_behind l t.0 t.1 in (inr (inr behind.1), t.1)
+  tell_answers m (Err NoMemory) t = tt
 
 -- ---- no script
 

@@ -35,11 +35,11 @@ one_more e log = sum_by-cons (λ (e : Entry). cond (is_loss (what e)) 1 0) e log
 
 one_loss : (k : ClusterNo) (log : List Entry) → was_lost_in log k ≡ true → 1 ≤ crashes log
 one_loss k [] lost = absurd (true≢false (sym lost))
-one_loss k (e ∷ log) lost = by_test (is_crash_of k (what e)) refl lost
+one_loss k (e ∷ log) lost = by_test (is_crash_of k (what e)) refl lost (one_loss k log)
   where
-    by_test : (t : Bool) → is_crash_of k (what e) ≡ t → (t || was_lost_in log k) ≡ true → 1 ≤ crashes (e ∷ log)
-    by_test true is lost = let one : cond (is_loss (what e)) 1 0 ≡ 1 = ap (λ b. cond b 1 0) (its_loss k (what e) is) in omega (arith, one, one_more e log)
-    by_test false is lost = omega (arith, one_loss k log lost, one_more e log)
+    by_test : (t : Bool) → is_crash_of k (what e) ≡ t → (t || was_lost_in log k) ≡ true → (was_lost_in log k ≡ true → 1 ≤ crashes log) → 1 ≤ crashes (e ∷ log)
+    by_test true is lost more = let one : cond (is_loss (what e)) 1 0 ≡ 1 = ap (λ b. cond b 1 0) (its_loss k (what e) is) in omega (arith, one, one_more e log)
+    by_test false is lost more = omega (arith, more lost, one_more e log)
 
 two_losses : (k j : ClusterNo) (log : List Entry) → k.0 ≢ j.0 → was_lost_in log k ≡ true → was_lost_in log j ≡ true → 2 ≤ crashes log
 two_losses k j [] other one two = absurd (true≢false (sym one))
@@ -54,6 +54,9 @@ two_losses k j (e ∷ log) other one two = by_tests (is_crash_of k (what e)) (is
     by_tests false true k_is j_is one two more = omega (arith, loss_there j j_is, one_loss k log one, one_more e log)
     by_tests false false k_is j_is one two more = omega (arith, more one two, one_more e log)
 
+apart : (cluster_no 0).0 ≢ (cluster_no 1).0
+apart same = let n : ◌≡◌ {A = ℕ} 0 1 = same in absurd (omega (arith, n))
+
 -- of the first two clusters one lives
 pub one_lives : (b : BusView) → IsSound b → LivesThere b
 one_lives b sound = by_tests (was_lost_in b.log (cluster_no 0)) (was_lost_in b.log (cluster_no 1)) refl refl
@@ -62,7 +65,7 @@ one_lives b sound = by_tests (was_lost_in b.log (cluster_no 0)) (was_lost_in b.l
     by_tests false t first second = record { number = 0; within = omega (arith, two_clusters b.system sound.valid); lives = first }
     by_tests true false first second = record { number = 1; within = omega (arith, two_clusters b.system sound.valid); lives = second }
     by_tests true true first second =
-        let two = two_losses (cluster_no 0) (cluster_no 1) b.log (λ same. let apart : 0 ≡ 1 = same in cc) first second in
+        let two = two_losses (cluster_no 0) (cluster_no 1) b.log apart first second in
         let losses = sound.losses in
         let one = sound.one in
         absurd (omega (arith, two, losses, one))

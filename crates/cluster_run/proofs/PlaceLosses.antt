@@ -1,8 +1,9 @@
 -- Where the words of a script are for places of the log, each loss is one at a place.
-use Rattle.std.proofs.Common.{◌≡◌, ℕ, zero, suc, refl, sym, ◌∙◌, ap, arith, nat_tests, List, [], ◌∷◌, ◌++◌, Bool, true, false, cond, ◌&&◌, ◌||◌, Option, Some, None, slice_get, true≢false}
+use Rattle.std.proofs.Common.{◌≡◌, ℕ, zero, suc, refl, sym, ◌∙◌, ap, arith, List, [], ◌∷◌, ◌++◌, Bool, true, false, cond, ◌&&◌, ◌||◌, Option, Some, None, slice_get, true≢false}
 use Rattle.std.specs.Prelude.{count_by, nat_lt}
 use Rattle.std.specs.List.{list_all}
 use Rattle.std.proofs.lemmas.Bool.{and_parts}
+use Rattle.std.proofs.lemmas.Bool.Decides.{nat_tests}
 use Rattle.std.proofs.lemmas.List.Folds.{list_all-append}
 use Rattle.std.proofs.lemmas.List.Sums.{sum_by-cons}
 use Rattle.t32_base.specs.declared.process.ClusterNo.{ClusterNo}
@@ -16,11 +17,12 @@ use Rattle.bus_msg.specs.Places.{same_cluster}
 use Rattle.bus_msg.specs.PlacedAfter.{what}
 use Rattle.cert_sched.specs.declared.script.ScriptWord.{ScriptWord}
 use Rattle.cert_sched.specs.declared.script.ScriptWord.TheVariants.{CrashAt, CrashStep, DiskAt, ReturnAt}
-use Rattle.cert_sched.specs.Told.{Told, told, told_last}
+use Rattle.cert_sched.specs.Told.{Told, told}
 use Rattle.cert_sched.specs.Legal.{IsLegalBy}
 use Rattle.cert_sched.specs.Built.{BuiltMayFollow}
 use Rattle.cert_sched.specs.Losses.{is_disk_crash, is_disk_word, is_scripted_loss, is_step_crash, is_step_word}
-use Rattle.cert_sched.proofs.Induction.{legal_induction, told-snoc}
+use Rattle.cert_sched.proofs.LogLaws.{told-snoc, told_last}
+use Rattle.cert_sched.proofs.Induction.{legal_induction}
 use Rattle.bus_order.specs.View.{BusView, KeepsScript}
 use Rattle.cluster_core.specs.View.{ClusterView}
 use Rattle.cluster_run.specs.Along.{is_place_word}

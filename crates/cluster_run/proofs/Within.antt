@@ -134,11 +134,11 @@ moved_within system log p steps t =
 -- each post that is found in a legal queue is no loss
 queued_unlost : (system : System) (log : List Entry) (queue : List Post) (test : Post → Bool) (post : Post) → IsQueueLegal UnlostMayFollow system log queue → find test queue ≡ Some post → is_unlost post.what ≡ true
 queued_unlost system log [] test post legal found = cc
-queued_unlost system log (first ∷ queue) test post legal found = by_test (test first) found
+queued_unlost system log (first ∷ queue) test post legal found = by_test (test first) found (queued_unlost system (log ++ entry_of system log first ∷ []) queue test post legal.1)
   where
-    by_test : (b : Bool) → cond b (Some first) (find test queue) ≡ Some post → is_unlost post.what ≡ true
-    by_test true found = let same : first ≡ post = cc in subst (λ (p : Post). is_unlost p.what ≡ true) same (legal.0).built
-    by_test false found = queued_unlost system (log ++ entry_of system log first ∷ []) queue test post legal.1 found
+    by_test : (b : Bool) → cond b (Some first) (find test queue) ≡ Some post → (find test queue ≡ Some post → is_unlost post.what ≡ true) → is_unlost post.what ≡ true
+    by_test true found more = let same : first ≡ post = cc in subst (λ (p : Post). is_unlost p.what ≡ true) same (legal.0).built
+    by_test false found more = more found
 
 runs_within : (system : System) (log : List Entry) (queue : List Post) (p : Pid) (steps : ℕ) (t : ProcState) → IsQueueLegal UnlostMayFollow system log queue → (o : Option Post) → find (is_move_of p) queue ≡ o
     → state_by system log p steps (option_map (λ (post : Post). post.what) o) ≡ Some t → weight t.small ≤ boot_load system
