@@ -1,5 +1,5 @@
 -- How the clusters of a bus are left whose script has words for places alone: each has taken in the log up to its own loss, or to its end.
-use Rattle.std.proofs.Common.{◌≡◌, ◌-◌, ◌∙◌, refl, sym, ap, subst, arith, List, length, take, Option, Some, None, inl, ℕ}
+use Rattle.std.proofs.Common.{◌≡◌, ◌-◌, ◌∙◌, refl, sym, ap, subst, arith, List, length, take, Option, Some, None, inl, ℕ, true}
 use Rattle.std.specs.List.{list_all}
 use Rattle.cert_sched.specs.Scripted.{is_finished}
 use Rattle.cluster_core.specs.View.{ClusterView}

@@ -33,25 +33,26 @@ not_both k j w other one two = by_lost (cluster_lost w) one two
 one_more : (e : Entry) (log : List Entry) → crashes (e ∷ log) ≡ cond (is_loss (what e)) 1 0 + crashes log
 one_more e log = sum_by-cons (λ (e : Entry). cond (is_loss (what e)) 1 0) e log
 
+-- and counts as one
+counts_one : (e : Entry) (k : ClusterNo) → is_crash_of k (what e) ≡ true → ◌≡◌ {A = ℕ} (cond (is_loss (what e)) 1 0) 1
+counts_one e k is = ap (λ b. cond b 1 0) (its_loss k (what e) is)
+
 one_loss : (k : ClusterNo) (log : List Entry) → was_lost_in log k ≡ true → 1 ≤ crashes log
 one_loss k [] lost = absurd (true≢false (sym lost))
 one_loss k (e ∷ log) lost = by_test (is_crash_of k (what e)) refl lost (one_loss k log)
   where
     by_test : (t : Bool) → is_crash_of k (what e) ≡ t → (t || was_lost_in log k) ≡ true → (was_lost_in log k ≡ true → 1 ≤ crashes log) → 1 ≤ crashes (e ∷ log)
-    by_test true is lost more = let one : cond (is_loss (what e)) 1 0 ≡ 1 = ap (λ b. cond b 1 0) (its_loss k (what e) is) in omega (arith, one, one_more e log)
+    by_test true is lost more = omega (arith, counts_one e k is, one_more e log)
     by_test false is lost more = omega (arith, more lost, one_more e log)
 
 two_losses : (k j : ClusterNo) (log : List Entry) → k.0 ≢ j.0 → was_lost_in log k ≡ true → was_lost_in log j ≡ true → 2 ≤ crashes log
 two_losses k j [] other one two = absurd (true≢false (sym one))
 two_losses k j (e ∷ log) other one two = by_tests (is_crash_of k (what e)) (is_crash_of j (what e)) refl refl one two (two_losses k j log other)
   where
-    loss_there : (i : ClusterNo) → is_crash_of i (what e) ≡ true → cond (is_loss (what e)) 1 0 ≡ 1
-    loss_there i is = ap (λ b. cond b 1 0) (its_loss i (what e) is)
-
     by_tests : (s t : Bool) → is_crash_of k (what e) ≡ s → is_crash_of j (what e) ≡ t → (s || was_lost_in log k) ≡ true → (t || was_lost_in log j) ≡ true → (was_lost_in log k ≡ true → was_lost_in log j ≡ true → 2 ≤ crashes log) → 2 ≤ crashes (e ∷ log)
     by_tests true true k_is j_is one two more = absurd (not_both k j (what e) other k_is j_is)
-    by_tests true false k_is j_is one two more = omega (arith, loss_there k k_is, one_loss j log two, one_more e log)
-    by_tests false true k_is j_is one two more = omega (arith, loss_there j j_is, one_loss k log one, one_more e log)
+    by_tests true false k_is j_is one two more = omega (arith, counts_one e k k_is, one_loss j log two, one_more e log)
+    by_tests false true k_is j_is one two more = omega (arith, counts_one e j j_is, one_loss k log one, one_more e log)
     by_tests false false k_is j_is one two more = omega (arith, more one two, one_more e log)
 
 apart : (cluster_no 0).0 ≢ (cluster_no 1).0

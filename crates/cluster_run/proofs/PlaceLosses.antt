@@ -1,5 +1,5 @@
 -- Where the words of a script are for places of the log, each loss is one at a place.
-use Rattle.std.proofs.Common.{◌≡◌, ℕ, zero, suc, refl, sym, ◌∙◌, ap, arith, List, [], ◌∷◌, ◌++◌, Bool, true, false, cond, ◌&&◌, ◌||◌, Option, Some, None, slice_get, true≢false}
+use Rattle.std.proofs.Common.{◌≡◌, ℕ, zero, suc, refl, sym, ◌∙◌, ap, subst, arith, List, [], ◌∷◌, ◌++◌, Bool, true, false, cond, ◌&&◌, ◌||◌, Option, Some, None, slice_get, true≢false}
 use Rattle.std.specs.Prelude.{count_by, nat_lt}
 use Rattle.std.specs.List.{list_all}
 use Rattle.std.proofs.lemmas.Bool.{and_parts}
@@ -40,7 +40,7 @@ none_passing : (t : ScriptWord → Bool) (words : List ScriptWord) → ((w : Scr
 none_passing t [] none all = refl
 none_passing t (w ∷ words) none all =
     let parts = and_parts (is_place_word w) (list_all is_place_word words) all in
-    let here : cond (t w) 1 0 ≡ 0 = ap (λ b. cond b 1 0) (none w parts.0) in
+    let here : ◌≡◌ {A = ℕ} (cond (t w) 1 0) 0 = ap (λ b. cond b 1 0) (none w parts.0) in
     omega (arith, sum_by-cons (λ w. cond (t w) 1 0) w words, here, none_passing t words none parts.1)
 
 no_step : (k : ClusterNo) (n : ℕ) (w : ScriptWord) → is_place_word w ≡ true → is_step_word k n w ≡ false
@@ -100,7 +100,7 @@ all_at_place system script log words legal =
 
 one_of_them : {X : Type 0} (test : X → Bool) (xs : List X) (n : ℕ) (x : X) → list_all test xs ≡ true → slice_get xs n ≡ Some x → test x ≡ true
 one_of_them test [] n x all at = cc
-one_of_them test (y ∷ xs) zero x all at = let same : y ≡ x = cc in sym (ap test (sym same)) ∙ (and_parts (test y) (list_all test xs) all).0
+one_of_them test (y ∷ xs) zero x all at = let same : y ≡ x = cc in subst (λ z. test z ≡ true) same (and_parts (test y) (list_all test xs) all).0
 one_of_them test (y ∷ xs) (suc n) x all at = one_of_them test xs n x (and_parts (test y) (list_all test xs) all).1 at
 
 ends_by_place : (k : ClusterNo) (w : What) (c : ClusterView) → is_at_place w ≡ true → EndsBy (cause_in k w) c

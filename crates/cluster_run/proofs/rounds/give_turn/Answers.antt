@@ -1,4 +1,5 @@
-use Rattle.std.proofs.Common.{◌≡◌, ◌∙◌, refl, sym, arith, false, true≢false}
+use Rattle.std.proofs.Common.{◌≡◌, ◌∙◌, refl, sym, ap, arith, get_or, false, true≢false}
+use Rattle.bus_msg.specs.Places.{cluster_no}
 use Rattle.t32_base.specs.declared.process.ClusterNo.{ClusterNo}
 use Rattle.cert_sched.specs.Rules.{is_over}
 use Rattle.cert_sched.specs.Losses.{was_lost_in}
@@ -15,8 +16,10 @@ take_turn-requires-clause-shown c =
 pub take_turn-requires-clause-empty : goal.take_turn-requires-clause-empty
 take_turn-requires-clause-empty c =
     let member = one_member c.args.bus.now c.args.clusters.now c.args.number c.index-clusters-number-2.result c.requires.along c.requires.has in
-    let goes_on = (either (is_over c.args.bus.now.system c.args.bus.now.log) (was_lost_in c.args.bus.now.log c.number.result) (sym c.has_ended.ensures ∙ c.if-has_ended.false)).0 in
-    member.empty goes_on
+    let parts = either (is_over c.args.bus.now.system c.args.bus.now.log) (was_lost_in c.args.bus.now.log c.number.result) (sym c.has_ended.ensures ∙ c.if-has_ended.false) in
+    let first = one_member c.args.bus.now c.args.clusters.now c.args.number c.index-clusters-number.result c.requires.along c.requires.has in
+    let same : c.number.result.0 ≡ (get_or c.args.clusters.now c.args.number c.index-clusters-number-2.result).number.0 = ap (λ (k : ClusterNo). k.0) c.number.ensures ∙ first.number ∙ sym member.number in
+    member.empty parts.0 (ap (λ k. was_lost_in c.args.bus.now.log (cluster_no k)) (sym same) ∙ parts.1)
 
 pub returns-clause-owned : goal.returns-clause-owned
 returns-clause-owned c =
