@@ -36,7 +36,6 @@ use Rattle.script_laws.proofs.OffLosses.{not_off_not_lost}
 use Rattle.cluster_run.specs.declared.offers.Offered.TheVariants.{Sent, Behind as WasBehind, Over as WasOver, Off as WasOff}
 use Rattle.cluster_run.specs.Along.{IsAlong, IsSound}
 use Rattle.cluster_run.specs.Offers.{Adds, GoesOnFor, IsToldBy, OfferAnswers, OfferIs, TellAnswers, TellIs}
-use Rattle.cluster_run.specs.Seated.{bare, origin_of}
 use Rattle.cluster_run.proofs.Offering.{adds_worded, along_worded}
 use Rattle.cluster_run.proofs.Owning.{adds_more}
 use Rattle.cluster_run.proofs.TakingIn.{seen_lives}
@@ -197,12 +196,7 @@ module _ (old new : BusView) (c : ClusterView) (k : ClusterNo) (n : ℕ) (along 
   tell_answers m (Err (Behind l)) t = let behind = is_behind l t.0 t.1 in (inr (inr behind.1), t.1)
   tell_answers m (Err NoMemory) t = tt
 
--- ---- no script
+-- ---- what it came from
 
--- a bus that came from one of a system is of that
-pub system_from : (b : BusView) (system : System) (o : Option Origin) → o ≡ Some (origin_of b) → o ≡ Some (bare system) → system ≡ b.system
-system_from b system o is from = ap (λ (o : Option Origin). option_map_or (λ (a : Origin). a.system) o b.system) (sym from ∙ is)
-
--- a bus that came from one without a script has none
-pub from_bare : (b : BusView) (system : System) (o : Option Origin) → o ≡ Some (origin_of b) → o ≡ Some (bare system) → b.script ≡ []
-from_bare b system o is from = ap (λ (o : Option Origin). option_map_or (λ (a : Origin). a.script) o b.script) (sym is ∙ from)
+pub same_from : (a b : Origin) (o : Option Origin) → o ≡ Some a → o ≡ Some b → a ≡ b
+same_from a b o one two = let both_are : Some a ≡ Some b = sym one ∙ two in cc

@@ -55,3 +55,9 @@ not_same i j k same other = by_test (same_cluster i j) refl
     by_test : (b : Bool) → same_cluster i j ≡ b → b ≡ false
     by_test true is = absurd (other (sym (eqb-true i.0 j.0 is) ∙ eqb-true i.0 k.0 same))
     by_test false is = refl
+
+-- a front has the same there
+pub get_front : {X : Type 0} (xs ys : List X) (n : ℕ) → n < length xs → slice_get (xs ++ ys) n ≡ slice_get xs n
+get_front [] ys n within = absurd (omega (arith, within))
+get_front (x ∷ xs) ys zero within = refl
+get_front (x ∷ xs) ys (suc n) within = get_front xs ys n (omega (arith, within))

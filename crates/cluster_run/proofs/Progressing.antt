@@ -22,6 +22,7 @@ use Rattle.bus_order.specs.View.{BusView, is_awaited, mark_in, with_mark}
 use Rattle.cluster_run.specs.Offers.{TakesMark}
 use Rattle.bus_order.proofs.MarksLaws.{mark_in-get_or}
 use Rattle.cluster_run.specs.Progress.{Falls, FallsBehind, GetsOn, HasMark, IsAtMost, IsAwaiting, IsLost, IsOver, LivesMarked, Remaining, Rests, log_load, remaining, remaining_of, total, unseen}
+use Rattle.cluster_run.specs.Along.{is_done_with}
 use Rattle.cluster_run.specs.Turns.{HasSpent, TurnsOwn}
 use Rattle.cert_sched.specs.Legal.{IsLegalBy}
 use Rattle.cert_sched.specs.Built.{BuiltMayFollow}
@@ -187,6 +188,14 @@ lost_rests b n lost = record {
         let same : one.number ≡ n = omega (arith, low, high) in
         absurd (true≢false (sym (subst (IsLost b) (sym same) lost) ∙ one.lives))
     none_or (inr awaiting) = awaiting
+
+-- nor has one that has done with the log
+pub done_given : (b : BusView) (left : Remaining) (n : ℕ) (k : ClusterNo) → k.0 ≡ n → is_done_with k b.system b.log ≡ true → GetsOn b b left left n (n + 1)
+done_given b left n k same done = by_end (is_over b.system b.log) refl
+  where
+    by_end : (t : Bool) → is_over b.system b.log ≡ t → GetsOn b b left left n (n + 1)
+    by_end true over = inr (inl over)
+    by_end false goes_on = inr (inr (lost_rests b n (ap (λ m. was_lost_in b.log (cluster_no m)) (sym same) ∙ ap (λ t. t || was_lost_in b.log k) (sym goes_on) ∙ done)))
 
 -- one turn more
 module _ (b mid after : BusView) (left now still : Remaining) (from n : ℕ) (over : IsOver mid → IsOver after) (first : IsOver mid ⊎ IsAtMost left now) (last : IsOver after ⊎ IsAtMost now still) where

@@ -1,6 +1,7 @@
 -- Up to where a cluster follows a log.
 use Rattle.std.proofs.Common.{◌≡◌, ℕ, zero, suc, ◌+◌, ◌-◌, ◌≤◌, ◌<◌, refl, sym, ◌∙◌, ap, subst, arith, List, [], ◌∷◌, length, take, slice_get, Bool, true, false, cond, not, ◌||◌, Option, Some, None, is_some, min, true≢false}
 use Rattle.std.specs.List.{list_any, position_or_len}
+use Rattle.std.proofs.lemmas.List.{take-append-le}
 use Rattle.std.proofs.lemmas.List.Folds.{list_any-append}
 use Rattle.std.proofs.lemmas.Option.{slice_get_within}
 use Rattle.t32_base.specs.declared.process.ClusterNo.{ClusterNo}
@@ -20,7 +21,7 @@ use Rattle.bus_order.proofs.OverLaws.{closed_some}
 use Rattle.script_laws.specs.Off.{IsItsLoss}
 use Rattle.script_laws.proofs.OffLosses.{lost_off, not_off_not_lost, off_is_its_loss}
 use Rattle.cluster_run.specs.Along.{upto}
-use Rattle.cluster_run.proofs.Prefixes.{either}
+use Rattle.cluster_run.proofs.Prefixes.{either, get_front}
 
 -- ---- the first that passes
 
@@ -111,18 +112,29 @@ not_closing k (Done rests) h = absurd (true≢false (sym h))
 not_closing k Stop h = absurd (true≢false (sym h))
 
 -- one that was lost follows up to its loss
-pub upto_loss : (k : ClusterNo) (log : List Entry) (at : ℕ) → IsItsLoss log k at → upto k log ≡ at
-upto_loss k log at loss =
-    let within = slice_get_within log at loss.entry loss.there in
+pub upto_first : (k : ClusterNo) (log : List Entry) (at : ℕ) (e : Entry) → slice_get log at ≡ Some e → is_crash_of k (what e) ≡ true → was_lost_in (take at log) k ≡ false → upto k log ≡ at
+upto_first k log at e there loses none_before =
+    let within = slice_get_within log at e there in
     let low : at ≤ open_length log = by_test (is_closed log) refl within in
-    omega (arith, first_at (its_loss k) log at loss.entry loss.there loss.loses loss.none_before, low)
+    omega (arith, first_at (its_loss k) log at e there loses none_before, low)
   where
     by_test : (b : Bool) → is_closed log ≡ b → at < length log → at ≤ length log - cond b 1 0
     by_test false is within = omega (arith, within)
-    by_test true closed within = not_last within (λ last. true≢false (sym closed ∙ closed_some log loss.entry (ap (slice_get log) (sym last) ∙ loss.there) ∙ not_closing k (what loss.entry) loss.loses))
+    by_test true closed within = not_last within (λ last. true≢false (sym closed ∙ closed_some log e (ap (slice_get log) (sym last) ∙ there) ∙ not_closing k (what e) loses))
       where
         not_last : at < length log → (at ≡ length log - 1 → ⊥) → at ≤ length log - 1
         not_last within other = let apart : at ≡ length log - 1 → ⊥ = other in omega (arith, within)
+
+pub upto_loss : (k : ClusterNo) (log : List Entry) (at : ℕ) → IsItsLoss log k at → upto k log ≡ at
+upto_loss k log at loss = upto_first k log at loss.entry loss.there loss.loses loss.none_before
+
+-- one that was lost in a part of the log follows as far in the whole
+pub upto_part : (k : ClusterNo) (part log rest : List Entry) (at : ℕ) → part ++ rest ≡ log → IsItsLoss part k at → upto k log ≡ upto k part
+upto_part k part log rest at is loss =
+    let within = slice_get_within part at loss.entry loss.there in
+    let there : slice_get log at ≡ Some loss.entry = ap (λ l. slice_get l at) (sym is) ∙ get_front part rest at within ∙ loss.there in
+    let none : was_lost_in (take at log) k ≡ false = ap (λ l. was_lost_in (take at l) k) (sym is) ∙ ap (λ l. was_lost_in l k) (take-append-le at part rest (omega (arith, within))) ∙ loss.none_before in
+    upto_first k log at loss.entry there loss.loses none ∙ sym (upto_loss k part at loss)
 
 -- ---- what the bus says
 

@@ -34,8 +34,8 @@ use Rattle.bus_order.proofs.OverLaws.{open_not_closed}
 use Rattle.bus_order.proofs.Unscripted.{after_none, left_none}
 use Rattle.script_laws.proofs.CoveredLosses.{crashless_unlost, few_losses_close}
 use Rattle.script_laws.proofs.CrashLaws.{crashes_within}
-use Rattle.cluster_run.specs.Along.{IsBare, IsSound, is_done_with, is_place_word}
-use Rattle.cluster_run.specs.Seated.{bus_of}
+use Rattle.cluster_run.specs.Along.{IsSound, is_place_word}
+use Rattle.cluster_run.specs.Seated.{bus_of, origin_of}
 
 -- ---- what words add
 
@@ -165,23 +165,8 @@ unlost_of b sound none = crashless_unlost b.system b.log sound.legal (let long =
 pub lives_without : (b : BusView) (k : ClusterNo) → IsSound b → b.script ≡ [] → was_lost_in b.log k ≡ false
 lives_without b k sound none = never_lost b.system b.log k (unlost_of b sound none)
 
-pub bare_of : (b : BusView) → KeepsScript b → b.script ≡ [] → IsBare b
-bare_of b keeps none = record { script = none; left = left_none b keeps none }
-
-pub words_of_none : (b : BusView) → IsBare b → after_words b ≡ b
-words_of_none b bare = after_none b bare.left
-
--- no cluster is lost, so each has done with the log where that is over
-pub done_without : (b : BusView) (k : ClusterNo) → IsSound b → b.script ≡ [] → is_over b.system b.log ≡ is_done_with k b.system b.log
-done_without b k sound none = sym (ap (λ t. is_over b.system b.log || t) (lives_without b k sound none) ∙ or_none (is_over b.system b.log))
-  where
-    or_none : (t : Bool) → (t || false) ≡ t
-    or_none true = refl
-    or_none false = refl
-
 -- what is known of a sound bus without a script from its system and its log
-pub sound_by_log : (b : BusView) (log : List Entry) → IsSound b → b.script ≡ [] → log ≡ b.log → IsSound (bus_of b.system log)
-sound_by_log b log sound none same =
-    let P : List Entry → Type 0 = λ l. IsSound (bus_of b.system l) in
-    let few = ap length none in
-    subst P (sym same) (record { valid = sound.valid; words = refl; one = omega arith; legal = sound.legal; losses = omega (arith, few, sound.losses); fits = sound.fits })
+pub sound_by_log : (b : BusView) (log : List Entry) → IsSound b → log ≡ b.log → IsSound (bus_of (origin_of b) log)
+sound_by_log b log sound same =
+    let P : List Entry → Type 0 = λ l. IsSound (bus_of (origin_of b) l) in
+    subst P (sym same) (record { valid = sound.valid; words = sound.words; one = sound.one; legal = sound.legal; losses = sound.losses; fits = sound.fits })

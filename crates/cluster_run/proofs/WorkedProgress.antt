@@ -4,39 +4,46 @@ use Rattle.t32_base.specs.declared.process.Pid.{Pid}
 use Rattle.proc_state.specs.State.{root_state}
 use Rattle.cluster_run.specs.Progress.{Falls, IsAtMost, Remaining, kernel_load}
 
-abbrev left : ℕ → ℕ → ℕ → Remaining
-left steps entries moves = record { steps = steps; entries = entries; moves = moves }
+abbrev left : ℕ → ℕ → ℕ → ℕ → Remaining
+left words steps entries moves = record { words = words; steps = steps; entries = entries; moves = moves }
+
+-- a word of the script lost a cluster: the clusters have an entry more to take in, and processes go back
+loses : Falls (left 1 4 0 7) (left 0 4 15 60)
+loses = inl (omega arith)
 
 -- a letter was sent: the clusters have an entry more to take in
-sends : Falls (left 5 0 7) (left 4 15 7)
-sends = inl (omega arith)
+sends : Falls (left 1 5 0 7) (left 1 4 15 7)
+sends = inr (refl, inl (omega arith))
 
 -- an entry was taken in, by which a process went back
-takes_in : Falls (left 4 15 7) (left 4 14 60)
-takes_in = inr (inl (refl, omega arith))
+takes_in : Falls (left 0 4 15 7) (left 0 4 14 60)
+takes_in = inr (refl, inr (inl (refl, omega arith)))
 
 -- a process made a silent step
-moves : Falls (left 4 14 60) (left 4 14 59)
-moves = inr (inr (refl, refl, omega arith))
+moves : Falls (left 0 4 14 60) (left 0 4 14 59)
+moves = inr (refl, inr (inr (refl, refl, omega arith)))
 
 -- nothing was done
-refused_same : Falls (left 4 14 59) (left 4 14 59) → ⊥
-refused_same (inl less) = omega (arith, less)
-refused_same (inr (inl less)) = omega (arith, less.1)
-refused_same (inr (inr less)) = omega (arith, less.2)
+refused_same : Falls (left 1 4 14 59) (left 1 4 14 59) → ⊥
+refused_same (inl fewer) = omega (arith, fewer)
+refused_same (inr (words, inl less)) = omega (arith, less)
+refused_same (inr (words, inr (inl less))) = omega (arith, less.1)
+refused_same (inr (words, inr (inr less))) = omega (arith, less.2)
 
 -- a process went back, and nothing before it fell
-refused_back : Falls (left 4 14 59) (left 4 14 60) → ⊥
-refused_back (inl less) = omega (arith, less)
-refused_back (inr (inl less)) = omega (arith, less.1)
-refused_back (inr (inr less)) = omega (arith, less.2)
+refused_back : Falls (left 1 4 14 59) (left 1 4 14 60) → ⊥
+refused_back (inl fewer) = omega (arith, fewer)
+refused_back (inr (words, inl less)) = omega (arith, less)
+refused_back (inr (words, inr (inl less))) = omega (arith, less.1)
+refused_back (inr (words, inr (inr less))) = omega (arith, less.2)
 
--- the kernel without failures has more steps left, whatever else fell
-refused_more : IsAtMost (left 4 14 59) (left 5 0 0) → ⊥
-refused_more (inl (inl less)) = omega (arith, less)
-refused_more (inl (inr (inl less))) = omega (arith, less.0)
-refused_more (inl (inr (inr less))) = omega (arith, less.0)
-refused_more (inr same) = omega (arith, same.0)
+-- the kernel without failures has more steps left, whatever stands behind it
+refused_more : IsAtMost (left 1 4 14 59) (left 1 5 0 0) → ⊥
+refused_more (inl (inl fewer)) = omega (arith, fewer)
+refused_more (inl (inr (words, inl less))) = omega (arith, less)
+refused_more (inl (inr (words, inr (inl less)))) = omega (arith, less.0)
+refused_more (inl (inr (words, inr (inr less)))) = omega (arith, less.0)
+refused_more (inr same) = omega (arith, same.1)
 
 -- ---- the parts
 

@@ -2,11 +2,10 @@
 ghost use Rattle.std.specs.Prelude.{◌≡◌, OnOk, Some, [], true};
 ghost use Rattle.std.specs.Arc.{arc_value};
 ghost use Rattle.sys_text.specs.declared.system.System.{System as ASystem};
-ghost use Rattle.cert_sched.specs.Rules.{is_over};
 ghost use Rattle.bus_lock.specs.Seats.{IsOf, seat_origin, seen, told, view_of};
 ghost use Rattle.bus_lock.specs.Views.{retold};
-ghost use Rattle.cluster_run.specs.Along.{IsSame};
-ghost use Rattle.cluster_run.specs.Seated.{IsSeatOf, Shows, bare};
+ghost use Rattle.cluster_run.specs.Along.{IsSame, is_done_with};
+ghost use Rattle.cluster_run.specs.Seated.{IsSeatOf, Shows, made_of};
 ghost use Rattle.cluster_run.specs.Threads.{HasEnded, OneEnded, Starts};
 
 use crate::locked::stop;
@@ -16,6 +15,7 @@ use crate::sleepers::Sleepers;
 use crate::turn::{Turn, take_turn};
 use bus_lock::{LogLock, LogSeat};
 use bus_order::shared::SharedBus;
+use cert_sched::script::ScriptWord;
 use cluster_core::cluster::Cluster;
 use std::alloc::Global;
 use std::sync::{Arc, Wait};
@@ -23,22 +23,23 @@ use sys_text::system::System;
 use t32_base::gate::Gate;
 use t32_base::streams::NoMemory;
 
-/// Lets a cluster follow the log until its seat has seen that this is over, and answers the seat, and the cluster,
-/// which has taken in all entries but the last. Where it meets want of memory it ends the run, and there is no
-/// cluster.
+/// Lets a cluster follow the log until its seat has seen that this is over, or that the cluster was lost, and answers the
+/// seat, and the cluster, which has taken in all entries but the last, or those before its loss. Where it meets want of
+/// memory it ends the run, and there is no cluster.
 pub fn follow<R: Wait, G: Gate>(
     rt: &R,
     alloc: Global,
     system: &Arc<System>,
+    script: &[ScriptWord],
     lock: &LogLock<SharedBus>,
     seat: LogSeat<SharedBus>,
     cluster: Cluster,
     gate: &G,
     sleepers: &Sleepers,
 ) -> (LogSeat<SharedBus>, Option<Cluster>)
-    requires { Starts lock.now (arc_value system.now) seat cluster }
-    ensures ended { OneEnded lock.now (arc_value system.now) cluster.number.0 result.0 result.1 }
-    ensures over { is_over (arc_value system.now) (seen result.0) ≡ true }
+    requires { Starts lock.now (made_of (arc_value system.now) script.now) seat cluster }
+    ensures ended { OneEnded lock.now (made_of (arc_value system.now) script.now) cluster.number.0 result.0 result.1 }
+    ensures done { is_done_with cluster.number (arc_value system.now) (seen result.0) ≡ true }
 {
     let number = cluster.number();
     let mut cluster = cluster;
@@ -46,14 +47,17 @@ pub fn follow<R: Wait, G: Gate>(
         rt,
         lock,
         system,
+        script,
         gate,
         sleepers,
         seat,
         news: News {
+            number,
             from: 0,
             upto: 0,
             entries: Vec::new(alloc),
             is_over: false,
+            off_at: None,
         },
     };
     match follow_on(&mut port, &mut cluster) {
@@ -70,17 +74,18 @@ pub fn follow<R: Wait, G: Gate>(
     }
 }
 
-// Lets a cluster follow the log until that is over.
+// Lets a cluster follow the log until that is over, or the cluster was lost.
 fn follow_on<R: Wait, G: Gate>(
     port: &mut Seated<'_, R, G>,
     cluster: &mut Cluster,
 ) -> Result<(), NoMemory>
     requires seat { IsSeatOf port.old.lock.now cluster.old.number port.old.seat }
-    requires origin { seat_origin port.old.seat ≡ Some (bare (arc_value port.old.system.now)) }
-    requires shows { Shows (arc_value port.old.system.now) port.old.seat port.old.news cluster.old }
+    requires origin { seat_origin port.old.seat ≡ Some (made_of (arc_value port.old.system.now) port.old.script.now) }
+    requires number { port.old.news.number ≡ cluster.old.number }
+    requires shows { Shows (made_of (arc_value port.old.system.now) port.old.script.now) port.old.seat port.old.news cluster.old }
     requires empty { cluster.old.queue ≡ [] }
     ensures seat { IsSeatOf port.old.lock.now cluster.old.number port.new.seat }
-    ensures origin { seat_origin port.new.seat ≡ Some (bare (arc_value port.old.system.now)) }
+    ensures origin { seat_origin port.new.seat ≡ Some (made_of (arc_value port.old.system.now) port.old.script.now) }
     ensures ended { OnOk result (HasEnded (arc_value port.old.system.now) cluster.old.number.0 (seen port.new.seat) cluster.new) }
 {
     let rt = port.rt;

@@ -52,6 +52,7 @@ pub trait Port {
 
     /// How far a cluster follows the log: up to its own loss, or else to the end or the stop that may stand last.
     fn upto(&self, number: ClusterNo) -> u64
+        requires sits { sits number self.now }
         requires shows { shows self.now }
         requires sound { IsSound (bus self.now) }
         ensures { result ≡ upto number (bus self.now).log };
@@ -65,6 +66,7 @@ pub trait Port {
 
     /// Whether the log is over, or the cluster was lost in it.
     fn has_ended(&self, number: ClusterNo) -> bool
+        requires sits { sits number self.now }
         requires shows { shows self.now }
         requires sound { IsSound (bus self.now) }
         ensures { result ≡ is_done_with number (bus self.now).system (bus self.now).log };

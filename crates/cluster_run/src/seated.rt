@@ -14,6 +14,7 @@ use bus_lock::{LogLock, LogSeat};
 use bus_msg::entry::{Entry, Post};
 use bus_order::marks::{Idled, Mark};
 use bus_order::shared::SharedBus;
+use cert_sched::script::ScriptWord;
 use cluster_core::cluster::Cluster;
 use std::sync::{Arc, Wait};
 use sys_text::system::System;
@@ -28,6 +29,7 @@ pub struct Seated<'a, R, G> {
     pub rt: &'a R,
     pub lock: &'a LogLock<SharedBus>,
     pub system: &'a Arc<System>,
+    pub script: &'a [ScriptWord],
     pub gate: &'a G,
     pub sleepers: &'a Sleepers,
     pub seat: LogSeat<SharedBus>,
@@ -81,42 +83,44 @@ fn doze(
 impl<'a, R: Wait, G: Gate> Port for Seated<'a, R, G> {
     ghost use Rattle.std.specs.Prelude.{◌≡◌, Some, false};
     ghost use Rattle.std.specs.Arc.{arc_value};
-    ghost use Rattle.sys_text.specs.declared.system.System.{System as ASystem};
     ghost use Rattle.bus_msg.specs.declared.entry.Entry.{Entry as AnEntry};
     ghost use Rattle.bus_lock.specs.declared.lock.LogLock.{LogLock as ALogLock};
     ghost use Rattle.bus_lock.specs.Seats.{seat_origin, seen};
     ghost use Rattle.bus_order.specs.View.{BusView};
     ghost use Rattle.cluster_run.specs.Offers.{IsNews};
     ghost use Rattle.bus_order.specs.declared.shared.Origin.{Origin as AnOrigin};
-    ghost use Rattle.cluster_run.specs.Seated.{IsSeatOf, bare, bus_of};
+    ghost use Rattle.cluster_run.specs.Seated.{IsSeatOf, bus_of, made_of};
 
-    ghost Root = { ALogLock BusView AnEntry AnOrigin × ASystem };
+    ghost Root = { ALogLock BusView AnEntry AnOrigin × AnOrigin };
 
     ghost alone = { false };
 
-    ghost root = { λ p. (p.lock.now, arc_value p.system.now) };
+    ghost root = { λ p. (p.lock.now, made_of (arc_value p.system.now) p.script.now) };
 
-    ghost bus = { λ p. bus_of (arc_value p.system.now) (seen p.seat) };
+    ghost bus = { λ p. bus_of (made_of (arc_value p.system.now) p.script.now) (seen p.seat) };
 
     ghost from = { λ p. p.news.from };
 
     ghost shows = { λ p. IsNews (arc_value p.system.now) (seen p.seat) p.news };
 
-    ghost sits = { λ k p. IsSeatOf p.lock.now k p.seat × (seat_origin p.seat ≡ Some (bare (arc_value p.system.now))) };
+    ghost sits = { λ k p. IsSeatOf p.lock.now k p.seat × (seat_origin p.seat ≡ Some (made_of (arc_value p.system.now) p.script.now)) × (p.news.number ≡ k) };
 
     fn look(&mut self, cluster: &Cluster) -> Result<(), NoMemory> {
         if !has_grown(self.lock, &mut self.seat, &self.news) {
             return Ok(());
         }
         let bus = take_for(self.rt, self.lock, &mut self.seat, cluster);
-        let news = news_of(&bus, cluster.cursor());
+        let news = news_of(&bus, cluster.number(), cluster.cursor());
         give(self.lock, &mut self.seat, bus, cluster.number());
         self.news = news?;
         Ok(())
     }
 
     fn upto(&self, _number: ClusterNo) -> u64 {
-        self.news.upto
+        match self.news.off_at {
+            Some(at) => at,
+            None => self.news.upto,
+        }
     }
 
     fn shown(&self, place: u64) -> &Entry {
@@ -124,7 +128,7 @@ impl<'a, R: Wait, G: Gate> Port for Seated<'a, R, G> {
     }
 
     fn has_ended(&self, _number: ClusterNo) -> bool {
-        self.news.is_over
+        self.news.is_over || self.news.off_at.is_some()
     }
 
     fn offer(&mut self, cluster: &Cluster, post: &Post) -> Result<Offered, NoMemory> {
@@ -132,7 +136,7 @@ impl<'a, R: Wait, G: Gate> Port for Seated<'a, R, G> {
         let mut bus = take_for(self.rt, self.lock, &mut self.seat, cluster);
         let offered = offer_to(&mut bus, cluster, post);
         let receiver = receiver_of(&bus, post);
-        let news = news_of(&bus, cluster.cursor());
+        let news = news_of(&bus, cluster.number(), cluster.cursor());
         give(self.lock, &mut self.seat, bus, cluster.number());
         let offered = offered?;
         self.news = news?;
@@ -153,7 +157,7 @@ impl<'a, R: Wait, G: Gate> Port for Seated<'a, R, G> {
         );
         let mut bus = take_for(self.rt, self.lock, &mut self.seat, cluster);
         let told = tell_to(&mut bus, cluster, mark);
-        let news = news_of(&bus, cluster.cursor());
+        let news = news_of(&bus, cluster.number(), cluster.cursor());
         give(self.lock, &mut self.seat, bus, cluster.number());
         let told = told?;
         self.news = news?;

@@ -5,7 +5,8 @@ use Rattle.cert_sched.specs.Rules.{is_over}
 use Rattle.cert_sched.specs.Losses.{was_lost_in}
 use Rattle.cluster_run.proofs.Prefixes.{either}
 use Rattle.cluster_run.proofs.Together.{all_after, one_member}
-use Rattle.cluster_run.proofs.Progressing.{turn_gets_on, turn_lasts}
+use Rattle.cluster_run.specs.Progress.{remaining}
+use Rattle.cluster_run.proofs.Progressing.{done_given, turn_gets_on, turn_lasts}
 use Rattle.cluster_run.proofs.rounds.give_turn.Goals as goal
 
 pub take_turn-requires-clause-shown : goal.take_turn-requires-clause-shown
@@ -61,3 +62,9 @@ returns-clause-gets_on c =
     let goes_on = (either (is_over c.args.bus.now.system c.args.bus.now.log) (was_lost_in c.args.bus.now.log c.number.result) (sym c.has_ended.ensures ∙ c.if-has_ended.false)).0 in
     let own = c.in_ok-take_turn.ensures.own refl (c.requires.owned, goes_on) in
     turn_gets_on c.args.bus.now c.take_turn.new.port c.args.clusters.now c.args.number c.index-clusters-number-2.result c.take_turn.new.cluster c.requires.has member.number own
+
+pub returns-then-has_ended-clause-gets_on : goal.returns-then-has_ended-clause-gets_on
+returns-then-has_ended-clause-gets_on c =
+    let member = one_member c.args.bus.now c.args.clusters.now c.args.number c.index-clusters-number.result c.requires.along c.requires.has in
+    let number : c.number.result.0 ≡ c.args.number = ap (λ (k : ClusterNo). k.0) c.number.ensures ∙ member.number in
+    done_given c.args.bus.now (remaining c.args.bus.now c.args.clusters.now) c.args.number c.number.result number (sym c.has_ended.ensures ∙ c.if-has_ended.true)

@@ -1,9 +1,16 @@
-use Rattle.std.proofs.Common.{◌∙◌, refl}
+use Rattle.std.proofs.Common.{◌≡◌, ◌∙◌, ap, sym, is_some, ◌||◌, false}
 use Rattle.std.specs.Arc.{arc_value}
+use Rattle.t32_base.specs.declared.process.ClusterNo.{ClusterNo}
 use Rattle.bus_lock.specs.Seats.{seen}
-use Rattle.cluster_run.specs.Seated.{bus_of}
-use Rattle.cluster_run.proofs.Worded.{done_without}
+use Rattle.cert_sched.specs.Rules.{is_over}
+use Rattle.cert_sched.specs.Losses.{was_lost_in}
+use Rattle.bus_order.specs.Script.{off_at}
+use Rattle.script_laws.proofs.OffLosses.{lost_off}
 use Rattle.cluster_run.proofs.seated.SeatedPort.has_ended.Goals as goal
 
-pub returns : goal.returns
-returns g c = c.requires.shows.over ∙ done_without (bus_of (arc_value c.args.self.now.system.now) (seen c.args.self.now.seat)) c.args._number c.requires.sound refl
+pub returns-else-is_over : goal.returns-else-is_over
+returns-else-is_over g c =
+    let p = c.args.self.now in
+    let log = seen p.seat in
+    let off = c.requires.shows.off ∙ ap (off_at log) c.requires.sits.2 in
+    c.is_some.ensures ∙ ap is_some off ∙ sym (lost_off (arc_value p.system.now) log c.args._number c.requires.sound.legal) ∙ ap (λ t. t || was_lost_in log c.args._number) (sym (sym c.requires.shows.over ∙ c.if-is_over.false))

@@ -1,12 +1,20 @@
-use Rattle.std.proofs.Common.{◌∙◌, refl, sym}
+use Rattle.std.proofs.Common.{◌∙◌, sym, ap}
 use Rattle.std.specs.Arc.{arc_value}
 use Rattle.bus_lock.specs.Seats.{seen}
-use Rattle.cluster_run.specs.Seated.{bus_of}
-use Rattle.cluster_run.proofs.Upto.{upto_living}
-use Rattle.cluster_run.proofs.Worded.{lives_without}
+use Rattle.bus_order.specs.Script.{off_at}
+use Rattle.cluster_run.proofs.Upto.{upto_not_off, upto_off}
 use Rattle.cluster_run.proofs.seated.SeatedPort.upto.Goals as goal
 
-pub returns : goal.returns
-returns g c =
-    let log = seen c.args.self.now.seat in
-    c.requires.shows.upto ∙ sym (upto_living c.args._number log (lives_without (bus_of (arc_value c.args.self.now.system.now) log) c.args._number c.requires.sound refl))
+pub returns-in-Some : goal.returns-in-Some
+returns-in-Some g c =
+    let p = c.args.self.now in
+    let log = seen p.seat in
+    let off = c.requires.shows.off ∙ ap (off_at log) c.requires.sits.2 in
+    sym (upto_off (arc_value p.system.now) c.args._number log c.requires.sound.legal c.in-Some.at (sym off ∙ c.in-Some.is))
+
+pub returns-in-None : goal.returns-in-None
+returns-in-None g c =
+    let p = c.args.self.now in
+    let log = seen p.seat in
+    let off = c.requires.shows.off ∙ ap (off_at log) c.requires.sits.2 in
+    c.requires.shows.upto ∙ sym (upto_not_off (arc_value p.system.now) c.args._number log c.requires.sound.legal (sym off ∙ c.in-None.is))
