@@ -12,10 +12,9 @@ use Rattle.cluster_run.specs.Lived.{ends_at_done, LivedBuilt}
 abbrev pub HasStepsOf : Ran → Type 0
 HasStepsOf ran = (n : ℕ) (l : Life) → slice_get ran.lives n ≡ Some l → ends_at_done (ran.run).log l.cluster l.from ≡ true → (l.value).failed ≡ None → slice_get (ran.run).steps (l.cluster).0 ≡ Some (l.value).steps
 
--- The run is what its system and its script allow, and it came to its end: nothing was withheld, its clusters did its work, and it has their steps.
+-- The run is what its system and its script allow, and it came to its end: its clusters did its work, and it has their steps.
 pub record IsCompleted (system : System) (script : List ScriptWord) (ran : Ran) : Type 0 where
   pub good : IsGoodBuilt system script ran.run
   pub ended : (ran.run).ended ≡ Finished
-  pub withheld : (ran.run).withheld ≡ 0
   pub lived : LivedBuilt system script (ran.run).log ran.lives
   pub steps : HasStepsOf ran
