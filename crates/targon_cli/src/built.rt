@@ -1,5 +1,6 @@
 //! The commands that are built, by their words.
 ghost use Rattle.std.specs.Prelude.{◌≡◌, IfOk, true};
+ghost use Rattle.std.specs.List.{list_all};
 ghost use Rattle.cert_sched.specs.Built.{is_built_word as is_built_word_of};
 ghost use Rattle.targon_cli.specs.Built.{built, built_command_of, is_built as is_built_of, is_built_script as is_built_script_of, is_ready};
 
@@ -46,7 +47,13 @@ fn is_built(command: &Command) -> bool
 fn is_built_script(script: &[ScriptWord]) -> bool
     ensures { result ≡ is_built_script_of script.now }
 {
-    script.len() <= 1 && script.iter().all(|word| is_built_word(word))
+    script.len() <= 1 && are_built_words(script)
+}
+
+fn are_built_words(words: &[ScriptWord]) -> bool
+    ensures { result ≡ list_all is_built_word_of words.now }
+{
+    words.iter().all(|word| is_built_word(word))
 }
 
 fn is_built_word(word: &ScriptWord) -> bool

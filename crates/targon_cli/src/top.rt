@@ -32,10 +32,10 @@ const NO_MEMORY: u8 = 6;
 const TOO_LONG: u8 = 8;
 
 /// What the program does with its words, its input and its output, and the status with which it ends: 0
-/// where a command was carried out, 1 where the words are no command that is built or name a cluster that the system
-/// lacks, 2 where the command refuses its input, 3 where an item of the schedule cannot be read or applied, 4 where the input could not be
-/// read, 5 where the output could not be written, 6 where memory was refused and nothing was written, and 8
-/// where the input is longer than is read. After 0 `ran` is the run that `sim` or `run` made, and after 5 the
+/// where a command was carried out, 1 where the words are no command that is built, or name a cluster that the
+/// system of the input lacks, 2 where the command refuses its input, 3 where an item of the schedule cannot be read
+/// or applied, 4 where the input could not be read, 5 where the output could not be written, 6 where memory was
+/// refused and nothing was written, and 8 where the input is longer than is read. After 0 `ran` is the run that `sim` or `run` made, and after 5 the
 /// run whose report was being written; else it is none. For `run` each cluster has a thread, which calls the
 /// gate before it tries to send; it may wait, so that no return is promised.
 pub fn targon<R: Threads + Wait + Sync, S: Source, K: Sink, G: Gate + Sync>(
