@@ -59,5 +59,8 @@ fn are_built_words(words: &[ScriptWord]) -> bool
 fn is_built_word(word: &ScriptWord) -> bool
     ensures { result ≡ is_built_word_of word.now }
 {
-    matches!(word, ScriptWord::CrashAt { .. } | ScriptWord::CrashStep { .. })
+    matches!(
+        word,
+        ScriptWord::CrashAt { .. } | ScriptWord::CrashStep { .. }
+    )
 }

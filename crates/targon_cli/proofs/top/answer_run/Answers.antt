@@ -1,4 +1,4 @@
-use Rattle.std.proofs.Common.{◌≡◌, ℕ, List, Option, subst}
+use Rattle.std.proofs.Common.{ℕ, List, Option, subst}
 use Rattle.std.specs.Prelude.{IfOk}
 use Rattle.cluster_run.specs.declared.life.Ran.{Ran}
 use Rattle.command_words.specs.declared.command.Command.TheVariants as commands
