@@ -52,12 +52,14 @@ fn a_run_whose_report_the_sink_does_not_take_is_handed_out(rt: HostRuntime) -> R
     same("the run", &shown, &((5, true), b"tty 0".as_slice(), 1))
 }
 
-static WITHOUT: [(&[u8], &str, u8); 5] = [
+static WITHOUT: [(&[u8], &str, u8); 7] = [
     (b"plain", HI, 0),
     (b"check", HI, 0),
     (b"sim", CUT, 2),
     (b"run", CUT, 2),
     (b"sim 7", HI, 1),
+    (b"sim crash:2@bus:0", HI, 1),
+    (b"run crash:2@bus:0", HI, 1),
 ];
 
 fn called<R: AllocGlobal + Threads + Wait + Sync>(

@@ -1,7 +1,9 @@
-//! Tests of runs of clusters by the words `sim` and `run`: what is printed of them, and in which order `sim` goes. The
-//! expected values come from the worked examples of the formats, or follow from the programs by hand.
+//! Tests of runs of clusters by the words `sim` and `run`: what is printed of them, also where a cluster is lost, and in
+//! which order `sim` goes. The expected values come from the worked examples of the formats, or follow from the programs by hand.
 #![tactic(auto)]
 
+#[cfg(test)]
+mod losses;
 #[cfg(test)]
 mod picks;
 #[cfg(test)]

@@ -1,16 +1,15 @@
--- The commands that are built have no script, and a small pick.
-use Rattle.std.proofs.Common.{◌≡◌, ◌∙◌, sym, refl, ap, subst, ℕ, Bool, true, false, List, [], ◌∷◌, Option, Some, None, cond}
-use Rattle.std.specs.Prelude.{◌&&◌}
+-- The commands that are built have a script that is built, and a small pick.
+use Rattle.std.proofs.Common.{◌≡◌, refl, subst, ℕ, ◌≤◌, Bool, true, false, List, length, Option, Some, None, cond, arith}
+use Rattle.std.specs.Prelude.{◌&&◌, nat_le}
+use Rattle.std.specs.List.{list_all}
+use Rattle.std.proofs.lemmas.Bool.Decides.{nat_tests}
+use Rattle.cert_sched.specs.Built.{is_built_word}
 use Rattle.cert_sched.specs.declared.script.ScriptWord.{ScriptWord}
 use Rattle.command_words.specs.declared.command.Command.{Command}
 use Rattle.command_words.specs.declared.command.Command.TheVariants as commands
 use Rattle.command_words.specs.Command.{command_of}
 use Rattle.command_words.proofs.Picks.{SmallPick, small_pick}
-use Rattle.targon_cli.specs.Built.{has_no_word, is_built, built, has_pick, is_ready}
-
-pub no_word : (script : List ScriptWord) → has_no_word script ≡ true → script ≡ []
-no_word [] e = refl
-no_word (word ∷ words) e = cc
+use Rattle.targon_cli.specs.Built.{is_built_script, is_built, built, has_pick, is_ready}
 
 -- a command with a small pick, where it is built, is ready
 ready_with : (command : Command) (b : Bool) → b ≡ is_built command → has_pick command ≡ true → is_ready (cond b (Some command) None) ≡ true
@@ -47,8 +46,9 @@ ready_built command e = and_left (is_built command) (has_pick command) e
 pub ready_pick : (command : Command) → is_ready (Some command) ≡ true → has_pick command ≡ true
 ready_pick command e = and_right (is_built command) (has_pick command) e
 
--- `run` that is ready has no script
-pub run_plain : (command : Command) (log : Bool) (script : List ScriptWord) → command ≡ commands.Run log script → is_ready (Some command) ≡ true → commands.Run log [] ≡ command
-run_plain command log script is ready =
-    let plain : script ≡ [] = no_word script (ready_built (commands.Run log script) (subst (λ (k : Command). is_ready (Some k) ≡ true) is ready)) in
-    ap (λ words. commands.Run log words) (sym plain) ∙ sym is
+-- a script that is built has one word at most, and its words are built
+pub script_few : (script : List ScriptWord) → is_built_script script ≡ true → length script ≤ 1
+script_few script e = grind (arith, nat_tests, and_left (nat_le (length script) 1) (list_all is_built_word script) e)
+
+pub script_words_built : (script : List ScriptWord) → is_built_script script ≡ true → list_all is_built_word script ≡ true
+script_words_built script e = and_right (nat_le (length script) 1) (list_all is_built_word script) e

@@ -1,13 +1,13 @@
 -- The cause of each status.
-use Rattle.std.proofs.Common.{◌≡◌, ℕ, ◌≤◌, Bool, true, List, ◌⊎◌, inl, inr, length, refl, sym, ap, ◌∙◌, subst, arith, Option, Some, None, length-append}
+use Rattle.std.proofs.Common.{◌≡◌, ℕ, ◌≤◌, ◌<◌, Bool, true, List, ◌⊎◌, inl, inr, length, refl, sym, ap, ◌∙◌, subst, arith, Option, Some, None, length-append}
 use Rattle.std.specs.Prelude.{is_some}
 use Rattle.std.specs.Io.KnownBytes.{Consumes, Appends, Keeps}
 use Rattle.t32_base.specs.Streams.{Rose}
 use Rattle.command_words.specs.declared.command.Command.{Command}
 use Rattle.cluster_run.specs.declared.life.Ran.{Ran}
 use Rattle.targon_cli.specs.Built.{built_command_of, makes_run}
-use Rattle.targon_cli.specs.Reply.{Makes}
-use Rattle.targon_cli.specs.Answer.{In, Out, Says, Wrote, WriteFault, IsAll, ReadsTooMany, Answers, Replied, TooLong, ReadFault, OutOfMemory, IsReplied, Completes, IsCutOff, AppendsPart, IsStatus, input_limit, usage_line, AnswersFound, SaysUsage, Answered}
+use Rattle.targon_cli.specs.Reply.{Makes, usage_line}
+use Rattle.targon_cli.specs.Answer.{In, Out, Says, Wrote, WriteFault, IsAll, ReadsTooMany, Answers, Replied, TooLong, ReadFault, OutOfMemory, IsReplied, Completes, IsCutOff, AppendsPart, IsStatus, input_limit, AnswersFound, SaysUsage, Answered}
 use Rattle.targon_cli.proofs.Replies.{IsReply, status_made, run_made, no_run_made}
 
 -- the status of what is said, and its cause
@@ -39,34 +39,30 @@ replied words command status old new ended before after ran w n4 n5 n6 n8 (TooLo
 replied words command status old new ended before after ran w n4 n5 n6 n8 (ReadFault r says none) = not_said 4 _ status status before after n4 n5 says refl
 replied words command status old new ended before after ran w n4 n5 n6 n8 (OutOfMemory e keeps none) = absurd (n6 (sym e))
 
-no_reply_by : (wanted k : ℕ) → IsReply wanted → (0 ≡ k → ⊥) → (2 ≡ k → ⊥) → (3 ≡ k → ⊥) → wanted ≡ k → ⊥
-no_reply_by wanted k (inl z) n0 n2 n3 e = n0 (sym z ∙ e)
-no_reply_by wanted k (inr (inl z)) n0 n2 n3 e = n2 (sym z ∙ e)
-no_reply_by wanted k (inr (inr z)) n0 n2 n3 e = n3 (sym z ∙ e)
+no_reply_by : (wanted k : ℕ) → IsReply wanted → 3 < k → wanted ≡ k → ⊥
+no_reply_by wanted k (inl z) above e = omega (arith, z, e, above)
+no_reply_by wanted k (inr (inl z)) above e = omega (arith, z, e, above)
+no_reply_by wanted k (inr (inr (inl z))) above e = omega (arith, z, e, above)
+no_reply_by wanted k (inr (inr (inr z))) above e = omega (arith, z, e, above)
 
-no_reply : (command : Command) (bytes : List ℕ) (wanted k : ℕ) (text : List ℕ) (ran : Option Ran) → Makes command bytes wanted text ran → (0 ≡ k → ⊥) → (2 ≡ k → ⊥) → (3 ≡ k → ⊥) → wanted ≡ k → ⊥
-no_reply command bytes wanted k text ran m n0 n2 n3 e = no_reply_by wanted k (status_made command bytes wanted text ran m) n0 n2 n3 e
-
-status_1 : (command : Command) (status : ℕ) (old new : In) (ended : Bool) (before after : Out) (ran : Option Ran) → Answers command status old new ended before after ran → status ≡ 1 → ⊥
-status_1 command status old new ended before after ran (Replied bytes wanted text r m says) = not_said wanted text status 1 before after (no_reply command bytes wanted 1 text ran m (λ e. omega arith) (λ e. omega arith) (λ e. omega arith)) (λ e. omega arith) says
-status_1 command status old new ended before after ran (TooLong bytes r says none) = not_said 8 _ status 1 before after (λ e. omega arith) (λ e. omega arith) says
-status_1 command status old new ended before after ran (ReadFault r says none) = not_said 4 _ status 1 before after (λ e. omega arith) (λ e. omega arith) says
-status_1 command status old new ended before after ran (OutOfMemory e keeps none) = λ f. omega arith
+-- a status above 3 is none of a reply
+no_reply : (command : Command) (bytes : List ℕ) (wanted k : ℕ) (text : List ℕ) (ran : Option Ran) → Makes command bytes wanted text ran → 3 < k → wanted ≡ k → ⊥
+no_reply command bytes wanted k text ran m above e = no_reply_by wanted k (status_made command bytes wanted text ran m) above e
 
 status_4 : (command : Command) (status : ℕ) (old new : In) (ended : Bool) (before after : Out) (ran : Option Ran) → Answers command status old new ended before after ran → status ≡ 4 → Rose old.faults new.faults
-status_4 command status old new ended before after ran (Replied bytes wanted text r m says) = not_said wanted text status 4 before after (no_reply command bytes wanted 4 text ran m (λ e. omega arith) (λ e. omega arith) (λ e. omega arith)) (λ e. omega arith) says
+status_4 command status old new ended before after ran (Replied bytes wanted text r m says) = not_said wanted text status 4 before after (no_reply command bytes wanted 4 text ran m (omega arith)) (λ e. omega arith) says
 status_4 command status old new ended before after ran (TooLong bytes r says none) = not_said 8 _ status 4 before after (λ e. omega arith) (λ e. omega arith) says
 status_4 command status old new ended before after ran (ReadFault r says none) = λ e. r
 status_4 command status old new ended before after ran (OutOfMemory e keeps none) = λ f. absurd (omega arith)
 
 status_5 : (command : Command) (status : ℕ) (old new : In) (ended : Bool) (before after : Out) (ran : Option Ran) → Answers command status old new ended before after ran → status ≡ 5 → Rose before.faults after.faults
-status_5 command status old new ended before after ran (Replied bytes wanted text r m says) = status_5_said wanted text status before after (no_reply command bytes wanted 5 text ran m (λ e. omega arith) (λ e. omega arith) (λ e. omega arith)) says
+status_5 command status old new ended before after ran (Replied bytes wanted text r m says) = status_5_said wanted text status before after (no_reply command bytes wanted 5 text ran m (omega arith)) says
 status_5 command status old new ended before after ran (TooLong bytes r says none) = status_5_said 8 _ status before after (λ e. omega arith) says
 status_5 command status old new ended before after ran (ReadFault r says none) = status_5_said 4 _ status before after (λ e. omega arith) says
 status_5 command status old new ended before after ran (OutOfMemory e keeps none) = λ f. absurd (omega arith)
 
 status_8 : (command : Command) (status : ℕ) (old new : In) (ended : Bool) (before after : Out) (ran : Option Ran) → Answers command status old new ended before after ran → status ≡ 8 → (bytes : List ℕ) × ReadsTooMany old new bytes
-status_8 command status old new ended before after ran (Replied bytes wanted text r m says) = not_said wanted text status 8 before after (no_reply command bytes wanted 8 text ran m (λ e. omega arith) (λ e. omega arith) (λ e. omega arith)) (λ e. omega arith) says
+status_8 command status old new ended before after ran (Replied bytes wanted text r m says) = not_said wanted text status 8 before after (no_reply command bytes wanted 8 text ran m (omega arith)) (λ e. omega arith) says
 status_8 command status old new ended before after ran (TooLong bytes r says none) = λ e. (bytes, r)
 status_8 command status old new ended before after ran (ReadFault r says none) = not_said 4 _ status 8 before after (λ e. omega arith) (λ e. omega arith) says
 status_8 command status old new ended before after ran (OutOfMemory e keeps none) = λ f. absurd (omega arith)
@@ -77,8 +73,9 @@ is_status_said wanted text status old new w (WriteFault e r a) = subst IsStatus 
 
 is_status_made : (wanted : ℕ) → IsReply wanted → IsStatus wanted
 is_status_made wanted (inl z) = inl z
-is_status_made wanted (inr (inl z)) = inr (inr (inl z))
-is_status_made wanted (inr (inr z)) = inr (inr (inr (inl z)))
+is_status_made wanted (inr (inl z)) = inr (inl z)
+is_status_made wanted (inr (inr (inl z))) = inr (inr (inl z))
+is_status_made wanted (inr (inr (inr z))) = inr (inr (inr (inl z)))
 
 is_status : (command : Command) (status : ℕ) (old new : In) (ended : Bool) (before after : Out) (ran : Option Ran) → Answers command status old new ended before after ran → IsStatus status
 is_status command status old new ended before after ran (Replied bytes wanted text r m says) = is_status_said wanted text status before after (is_status_made wanted (status_made command bytes wanted text ran m)) says
@@ -112,7 +109,8 @@ none_there (Some r) e h = cc
 run_reply : (command : Command) (bytes : List ℕ) (wanted : ℕ) (text : List ℕ) (ran : Option Ran) → Makes command bytes wanted text ran → is_some ran ≡ true → IsReply wanted → Makes command bytes 0 text ran
 run_reply command bytes wanted text ran m h (inl z) = subst (λ k. Makes command bytes k text ran) z m
 run_reply command bytes wanted text ran m h (inr (inl z)) = none_there ran (no_run_made command bytes wanted text ran m (λ e. absurd (omega arith))) h
-run_reply command bytes wanted text ran m h (inr (inr z)) = none_there ran (no_run_made command bytes wanted text ran m (λ e. absurd (omega arith))) h
+run_reply command bytes wanted text ran m h (inr (inr (inl z))) = none_there ran (no_run_made command bytes wanted text ran m (λ e. absurd (omega arith))) h
+run_reply command bytes wanted text ran m h (inr (inr (inr z))) = none_there ran (no_run_made command bytes wanted text ran m (λ e. absurd (omega arith))) h
 
 cut_off : (words : List (List ℕ)) (command : Command) (status : ℕ) (old new : In) (ended : Bool) (before after : Out) (ran : Option Ran) → built_command_of words ≡ Some command
     → Answers command status old new ended before after ran → status ≡ 5 → is_some ran ≡ true → IsCutOff words old new ended before after ran
@@ -123,7 +121,7 @@ cut_off words command status old new ended before after ran w (Replied bytes wan
   text = text;
   read = r;
   made = run_reply command bytes wanted text ran m h (status_made command bytes wanted text ran m);
-  written = front wanted text status before after (no_reply command bytes wanted 5 text ran m (λ e. omega arith) (λ e. omega arith) (λ e. omega arith)) says e;
+  written = front wanted text status before after (no_reply command bytes wanted 5 text ran m (omega arith)) says e;
 }
 cut_off words command status old new ended before after ran w (TooLong bytes r says none) e h = none_there ran none h
 cut_off words command status old new ended before after ran w (ReadFault r says none) e h = none_there ran none h
@@ -181,7 +179,7 @@ answered words status old new ended before after ran usage unran command = recor
   usage = usage;
   command = command;
   status_0 = λ e. by_words (λ n. no_usage_at 0 (λ e. omega arith) (λ e. omega arith) (λ e. omega arith) n e) (λ c w. at_reply e c w);
-  status_1 = λ e. by_words (λ n. n) (λ c w. absurd (status_1 c status old new ended before after ran (command c w) e));
+  status_1 = λ e. by_words (λ n. inl n) (λ c w. inr (at_reply_1 e c w));
   status_2 = λ e. by_words (λ n. no_usage_at 2 (λ e. omega arith) (λ e. omega arith) (λ e. omega arith) n e) (λ c w. at_reply_2 e c w);
   status_3 = λ e. by_words (λ n. no_usage_at 3 (λ e. omega arith) (λ e. omega arith) (λ e. omega arith) n e) (λ c w. at_reply_3 e c w);
   status_4 = λ e. by_words (λ n. no_usage_at 4 (λ e. omega arith) (λ e. omega arith) (λ e. omega arith) n e) (λ c w. status_4 c status old new ended before after ran (command c w) e);
@@ -206,6 +204,9 @@ answered words status old new ended before after ran usage unran command = recor
 
     at_reply : status ≡ 0 → (c : Command) → built_command_of words ≡ Some c → IsReplied words status old new ended before after ran
     at_reply e c w = replied words c status old new ended before after ran w (λ f. omega arith) (λ f. omega arith) (λ f. omega arith) (λ f. omega arith) (command c w)
+
+    at_reply_1 : status ≡ 1 → (c : Command) → built_command_of words ≡ Some c → IsReplied words status old new ended before after ran
+    at_reply_1 e c w = replied words c status old new ended before after ran w (λ f. omega arith) (λ f. omega arith) (λ f. omega arith) (λ f. omega arith) (command c w)
 
     at_reply_2 : status ≡ 2 → (c : Command) → built_command_of words ≡ Some c → IsReplied words status old new ended before after ran
     at_reply_2 e c w = replied words c status old new ended before after ran w (λ f. omega arith) (λ f. omega arith) (λ f. omega arith) (λ f. omega arith) (command c w)

@@ -1,10 +1,11 @@
 -- Why a command ended as it did.
-use Rattle.std.proofs.Common.{◌≡◌, ◌∙◌, sym, refl, ap, subst, ℕ, Bool, true, false, List, [], ◌∷◌, ◌⊎◌, inl, inr, Option, Some, None, Global, arith, cond}
+use Rattle.std.proofs.Common.{◌≡◌, sym, refl, subst, ℕ, Bool, true, false, List, [], ◌∷◌, ◌⊎◌, inl, inr, Option, Some, None, Global, arith, cond}
 use Rattle.std.specs.Prelude.{◌==◌, Result, Ok, Err, IfOk, is_some}
 use Rattle.std.proofs.lemmas.Bool.Decides.{nat_tests}
 use Rattle.std.specs.declared.sync.Arc.{Arc}
 use Rattle.t32_base.specs.declared.streams.NoMemory.{NoMemory}
 use Rattle.cluster_run.specs.declared.life.Ran.{Ran}
+use Rattle.cert_sched.specs.declared.script.ScriptWord.{ScriptWord}
 use Rattle.command_words.specs.declared.command.Command.{Command}
 use Rattle.refusal_text.specs.Why.{why_of}
 use Rattle.refusal_text.specs.declared.why.Why.{Why}
@@ -15,7 +16,7 @@ use Rattle.targon_cli.specs.declared.runs.Read.TheVariants.{System as AsSystem}
 use Rattle.targon_cli.specs.Answer.{In, Out, ReadsAll, Says, Wrote, WriteFault}
 use Rattle.targon_cli.specs.Reply.{IsRead}
 use Rattle.targon_cli.specs.Sections.{items_of_lines}
-use Rattle.targon_cli.specs.Explained.{Explains, ExplainsSystem, ExplainsSection, ExplainsRunBy, IsByStatus, HandsWhy, ExplainsEnd, ByInput, ByStatus, ExplainsFound, Explained}
+use Rattle.targon_cli.specs.Explained.{Explains, ExplainsRun, ExplainsSection, ExplainsRunBy, IsByStatus, HandsWhy, ExplainsEnd, ByInput, ByStatus, ExplainsFound, Explained}
 use Rattle.targon_cli.specs.Built.{built_command_of}
 
 -- the status of what is said tells why, where the wanted one does
@@ -65,17 +66,11 @@ pub ends_same : (command other : Command) (status : ℕ) (old new : In) (ended :
     → ExplainsEnd other status old new ended why
 ends_same command other status old new ended why same ends = subst (λ (c : Command). ExplainsEnd c status old new ended why) same ends
 
--- a system that was read is told of with nothing to explain
-pub nothing_to_explain : (reading : Answer) (lines : List (List ℕ)) (shared : Arc System Global) (status : ℕ) (why : Option Why) → IsRead reading (AsSystem shared) → status ≡ 0 → why ≡ None
-    → ExplainsSystem reading lines status why
-nothing_to_explain (Ok system) lines shared status why is e n = (e, n)
-nothing_to_explain (Err refused) lines shared status why is e n = absurd is
-
--- also where nothing could be told
-pub told_explains : (reading : Answer) (lines : List (List ℕ)) (shared : Arc System Global) (told : Result (Reply × Option Ran) NoMemory) → IsRead reading (AsSystem shared)
-    → IfOk told (λ (r : Reply × Option Ran). ((r.0).status ≡ 0) × ((r.0).why ≡ None)) → IfOk told (λ (r : Reply × Option Ran). ExplainsSystem reading lines (r.0).status (r.0).why)
-told_explains reading lines shared (Ok r) is done = nothing_to_explain reading lines shared (r.0).status (r.0).why is done.0 done.1
-told_explains reading lines shared (Err e) is done = tt
+-- a system that has the clusters of its script is told of with nothing to explain
+pub nothing_to_explain : (reading : Answer) (script : List ScriptWord) (lines : List (List ℕ)) (shared : Arc System Global) (status : ℕ) (why : Option Why) → IsRead reading script (AsSystem shared) → status ≡ 0 → why ≡ None
+    → ExplainsRun reading script lines status why
+nothing_to_explain (Ok system) script lines shared status why is e n = rw is.2 (e, n)
+nothing_to_explain (Err refused) script lines shared status why is e n = absurd is
 
 -- a section that has lines is explained
 pub section_explains : (system : System) (lines : List (List ℕ)) (status : ℕ) (why : Option Why) → (lines ≡ [] → ⊥) → ExplainsSection system lines (items_of_lines lines) status why → ExplainsRunBy system lines status why

@@ -1,5 +1,5 @@
 -- The replies of commands: their statuses, and which of them have a run.
-use Rattle.std.proofs.Common.{◌≡◌, ℕ, Bool, true, List, [], ◌∷◌, ◌⊎◌, inl, inr, refl, arith, Option, Some, None}
+use Rattle.std.proofs.Common.{◌≡◌, ℕ, Bool, true, false, List, [], ◌∷◌, ◌⊎◌, inl, inr, refl, arith, Option, Some, None}
 use Rattle.std.specs.Prelude.{Ok, Err, Result, is_some}
 use Rattle.command_words.specs.declared.command.Command.{Command}
 use Rattle.command_words.specs.declared.command.Command.TheVariants as commands
@@ -11,22 +11,22 @@ use Rattle.plain_kernel.specs.declared.item.Item.{Item}
 use Rattle.text_parts.specs.Lines.{lines_of}
 use Rattle.cluster_run.specs.declared.life.Ran.{Ran}
 use Rattle.targon_cli.specs.Built.{makes_run}
-use Rattle.targon_cli.specs.Reply.{Makes, MakesPlain, MakesCheck, MakesAsm, MakesRun, TellsOfRun, RunsBy, FollowsSection, Follows, Applied, Refused}
+use Rattle.targon_cli.specs.Reply.{Makes, MakesPlain, MakesCheck, MakesAsm, MakesRun, MakesByScript, has_clusters_of, TellsOfRun, RunsBy, FollowsSection, Follows, Applied, Refused}
 use Rattle.targon_cli.specs.Sections.{system_part, section_part, items_of_lines}
 
 -- ---- the status
 
--- a reply has the status 0, 2 or 3
+-- a reply has the status 0, 1, 2 or 3
 abbrev pub IsReply : ℕ → Type 0
-IsReply wanted = (wanted ≡ 0) ⊎ (wanted ≡ 2) ⊎ (wanted ≡ 3)
+IsReply wanted = (wanted ≡ 0) ⊎ (wanted ≡ 1) ⊎ (wanted ≡ 2) ⊎ (wanted ≡ 3)
 
 status_of_items : (system : System) (items : List Item) (wanted : ℕ) (text : List ℕ) → Follows system items wanted text → IsReply wanted
 status_of_items system items wanted text (Applied kernel r e t) = inl e
-status_of_items system items wanted text (Refused index r e t) = inr (inr e)
+status_of_items system items wanted text (Refused index r e t) = inr (inr (inr e))
 
 status_of_section : (system : System) (reading : Result (List Item) ℕ) (wanted : ℕ) (text : List ℕ) → FollowsSection system reading wanted text → IsReply wanted
 status_of_section system (Ok items) wanted text m = status_of_items system items wanted text m
-status_of_section system (Err index) wanted text m = inr (inr m.0)
+status_of_section system (Err index) wanted text m = inr (inr (inr m.0))
 
 status_of_run : (system : System) (section : List (List ℕ)) (wanted : ℕ) (text : List ℕ) → RunsBy system section wanted text → IsReply wanted
 status_of_run system [] wanted text m = inl m.0
@@ -34,23 +34,27 @@ status_of_run system (line ∷ lines) wanted text m = status_of_section system (
 
 status_of_plain : (reading : _) (section : List (List ℕ)) (wanted : ℕ) (text : List ℕ) → MakesPlain reading section wanted text → IsReply wanted
 status_of_plain (Ok system) section wanted text m = status_of_run system section wanted text m
-status_of_plain (Err refused) section wanted text m = inr (inl m.0)
+status_of_plain (Err refused) section wanted text m = inr (inr (inl m.0))
 
 status_of_check : (reading : _) (wanted : ℕ) (text : List ℕ) → MakesCheck reading wanted text → IsReply wanted
 status_of_check (Ok system) wanted text m = inl m.0
-status_of_check (Err refused) wanted text m = inr (inl m.0)
+status_of_check (Err refused) wanted text m = inr (inr (inl m.0))
 
 status_of_asm : (reading : _) (wanted : ℕ) (text : List ℕ) → MakesAsm reading wanted text → IsReply wanted
 status_of_asm (Ok words) wanted text m = inl m.0
-status_of_asm (Err refused) wanted text m = inr (inl m.0)
+status_of_asm (Err refused) wanted text m = inr (inr (inl m.0))
 
 status_of_tale : (system : System) (script : List ScriptWord) (log : Bool) (wanted : ℕ) (text : List ℕ) (ran : Option Ran) → TellsOfRun system script log wanted text ran → IsReply wanted
 status_of_tale system script log wanted text None m = absurd m
 status_of_tale system script log wanted text (Some r) m = inl m.0
 
+status_of_script : (has : Bool) (system : System) (script : List ScriptWord) (log : Bool) (wanted : ℕ) (text : List ℕ) (ran : Option Ran) → MakesByScript has system script log wanted text ran → IsReply wanted
+status_of_script true system script log wanted text ran m = status_of_tale system script log wanted text ran m
+status_of_script false system script log wanted text ran m = inr (inl m.0)
+
 status_of_ran : (reading : _) (script : List ScriptWord) (log : Bool) (wanted : ℕ) (text : List ℕ) (ran : Option Ran) → MakesRun reading script log wanted text ran → IsReply wanted
-status_of_ran (Ok system) script log wanted text ran m = status_of_tale system script log wanted text ran m
-status_of_ran (Err refused) script log wanted text ran m = inr (inl m.0)
+status_of_ran (Ok system) script log wanted text ran m = status_of_script (has_clusters_of script system) system script log wanted text ran m
+status_of_ran (Err refused) script log wanted text ran m = inr (inr (inl m.0))
 
 pub status_made : (command : Command) (bytes : List ℕ) (wanted : ℕ) (text : List ℕ) (ran : Option Ran) → Makes command bytes wanted text ran → IsReply wanted
 status_made commands.Plain bytes wanted text ran m = status_of_plain (system_of_lines (system_part (lines_of bytes))) (section_part (lines_of bytes)) wanted text m.0
@@ -66,8 +70,12 @@ tale_has_run : (system : System) (script : List ScriptWord) (log : Bool) (text :
 tale_has_run system script log text None m = absurd m
 tale_has_run system script log text (Some r) m = refl
 
+script_has_run : (has : Bool) (system : System) (script : List ScriptWord) (log : Bool) (text : List ℕ) (ran : Option Ran) → MakesByScript has system script log 0 text ran → is_some ran ≡ true
+script_has_run true system script log text ran m = tale_has_run system script log text ran m
+script_has_run false system script log text ran m = absurd (omega (arith, m.0))
+
 ran_has_run : (reading : _) (script : List ScriptWord) (log : Bool) (text : List ℕ) (ran : Option Ran) → MakesRun reading script log 0 text ran → is_some ran ≡ true
-ran_has_run (Ok system) script log text ran m = tale_has_run system script log text ran m
+ran_has_run (Ok system) script log text ran m = script_has_run (has_clusters_of script system) system script log text ran m
 ran_has_run (Err refused) script log text ran m = absurd (omega (arith, m.0))
 
 -- what is done by `sim` or `run` has a run, and by another command none
@@ -83,8 +91,12 @@ no_tale : (system : System) (script : List ScriptWord) (log : Bool) (wanted : �
 no_tale system script log wanted text None m n = refl
 no_tale system script log wanted text (Some r) m n = absurd (n m.0)
 
+no_run_by_script : (has : Bool) (system : System) (script : List ScriptWord) (log : Bool) (wanted : ℕ) (text : List ℕ) (ran : Option Ran) → MakesByScript has system script log wanted text ran → (wanted ≡ 0 → ⊥) → ran ≡ None
+no_run_by_script true system script log wanted text ran m n = no_tale system script log wanted text ran m n
+no_run_by_script false system script log wanted text ran m n = m.2
+
 no_ran : (reading : _) (script : List ScriptWord) (log : Bool) (wanted : ℕ) (text : List ℕ) (ran : Option Ran) → MakesRun reading script log wanted text ran → (wanted ≡ 0 → ⊥) → ran ≡ None
-no_ran (Ok system) script log wanted text ran m n = no_tale system script log wanted text ran m n
+no_ran (Ok system) script log wanted text ran m n = no_run_by_script (has_clusters_of script system) system script log wanted text ran m n
 no_ran (Err refused) script log wanted text ran m n = m.2
 
 -- a refusal has no run

@@ -7,14 +7,11 @@ use Rattle.command_words.specs.declared.command.Command.{Command}
 use Rattle.targon_cli.specs.declared.reply.Reply.{Reply}
 use Rattle.targon_cli.specs.Built.{built_command_of, makes_run}
 use Rattle.cluster_run.specs.declared.life.Ran.{Ran}
-use Rattle.targon_cli.specs.Reply.{Makes}
+use Rattle.targon_cli.specs.Reply.{Makes, usage_line}
 
 -- the most bytes that are read
 abbrev pub input_limit : ℕ
 input_limit = 4194304
-
-abbrev pub usage_line : List ℕ
-usage_line = codes "t32: usage\n"
 
 abbrev pub read_fault_line : List ℕ
 read_fault_line = codes "t32: read fault\n"
@@ -121,9 +118,10 @@ pub record Answered (words : List (List ℕ)) (status : ℕ) (old new : In) (end
   pub usage : built_command_of words ≡ None → SaysUsage status before after
   -- the words are one
   pub command : (command : Command) → built_command_of words ≡ Some command → Answers command status old new ended before after ran
-  -- each status has its cause: 0 that a command was carried out, and 2 and 3 that it refuses its input
+  -- each status has its cause: 0 that a command was carried out, 1 that the words are no command that is built or name a cluster that the system of
+  -- the input lacks, and 2 and 3 that the command refuses its input
   pub status_0 : status ≡ 0 → IsReplied words status old new ended before after ran
-  pub status_1 : status ≡ 1 → built_command_of words ≡ None
+  pub status_1 : status ≡ 1 → (built_command_of words ≡ None) ⊎ IsReplied words status old new ended before after ran
   pub status_2 : status ≡ 2 → IsReplied words status old new ended before after ran
   pub status_3 : status ≡ 3 → IsReplied words status old new ended before after ran
   pub status_4 : status ≡ 4 → Rose old.faults new.faults

@@ -1,22 +1,23 @@
 -- What is built of the commands, by their words.
-use Rattle.std.specs.Prelude.{ℕ, ◌^◌, ◌&&◌, Bool, true, false, nat_lt, if◌then◌else◌, List, [], ◌∷◌, Option, Some, None, option_and_then}
+use Rattle.std.specs.Prelude.{ℕ, ◌^◌, ◌&&◌, Bool, true, false, nat_lt, nat_le, if◌then◌else◌, List, length, Option, Some, None, option_and_then}
+use Rattle.std.specs.List.{list_all}
+use Rattle.cert_sched.specs.Built.{is_built_word}
 use Rattle.cert_sched.specs.declared.script.ScriptWord.{ScriptWord}
 use Rattle.command_words.specs.declared.command.Command.{Command}
 use Rattle.command_words.specs.declared.command.Command.TheVariants as commands
 use Rattle.command_words.specs.Command.{command_of}
 
--- no cluster is lost or returns
-abbrev pub has_no_word : List ScriptWord → Bool
-has_no_word [] = true
-has_no_word (word ∷ words) = false
+-- a script is built that has at most one word, by which a cluster is lost at a place of the log or at a step
+abbrev pub is_built_script : List ScriptWord → Bool
+is_built_script script = nat_le (length script) 1 && list_all is_built_word script
 
--- built is all but `load`, and `sim` and `run` without script words
+-- built is all but `load`, and `sim` and `run` with such a script
 abbrev pub is_built : Command → Bool
 is_built commands.Plain = true
 is_built commands.Check = true
 is_built commands.Asm = true
-is_built (commands.Sim pick log script) = has_no_word script
-is_built (commands.Run log script) = has_no_word script
+is_built (commands.Sim pick log script) = is_built_script script
+is_built (commands.Run log script) = is_built_script script
 is_built (commands.Load size text script) = false
 
 abbrev pub built : Command → Option Command

@@ -1,5 +1,5 @@
 -- Why the program ended as it did, by its words and its input.
-use Rattle.std.specs.Prelude.{ℕ, ◌≡◌, ◌⊎◌, Bool, true, List, [], ◌∷◌, Option, Some, None, is_some, Result, Ok, Err}
+use Rattle.std.specs.Prelude.{ℕ, ◌≡◌, ◌⊎◌, Bool, true, false, List, [], ◌∷◌, Option, Some, None, is_some, Result, Ok, Err}
 use Rattle.command_words.specs.declared.command.Command.{Command}
 use Rattle.command_words.specs.declared.command.Command.TheVariants as commands
 use Rattle.plain_kernel.specs.Answers.{BadAt}
@@ -9,12 +9,14 @@ use Rattle.plain_kernel.specs.declared.item.Item.{Item}
 use Rattle.refusal_text.specs.Why.{Says, system_why, asm_why, item_why, why_of, text_of, headline}
 use Rattle.refusal_text.specs.declared.why.ItemFault.TheVariants.{Unreadable, Inapplicable}
 use Rattle.refusal_text.specs.declared.why.Why.{Why}
+use Rattle.refusal_text.specs.declared.why.Why.TheVariants as whys
 use Rattle.rv_asm.specs.Program.{reading_of as asm_reading}
 use Rattle.rv_asm.specs.Refusal.{number_of_rule as asm_rule}
 use Rattle.rv_asm.specs.declared.refusal.Rule.{Rule as AsmRule}
 use Rattle.sys_text.specs.Reading.{Answer, reading_of as system_reading, system_of_lines}
 use Rattle.sys_text.specs.Refusal.{number_of_rule as system_rule}
 use Rattle.sys_text.specs.declared.system.System.{System}
+use Rattle.cert_sched.specs.declared.script.ScriptWord.{ScriptWord}
 use Rattle.text_parts.specs.Lines.{lines_of}
 use Rattle.targon_cli.specs.declared.runs.Read.{Read}
 use Rattle.targon_cli.specs.declared.runs.Read.TheVariants.{System as AsSystem, Refused as AsRefused}
@@ -23,6 +25,7 @@ use Rattle.t32_base.specs.declared.streams.NoMemory.{NoMemory}
 use Rattle.cluster_run.specs.declared.life.Ran.{Ran}
 use Rattle.targon_cli.specs.Answer.{In, Out, ReadsAll, Says as Writes}
 use Rattle.targon_cli.specs.Built.{built_command_of}
+use Rattle.targon_cli.specs.Reply.{has_clusters_of}
 use Rattle.targon_cli.specs.Sections.{system_part, section_part, items_of_lines}
 
 -- this is said, or less of it
@@ -39,10 +42,20 @@ abbrev pub ExplainsAsm : Result (List ℕ) (ℕ × AsmRule) → List (List ℕ) 
 ExplainsAsm (Ok words) lines status why = (status ≡ 0) × (why ≡ None)
 ExplainsAsm (Err refused) lines status why = (status ≡ 2) × SaysSome (asm_why lines refused.0 (asm_rule refused.1)) why
 
--- a text that is not read as a system is explained
-abbrev pub ExplainsRead : Answer → List (List ℕ) → Read → Type 0
-ExplainsRead reading lines (AsSystem shared) = Unit {0}
-ExplainsRead reading lines (AsRefused reply) = ExplainsSystem reading lines reply.status reply.why
+-- a system has the clusters of the script; or it is told that it lacks one
+abbrev pub ExplainsByScript : (has : Bool) → (status : ℕ) → Option Why → Type 0
+ExplainsByScript true status why = (status ≡ 0) × (why ≡ None)
+ExplainsByScript false status why = (status ≡ 1) × (why ≡ Some whys.NoCluster)
+
+-- a text is read as a system that has the clusters of the script, or it is told why not
+abbrev pub ExplainsRun : Answer → List ScriptWord → List (List ℕ) → (status : ℕ) → Option Why → Type 0
+ExplainsRun (Ok system) script lines status why = ExplainsByScript (has_clusters_of script system) status why
+ExplainsRun (Err refused) script lines status why = (status ≡ 2) × SaysSome (system_why lines refused.0 (system_rule refused.1)) why
+
+-- where no such system was read, this is explained
+abbrev pub ExplainsRead : Answer → List ScriptWord → List (List ℕ) → Read → Type 0
+ExplainsRead reading script lines (AsSystem shared) = Unit {0}
+ExplainsRead reading script lines (AsRefused reply) = ExplainsRun reading script lines reply.status reply.why
 
 -- items are applied, or the first that cannot be is told
 pub data ExplainsItems (system : System) (section : List (List ℕ)) (items : List Item) (status : ℕ) (why : Option Why) : Type 0 where
@@ -68,8 +81,8 @@ abbrev pub Explains : Command → (bytes : List ℕ) → (status : ℕ) → Opti
 Explains commands.Plain bytes status why = ExplainsPlain (system_of_lines (system_part (lines_of bytes))) (system_part (lines_of bytes)) (section_part (lines_of bytes)) status why
 Explains commands.Check bytes status why = ExplainsSystem (system_reading bytes) (lines_of bytes) status why
 Explains commands.Asm bytes status why = ExplainsAsm (asm_reading bytes) (lines_of bytes) status why
-Explains (commands.Sim pick log script) bytes status why = ExplainsSystem (system_reading bytes) (lines_of bytes) status why
-Explains (commands.Run log script) bytes status why = ExplainsSystem (system_reading bytes) (lines_of bytes) status why
+Explains (commands.Sim pick log script) bytes status why = ExplainsRun (system_reading bytes) script (lines_of bytes) status why
+Explains (commands.Run log script) bytes status why = ExplainsRun (system_reading bytes) script (lines_of bytes) status why
 Explains (commands.Load size only script) bytes status why = ⊥
 
 -- the status alone tells why

@@ -21,6 +21,7 @@ use Rattle.plain_kernel.specs.declared.item.Item.{Item}
 use Rattle.cert_sched.specs.declared.script.ScriptWord.{ScriptWord}
 use Rattle.plain_kernel.specs.Apply.{plain_run}
 use Rattle.plain_kernel.specs.Answers.{BadAt}
+use Rattle.command_words.specs.Script.{are_allowed}
 use Rattle.text_parts.specs.Lines.{lines_of}
 use Rattle.targon_cli.specs.Sections.{system_part, section_part, items_of_lines}
 use Rattle.report_text.specs.Report.{plain_report}
@@ -28,6 +29,10 @@ use Rattle.report_text.specs.declared.run.Run.{Run}
 use Rattle.report_text.specs.RunReport.{report_of, log_text_of}
 use Rattle.cluster_run.specs.declared.life.Ran.{Ran}
 use Rattle.cluster_run.specs.Completed.{IsCompleted}
+
+-- the words are no command, or one of them names a cluster that the system lacks
+abbrev pub usage_line : List ℕ
+usage_line = codes "t32: usage\n"
 
 -- a refused text, with its line and its rule
 abbrev pub system_line : (line rule : ℕ) → List ℕ
@@ -75,6 +80,10 @@ abbrev pub run_text : (log : Bool) → Kernel → Run → List ℕ
 run_text false kernel r = report_of kernel r
 run_text true kernel r = report_of kernel r ++ log_text_of r.log
 
+-- the text tells of the run, and of the kernel to which its schedule leads
+abbrev pub IsTextOf : System → (log : Bool) → Run → (text : List ℕ) → Type 0
+IsTextOf system log r text = (kernel : Kernel) × (plain_run system r.items ≡ Some kernel) × (text ≡ run_text log kernel r)
+
 -- The run is what its system and its script allow, and came to its end; its clusters did its work. Its schedule leads to a kernel in which nothing
 -- can move, and of this kernel and of the run the text tells.
 pub record TellsOf (system : System) (script : List ScriptWord) (log : Bool) (text : List ℕ) (ran : Ran) : Type 0 where
@@ -88,17 +97,26 @@ abbrev pub TellsOfRun : System → List ScriptWord → (log : Bool) → (status 
 TellsOfRun system script log status text None = ⊥
 TellsOfRun system script log status text (Some ran) = (status ≡ 0) × TellsOf system script log text ran
 
--- a text was read as its system, or refused
-abbrev pub IsRead : Answer → Read → Type 0
-IsRead (Ok system) (AsSystem shared) = (arc_value shared ≡ system) × (is_system system ≡ true)
-IsRead (Ok system) (AsRefused reply) = ⊥
-IsRead (Err refused) (AsSystem shared) = ⊥
-IsRead (Err refused) (AsRefused reply) = (reply.status ≡ 2) × (reply.text ≡ system_line refused.0 (system_rule refused.1))
+-- the system has the cluster of each word of the script
+abbrev pub has_clusters_of : List ScriptWord → System → Bool
+has_clusters_of script system = are_allowed system.clusters system.pager script
 
--- each system is run and told of, on one thread or on many
+-- what a system makes of its script: a run that is told of, on one thread or on many; or usage, where it lacks a cluster of the script
+abbrev pub MakesByScript : (has : Bool) → System → List ScriptWord → (log : Bool) → (status : ℕ) → (text : List ℕ) → Option Ran → Type 0
+MakesByScript true system script log status text ran = TellsOfRun system script log status text ran
+MakesByScript false system script log status text ran = (status ≡ 1) × (text ≡ usage_line) × (ran ≡ None)
+
+-- the text is asked first, and then the script
 abbrev pub MakesRun : Answer → List ScriptWord → (log : Bool) → (status : ℕ) → (text : List ℕ) → Option Ran → Type 0
-MakesRun (Ok system) script log status text ran = TellsOfRun system script log status text ran
+MakesRun (Ok system) script log status text ran = MakesByScript (has_clusters_of script system) system script log status text ran
 MakesRun (Err refused) script log status text ran = (status ≡ 2) × (text ≡ system_line refused.0 (system_rule refused.1)) × (ran ≡ None)
+
+-- a text was read as its system, which has the clusters of the script; or what is answered where there is no such system
+abbrev pub IsRead : Answer → List ScriptWord → Read → Type 0
+IsRead (Ok system) script (AsSystem shared) = (arc_value shared ≡ system) × (is_system system ≡ true) × (has_clusters_of script system ≡ true)
+IsRead (Ok system) script (AsRefused reply) = (has_clusters_of script system ≡ false) × (reply.status ≡ 1) × (reply.text ≡ usage_line)
+IsRead (Err refused) script (AsSystem shared) = ⊥
+IsRead (Err refused) script (AsRefused reply) = (reply.status ≡ 2) × (reply.text ≡ system_line refused.0 (system_rule refused.1))
 
 -- ---- any command
 

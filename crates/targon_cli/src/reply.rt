@@ -10,8 +10,9 @@ ghost use Rattle.targon_cli.specs.Sections.{section_part, system_part};
 ghost use Rattle.sys_text.specs.Valid.{is_system};
 ghost use Rattle.targon_cli.specs.Built.{has_pick, is_built, needs_threads};
 ghost use Rattle.refusal_text.specs.Why.{asm_why as asm_why_of, item_why as item_why_of, system_why as system_why_of};
+ghost use Rattle.refusal_text.specs.declared.why.Why.TheVariants.{NoCluster};
 ghost use Rattle.targon_cli.specs.Explained.{Explains, ExplainsAsm, ExplainsItems, ExplainsPlain, ExplainsRunBy, ExplainsSystem, SaysSome};
-ghost use Rattle.targon_cli.specs.Reply.{asm_line, Follows, Makes, MakesAsm, MakesCheck, MakesPlain, RunsBy, schedule_line, system_line};
+ghost use Rattle.targon_cli.specs.Reply.{asm_line, Follows, Makes, MakesAsm, MakesCheck, MakesPlain, RunsBy, schedule_line, system_line, usage_line};
 
 use crate::runs::simulate;
 use crate::sections::split_at_section;
@@ -32,6 +33,9 @@ use t32_base::streams::NoMemory;
 
 /// The status where all was done.
 pub const DONE: u8 = 0;
+
+/// The status where the words are no command, or name a cluster that the system lacks.
+pub const USAGE: u8 = 1;
 
 /// The status where the input is refused.
 pub const REFUSED: u8 = 2;
@@ -64,7 +68,7 @@ pub fn carry_out(
         Command::Plain => Ok((plain(alloc, bytes)?, None)),
         Command::Check => Ok((check(alloc, bytes)?, None)),
         Command::Asm => Ok((asm(alloc, bytes)?, None)),
-        Command::Sim { pick, log, .. } => simulate(alloc, bytes, pick, log),
+        Command::Sim { pick, log, script } => simulate(alloc, bytes, pick, log, &script),
         Command::Run { .. } | Command::Load { .. } => unreachable!(),
     }
 }
@@ -172,6 +176,18 @@ fn asm(alloc: Global, bytes: &[u8]) -> Result<Reply, NoMemory>
         Err(AsmRefused::Line { line, rule }) => refused_asm(alloc, bytes, line, rule),
         Err(AsmRefused::NoMemory) => Err(NoMemory),
     }
+}
+
+/// The reply where a word of the script names a cluster that the system lacks.
+pub fn no_cluster(alloc: Global) -> Result<Reply, NoMemory>
+    ensures makes { IfOk result (λ r. (r.status ≡ 1) × (r.text ≡ usage_line)) }
+    ensures why { IfOk result (λ r. r.why ≡ Some NoCluster) }
+{
+    Ok(Reply {
+        status: USAGE,
+        text: Bytes::copy_of(alloc, b"t32: usage\n")?,
+        why: Some(Why::NoCluster),
+    })
 }
 
 /// The reply for a text that is no system.

@@ -1,20 +1,22 @@
 //! What `sim` and `run` make of the bytes of their input: a run of clusters, and what is written of it.
-ghost use Rattle.std.specs.Prelude.{◌≡◌, ◌<◌, ◌^◌, [], IfOk, None, true};
-ghost use Rattle.plain_kernel.specs.Apply.{plain_run};
-ghost use Rattle.plain_kernel.specs.Kernel.{Kernel};
-ghost use Rattle.report_text.specs.Good.{IsGoodBuilt};
-ghost use Rattle.report_text.specs.declared.run.Ended.TheVariants.{Finished};
+ghost use Rattle.std.specs.Prelude.{ℕ, ◌≡◌, ◌<◌, ◌^◌, IfOk, List, None, Ok, true};
+ghost use Rattle.cert_sched.specs.Built.{BuiltMayFollow};
+ghost use Rattle.cert_sched.specs.Legal.{IsLegalBy};
+ghost use Rattle.cert_sched.specs.Schedule.{schedule_of};
+ghost use Rattle.cert_sched.specs.Scripted.{is_finished};
 ghost use Rattle.sys_text.specs.Reading.{reading_of as system_reading};
 ghost use Rattle.sys_text.specs.Valid.{is_system};
-ghost use Rattle.cluster_run.specs.Completed.{IsCompleted};
 ghost use Rattle.text_parts.specs.Lines.{lines_of};
-ghost use Rattle.targon_cli.specs.Explained.{ExplainsRead, ExplainsSystem};
-ghost use Rattle.targon_cli.specs.Reply.{IsRead, MakesRun, run_text as run_text_of, TellsOfRun};
+ghost use Rattle.targon_cli.specs.Built.{is_built_script};
+ghost use Rattle.targon_cli.specs.Explained.{ExplainsRead, ExplainsRun};
+ghost use Rattle.targon_cli.specs.Reply.{IsRead, IsTextOf, MakesRun};
 
-use crate::reply::{DONE, Reply, refused_system};
+use crate::reply::{DONE, Reply, no_cluster, refused_system};
+use cert_sched::script::Script;
 use cluster_run::life::Ran;
 use cluster_run::running::run;
 use cluster_run::sim::sim;
+use command_words::allowed;
 use report_text::run::Run;
 use report_text::whole::{finished_report, log_text};
 use std::alloc::Global;
@@ -26,62 +28,68 @@ use t32_base::gate::Gate;
 use t32_base::lists::Text;
 use t32_base::streams::NoMemory;
 
-/// Runs the clusters of a system text on one thread. The reply tells of the run, also of its log where that is
-/// asked for.
+/// Runs the clusters of a system text on one thread, and loses them by the script. The reply tells of the run, also
+/// of its log where that is asked for.
 pub fn simulate(
     alloc: Global,
     bytes: &[u8],
     pick: u32,
     log: bool,
+    script: &Script,
 ) -> Result<(Reply, Option<Ran>), NoMemory>
-    requires { pick < 2 ^ 31 }
-    ensures makes { IfOk result (λ r. MakesRun (system_reading bytes.now) [] log r.0.status r.0.text r.1) }
-    ensures why { IfOk result (λ r. ExplainsSystem (system_reading bytes.now) (lines_of bytes.now) r.0.status r.0.why) }
+    requires seed { pick < 2 ^ 31 }
+    requires built { is_built_script script.now ≡ true }
+    ensures makes { IfOk result (λ r. MakesRun (system_reading bytes.now) script.now log r.0.status r.0.text r.1) }
+    ensures why { IfOk result (λ r. ExplainsRun (system_reading bytes.now) script.now (lines_of bytes.now) r.0.status r.0.why) }
 {
-    match system_in(alloc, bytes)? {
+    match system_in(alloc, bytes, script)? {
         Read::System(system) => {
-            let ran = sim(alloc, &system, pick)?;
-            tell(alloc, &system, ran, log)
+            let ran = sim(alloc, &system, script.as_slice(), pick)?;
+            let reply = tell(alloc, &system, &ran.run, log)?;
+            Ok((reply, Some(ran)))
         }
         Read::Refused(reply) => Ok((reply, None)),
     }
 }
 
-/// Runs the clusters of a system text, each on a thread of its own. The reply tells of the run, also of its log
-/// where that is asked for.
+/// Runs the clusters of a system text, each on a thread of its own, and loses them by the script. The reply tells of
+/// the run, also of its log where that is asked for.
 pub fn run_threads<R: Threads + Wait + Sync, G: Gate + Sync>(
     rt: &R,
     alloc: Global,
     bytes: &[u8],
     log: bool,
+    script: &Script,
     gate: &G,
 ) -> Result<(Reply, Option<Ran>), NoMemory>
-    ensures makes { IfOk result (λ r. MakesRun (system_reading bytes.now) [] log r.0.status r.0.text r.1) }
-    ensures why { IfOk result (λ r. ExplainsSystem (system_reading bytes.now) (lines_of bytes.now) r.0.status r.0.why) }
+    requires { is_built_script script.now ≡ true }
+    ensures makes { IfOk result (λ r. MakesRun (system_reading bytes.now) script.now log r.0.status r.0.text r.1) }
+    ensures why { IfOk result (λ r. ExplainsRun (system_reading bytes.now) script.now (lines_of bytes.now) r.0.status r.0.why) }
 {
-    match system_in(alloc, bytes)? {
+    match system_in(alloc, bytes, script)? {
         Read::System(system) => {
-            let ran = run(rt, alloc, &system, gate)?;
-            tell(alloc, &system, ran, log)
+            let ran = run(rt, alloc, &system, script.as_slice(), gate)?;
+            let reply = tell(alloc, &system, &ran.run, log)?;
+            Ok((reply, Some(ran)))
         }
         Read::Refused(reply) => Ok((reply, None)),
     }
 }
 
-/// The system of a text, or the reply where it has none.
+/// The system of a text, which has the clusters of a script; or the reply where there is none.
 #[derive(Drop)]
 pub enum Read {
     System(Arc<System>),
     Refused(Reply),
 }
 
-// Reads the system of a text.
-fn system_in(alloc: Global, bytes: &[u8]) -> Result<Read, NoMemory>
-    ensures read { IfOk result (IsRead (system_reading bytes.now)) }
-    ensures why { IfOk result (ExplainsRead (system_reading bytes.now) (lines_of bytes.now)) }
+// Reads the system of a text, and asks whether it has the clusters of the script.
+fn system_in(alloc: Global, bytes: &[u8], script: &Script) -> Result<Read, NoMemory>
+    ensures read { IfOk result (IsRead (system_reading bytes.now) script.now) }
+    ensures why { IfOk result (ExplainsRead (system_reading bytes.now) script.now (lines_of bytes.now)) }
 {
     match read_system(alloc, bytes) {
-        Ok(system) => Ok(Read::System(Arc::new(alloc, system)?)),
+        Ok(system) => with_clusters(alloc, system, script),
         Err(SystemRefused::BadLine { line, rule }) => {
             Ok(Read::Refused(refused_system(alloc, bytes, line, rule)?))
         }
@@ -89,35 +97,43 @@ fn system_in(alloc: Global, bytes: &[u8]) -> Result<Read, NoMemory>
     }
 }
 
-// What is told of a run that came to its end, which is handed out with it.
-fn tell(
-    alloc: Global,
-    system: &System,
-    ran: Ran,
-    log: bool,
-) -> Result<(Reply, Option<Ran>), NoMemory>
-    requires valid { is_system system.now ≡ true }
-    requires completed { IsCompleted system.now [] ran }
-    ensures told { IfOk result (λ r. TellsOfRun system.now [] log r.0.status r.0.text r.1) }
-    ensures why { IfOk result (λ r. (r.0.status ≡ 0) × (r.0.why ≡ None)) }
+// A system where it has the clusters of the script.
+fn with_clusters(alloc: Global, system: System, script: &Script) -> Result<Read, NoMemory>
+    requires { is_system system ≡ true }
+    ensures read { IfOk result (IsRead (Ok system) script.now) }
+    ensures why { IfOk result (λ r. (lines : List (List ℕ)) → ExplainsRead (Ok system) script.now lines r) }
 {
-    let text = run_text(alloc, system, &ran.run, log)?;
-    Ok((
-        Reply {
-            status: DONE,
-            text,
-            why: None,
-        },
-        Some(ran),
-    ))
+    if allowed(script, system.clusters, system.pager) {
+        Ok(Read::System(Arc::new(alloc, system)?))
+    } else {
+        Ok(Read::Refused(no_cluster(alloc)?))
+    }
+}
+
+// The reply that tells of a run that came to its end.
+fn tell(alloc: Global, system: &System, run: &Run, log: bool) -> Result<Reply, NoMemory>
+    requires valid { is_system system.now ≡ true }
+    requires legal { IsLegalBy BuiltMayFollow system.now run.now.log }
+    requires items { run.now.items ≡ schedule_of system.now run.now.log }
+    requires finished { is_finished run.now.log ≡ true }
+    ensures done { IfOk result (λ r. (r.status ≡ 0) × (r.why ≡ None)) }
+    ensures text { IfOk result (λ r. IsTextOf system.now log run.now r.text) }
+{
+    let text = run_text(alloc, system, run, log)?;
+    Ok(Reply {
+        status: DONE,
+        text,
+        why: None,
+    })
 }
 
 // What is written of a run that came to its end, by its log.
 fn run_text(alloc: Global, system: &System, run: &Run, log: bool) -> Result<Text, NoMemory>
     requires valid { is_system system.now ≡ true }
-    requires good { IsGoodBuilt system.now [] run.now }
-    requires ended { run.now.ended ≡ Finished }
-    ensures { IfOk result (λ text. (kernel : Kernel) × (plain_run system.now run.now.items ≡ Some kernel) × (text ≡ run_text_of log kernel run.now)) }
+    requires legal { IsLegalBy BuiltMayFollow system.now run.now.log }
+    requires items { run.now.items ≡ schedule_of system.now run.now.log }
+    requires finished { is_finished run.now.log ≡ true }
+    ensures { IfOk result (λ text. IsTextOf system.now log run.now text) }
 {
     let mut text = finished_report(alloc, system, run)?;
     if log {

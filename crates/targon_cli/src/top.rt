@@ -1,8 +1,9 @@
 //! The top call: what the program does with its words, its input and its output.
-ghost use Rattle.std.specs.Prelude.{◌≡◌, ◌==◌, [], None, Option, Some, false, if◌then◌else◌, true, IfErr, IfOk, OnOk, is_some};
-ghost use Rattle.targon_cli.specs.Answer.{Says, usage_line, AnswersFound, Answers, Answered, HandsOut, IsUnread, ReadsAll};
-ghost use Rattle.targon_cli.specs.Built.{built_command_of, has_pick, is_built, is_ready, needs_threads};
+ghost use Rattle.std.specs.Prelude.{◌≡◌, ◌==◌, None, Option, Some, false, if◌then◌else◌, true, IfErr, IfOk, OnOk, is_some};
+ghost use Rattle.targon_cli.specs.Answer.{Says, AnswersFound, Answers, Answered, HandsOut, IsUnread, ReadsAll};
+ghost use Rattle.targon_cli.specs.Built.{built_command_of, has_pick, is_built, is_built_script, is_ready, needs_threads};
 ghost use Rattle.targon_cli.specs.Explained.{Explained, ExplainsEnd, ExplainsFound, HandsWhy, IsByStatus, TellsWhy};
+ghost use Rattle.targon_cli.specs.Reply.{usage_line};
 ghost use Rattle.refusal_text.specs.Why.{why_of as why_of_status};
 ghost use Rattle.refusal_text.specs.declared.why.Why.{Why as AWhy};
 ghost use Rattle.command_words.specs.declared.command.Command.{Command as ACommand};
@@ -10,8 +11,9 @@ ghost use Rattle.command_words.specs.declared.command.Command.{Command as AComma
 use crate::built::built_command;
 use crate::input::{Input, read_input};
 use crate::output::say;
-use crate::reply::{Reply, carry_out};
+use crate::reply::{Reply, USAGE, carry_out};
 use crate::runs::run_threads;
+use cert_sched::script::Script;
 use cluster_run::life::Ran;
 use command_words::Command;
 use refusal_text::why::{Why, why_of};
@@ -23,8 +25,6 @@ use t32_base::lists::{Bytes, Text};
 use t32_base::streams::{NoMemory, Sink, Source, TakeFault};
 
 // The statuses with which the program ends, but for those of a reply and that of a write fault.
-const USAGE: u8 = 1;
-
 const READ_FAULT: u8 = 4;
 
 const NO_MEMORY: u8 = 6;
@@ -32,10 +32,10 @@ const NO_MEMORY: u8 = 6;
 const TOO_LONG: u8 = 8;
 
 /// What the program does with its words, its input and its output, and the status with which it ends: 0
-/// where a command was carried out, 1 where the words are no command that is built, 2 where the command
-/// refuses its input, 3 where an item of the schedule cannot be read or applied, 4 where the input could not be
-/// read, 5 where the output could not be written, 6 where memory was refused and nothing was written, and 8
-/// where the input is longer than is read. After 0 `ran` is the run that `sim` or `run` made, and after 5 the
+/// where a command was carried out, 1 where the words are no command that is built, or name a cluster that the
+/// system of the input lacks, 2 where the command refuses its input, 3 where an item of the schedule cannot be read
+/// or applied, 4 where the input could not be read, 5 where the output could not be written, 6 where memory was
+/// refused and nothing was written, and 8 where the input is longer than is read. After 0 `ran` is the run that `sim` or `run` made, and after 5 the
 /// run whose report was being written; else it is none. For `run` each cluster has a thread, which calls the
 /// gate before it tries to send; it may wait, so that no return is promised.
 pub fn targon<R: Threads + Wait + Sync, S: Source, K: Sink, G: Gate + Sync>(
@@ -228,7 +228,9 @@ fn answer_any<R: Threads + Wait + Sync, S: Source, K: Sink, G: Gate + Sync>(
         (record { left = S.left input.new; faults = S.fault_count input.new }) (S.ended input.new) why.new }
 {
     match command {
-        Command::Run { log, .. } => answer_run(rt, alloc, log, input, output, gate, ran, why),
+        Command::Run { log, script } => {
+            answer_run(rt, alloc, log, &script, input, output, gate, ran, why)
+        }
         command => answer(alloc, command, input, output, ran, why),
     }
 }
@@ -250,25 +252,27 @@ fn answer_run<R: Threads + Wait + Sync, S: Source, K: Sink, G: Gate + Sync>(
     rt: &R,
     alloc: Global,
     log: bool,
+    script: &Script,
     input: &mut S,
     output: &mut K,
     gate: &G,
     ran: &mut Option<Ran>,
     why: &mut Option<Why>,
 ) -> u8
-    requires { ran.old ≡ None }
-    ensures answered { Answers (ACommand.Run log []) result
+    requires built { is_built_script script.now ≡ true }
+    requires unran { ran.old ≡ None }
+    ensures answered { Answers (ACommand.Run log script.now) result
         (record { left = S.left input.old; faults = S.fault_count input.old })
         (record { left = S.left input.new; faults = S.fault_count input.new }) (S.ended input.new)
         (record { holds = K.holds output.old; faults = K.fault_count output.old })
         (record { holds = K.holds output.new; faults = K.fault_count output.new }) ran.new }
-    ensures explained { ExplainsEnd (ACommand.Run log []) result
+    ensures explained { ExplainsEnd (ACommand.Run log script.now) result
         (record { left = S.left input.old; faults = S.fault_count input.old })
         (record { left = S.left input.new; faults = S.fault_count input.new }) (S.ended input.new) why.new }
 {
     match read_whole(alloc, input, output) {
         Ok(bytes) => {
-            let made = run_threads(rt, alloc, bytes.as_slice(), log, gate);
+            let made = run_threads(rt, alloc, bytes.as_slice(), log, script, gate);
             hand_out(made, output, ran, why)
         }
         Err(status) => {

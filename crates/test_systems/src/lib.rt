@@ -5,6 +5,10 @@
 pub const HI: &str =
     "clusters 2\npager 0 1\nsyncreads 32\nsyncsteps 4096\nimage hi 1\nwords 00200893 00000513 000105b7 02458593 00300613 00000073 00100893 00000513\nwords 00000073 000a6968\nend\nroot 0 1 quarter hi 1000 0 0\n";
 
+/// Writes two bytes to its terminal, twice, and exits.
+pub const TWO: &str =
+    "clusters 2\npager 0 1\nsyncreads 32\nsyncsteps 4096\nasm two 1\nli a7, 2\nli a0, 0\nla a1, m\nli a2, 2\necall\naddi a1, a1, 2\nli a0, 0\necall\nli a7, 1\nli a0, 0\necall\nm: .ascii \"a\\nb\\n\"\nend\nroot 0 1 quarter two 1000 0 0\n";
+
 /// Its first word is no instruction.
 pub const BAD: &str =
     "clusters 2\npager 0 1\nsyncreads 32\nsyncsteps 4096\nimage bad 1\nwords 00000000\nend\nroot 0 1 quarter bad 1000 0 0\n";

@@ -1,32 +1,30 @@
-use Rattle.std.proofs.Common.{[], Option, subst}
-use Rattle.std.specs.Prelude.{IfOk}
-use Rattle.sys_text.specs.declared.system.System.{System}
+use Rattle.std.proofs.Common.{List, subst}
+use Rattle.std.specs.Arc.{arc_value}
+use Rattle.cert_sched.specs.declared.script.ScriptWord.{ScriptWord}
+use Rattle.cluster_run.specs.Completed.{IsCompleted}
 use Rattle.sys_text.specs.Reading.{reading_of}
-use Rattle.cluster_run.specs.declared.life.Ran.{Ran}
-use Rattle.targon_cli.specs.declared.reply.Reply.{Reply}
-use Rattle.targon_cli.specs.Reply.{TellsOfRun}
+use Rattle.sys_text.specs.declared.system.System.{System}
 use Rattle.text_parts.specs.Lines.{lines_of}
-use Rattle.targon_cli.proofs.Endings.{told_explains}
-use Rattle.targon_cli.proofs.Tales.{read_valid, refusal_makes, told_makes}
+use Rattle.targon_cli.specs.Reply.{IsTextOf}
+use Rattle.targon_cli.proofs.Endings.{nothing_to_explain}
+use Rattle.targon_cli.proofs.Tales.{read_valid, ran_makes}
 use Rattle.targon_cli.proofs.runs.run_threads.Goals as goal
 
-pub run-requires-after_bounds : goal.run-requires-after_bounds
-run-requires-after_bounds g c κs within = read_valid (reading_of c.args.bytes.now) c.in-System.system (rw c.in-System.is at c.in_ok-system.ensures.read)
+pub run-requires-clause-valid : goal.run-requires-clause-valid
+run-requires-clause-valid g c κs within = read_valid (reading_of c.args.bytes.now) c.args.script.now c.in-System.system (rw c.in-System.is at c.in_ok-system.ensures.read)
 
 pub tell-requires-clause-valid : goal.tell-requires-clause-valid
-tell-requires-clause-valid g c = rw c.deref.ensures (read_valid (reading_of c.args.bytes.now) c.in-System.system (rw c.in-System.is at c.in_ok-system.ensures.read))
+tell-requires-clause-valid g c = rw c.deref.ensures (read_valid (reading_of c.args.bytes.now) c.args.script.now c.in-System.system (rw c.in-System.is at c.in_ok-system.ensures.read))
 
-pub returns-in_ok-ran-in-System-clause-makes : goal.returns-in_ok-ran-in-System-clause-makes
-returns-in_ok-ran-in-System-clause-makes g c =
-    let P : System → Type 0 = λ s. IfOk c.tell.result (λ (r : Reply × Option Ran). TellsOfRun s [] c.args.log (r.0).status (r.0).text r.1) in
-    told_makes (reading_of c.args.bytes.now) c.in-System.system [] c.args.log c.tell.result (rw c.in-System.is at c.in_ok-system.ensures.read) (subst P c.deref.ensures c.tell.ensures.told)
+pub returns-in_ok-reply-in-System-clause-makes : goal.returns-in_ok-reply-in-System-clause-makes
+returns-in_ok-reply-in-System-clause-makes g c =
+    let ran = c.in_ok-ran-in-System.ran in
+    let reply = c.in_ok-reply-in-System.reply in
+    ran_makes (reading_of c.args.bytes.now) c.args.script.now c.in-System.system c.args.log reply ran (rw c.in-System.is at c.in_ok-system.ensures.read)
+    (subst (λ (words : List ScriptWord). IsCompleted (arc_value c.in-System.system) words ran) c.as_slice.ensures c.in_ok-ran-in-System.ensures)
+    c.in_ok-reply-in-System.ensures.done.0 (subst (λ (s : System). IsTextOf s c.args.log ran.run reply.text) c.deref.ensures c.in_ok-reply-in-System.ensures.text)
 
-pub returns-in-Refused-clause-makes : goal.returns-in-Refused-clause-makes
-returns-in-Refused-clause-makes g c = refusal_makes (reading_of c.args.bytes.now) c.in-Refused.reply [] c.args.log (rw c.in-Refused.is at c.in_ok-system.ensures.read)
-
-pub returns-in_ok-ran-in-System-clause-why : goal.returns-in_ok-ran-in-System-clause-why
-returns-in_ok-ran-in-System-clause-why g c =
-    told_explains (reading_of c.args.bytes.now) (lines_of c.args.bytes.now) c.in-System.system c.tell.result (rw c.in-System.is at c.in_ok-system.ensures.read) c.tell.ensures.why
-
-pub returns-in-Refused-clause-why : goal.returns-in-Refused-clause-why
-returns-in-Refused-clause-why g c = rw c.in-Refused.is at c.in_ok-system.ensures.why
+pub returns-in_ok-reply-in-System-clause-why : goal.returns-in_ok-reply-in-System-clause-why
+returns-in_ok-reply-in-System-clause-why g c =
+    let done = c.in_ok-reply-in-System.ensures.done in
+    nothing_to_explain (reading_of c.args.bytes.now) c.args.script.now (lines_of c.args.bytes.now) c.in-System.system _ _ (rw c.in-System.is at c.in_ok-system.ensures.read) done.0 done.1

@@ -1,12 +1,11 @@
-use Rattle.std.proofs.Common.{[]}
+use Rattle.std.proofs.Common.{sym}
 use Rattle.command_words.specs.declared.command.Command.TheVariants as commands
-use Rattle.targon_cli.proofs.BuiltWords.{run_plain}
 use Rattle.targon_cli.proofs.Causes.{answers_same}
 use Rattle.targon_cli.proofs.Endings.{ends_same}
 use Rattle.targon_cli.proofs.top.answer_any.Goals as goal
 
 pub returns-in-Run-clause-answered : goal.returns-in-Run-clause-answered
-returns-in-Run-clause-answered g c = answers_same (commands.Run c.in-Run.log []) c.args.command _ _ _ _ _ _ _ (run_plain c.args.command _ _ c.in-Run.is c.requires.ready) c.answer_run.ensures.answered
+returns-in-Run-clause-answered g c = answers_same (commands.Run c.in-Run.log c.in-Run.script) c.args.command _ _ _ _ _ _ _ (sym c.in-Run.is) c.answer_run.ensures.answered
 
 pub returns-in-Run-clause-explained : goal.returns-in-Run-clause-explained
-returns-in-Run-clause-explained g c = ends_same (commands.Run c.in-Run.log []) c.args.command _ _ _ _ _ (run_plain c.args.command _ _ c.in-Run.is c.requires.ready) c.answer_run.ensures.explained
+returns-in-Run-clause-explained g c = ends_same (commands.Run c.in-Run.log c.in-Run.script) c.args.command _ _ _ _ _ (sym c.in-Run.is) c.answer_run.ensures.explained

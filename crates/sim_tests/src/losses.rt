@@ -1,0 +1,91 @@
+//! What is printed of a run that loses a cluster by the words `sim` and `run`: the terminals, the processes and the schedule
+//! are those of the run without a loss.
+use program_calls::assert_answer;
+use std::test::Fail;
+use test_systems::{CUT, HI, TWO};
+
+// What stands before the lines of the losses and of the bus, and what stands behind them.
+type Around = (&'static str, &'static str);
+
+const TWO_AROUND: Around = (
+    "tty 0 4\na\nb\n\npid 16 exit 0\n",
+    "schedule 3\nrun 16 6\nrun 16 3\nrun 16 4\n",
+);
+
+const HI_AROUND: Around = (
+    "tty 0 3\nhi\n\npid 16 exit 0\n",
+    "schedule 2\nrun 16 6\nrun 16 4\n",
+);
+
+const TWO_NONE: &str = "crash none\nbus 4 syncs 0 withheld 0\n";
+
+const TWO_AT_0: &str = "crash 0 at 0\nbus 5 syncs 0 withheld 0\n";
+
+const TWO_AT_1: &str = "crash 0 at 1\nbus 5 syncs 0 withheld 1\n";
+
+const TWO_AT_2: &str = "crash 0 at 2\nbus 5 syncs 0 withheld 2\n";
+
+const HI_NONE: &str = "crash none\nbus 3 syncs 0 withheld 0\n";
+
+const HI_AT_0: &str = "crash 0 at 0\nbus 4 syncs 0 withheld 0\n";
+
+const HI_AT_1: &str = "crash 0 at 1\nbus 4 syncs 0 withheld 1\n";
+
+// The loss of a cluster in which no process has its home.
+const HI_BACKUP: &str = "crash 1 at 1\nbus 4 syncs 0 withheld 0\n";
+
+static LOSSES: [(&[u8], &str, Around, &str); 14] = [
+    (b"sim", TWO, TWO_AROUND, TWO_NONE),
+    (b"sim crash:0@bus:0", TWO, TWO_AROUND, TWO_AT_0),
+    (b"sim crash:0@bus:1", TWO, TWO_AROUND, TWO_AT_1),
+    (b"sim crash:0@bus:2", TWO, TWO_AROUND, TWO_AT_2),
+    (b"sim crash:0@bus:2 --pick 1", TWO, TWO_AROUND, TWO_AT_2),
+    (b"run crash:0@bus:0", TWO, TWO_AROUND, TWO_AT_0),
+    (b"run crash:0@bus:1", TWO, TWO_AROUND, TWO_AT_1),
+    (b"run crash:0@bus:2", TWO, TWO_AROUND, TWO_AT_2),
+    (b"sim crash:0@bus:3", HI, HI_AROUND, HI_NONE),
+    (b"sim crash:0@step:0", HI, HI_AROUND, HI_AT_0),
+    (b"sim crash:0@step:1", HI, HI_AROUND, HI_AT_0),
+    (b"sim crash:0@step:2", HI, HI_AROUND, HI_AT_1),
+    (b"run crash:0@step:2", HI, HI_AROUND, HI_AT_1),
+    (b"sim crash:1@bus:1", HI, HI_AROUND, HI_BACKUP),
+];
+
+#[test]
+fn a_run_goes_on_after_a_loss(rt: HostRuntime) -> Result<(), Fail> {
+    for (line, text, (before, behind), lost) in LOSSES {
+        let report = format!(in rt.alloc(); "{before}{lost}{behind}")?;
+        assert_answer(&rt, line, text, 0, report.as_str())?;
+    }
+    Ok(())
+}
+
+// What stands behind the report of the second loss above, with its log: after the loss the other cluster sends.
+const LOG_AT_1: &str =
+    "log 5\n0 0 mail 16 at 6 out 0 tty 0 610a\n1 bus crash 0 place\n2 1 mail 16 at 9 out 0 tty 0 620a\n3 1 exit 16 at 13 exit 0\n4 bus done\n";
+
+#[test]
+fn a_loss_stands_in_the_log(rt: HostRuntime) -> Result<(), Fail> {
+    let (before, behind) = TWO_AROUND;
+    let report = format!(in rt.alloc(); "{before}{TWO_AT_1}{behind}{LOG_AT_1}")?;
+    assert_answer(&rt, b"sim --log crash:0@bus:1", TWO, 0, report.as_str())
+}
+
+// A cluster that the system lacks is usage once the text was read, and a script that is not built is usage before.
+static REFUSED: [(&[u8], &str, u8, &str); 7] = [
+    (b"sim crash:2@bus:0", HI, 1, "t32: usage\n"),
+    (b"run crash:2@step:0", HI, 1, "t32: usage\n"),
+    (b"sim crash:300@bus:0", HI, 1, "t32: usage\n"),
+    (b"sim crash:2@bus:0", CUT, 2, "t32: system line 6 rule 10\n"),
+    (b"sim crash:0@bus:0 crash:1@bus:1", CUT, 1, "t32: usage\n"),
+    (b"sim crash:0@bus:1 return:0@bus:4", CUT, 1, "t32: usage\n"),
+    (b"sim disk:0@0", CUT, 1, "t32: usage\n"),
+];
+
+#[test]
+fn a_script_is_refused(rt: HostRuntime) -> Result<(), Fail> {
+    for (line, text, status, written) in REFUSED {
+        assert_answer(&rt, line, text, status, written)?;
+    }
+    Ok(())
+}
