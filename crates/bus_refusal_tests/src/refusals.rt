@@ -62,7 +62,7 @@ fn send_behind(bus: &mut Bus) -> Option<Sent> {
 fn after_turn(alloc: Global, system: &Arc<System>) -> Result<(usize, Bus), NoMemory>
     requires { is_system (arc_value system.now) ≡ true }
 {
-    let (mut bus, mut clusters) = start(alloc, system)?;
+    let (mut bus, mut clusters) = start(alloc, system, &[])?;
     give_turn(&mut bus, &mut clusters, 0)?;
     Ok((clusters.len(), bus))
 }
@@ -92,7 +92,7 @@ fn send_over(bus: &mut Bus) -> Option<Sent> {
 fn after_rounds(alloc: Global, system: &Arc<System>) -> Result<Bus, NoMemory>
     requires { is_system (arc_value system.now) ≡ true }
 {
-    let (mut bus, mut clusters) = start(alloc, system)?;
+    let (mut bus, mut clusters) = start(alloc, system, &[])?;
     run_rounds(&mut bus, &mut clusters, 0)?;
     Ok(bus)
 }

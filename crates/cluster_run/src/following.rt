@@ -62,13 +62,13 @@ pub fn follow<R: Wait, G: Gate>(
     };
     match follow_on(&mut port, &mut cluster) {
         Ok(()) => {
-            sleepers.wake_all();
+            sleepers.go(number);
             (port.into_seat(), Some(cluster))
         }
         Err(NoMemory) => {
             let mut seat = port.into_seat();
             stop(rt, lock, &mut seat, number);
-            sleepers.wake_all();
+            sleepers.go(number);
             (seat, None)
         }
     }

@@ -15,7 +15,8 @@ const YIELDS: u32 = 100;
 
 /// Which clusters lie: doze, or sleep. A letter wakes the home of its receiver alone; a cluster that lies on takes in what
 /// it missed when it is woken next. The last one that lies down wakes all others, since the run ends when each has told
-/// that nothing can move in it; the end of the log wakes all.
+/// that nothing can move in it; a cluster that has done with the log, since that is over or since it was lost, counts as
+/// one that lies, and wakes all when it goes.
 ///
 /// No wake-up is lost, since all steps on these words and on the length of the log stand in one order: who is to sleep
 /// lies down first and then looks at the length once more, and who adds an entry looks only then who lies.
@@ -23,6 +24,8 @@ const YIELDS: u32 = 100;
 pub struct Sleepers {
     // A bit for each cluster that lies, or is about to.
     asleep: AtomicU64,
+    // And for each that has gone.
+    gone: AtomicU64,
     all: u64,
     parkers: Vec<Parker>,
 }
@@ -38,6 +41,7 @@ impl Sleepers {
         }
         Ok(Sleepers {
             asleep: AtomicU64::new(0),
+            gone: AtomicU64::new(0),
             all,
             parkers,
         })
@@ -47,7 +51,7 @@ impl Sleepers {
     pub fn lie_down(&self, number: ClusterNo) -> bool {
         let bit = bit_of(number);
         let before = self.asleep.fetch_or(bit, Ordering::SeqCst);
-        if before | bit == self.all {
+        if before | bit | self.gone.load(Ordering::SeqCst) == self.all {
             self.wake_these(self.all ^ bit);
             return false;
         }
@@ -96,8 +100,9 @@ impl Sleepers {
         }
     }
 
-    /// Wakes each cluster that lies.
-    pub fn wake_all(&self) {
+    /// A cluster has done with the log, and goes. Wakes each that lies.
+    pub fn go(&self, number: ClusterNo) {
+        self.gone.fetch_or(bit_of(number), Ordering::SeqCst);
         self.wake_these(self.all);
     }
 

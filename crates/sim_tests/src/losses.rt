@@ -34,7 +34,7 @@ const HI_AT_1: &str = "crash 0 at 1\nbus 4 syncs 0 withheld 1\n";
 // The loss of a cluster in which no process has its home.
 const HI_BACKUP: &str = "crash 1 at 1\nbus 4 syncs 0 withheld 0\n";
 
-static LOSSES: [(&[u8], &str, Around, &str); 14] = [
+static LOSSES: [(&[u8], &str, Around, &str); 13] = [
     (b"sim", TWO, TWO_AROUND, TWO_NONE),
     (b"sim crash:0@bus:0", TWO, TWO_AROUND, TWO_AT_0),
     (b"sim crash:0@bus:1", TWO, TWO_AROUND, TWO_AT_1),
@@ -44,10 +44,9 @@ static LOSSES: [(&[u8], &str, Around, &str); 14] = [
     (b"run crash:0@bus:1", TWO, TWO_AROUND, TWO_AT_1),
     (b"run crash:0@bus:2", TWO, TWO_AROUND, TWO_AT_2),
     (b"sim crash:0@bus:3", HI, HI_AROUND, HI_NONE),
-    (b"sim crash:0@step:0", HI, HI_AROUND, HI_AT_0),
-    (b"sim crash:0@step:1", HI, HI_AROUND, HI_AT_0),
-    (b"sim crash:0@step:2", HI, HI_AROUND, HI_AT_1),
-    (b"run crash:0@step:2", HI, HI_AROUND, HI_AT_1),
+    (b"sim crash:0@bus:0", HI, HI_AROUND, HI_AT_0),
+    (b"sim crash:0@bus:1", HI, HI_AROUND, HI_AT_1),
+    (b"run crash:0@bus:1", HI, HI_AROUND, HI_AT_1),
     (b"sim crash:1@bus:1", HI, HI_AROUND, HI_BACKUP),
 ];
 
@@ -72,9 +71,10 @@ fn a_loss_stands_in_the_log(rt: HostRuntime) -> Result<(), Fail> {
 }
 
 // A cluster that the system lacks is usage once the text was read, and a script that is not built is usage before.
-static REFUSED: [(&[u8], &str, u8, &str); 7] = [
+static REFUSED: [(&[u8], &str, u8, &str); 8] = [
     (b"sim crash:2@bus:0", HI, 1, "t32: usage\n"),
-    (b"run crash:2@step:0", HI, 1, "t32: usage\n"),
+    (b"run crash:2@bus:0", HI, 1, "t32: usage\n"),
+    (b"sim crash:0@step:1", CUT, 1, "t32: usage\n"),
     (b"sim crash:300@bus:0", HI, 1, "t32: usage\n"),
     (b"sim crash:2@bus:0", CUT, 2, "t32: system line 6 rule 10\n"),
     (b"sim crash:0@bus:0 crash:1@bus:1", CUT, 1, "t32: usage\n"),

@@ -1,15 +1,15 @@
 -- What is built of the commands, by their words.
 use Rattle.std.specs.Prelude.{ℕ, ◌^◌, ◌&&◌, Bool, true, false, nat_lt, nat_le, if◌then◌else◌, List, length, Option, Some, None, option_and_then}
 use Rattle.std.specs.List.{list_all}
-use Rattle.cert_sched.specs.Built.{is_built_word}
 use Rattle.cert_sched.specs.declared.script.ScriptWord.{ScriptWord}
 use Rattle.command_words.specs.declared.command.Command.{Command}
 use Rattle.command_words.specs.declared.command.Command.TheVariants as commands
 use Rattle.command_words.specs.Command.{command_of}
+use Rattle.cluster_run.specs.Along.{is_place_word}
 
--- a script is built that has at most one word, by which a cluster is lost at a place of the log or at a step
+-- a script is built that has at most one word, by which a cluster is lost at a place of the log
 abbrev pub is_built_script : List ScriptWord → Bool
-is_built_script script = nat_le (length script) 1 && list_all is_built_word script
+is_built_script script = nat_le (length script) 1 && list_all is_place_word script
 
 -- built is all but `load`, and `sim` and `run` with such a script
 abbrev pub is_built : Command → Bool
