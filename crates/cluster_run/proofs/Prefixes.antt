@@ -1,5 +1,5 @@
 -- Beginnings of a log.
-use Rattle.std.proofs.Common.{◌≡◌, ℕ, zero, suc, refl, sym, ◌∙◌, ap, subst, List, [], ◌∷◌, ◌++◌, length, take, drop, Bool, false, true, ◌||◌, Some, slice_get, true≢false, ◌≢◌, eqb-true}
+use Rattle.std.proofs.Common.{◌≡◌, ℕ, zero, suc, refl, sym, ◌∙◌, ap, subst, List, [], ◌∷◌, ◌++◌, length, take, drop, Bool, false, true, ◌||◌, Some, slice_get, true≢false, ◌≢◌, eqb-true, ◌<◌, arith}
 use Rattle.sys_text.specs.declared.system.System.{System}
 use Rattle.t32_base.specs.declared.process.ClusterNo.{ClusterNo}
 use Rattle.bus_msg.specs.declared.entry.Entry.{Entry}

@@ -1,9 +1,18 @@
-use Rattle.std.proofs.Common.{refl, false, None}
+use Rattle.std.proofs.Common.{refl, false, None, rules, ◌≡◌, ap, Some, ◌||◌}
 use Rattle.std.specs.Arc.{arc_value}
+use Rattle.cert_sched.specs.Losses.{was_lost_in}
+use Rattle.bus_lock.specs.Seats.{seat_origin, seen}
+use Rattle.bus_order.specs.declared.shared.Origin.{Origin}
 use Rattle.cluster_run.specs.Seated.{made_of}
 use Rattle.cluster_run.proofs.Seats.{starts_shown}
 use Rattle.cluster_run.proofs.following.follow.Goals as goal
 
 pub follow_on-requires-clause-shows : goal.follow_on-requires-clause-shows
 follow_on-requires-clause-shows g c =
-    starts_shown c.args.lock.now (made_of (arc_value c.args.system.now) c.args.script.now) c.args.seat c.args.cluster (record { number = c.number.result; from = 0; upto = 0; entries = c.new.result; is_over = false; off_at = None }) c.requires c.new.ensures.items refl refl refl refl
+    starts_shown c.args.lock.now (made_of (arc_value c.args.system.now) c.args.script.now) c.args.seat c.args.cluster (record { number = c.number-number.result; from = 0; upto = 0; entries = c.new.result; is_over = false; off_at = None }) c.requires c.new.ensures.items refl refl refl refl
+
+pub returns-in-Err-clause-done : goal.returns-in-Err-clause-done
+returns-in-Err-clause-done g c =
+    let from : Origin = made_of (arc_value c.args.system.now) c.args.script.now in
+    let origin : seat_origin c.stop.new.seat ≡ Some from = search rules in
+    ap (λ t. t || was_lost_in (seen c.stop.new.seat) c.args.cluster.number) (c.stop.ensures.over from origin)

@@ -1,5 +1,6 @@
-use Rattle.std.proofs.Common.{◌≡◌, ◌≤◌, ◌∙◌, sym, ap, subst, arith, length, true}
-use Rattle.std.specs.List.{list_all}
+use Rattle.std.proofs.Common.{◌≡◌, ◌≤◌, ◌∙◌, sym, ap, subst, arith, length, true, false}
+use Rattle.std.specs.List.{list_all, list_any}
+use Rattle.cert_sched.specs.Losses.{is_by_cluster}
 use Rattle.sys_text.specs.declared.system.System.{System}
 use Rattle.sys_text.specs.Valid.{is_system}
 use Rattle.cert_sched.specs.Legal.{IsLegalBy}
@@ -41,8 +42,8 @@ returns-clause-along g c =
     let v = c.args.cluster.now in
     let from = c.requires.from in
     let longer = c.take-bus.ensures.longer in
-    let number = c.number.ensures in
+    let others : list_any (is_by_cluster v.number) longer.more ≡ false = subst (λ k. list_any (is_by_cluster k) longer.more ≡ false) c.number.ensures longer.others in
     record {
       system = sym (ap (λ (o : Origin). o.system) (same_from (origin_of b) (made_of v.system from.script) (seat_origin c.args.seat.now) c.take-bus.ensures.origin from.from));
-      beside = beside_longer (seen c.args.seat.now) longer.more b.log v c.requires.beside longer.longer longer.others;
+      beside = beside_longer (seen c.args.seat.now) longer.more b.log v c.requires.beside longer.longer others;
     }

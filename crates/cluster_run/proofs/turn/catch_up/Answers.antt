@@ -7,6 +7,7 @@ take_in-requires g c =
     let after = g.P.Port.bus c.look.new.self in
     let looked = c.in_ok-look.ensures in
     record {
+      sits = c.look.ensures.sits;
       shown = record {
         shows = looked.shows;
         from_there = looked.from;

@@ -90,7 +90,7 @@ take_in-requires g c =
     let p = tried_posting (g.P.Port.shows c.args.port.now) (g.P.Port.from c.args.port.now) b c.args.cluster.now t c.tried.ensures.tried c.requires.posting in
     let off = subst (λ o. OffersHead a t b after o) c.in-Behind.is c.in_ok-offer_head.ensures.offered in
     let behind = was_behind a b after t off.0 (p.shown).along off.2 in
-    record { shown = record { shows = c.in_ok-offer_head.ensures.shows; from_there = c.in_ok-offer_head.ensures.from; sound = c.in_ok-offer_head.ensures.sound; along = behind.0 } }
+    record { sits = c.offer_head.ensures.sits; shown = record { shows = c.in_ok-offer_head.ensures.shows; from_there = c.in_ok-offer_head.ensures.from; sound = c.in_ok-offer_head.ensures.sound; along = behind.0 } }
 
 pub take_in-requires-in-Over : goal.take_in-requires-in-Over
 take_in-requires-in-Over g c =
@@ -101,7 +101,7 @@ take_in-requires-in-Over g c =
     let p = tried_posting (g.P.Port.shows c.args.port.now) (g.P.Port.from c.args.port.now) b c.args.cluster.now t c.tried.ensures.tried c.requires.posting in
     let off = c.in_ok-offer_head.ensures.offered in
     let done = was_done a b after t off.0 (p.shown).along _ c.in-Over.is off.2 in
-    record { shown = record { shows = c.in_ok-offer_head.ensures.shows; from_there = c.in_ok-offer_head.ensures.from; sound = c.in_ok-offer_head.ensures.sound; along = done.0 } }
+    record { sits = c.offer_head.ensures.sits; shown = record { shows = c.in_ok-offer_head.ensures.shows; from_there = c.in_ok-offer_head.ensures.from; sound = c.in_ok-offer_head.ensures.sound; along = done.0 } }
 
 pub returns-in_ok-take_in-in-Over-clause-over : goal.returns-in_ok-take_in-in-Over-clause-over
 returns-in_ok-take_in-in-Over-clause-over g c is =

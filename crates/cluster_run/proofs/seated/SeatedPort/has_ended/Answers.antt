@@ -8,9 +8,9 @@ use Rattle.bus_order.specs.Script.{off_at}
 use Rattle.script_laws.proofs.OffLosses.{lost_off}
 use Rattle.cluster_run.proofs.seated.SeatedPort.has_ended.Goals as goal
 
-pub returns-else-is_over : goal.returns-else-is_over
-returns-else-is_over g c =
+pub returns-else-self : goal.returns-else-self
+returns-else-self g c =
     let p = c.args.self.now in
     let log = seen p.seat in
     let off = c.requires.shows.off ∙ ap (off_at log) c.requires.sits.2 in
-    c.is_some.ensures ∙ ap is_some off ∙ sym (lost_off (arc_value p.system.now) log c.args._number c.requires.sound.legal) ∙ ap (λ t. t || was_lost_in log c.args._number) (sym (sym c.requires.shows.over ∙ c.if-is_over.false))
+    c.is_some.ensures ∙ ap is_some off ∙ sym (lost_off (arc_value p.system.now) log c.args._number c.requires.sound.legal) ∙ ap (λ t. t || was_lost_in log c.args._number) (sym (sym c.requires.shows.over ∙ c.if-self.false))
