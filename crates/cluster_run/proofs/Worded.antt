@@ -157,15 +157,7 @@ sound_closed b sound = by_test (is_over b.system b.log) refl
     by_test true over = over ∙ sym (few_losses_close b.system b.log sound.valid sound.legal (omega (arith, sound.losses, sound.one)) over)
     by_test false is = is ∙ sym (open_not_closed b.system b.log sound.legal is)
 
--- ---- no word
-
-pub unlost_of : (b : BusView) → IsSound b → b.script ≡ [] → IsLegalBy UnlostMayFollow b.system b.log
-unlost_of b sound none = crashless_unlost b.system b.log sound.legal (let long = ap length none in omega (arith, sound.losses, long))
-
-pub lives_without : (b : BusView) (k : ClusterNo) → IsSound b → b.script ≡ [] → was_lost_in b.log k ≡ false
-lives_without b k sound none = never_lost b.system b.log k (unlost_of b sound none)
-
--- what is known of a sound bus without a script from its system and its log
+-- what is known of it from its system, its script and its log
 pub sound_by_log : (b : BusView) (log : List Entry) → IsSound b → log ≡ b.log → IsSound (bus_of (origin_of b) log)
 sound_by_log b log sound same =
     let P : List Entry → Type 0 = λ l. IsSound (bus_of (origin_of b) l) in

@@ -58,14 +58,6 @@ looks_fewer (suc n) b = then_fewer b (look_once b) (looks n (look_once b)) (look
 pub words_fewer : (b : BusView) → IsSameOrFewer b (after_words b)
 words_fewer b = looks_fewer (length b.left) b
 
--- so never more are left
-pub words_at_most : (b : BusView) → length (after_words b).left ≤ length b.left
-words_at_most b = by_case (words_fewer b)
-  where
-    by_case : IsSameOrFewer b (after_words b) → length (after_words b).left ≤ length b.left
-    by_case (inl same) = let long = ap (λ (x : BusView). length x.left) same in omega (arith, long)
-    by_case (inr fewer) = omega (arith, fewer)
-
 -- ---- the log stays open
 
 -- what a word gives closes no log

@@ -10,7 +10,7 @@ use Rattle.bus_order.specs.declared.shared.Origin.{Origin}
 use Rattle.bus_order.specs.View.{BusView, KeepsScript}
 use Rattle.cluster_run.specs.Along.{is_place_word}
 use Rattle.cluster_run.specs.Seated.{made_of, origin_of}
-use Rattle.cluster_run.proofs.Bare.{same_from}
+use Rattle.cluster_run.proofs.Answering.{same_from}
 use Rattle.cluster_run.proofs.Offering.{beside_longer}
 use Rattle.cluster_run.proofs.Worded.{sound_of}
 use Rattle.cluster_run.proofs.locked.take_for.Goals as goal

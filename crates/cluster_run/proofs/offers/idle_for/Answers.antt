@@ -2,7 +2,7 @@ use Rattle.std.proofs.Common.{arith, subst}
 use Rattle.t32_base.specs.declared.process.ClusterNo.{ClusterNo}
 use Rattle.bus_order.specs.View.{BusView}
 use Rattle.cluster_run.specs.Offers.{Adds}
-use Rattle.cluster_run.proofs.Bare.{adds_told, may_be_told, tell_answers}
+use Rattle.cluster_run.proofs.Answering.{adds_told, may_be_told, tell_answers}
 use Rattle.cluster_run.proofs.Worded.{sound_again}
 use Rattle.cluster_run.proofs.offers.idle_for.Goals as goal
 

@@ -2,7 +2,7 @@ use Rattle.std.proofs.Common.{arith, subst}
 use Rattle.t32_base.specs.declared.process.ClusterNo.{ClusterNo}
 use Rattle.bus_order.specs.View.{BusView}
 use Rattle.cluster_run.specs.Offers.{Adds}
-use Rattle.cluster_run.proofs.Bare.{adds_sent, may_be_sent, offer_answers, own_of}
+use Rattle.cluster_run.proofs.Answering.{adds_sent, may_be_sent, offer_answers, own_of}
 use Rattle.cluster_run.proofs.Worded.{sound_again}
 use Rattle.cluster_run.proofs.offers.transmit_for.Goals as goal
 

@@ -1,4 +1,4 @@
--- What the bus answers to a cluster that follows its log, and what a bus without a script is.
+-- What the bus answers to a cluster that follows its log, and what a bus came from.
 use Rattle.std.proofs.Common.{◌≡◌, ℕ, ◌+◌, ◌^◌, ◌<◌, ◌≤◌, refl, sym, ◌∙◌, ap, subst, arith, inl, inr, List, [], ◌∷◌, length, take, length-append, Bool, true, false, cond, Option, Some, None, Result, Ok, Err, true≢false, eqb-true}
 use Rattle.std.specs.List.{list_all}
 use Rattle.std.specs.Option.{option_map_or}
