@@ -17,14 +17,13 @@ use Rattle.bus_msg.specs.Places.{Places, lives_in}
 use Rattle.cert_sched.specs.declared.script.ScriptWord.{ScriptWord}
 use Rattle.cert_sched.specs.declared.script.ScriptWord.TheVariants.{CrashAt, CrashStep, DiskAt, ReturnAt}
 use Rattle.cert_sched.specs.Appended.{entry_of}
-use Rattle.cert_sched.specs.Built.{BuiltMayFollow, UnlostMayFollow, is_built_word}
+use Rattle.cert_sched.specs.Built.{BuiltMayFollow, is_built_word}
 use Rattle.cert_sched.specs.Legal.{IsLegalBy}
 use Rattle.cert_sched.specs.Looked.{first_reached, given_by}
-use Rattle.cert_sched.specs.Losses.{is_by_cluster, was_lost_in}
+use Rattle.cert_sched.specs.Losses.{is_by_cluster}
 use Rattle.cert_sched.specs.Rules.{is_over}
 use Rattle.cert_sched.specs.Schedule.{placement}
 use Rattle.cert_sched.specs.Scripted.{is_closed}
-use Rattle.cert_sched.proofs.UnlostLaws.{never_lost}
 use Rattle.bus_lock.specs.Lists.{MayAdd}
 use Rattle.bus_order.specs.Log.{author, author_of}
 use Rattle.bus_order.specs.Script.{is_unpassed}
@@ -32,7 +31,7 @@ use Rattle.bus_order.specs.View.{BusView, HasLooked, KeepsScript, after_words, l
 use Rattle.bus_order.proofs.Looking.{look_over, look_some}
 use Rattle.bus_order.proofs.OverLaws.{open_not_closed}
 use Rattle.bus_order.proofs.Unscripted.{after_none, left_none}
-use Rattle.script_laws.proofs.CoveredLosses.{crashless_unlost, few_losses_close}
+use Rattle.script_laws.proofs.CoveredLosses.{few_losses_close}
 use Rattle.script_laws.proofs.CrashLaws.{crashes_within}
 use Rattle.cluster_run.specs.Along.{IsSound, is_place_word}
 use Rattle.cluster_run.specs.Seated.{bus_of, origin_of}
