@@ -113,8 +113,7 @@ returns-in_ok-take_in-in-Over-clause-over g c is =
     let off = c.in_ok-offer_head.ensures.offered in
     let done = was_done a b after t off.0 (p.shown).along _ c.in-Over.is off.2 in
     let taken = c.in_ok-take_in-in-Over.ensures.taken in
-    let order = taken.order in
-    (
+    let order = taken.order in (
       record { shows = c.in_ok-offer_head.ensures.shows; from_there = omega (arith, order, c.in_ok-offer_head.ensures.from); sound = c.in_ok-offer_head.ensures.sound; along = taken.along },
       (c.in_ok-take_in-in-Over.ensures.caught, subst (λ (k : ClusterNo). is_done_with k after.system after.log ≡ true) (sym taken.same.number) done.1),
     )
