@@ -1,7 +1,6 @@
 -- What the bus answers to a cluster that follows its log, and what a bus came from.
-use Rattle.std.proofs.Common.{◌≡◌, ℕ, ◌+◌, ◌^◌, ◌<◌, ◌≤◌, refl, sym, ◌∙◌, ap, subst, arith, inl, inr, List, [], ◌∷◌, length, take, length-append, Bool, true, false, cond, Option, Some, None, Result, Ok, Err, true≢false, eqb-true}
+use Rattle.std.proofs.Common.{◌≡◌, ℕ, ◌+◌, ◌<◌, ◌≤◌, refl, sym, ◌∙◌, ap, subst, arith, inl, inr, [], ◌∷◌, length, Bool, true, false, cond, Option, Some, Result, Ok, Err, true≢false, eqb-true}
 use Rattle.std.specs.List.{list_all}
-use Rattle.std.specs.Option.{option_map_or}
 use Rattle.std.proofs.lemmas.Bool.{and_parts}
 use Rattle.std.proofs.lemmas.List.{take_all}
 use Rattle.std.proofs.lemmas.List.Elements.{All-nil, All-cons}
@@ -33,14 +32,14 @@ use Rattle.bus_order.specs.declared.shared.Origin.{Origin}
 use Rattle.bus_order.specs.Script.{is_unpassed}
 use Rattle.bus_order.specs.View.{Admits, BusView, Ends, Idles, MayIdle, MayTransmit, Transmits, after_words, is_awaited, with_mark, with_post}
 use Rattle.script_laws.proofs.OffLosses.{not_off_not_lost}
-use Rattle.cluster_run.specs.declared.offers.Offered.TheVariants.{Sent, Behind as WasBehind, Over as WasOver, Off as WasOff}
+use Rattle.cluster_run.specs.declared.offers.Offered.TheVariants.{Sent}
 use Rattle.cluster_run.specs.Along.{IsAlong, IsSound}
 use Rattle.cluster_run.specs.Offers.{Adds, GoesOnFor, IsToldBy, OfferAnswers, OfferIs, TellAnswers, TellIs}
 use Rattle.cluster_run.proofs.Offering.{adds_worded, along_worded}
 use Rattle.cluster_run.proofs.Owning.{adds_more}
 use Rattle.cluster_run.proofs.TakingIn.{seen_lives}
 use Rattle.cluster_run.proofs.Upto.{lost_where_off}
-use Rattle.cluster_run.proofs.Worded.{Worded, after_worded, looked_worded, none_passed}
+use Rattle.cluster_run.proofs.Worded.{after_worded, looked_worded}
 
 -- ---- what the calls ask
 
@@ -89,7 +88,7 @@ may_be_told b c m k n sound along told k_is n_is =
           record {
             rests = subst (λ s. IsRestOf s b.log c.number m.rests) same (told.rests told.empty b.log (subst (λ s. IsLegalBy BuiltMayFollow s b.log) (sym same) sound.legal, ap (λ s. is_over s b.log) same ∙ goes_on) follows);
             counted = subst (λ s. capped (least_steps b.log b.log c.number) ≤ s) (sym told.steps) enough;
-            passed = none_passed c.number b.log m.steps b.script sound.words;
+            passed = ap (λ n. list_all (is_unpassed c.number b.log n) b.script) told.steps ∙ along.passed;
           };
     }))
   where

@@ -20,7 +20,7 @@ use Rattle.cluster_run.proofs.Prefixes.{either}
 -- ---- lists
 
 -- where one passes there is a first
-first_within : {X : Type 0} (test : X → Bool) (xs : List X) → list_any test xs ≡ true → position_or_len test xs < length xs
+pub first_within : {X : Type 0} (test : X → Bool) (xs : List X) → list_any test xs ≡ true → position_or_len test xs < length xs
 first_within test [] some = absurd (true≢false (sym some))
 first_within test (x ∷ xs) some = by_first (test x) some (first_within test xs)
   where

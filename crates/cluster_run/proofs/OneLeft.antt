@@ -9,7 +9,7 @@ use Rattle.cluster_core.specs.Follows.{FollowsBuilt}
 use Rattle.bus_order.specs.Script.{is_unpassed}
 use Rattle.bus_order.specs.View.{BusView}
 use Rattle.script_laws.specs.Off.{IsItsLoss}
-use Rattle.cluster_run.specs.Left.{LeftAs, LeftBeside, LostBetween}
+use Rattle.cluster_run.specs.Gone.{LeftAs, StoodBeside, StoodBetween}
 use Rattle.cluster_run.specs.Lived.{EndsBy, cause_in, end_of_life}
 use Rattle.cluster_run.proofs.LostLives.{ended_by_done, ends_with_log, lost_cause, lost_ends, lost_in}
 
@@ -29,7 +29,7 @@ left_at_end b c unlost finished system unfailed follows sent_before at_end passe
     }
 
 -- one that was lost at a place had taken in no entry behind it, and ended by its cause
-pub left_lost : (b : BusView) (c : ClusterView) (at : ℕ) → (loss : IsItsLoss b.log c.number at) → c.system ≡ b.system → c.failed ≡ None → c.cursor ≤ at → LeftBeside b c ⊎ LostBetween b c → EndsBy (cause_in c.number (what loss.entry)) c
+pub left_lost : (b : BusView) (c : ClusterView) (at : ℕ) → (loss : IsItsLoss b.log c.number at) → c.system ≡ b.system → c.failed ≡ None → c.cursor ≤ at → StoodBeside b c ⊎ ((was_lost_in b.log c.number ≡ true) × StoodBetween b c) → EndsBy (cause_in c.number (what loss.entry)) c
     → list_all (is_unpassed c.number b.log c.steps) b.script ≡ true → LeftAs b c
 left_lost b c at loss system unfailed within followed ends_by passed =
     let ends : end_of_life b.log c.number 0 ≡ at = lost_ends b.log c.number at loss in

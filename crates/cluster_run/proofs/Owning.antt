@@ -1,11 +1,14 @@
 -- What a cluster makes of a bus that no other has.
-use Rattle.std.proofs.Common.{◌≡◌, ℕ, ◌+◌, ◌-◌, ◌≤◌, ◌<◌, ◌⊎◌, inl, inr, refl, sym, ◌∙◌, ap, subst, arith, List, [], ◌++◌, length, append_assoc, Bool, true, false, Option, Some, None, OnOk, Result, Ok, Err, true≢false}
+use Rattle.std.proofs.Common.{◌≡◌, ℕ, ◌+◌, ◌-◌, ◌≤◌, ◌<◌, ◌⊎◌, inl, inr, refl, sym, ◌∙◌, ap, subst, arith, List, [], ◌∷◌, ◌++◌, ◌||◌, cond, length, append_assoc, Bool, true, false, Option, Some, None, IfOk, OnOk, Result, Ok, Err, true≢false}
+use Rattle.std.specs.List.{list_any}
+use Rattle.proc_state.specs.Mail.{without_first}
 use Rattle.std.proofs.lemmas.List.{length-map, length-set}
 use Rattle.std.proofs.lemmas.List.Elements.{All-append}
 use Rattle.t32_base.specs.declared.process.ClusterNo.{ClusterNo}
 use Rattle.sys_text.specs.declared.system.System.{System}
 use Rattle.bus_msg.specs.declared.entry.By.TheVariants.{Bus}
-use Rattle.bus_msg.specs.declared.entry.What.TheVariants.{Done}
+use Rattle.bus_msg.specs.declared.entry.What.TheVariants.{Crash, Done}
+use Rattle.bus_msg.specs.declared.entry.Cause.TheVariants.{Step}
 use Rattle.bus_msg.specs.declared.entry.Post.{Post}
 use Rattle.cert_sched.specs.Appended.{entry_of}
 use Rattle.cert_sched.specs.Rules.{is_over}
@@ -18,19 +21,20 @@ use Rattle.bus_order.specs.declared.marks.Mark.{Mark}
 use Rattle.bus_order.specs.declared.marks.Idled.{Idled}
 use Rattle.bus_order.specs.declared.marks.Idled.TheVariants.{Marked, Done as WasDone}
 use Rattle.bus_order.specs.Log.{author_of}
-use Rattle.bus_order.specs.View.{BusView, after_words, with_post}
-use Rattle.bus_order.proofs.OverLaws.{finished-snoc, open_not_closed}
+use Rattle.bus_order.specs.Script.{has_unused, is_word_for}
+use Rattle.bus_order.specs.View.{BusView, Loses, after_words, with_loss, with_post}
+use Rattle.bus_order.proofs.OverLaws.{closed-snoc, finished-snoc, open_not_closed}
 use Rattle.script_laws.specs.Crashes.{crashes}
 use Rattle.script_laws.proofs.CoveredLosses.{few_losses_close}
-use Rattle.cluster_run.specs.declared.offers.Offered.{Offered}
 use Rattle.cluster_run.specs.declared.offers.Offered.TheVariants.{Sent, Behind, Over, Off}
 use Rattle.cluster_run.specs.Along.{IsAlong, IsOwned, IsSound, TakesIn}
 use Rattle.cluster_run.specs.Offers.{Adds, Later, OfferIs, TakesMark, TellIs, Visits}
-use Rattle.cluster_run.specs.Progress.{Falls, GetsOn, IsAtMost, IsLost, IsOver, Rests, log_load, remaining_of}
-use Rattle.cluster_run.specs.Turns.{GoesOwn, HasRested, HasSpent, SendsAll, SendsOwn, Spends, TellsOwn, TriesOwn, TurnsOwn}
+use Rattle.cluster_run.specs.Progress.{Falls, GetsOn, IsAtMost, IsOver, log_load, remaining_of}
+use Rattle.cluster_run.specs.Turns.{GoesOwn, HasRested, HasSpent, IsSent, LosesOwn, SendsAll, SendsOwn, Spends, TellsOwn, TurnsOwn}
 use Rattle.cluster_run.proofs.Offering.{adds_none, alone_later, alone_left}
-use Rattle.cluster_run.proofs.Progressing.{lost_rests, told_rest}
-use Rattle.cluster_run.proofs.Sending.{IsSent, sent_goes_on, sent_spends}
+use Rattle.cluster_run.proofs.Progressing.{at_most_then, then_falls, told_rest}
+use Rattle.cluster_run.proofs.Sending.{sent_goes_on, sent_spends}
+use Rattle.cluster_run.proofs.StepLosses.{lost_adds}
 use Rattle.cluster_run.proofs.TakingIn.{seen_lives}
 use Rattle.cluster_run.proofs.Worded.{after_worded}
 use Rattle.cluster_run.proofs.WordsLeft.{IsSameOrFewer, words_fewer, words_marks, words_open}
@@ -62,15 +66,22 @@ pub sends_more : (k : ClusterNo) (a b c : BusView) → SendsOwn k a b → SendsO
 sends_more k a b c one two = record { goes_on = two.goes_on; adds = adds_more k a b c one.adds two.adds; spends = spends_more a b c one.spends two.spends }
 
 -- the post after others lost the cluster
-pub sends_lost : (a b c : BusView) (first last : ClusterView) → SendsOwn first.number a b → TriesOwn first.number b c true → SendsAll a c first last
+pub sends_lost : (a b c : BusView) (first last : ClusterView) → SendsOwn first.number a b → LosesOwn first.number b c → SendsAll a c first last
 sends_lost a b c first last one two =
-    let gone = two.lost refl in
-    let fewer = gone.1 in
+    let fewer = two.fewer in
     record {
       sends = sends_more first.number a b c one two.sends;
-      empty = λ lives. absurd (true≢false (sym gone.0 ∙ lives));
+      empty = λ lives. absurd (true≢false (sym two.lost ∙ lives));
       some = λ there. inl (omega (arith, fewer, words_spent a b one.spends));
     }
+
+-- the cluster was lost after posts of it were sent
+pub loses_more : (k : ClusterNo) (a b c : BusView) → SendsOwn k a b → LosesOwn k b c → LosesOwn k a c
+loses_more k a b c one two = record {
+  sends = sends_more k a b c one two.sends;
+  lost = two.lost;
+  fewer = let fewer = two.fewer in omega (arith, fewer, words_spent a b one.spends);
+}
 
 -- ---- the words that are due
 
@@ -153,19 +164,13 @@ module _ (a : Bool) (alone : a ≡ true) (b after : BusView) (c : ClusterView) (
       true≢false (sym (v.done).0 ∙ ap (λ (x : BusView). is_over x.system x.log) (sym left_is) ∙ words_go_on b after own sound is)
 
   -- one that lived is lost by a word that was due
-  pub off_own : IsSound after → was_lost_in b.log c.number ≡ false → Visits a c.number b after (OfferIs c.number c.cursor post Off) → Adds c.number b after
-      → SendsOwn c.number b after × (length after.left < length b.left) × (was_lost_in after.log c.number ≡ true)
+  pub off_own : IsSound after → was_lost_in b.log c.number ≡ false → Visits a c.number b after (OfferIs c.number c.cursor post Off) → Adds c.number b after → LosesOwn c.number b after
   off_own sound lives v adds =
       let left_is : after ≡ v.left = alone_left a v.left after alone v.is_left in
       let is : after ≡ after_words b = left_is ∙ (v.done).1 ∙ words_there v.found v.later in
       let lost : was_lost_in after.log c.number ≡ true = ap (λ (x : BusView). was_lost_in x.log c.number) left_is ∙ (v.done).0 in
       let fewer = fewer_left b after is (λ same. true≢false (sym lost ∙ ap (λ (x : BusView). was_lost_in x.log c.number) same ∙ lives)) in
-      (record { goes_on = (words_owned b after own sound is, words_go_on b after own sound is); adds = adds; spends = inl fewer }, fewer, lost)
-
-  -- where the log is done with, that is so
-  pub done_own : (o : Offered) → (o ≡ Over) ⊎ (o ≡ Off) → IsSound after → was_lost_in b.log c.number ≡ false → Visits a c.number b after (OfferIs c.number c.cursor post o) → Adds c.number b after → TriesOwn c.number b after true
-  done_own o (inl is) sound lives v adds = absurd (never_over sound (subst (λ o. Visits a c.number b after (OfferIs c.number c.cursor post o)) is v))
-  done_own o (inr is) sound lives v adds = let lost = off_own sound lives (subst (λ o. Visits a c.number b after (OfferIs c.number c.cursor post o)) is v) adds in record { sends = lost.0; lost = λ over. (lost.2, lost.1) }
+      record { sends = record { goes_on = (words_owned b after own sound is, words_go_on b after own sound is); adds = adds; spends = inl fewer }; lost = lost; fewer = fewer }
 
 -- ---- a rest
 
@@ -228,25 +233,74 @@ taken_most b c caught takes = by_taken takes.some
     by_taken (inl more) = let within = ((takes.along).beside).within in inl (inr (refl, inr (inl (refl, omega (arith, more, within)))))
     by_taken (inr is) = inr (refl, refl, ap (λ (v : ClusterView). length b.log - v.cursor) is, ap load is)
 
--- a cluster that was lost took in what was new up to there
-pub lost_turn : (b mid : BusView) (c caught : ClusterView) → mid ≡ b → GoesOwn b → TakesIn mid c caught → was_lost_in mid.log c.number ≡ true → TurnsOwn b mid c caught
-lost_turn b mid c caught same own taken lost =
+-- a cluster took in what was new before the rest of its turn
+pub turn_after : (b mid after : BusView) (c caught new : ClusterView) → mid ≡ b → TakesIn mid c caught → TurnsOwn mid after caught new → TurnsOwn b after c new
+turn_after b mid after c caught new same taken turn =
     let takes : TakesIn b c caught = subst (λ x. TakesIn x c caught) same taken in
-    subst (λ x. TurnsOwn b x c caught) (sym same) (record {
-      owned = own.0;
-      adds = adds_none c.number b;
-      empty = λ lives. absurd (true≢false (sym (ap (λ (x : BusView). was_lost_in x.log c.number) (sym same) ∙ lost) ∙ lives));
-      spends = inr (inr (refl, inr refl));
-      lasts = inr (taken_most b c caught takes);
-      gets_on = by_most takes (taken_most b c caught takes);
-    })
+    let most = taken_most b c caught takes in
+    let rest : TurnsOwn b after caught new = subst (λ x. TurnsOwn x after caught new) same turn in
+    let number = (takes.same).number in
+    record {
+      owned = rest.owned;
+      adds = subst (λ k. Adds k b after) number rest.adds;
+      empty = λ lives. rest.empty (ap (was_lost_in after.log) number ∙ lives);
+      spends = rest.spends;
+      lasts = elim rest.lasts [ inl over ↦ inl over | inr less ↦ inr (at_most_then (remaining_of b c) (remaining_of b caught) (remaining_of after new) most less) ];
+      gets_on = subst (λ (k : ClusterNo). GetsOn b after (remaining_of b c) (remaining_of after new) k.0 (k.0 + 1)) number (by_way most rest.gets_on);
+    }
   where
-    lost_there : IsLost b (c.number).0
-    lost_there = ap (λ (x : BusView). was_lost_in x.log c.number) (sym same) ∙ lost
+    by_way : IsAtMost (remaining_of b c) (remaining_of b caught) → GetsOn b after (remaining_of b caught) (remaining_of after new) (caught.number).0 ((caught.number).0 + 1) → GetsOn b after (remaining_of b c) (remaining_of after new) (caught.number).0 ((caught.number).0 + 1)
+    by_way most (inl falls) = inl (then_falls (remaining_of b c) (remaining_of b caught) (remaining_of after new) most falls)
+    by_way most (inr more) = inr more
 
-    by_most : TakesIn b c caught → IsAtMost (remaining_of b c) (remaining_of b caught) → GetsOn b b (remaining_of b c) (remaining_of b caught) (c.number).0 ((c.number).0 + 1)
-    by_most takes (inl falls) = inl falls
-    by_most takes (inr as_much) = inr (inr (lost_rests b (c.number).0 lost_there))
+-- a cluster that lived was lost in its turn
+pub gone_turn : (b after : BusView) (c new : ClusterView) → LosesOwn c.number b after → TurnsOwn b after c new
+gone_turn b after c new loses = record {
+  owned = ((loses.sends).goes_on).0;
+  adds = (loses.sends).adds;
+  empty = λ lives. absurd (true≢false (sym loses.lost ∙ lives));
+  spends = inr (inl loses.fewer);
+  lasts = inr (inl (inl loses.fewer));
+  gets_on = inl (inl loses.fewer);
+}
+
+-- what its loss at a step makes of the bus
+one_fewer : {X : Type 0} (t : X → Bool) (xs : List X) → list_any t xs ≡ true → length (without_first t xs) < length xs
+one_fewer t [] some = absurd (true≢false (sym some))
+one_fewer t (x ∷ xs) some = by_test (t x) some (one_fewer t xs)
+  where
+    by_test : (b : Bool) → (b || list_any t xs) ≡ true → (list_any t xs ≡ true → length (without_first t xs) < length xs) → length (cond b xs (x ∷ without_first t xs)) < length (x ∷ xs)
+    by_test true some more = omega arith
+    by_test false some more = let less = more some in omega (arith, less)
+
+pub loses_own : (b after : BusView) (k : ClusterNo) (n at : ℕ) → GoesOwn b → IsSound after → was_lost_in after.log k ≡ true → has_unused b.left k (Step n) ≡ true → Loses b k (Step n) (Ok at) after → LosesOwn k b after
+loses_own b after k n at own sound lost unused loses =
+    let left : List ScriptWord = without_first (is_word_for k (Step n)) b.left in
+    let is : after ≡ with_loss b k (Step n) left = loses.3 in
+    let few : crashes after.log ≤ 1 = let losses = sound.losses in let one = sound.one in omega (arith, losses, one) in
+    let open_still : is_closed after.log ≡ false = ap (λ (x : BusView). is_closed x.log) is ∙ closed-snoc b.log (entry_of b.system b.log (record { by = Bus; what = Crash k (Step n) })) in
+    let goes_on : is_over after.system after.log ≡ false = by_end few open_still (is_over after.system after.log) refl in
+    let fewer : length after.left < length b.left = subst (λ (x : BusView). length x.left < length b.left) (sym is) (one_fewer (is_word_for k (Step n)) b.left unused) in
+    record {
+      sends = record {
+        goes_on = (
+          record {
+            sound = sound;
+            marks = ap (λ (x : BusView). length x.marks) is ∙ length-map b.marks (λ (m : Option Mark). None) ∙ (own.0).marks ∙ ap (λ (s : System). s.clusters) (sym (ap (λ (x : BusView). x.system) is));
+            unstopped = λ over. absurd (true≢false (sym over ∙ goes_on));
+          },
+          goes_on,
+        );
+        adds = lost_adds b after k n (Ok at) loses;
+        spends = inl fewer;
+      };
+      lost = lost;
+      fewer = fewer;
+    }
+  where
+    by_end : crashes after.log ≤ 1 → is_closed after.log ≡ false → (t : Bool) → is_over after.system after.log ≡ t → is_over after.system after.log ≡ false
+    by_end few open_still true over = absurd (true≢false (sym (few_losses_close after.system after.log sound.valid sound.legal few over) ∙ open_still))
+    by_end few open_still false over = over
 
 -- a process of the cluster moved, and sent nothing
 pub moves_turn : (b mid : BusView) (c caught worked : ClusterView) → mid ≡ b → GoesOwn b → TakesIn mid c caught → load worked + 1 ≤ load caught → worked.cursor ≡ caught.cursor → worked.queue ≡ [] → TurnsOwn b mid c worked
@@ -332,3 +386,7 @@ sends_turn b mid after c caught worked new same taken number_is more sends empty
 pub where_ok : {A E : Type 0} (r : Result A E) (P Q : Type 0) → (P → Q) → OnOk r P → OnOk r Q
 where_ok (Ok a) P Q then holds = then holds
 where_ok (Err e) P Q then holds = tt
+
+pub where_each : {A E : Type 0} (r : Result A E) (P Q : A → Type 0) → ((a : A) → P a → Q a) → IfOk r P → IfOk r Q
+where_each (Ok a) P Q then holds = then a holds
+where_each (Err e) P Q then holds = tt

@@ -1,6 +1,6 @@
 -- A cluster goes on posting, by what became of its head.
 use Rattle.std.proofs.Common.{◌≡◌, ℕ, ◌+◌, ◌≤◌, ◌<◌, sym, ◌∙◌, ap, subst, arith, List, [], ◌∷◌, length, take, drop, length-append, false}
-use Rattle.std.specs.List.{list_any}
+use Rattle.std.specs.List.{list_all, list_any}
 use Rattle.t32_base.specs.declared.process.ClusterNo.{ClusterNo}
 use Rattle.sys_text.specs.declared.system.System.{System}
 use Rattle.bus_msg.specs.declared.entry.Post.{Post}
@@ -9,24 +9,28 @@ use Rattle.cert_sched.specs.Appended.{entry_of}
 use Rattle.cert_sched.specs.Rules.{is_over}
 use Rattle.cert_sched.specs.Legal.{IsLegalBy}
 use Rattle.cert_sched.specs.Built.{BuiltMayFollow}
-use Rattle.cert_sched.specs.Losses.{is_by_cluster, was_lost_in}
+use Rattle.cert_sched.specs.Losses.{was_lost_in}
 use Rattle.cluster_core.specs.declared.worked.Worked.{Worked}
 use Rattle.cluster_core.specs.declared.worked.Worked.TheVariants.{Moved, Queued, Waits, Rests}
 use Rattle.cluster_core.specs.Follows.{FollowsBuilt}
 use Rattle.cluster_core.specs.Calls.{FollowsSome, GoesOn, KeepsPlace, WorkIs}
 use Rattle.cluster_core.specs.View.{ClusterView, after_sent, tried_once}
+use Rattle.bus_order.specs.Script.{is_unpassed}
 use Rattle.bus_order.specs.View.{BusView}
-use Rattle.cluster_run.specs.Along.{IsAlong, IsPosting, IsReadyAt, IsShown, IsSound, TakesIn, TakesNext, upto}
+use Rattle.cluster_run.specs.Gone.{is_told_by}
+use Rattle.cluster_run.specs.Along.{HasTaken, IsAlong, IsPosting, IsReadyAt, IsShown, IsSound, IsUnnamed, TakesNext, upto}
+use Rattle.cluster_run.specs.Turns.{IsSent}
 use Rattle.cluster_run.specs.Offers.{GoesOnFor}
+use Rattle.cluster_run.proofs.OwnLosses.{passed_next}
 use Rattle.cluster_run.proofs.Prefixes.{legal_prefix}
 use Rattle.cluster_run.proofs.Offering.{along_tried}
 use Rattle.cluster_run.proofs.TakingIn.{upto_all}
-use Rattle.cluster_run.proofs.Sending.{IsSent, clears, ready_sent, sent_along, sent_empty, sent_goes_on, sent_seen}
+use Rattle.cluster_run.proofs.Sending.{clears, ready_sent, sent_along, sent_empty, sent_goes_on, sent_seen}
 
 -- its head is tried
-pub tried_posting : (Shows : Type 0) (from : ℕ) (b : BusView) (c t : ClusterView) → t ≡ tried_once c → IsPosting Shows from b c → IsPosting Shows from b t
-tried_posting Shows from b c t is p = subst (IsPosting Shows from b) (sym is) (record {
-  shown = record { shows = (p.shown).shows; from_there = (p.shown).from_there; sound = (p.shown).sound; along = along_tried b c (p.shown).along };
+pub tried_posting : (Shows : Type 0) (from : ℕ) (b : BusView) (c t : ClusterView) → t ≡ tried_once c → IsUnnamed b c → IsPosting Shows from b c → IsPosting Shows from b t
+tried_posting Shows from b c t is unnamed p = subst (IsPosting Shows from b) (sym is) (record {
+  shown = record { shows = (p.shown).shows; from_there = (p.shown).from_there; sound = (p.shown).sound; along = along_tried b c unnamed (p.shown).along };
   seen = p.seen;
   goes_on = p.goes_on;
   few = p.few;
@@ -40,26 +44,27 @@ module _ (log : List Entry) (t left : ClusterView) (post : Post) (after : BusVie
   left_ready sound = subst (IsReadyAt after.log) (sym left_is) (ready_sent log t post after s sound)
 
   -- its entry was taken in
-  pub sent_posting : (Shows : Type 0) (from : ℕ) (new : ClusterView) → Shows → from ≤ t.cursor → IsSound after → TakesNext after.log left new → IsPosting Shows from after new
-  sent_posting Shows from new shows low sound next =
+  pub sent_posting : (Shows : Type 0) (from : ℕ) (new : ClusterView) → Shows → from ≤ t.cursor → IsSound after → IsUnnamed after left → TakesNext after.log left new → IsPosting Shows from after new
+  sent_posting Shows from new shows low sound unnamed next =
       let seen = sent_seen log t post after s left new left_is next in
       let long : length after.log ≡ length log + 1 = ap length s.longer ∙ length-append log (entry_of t.system log post ∷ []) in
       record {
-        shown = record { shows = shows; from_there = omega (arith, seen, low, long, s.seen); sound = sound; along = sent_along log t post after s left new left_is next };
+        shown = record { shows = shows; from_there = omega (arith, seen, low, long, s.seen); sound = sound; along = sent_along log t post after s left new left_is next unnamed };
         seen = seen;
         goes_on = sent_goes_on log t post after s;
         few = let none : length new.queue ≡ 0 = ap length (sent_empty log t post after s left new left_is next) in omega (arith, none);
       }
 
 -- it was behind, and has taken in what is new
-pub behind_posting : (Shows : Type 0) (from : ℕ) (after : BusView) (t new : ClusterView) → Shows → from ≤ t.cursor → IsSound after → length t.queue ≤ 1 → GoesOnFor t.number after → TakesIn after t new → new.cursor ≡ upto new.number after.log
-    → IsPosting Shows from after new
-behind_posting Shows from after t new shows low sound few goes taken caught = record {
-  shown = record { shows = shows; from_there = omega (arith, low, taken.order); sound = sound; along = taken.along };
-  seen = caught ∙ ap (λ k. upto k after.log) (taken.same).number ∙ upto_all after t.number sound goes.goes_on goes.lives;
-  goes_on = goes.goes_on;
-  few = subst (λ q. length q ≤ 1) (sym taken.queue) few;
-}
+pub behind_posting : (Shows : Type 0) (from : ℕ) (after : BusView) (t new : ClusterView) → length t.queue ≤ 1 → GoesOnFor t.number after → HasTaken Shows from after t new → IsPosting Shows from after new
+behind_posting Shows from after t new few goes takes =
+    let taken = takes.taken in
+    record {
+      shown = takes.shown;
+      seen = takes.caught ∙ ap (λ k. upto k after.log) (taken.same).number ∙ upto_all after t.number (takes.shown).sound goes.goes_on goes.lives;
+      goes_on = goes.goes_on;
+      few = subst (λ q. length q ≤ 1) (sym taken.queue) few;
+    }
 
 -- ---- it works
 
@@ -71,9 +76,9 @@ follows_some b c sound along = record {
   follows = (along.beside).follows;
 }
 
-pub worked_along : (b : BusView) (c new : ClusterView) → IsSound b → IsAlong b c → GoesOn c new → KeepsPlace c new → new.failed ≡ c.failed → IsAlong b new
+pub worked_along : (b : BusView) (c new : ClusterView) → IsSound b → IsAlong b c → IsUnnamed b c → GoesOn c new → KeepsPlace c new → new.failed ≡ c.failed → IsAlong b new
 unfolding follows_some
-worked_along b c new sound along goes keeps failed =
+worked_along b c new sound along unnamed goes keeps failed =
     let some = follows_some b c sound along in
     record {
       system = keeps.system ∙ along.system;
@@ -84,9 +89,10 @@ worked_along b c new sound along goes keeps failed =
         lives = (λ i. was_lost_in (take (keeps.cursor i) b.log) (keeps.number i)) ∙ (along.beside).lives;
         follows = subst (λ s. FollowsBuilt s (take new.cursor b.log) new) (sym keeps.system)
             (subst (λ n. FollowsBuilt c.system (take n b.log) new) (sym keeps.cursor) (goes (take c.cursor b.log) some.open_log some.follows));
-        sent_before = (λ i. list_any (is_by_cluster (keeps.number i)) (drop (keeps.cursor i) b.log)) ∙ (along.beside).sent_before;
+        told_before = (λ i. list_any (is_told_by (keeps.number i)) (drop (keeps.cursor i) b.log)) ∙ (along.beside).told_before;
         unfailed = failed ∙ (along.beside).unfailed;
       };
+      passed = (λ i. list_all (is_unpassed (keeps.number i) b.log (keeps.steps i)) b.script) ∙ passed_next b c unnamed along.passed;
     }
 
 unfailed_by : (w : Worked) (c new : ClusterView) → WorkIs c w new → new.failed ≡ c.failed
@@ -95,19 +101,19 @@ unfailed_by Queued c new is = ap (λ (v : ClusterView). v.failed) (is.1).rest
 unfailed_by Waits c new is = absurd is
 unfailed_by Rests c new is = ap (λ (v : ClusterView). v.failed) is.1
 
-pub worked_shown : (Shows : Type 0) (from : ℕ) (b : BusView) (c new : ClusterView) (w : Worked) → IsShown Shows from b c → GoesOn c new → KeepsPlace c new → WorkIs c w new → IsShown Shows from b new
-worked_shown Shows from b c new w shown goes keeps is = record {
+pub worked_shown : (Shows : Type 0) (from : ℕ) (b : BusView) (c new : ClusterView) (w : Worked) → IsShown Shows from b c → IsUnnamed b c → GoesOn c new → KeepsPlace c new → WorkIs c w new → IsShown Shows from b new
+worked_shown Shows from b c new w shown unnamed goes keeps is = record {
   shows = shown.shows;
   from_there = subst (λ n. from ≤ n) (sym keeps.cursor) shown.from_there;
   sound = shown.sound;
-  along = worked_along b c new shown.sound shown.along goes keeps (unfailed_by w c new is);
+  along = worked_along b c new shown.sound shown.along unnamed goes keeps (unfailed_by w c new is);
 }
 
 -- and what it queued is one post
-pub worked_posting : (Shows : Type 0) (from : ℕ) (b : BusView) (c new : ClusterView) → IsShown Shows from b c → c.cursor ≡ upto c.number b.log → GoesOnFor c.number b → GoesOn c new → KeepsPlace c new → WorkIs c Queued new → IsPosting Shows from b new
-worked_posting Shows from b c new shown caught goes_on_for goes keeps is = record {
-  shown = worked_shown Shows from b c new Queued shown goes keeps is;
-  seen = keeps.cursor ∙ caught ∙ upto_all b c.number shown.sound goes_on_for.goes_on goes_on_for.lives;
-  goes_on = goes_on_for.goes_on;
+pub worked_posting : (Shows : Type 0) (from : ℕ) (b : BusView) (c new : ClusterView) → IsShown Shows from b c → IsUnnamed b c → c.cursor ≡ length b.log → is_over b.system b.log ≡ false → GoesOn c new → KeepsPlace c new → WorkIs c Queued new → IsPosting Shows from b new
+worked_posting Shows from b c new shown unnamed seen goes_on goes keeps is = record {
+  shown = worked_shown Shows from b c new Queued shown unnamed goes keeps is;
+  seen = keeps.cursor ∙ seen;
+  goes_on = goes_on;
   few = let one : length new.queue ≡ 1 = ap (λ (v : ClusterView). length v.queue) (is.1).rest in omega (arith, one);
 }

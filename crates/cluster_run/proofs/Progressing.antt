@@ -1,5 +1,5 @@
 -- Each turn that does something leaves less to do, and each round does, or ends the run.
-use Rattle.std.proofs.Common.{◌≡◌, ℕ, zero, suc, ◌+◌, ◌≤◌, ◌<◌, ◌≢◌, ◌⊎◌, inl, inr, refl, sym, ◌∙◌, ap, subst, arith, List, [], ◌∷◌, length, Bool, false, true, not, ◌||◌, ◌&&◌, Option, Some, None, get_or, slice_set, true≢false, eq-eqb, eqb-true, Ok}
+use Rattle.std.proofs.Common.{◌≡◌, ℕ, zero, suc, ◌+◌, ◌≤◌, ◌<◌, ◌≢◌, ◌⊎◌, inl, inr, refl, sym, ◌∙◌, ap, subst, arith, List, [], ◌∷◌, length, Bool, false, true, not, ◌||◌, ◌&&◌, Option, Some, None, get_or, slice_set, true≢false, eq-eqb, eqb-true}
 use Rattle.std.specs.Prelude.{is_none, is_some, nat_eq, nat_lt, option_map, slice_get}
 use Rattle.std.specs.List.{list_any, range_with_len, sum_by}
 use Rattle.std.proofs.lemmas.List.Sums.{sum_by-set}
@@ -21,7 +21,7 @@ use Rattle.bus_order.specs.declared.marks.Idled.TheVariants.{Marked, Done as Was
 use Rattle.bus_order.specs.View.{BusView, is_awaited, mark_in, with_mark}
 use Rattle.cluster_run.specs.Offers.{TakesMark}
 use Rattle.bus_order.proofs.MarksLaws.{mark_in-get_or}
-use Rattle.cluster_run.specs.Progress.{Falls, FallsBehind, GetsOn, HasMark, IsAtMost, IsAwaiting, IsLost, IsOver, LivesMarked, Remaining, Rests, log_load, remaining, remaining_of, total, unseen}
+use Rattle.cluster_run.specs.Progress.{Falls, FallsBehind, GetsOn, HasMark, IsAtMost, IsAwaiting, IsLost, IsOver, LivesMarked, Remaining, Rests, remaining, remaining_of, total, unseen}
 use Rattle.cluster_run.specs.Along.{is_done_with}
 use Rattle.cluster_run.specs.Turns.{HasSpent, TurnsOwn}
 use Rattle.cert_sched.specs.Legal.{IsLegalBy}

@@ -1,11 +1,12 @@
 -- A cluster takes in the entry that it sent.
-use Rattle.std.proofs.Common.{◌≡◌, ◌+◌, ◌≤◌, refl, sym, ◌∙◌, ap, subst, arith, List, [], ◌∷◌, ◌++◌, length, drop, length-append, false, true, ◌||◌, Some, slice_get, true≢false, inr}
+use Rattle.std.proofs.Common.{◌≡◌, ◌+◌, ◌≤◌, ◌<◌, take, refl, sym, ◌∙◌, ap, subst, arith, List, [], ◌∷◌, ◌++◌, length, drop, length-append, false, true, ◌||◌, Some, slice_get, true≢false, inr}
 use Rattle.std.specs.Prelude.{option_map}
 use Rattle.std.specs.List.{list_any, list_all}
-use Rattle.std.proofs.lemmas.List.{take_all}
+use Rattle.std.proofs.lemmas.List.{take-append-le, take_all}
 use Rattle.std.proofs.lemmas.Bool.{and_parts}
 use Rattle.std.proofs.lemmas.List.Folds.{list_any-append}
 use Rattle.t32_base.specs.declared.process.ClusterNo.{ClusterNo}
+use Rattle.sys_text.specs.declared.system.System.{System}
 use Rattle.bus_msg.specs.declared.entry.What.{What}
 use Rattle.bus_msg.specs.declared.entry.What.TheVariants.{Mail, Birth, Exit, Page, Sync, Fetch, PageIs, Crash, Return, Rebackup, Done, Stop}
 use Rattle.bus_msg.specs.declared.entry.Post.{Post}
@@ -24,14 +25,19 @@ use Rattle.cert_sched.proofs.LogLaws.{IsLegal-snoc}
 use Rattle.cert_sched.proofs.UnlostLaws.{may_unlost}
 use Rattle.cluster_core.specs.View.{ClusterView, head_of, after_head, after_sent}
 use Rattle.cluster_core.specs.Queue.{IsQueueLegal}
-use Rattle.cluster_core.specs.Follows.{FollowsBuilt, IsOpen}
+use Rattle.cluster_core.specs.Follows.{FollowsBuilt, IsOpen, StandsBetween}
 use Rattle.cluster_core.specs.Calls.{Absorbs, IsReady, ReadyFor, absorbed}
 use Rattle.cluster_core.proofs.ByKind.{by_kind}
 use Rattle.cluster_core.proofs.Following.{no_end}
+use Rattle.bus_order.specs.Script.{is_unpassed}
 use Rattle.bus_order.specs.View.{BusView}
-use Rattle.cluster_run.specs.Along.{IsAlong, IsBeside, IsReadyAt, IsSound, TakesNext}
+use Rattle.script_laws.proofs.PassedWords.{all_longer}
+use Rattle.cluster_run.specs.Gone.{IsBeforeStep, is_told_by}
+use Rattle.cluster_run.specs.Along.{IsAlong, IsReadyAt, IsSound, IsUnnamed, TakesNext}
 use Rattle.cluster_run.specs.Progress.{log_load}
+use Rattle.cluster_run.specs.Turns.{IsSent}
 use Rattle.cluster_run.proofs.Prefixes.{drop_whole, get_last}
+use Rattle.cluster_run.proofs.OwnLosses.{none_own, passed_next}
 use Rattle.cluster_run.proofs.StepsLeft.{entry_leaves}
 use Rattle.cluster_run.proofs.TakingIn.{upto_all}
 
@@ -39,7 +45,7 @@ use Rattle.cluster_run.proofs.TakingIn.{upto_all}
 abbrev pub cleared : ClusterView → ClusterView
 cleared c = record c { queue = []; tried = false }
 
-same_after : (w : What) (c : ClusterView) → is_unlost w ≡ true → after_head c w ≡ c
+pub same_after : (w : What) (c : ClusterView) → is_unlost w ≡ true → after_head c w ≡ c
 same_after (Mail at letter) c h = refl
 same_after (Birth parent at child end) c h = refl
 same_after (Exit pid at end) c h = refl
@@ -60,17 +66,6 @@ ends_closed places = by_kind (λ w. ends_run places w ≡ closes w) (λ at lette
 -- an entry that is no loss loses no cluster
 no_loss : (k : ClusterNo) (w : What) → is_unlost w ≡ true → is_crash_of k w ≡ false
 no_loss k = by_kind (λ w. is_crash_of k w ≡ false) (λ at letter. refl) (λ pid at end. refl) (λ rests. refl) refl
-
--- a cluster that had seen all of a log that goes on sent its one post, and the bus has no entry behind it
-pub record IsSent (log : List Entry) (c : ClusterView) (post : Post) (after : BusView) : Type 0 where
-  pub beside : IsBeside log c
-  pub seen : c.cursor ≡ length log
-  pub goes_on : is_over c.system log ≡ false
-  pub only : c.queue ≡ post ∷ []
-  pub tried : c.tried ≡ true
-  pub legal : IsLegalBy BuiltMayFollow c.system log
-  pub system : c.system ≡ after.system
-  pub longer : after.log ≡ log ++ entry_of c.system log post ∷ []
 
 module _ (log : List Entry) (c : ClusterView) (post : Post) (after : BusView) (s : IsSent log c post after) where
   abbrev next : Entry
@@ -97,7 +92,7 @@ module _ (log : List Entry) (c : ClusterView) (post : Post) (after : BusView) (s
   lives_log = ap (λ l. was_lost_in l c.number) (sym (take_all c.cursor log (omega (arith, s.seen)))) ∙ (s.beside).lives
 
   -- the cluster lives still
-  sent_lives : was_lost_in after.log c.number ≡ false
+  pub sent_lives : was_lost_in after.log c.number ≡ false
   sent_lives =
       ap (λ l. was_lost_in l c.number) s.longer ∙ list_any-append (λ (e : Entry). is_crash_of c.number (what e)) log (next ∷ [])
       ∙ (λ i. lives_log i || (no_loss c.number (what next) may.built i || false))
@@ -128,17 +123,17 @@ module _ (log : List Entry) (c : ClusterView) (post : Post) (after : BusView) (s
   open_next : IsOpen BuiltMayFollow c.system (log ++ next ∷ [])
   open_next = (legal_next, goes_on_next)
 
+  stands_between : StandsBetween FollowsBuilt c.system log next (cleared c)
+  stands_between = record {
+    before = c;
+    followed = follows;
+    head = ap (λ q. option_map (entry_of c.system log) (head_of q)) s.only;
+    tried = s.tried;
+    sent = sym clears;
+  }
+
   between : IsReady log next (cleared c)
-  between = inr (
-    record {
-      before = c;
-      followed = follows;
-      head = ap (λ q. option_map (entry_of c.system log) (head_of q)) s.only;
-      tried = s.tried;
-      sent = sym clears;
-    },
-    refl,
-  )
+  between = inr (stands_between, refl)
 
   pub ready_sent : IsSound after → IsReadyAt after.log (after_sent c c.queue)
   ready_sent sound = subst (IsReadyAt after.log) (sym clears) (record {
@@ -148,6 +143,10 @@ module _ (log : List Entry) (c : ClusterView) (post : Post) (after : BusView) (s
         let P : Entry → Type 0 = λ e. ReadyFor e (cleared c) in
         subst P is (record { log = log; open_log = open_first; open_next = open_next; ready = between });
   })
+
+  -- it has passed no word for a step
+  passed_then : list_all (is_unpassed c.number after.log c.steps) after.script ≡ true
+  passed_then = ap (λ l. list_all (is_unpassed c.number l c.steps) after.script) s.longer ∙ all_longer c.number log (next ∷ []) c.steps after.script s.passed
 
   module _ (left new : ClusterView) (left_is : left ≡ after_sent c c.queue) (t' : TakesNext after.log left new) where
     is_left : left ≡ cleared c
@@ -174,8 +173,8 @@ module _ (log : List Entry) (c : ClusterView) (post : Post) (after : BusView) (s
     pub sent_number : new.number ≡ c.number
     sent_number = ap (λ (v : ClusterView). v.number) taken
 
-    pub sent_along : IsAlong after new
-    sent_along =
+    pub sent_along : IsUnnamed after left → IsAlong after new
+    sent_along unnamed =
         let all : length after.log ≡ c.cursor + 1 = long in
         let P : ClusterView → Type 0 = λ v. FollowsBuilt c.system (log ++ next ∷ []) v → IsAlong after v in
         subst P (sym taken) (λ f. record {
@@ -186,7 +185,29 @@ module _ (log : List Entry) (c : ClusterView) (post : Post) (after : BusView) (s
             goes_on = (λ i. is_over (s.system i) (take_all (c.cursor + 1) after.log (omega (arith, all)) i)) ∙ sent_goes_on;
             lives = ap (λ l. was_lost_in l c.number) (take_all (c.cursor + 1) after.log (omega (arith, all))) ∙ sent_lives;
             follows = subst (λ l. FollowsBuilt c.system l (absorbed (cleared c) next)) (sym (take_all (c.cursor + 1) after.log (omega (arith, all)) ∙ s.longer)) f;
-            sent_before = ap (λ n. list_any (is_by_cluster c.number) (drop n after.log)) (sym all) ∙ ap (list_any (is_by_cluster c.number)) (drop_whole after.log);
+            told_before = ap (λ n. list_any (is_told_by c.number) (drop n after.log)) (sym all) ∙ ap (list_any (is_told_by c.number)) (drop_whole after.log);
             unfailed = (s.beside).unfailed;
           };
+          passed = passed_next after (cleared c) (subst (IsUnnamed after) is_left unnamed) passed_then;
         }) (absorbs log open_first open_next between)
+
+  -- before it takes the entry in, it stands between that and the log before
+  pub before_sent : IsLegalBy BuiltMayFollow after.system after.log → (left : ClusterView) → left ≡ after_sent c c.queue → IsBeforeStep after left
+  before_sent legal left left_is = subst (IsBeforeStep after) (sym (left_is ∙ clears)) (record {
+    system = s.system;
+    has = subst (λ (y : System). (c.number).0 < y.clusters) s.system (s.beside).has;
+    within = omega (arith, long);
+    lives = ap (λ l. was_lost_in l c.number) front ∙ lives_log;
+    stands = inr (record {
+      entry = next;
+      there = at_cursor;
+      between = subst (λ y. StandsBetween FollowsBuilt y (take c.cursor after.log) next (cleared c)) s.system (subst (λ l. StandsBetween FollowsBuilt c.system l next (cleared c)) (sym front) stands_between);
+      sent_before = ap (λ n. list_any (is_by_cluster c.number) (drop n after.log)) (sym long) ∙ ap (list_any (is_by_cluster c.number)) (drop_whole after.log);
+    });
+    kept = none_own after.system after.log (length after.log) c.number legal (ap (λ l. was_lost_in l c.number) (take_all (length after.log) after.log (omega arith)) ∙ sent_lives) (ap (list_any (is_told_by c.number)) (drop_whole after.log));
+    passed = passed_then;
+    unfailed = (s.beside).unfailed;
+  })
+    where
+      front : take c.cursor after.log ≡ log
+      front = ap (take c.cursor) s.longer ∙ take-append-le c.cursor log (next ∷ []) (omega (arith, s.seen)) ∙ take_all c.cursor log (omega (arith, s.seen))

@@ -1,5 +1,5 @@
 -- Up to where a cluster follows a log.
-use Rattle.std.proofs.Common.{◌≡◌, ℕ, zero, suc, ◌+◌, ◌-◌, ◌≤◌, ◌<◌, refl, sym, ◌∙◌, ap, subst, arith, List, [], ◌∷◌, length, take, slice_get, Bool, true, false, cond, not, ◌||◌, Option, Some, None, is_some, min, true≢false, ◌++◌}
+use Rattle.std.proofs.Common.{◌≡◌, ℕ, zero, suc, ◌+◌, ◌-◌, ◌≤◌, ◌<◌, refl, sym, ◌∙◌, ap, arith, List, [], ◌∷◌, length, take, slice_get, Bool, true, false, cond, not, ◌||◌, Some, None, is_some, true≢false, ◌++◌}
 use Rattle.std.specs.List.{list_any, position_or_len}
 use Rattle.std.proofs.lemmas.List.{take-append-le}
 use Rattle.std.proofs.lemmas.List.Folds.{list_any-append}
@@ -36,7 +36,7 @@ none_before t (x ∷ xs) (suc n) low = by_test (t x) low (none_before t xs n)
     by_test false low more = more (omega (arith, low))
 
 -- it is not before a place before which none passes
-not_before : {X : Type 0} (t : X → Bool) (xs : List X) (n : ℕ) → n ≤ length xs → list_any t (take n xs) ≡ false → n ≤ position_or_len t xs
+pub not_before : {X : Type 0} (t : X → Bool) (xs : List X) (n : ℕ) → n ≤ length xs → list_any t (take n xs) ≡ false → n ≤ position_or_len t xs
 not_before t xs zero within none = omega arith
 not_before t [] (suc n) within none = absurd (omega (arith, within))
 not_before t (x ∷ xs) (suc n) within none = by_test (t x) none (not_before t xs n (omega (arith, within)))
@@ -55,7 +55,7 @@ first_none t (x ∷ xs) none = by_test (t x) none (first_none t xs)
     by_test false none more = omega (arith, more none)
 
 -- one that passes, where none before it does, is the first
-first_at : {X : Type 0} (t : X → Bool) (xs : List X) (i : ℕ) (x : X) → slice_get xs i ≡ Some x → t x ≡ true → list_any t (take i xs) ≡ false → position_or_len t xs ≡ i
+pub first_at : {X : Type 0} (t : X → Bool) (xs : List X) (i : ℕ) (x : X) → slice_get xs i ≡ Some x → t x ≡ true → list_any t (take i xs) ≡ false → position_or_len t xs ≡ i
 first_at t [] i x at here none = cc
 first_at t (y ∷ xs) zero x at here none =
     let same : y ≡ x = let both_are : Some y ≡ Some x = at in cc in

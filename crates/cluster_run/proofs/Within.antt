@@ -1,5 +1,5 @@
 -- The processes of a cluster that follows a log have no more steps left than so many as the system says.
-use Rattle.std.proofs.Common.{◌≡◌, ℕ, zero, suc, ◌+◌, ◌*◌, ◌^◌, ◌≤◌, ◌<◌, ◌⊎◌, inl, inr, refl, sym, ◌∙◌, ap, subst, arith, List, [], ◌∷◌, ◌++◌, length, get_or, Bool, true, false, cond, ◌||◌, eqb, ltb, eqb-true, Option, Some, None, true≢false}
+use Rattle.std.proofs.Common.{◌≡◌, ℕ, zero, suc, ◌+◌, ◌*◌, ◌^◌, ◌≤◌, ◌<◌, ◌⊎◌, inl, inr, refl, sym, ◌∙◌, ap, subst, arith, List, [], ◌∷◌, ◌++◌, length, take, get_or, Bool, true, false, cond, ◌||◌, eqb, ltb, eqb-true, Option, Some, None, true≢false}
 use Rattle.std.specs.Prelude.{All, count_by, filter, find, option_and_then, option_map}
 use Rattle.std.specs.List.{list_any, sum_by}
 use Rattle.std.specs.Option.{option_map_or}
@@ -7,6 +7,7 @@ use Rattle.std.proofs.lemmas.List.{length-map}
 use Rattle.std.proofs.lemmas.List.Elements.{All-nil, All-cons, All-from_get_or}
 use Rattle.std.proofs.lemmas.List.Sums.{sum_by-le, length-filter, count_by-le-length}
 use Rattle.std.proofs.lemmas.Nat.{mul-le}
+use Rattle.std.proofs.lemmas.Option.{slice_get_cases}
 use Rattle.std.proofs.Math.Nat.{mul-le-mul_right}
 use Rattle.t32_base.specs.declared.process.Pid.{Pid}
 use Rattle.sys_text.specs.declared.system.System.{System}
@@ -37,13 +38,15 @@ use Rattle.cert_sched.specs.Rests.{home_pids}
 use Rattle.cert_sched.specs.Rules.{is_over}
 use Rattle.cert_sched.specs.Built.{BuiltMayFollow, UnlostMayFollow, is_built, is_unlost}
 use Rattle.cert_sched.specs.Legal.{IsLegalBy}
+use Rattle.cert_sched.specs.Losses.{was_lost_in}
 use Rattle.cert_sched.proofs.Induction.{legal_induction}
 use Rattle.cert_sched.proofs.LogLaws.{placement-snoc}
 use Rattle.cert_sched.proofs.RisingLaws.{NoTwo}
 use Rattle.cert_sched.proofs.StepLaws.{sent_from, silent_from}
-use Rattle.cluster_core.specs.View.{ClusterView, Held, Runs, Rolls, Waits, held_load, held_of, load}
+use Rattle.cluster_core.specs.View.{ClusterView, Held, Runs, Rolls, Waits, after_sent, head_of, held_load, held_of, load}
 use Rattle.cluster_core.specs.Holds.{IsHeldAs}
-use Rattle.cluster_core.specs.Follows.{FollowsBuilt}
+use Rattle.cluster_core.specs.Calls.{FollowsSome}
+use Rattle.cluster_core.specs.Follows.{FollowsBuilt, IsOpen}
 use Rattle.cluster_core.specs.Queue.{IsQueueLegal, is_move_of, state_by}
 use Rattle.cluster_core.proofs.ByKind.{by_kind}
 use Rattle.cluster_core.proofs.Here.{same_itself}
@@ -52,9 +55,13 @@ use Rattle.cluster_core.proofs.Lightening.{held_apart}
 use Rattle.sys_calls.proofs.Counting.{last_sent}
 use Rattle.sys_calls.proofs.Weighing.{Leaves, emits_leaves, next_leaves, silently_leaves}
 use Rattle.bus_order.specs.View.{BusView}
+use Rattle.cluster_run.specs.Gone.{IsGone, StoodBeside, StoodBetween}
 use Rattle.cluster_run.specs.Along.{AllAlong, IsMember, IsOwned, IsSound}
 use Rattle.cluster_run.specs.Progress.{Falls, IsOver, Remaining, kernel_load, log_load, remaining, total, unseen}
 use Rattle.cluster_run.proofs.Posting.{follows_some}
+use Rattle.cluster_run.proofs.Prefixes.{goes_on_before, legal_prefix}
+use Rattle.cluster_run.proofs.Sending.{same_after}
+use Rattle.cluster_run.proofs.StepLosses.{gone_inside, same_sent}
 use Rattle.cluster_run.proofs.StepsLeft.{after_log, one_of_all}
 use Rattle.cluster_run.proofs.Together.{one_member}
 
@@ -243,11 +250,51 @@ load_within system log c legal follows two =
 abbrev pub most_total : System → ℕ
 most_total system = system.clusters * most_load system
 
+-- one that follows a log that goes on
+some_within : (b : BusView) (c : ClusterView) → IsSound b → c.system ≡ b.system → FollowsSome c → load c ≤ most_load b.system
+some_within b c sound system some =
+    let within : load c ≤ most_load c.system = load_within c.system some.log c (some.open_log).0 some.follows (held_apart c (ap is_system system ∙ sound.valid) some) in
+    subst (λ s. load c ≤ most_load s) system within
+
+-- one that is gone follows what it had taken in, or did before it sent its last post
+module _ (b : BusView) (c : ClusterView) (sound : IsSound b) (gone : IsGone b c) where
+  open_there : IsOpen BuiltMayFollow b.system (take c.cursor b.log)
+  open_there = (
+    legal_prefix BuiltMayFollow b.system b.log c.cursor sound.legal,
+    elim (slice_get_cases b.log c.cursor).1 [
+      | inl there ↦ goes_on_before b.system b.log c.cursor there.0 sound.legal there.2
+      | inr past ↦ absurd (let low = (gone.left).within in let inside = gone_inside b c gone in omega (arith, low, inside, past.0))
+    ],
+  )
+
+  follows_then : (v : ClusterView) → v.system ≡ b.system → FollowsBuilt b.system (take c.cursor b.log) v → load v ≤ most_load b.system
+  follows_then v system follows = some_within b v sound system (record {
+    log = take c.cursor b.log;
+    open_log = subst (λ s. IsOpen BuiltMayFollow s (take c.cursor b.log)) (sym system) open_there;
+    follows = subst (λ s. FollowsBuilt s (take c.cursor b.log) v) (sym system) follows;
+  })
+
+  sent_load : (was : ClusterView) (queue : List Post) (e : Entry) → IsQueueLegal UnlostMayFollow b.system (take c.cursor b.log) queue → option_map (entry_of b.system (take c.cursor b.log)) (head_of queue) ≡ Some e → load (after_sent was queue) ≡ load was
+  sent_load was [] e legal head = cc
+  sent_load was (p ∷ queue) e legal head = ap load (ap (λ (v : ClusterView). record v { queue = queue; tried = false }) (same_after p.what was (legal.0).built))
+
+  pub gone_within : load c ≤ most_load b.system
+  gone_within = by_way (gone.left).followed
+    where
+      by_way : StoodBeside b c ⊎ ((was_lost_in b.log c.number ≡ true) × StoodBetween b c) → load c ≤ most_load b.system
+      by_way (inl beside) = follows_then c (gone.left).system beside.follows
+      by_way (inr (lost, stood)) =
+          let was = (stood.between).before in
+          let system : was.system ≡ b.system = sym (ap (λ (v : ClusterView). v.system) (stood.between).sent ∙ (same_sent was was.queue).2) ∙ (gone.left).system in
+          let same : load c ≡ load was = ap load (stood.between).sent ∙ sent_load was was.queue stood.entry (((stood.between).followed).queue).legal (stood.between).head in
+          let most = follows_then was system (stood.between).followed in
+          omega (arith, same, most)
+
 member_within : (b : BusView) (n : ℕ) (c : ClusterView) → IsSound b → IsMember b n c → load c ≤ most_load b.system
-member_within b n c sound member =
-    let some = follows_some b c sound member.along in
-    let within : load c ≤ most_load c.system = load_within c.system some.log c (some.open_log).0 some.follows (held_apart c (ap is_system (member.along).system ∙ sound.valid) some) in
-    subst (λ s. load c ≤ most_load s) (member.along).system within
+member_within b n c sound member = elim member.along [
+  | inl along ↦ some_within b c sound along.system (follows_some b c sound along)
+  | inr gone ↦ gone_within b c sound gone
+]
 
 all_members : (b : BusView) (cs : List ClusterView) (P : ClusterView → Type 0) → AllAlong b cs → ((n : ℕ) (c : ClusterView) → IsMember b n c → P c) → All P cs
 all_members b [] P all each = All-nil P

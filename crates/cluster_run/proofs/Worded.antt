@@ -1,12 +1,10 @@
 -- What the words that are due add to a bus, and what is known of a bus whose script has few.
-use Rattle.std.proofs.Common.{◌≡◌, ℕ, zero, suc, ◌+◌, ◌^◌, ◌≤◌, ◌<◌, refl, sym, ◌∙◌, ap, subst, arith, inl, List, [], ◌∷◌, ◌++◌, length, append-nil, append_assoc, Bool, true, false, cond, ◌&&◌, ◌||◌, Option, Some, None, true≢false}
+use Rattle.std.proofs.Common.{◌≡◌, ℕ, zero, suc, ◌^◌, ◌≤◌, ◌<◌, refl, sym, ◌∙◌, ap, subst, arith, inl, List, [], ◌∷◌, ◌++◌, length, append-nil, append_assoc, Bool, true, false, cond, ◌||◌, Option, Some, None}
 use Rattle.std.specs.Prelude.{All}
 use Rattle.std.specs.List.{list_all, list_any}
-use Rattle.std.proofs.lemmas.Bool.{and_parts}
 use Rattle.std.proofs.lemmas.List.Elements.{All-nil, All-cons, All-append}
 use Rattle.std.proofs.lemmas.List.Folds.{list_any-append}
 use Rattle.t32_base.specs.declared.process.ClusterNo.{ClusterNo}
-use Rattle.sys_text.specs.declared.system.System.{System}
 use Rattle.sys_text.specs.Valid.{is_system}
 use Rattle.bus_msg.specs.declared.entry.By.TheVariants.{Bus}
 use Rattle.bus_msg.specs.declared.entry.Cause.TheVariants.{Place}
@@ -20,20 +18,18 @@ use Rattle.cert_sched.specs.Appended.{entry_of}
 use Rattle.cert_sched.specs.Built.{BuiltMayFollow, is_built_word}
 use Rattle.cert_sched.specs.Legal.{IsLegalBy}
 use Rattle.cert_sched.specs.Looked.{first_reached, given_by}
-use Rattle.cert_sched.specs.Losses.{is_by_cluster}
 use Rattle.cert_sched.specs.Rules.{is_over}
 use Rattle.cert_sched.specs.Schedule.{placement}
 use Rattle.cert_sched.specs.Scripted.{is_closed}
-use Rattle.bus_lock.specs.Lists.{MayAdd}
+use Rattle.bus_lock.specs.Lists.{MayAdd, is_author}
 use Rattle.bus_order.specs.Log.{author, author_of}
-use Rattle.bus_order.specs.Script.{is_unpassed}
 use Rattle.bus_order.specs.View.{BusView, HasLooked, KeepsScript, after_words, look_once, looks, with_given, with_look}
 use Rattle.bus_order.proofs.Looking.{look_over, look_some}
 use Rattle.bus_order.proofs.OverLaws.{open_not_closed}
-use Rattle.bus_order.proofs.Unscripted.{after_none, left_none}
 use Rattle.script_laws.proofs.CoveredLosses.{few_losses_close}
 use Rattle.script_laws.proofs.CrashLaws.{crashes_within}
-use Rattle.cluster_run.specs.Along.{IsSound, is_place_word}
+use Rattle.cluster_run.specs.Gone.{is_told_by}
+use Rattle.cluster_run.specs.Along.{IsSound}
 use Rattle.cluster_run.specs.Seated.{bus_of, origin_of}
 
 -- ---- what words add
@@ -45,7 +41,7 @@ pub record Worded (old new : BusView) : Type 0 where
   pub more : List Entry
   pub log : new.log ≡ old.log ++ more
   pub none : All (λ (e : Entry). author_of e ≡ None) more
-  pub others : (k : ClusterNo) → list_any (is_by_cluster k) more ≡ false
+  pub others : (k : ClusterNo) → list_any (is_told_by k) more ≡ false
 
 worded_none : (b : BusView) → Worded b b
 worded_none b = record { system = refl; script = refl; more = []; log = sym (append-nil b.log); none = All-nil (λ (e : Entry). author_of e ≡ None); others = λ k. refl }
@@ -57,7 +53,7 @@ worded_more a b c one two = record {
   more = one.more ++ two.more;
   log = two.log ∙ ap (λ l. l ++ two.more) one.log ∙ append_assoc a.log one.more two.more;
   none = All-append (λ (e : Entry). author_of e ≡ None) one.more two.more one.none two.none;
-  others = λ k. list_any-append (is_by_cluster k) one.more two.more ∙ (λ i. one.others k i || two.others k i);
+  others = λ k. list_any-append (is_told_by k) one.more two.more ∙ (λ i. one.others k i || two.others k i);
 }
 
 -- what a word gives has no author
@@ -83,7 +79,7 @@ given_worded b (Some w) none = record {
   more = entry_of b.system b.log (record { by = Bus; what = w }) ∷ [];
   log = refl;
   none = All-cons (λ (e : Entry). author_of e ≡ None) (entry_of b.system b.log (record { by = Bus; what = w })) [] (none w refl) (All-nil (λ (e : Entry). author_of e ≡ None));
-  others = λ k. refl;
+  others = λ k. ap (λ o. is_author k.0 o || false) (none w refl);
 }
 
 look_worded : (b : BusView) (o : Option ScriptWord) → Worded b (with_look b o)
@@ -115,38 +111,13 @@ may_add k more none i d low = inl (none i d low)
 
 -- ---- few words
 
-pub built_words : (words : List ScriptWord) → list_all is_place_word words ≡ true → list_all is_built_word words ≡ true
-built_words [] all = refl
-built_words (w ∷ words) all =
-    let parts = and_parts (is_place_word w) (list_all is_place_word words) all in
-    λ i. built w parts.0 i && built_words words parts.1 i
-  where
-    built : (w : ScriptWord) → is_place_word w ≡ true → is_built_word w ≡ true
-    built (CrashAt k place) h = refl
-    built (CrashStep k step) h = absurd (true≢false (sym h))
-    built (DiskAt k call) h = absurd (true≢false (sym h))
-    built (ReturnAt k place) h = absurd (true≢false (sym h))
-
--- no cluster passes a word for a place
-pub none_passed : (k : ClusterNo) (log : List Entry) (steps : ℕ) (words : List ScriptWord) → list_all is_place_word words ≡ true → list_all (is_unpassed k log steps) words ≡ true
-none_passed k log steps [] all = refl
-none_passed k log steps (w ∷ words) all =
-    let parts = and_parts (is_place_word w) (list_all is_place_word words) all in
-    λ i. unpassed w parts.0 i && none_passed k log steps words parts.1 i
-  where
-    unpassed : (w : ScriptWord) → is_place_word w ≡ true → is_unpassed k log steps w ≡ true
-    unpassed (CrashAt j place) h = refl
-    unpassed (CrashStep j step) h = absurd (true≢false (sym h))
-    unpassed (DiskAt j call) h = refl
-    unpassed (ReturnAt j place) h = refl
-
 -- a bus is sound, as far as its script is
-pub sound_of : (b : BusView) → is_system b.system ≡ true → list_all is_place_word b.script ≡ true → length b.script ≤ 1 → IsLegalBy BuiltMayFollow b.system b.log → KeepsScript b → length b.log < 2 ^ 64 → IsSound b
-sound_of b valid words one legal keeps fits = record { valid = valid; words = words; one = one; legal = legal; losses = crashes_within b keeps legal (built_words b.script words); fits = fits }
+pub sound_of : (b : BusView) → is_system b.system ≡ true → list_all is_built_word b.script ≡ true → length b.script ≤ 1 → IsLegalBy BuiltMayFollow b.system b.log → KeepsScript b → length b.log < 2 ^ 64 → IsSound b
+sound_of b valid words one legal keeps fits = record { valid = valid; words = words; one = one; legal = legal; losses = crashes_within b keeps legal words; fits = fits }
 
 pub sound_again : (old new : BusView) → IsSound old → new.system ≡ old.system → new.script ≡ old.script → IsLegalBy BuiltMayFollow new.system new.log → KeepsScript new → length new.log < 2 ^ 64 → IsSound new
 sound_again old new sound system script legal keeps fits =
-    sound_of new (ap is_system system ∙ sound.valid) (ap (list_all is_place_word) script ∙ sound.words) (let long = ap length script in omega (arith, long, sound.one)) legal keeps fits
+    sound_of new (ap is_system system ∙ sound.valid) (ap (list_all is_built_word) script ∙ sound.words) (let long = ap length script in omega (arith, long, sound.one)) legal keeps fits
 
 -- its log is over exactly where it is closed
 pub sound_closed : (b : BusView) → IsSound b → is_over b.system b.log ≡ is_closed b.log

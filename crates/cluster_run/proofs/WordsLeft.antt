@@ -1,5 +1,5 @@
 -- What the words that are due leave of a bus: itself, or fewer words; and a log that they do not close.
-use Rattle.std.proofs.Common.{◌≡◌, ℕ, zero, suc, ◌+◌, ◌≤◌, ◌<◌, ◌⊎◌, inl, inr, refl, sym, ◌∙◌, ap, subst, arith, List, [], ◌∷◌, ◌++◌, length, Bool, true, false, cond, Option, Some, None, true≢false}
+use Rattle.std.proofs.Common.{◌≡◌, ℕ, zero, suc, ◌+◌, ◌<◌, ◌⊎◌, inl, inr, refl, sym, ◌∙◌, ap, subst, arith, List, [], ◌∷◌, length, Bool, true, false, cond, Option, Some, None}
 use Rattle.std.specs.Prelude.{find}
 use Rattle.std.proofs.lemmas.List.{length-map}
 use Rattle.bus_msg.specs.declared.entry.By.TheVariants.{Bus}

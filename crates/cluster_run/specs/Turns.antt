@@ -1,14 +1,22 @@
 -- What a turn makes of a cluster and of its bus.
-use Rattle.std.specs.Prelude.{◌≡◌, ◌+◌, ◌≤◌, ◌<◌, ◌⊎◌, Bool, true, false, [], ◌∷◌, length, is_some}
+use Rattle.std.specs.Prelude.{◌≡◌, ◌+◌, ◌≤◌, ◌<◌, ◌⊎◌, ℕ, Bool, true, false, List, [], ◌∷◌, ◌++◌, length, is_some, ⊤}
+use Rattle.std.specs.List.{list_all}
 use Rattle.t32_base.specs.declared.process.ClusterNo.{ClusterNo}
 use Rattle.bus_msg.specs.declared.entry.Post.{Post}
+use Rattle.bus_msg.specs.declared.entry.Entry.{Entry}
 use Rattle.cert_sched.specs.Losses.{was_lost_in}
 use Rattle.cert_sched.specs.Rules.{is_over}
+use Rattle.cert_sched.specs.Appended.{entry_of}
+use Rattle.cert_sched.specs.Legal.{IsLegalBy}
+use Rattle.cert_sched.specs.Built.{BuiltMayFollow}
 use Rattle.cluster_core.specs.View.{ClusterView, head_of}
+use Rattle.bus_order.specs.Script.{is_unpassed}
 use Rattle.bus_order.specs.View.{BusView}
 use Rattle.cluster_run.specs.declared.turn.Turn.{Turn}
-use Rattle.cluster_run.specs.declared.turn.Turn.TheVariants.{Moved, Rests, Over}
-use Rattle.cluster_run.specs.Along.{IsOwned, is_done_with, upto}
+use Rattle.cluster_run.specs.declared.turn.Turn.TheVariants.{Moved, Rests, Over, Lost}
+use Rattle.cluster_run.specs.declared.turn.Tried.{Tried}
+use Rattle.cluster_run.specs.declared.turn.Tried.TheVariants.{On as GoesOn, Over as IsOverThere, Lost as IsLostThere}
+use Rattle.cluster_run.specs.Along.{IsBeside, IsOwned, IsPosting, IsShown, IsStopped, is_done_with, upto}
 use Rattle.cluster_run.specs.declared.offers.Offered.{Offered}
 use Rattle.cluster_run.specs.Offers.{Adds, IsLeft, IsTold, OfferIs, Visits}
 use Rattle.cluster_run.specs.Progress.{GetsOn, IsAtMost, IsOver, Rests as RestsThere, log_load, remaining_of}
@@ -22,6 +30,20 @@ abbrev pub EndsAs : Bool → Turn → BusView → ClusterView → Type 0
 EndsAs alone Moved b c = c.queue ≡ []
 EndsAs alone Rests b c = (c.queue ≡ []) × HasTold alone c b
 EndsAs alone Over b c = (c.cursor ≡ upto c.number b.log) × (is_done_with c.number b.system b.log ≡ true)
+EndsAs alone Lost b c = ⊤
+
+-- where it stands then: along the bus that its port shows; or it was lost at a step, and has stopped
+abbrev pub StandsAs : Type 0 → ℕ → Turn → BusView → ClusterView → Type 0
+StandsAs Shows from Moved b c = IsShown Shows from b c
+StandsAs Shows from Rests b c = IsShown Shows from b c
+StandsAs Shows from Over b c = IsShown Shows from b c
+StandsAs Shows from Lost b c = IsStopped b c
+
+-- How the one post of a cluster was tried. It goes on posting, on a longer log; or it has followed the log to its end or to its own loss; or it was lost at a step.
+abbrev pub TriesAs : Bool → Type 0 → ℕ → Tried → BusView → BusView → ClusterView → Type 0
+TriesAs alone Shows from GoesOn b after c = IsPosting Shows from after c × (length b.log < length after.log)
+TriesAs alone Shows from IsOverThere b after c = IsShown Shows from after c × EndsAs alone Over after c
+TriesAs alone Shows from IsLostThere b after c = IsStopped after c
 
 -- a bus that no other has, whose log goes on
 abbrev pub GoesOwn : BusView → Type 0
@@ -37,10 +59,17 @@ pub record SendsOwn (k : ClusterNo) (b after : BusView) : Type 0 where
   pub adds : Adds k b after
   pub spends : Spends b after
 
--- the one post of a cluster was tried: it was sent, or the cluster had not seen all, or it was lost by a word
-pub record TriesOwn (k : ClusterNo) (b after : BusView) (over : Bool) : Type 0 where
+-- a cluster that lived was lost by a word that was left
+pub record LosesOwn (k : ClusterNo) (b after : BusView) : Type 0 where
   pub sends : SendsOwn k b after
-  pub lost : over ≡ true → (was_lost_in after.log k ≡ true) × (length after.left < length b.left)
+  pub lost : was_lost_in after.log k ≡ true
+  pub fewer : length after.left < length b.left
+
+-- the one post of a cluster was tried: it was sent, or the cluster had not seen all, or it was lost by a word
+abbrev pub TriesOwn : ClusterNo → Tried → BusView → BusView → Type 0
+TriesOwn k GoesOn b after = SendsOwn k b after
+TriesOwn k IsOverThere b after = LosesOwn k b after
+TriesOwn k IsLostThere b after = LosesOwn k b after
 
 -- all posts of a cluster were sent, or it was lost; where it had one, fewer words are left or the log is longer
 pub record SendsAll (b after : BusView) (c new : ClusterView) : Type 0 where
@@ -71,6 +100,22 @@ pub record TurnsOwn (b after : BusView) (c new : ClusterView) : Type 0 where
   pub spends : HasSpent b after
   pub lasts : IsOver after ⊎ IsAtMost (remaining_of b c) (remaining_of after new)
   pub gets_on : GetsOn b after (remaining_of b c) (remaining_of after new) (c.number).0 ((c.number).0 + 1)
+
+-- a cluster that had seen all of a log that goes on sent its one post, and the bus has no entry behind it
+pub record IsSent (log : List Entry) (c : ClusterView) (post : Post) (after : BusView) : Type 0 where
+  pub beside : IsBeside log c
+  pub passed : list_all (is_unpassed c.number log c.steps) after.script ≡ true
+  pub seen : c.cursor ≡ length log
+  pub goes_on : is_over c.system log ≡ false
+  pub only : c.queue ≡ post ∷ []
+  pub tried : c.tried ≡ true
+  pub legal : IsLegalBy BuiltMayFollow c.system log
+  pub system : c.system ≡ after.system
+  pub longer : after.log ≡ log ++ entry_of c.system log post ∷ []
+
+-- the bus has the entry that the one post of a cluster became
+abbrev pub HasSent : BusView → ClusterView → Type 0
+HasSent after c = (log : List Entry) × (post : Post) × IsSent log c post after
 
 -- the one post of a cluster was offered
 abbrev pub OffersHead : Bool → ClusterView → BusView → BusView → Offered → Type 0

@@ -3,7 +3,8 @@ ghost use Rattle.std.specs.Prelude.{◌≡◌, ◌<◌, ◌≤◌, IfOk, length,
 ghost use Rattle.std.specs.Arc.{arc_value};
 ghost use Rattle.sys_text.specs.Valid.{is_system};
 ghost use Rattle.std.specs.List.{list_all};
-ghost use Rattle.cluster_run.specs.Along.{AllAlong, IsOwned, is_place_word};
+ghost use Rattle.cert_sched.specs.Built.{is_built_word};
+ghost use Rattle.cluster_run.specs.Along.{AllAlong, IsOwned};
 ghost use Rattle.cluster_run.specs.Started.{AllStarted};
 
 use bus_order::bus::Bus;
@@ -22,10 +23,11 @@ pub fn start(
     script: &[ScriptWord],
 ) -> Result<(Bus, Vec<Cluster>), NoMemory>
     requires valid { is_system (arc_value system.now) ≡ true }
-    requires words { list_all is_place_word script.now ≡ true }
+    requires words { list_all is_built_word script.now ≡ true }
     requires one { length script.now ≤ 1 }
     ensures owned { IfOk result (λ started. IsOwned started.0) }
     ensures along { IfOk result (λ started. AllAlong started.0 started.1.items) }
+    ensures started { IfOk result (λ started. AllStarted (arc_value system.now) (arc_value system.now).clusters started.1.items) }
     ensures some { IfOk result (λ started. 0 < length started.1.items) }
     ensures system { IfOk result (λ started. started.0.system ≡ arc_value system.now) }
     ensures script { IfOk result (λ started. started.0.script ≡ script.now) }

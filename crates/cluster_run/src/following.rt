@@ -24,7 +24,8 @@ use t32_base::gate::Gate;
 use t32_base::streams::NoMemory;
 
 /// Lets a cluster follow the log until its seat has seen that this is over, or that the cluster was lost, and answers the
-/// seat, and the cluster, which has taken in all entries but the last, or those before its loss. Where it meets want of
+/// seat, and the cluster, which has taken in all entries but the last, or those before its loss at a place, or which stopped at
+/// the step before which it was lost. Where it meets want of
 /// memory it ends the run, and there is no cluster.
 pub fn follow<R: Wait, G: Gate>(
     rt: &R,
@@ -86,14 +87,14 @@ fn follow_on<R: Wait, G: Gate>(
     requires empty { cluster.old.queue ≡ [] }
     ensures seat { IsSeatOf port.old.lock.now cluster.old.number port.new.seat }
     ensures origin { seat_origin port.new.seat ≡ Some (made_of (arc_value port.old.system.now) port.old.script.now) }
-    ensures ended { OnOk result (HasEnded (arc_value port.old.system.now) cluster.old.number.0 (seen port.new.seat) cluster.new) }
+    ensures ended { OnOk result (HasEnded (made_of (arc_value port.old.system.now) port.old.script.now) cluster.old.number.0 (seen port.new.seat) cluster.new) }
 {
     let rt = port.rt;
     for _ in rt.forever() {
         match take_turn(port, cluster)? {
             Turn::Moved => (),
             Turn::Rests => sleep(rt, port.lock, &mut port.seat, cluster, port.sleepers),
-            Turn::Over => return Ok(()),
+            Turn::Over | Turn::Lost => return Ok(()),
         }
     }
     unreachable!()

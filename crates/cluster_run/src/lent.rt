@@ -1,7 +1,7 @@
 //! A bus that no other has is its own port.
-use crate::offers::{Offered, offer_to, tell_to};
+use crate::offers::{Offered, lose_at, offer_to, tell_to};
 use crate::port::Port;
-use bus_msg::entry::{Entry, Post};
+use bus_msg::entry::{Cause, Entry, Post};
 use bus_order::bus::Bus;
 use bus_order::marks::{Idled, Mark};
 use cluster_core::cluster::Cluster;
@@ -45,6 +45,15 @@ impl Port for Bus {
 
     fn has_ended(&self, number: ClusterNo) -> bool {
         self.is_over() || self.off_at(number).is_some()
+    }
+
+    fn names_step(&self, cluster: &Cluster) -> bool {
+        let _scripted = self.length();
+        self.unused(cluster.number(), Cause::Step(cluster.steps()))
+    }
+
+    fn lose(&mut self, cluster: &Cluster) -> Result<(), NoMemory> {
+        lose_at(self, cluster)
     }
 
     fn offer(&mut self, cluster: &Cluster, post: &Post) -> Result<Offered, NoMemory> {

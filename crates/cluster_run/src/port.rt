@@ -1,10 +1,15 @@
 //! What a turn of a cluster asks of its bus.
-ghost use Rattle.std.specs.Prelude.{◌≡◌, ◌≤◌, ◌<◌, ◌∷◌, [], ℕ, Bool, true, Some, IfOk, OnOk, slice_get};
+ghost use Rattle.std.specs.Prelude.{◌≡◌, ◌≤◌, ◌<◌, ◌∷◌, [], ℕ, Bool, true, false, Some, IfOk, OnOk, slice_get};
 ghost use Rattle.t32_base.specs.declared.process.ClusterNo.{ClusterNo as AClusterNo};
 ghost use Rattle.bus_order.specs.Log.{open_length};
 ghost use Rattle.bus_order.specs.View.{BusView};
-ghost use Rattle.cluster_run.specs.Along.{IsAlong, IsSound, is_done_with, upto};
+ghost use Rattle.cert_sched.specs.Losses.{was_lost_in};
+ghost use Rattle.bus_msg.specs.declared.entry.Cause.TheVariants.{Step as AtStep};
+ghost use Rattle.bus_order.specs.Script.{has_unused};
+ghost use Rattle.cluster_run.specs.Gone.{IsBeforeStep};
+ghost use Rattle.cluster_run.specs.Along.{IsAlong, IsNamed, IsSound, IsStopped, is_done_with, upto};
 ghost use Rattle.cluster_run.specs.Offers.{Adds, IsToldBy, Later, OfferIs, TellIs, Visits};
+ghost use Rattle.cluster_run.specs.Turns.{GoesOwn, LosesOwn};
 
 use crate::offers::Offered;
 use bus_msg::entry::{Entry, Post};
@@ -70,6 +75,25 @@ pub trait Port {
         requires shows { shows self.now }
         requires sound { IsSound (bus self.now) }
         ensures { result ≡ is_done_with number (bus self.now).system (bus self.now).log };
+
+    /// Whether a word of the script names the next kernel step of a cluster.
+    fn names_step(&self, cluster: &Cluster) -> bool
+        requires sits { sits cluster.now.number self.now }
+        requires sound { IsSound (bus self.now) }
+        requires before { IsBeforeStep (bus self.now) cluster.now }
+        ensures { result ≡ has_unused (bus self.now).script cluster.now.number (AtStep cluster.now.steps) };
+
+    /// Loses a cluster directly before its next kernel step, which a word of the script names. Nothing is added where its
+    /// loss stands in the log already. Either way it stays as it is.
+    fn lose(&mut self, cluster: &Cluster) -> Result<(), NoMemory>
+        requires sits { sits cluster.now.number self.old }
+        requires sound { IsSound (bus self.old) }
+        requires before { IsBeforeStep (bus self.old) cluster.now }
+        requires named { IsNamed (bus self.old) cluster.now }
+        ensures root { root self.new ≡ root self.old }
+        ensures sits { sits cluster.now.number self.new }
+        ensures stopped { OnOk result (IsStopped (bus self.new) cluster.now) }
+        ensures own { OnOk result (alone ≡ true → GoesOwn (bus self.old) → was_lost_in (bus self.old).log cluster.now.number ≡ false → LosesOwn cluster.now.number (bus self.old) (bus self.new)) };
 
     /// Offers the post of a cluster, and shows what is then new.
     fn offer(&mut self, cluster: &Cluster, post: &Post) -> Result<Offered, NoMemory>

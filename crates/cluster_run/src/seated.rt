@@ -5,9 +5,12 @@ ghost use Rattle.bus_lock.specs.Seats.{IsOf, seat_origin, seen, told, view_of};
 ghost use Rattle.bus_lock.specs.Views.{retold};
 ghost use Rattle.cluster_run.specs.Offers.{IsNews};
 ghost use Rattle.cluster_run.specs.Seated.{IsSeatOf};
+ghost use Rattle.bus_msg.specs.declared.entry.Cause.TheVariants.{Step as AtStep};
+ghost use Rattle.bus_order.specs.Script.{has_unused};
+ghost use Rattle.cert_sched.specs.Losses.{is_step_word};
 
-use crate::locked::{give, take_for};
-use crate::offers::{News, Offered, news_of, offer_to, receiver_of, tell_to};
+use crate::locked::{give, take_for, take_sound};
+use crate::offers::{News, Offered, lose_at, news_of, offer_to, receiver_of, tell_to};
 use crate::port::Port;
 use crate::sleepers::Sleepers;
 use bus_lock::{LogLock, LogSeat};
@@ -54,6 +57,22 @@ fn has_grown(lock: &LogLock<SharedBus>, seat: &mut LogSeat<SharedBus>, news: &Ne
 {
     let length = lock.length_now(seat);
     !news.is_over && length != news.upto
+}
+
+// Whether a script has a word for this step of a cluster.
+fn has_step(script: &[ScriptWord], number: ClusterNo, step: u64) -> bool
+    ensures { result ≡ has_unused script.now number (AtStep step) }
+{
+    script.iter().any(|word| is_step(*word, number, step))
+}
+
+fn is_step(word: ScriptWord, number: ClusterNo, step: u64) -> bool
+    ensures { result ≡ is_step_word number step word }
+{
+    match word {
+        ScriptWord::CrashStep { k, step: named } => k == number && named == step,
+        _ => false,
+    }
 }
 
 // Dozes a little before a cluster in which nothing can move tells so: where a letter comes, it has nothing to tell. None
@@ -129,6 +148,17 @@ impl<'a, R: Wait, G: Gate> Port for Seated<'a, R, G> {
 
     fn has_ended(&self, _number: ClusterNo) -> bool {
         self.news.is_over || self.news.off_at.is_some()
+    }
+
+    fn names_step(&self, cluster: &Cluster) -> bool {
+        has_step(self.script, cluster.number(), cluster.steps())
+    }
+
+    fn lose(&mut self, cluster: &Cluster) -> Result<(), NoMemory> {
+        let mut bus = take_sound(self.rt, self.lock, &mut self.seat, cluster);
+        let lost = lose_at(&mut bus, cluster);
+        give(self.lock, &mut self.seat, bus, cluster.number());
+        lost
     }
 
     fn offer(&mut self, cluster: &Cluster, post: &Post) -> Result<Offered, NoMemory> {

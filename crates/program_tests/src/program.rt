@@ -47,7 +47,7 @@ fn a_long_input_is_refused(rt: HostRuntime) -> Result<(), Fail> {
 }
 
 // The words are read as `command_words` reads them; here are those that show it, with the status.
-static WORDS: [(&[u8], u8); 24] = [
+static WORDS: [(&[u8], u8); 25] = [
     (b"", 1),
     (b"help", 1),
     (b"Plain", 1),
@@ -67,7 +67,8 @@ static WORDS: [(&[u8], u8); 24] = [
     (b"sim crash:0@bus:0", 0),
     (b"sim -- crash:0@bus:0", 0),
     (b"run crash:0@bus:0 --", 0),
-    (b"sim crash:0@step:0", 1),
+    (b"sim crash:0@step:0", 0),
+    (b"run crash:1@step:2", 0),
     (b"sim crash:0@bus:0 crash:1@bus:1", 1),
     (b"sim disk:0@0", 1),
     (b"run return:0@bus:0", 1),

@@ -34,7 +34,7 @@ const HI_AT_1: &str = "crash 0 at 1\nbus 4 syncs 0 withheld 1\n";
 // The loss of a cluster in which no process has its home.
 const HI_BACKUP: &str = "crash 1 at 1\nbus 4 syncs 0 withheld 0\n";
 
-static LOSSES: [(&[u8], &str, Around, &str); 13] = [
+static LOSSES: [(&[u8], &str, Around, &str); 23] = [
     (b"sim", TWO, TWO_AROUND, TWO_NONE),
     (b"sim crash:0@bus:0", TWO, TWO_AROUND, TWO_AT_0),
     (b"sim crash:0@bus:1", TWO, TWO_AROUND, TWO_AT_1),
@@ -48,6 +48,17 @@ static LOSSES: [(&[u8], &str, Around, &str); 13] = [
     (b"sim crash:0@bus:1", HI, HI_AROUND, HI_AT_1),
     (b"run crash:0@bus:1", HI, HI_AROUND, HI_AT_1),
     (b"sim crash:1@bus:1", HI, HI_AROUND, HI_BACKUP),
+    // The first steps of cluster 0 are a work, the attempt to send its letter, the letter taken in, and the next work.
+    (b"sim crash:0@step:0", HI, HI_AROUND, HI_AT_0),
+    (b"sim crash:0@step:1", HI, HI_AROUND, HI_AT_0),
+    (b"sim crash:0@step:2", HI, HI_AROUND, HI_AT_1),
+    (b"sim crash:0@step:3", HI, HI_AROUND, HI_AT_1),
+    (b"run crash:0@step:0", HI, HI_AROUND, HI_AT_0),
+    (b"run crash:0@step:1", HI, HI_AROUND, HI_AT_0),
+    (b"run crash:0@step:2", HI, HI_AROUND, HI_AT_1),
+    (b"run crash:0@step:3", HI, HI_AROUND, HI_AT_1),
+    (b"sim crash:0@step:100", HI, HI_AROUND, HI_NONE),
+    (b"run crash:0@step:100", HI, HI_AROUND, HI_NONE),
 ];
 
 #[test]
@@ -74,7 +85,7 @@ fn a_loss_stands_in_the_log(rt: HostRuntime) -> Result<(), Fail> {
 static REFUSED: [(&[u8], &str, u8, &str); 8] = [
     (b"sim crash:2@bus:0", HI, 1, "t32: usage\n"),
     (b"run crash:2@bus:0", HI, 1, "t32: usage\n"),
-    (b"sim crash:0@step:1", CUT, 1, "t32: usage\n"),
+    (b"sim crash:2@step:1", HI, 1, "t32: usage\n"),
     (b"sim crash:300@bus:0", HI, 1, "t32: usage\n"),
     (b"sim crash:2@bus:0", CUT, 2, "t32: system line 6 rule 10\n"),
     (b"sim crash:0@bus:0 crash:1@bus:1", CUT, 1, "t32: usage\n"),

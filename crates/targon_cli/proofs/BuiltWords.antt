@@ -3,7 +3,7 @@ use Rattle.std.proofs.Common.{◌≡◌, refl, subst, ℕ, ◌≤◌, Bool, true
 use Rattle.std.specs.Prelude.{◌&&◌, nat_le}
 use Rattle.std.specs.List.{list_all}
 use Rattle.std.proofs.lemmas.Bool.Decides.{nat_tests}
-use Rattle.cluster_run.specs.Along.{is_place_word}
+use Rattle.cert_sched.specs.Built.{is_built_word}
 use Rattle.cert_sched.specs.declared.script.ScriptWord.{ScriptWord}
 use Rattle.command_words.specs.declared.command.Command.{Command}
 use Rattle.command_words.specs.declared.command.Command.TheVariants as commands
@@ -48,7 +48,7 @@ ready_pick command e = and_right (is_built command) (has_pick command) e
 
 -- a script that is built has one word at most, and its words are for places
 pub script_few : (script : List ScriptWord) → is_built_script script ≡ true → length script ≤ 1
-script_few script e = grind (arith, nat_tests, and_left (nat_le (length script) 1) (list_all is_place_word script) e)
+script_few script e = grind (arith, nat_tests, and_left (nat_le (length script) 1) (list_all is_built_word script) e)
 
-pub script_place_words : (script : List ScriptWord) → is_built_script script ≡ true → list_all is_place_word script ≡ true
-script_place_words script e = and_right (nat_le (length script) 1) (list_all is_place_word script) e
+pub script_built_words : (script : List ScriptWord) → is_built_script script ≡ true → list_all is_built_word script ≡ true
+script_built_words script e = and_right (nat_le (length script) 1) (list_all is_built_word script) e

@@ -5,11 +5,11 @@ use Rattle.cert_sched.specs.declared.script.ScriptWord.{ScriptWord}
 use Rattle.command_words.specs.declared.command.Command.{Command}
 use Rattle.command_words.specs.declared.command.Command.TheVariants as commands
 use Rattle.command_words.specs.Command.{command_of}
-use Rattle.cluster_run.specs.Along.{is_place_word}
+use Rattle.cert_sched.specs.Built.{is_built_word}
 
--- a script is built that has at most one word, by which a cluster is lost at a place of the log
+-- a script is built that has at most one word, by which a cluster is lost at a place of the log or before one of its kernel steps
 abbrev pub is_built_script : List ScriptWord → Bool
-is_built_script script = nat_le (length script) 1 && list_all is_place_word script
+is_built_script script = nat_le (length script) 1 && list_all is_built_word script
 
 -- built is all but `load`, and `sim` and `run` with such a script
 abbrev pub is_built : Command → Bool

@@ -1,7 +1,7 @@
 //! The commands that are built, by their words.
 ghost use Rattle.std.specs.Prelude.{◌≡◌, IfOk, true};
 ghost use Rattle.std.specs.List.{list_all};
-ghost use Rattle.cluster_run.specs.Along.{is_place_word as is_place_word_of};
+ghost use Rattle.cert_sched.specs.Built.{is_built_word as is_built_word_of};
 ghost use Rattle.targon_cli.specs.Built.{built, built_command_of, is_built as is_built_of, is_built_script as is_built_script_of, is_ready};
 
 use cert_sched::script::ScriptWord;
@@ -11,7 +11,7 @@ use t32_base::lists::Text;
 use t32_base::streams::NoMemory;
 
 /// The command that the words are, where it is built: not `load` yet, and `sim` and `run` with at most one script
-/// word, which loses a cluster at a place of the log.
+/// word, which loses a cluster at a place of the log or before one of its kernel steps.
 pub fn built_command(alloc: Global, words: &[Text]) -> Result<Option<Command>, NoMemory>
     ensures command { IfOk result (λ c. c ≡ built_command_of words.now) }
     ensures ready { IfOk result (λ c. is_ready c ≡ true) }
@@ -47,17 +47,20 @@ fn is_built(command: &Command) -> bool
 fn is_built_script(script: &[ScriptWord]) -> bool
     ensures { result ≡ is_built_script_of script.now }
 {
-    script.len() <= 1 && are_place_words(script)
+    script.len() <= 1 && are_built_words(script)
 }
 
-fn are_place_words(words: &[ScriptWord]) -> bool
-    ensures { result ≡ list_all is_place_word_of words.now }
+fn are_built_words(words: &[ScriptWord]) -> bool
+    ensures { result ≡ list_all is_built_word_of words.now }
 {
-    words.iter().all(|word| is_place_word(word))
+    words.iter().all(|word| is_built_word(word))
 }
 
-fn is_place_word(word: &ScriptWord) -> bool
-    ensures { result ≡ is_place_word_of word.now }
+fn is_built_word(word: &ScriptWord) -> bool
+    ensures { result ≡ is_built_word_of word.now }
 {
-    matches!(word, ScriptWord::CrashAt { .. })
+    matches!(
+        word,
+        ScriptWord::CrashAt { .. } | ScriptWord::CrashStep { .. }
+    )
 }

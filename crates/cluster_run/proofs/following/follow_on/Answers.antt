@@ -1,12 +1,11 @@
-use Rattle.std.proofs.Common.{◌≡◌, ◌∙◌, ap, subst, false}
+use Rattle.std.proofs.Common.{◌≡◌, ◌∙◌, ap, subst}
 use Rattle.std.specs.Arc.{arc_value}
 use Rattle.t32_base.specs.declared.process.ClusterNo.{ClusterNo}
 use Rattle.bus_lock.specs.Seats.{seen}
 use Rattle.bus_order.specs.declared.shared.Origin.{Origin}
-use Rattle.cluster_run.specs.Seated.{bus_of, made_of}
+use Rattle.cluster_run.specs.Seated.{made_of}
 use Rattle.cluster_run.specs.Threads.{HasEnded}
-use Rattle.cluster_run.specs.Turns.{EndsAs}
-use Rattle.cluster_run.proofs.Seats.{ended_shown}
+use Rattle.cluster_run.proofs.Seats.{turn_ended}
 use Rattle.cluster_run.proofs.following.follow_on.Goals as goal
 
 pub returns-in-Over-clause-ended : goal.returns-in-Over-clause-ended
@@ -16,5 +15,4 @@ returns-in-Over-clause-ended g c =
     let v = c.take_turn.new.cluster in
     let from : now ≡ made_of (arc_value c.args.port.now.system.now) c.args.port.now.script.now = ap (λ r. r.1) c.in_ok-take_turn.ensures.root ∙ c.loop.invariant.3 in
     let number = ap (λ (k : ClusterNo). k.0) (c.in_ok-take_turn.ensures.same.number ∙ c.loop.invariant.9.number) in
-    let ends = subst (λ t. EndsAs false t (bus_of now log) v) c.in-Over.is c.in_ok-take_turn.ensures.ends in
-    subst (λ (o : Origin). HasEnded o.system c.args.cluster.now.number.0 log v) from (ended_shown _ _ now c.args.cluster.now.number.0 log v c.in_ok-take_turn.ensures.shown ends number)
+    subst (λ (o : Origin). HasEnded o c.args.cluster.now.number.0 log v) from (turn_ended _ _ now c.args.cluster.now.number.0 log v _ c.in-Over.is c.in_ok-take_turn.ensures.stands c.in_ok-take_turn.ensures.ends number)

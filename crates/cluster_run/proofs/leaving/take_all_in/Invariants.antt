@@ -1,4 +1,3 @@
-use Rattle.std.proofs.Common.{◌-◌, length}
 use Rattle.cluster_run.specs.Left.{IsUpto}
 use Rattle.cluster_run.proofs.leaving.take_all_in.Given as goal
 

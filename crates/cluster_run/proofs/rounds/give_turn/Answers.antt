@@ -3,6 +3,8 @@ use Rattle.bus_msg.specs.Places.{cluster_no}
 use Rattle.t32_base.specs.declared.process.ClusterNo.{ClusterNo}
 use Rattle.cert_sched.specs.Rules.{is_over}
 use Rattle.cert_sched.specs.Losses.{was_lost_in}
+use Rattle.bus_order.specs.View.{BusView}
+use Rattle.cluster_run.proofs.AtTheEnd.{stands_there, still_along}
 use Rattle.cluster_run.proofs.Prefixes.{either}
 use Rattle.cluster_run.proofs.Together.{all_after, one_member}
 use Rattle.cluster_run.specs.Progress.{remaining}
@@ -11,57 +13,98 @@ use Rattle.cluster_run.proofs.rounds.give_turn.Goals as goal
 
 pub take_turn-requires-clause-shown : goal.take_turn-requires-clause-shown
 take_turn-requires-clause-shown c =
-    let member = one_member c.args.bus.now c.args.clusters.now c.args.number c.index-clusters-number-2.result c.requires.along c.requires.has in
-    record { shows = tt; from_there = omega arith; sound = c.requires.owned.sound; along = member.along }
+    let b : BusView = c.args.bus.now in
+    let member = one_member b c.args.clusters.now c.args.number c.index-clusters-number-2.result c.requires.along c.requires.has in
+    let first = one_member b c.args.clusters.now c.args.number c.index-clusters-number.result c.requires.along c.requires.has in
+    let parts = either (is_over b.system b.log) (was_lost_in b.log c.number.result) (sym c.has_ended.ensures ∙ c.if-has_ended.false) in
+    let v = get_or c.args.clusters.now c.args.number c.index-clusters-number-2.result in
+    let same : c.number.result.0 ≡ v.number.0 = ap (λ (k : ClusterNo). k.0) c.number.ensures ∙ first.number ∙ sym member.number in
+    let lives : was_lost_in b.log v.number ≡ false = ap (λ k. was_lost_in b.log (cluster_no k)) (sym same) ∙ parts.1 in
+    record { shows = tt; from_there = omega arith; sound = c.requires.owned.sound; along = still_along b v lives member.along }
 
 pub take_turn-requires-clause-empty : goal.take_turn-requires-clause-empty
 take_turn-requires-clause-empty c =
-    let member = one_member c.args.bus.now c.args.clusters.now c.args.number c.index-clusters-number-2.result c.requires.along c.requires.has in
-    let parts = either (is_over c.args.bus.now.system c.args.bus.now.log) (was_lost_in c.args.bus.now.log c.number.result) (sym c.has_ended.ensures ∙ c.if-has_ended.false) in
-    let first = one_member c.args.bus.now c.args.clusters.now c.args.number c.index-clusters-number.result c.requires.along c.requires.has in
-    let same : c.number.result.0 ≡ (get_or c.args.clusters.now c.args.number c.index-clusters-number-2.result).number.0 = ap (λ (k : ClusterNo). k.0) c.number.ensures ∙ first.number ∙ sym member.number in
-    member.empty parts.0 (ap (λ k. was_lost_in c.args.bus.now.log (cluster_no k)) (sym same) ∙ parts.1)
+    let b : BusView = c.args.bus.now in
+    let member = one_member b c.args.clusters.now c.args.number c.index-clusters-number-2.result c.requires.along c.requires.has in
+    let first = one_member b c.args.clusters.now c.args.number c.index-clusters-number.result c.requires.along c.requires.has in
+    let parts = either (is_over b.system b.log) (was_lost_in b.log c.number.result) (sym c.has_ended.ensures ∙ c.if-has_ended.false) in
+    let v = get_or c.args.clusters.now c.args.number c.index-clusters-number-2.result in
+    let same : c.number.result.0 ≡ v.number.0 = ap (λ (k : ClusterNo). k.0) c.number.ensures ∙ first.number ∙ sym member.number in
+    let lives : was_lost_in b.log v.number ≡ false = ap (λ k. was_lost_in b.log (cluster_no k)) (sym same) ∙ parts.1 in
+    member.empty parts.0 lives
 
 pub returns-clause-owned : goal.returns-clause-owned
 returns-clause-owned c =
-    let member = one_member c.args.bus.now c.args.clusters.now c.args.number c.index-clusters-number-2.result c.requires.along c.requires.has in
-    let goes_on = (either (is_over c.args.bus.now.system c.args.bus.now.log) (was_lost_in c.args.bus.now.log c.number.result) (sym c.has_ended.ensures ∙ c.if-has_ended.false)).0 in
-    let own = c.in_ok-take_turn.ensures.own refl (c.requires.owned, goes_on) in
+    let b : BusView = c.args.bus.now in
+    let member = one_member b c.args.clusters.now c.args.number c.index-clusters-number-2.result c.requires.along c.requires.has in
+    let first = one_member b c.args.clusters.now c.args.number c.index-clusters-number.result c.requires.along c.requires.has in
+    let parts = either (is_over b.system b.log) (was_lost_in b.log c.number.result) (sym c.has_ended.ensures ∙ c.if-has_ended.false) in
+    let v = get_or c.args.clusters.now c.args.number c.index-clusters-number-2.result in
+    let same : c.number.result.0 ≡ v.number.0 = ap (λ (k : ClusterNo). k.0) c.number.ensures ∙ first.number ∙ sym member.number in
+    let lives : was_lost_in b.log v.number ≡ false = ap (λ k. was_lost_in b.log (cluster_no k)) (sym same) ∙ parts.1 in
+    let own = c.in_ok-take_turn.ensures.own refl (c.requires.owned, parts.0) lives in
     own.owned
 
 pub returns-clause-along : goal.returns-clause-along
 returns-clause-along c =
-    let member = one_member c.args.bus.now c.args.clusters.now c.args.number c.index-clusters-number-2.result c.requires.along c.requires.has in
-    let goes_on = (either (is_over c.args.bus.now.system c.args.bus.now.log) (was_lost_in c.args.bus.now.log c.number.result) (sym c.has_ended.ensures ∙ c.if-has_ended.false)).0 in
-    let own = c.in_ok-take_turn.ensures.own refl (c.requires.owned, goes_on) in
-    all_after c.args.bus.now c.take_turn.new.port c.args.clusters.now c.args.number c.index-clusters-number-2.result c.take_turn.new.cluster c.requires.along c.requires.has goes_on c.in_ok-take_turn.ensures.shown.along own.empty own.adds c.in_ok-take_turn.ensures.same.number
+    let b : BusView = c.args.bus.now in
+    let member = one_member b c.args.clusters.now c.args.number c.index-clusters-number-2.result c.requires.along c.requires.has in
+    let first = one_member b c.args.clusters.now c.args.number c.index-clusters-number.result c.requires.along c.requires.has in
+    let parts = either (is_over b.system b.log) (was_lost_in b.log c.number.result) (sym c.has_ended.ensures ∙ c.if-has_ended.false) in
+    let v = get_or c.args.clusters.now c.args.number c.index-clusters-number-2.result in
+    let same : c.number.result.0 ≡ v.number.0 = ap (λ (k : ClusterNo). k.0) c.number.ensures ∙ first.number ∙ sym member.number in
+    let lives : was_lost_in b.log v.number ≡ false = ap (λ k. was_lost_in b.log (cluster_no k)) (sym same) ∙ parts.1 in
+    let own = c.in_ok-take_turn.ensures.own refl (c.requires.owned, parts.0) lives in
+    let after : BusView = c.take_turn.new.port in
+    all_after b after c.args.clusters.now c.args.number c.index-clusters-number-2.result c.take_turn.new.cluster c.requires.along c.requires.has parts.0 (own.owned.sound).legal
+    (stands_there _ _ _ after c.take_turn.new.cluster c.in_ok-take_turn.ensures.stands) own.empty own.adds c.in_ok-take_turn.ensures.same.number
 
 pub returns-clause-system : goal.returns-clause-system
 returns-clause-system c =
-    let member = one_member c.args.bus.now c.args.clusters.now c.args.number c.index-clusters-number-2.result c.requires.along c.requires.has in
-    let goes_on = (either (is_over c.args.bus.now.system c.args.bus.now.log) (was_lost_in c.args.bus.now.log c.number.result) (sym c.has_ended.ensures ∙ c.if-has_ended.false)).0 in
-    let own = c.in_ok-take_turn.ensures.own refl (c.requires.owned, goes_on) in
+    let b : BusView = c.args.bus.now in
+    let member = one_member b c.args.clusters.now c.args.number c.index-clusters-number-2.result c.requires.along c.requires.has in
+    let first = one_member b c.args.clusters.now c.args.number c.index-clusters-number.result c.requires.along c.requires.has in
+    let parts = either (is_over b.system b.log) (was_lost_in b.log c.number.result) (sym c.has_ended.ensures ∙ c.if-has_ended.false) in
+    let v = get_or c.args.clusters.now c.args.number c.index-clusters-number-2.result in
+    let same : c.number.result.0 ≡ v.number.0 = ap (λ (k : ClusterNo). k.0) c.number.ensures ∙ first.number ∙ sym member.number in
+    let lives : was_lost_in b.log v.number ≡ false = ap (λ k. was_lost_in b.log (cluster_no k)) (sym same) ∙ parts.1 in
+    let own = c.in_ok-take_turn.ensures.own refl (c.requires.owned, parts.0) lives in
     own.adds.system
 
 pub returns-clause-over : goal.returns-clause-over
 returns-clause-over c over =
-    let member = one_member c.args.bus.now c.args.clusters.now c.args.number c.index-clusters-number-2.result c.requires.along c.requires.has in
-    let goes_on = (either (is_over c.args.bus.now.system c.args.bus.now.log) (was_lost_in c.args.bus.now.log c.number.result) (sym c.has_ended.ensures ∙ c.if-has_ended.false)).0 in
-    absurd (true≢false (sym over ∙ goes_on))
+    let b : BusView = c.args.bus.now in
+    let member = one_member b c.args.clusters.now c.args.number c.index-clusters-number-2.result c.requires.along c.requires.has in
+    let first = one_member b c.args.clusters.now c.args.number c.index-clusters-number.result c.requires.along c.requires.has in
+    let parts = either (is_over b.system b.log) (was_lost_in b.log c.number.result) (sym c.has_ended.ensures ∙ c.if-has_ended.false) in
+    let v = get_or c.args.clusters.now c.args.number c.index-clusters-number-2.result in
+    let same : c.number.result.0 ≡ v.number.0 = ap (λ (k : ClusterNo). k.0) c.number.ensures ∙ first.number ∙ sym member.number in
+    let lives : was_lost_in b.log v.number ≡ false = ap (λ k. was_lost_in b.log (cluster_no k)) (sym same) ∙ parts.1 in
+    absurd (true≢false (sym over ∙ parts.0))
 
 pub returns-clause-lasts : goal.returns-clause-lasts
 returns-clause-lasts c =
-    let member = one_member c.args.bus.now c.args.clusters.now c.args.number c.index-clusters-number-2.result c.requires.along c.requires.has in
-    let goes_on = (either (is_over c.args.bus.now.system c.args.bus.now.log) (was_lost_in c.args.bus.now.log c.number.result) (sym c.has_ended.ensures ∙ c.if-has_ended.false)).0 in
-    let own = c.in_ok-take_turn.ensures.own refl (c.requires.owned, goes_on) in
-    turn_lasts c.args.bus.now c.take_turn.new.port c.args.clusters.now c.args.number c.index-clusters-number-2.result c.take_turn.new.cluster c.requires.has member.number own
+    let b : BusView = c.args.bus.now in
+    let member = one_member b c.args.clusters.now c.args.number c.index-clusters-number-2.result c.requires.along c.requires.has in
+    let first = one_member b c.args.clusters.now c.args.number c.index-clusters-number.result c.requires.along c.requires.has in
+    let parts = either (is_over b.system b.log) (was_lost_in b.log c.number.result) (sym c.has_ended.ensures ∙ c.if-has_ended.false) in
+    let v = get_or c.args.clusters.now c.args.number c.index-clusters-number-2.result in
+    let same : c.number.result.0 ≡ v.number.0 = ap (λ (k : ClusterNo). k.0) c.number.ensures ∙ first.number ∙ sym member.number in
+    let lives : was_lost_in b.log v.number ≡ false = ap (λ k. was_lost_in b.log (cluster_no k)) (sym same) ∙ parts.1 in
+    let own = c.in_ok-take_turn.ensures.own refl (c.requires.owned, parts.0) lives in
+    turn_lasts b c.take_turn.new.port c.args.clusters.now c.args.number c.index-clusters-number-2.result c.take_turn.new.cluster c.requires.has member.number own
 
 pub returns-clause-gets_on : goal.returns-clause-gets_on
 returns-clause-gets_on c =
-    let member = one_member c.args.bus.now c.args.clusters.now c.args.number c.index-clusters-number-2.result c.requires.along c.requires.has in
-    let goes_on = (either (is_over c.args.bus.now.system c.args.bus.now.log) (was_lost_in c.args.bus.now.log c.number.result) (sym c.has_ended.ensures ∙ c.if-has_ended.false)).0 in
-    let own = c.in_ok-take_turn.ensures.own refl (c.requires.owned, goes_on) in
-    turn_gets_on c.args.bus.now c.take_turn.new.port c.args.clusters.now c.args.number c.index-clusters-number-2.result c.take_turn.new.cluster c.requires.has member.number own
+    let b : BusView = c.args.bus.now in
+    let member = one_member b c.args.clusters.now c.args.number c.index-clusters-number-2.result c.requires.along c.requires.has in
+    let first = one_member b c.args.clusters.now c.args.number c.index-clusters-number.result c.requires.along c.requires.has in
+    let parts = either (is_over b.system b.log) (was_lost_in b.log c.number.result) (sym c.has_ended.ensures ∙ c.if-has_ended.false) in
+    let v = get_or c.args.clusters.now c.args.number c.index-clusters-number-2.result in
+    let same : c.number.result.0 ≡ v.number.0 = ap (λ (k : ClusterNo). k.0) c.number.ensures ∙ first.number ∙ sym member.number in
+    let lives : was_lost_in b.log v.number ≡ false = ap (λ k. was_lost_in b.log (cluster_no k)) (sym same) ∙ parts.1 in
+    let own = c.in_ok-take_turn.ensures.own refl (c.requires.owned, parts.0) lives in
+    turn_gets_on b c.take_turn.new.port c.args.clusters.now c.args.number c.index-clusters-number-2.result c.take_turn.new.cluster c.requires.has member.number own
 
 pub returns-then-has_ended-clause-gets_on : goal.returns-then-has_ended-clause-gets_on
 returns-then-has_ended-clause-gets_on c =

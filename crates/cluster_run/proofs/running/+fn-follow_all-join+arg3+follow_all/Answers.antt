@@ -1,4 +1,4 @@
-use Rattle.std.proofs.Common.{rules, ◌≡◌, ◌+◌, sym, subst, arith, vec_len}
+use Rattle.std.proofs.Common.{rules, ◌≡◌, sym, subst, arith, vec_len}
 use Rattle.std.specs.Arc.{arc_value}
 use Rattle.cluster_run.specs.Seated.{made_of}
 use Rattle.cluster_run.specs.Threads.{HoldsFirst}

@@ -1,6 +1,6 @@
-use Rattle.std.proofs.Common.{◌∙◌, refl, subst, arith, inl, inr, true}
+use Rattle.std.proofs.Common.{◌∙◌, refl, subst, arith, inl, inr}
 use Rattle.t32_base.specs.declared.process.ClusterNo.{ClusterNo}
-use Rattle.cluster_run.specs.Turns.{SendsOwn, TriesOwn}
+use Rattle.cluster_run.specs.Turns.{LosesOwn, SendsOwn, TriesAs, TriesOwn}
 use Rattle.cluster_run.proofs.Owning.{sends_lost, sends_more, sends_none}
 use Rattle.cluster_run.proofs.turn.send.Goals as goal
 
@@ -19,26 +19,37 @@ pub posts-preserved : goal.posts-preserved
 posts-preserved g c =
     let so_far = c.posts.invariant in
     let one = c.in_ok-send_head.ensures in
-    let grown = (one.posting c.if-branch.false).1 in
+    let mid = g.P.Port.bus c.posts.port in
+    let after = g.P.Port.bus c.send_head.new.port in
+    let tries = subst (λ t. TriesAs g.P.Port.alone (g.P.Port.shows c.send_head.new.port) (g.P.Port.from c.send_head.new.port) t mid after c.send_head.new.cluster) c.in-On.is one.tries in
+    let grown = tries.1 in
     record {
       root = c.send_head.ensures.root ∙ so_far.root;
       sits = subst (λ (k : ClusterNo). g.P.Port.sits k c.send_head.new.port) so_far.same.number c.send_head.ensures.sits;
-      posting = (one.posting c.if-branch.false).0;
+      posting = tries.0;
       same = record { system = one.same.system ∙ so_far.same.system; number = one.same.number ∙ so_far.same.number };
       order = omega (arith, grown, so_far.order);
       some = λ there. inr (omega (arith, grown, so_far.order));
       own = λ alone own.
           let before = so_far.own alone own in
-          let next = (one.own alone before.goes_on).sends in
-          sends_more c.args.cluster.now.number (g.P.Port.bus c.args.port.now) (g.P.Port.bus c.posts.port) (g.P.Port.bus c.send_head.new.port) before
-          (subst (λ (k : ClusterNo). SendsOwn k (g.P.Port.bus c.posts.port) (g.P.Port.bus c.send_head.new.port)) so_far.same.number next);
+          let next = subst (λ t. TriesOwn c.posts.cluster.number t mid after) c.in-On.is (one.own alone before.goes_on) in
+          sends_more c.args.cluster.now.number (g.P.Port.bus c.args.port.now) mid after before (subst (λ (k : ClusterNo). SendsOwn k mid after) so_far.same.number next);
     }
 
-pub returns-then-branch-clause-own : goal.returns-then-branch-clause-own
-returns-then-branch-clause-own g c alone own =
+pub returns-in-Over-clause-own : goal.returns-in-Over-clause-own
+returns-in-Over-clause-own g c alone own =
     let so_far = c.posts.invariant in
     let before = so_far.own alone own in
     let mid = g.P.Port.bus c.posts.port in
     let after = g.P.Port.bus c.send_head.new.port in
-    let next = subst (λ over. TriesOwn c.posts.cluster.number mid after over) c.if-branch.true (c.in_ok-send_head.ensures.own alone before.goes_on) in
-    sends_lost (g.P.Port.bus c.args.port.now) mid after c.args.cluster.now c.send_head.new.cluster before (subst (λ (k : ClusterNo). TriesOwn k mid after true) so_far.same.number next)
+    let next = subst (λ t. TriesOwn c.posts.cluster.number t mid after) c.in-Over.is (c.in_ok-send_head.ensures.own alone before.goes_on) in
+    sends_lost (g.P.Port.bus c.args.port.now) mid after c.args.cluster.now c.send_head.new.cluster before (subst (λ (k : ClusterNo). LosesOwn k mid after) so_far.same.number next)
+
+pub returns-in-Lost-clause-own : goal.returns-in-Lost-clause-own
+returns-in-Lost-clause-own g c alone own =
+    let so_far = c.posts.invariant in
+    let before = so_far.own alone own in
+    let mid = g.P.Port.bus c.posts.port in
+    let after = g.P.Port.bus c.send_head.new.port in
+    let next = subst (λ t. TriesOwn c.posts.cluster.number t mid after) c.in-Lost.is (c.in_ok-send_head.ensures.own alone before.goes_on) in
+    sends_lost (g.P.Port.bus c.args.port.now) mid after c.args.cluster.now c.send_head.new.cluster before (subst (λ (k : ClusterNo). LosesOwn k mid after) so_far.same.number next)

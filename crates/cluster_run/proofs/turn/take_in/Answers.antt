@@ -1,40 +1,5 @@
-use Rattle.std.proofs.Common.{◌≡◌, ◌+◌, ◌<◌, ◌∙◌, ap, sym, arith}
-use Rattle.t32_base.specs.declared.process.ClusterNo.{ClusterNo}
-use Rattle.cluster_core.specs.View.{ClusterView}
-use Rattle.cluster_run.specs.Along.{upto}
-use Rattle.cluster_run.proofs.TakingIn.{along_upto, none_taken, one_taken, ready_next}
+use Rattle.cluster_run.proofs.StepLosses.{before_along}
 use Rattle.cluster_run.proofs.turn.take_in.Goals as goal
 
-pub entries-init : goal.entries-init
-entries-init g c =
-    let log = (g.P.Port.bus c.args.port.now).log in
-    let low = along_upto (g.P.Port.bus c.args.port.now) c.args.cluster.now c.requires.shown.sound c.requires.shown.along in
-    let end : c.upto-upto.result ≡ upto c.args.cluster.now.number log = c.upto-upto.ensures ∙ ap (λ (k : ClusterNo). upto k log) c.number.ensures in
-    record {
-      taken = none_taken (g.P.Port.bus c.args.port.now) c.args.cluster.now c.requires.shown.along;
-      upto = omega (arith, low, end);
-    }
-
-pub take_next-requires-clause-ready : goal.take_next-requires-clause-ready
-take_next-requires-clause-ready g c =
-    let log = (g.P.Port.bus c.args.port.now).log in
-    let end : c.upto-upto.result ≡ upto c.entries.cluster.number log = c.upto-upto.ensures ∙ ap (λ (k : ClusterNo). upto k log) (c.number.ensures ∙ sym c.entries.invariant.taken.same.number) in
-    let within : c.entries.cluster.cursor < upto c.entries.cluster.number log = omega (arith, c.cursor.ensures, end, c.entries-test.true) in
-    ready_next (g.P.Port.bus c.args.port.now) c.entries.cluster c.requires.shown.sound c.entries.invariant.taken.along within
-
-pub entries-preserved : goal.entries-preserved
-entries-preserved g c =
-    let log = (g.P.Port.bus c.args.port.now).log in
-    let end : c.upto-upto.result ≡ upto c.entries.cluster.number log = c.upto-upto.ensures ∙ ap (λ (k : ClusterNo). upto k log) (c.number.ensures ∙ sym c.entries.invariant.taken.same.number) in
-    let within : c.entries.cluster.cursor < upto c.entries.cluster.number log = omega (arith, c.cursor.ensures, end, c.entries-test.true) in
-    let one : c.take_next.new.cluster.cursor ≡ c.entries.cluster.cursor + 1 = ap (λ (v : ClusterView). v.cursor) c.in_ok-take_next.ensures.taken in
-    record {
-      taken = one_taken (g.P.Port.bus c.args.port.now) c.args.cluster.now c.entries.cluster c.take_next.new.cluster c.requires.shown.sound c.entries.invariant.taken within c.in_ok-take_next.ensures;
-      upto = omega (arith, one, within, end);
-    }
-
-pub returns-clause-caught : goal.returns-clause-caught
-returns-clause-caught g c =
-    let log = (g.P.Port.bus c.args.port.now).log in
-    let end : c.upto-upto.result ≡ upto c.entries.cluster.number log = c.upto-upto.ensures ∙ ap (λ (k : ClusterNo). upto k log) (c.number.ensures ∙ sym c.entries.invariant.taken.same.number) in
-    omega (arith, c.cursor.ensures, end, c.entries-test.false, c.entries.invariant.upto)
+pub lose-requires-clause-before : goal.lose-requires-clause-before
+lose-requires-clause-before g c = before_along (g.P.Port.bus c.args.port.now) c.take_unnamed.new.cluster c.requires.shown.sound c.in_ok-take_unnamed.ensures.taken.along

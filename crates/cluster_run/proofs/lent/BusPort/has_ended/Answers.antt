@@ -1,4 +1,4 @@
-use Rattle.std.proofs.Common.{◌∙◌, ap, sym, is_some, ◌||◌, false}
+use Rattle.std.proofs.Common.{◌∙◌, ap, sym, is_some, ◌||◌}
 use Rattle.cert_sched.specs.Losses.{was_lost_in}
 use Rattle.bus_order.specs.View.{BusView}
 use Rattle.script_laws.proofs.OffLosses.{lost_off}

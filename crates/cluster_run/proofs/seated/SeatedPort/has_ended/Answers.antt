@@ -1,8 +1,6 @@
-use Rattle.std.proofs.Common.{◌≡◌, ◌∙◌, ap, sym, is_some, ◌||◌, false}
+use Rattle.std.proofs.Common.{◌∙◌, ap, sym, is_some, ◌||◌}
 use Rattle.std.specs.Arc.{arc_value}
-use Rattle.t32_base.specs.declared.process.ClusterNo.{ClusterNo}
 use Rattle.bus_lock.specs.Seats.{seen}
-use Rattle.cert_sched.specs.Rules.{is_over}
 use Rattle.cert_sched.specs.Losses.{was_lost_in}
 use Rattle.bus_order.specs.Script.{off_at}
 use Rattle.script_laws.proofs.OffLosses.{lost_off}

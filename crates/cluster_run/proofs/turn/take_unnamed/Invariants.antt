@@ -1,6 +1,6 @@
 use Rattle.std.proofs.Common.{◌≤◌, ◌-◌}
 use Rattle.cluster_run.specs.Along.{TakesIn}
-use Rattle.cluster_run.proofs.turn.take_in.Given as goal
+use Rattle.cluster_run.proofs.turn.take_unnamed.Given as goal
 
 abbrev pub invariant-entries : goal.invariant-entries
 invariant-entries g l = record {

@@ -1,0 +1,251 @@
+-- The losses that a cluster tells itself, and what stands in a log that has none.
+use Rattle.std.proofs.Common.{◌≡◌, ◌+◌, ◌≤◌, ℕ, zero, suc, refl, sym, ◌∙◌, ap, arith, List, [], ◌∷◌, take, drop, Bool, true, false, cond, not, ◌&&◌, ◌||◌, Some, None, slice_get, true≢false, eqb-true, eq-eqb, inl, inr}
+use Rattle.std.specs.Prelude.{◌==◌, count_by, nat_le}
+use Rattle.std.proofs.lemmas.Bool.Decides.{nat_tests}
+use Rattle.std.specs.List.{list_all, list_any}
+use Rattle.std.proofs.lemmas.Bool.{and_parts, or_right}
+use Rattle.std.proofs.lemmas.List.{take-append-drop}
+use Rattle.std.proofs.lemmas.List.Folds.{list_all-append, list_any-append}
+use Rattle.cert_sched.proofs.ListLaws.{list_all-weaker}
+use Rattle.t32_base.specs.declared.process.ClusterNo.{ClusterNo}
+use Rattle.sys_text.specs.declared.system.System.{System}
+use Rattle.bus_msg.specs.declared.entry.By.{By}
+use Rattle.bus_msg.specs.declared.entry.By.TheVariants.{Cluster, Bus}
+use Rattle.bus_msg.specs.declared.entry.What.{What}
+use Rattle.bus_msg.specs.declared.entry.What.TheVariants.{Mail, Birth, Exit, Page, Sync, Fetch, PageIs, Crash, Return, Rebackup, Done, Stop}
+use Rattle.bus_msg.specs.declared.entry.Cause.TheVariants.{Place, Step, Disk}
+use Rattle.bus_msg.specs.declared.entry.Entry.{Entry}
+use Rattle.bus_msg.specs.Places.{Places, same_cluster}
+use Rattle.bus_msg.specs.PlacedAfter.{what}
+use Rattle.cert_sched.specs.declared.script.ScriptWord.{ScriptWord}
+use Rattle.cert_sched.specs.declared.script.ScriptWord.TheVariants.{CrashAt, CrashStep, DiskAt, ReturnAt}
+use Rattle.cert_sched.specs.Schedule.{placement}
+use Rattle.cert_sched.specs.Rules.{is_bus, is_by_right}
+use Rattle.cert_sched.specs.Legal.{IsLegalBy}
+use Rattle.cert_sched.specs.Built.{BuiltMayFollow}
+use Rattle.cert_sched.specs.Losses.{is_by_cluster, is_crash_of, is_from, is_step_crash, is_step_word, was_lost_in}
+use Rattle.cert_sched.proofs.Induction.{legal_induction}
+use Rattle.cluster_core.specs.View.{ClusterView, next_count}
+use Rattle.bus_lock.specs.Lists.{is_author}
+use Rattle.bus_order.specs.Log.{author}
+use Rattle.bus_order.specs.Script.{has_unused, is_unpassed}
+use Rattle.bus_order.specs.View.{BusView, KeepsScript}
+use Rattle.script_laws.specs.Crashes.{is_loss}
+use Rattle.script_laws.proofs.Counts.{any_counted, count_none, count_some}
+use Rattle.script_laws.proofs.PassedWords.{unpassed_unnamed}
+use Rattle.cluster_run.specs.Gone.{is_own_loss, is_told_by}
+use Rattle.cluster_run.specs.Along.{IsUnnamed}
+use Rattle.cluster_run.specs.Lived.{EndsBy, cause_in}
+use Rattle.cluster_run.proofs.Prefixes.{either}
+
+-- ---- lists
+
+-- where no element passes a test, none passes a stronger one
+pub any_weaker : {X : Type 0} (s t : X → Bool) (xs : List X) → ((x : X) → s x ≡ false → t x ≡ false) → list_any s xs ≡ false → list_any t xs ≡ false
+any_weaker s t [] weaker none = refl
+any_weaker s t (x ∷ xs) weaker none =
+    let parts = either (s x) (list_any s xs) none in
+    λ i. weaker x parts.0 i || any_weaker s t xs weaker parts.1 i
+
+-- the same for elements that all pass a further one
+any_weaker_of : {X : Type 0} (s t all : X → Bool) (xs : List X) → ((x : X) → all x ≡ true → s x ≡ false → t x ≡ false) → list_all all xs ≡ true → list_any s xs ≡ false → list_any t xs ≡ false
+any_weaker_of s t all [] weaker pass none = refl
+any_weaker_of s t all (x ∷ xs) weaker pass none =
+    let parts = either (s x) (list_any s xs) none in
+    let those = and_parts (all x) (list_all all xs) pass in
+    λ i. weaker x those.0 parts.0 i || any_weaker_of s t all xs weaker those.1 parts.1 i
+
+all_drop : {X : Type 0} (t : X → Bool) (n : ℕ) (xs : List X) → list_all t xs ≡ true → list_all t (drop n xs) ≡ true
+all_drop t zero xs all = all
+all_drop t (suc n) [] all = refl
+all_drop t (suc n) (x ∷ xs) all = all_drop t n xs (and_parts (t x) (list_all t xs) all).1
+
+none_of_them : {X : Type 0} (t : X → Bool) (xs : List X) (n : ℕ) (x : X) → list_any t xs ≡ false → slice_get xs n ≡ Some x → t x ≡ false
+none_of_them t [] n x none at = cc
+none_of_them t (y ∷ xs) zero x none at = let same : y ≡ x = cc in ap t (sym same) ∙ (either (t y) (list_any t xs) none).0
+none_of_them t (y ∷ xs) (suc n) x none at = none_of_them t xs n x (either (t y) (list_any t xs) none).1 at
+
+-- ---- what a cluster tells
+
+-- it tells what it sent
+pub told_sent : (k : ClusterNo) (by : By) (w : What) → is_author k.0 (author by w) ≡ false → is_from k by ≡ false
+told_sent k Bus w none = refl
+told_sent k (Cluster j) w none = by_test (same_cluster j k) refl
+  where
+    by_test : (t : Bool) → same_cluster j k ≡ t → t ≡ false
+    by_test true is = absurd (true≢false (sym (eq-eqb k.0 j.0 (sym (eqb-true j.0 k.0 is))) ∙ none))
+    by_test false is = refl
+
+pub none_sent : (k : ClusterNo) (xs : List Entry) → list_any (is_told_by k) xs ≡ false → list_any (is_by_cluster k) xs ≡ false
+none_sent k xs none = any_weaker (is_told_by k) (is_by_cluster k) xs (λ e told. told_sent k (e.post).by (what e) told) none
+
+-- the bus tells of losses
+abbrev told_by_bus : Entry → Bool
+told_by_bus e = is_bus (e.post).by || not (is_loss (what e))
+
+loss_by_bus : (places : Places) (by : By) (w : What) → is_by_right places by w ≡ true → (is_bus by || not (is_loss w)) ≡ true
+loss_by_bus places by (Mail at letter) h = or_right (is_bus by) true refl
+loss_by_bus places by (Birth parent at child end) h = or_right (is_bus by) true refl
+loss_by_bus places by (Exit pid at end) h = or_right (is_bus by) true refl
+loss_by_bus places by (Page pid at index bytes) h = or_right (is_bus by) true refl
+loss_by_bus places by (Sync pid small read took) h = or_right (is_bus by) true refl
+loss_by_bus places by (Fetch pid index) h = or_right (is_bus by) true refl
+loss_by_bus places by (PageIs pid index bytes) h = or_right (is_bus by) true refl
+loss_by_bus places by (Crash k cause) h = ap (λ t. t || false) h
+loss_by_bus places by (Return k) h = or_right (is_bus by) true refl
+loss_by_bus places by (Rebackup to fresh recs) h = or_right (is_bus by) true refl
+loss_by_bus places by (Done rests) h = or_right (is_bus by) true refl
+loss_by_bus places by Stop h = or_right (is_bus by) true refl
+
+losses_by_bus : (system : System) (log : List Entry) → IsLegalBy BuiltMayFollow system log → list_all told_by_bus log ≡ true
+losses_by_bus system log legal =
+    legal_induction BuiltMayFollow system (λ log. list_all told_by_bus log ≡ true) refl
+    (λ log e before may. list_all-append told_by_bus log (e ∷ []) ∙ (λ i. before i && (loss_by_bus (placement system log) (e.post).by (what e) (may.stands).by_right i && true))) log legal
+
+-- so a loss that the cluster did not tell is none of its own
+other_cluster : (k j : ClusterNo) → is_author k.0 (Some j.0) ≡ false → same_cluster j k ≡ false
+other_cluster k j none = told_sent k (Cluster j) Stop none
+
+own_told : (k : ClusterNo) (by : By) (w : What) → (is_bus by || not (is_loss w)) ≡ true → is_author k.0 (author by w) ≡ false → is_own_loss k w ≡ false
+own_told k by (Mail at letter) right none = refl
+own_told k by (Birth parent at child end) right none = refl
+own_told k by (Exit pid at end) right none = refl
+own_told k by (Page pid at index bytes) right none = refl
+own_told k by (Sync pid small read took) right none = refl
+own_told k by (Fetch pid index) right none = refl
+own_told k by (PageIs pid index bytes) right none = refl
+own_told k Bus (Crash j Place) right none = refl
+own_told k Bus (Crash j (Step n)) right none = other_cluster k j none
+own_told k Bus (Crash j (Disk n)) right none = other_cluster k j none
+own_told k (Cluster i) (Crash j cause) right none = absurd (true≢false (sym right))
+own_told k by (Return j) right none = refl
+own_told k by (Rebackup to fresh recs) right none = refl
+own_told k by (Done rests) right none = refl
+own_told k by Stop right none = refl
+
+-- nor is one that loses another cluster
+own_living : (k : ClusterNo) (w : What) → is_crash_of k w ≡ false → is_own_loss k w ≡ false
+own_living k (Mail at letter) none = refl
+own_living k (Birth parent at child end) none = refl
+own_living k (Exit pid at end) none = refl
+own_living k (Page pid at index bytes) none = refl
+own_living k (Sync pid small read took) none = refl
+own_living k (Fetch pid index) none = refl
+own_living k (PageIs pid index bytes) none = refl
+own_living k (Crash j Place) none = refl
+own_living k (Crash j (Step n)) none = none
+own_living k (Crash j (Disk n)) none = none
+own_living k (Return j) none = refl
+own_living k (Rebackup to fresh recs) none = refl
+own_living k (Done rests) none = refl
+own_living k Stop none = refl
+
+-- what a cluster did not tell, of a legal log from a place on, is no loss of its own
+pub none_own_told : (system : System) (log : List Entry) (n : ℕ) (k : ClusterNo) → IsLegalBy BuiltMayFollow system log → list_any (is_told_by k) (drop n log) ≡ false → list_any (λ (e : Entry). is_own_loss k (what e)) (drop n log) ≡ false
+none_own_told system log n k legal none =
+    any_weaker_of (is_told_by k) (λ (e : Entry). is_own_loss k (what e)) told_by_bus (drop n log) (λ e right told. own_told k (e.post).by (what e) right told) (all_drop told_by_bus n log (losses_by_bus system log legal)) none
+
+-- nor is what it has lived through
+none_own_lived : (k : ClusterNo) (xs : List Entry) → was_lost_in xs k ≡ false → list_any (λ (e : Entry). is_own_loss k (what e)) xs ≡ false
+none_own_lived k xs lives = any_weaker (λ (e : Entry). is_crash_of k (what e)) (λ (e : Entry). is_own_loss k (what e)) xs (λ e none. own_living k (what e) none) lives
+
+-- so a cluster that lived up to a place, and told nothing from there, has told no loss
+pub none_own : (system : System) (log : List Entry) (n : ℕ) (k : ClusterNo) → IsLegalBy BuiltMayFollow system log → was_lost_in (take n log) k ≡ false → list_any (is_told_by k) (drop n log) ≡ false → list_any (λ (e : Entry). is_own_loss k (what e)) log ≡ false
+none_own system log n k legal lives none =
+    ap (list_any (λ (e : Entry). is_own_loss k (what e))) (sym (take-append-drop n log)) ∙ list_any-append (λ (e : Entry). is_own_loss k (what e)) (take n log) (drop n log)
+    ∙ (λ i. none_own_lived k (take n log) lives i || none_own_told system log n k legal none i)
+
+-- ---- how a life ends where the cluster told no loss
+
+ends_by_other : (k : ClusterNo) (w : What) (c : ClusterView) → is_own_loss k w ≡ false → EndsBy (cause_in k w) c
+ends_by_other k (Mail at letter) c none = tt
+ends_by_other k (Birth parent at child end) c none = tt
+ends_by_other k (Exit pid at end) c none = tt
+ends_by_other k (Page pid at index bytes) c none = tt
+ends_by_other k (Sync pid small read took) c none = tt
+ends_by_other k (Fetch pid index) c none = tt
+ends_by_other k (PageIs pid index bytes) c none = tt
+ends_by_other k (Crash j Place) c none = by_same (same_cluster j k)
+  where
+    by_same : (b : Bool) → EndsBy (cond b (Some Place) None) c
+    by_same true = tt
+    by_same false = tt
+ends_by_other k (Crash j (Step n)) c none = by_same (same_cluster j k) none
+  where
+    by_same : (b : Bool) → b ≡ false → EndsBy (cond b (Some (Step n)) None) c
+    by_same true is = absurd (true≢false is)
+    by_same false is = tt
+ends_by_other k (Crash j (Disk n)) c none = by_same (same_cluster j k) none
+  where
+    by_same : (b : Bool) → b ≡ false → EndsBy (cond b (Some (Disk n)) None) c
+    by_same true is = absurd (true≢false is)
+    by_same false is = tt
+ends_by_other k (Return j) c none = tt
+ends_by_other k (Rebackup to fresh recs) c none = tt
+ends_by_other k (Done rests) c none = tt
+ends_by_other k Stop c none = tt
+
+-- an entry of the log then ends its life by nothing that it has to show
+pub ends_there : (log : List Entry) (k : ClusterNo) (c : ClusterView) (n : ℕ) (e : Entry) → list_any (λ (e : Entry). is_own_loss k (what e)) log ≡ false → slice_get log n ≡ Some e → EndsBy (cause_in k (what e)) c
+ends_there log k c n e none at = ends_by_other k (what e) c (none_of_them (λ (e : Entry). is_own_loss k (what e)) log n e none at)
+
+-- ---- the words for its steps
+
+own_step : (k : ClusterNo) (n : ℕ) (w : What) → is_own_loss k w ≡ false → is_step_crash k n w ≡ false
+own_step k n (Mail at letter) none = refl
+own_step k n (Birth parent at child end) none = refl
+own_step k n (Exit pid at end) none = refl
+own_step k n (Page pid at index bytes) none = refl
+own_step k n (Sync pid small read took) none = refl
+own_step k n (Fetch pid index) none = refl
+own_step k n (PageIs pid index bytes) none = refl
+own_step k n (Crash j Place) none = by_same (same_cluster j k)
+  where
+    by_same : (b : Bool) → (b && false) ≡ false
+    by_same true = refl
+    by_same false = refl
+own_step k n (Crash j (Step m)) none = ap (λ b. b && m == n) none
+own_step k n (Crash j (Disk m)) none = ap (λ b. b && false) none
+own_step k n (Return j) none = refl
+own_step k n (Rebackup to fresh recs) none = refl
+own_step k n (Done rests) none = refl
+own_step k n Stop none = refl
+
+-- as many left as there were leave one where there was one
+same_any : {X : Type 0} (t : X → Bool) (xs ys : List X) → count_by t xs ≡ count_by t ys → list_any t xs ≡ list_any t ys
+same_any t xs ys same = by_test (list_any t xs) (list_any t ys) refl refl
+  where
+    by_test : (a b : Bool) → list_any t xs ≡ a → list_any t ys ≡ b → a ≡ b
+    by_test true true one two = refl
+    by_test false false one two = refl
+    by_test true false one two = absurd (true≢false (sym (any_counted t ys (let some = count_some t xs one in omega (arith, some, same))) ∙ two))
+    by_test false true one two = absurd (true≢false (sym (any_counted t xs (let some = count_some t ys two in omega (arith, some, same))) ∙ one))
+
+-- none of them was used: each that the script has is left
+pub unused_as_named : (b : BusView) (k : ClusterNo) (n : ℕ) → KeepsScript b → list_any (λ (e : Entry). is_own_loss k (what e)) b.log ≡ false → has_unused b.left k (Step n) ≡ has_unused b.script k (Step n)
+unused_as_named b k n keeps none =
+    let gone = count_none (λ (e : Entry). is_step_crash k n (what e)) b.log (any_weaker (λ (e : Entry). is_own_loss k (what e)) (λ (e : Entry). is_step_crash k n (what e)) b.log (λ e own. own_step k n (what e) own) none) in
+    let used = keeps.used k n in
+    same_any (is_step_word k n) b.left b.script (omega (arith, used, gone))
+
+-- ---- the words that it has passed
+
+either_less : (a b : Bool) (m n step : ℕ) → m ≤ n → (a || b || nat_le n step) ≡ true → (a || b || nat_le m step) ≡ true
+either_less true b m n step less h = refl
+either_less false true m n step less h = refl
+either_less false false m n step less h = grind (arith, nat_tests)
+
+-- fewer steps have passed no more words
+passed_less : (k : ClusterNo) (log : List Entry) (m n : ℕ) (script : List ScriptWord) → m ≤ n → list_all (is_unpassed k log n) script ≡ true → list_all (is_unpassed k log m) script ≡ true
+passed_less k log m n script less all = list_all-weaker (is_unpassed k log n) (is_unpassed k log m) by_word script all
+  where
+    by_word : (w : ScriptWord) → is_unpassed k log n w ≡ true → is_unpassed k log m w ≡ true
+    by_word (CrashAt j place) h = refl
+    by_word (CrashStep j step) h = either_less (not (same_cluster j k)) (list_any (λ (e : Entry). is_step_crash j step (what e)) log) m n step less h
+    by_word (DiskAt j call) h = refl
+    by_word (ReturnAt j place) h = refl
+
+-- nor has a step that no word names
+pub passed_next : (b : BusView) (c : ClusterView) → IsUnnamed b c → list_all (is_unpassed c.number b.log c.steps) b.script ≡ true → list_all (is_unpassed c.number b.log (next_count c.steps)) b.script ≡ true
+passed_next b c (inl none) all = passed_less c.number b.log (next_count c.steps) (c.steps + 1) b.script (omega arith) (unpassed_unnamed c.number b.log c.steps b.script none all)
+passed_next b c (inr still) all = passed_less c.number b.log (next_count c.steps) c.steps b.script (omega (arith, still)) all

@@ -1,0 +1,302 @@
+-- A cluster is lost before a kernel step, or was lost at a place that it had not taken in: it stops, and stays as it is.
+use Rattle.std.proofs.Common.{◌≡◌, ℕ, ◌+◌, ◌-◌, ◌≤◌, ◌<◌, ◌⊎◌, refl, sym, ◌∙◌, ap, subst, arith, List, [], ◌∷◌, ◌++◌, length, take, drop, length-append, Bool, true, false, cond, not, ◌||◌, Option, Some, None, slice_get, true≢false, inl, inr, eq-eqb}
+use Rattle.std.specs.Prelude.{nat_lt, option_and_then}
+use Rattle.std.specs.List.{list_all, list_any, position_or_len}
+use Rattle.std.specs.Option.{option_map_or}
+use Rattle.std.proofs.lemmas.Bool.{lt-ltb}
+use Rattle.std.proofs.lemmas.List.{take-append-le, drop-append-le, take_all}
+use Rattle.std.proofs.lemmas.List.Elements.{All-nil, All-cons}
+use Rattle.std.proofs.lemmas.List.Folds.{list_any-append}
+use Rattle.std.proofs.lemmas.Option.{slice_get_within}
+use Rattle.t32_base.specs.declared.process.ClusterNo.{ClusterNo}
+use Rattle.sys_text.specs.declared.system.System.{System}
+use Rattle.proc_state.specs.Mail.{without_first}
+use Rattle.bus_msg.specs.declared.entry.By.TheVariants.{Bus}
+use Rattle.bus_msg.specs.declared.entry.What.{What}
+use Rattle.bus_msg.specs.declared.entry.What.TheVariants.{Mail, Birth, Exit, Page, Sync, Fetch, PageIs, Crash, Return, Rebackup, Done, Stop}
+use Rattle.bus_msg.specs.declared.entry.Post.{Post}
+use Rattle.bus_msg.specs.declared.entry.Cause.TheVariants.{Step}
+use Rattle.bus_msg.specs.declared.entry.Entry.{Entry}
+use Rattle.bus_msg.specs.Places.{same_cluster}
+use Rattle.bus_msg.specs.PlacedAfter.{what}
+use Rattle.cert_sched.specs.declared.script.ScriptWord.{ScriptWord}
+use Rattle.cert_sched.specs.Appended.{entry_of}
+use Rattle.cert_sched.specs.Legal.{IsLegalBy}
+use Rattle.cert_sched.specs.Built.{BuiltMayFollow}
+use Rattle.cert_sched.specs.Losses.{capped, is_by_cluster, is_crash_of, least_steps, was_lost_in}
+use Rattle.cluster_core.specs.View.{ClusterView, after_head, after_sent}
+use Rattle.cluster_core.specs.Follows.{FollowsBuilt, StandsBetween}
+use Rattle.bus_lock.specs.Lists.{MayAdd}
+use Rattle.bus_order.specs.Log.{author_of}
+use Rattle.bus_order.specs.Script.{is_unpassed, is_word_for, off_at}
+use Rattle.bus_order.specs.View.{BusView, KeepsScript, Loses, MayBeLost, with_loss}
+use Rattle.bus_order.specs.declared.refused.Refused.{Refused}
+use Rattle.std.specs.Prelude.{Result, Ok, Err}
+use Rattle.bus_order.specs.declared.refused.Refused.TheVariants.{Over, Off, Behind, NoMemory}
+use Rattle.script_laws.specs.Off.{IsItsLoss}
+use Rattle.script_laws.proofs.LosingAtStep.{may_before, may_sent}
+use Rattle.script_laws.proofs.OffLosses.{not_off_not_lost, off_is_its_loss, silent_once_lost}
+use Rattle.script_laws.proofs.PassedWords.{all_longer}
+use Rattle.cluster_run.specs.Gone.{IsBeforeStep, IsGone, StoodBeside, StoodBetween, is_own_loss, is_told_by}
+use Rattle.cluster_run.specs.Along.{IsAlong, IsNamed, IsSound, IsStopped}
+use Rattle.cluster_run.specs.Lived.{EndsBy, cause_in, end_cause, end_of_life}
+use Rattle.cluster_run.specs.Offers.{Adds}
+use Rattle.cluster_run.proofs.LostLives.{first_within}
+use Rattle.cluster_run.proofs.OneLeft.{left_lost}
+use Rattle.cluster_run.proofs.OwnLosses.{ends_there, none_own, none_own_told, none_sent, unused_as_named}
+use Rattle.cluster_run.proofs.Offering.{adds_none}
+use Rattle.cluster_run.proofs.Prefixes.{drop_whole, get_front, get_last}
+use Rattle.cluster_run.proofs.Upto.{first_at, not_before}
+
+abbrev its_loss : ClusterNo → Entry → Bool
+its_loss k e = is_crash_of k (what e)
+
+-- ---- a longer log
+
+-- who stood beside a log, or between it and its next entry, stands so with a longer one to which it sent nothing
+pub stood_longer : (b after : BusView) (c : ClusterView) (more : List Entry) → after.system ≡ b.system → after.log ≡ b.log ++ more → c.cursor ≤ length b.log → list_any (is_by_cluster c.number) more ≡ false
+    → StoodBeside b c ⊎ StoodBetween b c → StoodBeside after c ⊎ StoodBetween after c
+stood_longer b after c more system longer within others (inl beside) =
+    let front : take c.cursor after.log ≡ take c.cursor b.log = ap (take c.cursor) longer ∙ take-append-le c.cursor b.log more within in
+    let back : drop c.cursor after.log ≡ drop c.cursor b.log ++ more = ap (drop c.cursor) longer ∙ drop-append-le c.cursor b.log more within in
+    inl (record {
+      follows = subst (λ l. FollowsBuilt after.system l c) (sym front) (subst (λ s. FollowsBuilt s (take c.cursor b.log) c) (sym system) beside.follows);
+      sent_before = ap (list_any (is_by_cluster c.number)) back ∙ list_any-append (is_by_cluster c.number) (drop c.cursor b.log) more ∙ (λ i. beside.sent_before i || others i);
+    })
+stood_longer b after c more system longer within others (inr between) =
+    let inside : c.cursor < length b.log = slice_get_within b.log c.cursor between.entry between.there in
+    let front : take c.cursor after.log ≡ take c.cursor b.log = ap (take c.cursor) longer ∙ take-append-le c.cursor b.log more within in
+    let back : drop (c.cursor + 1) after.log ≡ drop (c.cursor + 1) b.log ++ more = ap (drop (c.cursor + 1)) longer ∙ drop-append-le (c.cursor + 1) b.log more (omega (arith, inside)) in
+    inr (record {
+      entry = between.entry;
+      there = ap (λ l. slice_get l c.cursor) longer ∙ get_front b.log more c.cursor inside ∙ between.there;
+      between = subst (λ l. StandsBetween FollowsBuilt after.system l between.entry c) (sym front) (subst (λ s. StandsBetween FollowsBuilt s (take c.cursor b.log) between.entry c) (sym system) between.between);
+      sent_before = ap (list_any (is_by_cluster c.number)) back ∙ list_any-append (is_by_cluster c.number) (drop (c.cursor + 1) b.log) more ∙ (λ i. between.sent_before i || others i);
+    })
+
+-- a cluster stands before its next step still when others have added to the log
+pub before_longer : (b after : BusView) (c : ClusterView) (more : List Entry) → IsLegalBy BuiltMayFollow after.system after.log → after.system ≡ b.system → after.script ≡ b.script → after.log ≡ b.log ++ more → list_any (is_told_by c.number) more ≡ false
+    → IsBeforeStep b c → IsBeforeStep after c
+before_longer b after c more legal system script longer others before =
+    let long : length after.log ≡ length b.log + length more = ap length longer ∙ length-append b.log more in
+    let front : take c.cursor after.log ≡ take c.cursor b.log = ap (take c.cursor) longer ∙ take-append-le c.cursor b.log more before.within in
+    let rest : drop (length b.log) after.log ≡ more = ap (drop (length b.log)) longer ∙ drop-append-le (length b.log) b.log more (omega arith) ∙ ap (λ l. l ++ more) (drop_whole b.log) in
+    let own : list_any (λ (e : Entry). is_own_loss c.number (what e)) more ≡ false =
+    ap (list_any (λ (e : Entry). is_own_loss c.number (what e))) (sym rest) ∙ none_own_told after.system after.log (length b.log) c.number legal (ap (list_any (is_told_by c.number)) rest ∙ others) in
+    record {
+      system = before.system ∙ sym system;
+      has = subst (λ (s : System). (c.number).0 < s.clusters) (sym system) before.has;
+      within = omega (arith, long, before.within);
+      lives = ap (λ l. was_lost_in l c.number) front ∙ before.lives;
+      stands = stood_longer b after c more system longer before.within (none_sent c.number more others) before.stands;
+      kept = ap (list_any (λ (e : Entry). is_own_loss c.number (what e))) longer ∙ list_any-append (λ (e : Entry). is_own_loss c.number (what e)) b.log more ∙ (λ i. before.kept i || own i);
+      passed = (λ i. list_all (is_unpassed c.number (longer i) c.steps) (script i)) ∙ all_longer c.number b.log more c.steps b.script before.passed;
+      unfailed = before.unfailed;
+    }
+
+-- ---- before a step
+
+-- a cluster along a bus
+pub before_along : (b : BusView) (c : ClusterView) → IsSound b → IsAlong b c → IsBeforeStep b c
+before_along b c sound along =
+    let beside = along.beside in
+    record {
+      system = along.system;
+      has = subst (λ (s : System). (c.number).0 < s.clusters) along.system beside.has;
+      within = beside.within;
+      lives = beside.lives;
+      stands = inl (record { follows = subst (λ s. FollowsBuilt s (take c.cursor b.log) c) along.system beside.follows; sent_before = none_sent c.number (drop c.cursor b.log) beside.told_before });
+      kept = none_own b.system b.log c.cursor c.number sound.legal beside.lives beside.told_before;
+      passed = along.passed;
+      unfailed = beside.unfailed;
+    }
+
+-- ---- it was lost at a place
+
+-- a cluster that was lost at a place behind its cursor stops
+pub lost_gone : (b : BusView) (c : ClusterView) → IsSound b → IsBeforeStep b c → was_lost_in b.log c.number ≡ true → IsGone b c
+lost_gone b c sound before lost = by_off (off_at b.log c.number) refl
+  where
+    by_off : (o : Option ℕ) → off_at b.log c.number ≡ o → IsGone b c
+    by_off None on = absurd (true≢false (sym lost ∙ not_off_not_lost b.system b.log c.number sound.legal on))
+    by_off (Some at) off =
+        let loss = off_is_its_loss b.system b.log c.number at sound.legal off in
+        let first : position_or_len (its_loss c.number) b.log ≡ at = first_at (its_loss c.number) b.log at loss.entry loss.there loss.loses loss.none_before in
+        let low = not_before (its_loss c.number) b.log c.cursor before.within before.lives in
+        record {
+          lost = lost;
+          left = left_lost b c at loss before.system before.unfailed (omega (arith, first, low)) (by_way before.stands) (ends_there b.log c.number c at loss.entry before.kept loss.there) before.passed;
+        }
+      where
+        by_way : StoodBeside b c ⊎ StoodBetween b c → StoodBeside b c ⊎ ((was_lost_in b.log c.number ≡ true) × StoodBetween b c)
+        by_way (inl beside) = inl beside
+        by_way (inr between) = inr (lost, between)
+
+-- ---- it is lost at its step
+
+-- what is sent changes neither the number of a cluster nor its steps nor its system
+abbrev IsSameStill : ClusterView → ClusterView → Type 0
+IsSameStill c after = (after.number ≡ c.number) × (after.steps ≡ c.steps) × (after.system ≡ c.system)
+
+same_head : (c : ClusterView) (w : What) → IsSameStill c (after_head c w)
+same_head c (Mail at letter) = (refl, refl, refl)
+same_head c (Birth parent at child end) = (refl, refl, refl)
+same_head c (Exit pid at end) = (refl, refl, refl)
+same_head c (Page pid at index bytes) = (refl, refl, refl)
+same_head c (Sync pid small read took) = (refl, refl, refl)
+same_head c (Fetch pid index) = (refl, refl, refl)
+same_head c (PageIs pid index bytes) = (refl, refl, refl)
+same_head c (Crash k cause) = (refl, refl, refl)
+same_head c (Return k) = (refl, refl, refl)
+same_head c (Rebackup to true (r ∷ rs)) = (refl, refl, refl)
+same_head c (Rebackup to true []) = (refl, refl, refl)
+same_head c (Rebackup to false recs) = (refl, refl, refl)
+same_head c (Done rests) = (refl, refl, refl)
+same_head c Stop = (refl, refl, refl)
+
+pub same_sent : (c : ClusterView) (queue : List Post) → IsSameStill c (after_sent c queue)
+same_sent c [] = (refl, refl, refl)
+same_sent c (head ∷ rest) = same_head c head.what
+
+-- the bus lets it
+pub may_be_lost : (b : BusView) (c : ClusterView) → KeepsScript b → IsBeforeStep b c → IsNamed b c → MayBeLost b c.number (Step c.steps)
+may_be_lost b c keeps before named = by_way before.stands
+  where
+    unused : list_any (is_word_for c.number (Step c.steps)) b.left ≡ true
+    unused = unused_as_named b c.number c.steps keeps before.kept ∙ named.named
+
+    enough : (n s : ℕ) (t : Bool) → capped (n + cond t 1 0) ≤ s → capped n ≤ s
+    enough n s true h = omega (arith, h)
+    enough n s false h = omega (arith, h)
+
+    by_way : StoodBeside b c ⊎ StoodBetween b c → MayBeLost b c.number (Step c.steps)
+    by_way (inl beside) =
+        let counted = ((beside.follows).steps).counted before.lives in
+        may_before b c.number c.steps c.cursor before.has keeps unused beside.sent_before (enough (least_steps (take c.cursor b.log) (take c.cursor b.log) c.number) c.steps c.tried counted) named.fits
+    by_way (inr between) = may_sent b c.number c.steps c.cursor before.has keeps unused between.sent_before counted named.fits
+      where
+        was : ClusterView
+        was = (between.between).before
+
+        number : was.number ≡ c.number
+        number = sym (ap (λ (v : ClusterView). v.number) (between.between).sent ∙ (same_sent was was.queue).0)
+
+        steps : was.steps ≡ c.steps
+        steps = sym (ap (λ (v : ClusterView). v.steps) (between.between).sent ∙ (same_sent was was.queue).1)
+
+        counted : capped (least_steps (take c.cursor b.log) (take c.cursor b.log) c.number + 1) ≤ c.steps
+        counted =
+            let all = (((between.between).followed).steps).counted (ap (was_lost_in (take c.cursor b.log)) number ∙ before.lives) in
+            let tried : capped (least_steps (take c.cursor b.log) (take c.cursor b.log) was.number + 1) ≤ was.steps =
+            subst (λ t. capped (least_steps (take c.cursor b.log) (take c.cursor b.log) was.number + cond t 1 0) ≤ was.steps) (between.between).tried all in
+            subst (λ k. capped (least_steps (take c.cursor b.log) (take c.cursor b.log) k + 1) ≤ c.steps) number (subst (λ n. capped (least_steps (take c.cursor b.log) (take c.cursor b.log) was.number + 1) ≤ n) steps tried)
+
+same_itself : (k : ClusterNo) → same_cluster k k ≡ true
+same_itself k = eq-eqb k.0 k.0 refl
+
+-- and then it is gone
+lost_at_step : (b : BusView) (c : ClusterView) (left : List ScriptWord) → IsBeforeStep b c → was_lost_in b.log c.number ≡ false → IsGone (with_loss b c.number (Step c.steps) left) c
+lost_at_step b c left before lives =
+    let after : BusView = with_loss b c.number (Step c.steps) left in
+    let loss : Entry = entry_of b.system b.log (record { by = Bus; what = Crash c.number (Step c.steps) }) in
+    let itself = same_itself c.number in
+    let part : take (length b.log) after.log ≡ b.log = take-append-le (length b.log) b.log (loss ∷ []) (omega arith) ∙ take_all (length b.log) b.log (omega arith) in
+    let long : length after.log ≡ length b.log + 1 = length-append b.log (loss ∷ []) in
+    let none : drop (length b.log + 1) after.log ≡ [] = ap (λ n. drop n after.log) (sym long) ∙ drop_whole after.log in
+    let its : IsItsLoss after.log c.number (length b.log) = record {
+      entry = loss;
+      there = get_last b.log loss;
+      loses = itself;
+      none_before = ap (λ l. was_lost_in l c.number) part ∙ lives;
+      none_after = ap (λ l. was_lost_in l c.number) none;
+    } in
+    let lost : was_lost_in after.log c.number ≡ true = list_any-append (its_loss c.number) b.log (loss ∷ []) ∙ (λ i. lives i || (itself i || false)) in
+    record {
+      lost = lost;
+      left = left_lost after c (length b.log) its before.system before.unfailed before.within (by_way lost (stood_longer b after c (loss ∷ []) refl refl before.within refl before.stands))
+          (subst (λ t. EndsBy (cond t (Some (Step c.steps)) None) c) (sym itself) (before.unfailed, refl)) (all_longer c.number b.log (loss ∷ []) c.steps b.script before.passed);
+    }
+  where
+    by_way : {S T : Type 0} → {L : Type 0} → L → S ⊎ T → S ⊎ (L × T)
+    by_way lost (inl beside) = inl beside
+    by_way lost (inr between) = inr (lost, between)
+
+-- what the bus answers
+pub lost_answer : (old new : BusView) (c : ClusterView) (at : ℕ) → IsSound old → IsSound new → IsBeforeStep old c → Loses old c.number (Step c.steps) (Ok at) new → IsStopped new c
+lost_answer old new c at sound sound_new before loses =
+    let lives = not_off_not_lost old.system old.log c.number sound.legal loses.1 in
+    record { sound = sound_new; gone = subst (λ b. IsGone b c) (sym loses.3) (lost_at_step old c (without_first (is_word_for c.number (Step c.steps)) old.left) before lives) }
+
+-- what it adds
+lost_adds_one : (b : BusView) (k : ClusterNo) (n : ℕ) (left : List ScriptWord) → Adds k b (with_loss b k (Step n) left)
+lost_adds_one b k n left = record {
+  system = refl;
+  script = refl;
+  more = entry_of b.system b.log (record { by = Bus; what = Crash k (Step n) }) ∷ [];
+  log = refl;
+  may = All-cons (MayAdd author_of k.0) (entry_of b.system b.log (record { by = Bus; what = Crash k (Step n) })) [] (inr refl) (All-nil (MayAdd author_of k.0));
+}
+
+pub lost_adds : (old new : BusView) (k : ClusterNo) (n : ℕ) (r : Result ℕ Refused) → Loses old k (Step n) r new → Adds k old new
+lost_adds old new k n (Ok at) loses = subst (Adds k old) (sym loses.3) (lost_adds_one old k n (without_first (is_word_for k (Step n)) old.left))
+lost_adds old new k n (Err (Over at)) loses = subst (Adds k old) (sym loses.2) (adds_none k old)
+lost_adds old new k n (Err (Off at)) loses = subst (Adds k old) (sym loses.2) (adds_none k old)
+lost_adds old new k n (Err (Behind m)) loses = absurd loses
+lost_adds old new k n (Err NoMemory) loses = subst (Adds k old) (sym loses) (adds_none k old)
+
+-- ---- it stays gone
+
+-- where some element passes, the first that does is the first of a longer list
+first_longer : {X : Type 0} (t : X → Bool) (xs ys : List X) → list_any t xs ≡ true → position_or_len t (xs ++ ys) ≡ position_or_len t xs
+first_longer t [] ys some = absurd (true≢false (sym some))
+first_longer t (x ∷ xs) ys some = by_test (t x) some (first_longer t xs ys)
+  where
+    by_test : (b : Bool) → (b || list_any t xs) ≡ true → (list_any t xs ≡ true → position_or_len t (xs ++ ys) ≡ position_or_len t xs) → cond (not b) (1 + position_or_len t (xs ++ ys)) 0 ≡ cond (not b) (1 + position_or_len t xs) 0
+    by_test true some more = refl
+    by_test false some more = ap (λ n. 1 + n) (more some)
+
+-- a life that a loss ends
+life_ends : (log : List Entry) (k : ClusterNo) → was_lost_in log k ≡ true → end_of_life log k 0 ≡ position_or_len (its_loss k) log
+life_ends log k lost =
+    let within : nat_lt (position_or_len (its_loss k) log) (length log) ≡ true = lt-ltb (position_or_len (its_loss k) log) (length log) (first_within (its_loss k) log lost) in
+    ap (λ t. option_map_or (λ i. 0 + i) (cond t (Some (position_or_len (its_loss k) log)) None) (length log - 1)) within ∙ (let n : 0 + position_or_len (its_loss k) log ≡ position_or_len (its_loss k) log = omega arith in n)
+
+-- ended before the log does
+pub gone_inside : (b : BusView) (c : ClusterView) → IsGone b c → end_of_life b.log c.number 0 < length b.log
+gone_inside b c gone = let before = life_ends b.log c.number gone.lost in let first = first_within (its_loss c.number) b.log gone.lost in omega (arith, before, first)
+
+-- who is gone stays so when others add to the log
+pub gone_longer : (b after : BusView) (c : ClusterView) (more : List Entry) → IsLegalBy BuiltMayFollow after.system after.log → after.system ≡ b.system → after.script ≡ b.script → after.log ≡ b.log ++ more → IsGone b c → IsGone after c
+gone_longer b after c more legal system script longer gone =
+    let left = gone.left in
+    let lost : was_lost_in after.log c.number ≡ true = ap (λ l. was_lost_in l c.number) longer ∙ list_any-append (its_loss c.number) b.log more ∙ ap (λ t. t || was_lost_in more c.number) gone.lost in
+    let front : take (length b.log) after.log ≡ b.log = ap (take (length b.log)) longer ∙ take-append-le (length b.log) b.log more (omega arith) ∙ take_all (length b.log) b.log (omega arith) in
+    let rest : drop (length b.log) after.log ≡ more = ap (drop (length b.log)) longer ∙ drop-append-le (length b.log) b.log more (omega arith) ∙ ap (λ l. l ++ more) (drop_whole b.log) in
+    let silent : list_any (is_by_cluster c.number) more ≡ false = ap (list_any (is_by_cluster c.number)) (sym rest) ∙ silent_once_lost after.system after.log c.number (length b.log) legal (ap (λ l. was_lost_in l c.number) front ∙ gone.lost) in
+    let before = life_ends b.log c.number gone.lost in
+    let ends : end_of_life after.log c.number 0 ≡ end_of_life b.log c.number 0 =
+    life_ends after.log c.number lost ∙ ap (position_or_len (its_loss c.number)) longer ∙ first_longer (its_loss c.number) b.log more gone.lost ∙ sym before in
+    let inside = gone_inside b c gone in
+    let cause : end_cause after.log c.number 0 ≡ end_cause b.log c.number 0 =
+    ap (λ o. option_and_then (λ (e : Entry). cause_in c.number (what e)) o)
+    (ap (slice_get after.log) ends ∙ ap (λ l. slice_get l (end_of_life b.log c.number 0)) longer ∙ get_front b.log more (end_of_life b.log c.number 0) inside) in
+    record {
+      lost = lost;
+      left = record {
+        system = left.system ∙ sym system;
+        unfailed = left.unfailed;
+        within = omega (arith, left.within, ends);
+        followed = by_way lost (stood_longer b after c more system longer (omega (arith, left.within, inside)) silent (stood left.followed));
+        to_the_end = λ lives. absurd (true≢false (sym lost ∙ lives));
+        lost_by = subst (λ o. EndsBy o c) (sym cause) left.lost_by;
+        passed = (λ i. list_all (is_unpassed c.number (longer i) c.steps) (script i)) ∙ all_longer c.number b.log more c.steps b.script left.passed;
+      };
+    }
+  where
+    stood : StoodBeside b c ⊎ ((was_lost_in b.log c.number ≡ true) × StoodBetween b c) → StoodBeside b c ⊎ StoodBetween b c
+    stood (inl beside) = inl beside
+    stood (inr between) = inr between.1
+
+    by_way : {S T : Type 0} → {L : Type 0} → L → S ⊎ T → S ⊎ (L × T)
+    by_way lost (inl beside) = inl beside
+    by_way lost (inr between) = inr (lost, between)

@@ -1,0 +1,12 @@
+use Rattle.std.proofs.Common.{◌∙◌}
+use Rattle.bus_msg.specs.declared.entry.Cause.TheVariants.{Step}
+use Rattle.bus_order.specs.Script.{has_unused}
+use Rattle.bus_order.specs.View.{BusView}
+use Rattle.cluster_run.proofs.OwnLosses.{unused_as_named}
+use Rattle.cluster_run.proofs.lent.BusPort.names_step.Goals as goal
+
+pub returns : goal.returns
+returns c =
+    let b : BusView = c.args.self.now in
+    let v = c.args.cluster.now in
+    c.unused.ensures ∙ (λ i. has_unused b.left (c.number.ensures i) (Step (c.steps.ensures i))) ∙ unused_as_named b v.number v.steps c.length-scripted.ensures.scripted c.requires.before.kept

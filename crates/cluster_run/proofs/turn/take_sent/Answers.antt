@@ -1,0 +1,37 @@
+use Rattle.std.proofs.Common.{◌≡◌, ◌∙◌, ap, subst, false}
+use Rattle.t32_base.specs.declared.process.ClusterNo.{ClusterNo}
+use Rattle.cert_sched.specs.Losses.{was_lost_in}
+use Rattle.cluster_core.specs.View.{ClusterView}
+use Rattle.cluster_run.specs.Turns.{LosesOwn}
+use Rattle.cluster_run.proofs.Posting.{left_ready, sent_posting}
+use Rattle.cluster_run.proofs.Sending.{before_sent, clears, sent_lives}
+use Rattle.cluster_run.proofs.turn.take_sent.Goals as goal
+
+pub is_named-requires-clause-before : goal.is_named-requires-clause-before
+is_named-requires-clause-before g c =
+    let sent = c.requires.sent in
+    before_sent sent.0 c.args.cluster.now sent.1 (g.P.Port.bus c.args.port.now) sent.2 c.requires.sound.legal c.sent.new.self c.sent.ensures
+
+pub lose-requires-clause-before : goal.lose-requires-clause-before
+lose-requires-clause-before g c =
+    let sent = c.requires.sent in
+    before_sent sent.0 c.args.cluster.now sent.1 (g.P.Port.bus c.args.port.now) sent.2 c.requires.sound.legal c.sent.new.self c.sent.ensures
+
+pub returns-then-is_named-clause-own : goal.returns-then-is_named-clause-own
+returns-then-is_named-clause-own g c lost alone own =
+    let b = g.P.Port.bus c.args.port.now in
+    let sent = c.requires.sent in
+    let number : c.sent.new.self.number ≡ c.args.cluster.now.number = ap (λ (v : ClusterView). v.number) (c.sent.ensures ∙ clears sent.0 c.args.cluster.now sent.1 b sent.2) in
+    let lives : was_lost_in b.log c.sent.new.self.number ≡ false = ap (was_lost_in b.log) number ∙ sent_lives sent.0 c.args.cluster.now sent.1 b sent.2 in
+    subst (λ (k : ClusterNo). LosesOwn k b (g.P.Port.bus c.lose.new.self)) number (c.in_ok-lose.ensures.own alone own lives)
+
+pub take_next-requires-clause-ready : goal.take_next-requires-clause-ready
+take_next-requires-clause-ready g c =
+    let sent = c.requires.sent in
+    left_ready sent.0 c.args.cluster.now c.sent.new.self sent.1 (g.P.Port.bus c.args.port.now) sent.2 c.sent.ensures c.requires.sound
+
+pub returns-clause-posting : goal.returns-clause-posting
+returns-clause-posting g c goes =
+    let sent = c.requires.sent in
+    sent_posting sent.0 c.args.cluster.now c.sent.new.self sent.1 (g.P.Port.bus c.args.port.now) sent.2 c.sent.ensures (g.P.Port.shows c.args.port.now) (g.P.Port.from c.args.port.now) c.take_next.new.cluster
+    c.requires.shows c.requires.from c.requires.sound (c.is_named.ensures.unnamed c.if-is_named.false) c.in_ok-take_next.ensures

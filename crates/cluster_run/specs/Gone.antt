@@ -1,0 +1,75 @@
+-- How a cluster is left when its life has ended: by the end of the run, or by its loss.
+use Rattle.std.specs.Prelude.{◌≡◌, ◌+◌, ◌-◌, ◌≤◌, ◌<◌, ◌⊎◌, Bool, true, false, length, take, drop, slice_get, Some, None}
+use Rattle.std.specs.List.{list_any, list_all}
+use Rattle.t32_base.specs.declared.process.ClusterNo.{ClusterNo}
+use Rattle.bus_msg.specs.declared.entry.What.{What}
+use Rattle.bus_msg.specs.declared.entry.What.TheVariants.{Crash}
+use Rattle.bus_msg.specs.declared.entry.Cause.TheVariants.{Place, Step, Disk}
+use Rattle.bus_msg.specs.declared.entry.Entry.{Entry}
+use Rattle.bus_msg.specs.Places.{same_cluster}
+use Rattle.bus_msg.specs.PlacedAfter.{what}
+use Rattle.cert_sched.specs.Losses.{is_by_cluster, was_lost_in}
+use Rattle.cluster_core.specs.View.{ClusterView}
+use Rattle.cluster_core.specs.Follows.{FollowsBuilt, StandsBetween}
+use Rattle.bus_lock.specs.Lists.{is_author}
+use Rattle.bus_order.specs.Log.{author_of}
+use Rattle.bus_order.specs.Script.{is_unpassed}
+use Rattle.bus_order.specs.View.{BusView}
+use Rattle.cluster_run.specs.Lived.{EndsBy, end_cause, end_of_life}
+
+-- ---- what a cluster tells
+
+-- the cluster added the entry: it sent it, or was lost by it at a step or a disk call
+abbrev pub is_told_by : ClusterNo → Entry → Bool
+is_told_by k e = is_author k.0 (author_of e)
+
+-- a loss of the cluster at a step or a disk call
+abbrev pub is_own_loss : ClusterNo → What → Bool
+is_own_loss k (Crash j Place) = false
+is_own_loss k (Crash j (Step n)) = same_cluster j k
+is_own_loss k (Crash j (Disk n)) = same_cluster j k
+is_own_loss k _ = false
+
+-- ---- where it stands
+
+-- it followed the log up to its cursor, and sent nothing that stands later
+pub record StoodBeside (b : BusView) (c : ClusterView) : Type 0 where
+  pub follows : FollowsBuilt b.system (take c.cursor b.log) c
+  pub sent_before : list_any (is_by_cluster c.number) (drop c.cursor b.log) ≡ false
+
+-- it has sent the entry at its cursor and not taken that in, and sent nothing that stands later
+pub record StoodBetween (b : BusView) (c : ClusterView) : Type 0 where
+  pub entry : Entry
+  pub there : slice_get b.log c.cursor ≡ Some entry
+  pub between : StandsBetween FollowsBuilt b.system (take c.cursor b.log) entry c
+  pub sent_before : list_any (is_by_cluster c.number) (drop (c.cursor + 1) b.log) ≡ false
+
+-- A cluster before its next kernel step: it follows the log, or has just sent the entry that it takes in next. It was not lost in what it has taken in, nor anywhere
+-- at a step or a disk call, and it has passed no word for a step that gave no loss.
+pub record IsBeforeStep (b : BusView) (c : ClusterView) : Type 0 where
+  pub system : c.system ≡ b.system
+  pub has : (c.number).0 < (b.system).clusters
+  pub within : c.cursor ≤ length b.log
+  pub lives : was_lost_in (take c.cursor b.log) c.number ≡ false
+  pub stands : StoodBeside b c ⊎ StoodBetween b c
+  pub kept : list_any (λ (e : Entry). is_own_loss c.number (what e)) b.log ≡ false
+  pub passed : list_all (is_unpassed c.number b.log c.steps) b.script ≡ true
+  pub unfailed : c.failed ≡ None
+
+-- ---- how it was left
+
+-- How a cluster of the bus was left when its life had ended: it was lost, as the log tells, or it followed the log up to its last entry. It has passed no word
+-- for a step that gave no loss.
+pub record LeftAs (b : BusView) (c : ClusterView) : Type 0 where
+  pub system : c.system ≡ b.system
+  pub unfailed : c.failed ≡ None
+  pub within : c.cursor ≤ end_of_life b.log c.number 0
+  pub followed : StoodBeside b c ⊎ ((was_lost_in b.log c.number ≡ true) × StoodBetween b c)
+  pub to_the_end : was_lost_in b.log c.number ≡ false → c.cursor ≡ length b.log - 1
+  pub lost_by : EndsBy (end_cause b.log c.number 0) c
+  pub passed : list_all (is_unpassed c.number b.log c.steps) b.script ≡ true
+
+-- a cluster that was lost, and has stopped
+pub record IsGone (b : BusView) (c : ClusterView) : Type 0 where
+  pub lost : was_lost_in b.log c.number ≡ true
+  pub left : LeftAs b c
