@@ -10,7 +10,7 @@ ghost use Rattle.cluster_run.specs.Threads.{HasEnded, OneEnded, Starts};
 
 use crate::locked::stop;
 use crate::offers::News;
-use crate::seated::Seated;
+use crate::seated::{Seated, TURNS};
 use crate::sleepers::Sleepers;
 use crate::turn::{Turn, take_turn};
 use bus_lock::{LogLock, LogSeat};
@@ -60,6 +60,7 @@ pub fn follow<R: Wait, G: Gate>(
             is_over: false,
             off_at: None,
         },
+        looks_after: TURNS,
     };
     match follow_on(&mut port, &mut cluster) {
         Ok(()) => {

@@ -25,8 +25,13 @@ use t32_base::gate::Gate;
 use t32_base::process::ClusterNo;
 use t32_base::streams::NoMemory;
 
+/// After how many turns a cluster in which something can move looks again. If each that computes looked as soon as another
+/// adds an entry, all would want the bus at once, and some would sleep for it while a processor is idle. A turn is at most
+/// 64 steps of a process, so a letter for another process of the cluster waits for some 4,000 steps at most.
+pub const TURNS: u32 = 64;
+
 /// A seat of the lock, with what is new in the log that it has seen. The bus is taken for a moment at each call, and what
-/// is new is taken in outside.
+/// is new is taken in outside. It looks again after so many turns, or at once where nothing could move.
 #[derive(Drop)]
 pub struct Seated<'a, R, G> {
     pub rt: &'a R,
@@ -37,6 +42,7 @@ pub struct Seated<'a, R, G> {
     pub sleepers: &'a Sleepers,
     pub seat: LogSeat<SharedBus>,
     pub news: News,
+    pub looks_after: u32,
 }
 
 impl<'a, R, G> Seated<'a, R, G> {
@@ -73,6 +79,16 @@ fn is_step(word: ScriptWord, number: ClusterNo, step: u64) -> bool
         ScriptWord::CrashStep { k, step: named } => k == number && named == step,
         _ => false,
     }
+}
+
+// Counts a turn, and answers whether the cluster is to look in it.
+fn is_due(looks_after: &mut u32) -> bool {
+    if *looks_after > 0 {
+        *looks_after -= 1;
+        return false;
+    }
+    *looks_after = TURNS;
+    true
 }
 
 // Dozes a little before a cluster in which nothing can move tells so: where a letter comes, it has nothing to tell. None
@@ -125,7 +141,7 @@ impl<'a, R: Wait, G: Gate> Port for Seated<'a, R, G> {
     ghost sits = { λ k p. IsSeatOf p.lock.now k p.seat × (seat_origin p.seat ≡ Some (made_of (arc_value p.system.now) p.script.now)) × (p.news.number ≡ k) };
 
     fn look(&mut self, cluster: &Cluster) -> Result<(), NoMemory> {
-        if !has_grown(self.lock, &mut self.seat, &self.news) {
+        if !is_due(&mut self.looks_after) || !has_grown(self.lock, &mut self.seat, &self.news) {
             return Ok(());
         }
         let bus = take_for(self.rt, self.lock, &mut self.seat, cluster);
@@ -169,14 +185,15 @@ impl<'a, R: Wait, G: Gate> Port for Seated<'a, R, G> {
         let news = news_of(&bus, cluster.number(), cluster.cursor());
         give(self.lock, &mut self.seat, bus, cluster.number());
         let offered = offered?;
-        self.news = news?;
         if let (Offered::Sent, Some(receiver)) = (offered, receiver) {
             self.sleepers.wake(receiver);
         }
+        self.news = news?;
         Ok(offered)
     }
 
     fn tell(&mut self, cluster: &Cluster, mark: Mark) -> Result<Option<Idled>, NoMemory> {
+        self.looks_after = 0;
         doze(
             self.lock,
             &mut self.seat,

@@ -82,9 +82,12 @@ impl Sleepers {
         }
     }
 
-    /// A cluster that lay down lies no longer, or gets up before it slept.
+    /// A cluster that lay down lies no longer, or gets up before it slept. Where it was woken there is nothing to write, and
+    /// the others, who look at the same word, need not fetch it again.
     pub fn get_up(&self, number: ClusterNo) {
-        self.asleep.fetch_and(!bit_of(number), Ordering::SeqCst);
+        if self.lies(number) {
+            self.asleep.fetch_and(!bit_of(number), Ordering::SeqCst);
+        }
     }
 
     // Whether a cluster lies still, since none has woken it.
