@@ -1,10 +1,10 @@
 //! A process that runs on up to a step that is not silent. The steps are counted by hand.
-use crate::process::calling;
+use crate::process::{Begin, Made, begun, made_of, set_call};
 use proc_state::process::Process;
 use std::alloc::Global;
 use std::test::Fail;
 use sys_calls::stepping::run_on;
-use sys_calls::steps::{Emission, Step};
+use t32_base::letter::To;
 use t32_base::process::{End, Pid};
 use t32_base::streams::NoMemory;
 use test_asserts::same;
@@ -16,80 +16,65 @@ const TWO: [u8; 52] = [
     37, 0, 19, 5, 0, 0, 115, 0, 0, 0, 147, 8, 16, 0, 19, 5, 0, 0, 115, 0, 0, 0, 97, 10, 98, 10,
 ];
 
-// What a step was at which a process stopped.
-#[derive(Clone, Copy, PartialEq, Eq, Debug)]
-enum Stop {
-    Letter,
-    Exit(End),
-    Blocked,
-    Over,
-    Other,
-}
-
-fn stop_of(step: &Step) -> Stop {
-    match step {
-        Step::Emit(Emission::Mail(_)) => Stop::Letter,
-        Step::Emit(Emission::Exit(end)) => Stop::Exit(*end),
-        Step::Blocked => Stop::Blocked,
-        Step::Over => Stop::Over,
-        Step::Silent | Step::Forks => Stop::Other,
-    }
-}
-
 // Lets a process run on: at what it stopped, and its steps then.
-fn ran(alloc: Global, p: &mut Process) -> Result<(Stop, u64), NoMemory> {
-    let stop = stop_of(&run_on(alloc, p)?);
-    Ok((stop, p.small.steps))
+fn ran(alloc: Global, p: &mut Process) -> Result<(Made, u64), NoMemory> {
+    let step = run_on(alloc, p)?;
+    Ok((made_of(&step, p.small.status), p.small.steps))
 }
 
-fn rooted(alloc: Global, limit: u32) -> Result<Process, NoMemory> {
-    Process::root(alloc, Pid(16), 1, &TWO, limit, 0, 0)
+// Four runs.
+type Stops = [(Made, u64); 4];
+
+fn run_four(alloc: Global, mut p: Process) -> Result<Stops, NoMemory> {
+    let mut stops = [(Made::Other, 0); 4];
+    for stop in stops.iter_mut() {
+        *stop = ran(alloc, &mut p)?;
+    }
+    Ok(stops)
 }
 
-fn run_four(alloc: Global, p: &mut Process) -> Result<[(Stop, u64); 4], NoMemory> {
-    let first = ran(alloc, p)?;
-    let second = ran(alloc, p)?;
-    let third = ran(alloc, p)?;
-    Ok([first, second, third, ran(alloc, p)?])
+fn two_ran(alloc: Global, limit: u32) -> Result<Stops, NoMemory> {
+    run_four(alloc, Process::root(alloc, Pid(16), 1, &TWO, limit, 0, 0)?)
 }
 
-fn two_ran(alloc: Global) -> Result<[(Stop, u64); 4], NoMemory> {
-    let mut two = rooted(alloc, 1000)?;
-    run_four(alloc, &mut two)
-}
-
-const STOPS: [(Stop, u64); 4] = [
-    (Stop::Letter, 6),
-    (Stop::Letter, 9),
-    (Stop::Exit(End::Exit(0)), 13),
-    (Stop::Over, 13),
-];
+const STOPS: Result<Stops, NoMemory> = Ok([
+    (Made::Said(To::Tty(0), 2), 6),
+    (Made::Said(To::Tty(0), 2), 9),
+    (Made::Exit(End::Exit(0)), 13),
+    (Made::Over(End::Exit(0)), 13),
+]);
 
 #[test]
 fn a_process_runs_on_to_each_letter_and_to_its_end(rt: HostRuntime) -> Result<(), Fail> {
-    same("the stops", &two_ran(rt.alloc())?, &STOPS)
+    let wanted = STOPS;
+    same("the stops", &two_ran(rt.alloc(), 1000), &wanted)
 }
 
-fn short_ran(alloc: Global) -> Result<(Stop, u64), NoMemory> {
-    let mut short = rooted(alloc, 5)?;
-    ran(alloc, &mut short)
-}
+const SHORT: Result<Stops, NoMemory> = Ok([
+    (Made::Exit(End::Limit), 7),
+    (Made::Over(End::Limit), 7),
+    (Made::Over(End::Limit), 7),
+    (Made::Over(End::Limit), 7),
+]);
 
 #[test]
 fn a_process_without_instructions_runs_on_to_its_end(rt: HostRuntime) -> Result<(), Fail> {
-    let wanted = (Stop::Exit(End::Limit), 7);
-    same("the stop", &short_ran(rt.alloc())?, &wanted)
+    let wanted = SHORT;
+    same("the stops", &two_ran(rt.alloc(), 5), &wanted)
 }
 
-// The end by which it is linked, and at what it stopped.
-fn reading_ran(alloc: Global) -> Result<(u8, (Stop, u64)), NoMemory> {
-    let mut reading = calling(alloc, 1, 0x10010, 2, 3)?;
+// A process that reads end 1, where nothing has come: the end by which it is linked, and at what it stopped.
+fn reading_ran(alloc: Global) -> Result<(u8, Stops), NoMemory> {
+    let mut reading = begun(alloc, Begin::Root)?;
+    set_call(&mut reading.small, &[1, 0x10010, 2, 3]);
     let end = reading.link(Pid(17), 1);
-    Ok((end, ran(alloc, &mut reading)?))
+    Ok((end, run_four(alloc, reading)?))
 }
+
+const WAITING: Result<(u8, Stops), NoMemory> = Ok((1, [(Made::Blocked, 0); 4]));
 
 #[test]
 fn a_process_that_waits_runs_no_further(rt: HostRuntime) -> Result<(), Fail> {
-    let wanted = (1, (Stop::Blocked, 0));
-    same("the stop", &reading_ran(rt.alloc())?, &wanted)
+    let wanted = WAITING;
+    same("the stops", &reading_ran(rt.alloc()), &wanted)
 }
