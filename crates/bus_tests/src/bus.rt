@@ -57,39 +57,12 @@ fn start(bus: &Bus) -> Start {
     (counts(bus), places, marked)
 }
 
-fn started(alloc: Global) -> Result<Start, Fail> {
-    let bus = booted(alloc)?;
-    Ok(start(&bus))
-}
+// The place of a stop; the length of the log, whether it is over, and whether the end stands last.
+type Stopped = (Option<u64>, (u64, bool, bool));
 
-#[test]
-fn a_bus_starts_without_an_entry(rt: HostRuntime) -> Result<(), Fail> {
-    let root = (ClusterNo(0), Some(ClusterNo(1)));
-    let wanted = ((0, false, 0), [Some(root), None], [false, false]);
-    same("the start", &started(rt.alloc())?, &wanted)
-}
-
-// A bus that was stopped, and the place of the stop.
-fn stopped(alloc: Global) -> Result<(Bus, Option<u64>), Fail> {
-    let mut bus = booted(alloc)?;
+fn stop(bus: &mut Bus) -> Stopped {
     let at = bus.stop();
-    Ok((bus, at))
-}
-
-// The length of the log, whether it is over, and whether the end stands last.
-fn end(bus: &Bus) -> (u64, bool, bool) {
-    (bus.length(), bus.is_over(), bus.is_finished())
-}
-
-fn one_stop(alloc: Global) -> Result<(Option<u64>, (u64, bool, bool)), Fail> {
-    let (bus, at) = stopped(alloc)?;
-    Ok((at, end(&bus)))
-}
-
-#[test]
-fn a_stop_is_the_last_entry(rt: HostRuntime) -> Result<(), Fail> {
-    let wanted = (Some(0), (1, true, false));
-    same("the stop", &one_stop(rt.alloc())?, &wanted)
+    (at, (bus.length(), bus.is_over(), bus.is_finished()))
 }
 
 // Whether the first entry is a stop, where there is one.
@@ -99,23 +72,42 @@ fn is_stop(bus: &Bus) -> Option<bool> {
 }
 
 // The same, and how many entries stand before the stop.
-fn entries(bus: &Bus) -> Result<(Option<bool>, usize), NoMemory> {
+type Entries = (Option<bool>, usize);
+
+fn entries(bus: &Bus) -> Result<Entries, NoMemory> {
     let before = bus.shared_from(0)?.len();
     Ok((is_stop(bus), before))
 }
 
-// The place of a second stop, the length of the log, and its entries.
-type Second = (Option<u64>, u64, (Option<bool>, usize));
+// A bus at its start, after a stop and after a second one, and its entries then.
+type Shown = (Start, [Stopped; 2], Entries);
 
-fn second_stop(alloc: Global) -> Result<Second, Fail> {
-    let (mut bus, _) = stopped(alloc)?;
-    let at = bus.stop();
-    let entries = entries(&bus)?;
-    Ok((at, bus.length(), entries))
+fn stop_twice(bus: &mut Bus) -> Result<Shown, Fail> {
+    let start = start(bus);
+    let stopped = [stop(bus), stop(bus)];
+    Ok((start, stopped, entries(bus)?))
+}
+
+fn stopped_twice(alloc: Global) -> Result<Shown, Fail> {
+    let mut bus = booted(alloc)?;
+    stop_twice(&mut bus)
+}
+
+#[test]
+fn a_bus_starts_without_an_entry(rt: HostRuntime) -> Result<(), Fail> {
+    let root = (ClusterNo(0), Some(ClusterNo(1)));
+    let wanted = ((0, false, 0), [Some(root), None], [false, false]);
+    same("the start", &stopped_twice(rt.alloc())?.0, &wanted)
+}
+
+#[test]
+fn a_stop_is_the_last_entry(rt: HostRuntime) -> Result<(), Fail> {
+    let wanted = [(Some(0), (1, true, false)), (None, (1, true, false))];
+    same("two stops", &stopped_twice(rt.alloc())?.1, &wanted)
 }
 
 #[test]
 fn a_second_stop_adds_nothing(rt: HostRuntime) -> Result<(), Fail> {
-    let wanted = (None, 1, (Some(true), 0));
-    same("the second stop", &second_stop(rt.alloc())?, &wanted)
+    let wanted = (Some(true), 0);
+    same("the entries", &stopped_twice(rt.alloc())?.2, &wanted)
 }

@@ -1,6 +1,12 @@
 //! A bus with a script: words for places of the log and for steps, in the order in which they are looked at.
-ghost use Rattle.std.specs.Prelude.{◌≡◌, IfOk};
+ghost use Rattle.std.specs.Prelude.{◌≡◌, [], true, IfOk};
+ghost use Rattle.std.specs.List.{list_all};
 ghost use Rattle.std.specs.Arc.{arc_value};
+ghost use Rattle.bus_msg.specs.declared.entry.Cause.TheVariants.{Step};
+ghost use Rattle.cert_sched.specs.Built.{is_built_word};
+ghost use Rattle.cert_sched.specs.Losses.{is_scripted_cause};
+ghost use Rattle.sys_text.specs.Valid.{is_system};
+ghost use Rattle.sys_text.specs.declared.system.System.{System as ASystem};
 
 use bus_msg::entry::{By, Cause, Entry, Post, What};
 use bus_order::bus::Bus;
@@ -13,15 +19,43 @@ use sys_text::read_system;
 use sys_text::system::System;
 use t32_base::process::{ClusterNo, End, Pid};
 use t32_base::streams::NoMemory;
+use test_asserts::same;
 
 // Five clusters, and one root, at home in cluster 0 with its backup in cluster 1.
 const FIVE: &str =
     "clusters 5\npager 1 2\nsyncreads 32\nsyncsteps 4096\nimage spin 1\nwords 0000006f\nend\nroot 0 1 quarter spin 1000 0 0\n";
 
-fn shared(alloc: Global, system: System) -> Result<Arc<System>, NoMemory>
-    ensures { IfOk result (λ shared. arc_value shared ≡ system) }
+fn five(alloc: Global) -> Result<Arc<System>, Fail>
+    ensures { IfOk result (λ shared. is_system (arc_value shared) ≡ true) }
 {
+    let system = read_system(alloc, FIVE.as_bytes())?;
     Ok(Arc::new(alloc, system)?)
+}
+
+// A bus of five clusters with this script.
+fn scripted(alloc: Global, script: &[ScriptWord]) -> Result<Bus, Fail>
+    requires { list_all is_built_word script.now ≡ true }
+    ensures clusters { IfOk result (λ b. b.system.clusters ≡ 5) }
+    ensures script { IfOk result (λ b. b.script ≡ script.now) }
+    ensures log { IfOk result (λ b. b.log ≡ []) }
+{
+    let system = five(alloc)?;
+    same("the clusters", &system.clusters, &5)?;
+    Ok(Bus::boot(alloc, &system, script)?)
+}
+
+const STEP: Cause = Cause::Step(5);
+
+// What the loss of cluster 0 at its step 5 answers, where a word for it is left.
+fn lose(bus: &mut Bus) -> Option<Result<u64, Refused>>
+    requires clusters { bus.old.system.clusters ≡ 5 }
+    requires may { is_scripted_cause bus.old.system bus.old.script bus.old.log (record { 0 = 0 }) (Step 5) ≡ true }
+{
+    if bus.unused(ClusterNo(0), STEP) {
+        Some(bus.lost(ClusterNo(0), STEP))
+    } else {
+        None
+    }
 }
 
 // The post of an exit that a cluster tells of.
@@ -38,110 +72,149 @@ fn exit_by(number: ClusterNo) -> Post
     }
 }
 
+// What a cluster that has seen nothing is answered, where the log has an entry.
+fn post(bus: &mut Bus, by: ClusterNo) -> Option<Result<u64, Refused>> {
+    if bus.length() == 0 {
+        return None;
+    }
+    Some(bus.transmit(by, 0, &exit_by(by)))
+}
+
+// What the loss answers; whether a word for it is left then, and the length of the log; and what the post is answered.
+type Told = (
+    Option<Result<u64, Refused>>,
+    (bool, u64),
+    Option<Result<u64, Refused>>,
+);
+
+fn lose_and_post(bus: &mut Bus, by: ClusterNo) -> Told
+    requires clusters { bus.old.system.clusters ≡ 5 }
+    requires may { is_scripted_cause bus.old.system bus.old.script bus.old.log (record { 0 = 0 }) (Step 5) ≡ true }
+{
+    let lost = lose(bus);
+    let after = (bus.unused(ClusterNo(0), STEP), bus.length());
+    (lost, after, post(bus, by))
+}
+
 // The number of the cluster that an entry loses.
 fn lost_by(entry: Option<&Entry>) -> Option<u8> {
-    match entry {
-        Some(entry) => match &entry.post.what {
-            What::Crash { k, .. } => Some(k.0),
-            _ => None,
-        },
-        None => None,
+    match &entry?.post.what {
+        What::Crash { k, .. } => Some(k.0),
+        _ => None,
     }
 }
+
+// The clusters that the entries 1 and 2 lose, the length of the log, whether it is over, and whether the end stands last.
+type Shown = ([Option<u8>; 2], u64, (bool, bool));
+
+fn shown_by(bus: &Bus) -> Shown {
+    let lost = [lost_by(bus.entry(1)), lost_by(bus.entry(2))];
+    (lost, bus.length(), (bus.is_over(), bus.is_finished()))
+}
+
+// The place of a stop, and how many entries stand before an end or a stop.
+type Stopped = (Option<u64>, usize);
+
+fn stop(bus: &mut Bus) -> Result<Stopped, NoMemory> {
+    let at = bus.stop();
+    Ok((at, bus.shared_from(0)?.len()))
+}
+
+// What is told of the loss and of a post, what the log then shows, and what a stop does.
+type Played = (Told, Shown, Stopped);
+
+fn play(bus: &mut Bus, by: ClusterNo) -> Result<Played, Fail>
+    requires clusters { bus.old.system.clusters ≡ 5 }
+    requires may { is_scripted_cause bus.old.system bus.old.script bus.old.log (record { 0 = 0 }) (Step 5) ≡ true }
+{
+    let told = lose_and_post(bus, by);
+    let shown = shown_by(bus);
+    Ok((told, shown, stop(bus)?))
+}
+
+// A bus with a script plays, whose first word loses cluster 0 at its step 5.
+fn played(alloc: Global, script: &[ScriptWord], by: ClusterNo) -> Result<Played, Fail>
+    requires built { list_all is_built_word script.now ≡ true }
+    requires may { (system : ASystem) → is_scripted_cause system script.now [] (record { 0 = 0 }) (Step 5) ≡ true }
+{
+    let mut bus = scripted(alloc, script)?;
+    play(&mut bus, by)
+}
+
+static ORDER: [ScriptWord; 3] = [
+    ScriptWord::CrashStep {
+        k: ClusterNo(0),
+        step: 5,
+    },
+    ScriptWord::CrashAt {
+        k: ClusterNo(4),
+        place: 1,
+    },
+    ScriptWord::CrashAt {
+        k: ClusterNo(3),
+        place: 1,
+    },
+];
 
 // Both words for the place 1 are looked at when the log has an entry, in the order of the script.
 #[test]
 fn words_are_looked_at_in_order(rt: HostRuntime) -> Result<(), Fail> {
-    let alloc = rt.alloc();
-    let script = [
-        ScriptWord::CrashStep {
-            k: ClusterNo(0),
-            step: 5,
-        },
-        ScriptWord::CrashAt {
-            k: ClusterNo(4),
-            place: 1,
-        },
-        ScriptWord::CrashAt {
-            k: ClusterNo(3),
-            place: 1,
-        },
-    ];
-    let system = shared(alloc, read_system(alloc, FIVE.as_bytes())?)?;
-    let mut bus = Bus::boot(alloc, &system, &script)?;
-    assert!(rt; system.clusters == 5);
-    assert!(rt; bus.unused(ClusterNo(0), Cause::Step(5)));
-    assert_eq!(rt; bus.lost(ClusterNo(0), Cause::Step(5)), Ok(0));
-    assert_eq!(rt; bus.length(), 1);
-    let answer = bus.transmit(ClusterNo(3), 0, &exit_by(ClusterNo(3)));
-    assert_eq!(rt; answer, Err(Refused::Off { at: 2 }));
-    assert_eq!(rt;
-        (lost_by(bus.entry(1)), lost_by(bus.entry(2)), bus.length()),
-        (Some(4), Some(3), 3)
-    );
-    Ok(())
+    let told = (Some(Ok(0)), (false, 1), Some(Err(Refused::Off { at: 2 })));
+    let wanted = (told, ([Some(4), Some(3)], 3, (false, false)), (Some(3), 3));
+    same(
+        "the words",
+        &played(rt.alloc(), &ORDER, ClusterNo(3))?,
+        &wanted,
+    )
 }
+
+static ONCE: [ScriptWord; 2] = [
+    ScriptWord::CrashStep {
+        k: ClusterNo(0),
+        step: 5,
+    },
+    ScriptWord::CrashAt {
+        k: ClusterNo(1),
+        place: 9,
+    },
+];
 
 // A word for a step is used once. A word for the place 9 is not reached, and a cluster that has seen nothing is behind.
 #[test]
 fn a_word_is_used_once(rt: HostRuntime) -> Result<(), Fail> {
-    let alloc = rt.alloc();
-    let script = [
-        ScriptWord::CrashStep {
-            k: ClusterNo(0),
-            step: 5,
-        },
-        ScriptWord::CrashAt {
-            k: ClusterNo(1),
-            place: 9,
-        },
-    ];
-    let system = shared(alloc, read_system(alloc, FIVE.as_bytes())?)?;
-    let mut bus = Bus::boot(alloc, &system, &script)?;
-    assert!(rt; system.clusters == 5);
-    assert!(rt; bus.unused(ClusterNo(0), Cause::Step(5)));
-    assert_eq!(rt; bus.lost(ClusterNo(0), Cause::Step(5)), Ok(0));
-    assert!(rt; !bus.unused(ClusterNo(0), Cause::Step(5)));
-    assert_eq!(rt; bus.length(), 1);
-    let answer = bus.transmit(ClusterNo(1), 0, &exit_by(ClusterNo(1)));
-    assert_eq!(rt;
-        (answer, bus.length()),
-        (Err(Refused::Behind { length: 1 }), 1)
-    );
-    Ok(())
+    let behind = Some(Err(Refused::Behind { length: 1 }));
+    let told = (Some(Ok(0)), (false, 1), behind);
+    let wanted = (told, ([None, None], 1, (false, false)), (Some(1), 1));
+    same(
+        "the words",
+        &played(rt.alloc(), &ONCE, ClusterNo(1))?,
+        &wanted,
+    )
 }
+
+static UNCOVERED: [ScriptWord; 3] = [
+    ScriptWord::CrashStep {
+        k: ClusterNo(0),
+        step: 5,
+    },
+    ScriptWord::CrashAt {
+        k: ClusterNo(1),
+        place: 1,
+    },
+    ScriptWord::CrashAt {
+        k: ClusterNo(2),
+        place: 1,
+    },
+];
 
 // The process that moved to cluster 1 has no backup there, so that the loss of cluster 1 ends the log.
 #[test]
 fn an_uncovered_loss_ends_the_log(rt: HostRuntime) -> Result<(), Fail> {
-    let alloc = rt.alloc();
-    let script = [
-        ScriptWord::CrashStep {
-            k: ClusterNo(0),
-            step: 5,
-        },
-        ScriptWord::CrashAt {
-            k: ClusterNo(1),
-            place: 1,
-        },
-        ScriptWord::CrashAt {
-            k: ClusterNo(2),
-            place: 1,
-        },
-    ];
-    let system = shared(alloc, read_system(alloc, FIVE.as_bytes())?)?;
-    let mut bus = Bus::boot(alloc, &system, &script)?;
-    assert!(rt; system.clusters == 5);
-    assert!(rt; bus.unused(ClusterNo(0), Cause::Step(5)));
-    assert_eq!(rt; bus.lost(ClusterNo(0), Cause::Step(5)), Ok(0));
-    assert_eq!(rt; bus.length(), 1);
-    let answer = bus.transmit(ClusterNo(0), 0, &exit_by(ClusterNo(0)));
-    assert_eq!(rt; answer, Err(Refused::Over { at: 1 }));
-    assert_eq!(rt;
-        (bus.length(), bus.is_over(), bus.is_finished()),
-        (2, true, false)
-    );
-    assert_eq!(rt; bus.stop(), None);
-    assert_eq!(rt; bus.shared_from(0)?.len(), 2);
-    Ok(())
+    let told = (Some(Ok(0)), (false, 1), Some(Err(Refused::Over { at: 1 })));
+    let wanted = (told, ([Some(1), None], 2, (true, false)), (None, 2));
+    same(
+        "the words",
+        &played(rt.alloc(), &UNCOVERED, ClusterNo(0))?,
+        &wanted,
+    )
 }
