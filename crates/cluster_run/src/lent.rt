@@ -44,7 +44,7 @@ impl Port for Bus {
     }
 
     fn has_ended(&self, number: ClusterNo) -> bool {
-        self.is_over() || self.off_at(number).is_some()
+        self.is_over() || !self.places().living(number)
     }
 
     fn names_step(&self, cluster: &Cluster) -> bool {

@@ -72,6 +72,7 @@ pub trait Port {
     /// Whether the log is over, or the cluster was lost in it.
     fn has_ended(&self, number: ClusterNo) -> bool
         requires sits { sits number self.now }
+        requires has { number.0 < (bus self.now).system.clusters }
         requires shows { shows self.now }
         requires sound { IsSound (bus self.now) }
         ensures { result ≡ is_done_with number (bus self.now).system (bus self.now).log };

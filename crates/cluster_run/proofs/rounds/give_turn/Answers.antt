@@ -11,6 +11,12 @@ use Rattle.cluster_run.specs.Progress.{remaining}
 use Rattle.cluster_run.proofs.Progressing.{done_given, turn_gets_on, turn_lasts}
 use Rattle.cluster_run.proofs.rounds.give_turn.Goals as goal
 
+pub has_ended-requires-clause-has : goal.has_ended-requires-clause-has
+has_ended-requires-clause-has c =
+    let first = one_member c.args.bus.now c.args.clusters.now c.args.number c.index-clusters-number.result c.requires.along c.requires.has in
+    let number : c.number.result.0 ≡ c.args.number = ap (λ (k : ClusterNo). k.0) c.number.ensures ∙ first.number in
+    omega (arith, number, c.requires.has, c.requires.along.each)
+
 pub take_turn-requires-clause-shown : goal.take_turn-requires-clause-shown
 take_turn-requires-clause-shown c =
     let b : BusView = c.args.bus.now in

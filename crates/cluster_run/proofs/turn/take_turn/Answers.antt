@@ -1,4 +1,6 @@
-use Rattle.std.proofs.Common.{◌≡◌, ◌∙◌, sym, subst, true, false, ◌||◌, true≢false}
+use Rattle.std.proofs.Common.{◌≡◌, ◌<◌, ◌∙◌, sym, subst, true, false, ◌||◌, true≢false}
+use Rattle.t32_base.specs.declared.process.ClusterNo.{ClusterNo}
+use Rattle.sys_text.specs.declared.system.System.{System}
 use Rattle.cert_sched.specs.Losses.{was_lost_in}
 use Rattle.cert_sched.specs.Rules.{is_over}
 use Rattle.cluster_core.specs.View.{ClusterView}
@@ -22,6 +24,12 @@ returns-then-has_ended-clause-own g c alone own lives =
     let number : c.number.result ≡ c.args.cluster.now.number = c.number.ensures ∙ taken.same.number in
     let none : (is_over mid.system mid.log || was_lost_in mid.log c.number.result) ≡ false = (λ i. is_over (same i).system (same i).log || was_lost_in (same i).log (number i)) ∙ (λ i. own.1 i || lives i) in
     absurd (true≢false (sym c.if-has_ended.true ∙ c.has_ended.ensures ∙ none))
+
+pub has_ended-requires-clause-has : goal.has_ended-requires-clause-has
+has_ended-requires-clause-has g c =
+    let along = ((c.in_ok-catch_up.ensures.taken c.if-branch.false).shown).along in
+    let mid = g.P.Port.bus c.catch_up.new.port in
+    subst (λ (k : ClusterNo). k.0 < mid.system.clusters) (sym c.number.ensures) (subst (λ (s : System). (c.catch_up.new.cluster).number.0 < s.clusters) along.system along.beside.has)
 
 pub is_named-requires-clause-before : goal.is_named-requires-clause-before
 is_named-requires-clause-before g c =
