@@ -1,0 +1,11 @@
+use Rattle.std.proofs.Common.{◌+◌, sym, ◌∙◌, ap, arith, Some, refl}
+use Rattle.std.proofs.lemmas.Option.{slice_get-get_or}
+use Rattle.bus_order.proofs.LogParts.{one_shared}
+use Rattle.bus_order.proofs.entries.handles_of_copies.Goals as goal
+
+pub loop-place-preserved : goal.loop-place-preserved
+loop-place-preserved c =
+    let n = c.loop-place.place in
+    let items = c.args.entries.now.items in
+    one_shared items c.loop-place.news.items c.push.new.self.items c.args.from n (n + 1) c.index.result.now c.in_ok-entry.entry c.loop-place.invariant (omega arith) (omega arith) refl
+    (slice_get-get_or items n c.index.result.now (omega arith) ∙ ap Some (sym c.index.ensures)) c.in_ok-entry.ensures c.in_ok-push.ensures.items
