@@ -132,7 +132,7 @@ static MANY: [u8; 300] = [7; 300];
 fn short_and_long_bytes_are_copied(rt: HostRuntime) -> Result<(), Fail> {
     assert_copied(rt.alloc(), &MANY[..0])?;
     assert_copied(rt.alloc(), &MANY[..1])?;
-    assert_copied(rt.alloc(), &MANY[..22])?;
-    assert_copied(rt.alloc(), &MANY[..23])?;
+    assert_copied(rt.alloc(), &MANY[..14])?;
+    assert_copied(rt.alloc(), &MANY[..15])?;
     assert_copied(rt.alloc(), &MANY[..300])
 }

@@ -10,5 +10,5 @@ bytes_kept (Long shared) = arc_slice_items shared
 
 -- what stands in place has room there
 abbrev pub IsKept : Kept → Type 0
-IsKept (Short len bytes) = len ≤ 22
+IsKept (Short len bytes) = len ≤ 14
 IsKept (Long shared) = ⊤

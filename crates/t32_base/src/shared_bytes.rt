@@ -13,10 +13,10 @@ pub struct SharedBytes {
     kept: Kept,
 }
 
-// At most so many bytes stand in place: the type then takes no more room than a vector.
-const SHORT: usize = 22;
+// At most so many bytes stand in place: the type then takes two words.
+const SHORT: usize = 14;
 
-const _: () = prove!(std::mem::size_of::<SharedBytes>() == 24);
+const _: () = prove!(std::mem::size_of::<SharedBytes>() == 16);
 
 #[derive(Drop)]
 enum Kept {
@@ -36,7 +36,7 @@ impl Model for SharedBytes {
 }
 
 impl SharedBytes {
-    /// A list of the same bytes. Takes memory only for more than 22.
+    /// A list of the same bytes. Takes memory only for more than 14.
     pub fn copy_of(alloc: Global, bytes: &[u8]) -> Result<Self, NoMemory>
         ensures { IfOk result (λ copy. copy ≡ bytes.now) }
     {
@@ -94,7 +94,7 @@ impl SharedBytes {
 
 // A few bytes at the start of a place for them.
 fn in_place(bytes: &[u8]) -> [u8; SHORT]
-    requires { length bytes.now ≤ 22 }
+    requires { length bytes.now ≤ 14 }
     ensures { take (length bytes.now) result ≡ bytes.now }
 {
     let mut place = [0; SHORT];
