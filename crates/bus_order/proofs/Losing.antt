@@ -24,7 +24,7 @@ use Rattle.cert_sched.specs.Built.{BuiltMayFollow, is_built_word}
 use Rattle.cert_sched.specs.Looked.{Looked, gives, goes_on as goes_by, first_reached, is_bus_word, is_reached, given_by, without_reached}
 use Rattle.cert_sched.specs.Losses.{is_scripted_cause, is_step_crash, is_step_word}
 use Rattle.cert_sched.specs.Simulation.{crash_entry}
-use Rattle.cert_sched.proofs.CameLaws.{no_items}
+use Rattle.cert_sched.proofs.LogLaws.{no_items}
 use Rattle.cert_sched.proofs.ThereLaws.{plain_there}
 use Rattle.bus_order.specs.Script.{AccountsFor, IsFirst, is_word_for}
 use Rattle.bus_order.specs.View.{BusView, IsKept, KeepsScript, MayLose, MayPass}

@@ -93,8 +93,8 @@ lives_after places off k e (Birth parent at child end) is built before = absurd 
 lives_after places off k e (Exit pid at end) is built before = before
 lives_after places off k e (Page pid at index bytes) is built before = absurd (true≢false (sym built))
 lives_after places off k e (Sync pid small read took) is built before = absurd (true≢false (sym built))
-lives_after places off k e (Fetch pid index) is built before = absurd (true≢false (sym built))
-lives_after places off k e (PageIs pid index bytes) is built before = absurd (true≢false (sym built))
+lives_after places off k e (Fetch pid index) is built before = before
+lives_after places off k e (PageIs pid index bytes) is built before = before
 lives_after places off k e (Crash j cause) is built before = crash_lives places j k cause ∙ by_test (same_cluster j k) refl
   where
     by_test : (b : Bool) → same_cluster j k ≡ b → cond b false (lives_in places k) ≡ is_none (cond b (place_of_loss k (Some e)) off)

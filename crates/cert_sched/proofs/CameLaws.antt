@@ -63,19 +63,6 @@ pub data Came (system : System) (log : List Entry) (w : What) (p : Pid) (now : P
   was_cut : (was : ProcState) → process_after system log p ≡ Some was → has_ended (was.small).status ≡ false → is_cut p w ≡ true → now.next ≡ was.next → Came system log w p now
   was_born : is_birth_of p w ≡ true → now.next ≡ 0 → Came system log w p now
 
--- ---- an entry that has no items
-
-pub no_items : (system : System) (log : List Entry) (e : Entry) → ((k : Kernel) → items_of k (what e) ≡ []) → plain_after system (log ++ e ∷ []) ≡ plain_after system log
-no_items system log e none = plain_after-snoc system log e ∙ by_kernel (plain_after system log)
-  where
-    by_kernel : (o : Option Kernel) → after_entry o e ≡ o
-    by_kernel None = refl
-    by_kernel (Some k) = ap (λ is. apply_all is k) (none k)
-
--- it leaves every process
-pub process_after-quiet : (system : System) (log : List Entry) (e : Entry) → ((k : Kernel) → items_of k (what e) ≡ []) → (p : Pid) → process_after system (log ++ e ∷ []) p ≡ process_after system log p
-process_after-quiet system log e none p = ap (option_and_then (λ k. process_at k p)) (no_items system log e none)
-
 -- ---- a letter, and an exit
 
 -- a letter that is delivered to a process that has not ended arrives there, or it goes elsewhere

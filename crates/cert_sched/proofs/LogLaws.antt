@@ -24,6 +24,18 @@ pub placement-snoc : (system : System) (log : List Entry) (e : Entry) → placem
 unfolding placement
 placement-snoc system log e = fold-append (λ (places : Places) (e : Entry). placed_after places (what e)) (places_at_boot system) log (e ∷ [])
 
+-- an entry without an item leaves the kernel as it is
+pub no_items : (system : System) (log : List Entry) (e : Entry) → ((k : Kernel) → items_of k (what e) ≡ []) → plain_after system (log ++ e ∷ []) ≡ plain_after system log
+no_items system log e none = plain_after-snoc system log e ∙ by_kernel (plain_after system log)
+  where
+    by_kernel : (o : Option Kernel) → after_entry o e ≡ o
+    by_kernel None = refl
+    by_kernel (Some k) = ap (λ is. apply_all is k) (none k)
+
+-- and every process
+pub process_after-quiet : (system : System) (log : List Entry) (e : Entry) → ((k : Kernel) → items_of k (what e) ≡ []) → (p : Pid) → process_after system (log ++ e ∷ []) p ≡ process_after system log p
+process_after-quiet system log e none p = ap (option_and_then (λ k. process_at k p)) (no_items system log e none)
+
 -- the schedule goes on by the items of the entry
 schedule_from-append : (k : Option Kernel) (log more : List Entry) → schedule_from k (log ++ more) ≡ schedule_from k log ++ schedule_from (fold after_entry k log) more
 schedule_from-append k [] more = refl

@@ -25,7 +25,8 @@ use Rattle.cert_sched.proofs.PidLaws.{placed_pids, apart_fewer}
 use Rattle.cert_sched.proofs.LogLaws.{plain_after-snoc}
 use Rattle.cert_sched.proofs.StepLaws.{no_birth, no_signal_taken}
 use Rattle.cert_sched.proofs.RunsLaws.{Quietly, Same, led, led-silent_upto, rest_pids, run_made, runs_made}
-use Rattle.cert_sched.proofs.CameLaws.{is_silent, no_items}
+use Rattle.cert_sched.proofs.CameLaws.{is_silent}
+use Rattle.cert_sched.proofs.LogLaws.{no_items}
 
 module _ (system : System) (log : List Entry) (e : Entry) (k j : Kernel) (before : plain_after system log ≡ Some k) (after : plain_after system (log ++ e ∷ []) ≡ Some j) where
   leads : apply_all (items_of k (what e)) k ≡ Some j

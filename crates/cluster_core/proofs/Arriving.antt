@@ -18,7 +18,7 @@ use Rattle.bus_msg.specs.declared.placed.Placed.{Placed}
 use Rattle.bus_msg.specs.Places.{Places, lives_in, same_pid}
 use Rattle.bus_msg.specs.PlacedAfter.{what}
 use Rattle.bus_msg.specs.Route.{backup_of, bits_of, letter_dests, route}
-use Rattle.cert_sched.specs.Built.{BuiltMayFollow, is_unlost}
+use Rattle.cert_sched.specs.Built.{BuiltMayFollow, tells_or_closes}
 use Rattle.cert_sched.specs.Deeds.{is_end_of}
 use Rattle.cert_sched.specs.Parts.{rising}
 use Rattle.cert_sched.specs.Rests.{home_pids}
@@ -31,7 +31,7 @@ use Rattle.cluster_core.specs.View.{ClusterView, Held, arrived_held, held_of}
 use Rattle.cluster_core.proofs.Following.{Next, left_of, next_of}
 use Rattle.cluster_core.proofs.Here.{is_among, pid_same, same_itself}
 use Rattle.cluster_core.proofs.Homes.{HomeHere, differ_built, home_here, home_lives}
-use Rattle.cluster_core.proofs.ByKind.{IsLoss, by_kind, loss_or_none}
+use Rattle.cluster_core.proofs.ByKind.{OneOf, by_kind, by_page, kind_is}
 
 -- ---- a letter that goes elsewhere
 
@@ -75,7 +75,7 @@ letter_comes : (places : Places) (k : ClusterNo) (from p : Pid) (to : To) → li
 letter_comes places k from p (Proc q end) lives home is = goes_home places from q end k (subst (λ r. HomeHere places r k) (sym (pid_same q p (eqb-true q.0 p.0 is))) home) lives
 letter_comes places k from p (Tty t) lives home is = absurd (true≢false (sym is))
 
-entry_comes : (places : Places) (k : ClusterNo) (p : Pid) (w : What) → lives_in places k ≡ true → HomeHere places p k → is_unlost w ≡ true → is_letter_for p w ≡ true → goes_to (route places w) k ≡ true
+entry_comes : (places : Places) (k : ClusterNo) (p : Pid) (w : What) → lives_in places k ≡ true → HomeHere places p k → tells_or_closes w ≡ true → is_letter_for p w ≡ true → goes_to (route places w) k ≡ true
 entry_comes places k p w lives home =
     by_kind (λ w. is_letter_for p w ≡ true → goes_to (route places w) k ≡ true)
     (λ at letter is. letter_comes places k letter.from p letter.to lives home is) (λ pid at end is. absurd (true≢false (sym is))) (λ rests is. absurd (true≢false (sym is))) (λ is. absurd (true≢false (sym is))) w
@@ -89,7 +89,7 @@ comes_of system log e k here valid n once p h there is =
     ap (λ dests. goes_to dests k) ((((n.may).stands).placed).1) ∙ entry_comes (placement system log) k p (what e) (home_lives system log p k valid n.legal n.before home) home (n.may).built is
 
 pub comes_here : (c : ClusterView) (e : Entry) → is_system c.system ≡ true → ReadyFor e c → ComesHere c.number e c.here
-comes_here c e valid r = by_loss (loss_or_none (what e) (IsLegal-last BuiltMayFollow c.system r.log e r.open_next.0).built)
+comes_here c e valid r = by_loss (kind_is (what e) (IsLegal-last BuiltMayFollow c.system r.log e r.open_next.0).built)
   where
     by_case : Next c.system r.log e → IsReady r.log e c → ComesHere c.number e c.here
     by_case n (inl f) = comes_of c.system r.log e c.number c.here valid n ((f.0).processes).each_once
@@ -99,6 +99,7 @@ comes_here c e valid r = by_loss (loss_or_none (what e) (IsLegal-last BuiltMayFo
         let number : (l.before).number ≡ c.number = sym (ap (λ (d : ClusterView). d.number) l.same) in
         comes_of c.system r.log e c.number c.here valid n (ap (λ hs. rising (pids_in hs)) (sym here_is) ∙ ((l.followed).processes).each_once ∙ ap (λ k. rising (home_pids c.system r.log k)) number)
 
-    by_loss : (is_unlost (what e) ≡ true) ⊎ IsLoss (what e) → ComesHere c.number e c.here
-    by_loss (inl unlost) = by_case (next_of c.system r.log e unlost r.open_log r.open_next) r.ready
-    by_loss (inr loss) = λ p h there is. absurd (true≢false (sym is ∙ ap (is_letter_for p) loss.same))
+    by_loss : OneOf (what e) → ComesHere c.number e c.here
+    by_loss (inl tells) = by_case (next_of c.system r.log e tells r.open_log r.open_next) r.ready
+    by_loss (inr (inl page)) = λ p h there is. absurd (true≢false (sym is ∙ by_page (λ w. is_letter_for p w ≡ false) (λ pid index. refl) (λ pid index bytes. refl) (what e) page))
+    by_loss (inr (inr loss)) = λ p h there is. absurd (true≢false (sym is ∙ ap (is_letter_for p) loss.same))

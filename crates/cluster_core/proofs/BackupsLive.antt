@@ -16,7 +16,7 @@ use Rattle.bus_msg.specs.declared.placed.Placed.{Placed}
 use Rattle.bus_msg.specs.Places.{Places, same_pid, same_cluster, is_cluster, lives_in, unended_at}
 use Rattle.bus_msg.specs.PlacedAfter.{what, placed_after, after_loss, moved_to}
 use Rattle.t32_base.specs.declared.process.End.{End}
-use Rattle.cert_sched.specs.Built.{BuiltMayFollow, is_unlost}
+use Rattle.cert_sched.specs.Built.{BuiltMayFollow, tells_or_closes}
 use Rattle.cert_sched.specs.Schedule.{placement, placed_root}
 use Rattle.cert_sched.specs.Legal.{IsLegalBy}
 use Rattle.cert_sched.proofs.LogLaws.{placement-snoc}
@@ -25,7 +25,7 @@ use Rattle.cert_sched.proofs.FamilyLaws.{exit_there, exit_elsewhere}
 use Rattle.cert_sched.proofs.UnendedLaws.{unended_map, unended_open_at, loss_keeps}
 use Rattle.cert_sched.proofs.CoverLaws.{lives_on}
 use Rattle.cert_sched.proofs.LiveLaws.{boot_lives}
-use Rattle.cluster_core.proofs.ByKind.{IsLoss, by_kind, loss_or_none}
+use Rattle.cluster_core.proofs.ByKind.{OneOf, by_kind, by_page, kind_is}
 
 abbrev pub BackupsLive : Places → Type 0
 BackupsLive places = (p : Pid) (q : Placed) (b : ClusterNo) → unended_at places p ≡ Some q → q.backup ≡ Some b → lives_in places b ≡ true
@@ -91,14 +91,15 @@ exit_live places r at end live p q b found backup = by_pid (same_pid p r) refl
     by_pid false apart = live p q b (sym (exit_elsewhere places r p at end apart) ∙ found) backup
 
 next_live : (system : System) (log : List Entry) (e : Entry) → BackupsLive (placement system log) → BuiltMayFollow system log e → BackupsLive (placement system (log ++ e ∷ []))
-next_live system log e live may = subst BackupsLive (sym (placement-snoc system log e)) (by_loss (loss_or_none (what e) may.built))
+next_live system log e live may = subst BackupsLive (sym (placement-snoc system log e)) (by_loss (kind_is (what e) may.built))
   where
     places : Places
     places = placement system log
 
-    by_loss : (is_unlost (what e) ≡ true) ⊎ IsLoss (what e) → BackupsLive (placed_after places (what e))
-    by_loss (inl unlost) = by_kind (λ w. BackupsLive (placed_after places w)) (λ at letter. live) (λ pid at end. exit_live places pid at end live) (λ rests. live) live (what e) unlost
-    by_loss (inr loss) = subst (λ w. BackupsLive (placed_after places w)) (sym loss.same) (loss_live places loss.lost loss.cause live)
+    by_loss : OneOf (what e) → BackupsLive (placed_after places (what e))
+    by_loss (inl tells) = by_kind (λ w. BackupsLive (placed_after places w)) (λ at letter. live) (λ pid at end. exit_live places pid at end live) (λ rests. live) live (what e) tells
+    by_loss (inr (inl page)) = by_page (λ w. BackupsLive (placed_after places w)) (λ pid index. live) (λ pid index bytes. live) (what e) page
+    by_loss (inr (inr loss)) = subst (λ w. BackupsLive (placed_after places w)) (sym loss.same) (loss_live places loss.lost loss.cause live)
 
 -- ---- the whole
 

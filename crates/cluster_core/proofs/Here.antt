@@ -15,7 +15,7 @@ use Rattle.sys_calls.proofs.RunLemma.{all_delivered}
 use Rattle.bus_msg.specs.declared.entry.What.{What}
 use Rattle.bus_msg.specs.declared.entry.What.TheVariants.{Mail}
 use Rattle.bus_msg.specs.Places.{same_pid}
-use Rattle.cert_sched.specs.Built.{is_unlost}
+use Rattle.cert_sched.specs.Built.{tells_or_closes}
 use Rattle.cert_sched.specs.Deeds.{is_end_of, letter_for, to_process}
 use Rattle.cert_sched.proofs.StepLaws.{Tells}
 use Rattle.cert_sched.proofs.MailLaws.{with_arrival}
@@ -104,7 +104,7 @@ exit_found pid (e ∷ here) p h at = by_exit (same_pid e.0 pid) refl at (exit_fo
     by_exit true is at more = later (same_pid e.0 p) refl (more at) is
     by_exit false is at more = by_pid (same_pid e.0 p) refl at more is
 
-pub was_here : (w : What) (here : List (Pid × Held)) (p : Pid) (h : Held) → is_unlost w ≡ true → held_of (here_after w here) p ≡ Some h → WasHere w here p h
+pub was_here : (w : What) (here : List (Pid × Held)) (p : Pid) (h : Held) → tells_or_closes w ≡ true → held_of (here_after w here) p ≡ Some h → WasHere w here p h
 was_here w here p h =
     by_kind (λ w. held_of (here_after w here) p ≡ Some h → WasHere w here p h)
     (λ at letter is. letter_was at letter here p h (held_of here p) refl (sym (letter_found letter here p) ∙ is))
@@ -118,14 +118,14 @@ abbrev pub arrival_in : What → Pid → Process → Process
 arrival_in (Mail at letter) p s = cond (is_end_of p letter.to) (arrived s letter) s
 arrival_in w p s = s
 
-pub runs_after : (w : What) (p : Pid) (s : Process) → is_unlost w ≡ true → arrival_at w p (Runs s) ≡ Runs (arrival_in w p s)
+pub runs_after : (w : What) (p : Pid) (s : Process) → tells_or_closes w ≡ true → arrival_at w p (Runs s) ≡ Runs (arrival_in w p s)
 runs_after w p s = by_kind (λ w. arrival_at w p (Runs s) ≡ Runs (arrival_in w p s)) (λ at letter. by_test letter (is_end_of p letter.to)) (λ pid at end. refl) (λ rests. refl) refl w
   where
     by_test : (letter : Letter) (b : Bool) → cond b (Runs (arrived s letter)) (Runs s) ≡ Runs (cond b (arrived s letter) s)
     by_test letter true = refl
     by_test letter false = refl
 
-pub rolls_after : (w : What) (p : Pid) (s : Process) (counts : Counts) (births : List Pid) → is_unlost w ≡ true → arrival_at w p (Rolls s counts births) ≡ Rolls (arrival_in w p s) counts births
+pub rolls_after : (w : What) (p : Pid) (s : Process) (counts : Counts) (births : List Pid) → tells_or_closes w ≡ true → arrival_at w p (Rolls s counts births) ≡ Rolls (arrival_in w p s) counts births
 rolls_after w p s counts births =
     by_kind (λ w. arrival_at w p (Rolls s counts births) ≡ Rolls (arrival_in w p s) counts births) (λ at letter. by_test letter (is_end_of p letter.to)) (λ pid at end. refl) (λ rests. refl) refl w
   where
@@ -134,7 +134,7 @@ rolls_after w p s counts births =
     by_test letter false = refl
 
 -- its state is that with the letters that the entry brings it
-pub arrival_letters : (w : What) (p : Pid) (s : Process) → is_unlost w ≡ true → state_of (arrival_in w p s) ≡ all_delivered (state_of s) (letter_for p w)
+pub arrival_letters : (w : What) (p : Pid) (s : Process) → tells_or_closes w ≡ true → state_of (arrival_in w p s) ≡ all_delivered (state_of s) (letter_for p w)
 arrival_letters w p s = by_kind (λ w. state_of (arrival_in w p s) ≡ all_delivered (state_of s) (letter_for p w)) (λ at letter. by_to letter letter.to) (λ pid at end. refl) (λ rests. refl) refl w
   where
     by_pid : (letter : Letter) (b : Bool) → state_of (cond b (arrived s letter) s) ≡ all_delivered (state_of s) (cond b (letter ∷ []) [])
@@ -155,7 +155,7 @@ arrival_state w q at (Sent letter) p s tells = ap (λ w. state_of (arrival_in w 
 arrival_state w q at (Ended end) p s tells = ap (λ w. state_of (arrival_in w p s)) tells
 
 -- a letter changes neither the steps nor the rest of the small state
-pub arrival_small : (w : What) (p : Pid) (s : Process) → is_unlost w ≡ true → (arrival_in w p s).small ≡ s.small
+pub arrival_small : (w : What) (p : Pid) (s : Process) → tells_or_closes w ≡ true → (arrival_in w p s).small ≡ s.small
 arrival_small w p s = by_kind (λ w. (arrival_in w p s).small ≡ s.small) (λ at letter. by_test letter (is_end_of p letter.to)) (λ pid at end. refl) (λ rests. refl) refl w
   where
     by_test : (letter : Letter) (b : Bool) → (cond b (arrived s letter) s).small ≡ s.small

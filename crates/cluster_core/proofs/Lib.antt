@@ -14,6 +14,8 @@ mod Moving
 mod Recovering
 mod BackupsLive
 mod Losing
+mod Unmoved
+mod Paging
 pub mod Passing
 pub mod Booted
 pub mod Following

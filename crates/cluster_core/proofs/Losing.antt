@@ -14,7 +14,7 @@ use Rattle.proc_state.specs.State.{ProcState, state_of}
 use Rattle.sys_calls.specs.declared.steps.Emission.{Emission}
 use Rattle.sys_calls.specs.Next.{silently, last_emission}
 use Rattle.sys_calls.proofs.RunLemma.{all_delivered}
-use Rattle.plain_kernel.specs.Kernel.{boot, process_at}
+use Rattle.plain_kernel.specs.Kernel.{Kernel, boot, process_at}
 use Rattle.plain_kernel.proofs.Entries.{some_same}
 use Rattle.bus_msg.specs.declared.entry.What.{What}
 use Rattle.bus_msg.specs.declared.entry.What.TheVariants.{Crash}
@@ -28,7 +28,7 @@ use Rattle.bus_msg.specs.Places.{Places, is_at_home, is_cluster, lives_in, place
 use Rattle.bus_msg.specs.PlacedAfter.{after_loss, what, placed_after}
 use Rattle.crash_notice.specs.Splitting.{is_moved_here, moves_here, stays}
 use Rattle.roll_forward.specs.RunsOut.{nothing_left}
-use Rattle.cert_sched.specs.Built.{BuiltMayFollow, UnlostMayFollow, is_unlost}
+use Rattle.cert_sched.specs.Built.{BuiltMayFollow, TellingMayFollow, tells_or_closes}
 use Rattle.cert_sched.specs.Deeds.{deeds_in, letter_for, start_of}
 use Rattle.cert_sched.specs.Legal.{IsLegalBy}
 use Rattle.cert_sched.specs.Losses.{is_by_cluster, is_from}
@@ -40,7 +40,7 @@ use Rattle.cert_sched.specs.Rules.{is_over, is_by, is_living, is_by_home, home_a
 use Rattle.cert_sched.specs.Schedule.{done, items_of, placement, plain_after}
 use Rattle.cert_sched.specs.Simulation.{IsUnended}
 use Rattle.cert_sched.specs.Steps.{after_items, emission_at, silent_upto}
-use Rattle.cert_sched.proofs.CameLaws.{no_items}
+use Rattle.cert_sched.proofs.LogLaws.{no_items}
 use Rattle.cert_sched.proofs.CoverLaws.{lives_on}
 use Rattle.cert_sched.proofs.FreshLaws.{only_one}
 use Rattle.cert_sched.proofs.LogLaws.{placement-snoc}
@@ -74,6 +74,7 @@ use Rattle.cluster_core.proofs.Moving.{StartsSo, begins_behind, can_begin, start
 use Rattle.cluster_core.proofs.Owning.{own_at}
 use Rattle.cluster_core.proofs.RecoveredHere.{Recovery, StartsThere, held_recovered, pids_recovered}
 use Rattle.cluster_core.proofs.Telling.{Telling, telling}
+use Rattle.cluster_core.proofs.Unmoved.{emission_same, state_same}
 use Rattle.cluster_core.proofs.Following.{by_home_of, counted_foreign, lost_before, moves_it, no_end, post_may}
 
 -- ---- lists
@@ -130,32 +131,8 @@ module _ (system : System) (valid : is_system system ≡ true) (log : List Entry
   abbrev places : Places
   places = placement system log
 
-  -- ---- the kernel without failures makes nothing of it
-
-  kernel_same : plain_after system later ≡ plain_after system log
-  kernel_same = no_items system log e (λ kernel. ap (items_of kernel) n.same)
-
-  silent_same : (p : Pid) (steps : ℕ) → silent_upto system later p steps ≡ silent_upto system log p steps
-  unfolding silent_upto
-  silent_same p steps = λ i. option_and_then (silently (steps - option_map_or (λ kernel. done kernel p) (kernel_same i) 0)) (option_and_then (λ kernel. process_at kernel p) (kernel_same i))
-
-  emission_same : (p : Pid) (at : ℕ) → emission_at system later p at ≡ emission_at system log p at
-  unfolding emission_at
-  emission_same p at = λ i. option_and_then (last_emission (at - option_map_or (λ kernel. done kernel p) (kernel_same i) 0)) (option_and_then (λ kernel. process_at kernel p) (kernel_same i))
-
-  items_same : (w : What) → is_unlost w ≡ true → after_items system later w ≡ after_items system log w
-  items_same =
-      by_kind (λ w. after_items system later w ≡ after_items system log w)
-      (λ at letter. ap (option_map (λ (r : Emission × ProcState). r.1)) (emission_same letter.from at)) (λ pid at end. ap (option_map (λ (r : Emission × ProcState). r.1)) (emission_same pid at)) (λ rests. refl) refl
-
-  -- a process stands where it stood, beside at most one post
-  state_same : (q : Option Post) (p : Pid) (steps : ℕ) → IsQueueLegal UnlostMayFollow system log (posts_of q) → state_now system later (posts_of q) p steps ≡ state_now system log (posts_of q) p steps
-  state_same None p steps legal = silent_same p steps
-  state_same (Some post) p steps legal = by_move (is_move_of p post)
-    where
-      by_move : (b : Bool) → state_by system later p steps (option_map (λ (post : Post). post.what) (cond b (Some post) None)) ≡ state_by system log p steps (option_map (λ (post : Post). post.what) (cond b (Some post) None))
-      by_move true = ap (option_map (taken_by post.what)) (items_same post.what (legal.0).built)
-      by_move false = silent_same p steps
+  none : (kernel : Kernel) → items_of kernel (what e) ≡ []
+  none kernel = ap (items_of kernel) n.same
 
   -- ---- where processes are
 
@@ -203,8 +180,8 @@ module _ (system : System) (valid : is_system system ≡ true) (log : List Entry
   -- ---- posts
 
   -- a post of a cluster that lives on may follow after the loss
-  post_stays : (post : Post) → is_from k post.by ≡ true → UnlostMayFollow system log (entry_of system log post) → UnlostMayFollow system later (entry_of system later post)
-  post_stays post own may = post_may system later post u.pid u.at u.emission u.after n.more n.goes_on may.built u.tells (emission_same u.pid u.at ∙ u.is) at_home
+  post_stays : (post : Post) → is_from k post.by ≡ true → TellingMayFollow system log (entry_of system log post) → TellingMayFollow system later (entry_of system later post)
+  post_stays post own may = post_may system later post u.pid u.at u.emission u.after n.more n.goes_on may.built u.tells (emission_same system log e none u.pid u.at ∙ u.is) at_home
     where
       u : Telling system log (entry_of system log post)
       u = telling system log (entry_of system log post) may (no_end k places post.by post.what may.built own (may.stands).by_right)
@@ -241,12 +218,12 @@ module _ (system : System) (valid : is_system system ≡ true) (log : List Entry
           ap (λ b. is_living (placement system later) b && is_by b (home_at (placement system later) u.pid)) by_k
           ∙ (λ i. lives i && is_by (Cluster k) (home_stays u.pid home i)) ∙ eq-eqb k.0 k.0 refl
 
-  queue_stays : (q : Option Post) → list_all (λ (post : Post). is_from k post.by) (posts_of q) ≡ true → IsQueueLegal UnlostMayFollow system log (posts_of q) → IsQueueLegal UnlostMayFollow system later (posts_of q)
+  queue_stays : (q : Option Post) → list_all (λ (post : Post). is_from k post.by) (posts_of q) ≡ true → IsQueueLegal TellingMayFollow system log (posts_of q) → IsQueueLegal TellingMayFollow system later (posts_of q)
   queue_stays None own legal = tt
   queue_stays (Some post) own legal = (post_stays post (and_parts (is_from k post.by) true own).0 legal.0, tt)
 
   -- nothing is queued for a process that is at home elsewhere
-  none_queued_for : (q : Option Post) (p : Pid) → list_all (λ (post : Post). is_from k post.by) (posts_of q) ≡ true → IsQueueLegal UnlostMayFollow system log (posts_of q) → (home_at places p ≡ Some k → ⊥) → move_of p (posts_of q) ≡ None
+  none_queued_for : (q : Option Post) (p : Pid) → list_all (λ (post : Post). is_from k post.by) (posts_of q) ≡ true → IsQueueLegal TellingMayFollow system log (posts_of q) → (home_at places p ≡ Some k → ⊥) → move_of p (posts_of q) ≡ None
   none_queued_for None p own legal away = refl
   none_queued_for (Some post) p own legal away = by_move (is_move_of p post) refl
     where
@@ -355,8 +332,8 @@ module _ (system : System) (valid : is_system system ≡ true) (log : List Entry
       by_left false left = (none, behind)
 
   -- one that was here is held as before
-  held_still : (q : Option Post) (p : Pid) (h : Held) → IsQueueLegal UnlostMayFollow system log (posts_of q) → is_some (unended_at places p) ≡ true → ((kept : BackRec) → h ≡ Waits kept → ⊥) → IsHeldAs system log (posts_of q) p h → IsHeldAs system later (posts_of q) p h
-  held_still q p (Runs s) legal unended runs held = state_same q p (s.small).steps legal ∙ held
+  held_still : (q : Option Post) (p : Pid) (h : Held) → IsQueueLegal TellingMayFollow system log (posts_of q) → is_some (unended_at places p) ≡ true → ((kept : BackRec) → h ≡ Waits kept → ⊥) → IsHeldAs system log (posts_of q) p h → IsHeldAs system later (posts_of q) p h
+  held_still q p (Runs s) legal unended runs held = state_same system log e none q p (s.small).steps legal ∙ held
   held_still q p (Rolls s counts births) legal unended runs held = (
     held.0,
     subst (λ w. RollsBehind system later p (all_delivered (state_of s) (letter_for p w)) counts births) n.same
@@ -414,7 +391,7 @@ module _ (system : System) (valid : is_system system ≡ true) (log : List Entry
     processes = record { held = held; each_once = once_after_loss c.records c.here keeps order once ∙ ap (λ k. rising (home_pids system later k)) (sym number_is) };
     queue = record {
       own = (f.queue).own;
-      legal = subst (IsQueueLegal UnlostMayFollow system later) (sym queue_is) (queue_stays q posts_own posts_legal);
+      legal = subst (IsQueueLegal TellingMayFollow system later) (sym queue_is) (queue_stays q posts_own posts_legal);
     };
     steps = record { counted = λ kept. counted_foreign c log e (ap (λ k. is_by_cluster k e) number_is ∙ foreign) ((f.steps).counted (lost_before log e c.number kept)) };
     records = subst (λ k. KeepsRecords system later k (filter (stays places lost k) c.records)) (sym number_is) (loss_kept system log e lost k cause c.records valid (built_stands system later n.more) n.same apart keeps);
@@ -432,8 +409,8 @@ module _ (system : System) (valid : is_system system ≡ true) (log : List Entry
       posts_own : list_all (λ (post : Post). is_from k post.by) (posts_of q) ≡ true
       posts_own = sym (λ i. list_all (λ (post : Post). is_from (number_is i) post.by) (queue_is i)) ∙ (f.queue).own
 
-      posts_legal : IsQueueLegal UnlostMayFollow system log (posts_of q)
-      posts_legal = subst (IsQueueLegal UnlostMayFollow system log) queue_is (f.queue).legal
+      posts_legal : IsQueueLegal TellingMayFollow system log (posts_of q)
+      posts_legal = subst (IsQueueLegal TellingMayFollow system log) queue_is (f.queue).legal
 
       -- what the cluster is after it
       after : ClusterView

@@ -23,7 +23,7 @@ use Rattle.bus_msg.specs.declared.placed.Placed.{Placed}
 use Rattle.bus_msg.specs.Places.{Places, ClusterPlace, lives_in, same_pid, same_cluster, is_cluster, unended_at, all_clusters, cluster_no}
 use Rattle.bus_msg.specs.PlacedAfter.{what}
 use Rattle.bus_msg.specs.Route.{backup_of, home_of, bits_of, letter_dests, route, to_list, to_all}
-use Rattle.cert_sched.specs.Built.{BuiltMayFollow, is_unlost}
+use Rattle.cert_sched.specs.Built.{BuiltMayFollow, tells_or_closes}
 use Rattle.cert_sched.specs.Schedule.{placement}
 use Rattle.cert_sched.specs.Record.{backup_record}
 use Rattle.backup_records.specs.Records.{CanNote, record_in, record_after, records_after, is_receiver, with_saved, with_counted}
@@ -34,8 +34,8 @@ use Rattle.cluster_core.specs.View.{ClusterView}
 use Rattle.cluster_core.specs.Calls.{IsReady, ReadyFor}
 use Rattle.cluster_core.specs.Absorbing.{IsNotedHere, goes_to}
 use Rattle.cluster_core.proofs.Here.{pid_same, same_itself}
-use Rattle.cluster_core.proofs.ByKind.{IsLoss, by_kind, loss_or_none}
-use Rattle.cluster_core.proofs.Following.{left_of, own_is_unlost}
+use Rattle.cluster_core.proofs.ByKind.{OneOf, by_kind, by_page, kind_is}
+use Rattle.cluster_core.proofs.Following.{left_of, own_tells}
 use Rattle.cluster_core.proofs.BackupsLive.{BackupsLive, backups_live}
 
 -- ---- the clusters that an entry goes to
@@ -206,13 +206,13 @@ exit_left system log k recs pid at end live keeps elsewhere = by_first recs refl
         absurd (true≢false (sym (named_goes places k (all_clusters places) lives (all_named places k lives)) ∙ elsewhere))
 
 -- where an entry does not go to a cluster, it leaves the records there as they are
-pub noted_here : (system : System) (log : List Entry) (e : Entry) (k : ClusterNo) (recs : List BackRec) → e.dests ≡ route (placement system log) (what e) → is_unlost (what e) ≡ true → BackupsLive (placement system log)
+pub noted_here : (system : System) (log : List Entry) (e : Entry) (k : ClusterNo) (recs : List BackRec) → e.dests ≡ route (placement system log) (what e) → tells_or_closes (what e) ≡ true → BackupsLive (placement system log)
     → KeepsRecords system log k recs → IsNotedHere k e recs
-noted_here system log e k recs routed unlost live keeps elsewhere =
+noted_here system log e k recs routed tells live keeps elsewhere =
     by_kind (λ w. goes_to (route (placement system log) w) k ≡ false → records_after w recs ≡ recs)
     (λ at letter away. letter_left system log k recs at letter live keeps away)
     (λ pid at end away. exit_left system log k recs pid at end live keeps away)
-    (λ rests away. refl) (λ away. refl) (what e) unlost (ap (λ dests. goes_to dests k) (sym routed) ∙ elsewhere)
+    (λ rests away. refl) (λ away. refl) (what e) tells (ap (λ dests. goes_to dests k) (sym routed) ∙ elsewhere)
 
 -- ---- the entry for which a cluster is ready
 
@@ -224,7 +224,7 @@ record Kept (c : ClusterView) (log : List Entry) : Type 0 where
 kept_of : (c : ClusterView) (log : List Entry) (e : Entry) → IsReady log e c → Kept c log
 kept_of c log e (inl f) = record { cursor = ((f.0).log).cursor; records = (f.0).records }
 kept_of c log e (inr s) =
-    let l = left_of c log e (own_is_unlost c log e s.0) s.1 s.0 in
+    let l = left_of c log e (own_tells c log e s.0) s.1 s.0 in
     let number : (l.before).number ≡ c.number = sym (ap (λ (d : ClusterView). d.number) l.same) in
     record {
       cursor = ap (λ (d : ClusterView). d.cursor) l.same ∙ ((l.followed).log).cursor;
@@ -239,11 +239,12 @@ can_note_next c e valid r room =
 
 -- and where it does not go to the cluster, it leaves the records as they are
 pub noted_next : (c : ClusterView) (e : Entry) → is_system c.system ≡ true → ReadyFor e c → IsNotedHere c.number e c.records
-noted_next c e valid r elsewhere = by_loss (loss_or_none (what e) may.built)
+noted_next c e valid r elsewhere = by_loss (kind_is (what e) may.built)
   where
     may : BuiltMayFollow c.system r.log e
     may = IsLegal-last BuiltMayFollow c.system r.log e (r.open_next).0
 
-    by_loss : (is_unlost (what e) ≡ true) ⊎ IsLoss (what e) → records_after (what e) c.records ≡ c.records
-    by_loss (inl unlost) = noted_here c.system r.log e c.number c.records (((may.stands).placed).1) unlost (backups_live c.system r.log valid (r.open_log).0) (kept_of c r.log e r.ready).records elsewhere
-    by_loss (inr loss) = ap (λ w. records_after w c.records) loss.same
+    by_loss : OneOf (what e) → records_after (what e) c.records ≡ c.records
+    by_loss (inl tells) = noted_here c.system r.log e c.number c.records (((may.stands).placed).1) tells (backups_live c.system r.log valid (r.open_log).0) (kept_of c r.log e r.ready).records elsewhere
+    by_loss (inr (inl page)) = by_page (λ w. records_after w c.records ≡ c.records) (λ pid index. refl) (λ pid index bytes. refl) (what e) page
+    by_loss (inr (inr loss)) = ap (λ w. records_after w c.records) loss.same

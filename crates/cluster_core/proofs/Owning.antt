@@ -22,7 +22,7 @@ use Rattle.cluster_core.specs.declared.quantum.Sending.{Sending}
 use Rattle.cluster_core.specs.Quantum.{Moves, RollsTo, RunsTo, Sends, going}
 use Rattle.roll_forward.specs.Advancing.{rolled_on}
 use Rattle.roll_forward.proofs.RolledLaws.{rolled_keeps}
-use Rattle.cert_sched.specs.Built.{is_unlost}
+use Rattle.cert_sched.specs.Built.{tells_or_closes}
 use Rattle.cluster_core.proofs.Here.{pid_same}
 use Rattle.cluster_core.proofs.ByKind.{by_kind}
 
@@ -167,7 +167,7 @@ own_exit cursor pid (e ∷ here) own = by_test (not (same_pid e.0 pid)) (own_exi
     by_test true more = (own.0, more)
     by_test false more = more
 
-pub own_after : (cursor : ℕ) (w : What) (here : List (Pid × Held)) → is_unlost w ≡ true → brings_none w → AllOwn cursor here → AllOwn (cursor + 1) (here_after w here)
+pub own_after : (cursor : ℕ) (w : What) (here : List (Pid × Held)) → tells_or_closes w ≡ true → brings_none w → AllOwn cursor here → AllOwn (cursor + 1) (here_after w here)
 own_after cursor w here =
     by_kind (λ w. brings_none w → AllOwn cursor here → AllOwn (cursor + 1) (here_after w here))
     (λ at letter none own. own_letter cursor letter here none own) (λ pid at end none own. own_later cursor _ (own_exit cursor pid here own)) (λ rests none own. own_later cursor here own) (λ none own. own_later cursor here own) w

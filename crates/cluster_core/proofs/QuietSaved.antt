@@ -11,7 +11,7 @@ use Rattle.sys_calls.specs.declared.steps.Emission.TheVariants.{Mail as Sent}
 use Rattle.bus_msg.specs.declared.entry.Entry.{Entry}
 use Rattle.bus_msg.specs.Places.{same_pid}
 use Rattle.bus_msg.specs.PlacedAfter.{what}
-use Rattle.cert_sched.specs.Built.{BuiltMayFollow, is_unlost}
+use Rattle.cert_sched.specs.Built.{BuiltMayFollow, tells_or_closes}
 use Rattle.cert_sched.specs.Deeds.{letter_for, letters_to, numbered, to_process}
 use Rattle.cert_sched.specs.Kinds.{KindHolds}
 use Rattle.cert_sched.specs.Legal.{IsLegalBy}
@@ -19,7 +19,7 @@ use Rattle.cert_sched.specs.Parts.{after_last}
 use Rattle.cert_sched.proofs.Induction.{legal_induction}
 use Rattle.cert_sched.proofs.MailLaws.{sent_no_signal}
 use Rattle.cert_sched.proofs.StepLaws.{is_sent}
-use Rattle.cluster_core.proofs.ByKind.{IsLoss, by_kind, loss_or_none}
+use Rattle.cluster_core.proofs.ByKind.{OneOf, by_kind, by_page, kind_is}
 
 -- no letter of these is a signal
 abbrev pub AllQuiet : List Letter → Type 0
@@ -39,14 +39,15 @@ quiet_to p letter (Tty t) quiet = tt
 
 -- an entry that may follow brings no signal
 entry_quiet : (system : System) (log : List Entry) (e : Entry) (p : Pid) → BuiltMayFollow system log e → AllQuiet (letter_for p (what e))
-entry_quiet system log e p may = by_loss (loss_or_none (what e) may.built)
+entry_quiet system log e p may = by_loss (kind_is (what e) may.built)
   where
-    by_loss : (is_unlost (what e) ≡ true) ⊎ IsLoss (what e) → AllQuiet (letter_for p (what e))
-    by_loss (inl unlost) =
+    by_loss : OneOf (what e) → AllQuiet (letter_for p (what e))
+    by_loss (inl tells) =
         by_kind (λ w. KindHolds system log e w → AllQuiet (letter_for p w))
         (λ at letter kind. let sent = is_sent system log letter.from at (Sent letter) kind in quiet_to p letter letter.to (sent_no_signal system log letter.from at (Sent letter) sent.after sent.is))
-        (λ pid at end kind. tt) (λ rests kind. tt) (λ kind. tt) (what e) unlost (may.stands).kind
-    by_loss (inr loss) = subst (λ w. AllQuiet (letter_for p w)) (sym loss.same) tt
+        (λ pid at end kind. tt) (λ rests kind. tt) (λ kind. tt) (what e) tells (may.stands).kind
+    by_loss (inr (inl page)) = by_page (λ w. AllQuiet (letter_for p w)) (λ pid index. tt) (λ pid index bytes. tt) (what e) page
+    by_loss (inr (inr loss)) = subst (λ w. AllQuiet (letter_for p w)) (sym loss.same) tt
 
 all_last : {X : Type 0} (P : X → Type 0) (xs : List X) (x : X) → AllByRecursion P xs → P x → AllByRecursion P (xs ++ x ∷ [])
 all_last P [] x all last = (last, tt)

@@ -8,7 +8,7 @@ use Rattle.bus_msg.specs.declared.entry.What.{What}
 use Rattle.bus_msg.specs.declared.entry.Post.{Post}
 use Rattle.sys_text.specs.Valid.{is_system}
 use Rattle.channel_table.specs.Changes.{is_birth}
-use Rattle.cert_sched.specs.Built.{is_unlost}
+use Rattle.cert_sched.specs.Built.{tells_or_closes}
 use Rattle.cert_sched.specs.Losses.{is_from}
 use Rattle.t32_base.specs.declared.process.ClusterNo.{ClusterNo}
 use Rattle.cluster_core.specs.declared.quantum.Sending.{Sending}
@@ -27,7 +27,7 @@ use Rattle.cluster_core.proofs.ByKind.{by_kind}
 use Rattle.cluster_core.proofs.Working.{moved_view, moved_goes_on, moved_work, posted_goes_on, posted_work, goes_on_rested, rested}
 
 -- an entry of a kind that is built is no birth
-pub built_no_birth : (w : What) → is_unlost w ≡ true → is_birth w ≡ false
+pub built_no_birth : (w : What) → tells_or_closes w ≡ true → is_birth w ≡ false
 built_no_birth = by_kind (λ w. is_birth w ≡ false) (λ at letter. refl) (λ pid at end. refl) (λ rests. refl) refl
 
 -- what is posted is the cluster's own, and of a kind that is built
@@ -35,7 +35,7 @@ told_own : (k : ClusterNo) (p : Pid) (at : ℕ) (e : Emission) → (is_from k (p
 told_own k p at (SentMail letter) = ap (λ b. b && true) (eq-eqb k.0 k.0 refl)
 told_own k p at (SentExit end) = ap (λ b. b && true) (eq-eqb k.0 k.0 refl)
 
-told_built : (k : ClusterNo) (p : Pid) (at : ℕ) (e : Emission) → (is_unlost (post_told k p at e).what && true) ≡ true
+told_built : (k : ClusterNo) (p : Pid) (at : ℕ) (e : Emission) → (tells_or_closes (post_told k p at e).what && true) ≡ true
 told_built k p at (SentMail letter) = refl
 told_built k p at (SentExit end) = refl
 
@@ -49,7 +49,7 @@ pub record Works (c : ClusterView) (worked : Worked) (here : List (Pid × Held))
   pub work : WorkIs c worked (worked_view c here queue)
   pub residents : AllOwn c.cursor here
   pub own : list_all (λ (post : Post). is_from c.number post.by) (posts_of queue) ≡ true
-  pub built : list_all (λ (post : Post). is_unlost post.what) (posts_of queue) ≡ true
+  pub built : list_all (λ (post : Post). tells_or_closes post.what) (posts_of queue) ≡ true
 
 module _ (c : ClusterView) (empty : c.queue ≡ []) (own : AllOwn c.cursor c.here) (valid : is_system c.system ≡ true) (has : (c.number).0 < (c.system).clusters) where
   -- who had a turn moved

@@ -25,7 +25,7 @@ use Rattle.cert_sched.specs.Steps.{silent_upto, emission_at, after_items}
 use Rattle.cert_sched.specs.Rules.{is_by, is_living, is_by_home, is_by_right, home_at}
 use Rattle.cert_sched.specs.Kinds.{KindHolds}
 use Rattle.cert_sched.specs.Legal.{IsLegalBy}
-use Rattle.cert_sched.specs.Built.{is_unlost, BuiltMayFollow, UnlostMayFollow}
+use Rattle.cert_sched.specs.Built.{tells_or_closes, BuiltMayFollow, TellingMayFollow}
 use Rattle.cert_sched.specs.Losses.{least_steps, capped, is_from}
 use Rattle.cert_sched.specs.Appended.{entry_of}
 use Rattle.cert_sched.proofs.UnlostLaws.{built_births}
@@ -243,7 +243,7 @@ abbrev pub posted_view : ClusterView → List (Pid × Held) → Post → Cluster
 posted_view c here post = record c { here = here; queue = post ∷ []; steps = next_count c.steps }
 
 -- whatever is posted is of a kind that is built
-built_of : (pid : Pid) (at : ℕ) (e : Emission) → is_unlost (told_of pid at e) ≡ true
+built_of : (pid : Pid) (at : ℕ) (e : Emission) → tells_or_closes (told_of pid at e) ≡ true
 built_of pid at (Sent letter) = refl
 built_of pid at (Ended end) = refl
 
@@ -314,7 +314,7 @@ module _ (c : ClusterView) (p : Pid) (was : Held) (sending : Sending) (new : Hel
     emission_is : emission_at c.system log p at ≡ Some (e, state_of s.now)
     emission_is = ahead_sent c.system log p (state_of s.between) s.before (state_of s.now) s.silent e (held_between c p was empty there valid log go f s.rolled (Runs s.between) s.rolls) s.runs s.sends
 
-    may_follow : UnlostMayFollow c.system log (entry_of c.system log (post_told c.number p at e))
+    may_follow : TellingMayFollow c.system log (entry_of c.system log (post_told c.number p at e))
     may_follow = record {
       stands = record {
         placed = (refl, refl, go.1);
@@ -348,7 +348,7 @@ module _ (c : ClusterView) (p : Pid) (was : Held) (sending : Sending) (new : Hel
     };
     queue = record {
       own = ap (λ b. b && true) posted_own;
-      legal = (subst (λ (q : Post). UnlostMayFollow c.system log (entry_of c.system log q)) (sym post_is) (may_follow valid has log go f), tt);
+      legal = (subst (λ (q : Post). TellingMayFollow c.system log (entry_of c.system log q)) (sym post_is) (may_follow valid has log go f), tt);
     };
     steps = record { counted = λ kept. more_counted (least_steps log log c.number + cond c.tried 1 0) c.steps ((f.steps).counted kept) };
     records = f.records;

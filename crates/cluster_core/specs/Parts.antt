@@ -8,7 +8,7 @@ use Rattle.sys_text.specs.Valid.{is_system}
 use Rattle.proc_state.specs.declared.process.Process.{Process}
 use Rattle.proc_state.specs.Mail.{is_signal}
 use Rattle.bus_msg.specs.declared.entry.Post.{Post}
-use Rattle.cert_sched.specs.Built.{is_unlost}
+use Rattle.cert_sched.specs.Built.{tells_or_closes}
 use Rattle.cert_sched.specs.Losses.{is_from}
 use Rattle.cluster_core.specs.View.{Held, Runs, Rolls, Waits}
 
@@ -38,4 +38,4 @@ pub record IsSound (system : System) (number : ClusterNo) (cursor : ℕ) (here :
   pub has : number.0 < system.clusters
   pub residents : AllOwn cursor here
   pub own : list_all (λ (post : Post). is_from number post.by) queue ≡ true
-  pub built : list_all (λ (post : Post). is_unlost post.what) queue ≡ true
+  pub built : list_all (λ (post : Post). tells_or_closes post.what) queue ≡ true

@@ -11,13 +11,13 @@ use Rattle.bus_msg.specs.declared.entry.By.TheVariants.{Cluster, Bus}
 use Rattle.bus_msg.specs.declared.entry.What.TheVariants.{Done}
 use Rattle.bus_msg.specs.declared.entry.Post.{Post}
 use Rattle.cert_sched.specs.Appended.{entry_of}
-use Rattle.cert_sched.specs.Built.{BuiltMayFollow, UnlostMayFollow}
+use Rattle.cert_sched.specs.Built.{BuiltMayFollow, TellingMayFollow}
 use Rattle.cert_sched.specs.Legal.{IsLegalBy}
 use Rattle.cert_sched.specs.Losses.{is_from, least_steps, capped, was_lost_in}
 use Rattle.cert_sched.specs.Rests.{IsRestOf}
 use Rattle.cert_sched.specs.Rules.{is_over}
 use Rattle.cert_sched.specs.Schedule.{placement}
-use Rattle.cert_sched.proofs.UnlostLaws.{may_unlost}
+use Rattle.cert_sched.proofs.UnlostLaws.{telling_built}
 use Rattle.cluster_core.specs.View.{ClusterView}
 use Rattle.cluster_core.specs.Follows.{FollowsBuilt}
 use Rattle.cluster_core.specs.Queue.{IsQueueLegal}
@@ -69,9 +69,9 @@ may_be_sent b c post k n along only k_is n_is =
           own_post c.number post.by (and_parts (is_from c.number post.by) true all).0;
       may = λ goes_on seen.
           let follows = follows_all b c along seen in
-          let queue = subst (λ q. IsQueueLegal UnlostMayFollow c.system b.log q) only (follows.queue).legal in
-          let may : UnlostMayFollow c.system b.log (entry_of c.system b.log post) = queue.0 in
-          subst (λ s. BuiltMayFollow s b.log (entry_of s b.log post)) along.system (may_unlost c.system b.log (entry_of c.system b.log post) may);
+          let queue = subst (λ q. IsQueueLegal TellingMayFollow c.system b.log q) only (follows.queue).legal in
+          let may : TellingMayFollow c.system b.log (entry_of c.system b.log post) = queue.0 in
+          subst (λ s. BuiltMayFollow s b.log (entry_of s b.log post)) along.system (telling_built c.system b.log (entry_of c.system b.log post) may);
     }))
 
 pub may_be_told : (b : BusView) (c : ClusterView) (m : Mark) (k : ClusterNo) (n : ℕ) → IsSound b → IsAlong b c → IsToldBy c m → k ≡ c.number → n ≡ c.cursor → MayIdle b k n m

@@ -18,11 +18,11 @@ use Rattle.cert_sched.specs.Scripted.{closes}
 use Rattle.cert_sched.specs.Appended.{entry_of}
 use Rattle.cert_sched.specs.Rules.{ends_run, is_over}
 use Rattle.cert_sched.specs.Legal.{IsLegalBy}
-use Rattle.cert_sched.specs.Built.{BuiltMayFollow, UnlostMayFollow, is_unlost}
+use Rattle.cert_sched.specs.Built.{BuiltMayFollow, TellingMayFollow, tells_or_closes}
 use Rattle.cert_sched.specs.Losses.{is_by_cluster, is_crash_of, is_from, was_lost_in}
 use Rattle.cert_sched.proofs.Induction.{is_over-snoc}
 use Rattle.cert_sched.proofs.LogLaws.{IsLegal-snoc}
-use Rattle.cert_sched.proofs.UnlostLaws.{may_unlost}
+use Rattle.cert_sched.proofs.UnlostLaws.{telling_built}
 use Rattle.cluster_core.specs.View.{ClusterView, head_of, after_head, after_sent}
 use Rattle.cluster_core.specs.Queue.{IsQueueLegal}
 use Rattle.cluster_core.specs.Follows.{FollowsBuilt, IsOpen, StandsBetween}
@@ -45,7 +45,7 @@ use Rattle.cluster_run.proofs.TakingIn.{upto_all}
 abbrev pub cleared : ClusterView → ClusterView
 cleared c = record c { queue = []; tried = false }
 
-pub same_after : (w : What) (c : ClusterView) → is_unlost w ≡ true → after_head c w ≡ c
+pub same_after : (w : What) (c : ClusterView) → tells_or_closes w ≡ true → after_head c w ≡ c
 same_after (Mail at letter) c h = refl
 same_after (Birth parent at child end) c h = refl
 same_after (Exit pid at end) c h = refl
@@ -60,11 +60,11 @@ same_after (Done rests) c h = refl
 same_after Stop c h = refl
 
 -- a log ends by an entry that is no loss exactly where that closes it
-ends_closed : (places : Places) (w : What) → is_unlost w ≡ true → ends_run places w ≡ closes w
+ends_closed : (places : Places) (w : What) → tells_or_closes w ≡ true → ends_run places w ≡ closes w
 ends_closed places = by_kind (λ w. ends_run places w ≡ closes w) (λ at letter. refl) (λ pid at end. refl) (λ rests. refl) refl
 
 -- an entry that is no loss loses no cluster
-no_loss : (k : ClusterNo) (w : What) → is_unlost w ≡ true → is_crash_of k w ≡ false
+no_loss : (k : ClusterNo) (w : What) → tells_or_closes w ≡ true → is_crash_of k w ≡ false
 no_loss k = by_kind (λ w. is_crash_of k w ≡ false) (λ at letter. refl) (λ pid at end. refl) (λ rests. refl) refl
 
 module _ (log : List Entry) (c : ClusterView) (post : Post) (after : BusView) (s : IsSent log c post after) where
@@ -74,8 +74,8 @@ module _ (log : List Entry) (c : ClusterView) (post : Post) (after : BusView) (s
   follows : FollowsBuilt c.system log c
   follows = subst (λ l. FollowsBuilt c.system l c) (take_all c.cursor log (omega (arith, s.seen))) (s.beside).follows
 
-  may : UnlostMayFollow c.system log next
-  may = let queue = subst (λ q. IsQueueLegal UnlostMayFollow c.system log q) s.only (follows.queue).legal in queue.0
+  may : TellingMayFollow c.system log next
+  may = let queue = subst (λ q. IsQueueLegal TellingMayFollow c.system log q) s.only (follows.queue).legal in queue.0
 
   pub own : is_from c.number post.by ≡ true
   own =
@@ -86,7 +86,7 @@ module _ (log : List Entry) (c : ClusterView) (post : Post) (after : BusView) (s
   clears = ap (after_sent c) s.only ∙ ap (λ (v : ClusterView). record v { queue = []; tried = false }) (same_after post.what c may.built)
 
   legal_next : IsLegalBy BuiltMayFollow c.system (log ++ next ∷ [])
-  legal_next = IsLegal-snoc BuiltMayFollow c.system log next s.legal (may_unlost c.system log next may)
+  legal_next = IsLegal-snoc BuiltMayFollow c.system log next s.legal (telling_built c.system log next may)
 
   lives_log : was_lost_in log c.number ≡ false
   lives_log = ap (λ l. was_lost_in l c.number) (sym (take_all c.cursor log (omega (arith, s.seen)))) ∙ (s.beside).lives

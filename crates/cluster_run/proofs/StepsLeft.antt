@@ -38,7 +38,7 @@ use Rattle.cert_sched.specs.Steps.{emission_at}
 use Rattle.cert_sched.specs.Rules.{is_by_right, is_bus}
 use Rattle.cert_sched.specs.Kinds.{KindHolds}
 use Rattle.cert_sched.specs.Losses.{is_from}
-use Rattle.cert_sched.specs.Built.{UnlostMayFollow, is_unlost}
+use Rattle.cert_sched.specs.Built.{TellingMayFollow, tells_or_closes}
 use Rattle.cert_sched.proofs.StepLaws.{Tells, is_sent, plain_after-keeps, plain_after-sent, sent_from}
 use Rattle.sys_calls.proofs.Weighing.{Leaves, emits_leaves, next_leaves, silently_leaves}
 use Rattle.cluster_run.specs.Progress.{kernel_load, log_load}
@@ -142,10 +142,10 @@ not_bus k Bus own bus = true≢false (sym own)
 not_bus k (Cluster j) own bus = true≢false (sym bus)
 
 -- each entry that a cluster may send next leaves fewer steps in the kernel without failures
-pub entry_leaves : (system : System) (log : List Entry) (k : ClusterNo) (entry : Entry) → UnlostMayFollow system log entry → is_from k (entry.post).by ≡ true → log_load system (log ++ entry ∷ []) + 1 ≤ log_load system log
+pub entry_leaves : (system : System) (log : List Entry) (k : ClusterNo) (entry : Entry) → TellingMayFollow system log entry → is_from k (entry.post).by ≡ true → log_load system (log ++ entry ∷ []) + 1 ≤ log_load system log
 entry_leaves system log k entry may own = by_what (what entry) refl may.built (may.stands).kind (may.stands).by_right
   where
-    by_what : (w : What) → what entry ≡ w → is_unlost w ≡ true → KindHolds system log entry w → is_by_right (placement system log) (entry.post).by w ≡ true → log_load system (log ++ entry ∷ []) + 1 ≤ log_load system log
+    by_what : (w : What) → what entry ≡ w → tells_or_closes w ≡ true → KindHolds system log entry w → is_by_right (placement system log) (entry.post).by w ≡ true → log_load system (log ++ entry ∷ []) + 1 ≤ log_load system log
     by_what (Mail at letter) is built kind right = let s = is_sent system log letter.from at (Sent letter) kind in sent_leaves system log entry letter.from at (Sent letter) s.after s.is (refl, is)
     by_what (Birth parent at child end) is built kind right = cc
     by_what (Exit pid at end) is built kind right = let s = is_sent system log pid at (Ended end) kind.0 in sent_leaves system log entry pid at (Ended end) s.after s.is is

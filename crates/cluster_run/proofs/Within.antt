@@ -36,7 +36,7 @@ use Rattle.cert_sched.specs.Steps.{emission_at, silent_upto}
 use Rattle.cert_sched.specs.Appended.{entry_of}
 use Rattle.cert_sched.specs.Rests.{home_pids}
 use Rattle.cert_sched.specs.Rules.{is_over}
-use Rattle.cert_sched.specs.Built.{BuiltMayFollow, UnlostMayFollow, is_built, is_unlost}
+use Rattle.cert_sched.specs.Built.{BuiltMayFollow, TellingMayFollow, is_built, tells_or_closes}
 use Rattle.cert_sched.specs.Legal.{IsLegalBy}
 use Rattle.cert_sched.specs.Losses.{was_lost_in}
 use Rattle.cert_sched.proofs.Induction.{legal_induction}
@@ -127,7 +127,7 @@ emitted_within system log p at t (Some sent) is there =
     omega (arith, same, silently_leaves l.earlier s.was l.before l.silent, emits_leaves l.before sent.1 sent.0 l.last, within_kernel system log p s.was s.kernel s.before s.there)
 
 -- a process that has moved ahead of the log
-moved_within : (system : System) (log : List Entry) (p : Pid) (steps : ℕ) (t : ProcState) (w : What) → is_unlost w ≡ true → state_by system log p steps (Some w) ≡ Some t → weight t.small ≤ boot_load system
+moved_within : (system : System) (log : List Entry) (p : Pid) (steps : ℕ) (t : ProcState) (w : What) → tells_or_closes w ≡ true → state_by system log p steps (Some w) ≡ Some t → weight t.small ≤ boot_load system
 moved_within system log p steps t =
     by_kind (λ w. state_by system log p steps (Some w) ≡ Some t → weight t.small ≤ boot_load system)
     (λ at letter there. emitted_within system log letter.from at t (emission_at system log letter.from at) refl (same_option _ ∙ there))
@@ -139,20 +139,20 @@ moved_within system log p steps t =
     same_option (Some s) = refl
 
 -- each post that is found in a legal queue is no loss
-queued_unlost : (system : System) (log : List Entry) (queue : List Post) (test : Post → Bool) (post : Post) → IsQueueLegal UnlostMayFollow system log queue → find test queue ≡ Some post → is_unlost post.what ≡ true
-queued_unlost system log [] test post legal found = cc
-queued_unlost system log (first ∷ queue) test post legal found = by_test (test first) found (queued_unlost system (log ++ entry_of system log first ∷ []) queue test post legal.1)
+queued_tells : (system : System) (log : List Entry) (queue : List Post) (test : Post → Bool) (post : Post) → IsQueueLegal TellingMayFollow system log queue → find test queue ≡ Some post → tells_or_closes post.what ≡ true
+queued_tells system log [] test post legal found = cc
+queued_tells system log (first ∷ queue) test post legal found = by_test (test first) found (queued_tells system (log ++ entry_of system log first ∷ []) queue test post legal.1)
   where
-    by_test : (b : Bool) → cond b (Some first) (find test queue) ≡ Some post → (find test queue ≡ Some post → is_unlost post.what ≡ true) → is_unlost post.what ≡ true
-    by_test true found more = let same : first ≡ post = cc in subst (λ (p : Post). is_unlost p.what ≡ true) same (legal.0).built
+    by_test : (b : Bool) → cond b (Some first) (find test queue) ≡ Some post → (find test queue ≡ Some post → tells_or_closes post.what ≡ true) → tells_or_closes post.what ≡ true
+    by_test true found more = let same : first ≡ post = cc in subst (λ (p : Post). tells_or_closes p.what ≡ true) same (legal.0).built
     by_test false found more = more found
 
-runs_within : (system : System) (log : List Entry) (queue : List Post) (p : Pid) (steps : ℕ) (t : ProcState) → IsQueueLegal UnlostMayFollow system log queue → (o : Option Post) → find (is_move_of p) queue ≡ o
+runs_within : (system : System) (log : List Entry) (queue : List Post) (p : Pid) (steps : ℕ) (t : ProcState) → IsQueueLegal TellingMayFollow system log queue → (o : Option Post) → find (is_move_of p) queue ≡ o
     → state_by system log p steps (option_map (λ (post : Post). post.what) o) ≡ Some t → weight t.small ≤ boot_load system
 runs_within system log queue p steps t legal None found is = silent_within system log p steps t is
-runs_within system log queue p steps t legal (Some post) found is = moved_within system log p steps t post.what (queued_unlost system log queue (is_move_of p) post legal found) is
+runs_within system log queue p steps t legal (Some post) found is = moved_within system log p steps t post.what (queued_tells system log queue (is_move_of p) post legal found) is
 
-held_within : (system : System) (log : List Entry) (queue : List Post) (p : Pid) (h : Held) → IsQueueLegal UnlostMayFollow system log queue → IsHeldAs system log queue p h → held_load h ≤ boot_load system
+held_within : (system : System) (log : List Entry) (queue : List Post) (p : Pid) (h : Held) → IsQueueLegal TellingMayFollow system log queue → IsHeldAs system log queue p h → held_load h ≤ boot_load system
 held_within system log queue p (Runs process) legal is = runs_within system log queue p (process.small).steps (state_of process) legal (find (is_move_of p) queue) refl is
 held_within system log queue p (Rolls process counts births) legal held =
     let rolls = (held.1).rolls in
@@ -213,8 +213,8 @@ same_count (Birth parent at child end) places h = absurd (true≢false (sym h))
 same_count (Exit pid at end) places h = length-map places.placed (after_exit pid)
 same_count (Page pid at index bytes) places h = absurd (true≢false (sym h))
 same_count (Sync pid small read took) places h = absurd (true≢false (sym h))
-same_count (Fetch pid index) places h = absurd (true≢false (sym h))
-same_count (PageIs pid index bytes) places h = absurd (true≢false (sym h))
+same_count (Fetch pid index) places h = refl
+same_count (PageIs pid index bytes) places h = refl
 same_count (Crash k cause) places h = length-map places.placed (after_loss k)
 same_count (Return k) places h = absurd (true≢false (sym h))
 same_count (Rebackup to fresh recs) places h = absurd (true≢false (sym h))
@@ -274,7 +274,7 @@ module _ (b : BusView) (c : ClusterView) (sound : IsSound b) (gone : IsGone b c)
     follows = subst (λ s. FollowsBuilt s (take c.cursor b.log) v) (sym system) follows;
   })
 
-  sent_load : (was : ClusterView) (queue : List Post) (e : Entry) → IsQueueLegal UnlostMayFollow b.system (take c.cursor b.log) queue → option_map (entry_of b.system (take c.cursor b.log)) (head_of queue) ≡ Some e → load (after_sent was queue) ≡ load was
+  sent_load : (was : ClusterView) (queue : List Post) (e : Entry) → IsQueueLegal TellingMayFollow b.system (take c.cursor b.log) queue → option_map (entry_of b.system (take c.cursor b.log)) (head_of queue) ≡ Some e → load (after_sent was queue) ≡ load was
   sent_load was [] e legal head = cc
   sent_load was (p ∷ queue) e legal head = ap load (ap (λ (v : ClusterView). record v { queue = queue; tried = false }) (same_after p.what was (legal.0).built))
 

@@ -58,15 +58,15 @@ unended_counts May standing system log p valid legal unended start started =
 
 -- ---- entries that start no process
 
--- a letter, an exit, a loss, the end or a stop is no cut and no birth
+-- an entry of such a kind is no cut and no birth
 pub plain_starts_none : (p : Pid) (w : What) → is_plain w ≡ true → (is_cut p w ≡ false) × (is_birth_of p w ≡ false)
 plain_starts_none p (Mail at letter) plain = (refl, refl)
 plain_starts_none p (Birth parent at child end) plain = absurd (true≢false (sym plain))
 plain_starts_none p (Exit pid at end) plain = (refl, refl)
 plain_starts_none p (Page pid at index bytes) plain = absurd (true≢false (sym plain))
 plain_starts_none p (Sync pid small read took) plain = absurd (true≢false (sym plain))
-plain_starts_none p (Fetch pid index) plain = absurd (true≢false (sym plain))
-plain_starts_none p (PageIs pid index bytes) plain = absurd (true≢false (sym plain))
+plain_starts_none p (Fetch pid index) plain = (refl, refl)
+plain_starts_none p (PageIs pid index bytes) plain = (refl, refl)
 plain_starts_none p (Crash k cause) plain = (refl, refl)
 plain_starts_none p (Return k) plain = absurd (true≢false (sym plain))
 plain_starts_none p (Rebackup to fresh recs) plain = absurd (true≢false (sym plain))

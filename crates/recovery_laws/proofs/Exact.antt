@@ -138,15 +138,16 @@ module _ (system : System) (log : List Entry) (e : Entry) where
           subst (Here (Exit q at end)) pid sent
       by_pid false apart = other apart
 
-  crash_did : (k : ClusterNo) (cause : Cause) → what e ≡ Crash k cause → (p : Pid) → Here (Crash k cause) p
-  crash_did k cause is p now there goes_on = record {
+  -- an entry without an item, of a kind that brings no letter and tells of no deed
+  quiet_did : (w : What) (p : Pid) → ((k : Kernel) → items_of k (what e) ≡ []) → deeds_in p w ≡ [] → letter_for p w ≡ [] → Here w p
+  quiet_did w p none no_deed no_letter now there goes_on = record {
     was = now;
-    there = sym (ap (option_and_then (λ n. process_at n p)) (lost system log e k cause is)) ∙ there;
+    there = sym (process_after-quiet system log e none p) ∙ there;
     open_still = goes_on;
     made = 0;
     to = now;
-    sharp = (refl, refl);
-    arrives = refl;
+    sharp = (no_deed, refl);
+    arrives = ap (all_delivered now) no_letter;
   }
 
   did : (w : What) → what e ≡ w → is_plain w ≡ true → KindHolds system log e w → ends_run (placement system log) w ≡ false → (p : Pid) → Here w p
@@ -155,9 +156,9 @@ module _ (system : System) (log : List Entry) (e : Entry) where
   did (Exit q at end) is plain kind goes_on p = exit_did q at end is kind p
   did (Page q at index bytes) is plain kind goes_on p = absurd (true≢false (sym plain))
   did (Sync q small read took) is plain kind goes_on p = absurd (true≢false (sym plain))
-  did (Fetch q index) is plain kind goes_on p = absurd (true≢false (sym plain))
-  did (PageIs q index bytes) is plain kind goes_on p = absurd (true≢false (sym plain))
-  did (Crash k cause) is plain kind goes_on p = crash_did k cause is p
+  did (Fetch q index) is plain kind goes_on p = quiet_did (Fetch q index) p (λ k. ap (items_of k) is) refl refl
+  did (PageIs q index bytes) is plain kind goes_on p = quiet_did (PageIs q index bytes) p (λ k. ap (items_of k) is) refl refl
+  did (Crash k cause) is plain kind goes_on p = quiet_did (Crash k cause) p (λ n. ap (items_of n) is) refl refl
   did (Return k) is plain kind goes_on p = absurd (true≢false (sym plain))
   did (Rebackup to fresh recs) is plain kind goes_on p = absurd (true≢false (sym plain))
   did (Done rests) is plain kind goes_on p = absurd (true≢false goes_on)

@@ -97,8 +97,8 @@ module _ (system : System) (log : List Entry) (e : Entry) (p : Pid) where
           ap is_some (unended_exit q p (placement system log).placed (λ same. true≢false (sym (eq-eqb q.0 p.0 (sym same)) ∙ other))) ∙ unended
       by_what (Page q at index bytes) plain none = absurd (true≢false (sym plain))
       by_what (Sync q small read took) plain none = absurd (true≢false (sym plain))
-      by_what (Fetch q index) plain none = absurd (true≢false (sym plain))
-      by_what (PageIs q index bytes) plain none = absurd (true≢false (sym plain))
+      by_what (Fetch q index) plain none = unended
+      by_what (PageIs q index bytes) plain none = unended
       by_what (Crash k cause) plain none =
           ap is_some (unended_map (after_loss k) (loss_keeps k) (placement system log) (placed_after (placement system log) (Crash k cause)) refl p) ∙ some_after (after_loss k) (unended_at (placement system log) p) unended
       by_what (Return k) plain none = absurd (true≢false (sym plain))

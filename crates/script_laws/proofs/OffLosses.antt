@@ -13,7 +13,7 @@ use Rattle.bus_msg.specs.declared.entry.What.TheVariants.{Mail, Birth, Exit, Pag
 use Rattle.bus_msg.specs.declared.entry.By.{By}
 use Rattle.bus_msg.specs.declared.entry.By.TheVariants.{Cluster, Bus}
 use Rattle.bus_msg.specs.declared.entry.Entry.{Entry}
-use Rattle.bus_msg.specs.Places.{Places, lives_in}
+use Rattle.bus_msg.specs.Places.{Places, lives_in, never_lost}
 use Rattle.bus_msg.specs.PlacedAfter.{what}
 use Rattle.cert_sched.specs.Schedule.{placement}
 use Rattle.cert_sched.specs.Rules.{is_by_right}
@@ -23,6 +23,7 @@ use Rattle.cert_sched.specs.Legal.{IsLegalBy}
 use Rattle.cert_sched.specs.Built.{BuiltMayFollow, is_built}
 use Rattle.cert_sched.proofs.LogLaws.{IsLegal-snoc}
 use Rattle.cert_sched.proofs.Induction.{legal_induction}
+use Rattle.cert_sched.proofs.ServerLaws.{first_server, servers_live}
 use Rattle.bus_order.specs.Script.{off_at, place_of_loss, turns}
 use Rattle.bus_order.proofs.Keeping.{none_legal}
 use Rattle.bus_order.proofs.LogParts.{take_one}
@@ -191,23 +192,23 @@ off_is_its_loss system log k at legal =
 -- ---- what a cluster sends
 
 -- only a cluster that lives sends
-sends_living : (places : Places) (k : ClusterNo) (w : What) → is_built w ≡ true → is_by_right places (Cluster k) w ≡ true → lives_in places k ≡ true
-sends_living places k (Mail at letter) built right = (and_parts (lives_in places k) _ right).0
-sends_living places k (Birth parent at child end) built right = absurd (true≢false (sym built))
-sends_living places k (Exit pid at end) built right = (and_parts (lives_in places k) _ right).0
-sends_living places k (Page pid at index bytes) built right = absurd (true≢false (sym built))
-sends_living places k (Sync pid small read took) built right = absurd (true≢false (sym built))
-sends_living places k (Fetch pid index) built right = absurd (true≢false (sym built))
-sends_living places k (PageIs pid index bytes) built right = absurd (true≢false (sym built))
-sends_living places k (Crash j cause) built right = absurd (true≢false (sym right))
-sends_living places k (Return j) built right = absurd (true≢false (sym built))
-sends_living places k (Rebackup to fresh recs) built right = absurd (true≢false (sym built))
-sends_living places k (Done rests) built right = absurd (true≢false (sym right))
-sends_living places k Stop built right = absurd (true≢false (sym right))
+sends_living : (places : Places) (k : ClusterNo) → (never_lost places k ≡ true → lives_in places k ≡ true) → (w : What) → is_built w ≡ true → is_by_right places (Cluster k) w ≡ true → lives_in places k ≡ true
+sends_living places k serves (Mail at letter) built right = (and_parts (lives_in places k) _ right).0
+sends_living places k serves (Birth parent at child end) built right = absurd (true≢false (sym built))
+sends_living places k serves (Exit pid at end) built right = (and_parts (lives_in places k) _ right).0
+sends_living places k serves (Page pid at index bytes) built right = absurd (true≢false (sym built))
+sends_living places k serves (Sync pid small read took) built right = absurd (true≢false (sym built))
+sends_living places k serves (Fetch pid index) built right = (and_parts (lives_in places k) _ right).0
+sends_living places k serves (PageIs pid index bytes) built right = serves (first_server places k right)
+sends_living places k serves (Crash j cause) built right = absurd (true≢false (sym right))
+sends_living places k serves (Return j) built right = absurd (true≢false (sym built))
+sends_living places k serves (Rebackup to fresh recs) built right = absurd (true≢false (sym built))
+sends_living places k serves (Done rests) built right = absurd (true≢false (sym right))
+sends_living places k serves Stop built right = absurd (true≢false (sym right))
 
-sender_lives : (places : Places) (by : By) (k : ClusterNo) (w : What) → is_built w ≡ true → is_by_right places by w ≡ true → is_from k by ≡ true → lives_in places k ≡ true
-sender_lives places (Cluster j) k w built right from = subst (λ c. lives_in places c ≡ true) (λ i. record { 0 = eqb-true j.0 k.0 from i }) (sends_living places j w built right)
-sender_lives places Bus k w built right from = absurd (true≢false (sym from))
+sender_lives : (places : Places) → ((k : ClusterNo) → never_lost places k ≡ true → lives_in places k ≡ true) → (by : By) (k : ClusterNo) (w : What) → is_built w ≡ true → is_by_right places by w ≡ true → is_from k by ≡ true → lives_in places k ≡ true
+sender_lives places serve (Cluster j) k w built right from = subst (λ c. lives_in places c ≡ true) (λ i. record { 0 = eqb-true j.0 k.0 from i }) (sends_living places j (serve j) w built right)
+sender_lives places serve Bus k w built right from = absurd (true≢false (sym from))
 
 -- so one that was lost sends no further entry
 lost_sends_not : (system : System) (log : List Entry) (e : Entry) (k : ClusterNo) → IsLegalBy BuiltMayFollow system log → BuiltMayFollow system log e → was_lost_in log k ≡ true → is_by_cluster k e ≡ false
@@ -215,7 +216,7 @@ lost_sends_not system log e k legal may lost = by_test (is_by_cluster k e) refl
   where
     by_test : (b : Bool) → is_by_cluster k e ≡ b → is_by_cluster k e ≡ false
     by_test true from =
-        let lives = sender_lives (placement system log) (e.post).by k (what e) may.built (may.stands).by_right from in
+        let lives = sender_lives (placement system log) (λ k. servers_live system log k legal) (e.post).by k (what e) may.built (may.stands).by_right from in
         absurd (true≢false (sym lost ∙ not_off_not_lost system log k legal (living_not_off system log k legal lives)))
     by_test false other = other
 

@@ -53,8 +53,8 @@ settled_more places log Stop built = omega arith
 settled_more places log (Birth parent at child end) built = absurd (true≢false (sym built))
 settled_more places log (Page q at index bytes) built = absurd (true≢false (sym built))
 settled_more places log (Sync q small read took) built = absurd (true≢false (sym built))
-settled_more places log (Fetch q index) built = absurd (true≢false (sym built))
-settled_more places log (PageIs q index bytes) built = absurd (true≢false (sym built))
+settled_more places log (Fetch q index) built = omega arith
+settled_more places log (PageIs q index bytes) built = omega arith
 settled_more places log (Return k) built = absurd (true≢false (sym built))
 settled_more places log (Rebackup to fresh recs) built = absurd (true≢false (sym built))
 
