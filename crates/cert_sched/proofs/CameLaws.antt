@@ -34,7 +34,7 @@ use Rattle.cert_sched.specs.Steps.{silent_upto, emission_at, after_items}
 use Rattle.cert_sched.specs.Kinds.{KindHolds, DoneHolds, SyncHolds, FreshHolds, is_silent_rest, after_take}
 use Rattle.cert_sched.specs.Legal.{Stands}
 use Rattle.cert_sched.proofs.ListLaws.{list_all-weaker}
-use Rattle.cert_sched.proofs.LogLaws.{plain_after-snoc}
+use Rattle.cert_sched.proofs.LogLaws.{plain_after-snoc, process_after-quiet}
 use Rattle.cert_sched.proofs.RisingLaws.{NoTwo, rising-apart}
 use Rattle.cert_sched.proofs.PidLaws.{placed_pids, apart_fewer}
 use Rattle.cert_sched.proofs.RunsLaws.{rest_pids, led, led-silent_upto, after_runs, runs_made}

@@ -5,12 +5,12 @@ use Rattle.std.proofs.lemmas.List.Sums.{fold-append}
 use Rattle.t32_base.specs.declared.process.Pid.{Pid}
 use Rattle.sys_text.specs.declared.system.System.{System}
 use Rattle.plain_kernel.specs.declared.item.Item.{Item}
-use Rattle.plain_kernel.specs.Kernel.{Kernel, boot}
+use Rattle.plain_kernel.specs.Kernel.{Kernel, boot, process_at}
 use Rattle.plain_kernel.specs.Apply.{apply, apply_all, plain_run}
 use Rattle.bus_msg.specs.declared.entry.Entry.{Entry}
 use Rattle.bus_msg.specs.Places.{Places}
 use Rattle.bus_msg.specs.PlacedAfter.{what, placed_after}
-use Rattle.cert_sched.specs.Schedule.{after_entry, plain_after, items_in, items_of, schedule_from, schedule_of, placement, places_at_boot}
+use Rattle.cert_sched.specs.Schedule.{after_entry, plain_after, process_after, items_in, items_of, schedule_from, schedule_of, placement, places_at_boot}
 use Rattle.cert_sched.specs.Told.{Told, told, told_from}
 use Rattle.cert_sched.specs.Account.{account_step, account_after, account_at_boot}
 use Rattle.cert_sched.specs.Legal.{IsLegalBy, IsLegalFrom}

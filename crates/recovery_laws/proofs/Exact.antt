@@ -11,7 +11,7 @@ use Rattle.proc_state.specs.State.{ProcState, has_ended}
 use Rattle.sys_calls.specs.declared.steps.Emission.TheVariants.{Mail as Sent, Exit as Ended}
 use Rattle.sys_calls.proofs.Counting.{last_sent, exit_ends}
 use Rattle.sys_calls.proofs.RunLemma.{all_delivered}
-use Rattle.plain_kernel.specs.Kernel.{process_at}
+use Rattle.plain_kernel.specs.Kernel.{Kernel, process_at}
 use Rattle.plain_kernel.proofs.Entries.{some_same}
 use Rattle.bus_msg.specs.declared.entry.What.{What}
 use Rattle.bus_msg.specs.declared.entry.What.TheVariants.{Mail, Birth, Exit, Page, Sync, Fetch, PageIs, Crash, Return, Rebackup, Done, Stop}
@@ -20,14 +20,14 @@ use Rattle.bus_msg.specs.declared.entry.Entry.{Entry}
 use Rattle.bus_msg.specs.Places.{same_pid}
 use Rattle.bus_msg.specs.PlacedAfter.{what}
 use Rattle.roll_forward.specs.Deeds.{Deed, Sends}
-use Rattle.cert_sched.specs.Schedule.{done, plain_after, process_after, placement}
+use Rattle.cert_sched.specs.Schedule.{done, items_of, plain_after, process_after, placement}
 use Rattle.cert_sched.specs.Deeds.{start_of, since, deeds_in, letter_for}
 use Rattle.cert_sched.specs.Kinds.{KindHolds}
 use Rattle.cert_sched.specs.Rules.{is_over, ends_run}
 use Rattle.cert_sched.specs.Rolling.{refilled}
 use Rattle.cert_sched.specs.Legal.{IsLegalBy}
 use Rattle.cert_sched.specs.Simulation.{IsUnended}
-use Rattle.cert_sched.proofs.LogLaws.{IsLegal-snoc}
+use Rattle.cert_sched.proofs.LogLaws.{IsLegal-snoc, process_after-quiet}
 use Rattle.cert_sched.proofs.RecordLaws.{since-snoc}
 use Rattle.cert_sched.proofs.Induction.{legal_induction, is_over-snoc}
 use Rattle.cert_sched.proofs.StepLaws.{is_sent, sent_from}
