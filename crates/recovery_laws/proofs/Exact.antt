@@ -147,7 +147,7 @@ module _ (system : System) (log : List Entry) (e : Entry) where
     made = 0;
     to = now;
     sharp = (no_deed, refl);
-    arrives = ap (all_delivered now) no_letter;
+    arrives = sym (ap (all_delivered now) no_letter);
   }
 
   did : (w : What) → what e ≡ w → is_plain w ≡ true → KindHolds system log e w → ends_run (placement system log) w ≡ false → (p : Pid) → Here w p
