@@ -1,6 +1,6 @@
 -- A page server that takes in an entry as `Makes` says keeps the accounts and the fetches of the log with it.
 use Rattle.std.proofs.Common.{◌≡◌, ℕ, Bool, true, false, ◌&&◌, ◌||◌, not, cond, eqb, List, [], ◌∷◌, ◌++◌, refl, sym, ◌∙◌, ap, subst, append-nil, arith, Option, Some, None}
-use Rattle.std.specs.Prelude.{filter}
+use Rattle.std.specs.Prelude.{filter, OnOk, Result, Ok, Err}
 use Rattle.std.specs.List.{list_any}
 use Rattle.std.specs.FinMap.{put}
 use Rattle.std.specs.Option.{option_map_or, option_to_list}
@@ -19,6 +19,7 @@ use Rattle.cert_sched.specs.Account.{Account, no_pages, committed, reverted, acc
 use Rattle.cert_sched.specs.Deeds.{is_cut}
 use Rattle.cert_sched.specs.Moved.{fetched, is_page_is, waiting_fetches}
 use Rattle.cert_sched.proofs.LogLaws.{account_after-snoc}
+use Rattle.page_server.specs.declared.disk.DiskRefused.{DiskRefused}
 use Rattle.page_server.specs.Account.{PagerState, account, Changes, SameAccounts, with_page}
 use Rattle.page_accounts.specs.Keeps.{KeepsAccounts, SamePages}
 use Rattle.page_accounts.specs.Noting.{Makes}
@@ -34,7 +35,7 @@ account_next places w p a =
     cond (is_exit_of p w) no_pages (cond (is_cut p w) (committed a) (cond (moved_by places w p) (reverted a) (record { now = page_put p w a.now; kept = a.kept })))
 
 abbrev pub goes_on : Places → What → Pid × ℕ → Bool
-goes_on places w f = not (is_page_is f.0 f.1 w || (is_exit_of f.0 w || moved_by places w f.0))
+goes_on places w f = not (is_page_is f.0 f.1 w || is_exit_of f.0 w || moved_by places w f.0)
 
 abbrev pub fetches_next : Places → What → List (Pid × ℕ) → List (Pid × ℕ)
 fetches_next places w waits = filter (goes_on places w) waits ++ option_to_list (fetched w)
@@ -111,7 +112,7 @@ answer_comes : (places : Places) (pid : Pid) (index : ℕ) (bytes : List ℕ) (o
 answer_comes places pid index bytes old new accounts fetches = record {
   accounts = λ p. accounts p;
   fetches =
-      fetches ∙ (λ i. filter (λ (f : Pid × ℕ). not (((λ j. turned (f.0).0 pid.0 j && turned f.1 index j) ∙ sym (or_false (eqb pid.0 (f.0).0 && eqb index f.1))) i)) old.fetches) ∙ sym (append-nil _);
+      fetches ∙ (λ i. filter (λ (f : Pid × ℕ). not (((λ j. turned (f.0).0 pid.0 j && turned f.1 index j) ∙ sym (or_false (eqb pid.0 (f.0).0 && eqb index f.1)) ∙ sym (or_false ((eqb pid.0 (f.0).0 && eqb index f.1) || false))) i)) old.fetches) ∙ sym (append-nil _);
 }
 
 -- the whole table
@@ -141,3 +142,8 @@ makes_follows places Stop old new m = nothing_changes places Stop old new (λ p 
 
 pub makes_keeps : (system : System) (log : List Entry) (places : Places) (e : Entry) (old new : PagerState) → placement system log ≡ places → Makes places (what e) old new → KeepsAccounts system log old → KeepsAccounts system (log ++ e ∷ []) new
 makes_keeps system log places e old new is makes keeps = follows_keeps system log e old new (makes_follows (placement system log) (what e) old new (subst (λ ps. Makes ps (what e) old new) (sym is) makes)) keeps
+
+pub ok_keeps : (result : Result (Unit {0}) DiskRefused) (places : Places) (e : Entry) (old new : PagerState) → OnOk result (Makes places (what e) old new)
+    → OnOk result ((system : System) (log : List Entry) → placement system log ≡ places → KeepsAccounts system log old → KeepsAccounts system (log ++ e ∷ []) new)
+ok_keeps (Ok done) places e old new makes = λ system log is keeps. makes_keeps system log places e old new is makes keeps
+ok_keeps (Err refused) places e old new makes = tt

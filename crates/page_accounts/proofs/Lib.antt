@@ -1,5 +1,6 @@
 pub mod Counts
 pub mod Pages
+pub mod Putting
 pub mod Waits
 pub mod Followed
 pub mod Reverting

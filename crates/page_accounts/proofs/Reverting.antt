@@ -1,9 +1,12 @@
 -- The processes that a crash moves go back to their last cut, one after another.
-use Rattle.std.proofs.Common.{◌≡◌, ℕ, Bool, true, false, ◌&&◌, ◌||◌, not, cond, eqb, List, [], ◌∷◌, ◌++◌, refl, sym, ◌∙◌, ap, arith}
+use Rattle.std.proofs.Common.{◌≡◌, ℕ, Bool, true, false, ◌&&◌, ◌||◌, not, cond, eqb, ◌+◌, ◌<◌, List, [], ◌∷◌, ◌++◌, length, take, get_or, refl, sym, ◌∙◌, ap, subst, arith, Option, Some, None, slice_get}
 use Rattle.std.specs.Prelude.{filter}
 use Rattle.std.specs.List.{list_any}
 use Rattle.std.proofs.lemmas.Bool.Decides.{nat_tests}
+use Rattle.std.proofs.lemmas.List.{take_more}
 use Rattle.std.proofs.lemmas.List.Folds.{list_any-append}
+use Rattle.std.proofs.lemmas.Option.{slice_get-get_or}
+use Rattle.plain_kernel.proofs.Entries.{some_same}
 use Rattle.t32_base.specs.declared.process.Pid.{Pid}
 use Rattle.t32_base.specs.declared.process.ClusterNo.{ClusterNo}
 use Rattle.bus_msg.specs.declared.placed.Placed.{Placed}
@@ -83,3 +86,15 @@ reverts_not q k x stays = record {
   fetches = sym (kept_all x.fetches) ∙ (λ i. filter (λ (f : Pid × ℕ). not (sym (never (same_pid q.pid f.0) (is_moved_by k q) stays) i)) x.fetches);
   counts = refl;
 }
+
+-- ---- the process at a place
+
+pub reverts_next : (placed : List Placed) (k : ClusterNo) (i : ℕ) (q : Placed) (x y z : PagerState) → i < length placed → Some q ≡ slice_get placed i → Reverts (take i placed) k x y → Reverts (q ∷ []) k y z → Reverts (take (i + 1) placed) k x z
+reverts_next placed k i q x y z within at before one =
+    let same : q ≡ get_or placed i q = some_same q (get_or placed i q) (at ∙ slice_get-get_or placed i q within) in
+    subst (λ qs. Reverts qs k x z) (sym (take_more placed i q within ∙ ap (λ r. take i placed ++ r ∷ []) (sym same))) (reverts_more (take i placed) (q ∷ []) k x y z before one)
+
+-- a place of the list has a process
+pub none_beyond : (placed : List Placed) (i : ℕ) → i < length placed → None ≡ slice_get placed i → ⊥
+none_beyond [] i within at = omega (arith, within)
+none_beyond (q ∷ placed) i within at = let there = at ∙ slice_get-get_or (q ∷ placed) i q within in cc

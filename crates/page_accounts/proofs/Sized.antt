@@ -41,12 +41,12 @@ use Rattle.sys_calls.specs.Next.{next_step, step_by, live_step, after_exec, clos
 
 -- ---- bytes put into a memory leave its length
 
-nothing_put : (xs : List ℕ) (addr : ℕ) → length (with_bytes xs addr []) ≡ length xs
-nothing_put xs addr =
-    omega (arith, length-append (take (addr - 65536) xs) (drop (addr - 65536 + 0) xs), length-take (addr - 65536) xs, length-drop (addr - 65536 + 0) xs)
+nothing_put : (xs : List ℕ) (addr : ℕ) (new : List ℕ) → length new ≡ 0 → length (with_bytes xs addr new) ≡ length xs
+nothing_put xs addr new none =
+    omega (arith, none, length-append (take (addr - 65536) xs ++ new) (drop (addr - 65536 + length new) xs), length-append (take (addr - 65536) xs) new, length-take (addr - 65536) xs, length-drop (addr - 65536 + length new) xs)
 
 put_length : (xs : List ℕ) (addr : ℕ) (new : List ℕ) → is_inside xs addr (length new) ≡ true → length (with_bytes xs addr new) ≡ length xs
-put_length xs addr [] inside = nothing_put xs addr
+put_length xs addr [] inside = nothing_put xs addr [] refl
 put_length xs addr (b ∷ new) inside =
     let bounds = inside_bounds xs addr (length (b ∷ new)) (omega arith) inside in
     length-with_bytes xs addr (b ∷ new) (omega (arith, bounds.0, bounds.1))

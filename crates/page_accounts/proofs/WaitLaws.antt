@@ -129,7 +129,7 @@ record Awaits (system : System) (log : List Entry) (f : Pid × ℕ) : Type 0 whe
   pub stated : has_state system log f.0 ≡ true
   pub within : f.1 < size_of system f.0
 
-no_exit : (a b c : Bool) → not (a || (b || c)) ≡ true → b ≡ false
+no_exit : (a b c : Bool) → not (a || b || c) ≡ true → b ≡ false
 no_exit true b c is = absurd (true≢false (sym is))
 no_exit false true c is = absurd (true≢false (sym is))
 no_exit false false c is = refl
@@ -224,14 +224,15 @@ all_await system log valid legal = (legal_induction Stands system (Both system) 
 
 own_page : (i n : ℕ) (bytes : List ℕ) (k : ℕ) → i ≤ k → k < i + n → is_some (page_in (pages_from i n bytes) k) ≡ true
 own_page i zero bytes k above below = absurd (omega (arith, above, below))
-own_page i (suc n) bytes k above below = by_test (is_eq (nat_cmp k i)) refl
+own_page i (suc n) bytes k above below = by_test (is_eq (nat_cmp k i)) refl (own_page (i + 1) n (drop 256 bytes) k)
   where
     later : (k i : ℕ) → i ≤ k → is_eq (nat_cmp k i) ≡ false → i + 1 ≤ k
     later k i above other = grind (arith, nat_tests)
 
-    by_test : (b : Bool) → is_eq (nat_cmp k i) ≡ b → is_some (cond b (Some (take 256 bytes)) (page_in (pages_from (i + 1) n (drop 256 bytes)) k)) ≡ true
-    by_test true here = refl
-    by_test false other = own_page (i + 1) n (drop 256 bytes) k (later k i above other) (omega (arith, below))
+    by_test : (b : Bool) → is_eq (nat_cmp k i) ≡ b → (i + 1 ≤ k → k < i + 1 + n → is_some (page_in (pages_from (i + 1) n (drop 256 bytes)) k) ≡ true)
+        → is_some (cond b (Some (take 256 bytes)) (page_in (pages_from (i + 1) n (drop 256 bytes)) k)) ≡ true
+    by_test true here more = refl
+    by_test false other more = more (later k i above other) (omega (arith, below))
 
 -- ---- the whole
 

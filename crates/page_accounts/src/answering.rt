@@ -18,7 +18,7 @@ pub struct Answer {
 /// The answer to the earliest fetch that waits, by one call of the disk: the page that the committed account of its
 /// process has. None where no fetch waits, with no call. The fetch waits on until the entry with its page is
 /// noted. No account and no fetch changes, also after a fault. Takes no memory.
-pub fn answer<D: PageDisk>(pager: &mut Pager<D>) -> Result<Option<Answer>, DiskFault>
+pub fn next_answer<D: PageDisk>(pager: &mut Pager<D>) -> Result<Option<Answer>, DiskFault>
     requires { IfSome (earliest pager.old) (IsKept pager.old) }
     ensures answers { Answers pager.old (earliest pager.old) result }
     ensures holds { IfOk result (HoldsNext pager.old) }

@@ -7,7 +7,7 @@ use bus_msg::entry::{By, Cause, Dests, Entry, Post, What};
 use bus_msg::shared::Shared;
 use cert_sched::start::placement_at_boot;
 use channel_table::placement::Placement;
-use page_accounts::answering::answer;
+use page_accounts::answering::next_answer;
 use page_accounts::booting::put_roots;
 use page_accounts::noting::note;
 use page_server::disk::PageDisk;
@@ -63,7 +63,7 @@ impl Booted {
         if !can_answer(&self.pager) {
             return Err("the page that is asked for is not there".into());
         }
-        match answer(&mut self.pager)? {
+        match next_answer(&mut self.pager)? {
             Some(answer) => Ok(Some(answer.bytes[0])),
             None => Ok(None),
         }
