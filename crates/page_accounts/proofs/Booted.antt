@@ -12,7 +12,7 @@ use Rattle.std.proofs.lemmas.Bool.Decides.{nat_tests}
 use Rattle.t32_base.specs.declared.process.Pid.{Pid}
 use Rattle.sys_text.specs.declared.system.System.{System}
 use Rattle.proc_state.specs.declared.process.Process.{Process}
-use Rattle.proc_state.specs.State.{ProcState, state_of}
+use Rattle.proc_state.specs.State.{state_of}
 use Rattle.plain_kernel.specs.Kernel.{Kernel, boot, pid_cmp, process_at}
 use Rattle.plain_kernel.specs.Maps.{at_key, booted_ttys, linked_processes, pid_of}
 use Rattle.plain_kernel.specs.Maps.{processes_of as states_of}

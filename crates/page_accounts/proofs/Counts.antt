@@ -1,10 +1,9 @@
 -- What the disk counts after one put more.
-use Rattle.std.proofs.Common.{◌≡◌, ℕ, ◌+◌, ◌-◌, ◌^◌, ◌≤◌, refl, sym, ◌∙◌, ap, arith, Result, Ok, Err}
+use Rattle.std.proofs.Common.{ℕ, ◌+◌, ◌-◌, ◌^◌, ◌≤◌, refl, ◌∙◌, arith, Result, Ok, Err}
 use Rattle.std.specs.Prelude.{min}
 use Rattle.page_server.specs.declared.disk.DiskRefused.{DiskRefused}
 use Rattle.page_server.specs.declared.disk.DiskRefused.TheVariants.{Fault, NoMemory}
-use Rattle.page_server.specs.Disk.{Counts, CountsAfterPut, Failed}
-use Rattle.cert_sched.specs.Losses.{capped}
+use Rattle.page_server.specs.Disk.{Counts, CountsAfterPut}
 use Rattle.page_accounts.specs.Booting.{CallsMade, CountsAfterPuts, FailedAmong}
 
 -- ---- capped counts, with any cap

@@ -1,7 +1,6 @@
 -- A page server that takes in an entry as `Makes` says keeps the accounts and the fetches of the log with it.
-use Rattle.std.proofs.Common.{◌≡◌, ℕ, Bool, true, false, ◌&&◌, ◌||◌, not, cond, eqb, List, [], ◌∷◌, ◌++◌, refl, sym, ◌∙◌, ap, subst, append-nil, arith, Option, Some, None}
+use Rattle.std.proofs.Common.{◌≡◌, ℕ, Bool, true, false, ◌&&◌, ◌||◌, not, cond, eqb, List, [], ◌∷◌, ◌++◌, refl, sym, ◌∙◌, ap, subst, append-nil, arith, None}
 use Rattle.std.specs.Prelude.{filter, OnOk, Result, Ok, Err}
-use Rattle.std.specs.List.{list_any}
 use Rattle.std.specs.FinMap.{put}
 use Rattle.std.specs.Option.{option_map_or, option_to_list}
 use Rattle.std.specs.Ordering.{nat_cmp}
@@ -15,9 +14,9 @@ use Rattle.bus_msg.specs.Places.{Places, same_pid}
 use Rattle.bus_msg.specs.PlacedAfter.{what}
 use Rattle.cert_sched.specs.Schedule.{placement}
 use Rattle.cert_sched.specs.Told.{cluster_lost, is_moved}
-use Rattle.cert_sched.specs.Account.{Account, no_pages, committed, reverted, account_after, is_exit_of, page_put}
+use Rattle.cert_sched.specs.Account.{Account, no_pages, committed, reverted, is_exit_of, page_put}
 use Rattle.cert_sched.specs.Deeds.{is_cut}
-use Rattle.cert_sched.specs.Moved.{fetched, is_page_is, waiting_fetches}
+use Rattle.cert_sched.specs.Moved.{fetched, is_page_is}
 use Rattle.cert_sched.proofs.LogLaws.{account_after-snoc}
 use Rattle.page_server.specs.declared.disk.DiskRefused.{DiskRefused}
 use Rattle.page_server.specs.Account.{PagerState, account, Changes, SameAccounts, with_page}

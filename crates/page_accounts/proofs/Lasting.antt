@@ -1,5 +1,5 @@
 -- After each log a process has as much memory as it had at boot.
-use Rattle.std.proofs.Common.{◌≡◌, ℕ, ◌*◌, Bool, true, false, cond, List, [], ◌∷◌, ◌++◌, length, Option, Some, None, refl, sym, ap, subst, ◌∙◌}
+use Rattle.std.proofs.Common.{◌≡◌, ℕ, ◌*◌, Bool, true, false, cond, List, length, Option, Some, None, refl, sym, ap, subst, ◌∙◌}
 use Rattle.std.specs.Prelude.{option_and_then}
 use Rattle.std.specs.Option.{option_map_or}
 use Rattle.std.specs.declared.cmp.Ordering.{Ordering}

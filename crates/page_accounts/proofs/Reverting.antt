@@ -1,7 +1,6 @@
 -- The processes that a crash moves go back to their last cut, one after another.
-use Rattle.std.proofs.Common.{◌≡◌, ℕ, Bool, true, false, ◌&&◌, ◌||◌, not, cond, eqb, ◌+◌, ◌<◌, List, [], ◌∷◌, ◌++◌, length, take, get_or, refl, sym, ◌∙◌, ap, subst, arith, Option, Some, None, slice_get}
+use Rattle.std.proofs.Common.{◌≡◌, ℕ, Bool, true, false, ◌&&◌, ◌||◌, not, cond, eqb, ◌+◌, ◌<◌, List, [], ◌∷◌, ◌++◌, length, take, get_or, refl, sym, ◌∙◌, ap, subst, arith, Some, None, slice_get}
 use Rattle.std.specs.Prelude.{filter}
-use Rattle.std.specs.List.{list_any}
 use Rattle.std.proofs.lemmas.Bool.Decides.{nat_tests}
 use Rattle.std.proofs.lemmas.List.{take_more}
 use Rattle.std.proofs.lemmas.List.Folds.{list_any-append}
@@ -12,7 +11,7 @@ use Rattle.t32_base.specs.declared.process.ClusterNo.{ClusterNo}
 use Rattle.bus_msg.specs.declared.placed.Placed.{Placed}
 use Rattle.bus_msg.specs.Places.{is_moved_by, same_pid}
 use Rattle.cert_sched.specs.Account.{Account, reverted}
-use Rattle.page_server.specs.Account.{PagerState, account, Changes, fetches_without, SameAccounts}
+use Rattle.page_server.specs.Account.{PagerState, account, Changes, fetches_without}
 use Rattle.page_accounts.specs.Noting.{Reverts, is_moved_among}
 
 kept_all : (fs : List (Pid × ℕ)) → filter (λ (f : Pid × ℕ). true) fs ≡ fs

@@ -1,20 +1,13 @@
 -- No step changes how much memory a process has.
-use Rattle.std.proofs.Common.{◌≡◌, ℕ, ◌+◌, ◌-◌, ◌*◌, ◌%◌, ◌<◌, ◌≤◌, ◌⊎◌, inl, inr, Bool, true, false, ◌||◌, cond, not, ltb, eqb, List, [], ◌∷◌, ◌++◌, length, take, drop, Option, Some, None, refl, sym, ap, subst, ◌∙◌, arith, length-append, length-take, length-drop, true≢false}
-use Rattle.std.specs.Prelude.{option_and_then, option_map}
+use Rattle.std.proofs.Common.{◌≡◌, ℕ, ◌+◌, ◌-◌, ◌%◌, ◌≤◌, Bool, true, false, ◌||◌, cond, not, ltb, eqb, List, [], ◌∷◌, ◌++◌, length, take, drop, Option, Some, None, refl, ap, ◌∙◌, arith, length-append, length-take, length-drop}
 use Rattle.std.specs.List.{list_any}
-use Rattle.std.specs.Option.{option_map_or}
-use Rattle.std.specs.declared.cmp.Ordering.{Ordering}
-use Rattle.std.specs.declared.cmp.Ordering.TheVariants.{Less, Equal, Greater}
-use Rattle.std.specs.Ordering.{is_eq}
 use Rattle.t32_base.specs.Registers.{Registers}
-use Rattle.t32_base.specs.declared.process.Pid.{Pid}
 use Rattle.t32_base.specs.declared.process.End.{End}
 use Rattle.t32_base.specs.declared.process.Status.{Status}
 use Rattle.t32_base.specs.declared.process.Status.TheVariants.{Live, Closing, Ended}
 use Rattle.t32_base.specs.declared.letter.Arrived.{Arrived}
 use Rattle.t32_base.specs.declared.letter.Body.{Body}
 use Rattle.t32_base.specs.declared.letter.Body.TheVariants.{Said, EndOf, Signal}
-use Rattle.t32_base.specs.declared.letter.Letter.{Letter}
 use Rattle.t32_base.specs.declared.letter.To.{To}
 use Rattle.t32_base.specs.declared.letter.To.TheVariants.{Proc, Tty}
 use Rattle.byteorder.specs.Endian.{little_bytes}
@@ -28,10 +21,9 @@ use Rattle.rv_insn.specs.declared.Insn.TheVariants.{Jal, Jalr, Beq, Bne, Blt, Bg
 use Rattle.rv_insn.specs.Table.{decoded}
 use Rattle.rv_cpu.specs.Exec.{Executed, Steps, Calls, Traps, branches, bytes_after, exec, exec_decoded, exec_fetched, executed, fetched, loads, onward, plus, reg, set_reg, to_target, unless_refused, widened, word}
 use Rattle.proc_state.specs.Ends.{is_open_at, is_unfinished, is_unfinished_at, leads_at}
-use Rattle.proc_state.specs.State.{ProcState, delivered, has_ended, with_small}
+use Rattle.proc_state.specs.State.{ProcState, with_small}
 use Rattle.sys_calls.specs.Small.{spent, lowest_linked}
-use Rattle.sys_calls.specs.declared.steps.Emission.{Emission}
-use Rattle.sys_calls.specs.declared.steps.Emission.TheVariants.{Mail, Exit}
+use Rattle.sys_calls.specs.declared.steps.Emission.TheVariants.{Mail}
 use Rattle.sys_calls.specs.declared.reading.Reading.{Reading}
 use Rattle.sys_calls.specs.declared.reading.Reading.TheVariants.{Refused, AtEnd, Wants}
 use Rattle.sys_calls.specs.declared.reading.Wanted.{Wanted}

@@ -1,6 +1,6 @@
 -- In a legal log each fetch that waits is of a page that the committed account has.
-use Rattle.std.proofs.Common.{◌≡◌, ℕ, zero, suc, ◌+◌, ◌*◌, ◌<◌, ◌≤◌, Bool, true, false, not, ◌&&◌, ◌||◌, cond, eqb, List, [], ◌∷◌, ◌++◌, length, map, take, drop, refl, sym, ◌∙◌, ap, subst, arith, Option, Some, None, is_some, true≢false, ◌⊎◌, inl, inr}
-use Rattle.std.specs.Prelude.{◌/◌, IfSome, filter, option_and_then, option_map, slice_get}
+use Rattle.std.proofs.Common.{◌≡◌, ℕ, zero, suc, ◌+◌, ◌<◌, ◌≤◌, Bool, true, false, not, ◌&&◌, ◌||◌, cond, eqb, List, [], ◌∷◌, ◌++◌, length, map, take, drop, refl, sym, ◌∙◌, ap, subst, arith, Option, Some, None, is_some, true≢false}
+use Rattle.std.specs.Prelude.{◌/◌, IfSome, filter, option_map, slice_get}
 use Rattle.std.specs.List.{list_any, AllByRecursion}
 use Rattle.std.specs.Option.{option_map_or, option_to_list}
 use Rattle.std.specs.Ordering.{nat_cmp, is_eq}
@@ -8,10 +8,9 @@ use Rattle.std.proofs.lemmas.Bool.Decides.{nat_tests}
 use Rattle.std.proofs.lemmas.Bool.{and_parts}
 use Rattle.std.proofs.lemmas.List.Folds.{list_any-append}
 use Rattle.t32_base.specs.declared.process.Pid.{Pid}
-use Rattle.t32_base.specs.declared.process.ClusterNo.{ClusterNo}
 use Rattle.sys_text.specs.declared.system.System.{System}
 use Rattle.sys_text.specs.Valid.{is_system}
-use Rattle.proc_state.specs.State.{ProcState, has_ended}
+use Rattle.proc_state.specs.State.{ProcState}
 use Rattle.bus_msg.specs.declared.entry.What.{What}
 use Rattle.bus_msg.specs.declared.entry.What.TheVariants.{Mail, Birth, Exit, Page, Sync, Fetch, PageIs, Crash, Return, Rebackup, Done, Stop}
 use Rattle.bus_msg.specs.declared.entry.By.{By}
@@ -21,12 +20,12 @@ use Rattle.bus_msg.specs.declared.placed.Placed.{Placed}
 use Rattle.bus_msg.specs.Places.{Places, same_pid, unended_at}
 use Rattle.bus_msg.specs.PlacedAfter.{what, placed_after, after_loss, after_rebackup, after_sync}
 use Rattle.cert_sched.specs.Parts.{last_that}
-use Rattle.cert_sched.specs.Schedule.{placement, plain_after, process_after}
+use Rattle.cert_sched.specs.Schedule.{placement, process_after}
 use Rattle.cert_sched.specs.Told.{Told, told, moves}
-use Rattle.cert_sched.specs.Deeds.{start_of, is_cut}
+use Rattle.cert_sched.specs.Deeds.{is_cut}
 use Rattle.cert_sched.specs.Record.{has_state}
-use Rattle.cert_sched.specs.Account.{Account, account_after, all_pages, is_exit_of, page_in, pages_from}
-use Rattle.cert_sched.specs.Moved.{ends_wait, fetched, is_page_is, moved_with_state, waiting_fetches}
+use Rattle.cert_sched.specs.Account.{Account, account_after, is_exit_of, page_in, pages_from}
+use Rattle.cert_sched.specs.Moved.{fetched, is_page_is, moved_with_state, waiting_fetches}
 use Rattle.cert_sched.specs.Steps.{page_count}
 use Rattle.cert_sched.specs.Rules.{home_at, is_by, is_by_right, is_living}
 use Rattle.cert_sched.specs.Kinds.{FetchHolds, KindHolds}
@@ -43,11 +42,11 @@ use Rattle.cert_sched.proofs.OpenLaws.{unended_open}
 use Rattle.cert_sched.proofs.RollLaws.{all_roll}
 use Rattle.cert_sched.proofs.PageLaws.{all_kept_pages}
 use Rattle.page_accounts.proofs.Lasting.{IsSized, size_of, sized_after}
-use Rattle.page_server.specs.Account.{PagerState, account}
+use Rattle.page_server.specs.Account.{PagerState}
 use Rattle.page_accounts.specs.Answering.{IsKept, earliest}
 use Rattle.page_accounts.specs.Keeps.{KeepsAccounts}
 use Rattle.page_accounts.proofs.Pages.{whole}
-use Rattle.page_accounts.proofs.Waits.{waiting_fetches-snoc, waits_on, waits_next}
+use Rattle.page_accounts.proofs.Waits.{waiting_fetches-snoc, waits_on}
 
 -- ---- a process that has not ended goes on
 

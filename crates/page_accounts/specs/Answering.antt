@@ -1,11 +1,11 @@
 -- The answer that a page server owes.
-use Rattle.std.specs.Prelude.{ℕ, ◌≡◌, List, slice_get, Option, Some, None, IsSome, IfSome, Result, Ok, Err}
+use Rattle.std.specs.Prelude.{ℕ, ◌≡◌, List, slice_get, Option, Some, None, IsSome, Result, Ok, Err}
 use Rattle.t32_base.specs.declared.process.Pid.{Pid}
 use Rattle.sys_text.specs.declared.system.System.{System}
 use Rattle.bus_msg.specs.declared.entry.Entry.{Entry}
 use Rattle.cert_sched.specs.Kinds.{PageIsHolds}
 use Rattle.page_server.specs.declared.disk.DiskFault.{DiskFault}
-use Rattle.page_server.specs.Disk.{Counts, CountsAfterGet, Passed, Failed}
+use Rattle.page_server.specs.Disk.{Counts, Passed, Failed}
 use Rattle.page_server.specs.Account.{PagerState, account, page_in}
 use Rattle.page_accounts.specs.declared.answering.Answer.{Answer}
 use Rattle.page_accounts.specs.Keeps.{KeepsAccounts}

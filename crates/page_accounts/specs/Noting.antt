@@ -1,9 +1,8 @@
 -- What an entry makes of the accounts and the fetches of a page server.
-use Rattle.std.specs.Prelude.{ℕ, ◌≡◌, ◌&&◌, ◌==◌, Bool, not, if◌then◌else◌, List, [], ◌∷◌, ◌++◌, filter, Result, Ok, Err, IfErr}
+use Rattle.std.specs.Prelude.{ℕ, ◌≡◌, ◌&&◌, Bool, not, if◌then◌else◌, List, [], ◌∷◌, ◌++◌, filter, Result, Ok, IfErr}
 use Rattle.std.specs.List.{list_any}
 use Rattle.t32_base.specs.declared.process.Pid.{Pid}
 use Rattle.t32_base.specs.declared.process.ClusterNo.{ClusterNo}
-use Rattle.t32_base.specs.declared.letter.BackRec.{BackRec}
 use Rattle.bus_msg.specs.declared.entry.What.{What}
 use Rattle.bus_msg.specs.declared.entry.What.TheVariants.{Mail, Birth, Exit, Page, Sync, Fetch, PageIs, Crash, Return, Rebackup, Done, Stop}
 use Rattle.bus_msg.specs.declared.placed.Placed.{Placed}
@@ -11,7 +10,7 @@ use Rattle.bus_msg.specs.Places.{Places, is_moved_by, same_pid}
 use Rattle.cert_sched.specs.Account.{Account, no_pages, committed, reverted}
 use Rattle.cert_sched.specs.Deeds.{is_first}
 use Rattle.page_server.specs.declared.disk.DiskRefused.{DiskRefused}
-use Rattle.page_server.specs.declared.disk.DiskRefused.TheVariants.{Fault, NoMemory}
+use Rattle.page_server.specs.declared.disk.DiskRefused.TheVariants.{NoMemory}
 use Rattle.page_server.specs.Disk.{Counts, CountsAfterPut}
 use Rattle.page_server.specs.Account.{PagerState, account, with_page, Changes, SameAccounts, fetches_but, fetches_without}
 use Rattle.page_accounts.specs.Keeps.{SamePages}

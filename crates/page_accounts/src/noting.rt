@@ -49,7 +49,10 @@ fn take_in<D: PageDisk>(
 {
     match what {
         What::Page {
-            pid, index, bytes, ..
+            pid,
+            index,
+            bytes,
+            ..
         } => pager.put_page(*pid, *index, bytes.get()),
         What::Fetch { pid, index } => ask(pager, *pid, *index),
         What::Sync { pid, .. } => {

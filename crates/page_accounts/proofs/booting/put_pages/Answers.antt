@@ -1,4 +1,4 @@
-use Rattle.std.proofs.Common.{◌≡◌, ◌∙◌, ap, subst, Ok}
+use Rattle.std.proofs.Common.{◌∙◌, subst, Ok}
 use Rattle.page_server.specs.Account.{Changes, with_page}
 use Rattle.page_accounts.proofs.Counts.{one_put, then_puts}
 use Rattle.page_accounts.proofs.Putting.{page_next}

@@ -1,5 +1,5 @@
 use Rattle.std.proofs.Common.{sym, ◌∙◌}
-use Rattle.page_accounts.proofs.Reverting.{reverts_not, reverts_one}
+use Rattle.page_accounts.proofs.Reverting.{reverts_not}
 use Rattle.page_accounts.proofs.noting.revert_if_moved.Goals as goal
 
 pub returns-else-is_moved : goal.returns-else-is_moved

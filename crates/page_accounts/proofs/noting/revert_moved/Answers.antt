@@ -1,4 +1,4 @@
-use Rattle.std.proofs.Common.{◌≡◌, ◌+◌, ◌<◌, ◌∙◌, sym, subst, length, take, arith}
+use Rattle.std.proofs.Common.{◌+◌, ◌<◌, ◌∙◌, sym, subst, length, take, arith}
 use Rattle.page_accounts.specs.Noting.{Reverts}
 use Rattle.page_accounts.proofs.Reverting.{none_beyond, reverts_next, reverts_none}
 use Rattle.page_accounts.proofs.noting.revert_moved.Goals as goal
