@@ -21,14 +21,14 @@ use Rattle.bus_msg.specs.declared.entry.Entry.{Entry}
 use Rattle.bus_msg.specs.Places.{same_cluster}
 use Rattle.bus_msg.specs.PlacedAfter.{what}
 use Rattle.crash_notice.specs.Splitting.{moves_here}
-use Rattle.cert_sched.specs.Built.{BuiltMayFollow, tells_or_closes}
+use Rattle.cert_sched.specs.Built.{BuiltMayFollow, is_built, tells_or_closes}
 use Rattle.cert_sched.specs.Losses.{is_crash_of}
 use Rattle.cert_sched.specs.Schedule.{placement}
 use Rattle.cert_sched.proofs.LogLaws.{IsLegal-last}
 use Rattle.cert_sched.proofs.MailLaws.{sent_no_signal}
 use Rattle.cert_sched.proofs.StepLaws.{Tells}
 use Rattle.backup_records.specs.Records.{are_rising, record_in, records_after}
-use Rattle.cluster_core.specs.View.{ClusterView, Held, Runs, Rolls}
+use Rattle.cluster_core.specs.View.{ClusterView, Held, Runs, Rolls, with_server}
 use Rattle.cluster_core.specs.Residents.{with_more}
 use Rattle.cluster_core.specs.Parts.{AllOwn, IsHeldOwn, IsOwn, posts_of}
 use Rattle.cluster_core.specs.Recovered.{CanRecover, moved_by, recovered, with_all_recovered, with_recovered}
@@ -38,6 +38,8 @@ use Rattle.cluster_core.proofs.ByKind.{IsLoss, OneOf, by_kind, by_page, is_of_pa
 use Rattle.cluster_core.proofs.Homes.{differ_built}
 use Rattle.cluster_core.proofs.Losing.{Moves, NextLoss, can_recover, follows_lost, moving}
 use Rattle.cluster_core.proofs.Paging.{follows_page}
+use Rattle.cluster_core.specs.Serving.{Serves}
+use Rattle.page_server.specs.Account.{PagerState}
 use Rattle.cluster_core.proofs.MovedRecords.{all_recorded}
 use Rattle.cluster_core.proofs.Moving.{begins_own}
 use Rattle.cluster_core.proofs.Turning.{built_no_birth}
@@ -69,25 +71,33 @@ other_lost c e l other = sym (ap (is_crash_of c.number) l.same) ∙ other
 -- ---- the whole
 
 -- a cluster that takes in an entry for which it is ready
-pub absorbs : (c : ClusterView) (e : Entry) (q : Option Post) → c.queue ≡ posts_of q → is_system c.system ≡ true → AllOwn c.cursor c.here → are_rising (moved_by c.places c.number (what e) (records_after (what e) c.records)) ≡ true → Absorbs e c (absorbed c e)
-absorbs c e q queue_is valid own order log now later ready = by_loss (one_of c.system log e later)
+pub absorbs : (c : ClusterView) (e : Entry) (q : Option Post) (server : Option PagerState) → c.queue ≡ posts_of q → is_system c.system ≡ true → AllOwn c.cursor c.here → are_rising (moved_by c.places c.number (what e) (records_after (what e) c.records)) ≡ true
+    → Serves c.places e c.server server → Absorbs e c (with_server server (absorbed c e))
+absorbs c e q server queue_is valid own order serves log now later ready = by_loss (one_of c.system log e later)
   where
-    by_case : (tells : tells_or_closes (what e) ≡ true) → (n : Next c.system log e) → IsReady log e c → FollowsBuilt c.system (log ++ e ∷ []) (absorbed c e)
-    by_case tells n (inl f) = subst (FollowsBuilt c.system (log ++ e ∷ [])) (sym (told_taken c e tells)) (follows_foreign c log e n q queue_is valid (differ_built c.system log valid n.legal) own f.0 f.1)
-    by_case tells n (inr s) = subst (FollowsBuilt c.system (log ++ e ∷ [])) (sym (told_taken c e tells)) (follows_own c log e n (left_of c log e (n.may).built s.1 s.0) s.1 valid (differ_built c.system log valid n.legal) own)
+    serves_there : c.places ≡ placement c.system log → Serves (placement c.system log) e c.server server
+    serves_there same = subst (λ before. Serves before e c.server server) same serves
 
-    lost : (l : IsLoss (what e)) → IsReady log e c → FollowsBuilt c.system (log ++ e ∷ []) (absorbed c e)
+    by_case : (tells : tells_or_closes (what e) ≡ true) → (n : Next c.system log e) → IsReady log e c → FollowsBuilt c.system (log ++ e ∷ []) (with_server server (absorbed c e))
+    by_case tells n (inl f) =
+        subst (λ v. FollowsBuilt c.system (log ++ e ∷ []) (with_server server v)) (sym (told_taken c e tells)) (follows_foreign c log e n q server queue_is valid (differ_built c.system log valid n.legal) own f.0 f.1 (serves_there ((f.0).log).places))
+    by_case tells n (inr s) =
+        let l = left_of c log e (n.may).built s.1 s.0 in
+        subst (λ v. FollowsBuilt c.system (log ++ e ∷ []) (with_server server v)) (sym (told_taken c e tells))
+        (follows_own c log e n l server s.1 valid (differ_built c.system log valid n.legal) own (serves_there (ap (λ (d : ClusterView). d.places) l.same ∙ ((l.followed).log).places)))
+
+    lost : (l : IsLoss (what e)) → IsReady log e c → FollowsBuilt c.system (log ++ e ∷ []) (with_server server (absorbed c e))
     lost l (inl f) =
         let moved : are_rising (filter (moves_here (placement c.system log) l.lost c.number) c.records) ≡ true =
         ap (λ places. are_rising (filter (moves_here places l.lost c.number) c.records)) (sym (((f.0).log).places)) ∙ sym (ap (λ w. are_rising (moved_by c.places c.number w (records_after w c.records))) l.same) ∙ order in
-        follows_lost c.system valid log e l.lost l.cause (loss_of c.system log e l now later) c.number (other_lost c e l f.2) c q refl refl queue_is own f.0 f.1 moved
+        follows_lost c.system valid log e l.lost l.cause (loss_of c.system log e l now later) c.number (other_lost c e l f.2) c q server (serves_there ((f.0).log).places) refl refl queue_is own f.0 f.1 moved
     lost l (inr s) = absurd (own_no_loss c log e l (own_tells c log e s.0))
 
-    page : is_of_page (what e) ≡ true → IsReady log e c → FollowsBuilt c.system (log ++ e ∷ []) (absorbed c e)
-    page of (inl f) = follows_page c.system valid log e of now later c q refl queue_is own f.0 f.1
+    page : is_of_page (what e) ≡ true → IsReady log e c → FollowsBuilt c.system (log ++ e ∷ []) (with_server server (absorbed c e))
+    page of (inl f) = follows_page c.system valid log e of now later c q server (serves_there ((f.0).log).places) queue_is own f.0 f.1
     page of (inr s) = absurd (own_no_page e of (own_tells c log e s.0))
 
-    by_loss : OneOf (what e) → FollowsBuilt c.system (log ++ e ∷ []) (absorbed c e)
+    by_loss : OneOf (what e) → FollowsBuilt c.system (log ++ e ∷ []) (with_server server (absorbed c e))
     by_loss (inl tells) = by_case tells (next_of c.system log e tells now later) ready
     by_loss (inr (inl of)) = page of ready
     by_loss (inr (inr l)) = lost l ready
@@ -223,3 +233,7 @@ ready_own c e r own = by_loss (one_of c.system r.log e r.open_next)
 pub own_either : (cursor : ℕ) (was now : List (Pid × Held)) → AllOwn cursor was → (now ≡ was) ⊎ (now ≡ []) → AllOwn cursor now
 own_either cursor was now own (inl same) = subst (AllOwn cursor) (sym same) own
 own_either cursor was now own (inr none) = subst (AllOwn cursor) (sym none) tt
+
+-- the entry is of a kind that is built
+pub ready_built : (c : ClusterView) (e : Entry) → ReadyFor e c → is_built (what e) ≡ true
+ready_built c e r = (IsLegal-last BuiltMayFollow c.system r.log e (r.open_next).0).built

@@ -32,6 +32,10 @@ use Rattle.cert_sched.proofs.RootPids.{HomesFit, homes_fit}
 use Rattle.cert_sched.proofs.StepLaws.{process_after-own}
 use Rattle.record_laws.specs.Kept.{KeepsRecords}
 use Rattle.cluster_core.specs.Booting.{AreBooted, belongs_to}
+use Rattle.page_server.specs.Account.{PagerState}
+use Rattle.cert_sched.specs.Scripted.{is_server}
+use Rattle.cluster_core.specs.Serving.{BeginsToServe}
+use Rattle.cluster_core.proofs.Served.{accounts_begin}
 use Rattle.cluster_core.specs.Follows.{FollowsBuilt}
 use Rattle.cluster_core.specs.Holds.{IsHeldAs}
 use Rattle.cluster_core.specs.Parts.{AllOwn, IsHeldOwn, IsOwn}
@@ -147,8 +151,8 @@ once system number here valid is =
 -- ---- the cluster
 
 -- a cluster at boot
-abbrev pub boot_view : System → ClusterNo → List (Pid × Held) → List BackRec → ClusterView
-boot_view system number here recs = record {
+abbrev pub boot_view : System → ClusterNo → List (Pid × Held) → List BackRec → Option PagerState → Option ℕ → ClusterView
+boot_view system number here recs server failed = record {
   system = system;
   number = number;
   cursor = 0;
@@ -156,30 +160,30 @@ boot_view system number here recs = record {
   here = here;
   pages = [];
   records = recs;
-  accounts = [];
-  waits = [];
+  server = server;
   queue = [];
   tried = false;
   steps = 0;
-  disk_calls = 0;
-  failed = None;
+  failed = failed;
 }
 
 pub placed_at_boot : (system : System) → places_at_boot system ≡ placement system []
 unfolding placement
 placed_at_boot system = refl
 
-held_as : (system : System) (number : ClusterNo) (here : List (Pid × Held)) → AreBooted system number here → (p : Pid) (h : Held) → held_at (boot_view system number here []) p ≡ Some h → IsHeldAs system [] [] p h
+held_as : (system : System) (number : ClusterNo) (here : List (Pid × Held)) → AreBooted system number here → (p : Pid) (h : Held) → held_at (boot_view system number here [] None None) p ≡ Some h → IsHeldAs system [] [] p h
 held_as system number here is p h at =
     let one = here_booted system number here is p h at in
     subst (λ (h : Held). IsHeldAs system [] [] p h) (sym one.is) (steps_now system p (state_of one.process) one.at)
 
 -- a cluster at boot follows the empty log
-pub boot_follows : (system : System) (number : ClusterNo) (here : List (Pid × Held)) (recs : List BackRec) → is_system system ≡ true → AreBooted system number here → KeepsRecords system [] number recs → FollowsBuilt system [] (boot_view system number here recs)
-boot_follows system number here recs valid is kept = record {
+pub boot_follows : (system : System) (number : ClusterNo) (here : List (Pid × Held)) (recs : List BackRec) (server : Option PagerState) (failed : Option ℕ) → is_system system ≡ true → AreBooted system number here → KeepsRecords system [] number recs
+    → is_some server ≡ is_server system number → BeginsToServe system server → FollowsBuilt system [] (boot_view system number here recs server failed)
+boot_follows system number here recs server failed valid is kept there begins = record {
   log = record { cursor = refl; places = placed_at_boot system };
   processes = record { held = held_as system number here is; each_once = once system number here valid is };
   queue = record { own = refl; legal = tt };
   steps = record { counted = λ lost. omega arith };
   records = kept;
+  accounts = accounts_begin system (boot_view system number here recs server failed) refl there begins;
 }

@@ -16,6 +16,8 @@ mod BackupsLive
 mod Losing
 mod Unmoved
 mod Paging
+mod Served
+mod Counted
 pub mod Passing
 pub mod Booted
 pub mod Following

@@ -43,7 +43,7 @@ use Rattle.cert_sched.specs.Steps.{after_items, emission_at, silent_upto}
 use Rattle.cert_sched.proofs.LogLaws.{no_items}
 use Rattle.cert_sched.proofs.CoverLaws.{lives_on}
 use Rattle.cert_sched.proofs.FreshLaws.{only_one}
-use Rattle.cert_sched.proofs.LogLaws.{placement-snoc}
+use Rattle.cert_sched.proofs.LogLaws.{IsLegal-last, placement-snoc}
 use Rattle.cert_sched.proofs.MailLaws.{built_is_plain}
 use Rattle.cert_sched.proofs.PidLaws.{apart_fewer, placed_pids}
 use Rattle.cert_sched.proofs.RisingLaws.{NoTwo, put_all}
@@ -57,7 +57,7 @@ use Rattle.recovery.specs.Begun.{begun, number_of}
 use Rattle.recovery_laws.specs.Behind.{RollsBehind}
 use Rattle.recovery_laws.proofs.ByRule.{built_silent}
 use Rattle.recovery_laws.proofs.KeepingBehind.{behind_entry}
-use Rattle.cluster_core.specs.View.{ClusterView, Held, Runs, Rolls, Waits, held_of, next_count}
+use Rattle.cluster_core.specs.View.{ClusterView, Held, Runs, Rolls, Waits, held_of, next_count, with_server}
 use Rattle.cluster_core.specs.Residents.{pids_in}
 use Rattle.cluster_core.specs.Parts.{AllOwn, posts_of}
 use Rattle.cluster_core.specs.Queue.{IsQueueLegal, is_move_of, move_of, state_by, state_now, taken_by}
@@ -75,7 +75,11 @@ use Rattle.cluster_core.proofs.Owning.{own_at}
 use Rattle.cluster_core.proofs.RecoveredHere.{Recovery, StartsThere, held_recovered, pids_recovered}
 use Rattle.cluster_core.proofs.Telling.{Telling, telling}
 use Rattle.cluster_core.proofs.Unmoved.{emission_same, state_same}
-use Rattle.cluster_core.proofs.Following.{by_home_of, counted_foreign, lost_before, moves_it, no_end, post_may}
+use Rattle.cluster_core.proofs.Counted.{lost_before}
+use Rattle.cluster_core.proofs.Following.{by_home_of, counted_foreign, moves_it, no_end, post_may}
+use Rattle.cluster_core.proofs.Served.{accounts_next, foreign_no_answer}
+use Rattle.cluster_core.specs.Serving.{Serves}
+use Rattle.page_server.specs.Account.{PagerState}
 
 -- ---- lists
 
@@ -381,9 +385,9 @@ module _ (system : System) (valid : is_system system ≡ true) (log : List Entry
 
   -- ---- the whole
 
-  pub follows_lost : (c : ClusterView) (q : Option Post) → c.system ≡ system → c.number ≡ k → c.queue ≡ posts_of q → AllOwn c.cursor c.here → FollowsBuilt system log c → is_by_cluster k e ≡ false
-      → are_rising (filter (moves_here places lost k) c.records) ≡ true → FollowsBuilt system later (absorbed c e)
-  follows_lost c q system_is number_is queue_is own f foreign order = subst (FollowsBuilt system later) (sym whole) (record {
+  pub follows_lost : (c : ClusterView) (q : Option Post) (server : Option PagerState) → Serves places e c.server server → c.system ≡ system → c.number ≡ k → c.queue ≡ posts_of q → AllOwn c.cursor c.here → FollowsBuilt system log c → is_by_cluster k e ≡ false
+      → are_rising (filter (moves_here places lost k) c.records) ≡ true → FollowsBuilt system later (with_server server (absorbed c e))
+  follows_lost c q server serves system_is number_is queue_is own f foreign order = subst (λ v. FollowsBuilt system later (with_server server v)) (sym whole) (record {
     log = record {
       cursor = ap (λ m. m + 1) (f.log).cursor ∙ sym (length-append log (e ∷ []));
       places = sym places_after;
@@ -391,10 +395,12 @@ module _ (system : System) (valid : is_system system ≡ true) (log : List Entry
     processes = record { held = held; each_once = once_after_loss c.records c.here keeps order once ∙ ap (λ k. rising (home_pids system later k)) (sym number_is) };
     queue = record {
       own = (f.queue).own;
-      legal = subst (IsQueueLegal TellingMayFollow system later) (sym queue_is) (queue_stays q posts_own posts_legal);
+      legal = legal_still;
     };
     steps = record { counted = λ kept. counted_foreign c log e (ap (λ k. is_by_cluster k e) number_is ∙ foreign) ((f.steps).counted (lost_before log e c.number kept)) };
     records = subst (λ k. KeepsRecords system later k (filter (stays places lost k) c.records)) (sym number_is) (loss_kept system log e lost k cause c.records valid (built_stands system later n.more) n.same apart keeps);
+    accounts =
+        accounts_next system log e c (with_server server after) (IsLegal-last BuiltMayFollow system log e n.more).built (foreign_no_answer c.number e (ap (λ k. is_by_cluster k e) number_is ∙ foreign)) serves refl (f.queue).legal legal_still f.accounts;
   })
     where
       moved : List BackRec
@@ -411,6 +417,9 @@ module _ (system : System) (valid : is_system system ≡ true) (log : List Entry
 
       posts_legal : IsQueueLegal TellingMayFollow system log (posts_of q)
       posts_legal = subst (IsQueueLegal TellingMayFollow system log) queue_is (f.queue).legal
+
+      legal_still : IsQueueLegal TellingMayFollow system later c.queue
+      legal_still = subst (IsQueueLegal TellingMayFollow system later) (sym queue_is) (queue_stays q posts_own posts_legal)
 
       -- what the cluster is after it
       after : ClusterView

@@ -24,7 +24,7 @@ use Rattle.cert_sched.specs.Parts.{rising}
 use Rattle.cert_sched.specs.Rests.{home_pids}
 use Rattle.cert_sched.specs.Rules.{is_over, is_by_home}
 use Rattle.cert_sched.specs.Schedule.{items_of, placement}
-use Rattle.cert_sched.proofs.LogLaws.{placement-snoc}
+use Rattle.cert_sched.proofs.LogLaws.{IsLegal-last, placement-snoc}
 use Rattle.cert_sched.proofs.MailLaws.{built_is_plain}
 use Rattle.backup_records.specs.Records.{records_after}
 use Rattle.record_laws.specs.Kept.{KeepsRecords, changes_in_place}
@@ -32,7 +32,7 @@ use Rattle.record_laws.proofs.KeptLaws.{records_kept}
 use Rattle.record_laws.proofs.Standing.{built_stands}
 use Rattle.recovery_laws.specs.Behind.{RollsBehind}
 use Rattle.recovery_laws.proofs.KeepingBehind.{behind_entry}
-use Rattle.cluster_core.specs.View.{ClusterView, Held, Runs, Rolls, Waits, held_at, next_count}
+use Rattle.cluster_core.specs.View.{ClusterView, Held, Runs, Rolls, Waits, held_at, next_count, with_server}
 use Rattle.cluster_core.specs.Residents.{pids_in}
 use Rattle.cluster_core.specs.Parts.{AllOwn, posts_of}
 use Rattle.cluster_core.specs.Queue.{IsQueueLegal}
@@ -45,7 +45,11 @@ use Rattle.cluster_core.proofs.Here.{is_among}
 use Rattle.cluster_core.proofs.Homes.{HomeHere, differ_built, home_here, pids_home}
 use Rattle.cluster_core.proofs.Owning.{own_at}
 use Rattle.cluster_core.proofs.Telling.{Telling, telling}
-use Rattle.cluster_core.proofs.Following.{counted_foreign, lost_before, no_end, post_may}
+use Rattle.cluster_core.proofs.Counted.{lost_before}
+use Rattle.cluster_core.proofs.Following.{counted_foreign, no_end, post_may}
+use Rattle.cluster_core.proofs.Served.{accounts_next, foreign_no_answer}
+use Rattle.cluster_core.specs.Serving.{Serves}
+use Rattle.page_server.specs.Account.{PagerState}
 use Rattle.cluster_core.proofs.Unmoved.{emission_same, state_same}
 
 -- what the cluster is then
@@ -99,8 +103,9 @@ module _ (system : System) (valid : is_system system ≡ true) (log : List Entry
       subst (KeepsRecords system later k) (by_page (λ w. records_after w recs ≡ recs) (λ pid index. refl) (λ pid index bytes. refl) (what e) of)
       (records_kept system log e k recs valid (built_stands system later next.0) (by_page (λ w. changes_in_place w ≡ true) (λ pid index. refl) (λ pid index bytes. refl) (what e) of) keeps)
 
-  pub follows_page : (c : ClusterView) (q : Option Post) → c.system ≡ system → c.queue ≡ posts_of q → AllOwn c.cursor c.here → FollowsBuilt system log c → is_by_cluster c.number e ≡ false → FollowsBuilt system later (absorbed c e)
-  follows_page c q system_is queue_is own f foreign = subst (FollowsBuilt system later) (sym (page_taken c e of)) (record {
+  pub follows_page : (c : ClusterView) (q : Option Post) (server : Option PagerState) → Serves (placement system log) e c.server server → c.queue ≡ posts_of q → AllOwn c.cursor c.here → FollowsBuilt system log c → is_by_cluster c.number e ≡ false
+      → FollowsBuilt system later (with_server server (absorbed c e))
+  follows_page c q server serves queue_is own f foreign = subst (λ v. FollowsBuilt system later (with_server server v)) (sym (page_taken c e of)) (record {
     log = record {
       cursor = ap (λ m. m + 1) (f.log).cursor ∙ sym (length-append log (e ∷ []));
       places = (f.log).places ∙ sym places_same;
@@ -108,12 +113,19 @@ module _ (system : System) (valid : is_system system ≡ true) (log : List Entry
     processes = record { held = held; each_once = (f.processes).each_once ∙ ap (λ (places : Places). rising (pids_home c.number places.placed)) (sym places_same) };
     queue = record {
       own = (f.queue).own;
-      legal = subst (IsQueueLegal TellingMayFollow system later) (sym queue_is) (queue_stays c.number q posts_own posts_legal);
+      legal = legal_still;
     };
     steps = record { counted = λ kept. counted_foreign c log e foreign ((f.steps).counted (lost_before log e c.number kept)) };
     records = records_stay c.number c.records f.records;
+    accounts = accounts_next system log e c (with_server server after) (IsLegal-last BuiltMayFollow system log e next.0).built (foreign_no_answer c.number e foreign) serves refl (f.queue).legal legal_still f.accounts;
   })
     where
+      after : ClusterView
+      after = record c { cursor = c.cursor + 1; steps = next_count c.steps }
+
+      legal_still : IsQueueLegal TellingMayFollow system later c.queue
+      legal_still = subst (IsQueueLegal TellingMayFollow system later) (sym queue_is) (queue_stays c.number q posts_own posts_legal)
+
       posts_own : list_all (λ (post : Post). is_from c.number post.by) (posts_of q) ≡ true
       posts_own = subst (λ ps. list_all (λ (post : Post). is_from c.number post.by) ps ≡ true) queue_is (f.queue).own
 

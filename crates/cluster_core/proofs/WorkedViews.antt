@@ -124,12 +124,10 @@ empty_view system n log = record {
   here = [];
   pages = [];
   records = [];
-  accounts = [];
-  waits = [];
+  server = None;
   queue = [];
   tried = false;
   steps = 0;
-  disk_calls = 0;
   failed = None;
 }
 
@@ -274,7 +272,13 @@ abbrev one_account : List ℕ → List ℕ → Account
 one_account now kept = record { now = (0, now) ∷ []; kept = (0, kept) ∷ [] }
 
 abbrev accounts_view : List ℕ → ClusterView
-accounts_view kept = record (empty_view far_system 1 synced_log) { accounts = (pid 16, one_account read_page kept) ∷ (pid 17, one_account (image_page writer_words) (image_page writer_words)) ∷ [] }
+accounts_view kept = record (empty_view far_system 1 synced_log) {
+  server = Some (record {
+    accounts = (pid 16, one_account read_page kept) ∷ (pid 17, one_account (image_page writer_words) (image_page writer_words)) ∷ [];
+    fetches = [];
+    counts = record { calls = 0; faults = 0; failing = None };
+  });
+}
 
 reader_account : account_at (accounts_view read_page) (pid 16) ≡ account_after far_system synced_log (pid 16)
 unfolding boot one_step steps silently plain_after placement told silent_upto emission_at backup_record account_after
@@ -292,4 +296,4 @@ no_account = refl
 -- the synchronisation keeps the page that came
 accounts_refused : HoldsAccounts far_system synced_log (accounts_view (image_page reader_words)) → ⊥
 unfolding boot one_step steps silently plain_after placement told silent_upto emission_at backup_record account_after
-accounts_refused holds = differ 0 120 refl (ap (λ (a : Account). option_map_or (λ bytes. get_or bytes 52 0) (page_in a.kept 0) 0) ((holds.accounts) refl (pid 16)))
+accounts_refused holds = differ 0 120 refl (ap (λ (a : Account). option_map_or (λ bytes. get_or bytes 52 0) (page_in a.kept 0) 0) ((holds.keeps).accounts (pid 16)))

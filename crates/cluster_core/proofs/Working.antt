@@ -34,7 +34,8 @@ use Rattle.cluster_core.specs.declared.worked.Worked.TheVariants.{Moved, Queued,
 use Rattle.cluster_core.specs.View.{ClusterView, Held, Runs, Rolls, Waits, can_act, held_at, held_of, next_count, counted_once, tried_once}
 use Rattle.cluster_core.specs.Residents.{pids_in, with_changed, are_stuck}
 use Rattle.cluster_core.specs.Parts.{IsOwn, AllOwn}
-use Rattle.cluster_core.specs.Queue.{move_of, taken_by, state_by, state_now}
+use Rattle.cluster_core.proofs.Served.{accounts_queued}
+use Rattle.cluster_core.specs.Queue.{IsQueueLegal, move_of, taken_by, state_by, state_now}
 use Rattle.cluster_core.specs.Holds.{IsHeldAs}
 use Rattle.cluster_core.specs.Follows.{FollowsBuilt, IsOpen}
 use Rattle.cluster_core.specs.Calls.{GoesOn, WorkIs, is_at_rest, are_at_rest}
@@ -129,6 +130,7 @@ goes_on_rested c log now f = record {
   queue = record { own = (f.queue).own; legal = (f.queue).legal };
   steps = record { counted = λ kept. more_counted (least_steps log log c.number + cond c.tried 1 0) c.steps ((f.steps).counted kept) };
   records = f.records;
+  accounts = record { keeps = (f.accounts).keeps; there = (f.accounts).there; calls = (f.accounts).calls };
 }
 
 -- ---- its head was tried
@@ -145,6 +147,7 @@ follows_tried c log f = record {
   queue = record { own = (f.queue).own; legal = (f.queue).legal };
   steps = record { counted = λ kept. more_tried (least_steps log log c.number) c.steps c.tried ((f.steps).counted kept) };
   records = f.records;
+  accounts = record { keeps = (f.accounts).keeps; there = (f.accounts).there; calls = (f.accounts).calls };
 }
 
 pub goes_on_tried : (c : ClusterView) → GoesOn c (tried_once c)
@@ -235,6 +238,7 @@ moved_goes_on c p was new valid empty there moves log go f = record {
   queue = record { own = (f.queue).own; legal = (f.queue).legal };
   steps = record { counted = λ kept. more_counted (least_steps log log c.number + cond c.tried 1 0) c.steps ((f.steps).counted kept) };
   records = f.records;
+  accounts = record { keeps = (f.accounts).keeps; there = (f.accounts).there; calls = (f.accounts).calls };
 }
 
 -- ---- one of them posted something
@@ -348,11 +352,15 @@ module _ (c : ClusterView) (p : Pid) (was : Held) (sending : Sending) (new : Hel
     };
     queue = record {
       own = ap (λ b. b && true) posted_own;
-      legal = (subst (λ (q : Post). TellingMayFollow c.system log (entry_of c.system log q)) (sym post_is) (may_follow valid has log go f), tt);
+      legal = legal_post;
     };
     steps = record { counted = λ kept. more_counted (least_steps log log c.number + cond c.tried 1 0) c.steps ((f.steps).counted kept) };
     records = f.records;
+    accounts = accounts_queued c.system log c (posted_view c (with_changed p (Runs s.now) c.here) post) refl refl (f.queue).legal legal_post f.accounts;
   }
+    where
+      legal_post : IsQueueLegal TellingMayFollow c.system log (post ∷ [])
+      legal_post = (subst (λ (q : Post). TellingMayFollow c.system log (entry_of c.system log q)) (sym post_is) (may_follow valid has log go f), tt)
 
   pub posted_work : WorkIs c Queued (posted_view c (with_changed p (Runs s.now) c.here) post)
   posted_work =

@@ -35,7 +35,6 @@ pub record IsFirst (system : System) (number : ClusterNo) (c : ClusterView) : Ty
   pub queue : c.queue ≡ []
   pub tried : c.tried ≡ false
   pub steps : c.steps ≡ 0
-  pub failed : c.failed ≡ None
 
 -- ---- following
 

@@ -27,6 +27,7 @@ pub record FollowsBuilt (system : System) (entries : List Entry) (c : ClusterVie
   pub queue : HoldsQueue TellingMayFollow system entries c
   pub steps : HoldsSteps entries c
   pub records : HoldsRecords system entries c
+  pub accounts : HoldsAccounts system entries c
 
 -- a log that goes on, by a rule
 abbrev pub IsOpen : (System → List Entry → Entry → Type 0) → System → List Entry → Type 0

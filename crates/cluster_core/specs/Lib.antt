@@ -3,6 +3,7 @@ pub mod Quantum
 pub mod Resident
 pub mod Recovered
 pub mod Residents
+pub mod Serving
 pub mod Work
 pub mod Parts
 pub mod Queue

@@ -16,7 +16,7 @@ use Rattle.bus_msg.specs.declared.entry.Post.{Post}
 use Rattle.bus_msg.specs.declared.entry.What.{What}
 use Rattle.bus_msg.specs.declared.entry.What.TheVariants.{Rebackup}
 use Rattle.bus_msg.specs.Places.{Places, same_pid}
-use Rattle.cert_sched.specs.Account.{Account, no_pages}
+use Rattle.page_server.specs.Account.{Account, PagerState, account, no_pages}
 
 -- a process at home here runs; or it rolls forward, with what is left to withhold; or it waits as its record for its backup, its pages or its parent's fork
 pub data Held : Type 0 where
@@ -32,8 +32,8 @@ pub record PageWait : Type 0 where
   pub page : Option (List ℕ)
 
 -- its system and number, the length of the log that it has taken in, and the placement then; the processes at home here and their pages; the records of
--- processes whose backup is here; the accounts and the waiting fetches of a page server; the posts that are still to be sent, and whether the
--- first was tried; its kernel steps, its disk calls, and the call that failed
+-- processes whose backup is here; what it keeps where it is a page server: the accounts, the fetches that wait, and the counts of its disk; the posts
+-- that are still to be sent, and whether the first was tried; its kernel steps, and the disk call that failed
 pub record ClusterView : Type 0 where
   pub system : System
   pub number : ClusterNo
@@ -42,12 +42,10 @@ pub record ClusterView : Type 0 where
   pub here : List (Pid × Held)
   pub pages : List PageWait
   pub records : List BackRec
-  pub accounts : List (Pid × Account)
-  pub waits : List (Pid × ℕ)
+  pub server : Option PagerState
   pub queue : List Post
   pub tried : Bool
   pub steps : ℕ
-  pub disk_calls : ℕ
   pub failed : Option ℕ
 
 -- ---- questions
@@ -78,7 +76,11 @@ next_number (Waits kept) = kept.next
 
 -- no pages where it has no account of the process
 abbrev pub account_at : ClusterView → Pid → Account
-account_at c p = option_map_or (λ (e : Pid × Account). e.1) (find (λ (e : Pid × Account). same_pid e.0 p) c.accounts) no_pages
+account_at c p = option_map_or (λ (s : PagerState). account s p) c.server no_pages
+
+-- none where it has no disk
+abbrev pub disk_calls : ClusterView → ℕ
+disk_calls c = option_map_or (λ (s : PagerState). (s.counts).calls) c.server 0
 
 abbrev pub page_wait : ClusterView → Pid → ℕ → Option PageWait
 page_wait c p i = find (λ (w : PageWait). same_pid w.pid p && w.index == i) c.pages
@@ -121,6 +123,12 @@ after_head c _ = c
 abbrev pub after_sent : ClusterView → List Post → ClusterView
 after_sent c [] = c
 after_sent c (head ∷ rest) = record (after_head c head.what) { queue = rest; tried = false }
+
+-- ---- the page server
+
+-- the same cluster, which keeps this as a page server
+abbrev pub with_server : Option PagerState → ClusterView → ClusterView
+with_server server c = record c { server = server }
 
 -- ---- kernel steps
 

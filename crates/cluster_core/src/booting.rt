@@ -1,5 +1,5 @@
-//! The start of a cluster: the roots that are at home there, and the records of those whose backup is there.
-ghost use Rattle.std.specs.Prelude.{◌≡◌, IfOk, true, false, [], map, filter};
+//! The start of a cluster: the roots that are at home there, the records of those whose backup is there, and the pages that it serves.
+ghost use Rattle.std.specs.Prelude.{◌≡◌, IfOk, IfSome, None, Some, true, false, [], map, filter, is_some};
 ghost use Rattle.std.specs.Option.{option_map_or};
 ghost use Rattle.std.specs.List.Sorted.{IsStrictlySortedBy};
 ghost use Rattle.std.specs.Map.{keys_of};
@@ -9,12 +9,16 @@ ghost use Rattle.bus_msg.specs.Places.{is_cluster, unended_at};
 ghost use Rattle.cert_sched.specs.Schedule.{placement};
 ghost use Rattle.record_laws.specs.Kept.{KeepsRecords};
 ghost use Rattle.cluster_core.specs.Booting.{AreBooted, AreFirstRecords, belongs_to, running_at};
+ghost use Rattle.cluster_core.specs.Serving.{BeginsToServe};
 
 use crate::resident::Resident;
 use crate::residents::Residents;
+use crate::serving::serve_roots;
 use backup_queue::record::Record;
 use backup_records::records::Records;
 use channel_table::placement::Placement;
+use page_server::disk::PageDisk;
+use page_server::pager::Pager;
 use plain_kernel::booting::processes_of;
 use proc_state::process::Process;
 use std::alloc::Global;
@@ -23,24 +27,43 @@ use sys_text::system::System;
 use t32_base::process::{ClusterNo, Pid};
 use t32_base::streams::NoMemory;
 
+/// What a cluster has at its start.
+#[derive(Drop)]
+pub struct Parts<D: PageDisk> {
+    pub here: Residents,
+    pub records: Records,
+    pub server: Option<Pager<D>>,
+    pub failed: Option<u64>,
+}
+
 /// The processes of the roots that are at home in a cluster, at their start, linked by the channels of the
-/// system; and the records of those whose backup is there, with their state at the start. The placement is the
-/// one at boot.
-pub fn parts_at_boot(
+/// system; the records of those whose backup is there, with their state at the start; and, with a disk, the pages of
+/// all roots, or the number of the call of the disk that failed. The placement is the one at boot.
+pub fn parts_at_boot<D: PageDisk + Drop>(
     alloc: Global,
     system: &System,
     number: ClusterNo,
     places: &Placement,
-) -> Result<(Residents, Records), NoMemory>
+    disk: Option<D>,
+) -> Result<Parts<D>, NoMemory>
     requires valid { is_system system.now ≡ true }
     requires places { places.now ≡ placement system.now [] }
-    ensures here { IfOk result (λ parts. AreBooted system.now number parts.0.here) }
-    ensures records { IfOk result (λ parts. KeepsRecords system.now [] number parts.1) }
+    ensures here { IfOk result (λ parts. AreBooted system.now number parts.here.here) }
+    ensures records { IfOk result (λ parts. KeepsRecords system.now [] number parts.records) }
+    ensures server { IfOk result (λ parts. parts.failed ≡ None → BeginsToServe system.now parts.server) }
+    ensures there { IfOk result (λ parts. is_some parts.server ≡ is_some disk) }
+    ensures whole { IfOk result (λ parts. IfSome disk (λ d. (D.counts d).failing ≡ Some []) → parts.failed ≡ None) }
 {
     let processes = processes_of(alloc, system)?;
+    let (server, failed) = serve_roots(alloc, disk, &processes)?;
     let records = first_records(alloc, number, places, &processes)?;
     let here = residents_of(alloc, number, processes)?;
-    Ok((here, records))
+    Ok(Parts {
+        here,
+        records,
+        server,
+        failed,
+    })
 }
 
 // The records of those processes whose backup is in a cluster.

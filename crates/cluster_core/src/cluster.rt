@@ -3,13 +3,15 @@ ghost use Rattle.std.specs.Prelude.{◌≡◌, ◌<◌, ◌^◌, ◌-◌, [], So
 ghost use Rattle.std.specs.Option.{option_copied};
 ghost use Rattle.std.specs.Arc.{arc_value};
 ghost use Rattle.sys_text.specs.Valid.{is_system};
-ghost use Rattle.cluster_core.specs.View.{head_of, after_sent, counted_once, tried_once};
+ghost use Rattle.cert_sched.specs.Scripted.{is_server};
+ghost use Rattle.cluster_core.specs.View.{head_of, after_sent, counted_once, disk_calls, tried_once, with_server};
 ghost use Rattle.cluster_core.specs.Follows.{FollowsBuilt};
 ghost use Rattle.cluster_core.specs.Calls.{Absorbs, absorbed, FollowsSome, GoesOn, is_resting, IsFirst, KeepsPlace, ReadyFor, RestsIn, rests_of, WorkIs};
 
 use crate::absorb::{note, tell};
 use crate::booting::parts_at_boot;
 use crate::residents::Residents;
+use crate::serving::serve;
 use crate::taking_over::take_over;
 use crate::work::work_on;
 use crate::worked::Worked;
@@ -17,6 +19,8 @@ use backup_records::records::Records;
 use bus_msg::entry::{Entry, Post};
 use cert_sched::start::placement_at_boot;
 use channel_table::placement::Placement;
+use page_server::disk::PageDisk;
+use page_server::pager::Pager;
 use std::alloc::Global;
 use std::marker::Model;
 use std::sync::Arc;
@@ -26,9 +30,10 @@ use t32_base::process::{ClusterNo, Pid};
 use t32_base::streams::NoMemory;
 
 /// A cluster of a system: the placement, the processes at home there, the records of the processes whose backup
-/// is there, and the post that it has to send.
+/// is there, the accounts of pages and the fetches that wait where it is one of the two page servers, and the post
+/// that it has to send.
 #[derive(Drop)]
-pub struct Cluster {
+pub struct Cluster<D: PageDisk> {
     alloc: Global,
     system: Arc<System>,
     number: ClusterNo,
@@ -36,14 +41,16 @@ pub struct Cluster {
     places: Placement,
     here: Residents,
     records: Records,
+    server: Option<Pager<D>>,
     queue: Option<Post>,
     tried: bool,
     steps: u64,
+    failed: Option<u64>,
 }
 
-impl Model for Cluster {
+impl<D: PageDisk> Model for Cluster<D> {
     ghost use Rattle.std.specs.Arc.{arc_value};
-    ghost use Rattle.std.specs.Prelude.{[], false, None};
+    ghost use Rattle.std.specs.Prelude.{[], false};
     ghost use Rattle.cluster_core.specs.View.{ClusterView};
     ghost use Rattle.cluster_core.specs.Parts.{posts_of, IsSound};
 
@@ -57,40 +64,49 @@ impl Model for Cluster {
       here = (c.here).here;
       pages = [];
       records = c.records;
-      accounts = [];
-      waits = [];
+      server = c.server;
       queue = posts_of c.queue;
       tried = c.tried;
       steps = c.steps;
-      disk_calls = 0;
-      failed = None;
+      failed = c.failed;
     } };
 
     ghost invariant = { λ c. IsSound (arc_value c.system) c.number c.cursor (c.here).here (posts_of c.queue) };
 }
 
-impl Cluster {
+impl<D: PageDisk + Drop> Cluster<D> {
     /// A cluster at its start: the placement of the roots, and the roots at home there with their images,
-    /// linked by the channels; and the records of the roots whose backup is there, with their state at the start.
-    pub fn boot(alloc: Global, system: &Arc<System>, number: ClusterNo) -> Result<Cluster, NoMemory>
+    /// linked by the channels; and the records of the roots whose backup is there, with their state at the start. A
+    /// page server has a disk, and puts each page of each root. A call of the disk that fails leaves a cluster that has
+    /// failed.
+    pub fn boot(
+        alloc: Global,
+        system: &Arc<System>,
+        number: ClusterNo,
+        disk: Option<D>,
+    ) -> Result<Cluster<D>, NoMemory>
         requires valid { is_system (arc_value system.now) ≡ true }
         requires has { number.0 < (arc_value system.now).clusters }
-        ensures follows { IfOk result (FollowsBuilt (arc_value system.now) []) }
+        requires disk { is_some disk ≡ is_server (arc_value system.now) number }
+        ensures follows { IfOk result (λ c. c.failed ≡ None → FollowsBuilt (arc_value system.now) [] c) }
         ensures begins { IfOk result (IsFirst (arc_value system.now) number) }
+        ensures whole { IfOk result (λ c. IfSome disk (λ d. (D.counts d).failing ≡ Some []) → c.failed ≡ None) }
     {
         let places = placement_at_boot(alloc, system)?;
-        let (here, records) = parts_at_boot(alloc, system, number, &places)?;
+        let parts = parts_at_boot(alloc, system, number, &places, disk)?;
         Ok(Cluster {
             alloc,
             system: system.clone()?,
             number,
             cursor: 0,
             places,
-            here,
-            records,
+            here: parts.here,
+            records: parts.records,
+            server: parts.server,
             queue: None,
             tried: false,
             steps: 0,
+            failed: parts.failed,
         })
     }
 
@@ -114,6 +130,24 @@ impl Cluster {
         ensures { result ≡ self.now.steps }
     {
         self.steps
+    }
+
+    /// How many calls of its disk were carried out: 0 without one. The count stays at the greatest u64 once it is
+    /// there. Takes no memory.
+    pub fn disk_calls(&self) -> u64
+        ensures { result ≡ disk_calls self.now }
+    {
+        match &self.server {
+            Some(pager) => pager.disk_calls(),
+            None => 0,
+        }
+    }
+
+    /// The call of its disk that failed, by its number from 0, if one did. Takes no memory.
+    pub fn failed(&self) -> Option<u64>
+        ensures { result ≡ self.now.failed }
+    {
+        self.failed
     }
 
     /// Its number. Takes no memory.
@@ -145,17 +179,19 @@ impl Cluster {
 
     /// Takes in the next entry of the log: a letter arrives at the process here whose end it is for, and a
     /// process that ended is let go; the record of the receiver saves the letter, that of the sender counts it,
-    /// and the record of a process that ended goes. At the loss of another cluster the processes that this moves here
+    /// and the record of a process that ended goes. A page server notes what is asked for and what came. At the loss
+    /// of another cluster the processes that this moves here
     /// begin again from their records, which are kept no more. After want of memory nothing is said of the cluster but
     /// that it can be dropped.
     pub fn absorb(&mut self, entry: &Entry) -> Result<(), NoMemory>
         requires room { self.old.cursor < 2 ^ 64 - 1 }
         requires ready { ReadyFor entry.now self.old }
-        ensures absorbed { OnOk result (self.new ≡ absorbed self.old entry.now) }
+        ensures absorbed { OnOk result (self.new ≡ with_server self.new.server (absorbed self.old entry.now)) }
         ensures follows { OnOk result (Absorbs entry.now self.old self.new) }
     {
         note(self.number, &mut self.records, entry)?;
         tell(self.number, &mut self.here, entry)?;
+        serve(&mut self.server, &self.places, entry)?;
         self.cursor += 1;
         take_over(
             self.alloc,

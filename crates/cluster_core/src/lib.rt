@@ -7,6 +7,7 @@ pub mod cluster;
 pub mod quantum;
 pub mod resident;
 mod residents;
+mod serving;
 pub mod steps_left;
 mod taking_over;
 mod work;

@@ -4,7 +4,8 @@ use Rattle.bus_msg.specs.PlacedAfter.{what, placed_after}
 use Rattle.sys_text.specs.Valid.{is_system}
 use Rattle.sys_text.proofs.Bounds.{system_bounds}
 use Rattle.backup_records.specs.Records.{CanNote, are_rising, records_after}
-use Rattle.cluster_core.specs.View.{ClusterView, next_count}
+use Rattle.cluster_core.specs.View.{ClusterView, next_count, with_server}
+use Rattle.cluster_core.specs.Serving.{Serves}
 use Rattle.cluster_core.specs.Parts.{AllOwn}
 use Rattle.cluster_core.specs.Recovered.{CanRecover, left_by, moved_by, with_all_recovered}
 use Rattle.cluster_core.specs.Calls.{Absorbs, absorbed, here_after}
@@ -12,7 +13,7 @@ use Rattle.cluster_core.specs.Absorbing.{ComesHere, IsNotedHere}
 use Rattle.cluster_core.proofs.Arriving.{comes_here}
 use Rattle.cluster_core.proofs.Noting.{can_note_next, noted_next}
 use Rattle.cluster_core.proofs.Owning.{has_room}
-use Rattle.cluster_core.proofs.Absorbed.{absorbs, own_either, owns_recovered, ready_no_birth, ready_own, recovers}
+use Rattle.cluster_core.proofs.Absorbed.{absorbs, own_either, owns_recovered, ready_built, ready_no_birth, ready_own, recovers}
 use Rattle.cluster_core.proofs.cluster.Cluster.absorb.Goals as goal
 
 pub tell-requires-clause-room : goal.tell-requires-clause-room
@@ -90,17 +91,19 @@ returns-clause-follows c =
     let w = what e in
     let recs = c.in_ok-take_over.ensures.records ∙ ap (left_by c.self.inside.places c.self.inside.number w) c.in_ok-note.ensures.ok in
     let here = c.in_ok-take_over.ensures.here ∙ (λ i. with_all_recovered (c.deref.ensures i) (moved_by c.self.inside.places c.self.inside.number w (c.in_ok-note.ensures.ok i)) (c.in_ok-tell.ensures.ok i)) in
-    let whole : c.count_step.new.self ≡ absorbed old e =
+    let server = c.serve.new.server in
+    let whole : c.count_step.new.self ≡ with_server server (absorbed old e) =
     c.count_step.ensures
-    ∙ ap (λ (v : ClusterView). record v { cursor = v.cursor + 1; places = c.note-2.new.self; here = c.take_over.new.here.here; records = c.take_over.new.records; steps = next_count v.steps }) c.self.view_is
-    ∙ (λ i. record old { cursor = old.cursor + 1; places = c.note-2.ensures i; here = here i; records = recs i; steps = next_count old.steps })
-    ∙ ap (λ (v : ClusterView). record old { cursor = old.cursor + 1; places = placed_after v.places w; here = with_all_recovered v.system (moved_by v.places v.number w (records_after w v.records)) (here_after w v.here); records = left_by v.places v.number w (records_after w v.records); steps = next_count old.steps }) c.self.view_is in
+    ∙ ap (λ (v : ClusterView). record v { cursor = v.cursor + 1; places = c.note-2.new.self; here = c.take_over.new.here.here; records = c.take_over.new.records; server = server; steps = next_count v.steps }) c.self.view_is
+    ∙ (λ i. record old { cursor = old.cursor + 1; places = c.note-2.ensures i; here = here i; records = recs i; server = server; steps = next_count old.steps })
+    ∙ ap (λ (v : ClusterView). record old { cursor = old.cursor + 1; places = placed_after v.places w; here = with_all_recovered v.system (moved_by v.places v.number w (records_after w v.records)) (here_after w v.here); records = left_by v.places v.number w (records_after w v.records); server = server; steps = next_count old.steps }) c.self.view_is in
     let valid : is_system old.system ≡ true = subst (λ (v : ClusterView). is_system v.system ≡ true) c.self.view_is c.self.invariant.valid in
     let own = subst (λ (v : ClusterView). AllOwn v.cursor v.here) c.self.view_is c.self.invariant.residents in
     let order : are_rising (moved_by old.places old.number w (records_after w old.records)) ≡ true =
     subst (λ (v : ClusterView). are_rising (moved_by v.places v.number w (records_after w v.records)) ≡ true) c.self.view_is
     (subst (λ recs. are_rising (moved_by c.self.inside.places c.self.inside.number w recs) ≡ true) c.in_ok-note.ensures.ok c.in_ok-take_over.ensures.rising) in
-    subst (Absorbs e old) (sym whole) (absorbs old e c.self.inside.queue (ap (λ (v : ClusterView). v.queue) (sym c.self.view_is)) valid own order)
+    let serves : Serves old.places e old.server server = subst (λ (v : ClusterView). Serves v.places e v.server server) c.self.view_is c.in_ok-serve.ensures in
+    subst (Absorbs e old) (sym whole) (absorbs old e c.self.inside.queue server (ap (λ (v : ClusterView). v.queue) (sym c.self.view_is)) valid own order serves)
 
 pub tell-requires-clause-number : goal.tell-requires-clause-number
 tell-requires-clause-number c = omega (arith, c.self.invariant.has, (system_bounds (arc_value c.self.inside.system) c.self.invariant.valid).clusters)
@@ -110,3 +113,6 @@ tell-requires-clause-comes c =
     let old : ClusterView = c.args.self.now in
     let valid : is_system old.system ≡ true = subst (λ (v : ClusterView). is_system v.system ≡ true) c.self.view_is c.self.invariant.valid in
     subst (λ (v : ClusterView). ComesHere v.number c.args.entry.now v.here) (sym c.self.view_is) (comes_here old c.args.entry.now valid c.requires.ready)
+
+pub serve-requires : goal.serve-requires
+serve-requires c = ready_built c.args.self.now c.args.entry.now c.requires.ready

@@ -6,6 +6,7 @@ use Rattle.record_laws.specs.Kept.{KeepsRecords}
 use Rattle.cluster_core.specs.View.{ClusterView}
 use Rattle.cluster_core.specs.Booting.{AreBooted}
 use Rattle.cluster_core.specs.Follows.{FollowsBuilt}
+use Rattle.cluster_core.specs.Serving.{BeginsToServe}
 use Rattle.cluster_core.proofs.Booted.{boot_view, boot_follows, boot_own, placed_at_boot}
 use Rattle.cluster_core.proofs.cluster.Cluster.boot.Goals as goal
 
@@ -13,24 +14,27 @@ pub parts_at_boot-requires-clause-places : goal.parts_at_boot-requires-clause-pl
 parts_at_boot-requires-clause-places c = c.in_ok-places.ensures ∙ ap places_at_boot (c.deref.ensures ∙ sym c.deref-2.ensures) ∙ placed_at_boot c.deref-2.result.now
 
 pub returns-clause-follows : goal.returns-clause-follows
-returns-clause-follows c =
+returns-clause-follows c whole =
     let system : System = arc_value c.args.system.now in
-    let here = c.in_ok-here.here.here in
-    let recs = c.in_ok-here.records in
+    let here = c.in_ok-parts.parts.here.here in
+    let recs = c.in_ok-parts.parts.records in
     let places : c.in_ok-places.places ≡ places_at_boot system = c.in_ok-places.ensures ∙ ap places_at_boot c.deref.ensures in
     let shared : arc_value c.in_ok-clone.field-0 ≡ system = c.in_ok-clone.ensures.cases in
-    let booted : AreBooted system c.args.number here = subst (λ s. AreBooted s c.args.number here) c.deref-2.ensures c.in_ok-here.ensures.here in
-    let kept : KeepsRecords system [] c.args.number recs = subst (λ s. KeepsRecords s [] c.args.number recs) c.deref-2.ensures c.in_ok-here.ensures.records in
-    let old : ClusterView = record (boot_view system c.args.number here recs) { system = arc_value c.in_ok-clone.field-0; places = c.in_ok-places.places } in
-    let same : old ≡ boot_view system c.args.number here recs = λ i. record (boot_view system c.args.number here recs) { system = shared i; places = places i } in
-    subst (FollowsBuilt system []) (sym same) (boot_follows system c.args.number here recs c.requires.valid booted kept)
+    let booted : AreBooted system c.args.number here = subst (λ s. AreBooted s c.args.number here) c.deref-2.ensures c.in_ok-parts.ensures.here in
+    let kept : KeepsRecords system [] c.args.number recs = subst (λ s. KeepsRecords s [] c.args.number recs) c.deref-2.ensures c.in_ok-parts.ensures.records in
+    let server = c.in_ok-parts.parts.server in
+    let failed = c.in_ok-parts.parts.failed in
+    let begins : BeginsToServe system server = subst (λ s. BeginsToServe s server) c.deref-2.ensures (c.in_ok-parts.ensures.server whole) in
+    let old : ClusterView = record (boot_view system c.args.number here recs server failed) { system = arc_value c.in_ok-clone.field-0; places = c.in_ok-places.places } in
+    let same : old ≡ boot_view system c.args.number here recs server failed = λ i. record (boot_view system c.args.number here recs server failed) { system = shared i; places = places i } in
+    subst (FollowsBuilt system []) (sym same) (boot_follows system c.args.number here recs server failed c.requires.valid booted kept (c.in_ok-parts.ensures.there ∙ c.requires.disk) begins)
 
 pub invariant_of-result : goal.invariant_of-result
 invariant_of-result c =
     let system : System = arc_value c.args.system.now in
-    let here = c.in_ok-here.here.here in
+    let here = c.in_ok-parts.parts.here.here in
     let shared : arc_value c.in_ok-clone.field-0 ≡ system = c.in_ok-clone.ensures.cases in
-    let booted : AreBooted system c.args.number here = subst (λ s. AreBooted s c.args.number here) c.deref-2.ensures c.in_ok-here.ensures.here in
+    let booted : AreBooted system c.args.number here = subst (λ s. AreBooted s c.args.number here) c.deref-2.ensures c.in_ok-parts.ensures.here in
     record {
       valid = rw shared c.requires.valid;
       has = rw shared c.requires.has;

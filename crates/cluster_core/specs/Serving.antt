@@ -1,0 +1,25 @@
+-- What a cluster keeps as a page server, at its start and after an entry.
+use Rattle.std.specs.Prelude.{ℕ, ◌≡◌, ◌≤◌, List, [], ◌∷◌, ◌++◌, Option, Some, None, ⊤}
+use Rattle.sys_text.specs.declared.system.System.{System}
+use Rattle.bus_msg.specs.declared.entry.Entry.{Entry}
+use Rattle.bus_msg.specs.Places.{Places}
+use Rattle.cert_sched.specs.Losses.{capped, root_pages}
+use Rattle.cert_sched.specs.Schedule.{placement}
+use Rattle.page_server.specs.Account.{PagerState}
+use Rattle.page_accounts.specs.Keeps.{KeepsAccounts}
+
+-- nothing, or the accounts of the empty log, for which the disk was called once at least for each page of a root
+abbrev pub BeginsToServe : System → Option PagerState → Type 0
+BeginsToServe system None = ⊤
+BeginsToServe system (Some state) = KeepsAccounts system [] state × (capped (root_pages system) ≤ (state.counts).calls)
+
+-- after the entry it keeps the accounts of each log with it whose accounts it kept, where the placement before it was this; the disk was not called
+pub record Notes (before : Places) (e : Entry) (old new : PagerState) : Type 0 where
+  pub keeps : (system : System) (log : List Entry) → placement system log ≡ before → KeepsAccounts system log old → KeepsAccounts system (log ++ e ∷ []) new
+  pub counts : new.counts ≡ old.counts
+
+-- where it is a page server
+abbrev pub Serves : Places → Entry → Option PagerState → Option PagerState → Type 0
+Serves before e None new = new ≡ None
+Serves before e (Some old) None = ⊥
+Serves before e (Some old) (Some new) = Notes before e old new
