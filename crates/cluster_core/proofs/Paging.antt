@@ -13,7 +13,7 @@ use Rattle.plain_kernel.specs.Kernel.{Kernel}
 use Rattle.bus_msg.specs.declared.entry.What.{What}
 use Rattle.bus_msg.specs.declared.entry.Post.{Post}
 use Rattle.bus_msg.specs.declared.entry.Entry.{Entry}
-use Rattle.bus_msg.specs.Places.{Places, pids_differ, unended_at}
+use Rattle.bus_msg.specs.Places.{Places, unended_at}
 use Rattle.bus_msg.specs.PlacedAfter.{what, placed_after}
 use Rattle.cert_sched.specs.Appended.{entry_of}
 use Rattle.cert_sched.specs.Built.{BuiltMayFollow, TellingMayFollow}
