@@ -23,7 +23,7 @@ use Rattle.cert_sched.specs.Losses.{is_by_cluster, is_crash_of, is_from, was_los
 use Rattle.cert_sched.proofs.Induction.{is_over-snoc}
 use Rattle.cert_sched.proofs.LogLaws.{IsLegal-snoc}
 use Rattle.cert_sched.proofs.UnlostLaws.{telling_built}
-use Rattle.cluster_core.specs.View.{ClusterView, head_of, after_head, after_sent}
+use Rattle.cluster_core.specs.View.{ClusterView, head_of, after_head, after_sent, with_server}
 use Rattle.cluster_core.specs.Queue.{IsQueueLegal}
 use Rattle.cluster_core.specs.Follows.{FollowsBuilt, IsOpen, StandsBetween}
 use Rattle.cluster_core.specs.Calls.{Absorbs, IsReady, ReadyFor, absorbed}
@@ -155,8 +155,8 @@ module _ (log : List Entry) (c : ClusterView) (post : Post) (after : BusView) (s
     t : TakesNext after.log (cleared c) new
     t = subst (λ v. TakesNext after.log v new) is_left t'
 
-    taken : new ≡ absorbed (cleared c) next
-    taken = let is : t.entry ≡ next = let both_are : Some t.entry ≡ Some next = sym t.there ∙ at_cursor in cc in t.taken ∙ ap (absorbed (cleared c)) is
+    taken : new ≡ with_server new.server (absorbed (cleared c) next)
+    taken = let is : t.entry ≡ next = let both_are : Some t.entry ≡ Some next = sym t.there ∙ at_cursor in cc in t.taken ∙ ap (λ e. with_server new.server (absorbed (cleared c) e)) is
 
     absorbs : Absorbs next (cleared c) new
     absorbs = let is : t.entry ≡ next = let both_are : Some t.entry ≡ Some next = sym t.there ∙ at_cursor in cc in subst (λ e. Absorbs e (cleared c) new) is t.follows
@@ -184,7 +184,7 @@ module _ (log : List Entry) (c : ClusterView) (post : Post) (after : BusView) (s
             within = omega (arith, all);
             goes_on = (λ i. is_over (s.system i) (take_all (c.cursor + 1) after.log (omega (arith, all)) i)) ∙ sent_goes_on;
             lives = ap (λ l. was_lost_in l c.number) (take_all (c.cursor + 1) after.log (omega (arith, all))) ∙ sent_lives;
-            follows = subst (λ l. FollowsBuilt c.system l (absorbed (cleared c) next)) (sym (take_all (c.cursor + 1) after.log (omega (arith, all)) ∙ s.longer)) f;
+            follows = subst (λ l. FollowsBuilt c.system l (with_server new.server (absorbed (cleared c) next))) (sym (take_all (c.cursor + 1) after.log (omega (arith, all)) ∙ s.longer)) f;
             told_before = ap (λ n. list_any (is_told_by c.number) (drop n after.log)) (sym all) ∙ ap (list_any (is_told_by c.number)) (drop_whole after.log);
             unfailed = (s.beside).unfailed;
           };

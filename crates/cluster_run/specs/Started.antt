@@ -1,5 +1,5 @@
 -- The clusters of a system at their start.
-use Rattle.std.specs.Prelude.{ℕ, ◌≡◌, List, [], length, slice_get, Some}
+use Rattle.std.specs.Prelude.{ℕ, ◌≡◌, List, [], length, slice_get, Some, None}
 use Rattle.sys_text.specs.declared.system.System.{System}
 use Rattle.cluster_core.specs.View.{ClusterView}
 use Rattle.cluster_core.specs.Follows.{FollowsBuilt}
@@ -9,6 +9,7 @@ use Rattle.cluster_core.specs.Calls.{IsFirst}
 pub record IsStarted (system : System) (number : ℕ) (c : ClusterView) : Type 0 where
   pub number_is : (c.number).0 ≡ number
   pub first : IsFirst system c.number c
+  pub unfailed : c.failed ≡ None
   pub follows : FollowsBuilt system [] c
 
 -- so many clusters, each at the place of its number

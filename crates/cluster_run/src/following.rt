@@ -16,7 +16,7 @@ use crate::turn::{Turn, take_turn};
 use bus_lock::{LogLock, LogSeat};
 use bus_order::shared::SharedBus;
 use cert_sched::script::ScriptWord;
-use cluster_core::cluster::Cluster;
+use crate::member::Member;
 use std::alloc::Global;
 use std::sync::{Arc, Wait};
 use sys_text::system::System;
@@ -34,10 +34,10 @@ pub fn follow<R: Wait, G: Gate>(
     script: &[ScriptWord],
     lock: &LogLock<SharedBus>,
     seat: LogSeat<SharedBus>,
-    cluster: Cluster,
+    cluster: Member,
     gate: &G,
     sleepers: &Sleepers,
-) -> (LogSeat<SharedBus>, Option<Cluster>)
+) -> (LogSeat<SharedBus>, Option<Member>)
     requires { Starts lock.now (made_of (arc_value system.now) script.now) seat cluster }
     ensures ended { OneEnded lock.now (made_of (arc_value system.now) script.now) cluster.number.0 result.0 result.1 }
     ensures done { is_done_with cluster.number (arc_value system.now) (seen result.0) ≡ true }
@@ -79,7 +79,7 @@ pub fn follow<R: Wait, G: Gate>(
 // Lets a cluster follow the log until that is over, or the cluster was lost.
 fn follow_on<R: Wait, G: Gate>(
     port: &mut Seated<'_, R, G>,
-    cluster: &mut Cluster,
+    cluster: &mut Member,
 ) -> Result<(), NoMemory>
     requires seat { IsSeatOf port.old.lock.now cluster.old.number port.old.seat }
     requires origin { seat_origin port.old.seat ≡ Some (made_of (arc_value port.old.system.now) port.old.script.now) }
@@ -102,7 +102,7 @@ fn follow_on<R: Wait, G: Gate>(
 }
 
 // Whether the log has grown since the cluster looked at it. Asks only for its length.
-fn has_grown(lock: &LogLock<SharedBus>, seat: &mut LogSeat<SharedBus>, cluster: &Cluster) -> bool
+fn has_grown(lock: &LogLock<SharedBus>, seat: &mut LogSeat<SharedBus>, cluster: &Member) -> bool
     requires of { IsOf lock.now seat.old }
     ensures of { IsOf lock.now seat.new }
     ensures same { view_of seat.new ≡ retold (view_of seat.old) (told seat.new) }
@@ -115,7 +115,7 @@ fn sleep<R: Wait>(
     rt: &R,
     lock: &LogLock<SharedBus>,
     seat: &mut LogSeat<SharedBus>,
-    cluster: &Cluster,
+    cluster: &Member,
     sleepers: &Sleepers,
 )
     requires of { IsOf lock.now seat.old }

@@ -4,7 +4,7 @@ use crate::port::Port;
 use bus_msg::entry::{Cause, Entry, Post};
 use bus_order::bus::Bus;
 use bus_order::marks::{Idled, Mark};
-use cluster_core::cluster::Cluster;
+use crate::member::Member;
 use t32_base::process::ClusterNo;
 use t32_base::streams::NoMemory;
 
@@ -25,7 +25,7 @@ impl Port for Bus {
 
     ghost sits = { λ k b. ⊤ };
 
-    fn look(&mut self, _cluster: &Cluster) -> Result<(), NoMemory> {
+    fn look(&mut self, _cluster: &Member) -> Result<(), NoMemory> {
         Ok(())
     }
 
@@ -47,20 +47,20 @@ impl Port for Bus {
         self.is_over() || !self.places().living(number)
     }
 
-    fn names_step(&self, cluster: &Cluster) -> bool {
+    fn names_step(&self, cluster: &Member) -> bool {
         let _scripted = self.length();
         self.unused(cluster.number(), Cause::Step(cluster.steps()))
     }
 
-    fn lose(&mut self, cluster: &Cluster) -> Result<(), NoMemory> {
+    fn lose(&mut self, cluster: &Member) -> Result<(), NoMemory> {
         lose_at(self, cluster)
     }
 
-    fn offer(&mut self, cluster: &Cluster, post: &Post) -> Result<Offered, NoMemory> {
+    fn offer(&mut self, cluster: &Member, post: &Post) -> Result<Offered, NoMemory> {
         offer_to(self, cluster, post)
     }
 
-    fn tell(&mut self, cluster: &Cluster, mark: Mark) -> Result<Option<Idled>, NoMemory> {
+    fn tell(&mut self, cluster: &Member, mark: Mark) -> Result<Option<Idled>, NoMemory> {
         tell_to(self, cluster, mark)
     }
 }

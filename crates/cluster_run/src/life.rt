@@ -1,5 +1,5 @@
 //! The clusters that did the work of a run.
-use cluster_core::cluster::Cluster;
+use crate::member::Member;
 use report_text::run::Run;
 use t32_base::lists::List;
 use t32_base::process::ClusterNo;
@@ -11,7 +11,7 @@ pub struct Life {
     pub cluster: ClusterNo,
     pub from: u64,
     pub upto: u64,
-    pub value: Cluster,
+    pub value: Member,
 }
 
 /// A run, and the clusters that did its work, as they stood when they were lost or when the log was over.

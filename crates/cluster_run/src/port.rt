@@ -14,7 +14,7 @@ ghost use Rattle.cluster_run.specs.Turns.{GoesOwn, LosesOwn};
 use crate::offers::Offered;
 use bus_msg::entry::{Entry, Post};
 use bus_order::marks::{Idled, Mark};
-use cluster_core::cluster::Cluster;
+use crate::member::Member;
 use t32_base::process::ClusterNo;
 use t32_base::streams::NoMemory;
 
@@ -42,7 +42,7 @@ pub trait Port {
     ghost sits: { AClusterNo → Self → Type 0 };
 
     /// Looks for what is new.
-    fn look(&mut self, cluster: &Cluster) -> Result<(), NoMemory>
+    fn look(&mut self, cluster: &Member) -> Result<(), NoMemory>
         requires sits { sits cluster.now.number self.old }
         requires shows { shows self.old }
         requires from { from self.old ≤ cluster.now.cursor }
@@ -78,7 +78,7 @@ pub trait Port {
         ensures { result ≡ is_done_with number (bus self.now).system (bus self.now).log };
 
     /// Whether a word of the script names the next kernel step of a cluster.
-    fn names_step(&self, cluster: &Cluster) -> bool
+    fn names_step(&self, cluster: &Member) -> bool
         requires sits { sits cluster.now.number self.now }
         requires sound { IsSound (bus self.now) }
         requires before { IsBeforeStep (bus self.now) cluster.now }
@@ -86,7 +86,7 @@ pub trait Port {
 
     /// Loses a cluster directly before its next kernel step, which a word of the script names. Nothing is added where its
     /// loss stands in the log already. Either way it stays as it is.
-    fn lose(&mut self, cluster: &Cluster) -> Result<(), NoMemory>
+    fn lose(&mut self, cluster: &Member) -> Result<(), NoMemory>
         requires sits { sits cluster.now.number self.old }
         requires sound { IsSound (bus self.old) }
         requires before { IsBeforeStep (bus self.old) cluster.now }
@@ -97,7 +97,7 @@ pub trait Port {
         ensures own { OnOk result (alone ≡ true → GoesOwn (bus self.old) → was_lost_in (bus self.old).log cluster.now.number ≡ false → LosesOwn cluster.now.number (bus self.old) (bus self.new)) };
 
     /// Offers the post of a cluster, and shows what is then new.
-    fn offer(&mut self, cluster: &Cluster, post: &Post) -> Result<Offered, NoMemory>
+    fn offer(&mut self, cluster: &Member, post: &Post) -> Result<Offered, NoMemory>
         requires sits { sits cluster.now.number self.old }
         requires sound { IsSound (bus self.old) }
         requires along { IsAlong (bus self.old) cluster.now }
@@ -112,7 +112,7 @@ pub trait Port {
 
     /// Tells that nothing can move in a cluster, and shows what is then new. None where the log was over, the cluster was
     /// lost, or it had not seen all of the log.
-    fn tell(&mut self, cluster: &Cluster, mark: Mark) -> Result<Option<Idled>, NoMemory>
+    fn tell(&mut self, cluster: &Member, mark: Mark) -> Result<Option<Idled>, NoMemory>
         requires sits { sits cluster.now.number self.old }
         requires sound { IsSound (bus self.old) }
         requires along { IsAlong (bus self.old) cluster.now }

@@ -18,7 +18,7 @@ use bus_msg::entry::{Entry, Post};
 use bus_order::marks::{Idled, Mark};
 use bus_order::shared::SharedBus;
 use cert_sched::script::ScriptWord;
-use cluster_core::cluster::Cluster;
+use crate::member::Member;
 use std::sync::{Arc, Wait};
 use sys_text::system::System;
 use t32_base::gate::Gate;
@@ -140,7 +140,7 @@ impl<'a, R: Wait, G: Gate> Port for Seated<'a, R, G> {
 
     ghost sits = { λ k p. IsSeatOf p.lock.now k p.seat × (seat_origin p.seat ≡ Some (made_of (arc_value p.system.now) p.script.now)) × (p.news.number ≡ k) };
 
-    fn look(&mut self, cluster: &Cluster) -> Result<(), NoMemory> {
+    fn look(&mut self, cluster: &Member) -> Result<(), NoMemory> {
         if !is_due(&mut self.looks_after) || !has_grown(self.lock, &mut self.seat, &self.news) {
             return Ok(());
         }
@@ -166,18 +166,18 @@ impl<'a, R: Wait, G: Gate> Port for Seated<'a, R, G> {
         self.news.is_over || self.news.off_at.is_some()
     }
 
-    fn names_step(&self, cluster: &Cluster) -> bool {
+    fn names_step(&self, cluster: &Member) -> bool {
         has_step(self.script, cluster.number(), cluster.steps())
     }
 
-    fn lose(&mut self, cluster: &Cluster) -> Result<(), NoMemory> {
+    fn lose(&mut self, cluster: &Member) -> Result<(), NoMemory> {
         let mut bus = take_sound(self.rt, self.lock, &mut self.seat, cluster);
         let lost = lose_at(&mut bus, cluster);
         give(self.lock, &mut self.seat, bus, cluster.number());
         lost
     }
 
-    fn offer(&mut self, cluster: &Cluster, post: &Post) -> Result<Offered, NoMemory> {
+    fn offer(&mut self, cluster: &Member, post: &Post) -> Result<Offered, NoMemory> {
         self.gate.before(cluster.number(), cluster.cursor());
         let mut bus = take_for(self.rt, self.lock, &mut self.seat, cluster);
         let offered = offer_to(&mut bus, cluster, post);
@@ -192,7 +192,7 @@ impl<'a, R: Wait, G: Gate> Port for Seated<'a, R, G> {
         Ok(offered)
     }
 
-    fn tell(&mut self, cluster: &Cluster, mark: Mark) -> Result<Option<Idled>, NoMemory> {
+    fn tell(&mut self, cluster: &Member, mark: Mark) -> Result<Option<Idled>, NoMemory> {
         self.looks_after = 0;
         doze(
             self.lock,
