@@ -1,7 +1,9 @@
-use Rattle.std.proofs.Common.{ap, subst, sym}
+use Rattle.std.proofs.Common.{◌≡◌, ap, subst, sym, [], Option, Some, None}
+use Rattle.std.specs.Option.{IfSome}
 use Rattle.std.specs.Arc.{arc_value}
 use Rattle.t32_base.specs.declared.process.ClusterNo.{ClusterNo}
 use Rattle.sys_text.specs.declared.system.System.{System}
+use Rattle.page_server.specs.declared.mem_disk.MemDisk.{MemDisk}
 use Rattle.cluster_core.specs.Calls.{IsFirst}
 use Rattle.cluster_run.proofs.Together.{one_started}
 use Rattle.cluster_run.proofs.booting.clusters_at_boot.Goals as goal
