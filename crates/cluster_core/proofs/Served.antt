@@ -1,5 +1,5 @@
 -- What a cluster keeps as a page server stays what the log says: after an entry, and where a post is queued.
-use Rattle.std.proofs.Common.{◌≡◌, ℕ, ◌+◌, ◌≤◌, refl, sym, ◌∙◌, ap, subst, arith, List, [], ◌∷◌, ◌++◌, Bool, true, false, cond, ◌&&◌, Option, Some, None, is_some, true≢false}
+use Rattle.std.proofs.Common.{◌≡◌, ℕ, ◌+◌, ◌≤◌, refl, sym, ◌∙◌, ap, subst, arith, List, [], ◌∷◌, ◌++◌, Bool, true, false, cond, ◌&&◌, Option, Some, None, is_some, inl, inr, true≢false}
 use Rattle.std.specs.Prelude.{count_by}
 use Rattle.std.specs.Option.{option_map_or}
 use Rattle.page_server.specs.Disk.{Counts}
@@ -45,7 +45,7 @@ foreign_no_answer k e foreign = ap (λ b. is_page_is_entry (what e) && b) foreig
     by_kind_of false = refl
 
 one_more : (test : Entry → Bool) (log : List Entry) (e : Entry) → test e ≡ false → count_by test (log ++ e ∷ []) ≡ count_by test log
-one_more test log e none = let more = count_by-snoc test log e in let zero : cond (test e) 1 0 ≡ 0 = ap (λ b. cond b 1 0) none in omega (arith, more, zero)
+one_more test log e none = let more = count_by-snoc test log e in let zero : ◌≡◌ {A = ℕ} (cond (test e) 1 0) 0 = ap (λ (b : Bool). cond b 1 0) none in omega (arith, more, zero)
 
 -- what is queued is no answer
 queued_no_answer : (system : System) (log : List Entry) (queue : List Post) (k : ClusterNo) → IsQueueLegal TellingMayFollow system log queue → count_by (answers k) (with_queue system log queue) ≡ count_by (answers k) log

@@ -190,8 +190,8 @@ impl<D: PageDisk + Drop> Cluster<D> {
         ensures follows { OnOk result (Absorbs entry.now self.old self.new) }
     {
         note(self.number, &mut self.records, entry)?;
-        tell(self.number, &mut self.here, entry)?;
         serve(&mut self.server, &self.places, entry)?;
+        tell(self.number, &mut self.here, entry)?;
         self.cursor += 1;
         take_over(
             self.alloc,

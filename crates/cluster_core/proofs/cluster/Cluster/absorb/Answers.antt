@@ -17,29 +17,29 @@ use Rattle.cluster_core.proofs.Absorbed.{absorbs, own_either, owns_recovered, re
 use Rattle.cluster_core.proofs.cluster.Cluster.absorb.Goals as goal
 
 pub tell-requires-clause-room : goal.tell-requires-clause-room
-tell-requires-clause-room c =
+tell-requires-clause-room g c =
     has_room c.self.inside.cursor c.self.inside.here.here c.self.invariant.residents (subst (λ (v : ClusterView). v.cursor < 2 ^ 64 - 1) (sym c.self.view_is) c.requires.room)
 
 pub note-requires-clause-number : goal.note-requires-clause-number
-note-requires-clause-number c = omega (arith, c.self.invariant.has, (system_bounds (arc_value c.self.inside.system) c.self.invariant.valid).clusters)
+note-requires-clause-number g c = omega (arith, c.self.invariant.has, (system_bounds (arc_value c.self.inside.system) c.self.invariant.valid).clusters)
 
 pub note-requires-clause-can : goal.note-requires-clause-can
-note-requires-clause-can c =
+note-requires-clause-can g c =
     let old : ClusterView = c.args.self.now in
     let valid : is_system old.system ≡ true = subst (λ (v : ClusterView). is_system v.system ≡ true) c.self.view_is c.self.invariant.valid in
     subst (λ (v : ClusterView). CanNote (what c.args.entry.now) v.records) (sym c.self.view_is) (can_note_next old c.args.entry.now valid c.requires.ready c.requires.room)
 
 pub note-requires-clause-here : goal.note-requires-clause-here
-note-requires-clause-here c =
+note-requires-clause-here g c =
     let old : ClusterView = c.args.self.now in
     let valid : is_system old.system ≡ true = subst (λ (v : ClusterView). is_system v.system ≡ true) c.self.view_is c.self.invariant.valid in
     subst (λ (v : ClusterView). IsNotedHere v.number c.args.entry.now v.records) (sym c.self.view_is) (noted_next old c.args.entry.now valid c.requires.ready)
 
 pub note-requires-2 : goal.note-requires-2
-note-requires-2 c = ready_no_birth c.args.self.now c.args.entry.now c.requires.ready
+note-requires-2 g c = ready_no_birth c.args.self.now c.args.entry.now c.requires.ready
 
 pub take_over-requires-clause-can : goal.take_over-requires-clause-can
-take_over-requires-clause-can c =
+take_over-requires-clause-can g c =
     let e = c.args.entry.now in
     let w = what e in
     let valid : is_system c.args.self.now.system ≡ true = subst (λ (v : ClusterView). is_system v.system ≡ true) c.self.view_is c.self.invariant.valid in
@@ -49,7 +49,7 @@ take_over-requires-clause-can c =
     (subst (λ hs. CanRecover (arc_value c.self.inside.system) (moved_by c.self.inside.places c.self.inside.number w (records_after w c.self.inside.records)) hs) (sym c.in_ok-tell.ensures.ok) can))
 
 pub invariant_of-self-in_err-take_over : goal.invariant_of-self-in_err-take_over
-invariant_of-self-in_err-take_over c =
+invariant_of-self-in_err-take_over g c =
     let w = what c.args.entry.now in
     let told : AllOwn (c.self.inside.cursor + 1) (here_after w c.self.inside.here.here) =
     subst (λ (v : ClusterView). AllOwn (v.cursor + 1) (here_after w v.here)) (sym c.self.view_is)
@@ -63,7 +63,7 @@ invariant_of-self-in_err-take_over c =
     }
 
 pub invariant_of-self-2 : goal.invariant_of-self-2
-invariant_of-self-2 c =
+invariant_of-self-2 g c =
     let old : ClusterView = c.args.self.now in
     let e = c.args.entry.now in
     let w = what e in
@@ -85,7 +85,7 @@ invariant_of-self-2 c =
     }
 
 pub returns-clause-follows : goal.returns-clause-follows
-returns-clause-follows c =
+returns-clause-follows g c =
     let old : ClusterView = c.args.self.now in
     let e = c.args.entry.now in
     let w = what e in
@@ -106,13 +106,13 @@ returns-clause-follows c =
     subst (Absorbs e old) (sym whole) (absorbs old e c.self.inside.queue server (ap (λ (v : ClusterView). v.queue) (sym c.self.view_is)) valid own order serves)
 
 pub tell-requires-clause-number : goal.tell-requires-clause-number
-tell-requires-clause-number c = omega (arith, c.self.invariant.has, (system_bounds (arc_value c.self.inside.system) c.self.invariant.valid).clusters)
+tell-requires-clause-number g c = omega (arith, c.self.invariant.has, (system_bounds (arc_value c.self.inside.system) c.self.invariant.valid).clusters)
 
 pub tell-requires-clause-comes : goal.tell-requires-clause-comes
-tell-requires-clause-comes c =
+tell-requires-clause-comes g c =
     let old : ClusterView = c.args.self.now in
     let valid : is_system old.system ≡ true = subst (λ (v : ClusterView). is_system v.system ≡ true) c.self.view_is c.self.invariant.valid in
     subst (λ (v : ClusterView). ComesHere v.number c.args.entry.now v.here) (sym c.self.view_is) (comes_here old c.args.entry.now valid c.requires.ready)
 
 pub serve-requires : goal.serve-requires
-serve-requires c = ready_built c.args.self.now c.args.entry.now c.requires.ready
+serve-requires g c = ready_built c.args.self.now c.args.entry.now c.requires.ready

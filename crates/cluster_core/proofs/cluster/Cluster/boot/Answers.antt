@@ -11,10 +11,10 @@ use Rattle.cluster_core.proofs.Booted.{boot_view, boot_follows, boot_own, placed
 use Rattle.cluster_core.proofs.cluster.Cluster.boot.Goals as goal
 
 pub parts_at_boot-requires-clause-places : goal.parts_at_boot-requires-clause-places
-parts_at_boot-requires-clause-places c = c.in_ok-places.ensures ∙ ap places_at_boot (c.deref.ensures ∙ sym c.deref-2.ensures) ∙ placed_at_boot c.deref-2.result.now
+parts_at_boot-requires-clause-places g c = c.in_ok-places.ensures ∙ ap places_at_boot (c.deref.ensures ∙ sym c.deref-2.ensures) ∙ placed_at_boot c.deref-2.result.now
 
 pub returns-clause-follows : goal.returns-clause-follows
-returns-clause-follows c whole =
+returns-clause-follows g c whole =
     let system : System = arc_value c.args.system.now in
     let here = c.in_ok-parts.parts.here.here in
     let recs = c.in_ok-parts.parts.records in
@@ -30,7 +30,7 @@ returns-clause-follows c whole =
     subst (FollowsBuilt system []) (sym same) (boot_follows system c.args.number here recs server failed c.requires.valid booted kept (c.in_ok-parts.ensures.there ∙ c.requires.disk) begins)
 
 pub invariant_of-result : goal.invariant_of-result
-invariant_of-result c =
+invariant_of-result g c =
     let system : System = arc_value c.args.system.now in
     let here = c.in_ok-parts.parts.here.here in
     let shared : arc_value c.in_ok-clone.field-0 ≡ system = c.in_ok-clone.ensures.cases in

@@ -11,10 +11,10 @@ use Rattle.cluster_core.proofs.Turning.{none_queued, worked_view, works}
 use Rattle.cluster_core.proofs.cluster.Cluster.work.Goals as goal
 
 pub work_on-requires : goal.work_on-requires
-work_on-requires c = none_queued c.self.inside.queue (ap (λ (v : ClusterView). v.queue) c.self.view_is ∙ c.requires.empty)
+work_on-requires g c = none_queued c.self.inside.queue (ap (λ (v : ClusterView). v.queue) c.self.view_is ∙ c.requires.empty)
 
 pub returns-clause-follows : goal.returns-clause-follows
-returns-clause-follows c =
+returns-clause-follows g c =
     let old : ClusterView = c.args.self.now in
     let own = subst (λ (v : ClusterView). AllOwn v.cursor v.here) c.self.view_is c.self.invariant.residents in
     let has = subst (λ (v : ClusterView). (v.number).0 < (v.system).clusters) c.self.view_is c.self.invariant.has in
@@ -25,7 +25,7 @@ returns-clause-follows c =
     subst (GoesOn old) (sym whole) done.goes_on
 
 pub returns-clause-work : goal.returns-clause-work
-returns-clause-work c =
+returns-clause-work g c =
     let old : ClusterView = c.args.self.now in
     let own = subst (λ (v : ClusterView). AllOwn v.cursor v.here) c.self.view_is c.self.invariant.residents in
     let has = subst (λ (v : ClusterView). (v.number).0 < (v.system).clusters) c.self.view_is c.self.invariant.has in
@@ -36,7 +36,7 @@ returns-clause-work c =
     subst (WorkIs old c.in_ok-worked.worked) (sym whole) done.work
 
 pub invariant_of-self-2 : goal.invariant_of-self-2
-invariant_of-self-2 c =
+invariant_of-self-2 g c =
     let old : ClusterView = c.args.self.now in
     let own = subst (λ (v : ClusterView). AllOwn v.cursor v.here) c.self.view_is c.self.invariant.residents in
     let has = subst (λ (v : ClusterView). (v.number).0 < (v.system).clusters) c.self.view_is c.self.invariant.has in
