@@ -123,14 +123,14 @@ module _ (system : System) (valid : is_system system ≡ true) (log : List Entry
       after : ClusterView
       after = record c { cursor = c.cursor + 1; steps = next_count c.steps }
 
-      legal_still : IsQueueLegal TellingMayFollow system later c.queue
-      legal_still = subst (IsQueueLegal TellingMayFollow system later) (sym queue_is) (queue_stays c.number q posts_own posts_legal)
-
       posts_own : list_all (λ (post : Post). is_from c.number post.by) (posts_of q) ≡ true
       posts_own = subst (λ ps. list_all (λ (post : Post). is_from c.number post.by) ps ≡ true) queue_is (f.queue).own
 
       posts_legal : IsQueueLegal TellingMayFollow system log (posts_of q)
       posts_legal = subst (IsQueueLegal TellingMayFollow system log) queue_is (f.queue).legal
+
+      legal_still : IsQueueLegal TellingMayFollow system later c.queue
+      legal_still = subst (IsQueueLegal TellingMayFollow system later) (sym queue_is) (queue_stays c.number q posts_own posts_legal)
 
       held : (p : Pid) (h : Held) → held_at c p ≡ Some h → IsHeldAs system later c.queue p h
       held p h at =
