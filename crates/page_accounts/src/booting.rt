@@ -1,12 +1,12 @@
 //! The pages of the roots, which a page server puts at boot.
-ghost use Rattle.std.specs.Prelude.{◌≡◌, ◌+◌, ◌/◌, ◌≤◌, [], true, length, OnOk};
+ghost use Rattle.std.specs.Prelude.{◌≡◌, ◌/◌, [], true, length, OnOk};
 ghost use Rattle.sys_text.specs.declared.system.System.{System};
 ghost use Rattle.sys_text.specs.Valid.{is_system};
 ghost use Rattle.plain_kernel.specs.Maps.{linked_processes};
 ghost use Rattle.plain_kernel.specs.Maps.{processes_of as states_of};
-ghost use Rattle.cert_sched.specs.Losses.{capped, root_pages};
+ghost use Rattle.cert_sched.specs.Losses.{root_pages};
 ghost use Rattle.page_server.specs.Account.{Changes, account, no_pages};
-ghost use Rattle.page_accounts.specs.Booting.{CountsAfterPuts, pages_of, put_memory, whole_memory};
+ghost use Rattle.page_accounts.specs.Booting.{CallsMade, CountsAfterPuts, pages_of, put_memory, whole_memory};
 ghost use Rattle.page_accounts.specs.Keeps.{KeepsAccounts};
 
 use page_server::disk::{DiskRefused, PageDisk};
@@ -26,7 +26,7 @@ pub fn put_roots<D: PageDisk>(
     requires accounts { pager.old.accounts ≡ [] }
     requires fetches { pager.old.fetches ≡ [] }
     ensures keeps { OnOk result ((system : System) → states_of processes.now.entries ≡ linked_processes system → KeepsAccounts system [] pager.new) }
-    ensures calls { OnOk result ((system : System) → is_system system ≡ true → states_of processes.now.entries ≡ linked_processes system → capped (pager.old.counts.calls + root_pages system) ≤ pager.new.counts.calls) }
+    ensures calls { OnOk result ((system : System) → is_system system ≡ true → states_of processes.now.entries ≡ linked_processes system → CallsMade (root_pages system) pager.old.counts pager.new.counts) }
     ensures counts { CountsAfterPuts (pages_of processes.now.entries) pager.old.counts pager.new.counts result }
 {
     for (pid, process) in processes {
