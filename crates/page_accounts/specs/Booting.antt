@@ -17,8 +17,8 @@ abbrev pub pages_of : List (ℕ × Process) → ℕ
 pages_of es = sum_by (λ (e : ℕ × Process). length ((e.1).ram).bytes / 256) es
 
 -- the uncommitted account alone holds every page of a memory
-abbrev pub put_memory : List ℕ → Account
-put_memory bytes = record { now = all_pages bytes; kept = [] }
+abbrev pub memory_put : List ℕ → Account
+memory_put bytes = record { now = all_pages bytes; kept = [] }
 
 -- so many calls of the disk were carried out, as far as a count goes, and the count of faults did not fall
 pub record CallsMade (made : ℕ) (old new : Counts) : Type 0 where
