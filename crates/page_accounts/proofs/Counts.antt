@@ -1,10 +1,10 @@
 -- What the disk counts after one put more.
-use Rattle.std.proofs.Common.{◌≡◌, ℕ, ◌+◌, ◌-◌, ◌^◌, ◌<◌, ◌≤◌, refl, ◌∙◌, arith, Result, Ok, Err}
+use Rattle.std.proofs.Common.{◌≡◌, ℕ, ◌+◌, ◌-◌, ◌^◌, ◌≤◌, refl, ◌∙◌, arith, Result, Ok, Err}
 use Rattle.std.specs.Prelude.{min}
 use Rattle.page_server.specs.declared.disk.DiskRefused.{DiskRefused}
 use Rattle.page_server.specs.declared.disk.DiskRefused.TheVariants.{Fault, NoMemory}
 use Rattle.page_server.specs.Disk.{Counts, CountsAfterPut}
-use Rattle.page_accounts.specs.Booting.{CallsMade, CountsAfterPuts, FailedAmong, FewerMade}
+use Rattle.page_accounts.specs.Booting.{CallsMade, CountsAfterPuts, FewerMade}
 
 -- ---- counts, with any cap
 
