@@ -1,0 +1,11 @@
+pub mod Counts
+pub mod Pages
+pub mod Putting
+pub mod Waits
+pub mod Followed
+pub mod Reverting
+pub mod Booted
+pub mod RootPages
+pub mod Sized
+pub mod Lasting
+pub mod WaitLaws

@@ -1,0 +1,4 @@
+pub mod Keeps
+pub mod Booting
+pub mod Noting
+pub mod Answering
