@@ -1,0 +1,6 @@
+mod Come
+mod Asking
+mod Keeping
+mod OneEnd
+mod GoingOn
+mod AllPages
