@@ -1,9 +1,8 @@
 -- Where each page of a memory has come, they make that memory.
-use Rattle.std.proofs.Common.{◌≡◌, ℕ, zero, suc, ◌+◌, ◌*◌, ◌<◌, true, List, [], ◌∷◌, ◌++◌, length, take, drop, slice_get, Option, Some, None, refl, sym, ap, ◌∙◌, arith, length-drop}
+use Rattle.std.proofs.Common.{◌≡◌, ℕ, suc, ◌+◌, ◌*◌, true, List, [], ◌∷◌, ◌++◌, length, take, drop, Option, Some, refl, sym, ap, ◌∙◌, arith, length-drop}
 use Rattle.std.specs.Prelude.{is_some}
 use Rattle.std.specs.List.{list_all}
 use Rattle.std.proofs.lemmas.List.{drop-drop, take-append-drop}
-use Rattle.rv_mem.specs.Memory.{page_at}
 use Rattle.page_waits.specs.Pages.{memory_of, AreAllPages}
 
 same_page : (c d : Option (List ℕ)) → Some c ≡ Some d → c ≡ d

@@ -1,5 +1,5 @@
 -- The lowest page that was not asked for.
-use Rattle.std.proofs.Common.{◌≡◌, ℕ, ◌<◌, ◌≤◌, Bool, true, false, cond, length, Some, None, refl, ap}
+use Rattle.std.proofs.Common.{◌≡◌, ◌<◌, ◌≤◌, Bool, true, false, cond, length, Some, None, refl, ap}
 use Rattle.std.specs.Prelude.{IsSome, is_some, nat_lt}
 use Rattle.std.proofs.lemmas.Bool.{le-ltb, lt-ltb, ltb-true}
 use Rattle.page_waits.specs.Waiting.{WaitingState, next_page}

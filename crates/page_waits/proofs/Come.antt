@@ -1,5 +1,5 @@
 -- The pages that have come, by the memory in which they lie and its marks.
-use Rattle.std.proofs.Common.{◌≡◌, ℕ, zero, suc, ◌+◌, ◌-◌, ◌*◌, ◌<◌, ◌≤◌, Bool, true, false, not, cond, eqb, List, [], ◌∷◌, ◌++◌, length, take, drop, set, Option, Some, None, Global, Vec, vec_len, rules, refl, sym, ap, ◌∙◌, arith, append_assoc, length-drop, length-take}
+use Rattle.std.proofs.Common.{◌≡◌, ℕ, zero, suc, ◌+◌, ◌-◌, ◌*◌, ◌<◌, ◌≤◌, Bool, true, false, not, cond, eqb, List, [], ◌∷◌, ◌++◌, length, take, drop, set, Option, Some, None, Global, Vec, vec_len, rules, refl, sym, ap, ◌∙◌, arith, append_assoc, eqb-true, length-drop, length-take}
 use Rattle.std.specs.Prelude.{replicate, is_some}
 use Rattle.std.specs.List.{list_all}
 use Rattle.std.proofs.lemmas.List.{drop-append-le, drop-drop, drop-take, drop_at, take-append-drop, take-append-le, take-take, take_at}
@@ -87,10 +87,13 @@ whole_where (true ∷ marks) bytes =
 whole_where (false ∷ marks) bytes = let more = one_missing marks in grind arith
 
 -- then they are the memory
-pub whole_memory : (marks : List Bool) (bytes : List ℕ) → length bytes ≡ 256 * length marks → missing marks ≡ 0 → memory_of (pages_come marks bytes) ≡ bytes
+whole_memory : (marks : List Bool) (bytes : List ℕ) → length bytes ≡ 256 * length marks → missing marks ≡ 0 → memory_of (pages_come marks bytes) ≡ bytes
 whole_memory [] [] size none = refl
 whole_memory [] (b ∷ bytes) size none = absurd (omega arith)
 whole_memory (true ∷ marks) bytes size none =
     let rest : length (drop 256 bytes) ≡ 256 * length marks = omega (arith, length-drop 256 bytes) in
     ap (λ (behind : List ℕ). take 256 bytes ++ behind) (whole_memory marks (drop 256 bytes) rest (omega arith)) ∙ take-append-drop 256 bytes
 whole_memory (false ∷ marks) bytes size none = let more = one_missing marks in absurd (omega arith)
+
+pub come_memory : (marks : List Bool) (bytes : List ℕ) → length bytes ≡ 256 * length marks → list_all is_some (pages_come marks bytes) ≡ true → memory_of (pages_come marks bytes) ≡ bytes
+come_memory marks bytes size whole = whole_memory marks bytes size (eqb-true (missing marks) 0 (sym (whole_where marks bytes) ∙ whole))

@@ -1,5 +1,5 @@
 -- A process whose pages have all come rolls forward from its record and the memory that they make.
-use Rattle.std.proofs.Common.{◌≡◌, ℕ, ◌*◌, ◌≤◌, true, false, List, [], length, sym, ap, ◌∙◌, subst, arith, refl, Option, Some, None}
+use Rattle.std.proofs.Common.{◌≡◌, ℕ, ◌≤◌, false, List, [], length, sym, ap, ◌∙◌, subst, arith, refl, Option, Some, None}
 use Rattle.std.specs.Prelude.{replicate, option_map}
 use Rattle.std.specs.Option.{IfSome, IsSomeAnd}
 use Rattle.t32_base.specs.declared.process.Pid.{Pid}
@@ -19,6 +19,11 @@ use Rattle.page_waits.proofs.OneEnd.{ahead_is}
 pub has_state : (o : Option SmallState) (r : BackRec) (n : ℕ) → r.state ≡ o → page_count r ≡ n → 1 ≤ n → IsSomeAnd o (λ small. small.pages ≡ n)
 has_state None r n is pages some = absurd (omega (arith, sym (ap (λ (o : Option SmallState). page_count (record r { state = o })) is) ∙ pages))
 has_state (Some small) r n is pages some = sym (ap (λ (o : Option SmallState). page_count (record r { state = o })) is) ∙ pages
+
+-- the memory is that of its pages
+pub can_start : (w : WaitingState) (ram : Memory) → memory_of w.come ≡ ram.bytes → CanGoOn w → IfSome (w.kept).state (λ small. CanRoll (started small ram (w.kept).saved (w.kept).next) (w.kept).counts (w.kept).births)
+can_start w ram memory can =
+    subst (λ (bytes : List ℕ). IfSome (w.kept).state (λ small. CanRoll (started small (record { bytes = bytes; dirty = ram.dirty }) (w.kept).saved (w.kept).next) (w.kept).counts (w.kept).births)) memory can
 
 -- what is known of a process that begins to roll forward: it waited so, its memory is that of its pages, and none of them is marked
 pub record Starts (w : WaitingState) (ram : Memory) (it : RollingState) : Type 0 where

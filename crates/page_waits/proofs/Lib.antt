@@ -4,3 +4,4 @@ mod Keeping
 mod OneEnd
 mod GoingOn
 mod AllPages
+mod OnePage

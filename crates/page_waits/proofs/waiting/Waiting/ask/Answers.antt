@@ -1,4 +1,4 @@
-use Rattle.std.proofs.Common.{◌≡◌, ◌+◌, ◌≤◌, length, ap, arith}
+use Rattle.std.proofs.Common.{◌+◌, ◌≤◌, length, ap, arith}
 use Rattle.page_waits.specs.Waiting.{WaitingState}
 use Rattle.page_waits.proofs.Asking.{one_is_left}
 use Rattle.page_waits.proofs.Come.{one_each}

@@ -1,7 +1,6 @@
-use Rattle.std.proofs.Common.{◌≡◌, ◌<◌, ◌*◌, ◌+◌, ℕ, List, Bool, Option, length, set, Some, true, sym, ap, ◌∙◌, subst, arith}
-use Rattle.std.specs.Prelude.{replicate}
+use Rattle.std.proofs.Common.{◌<◌, ℕ, List, Bool, Option, length, set, true, ap, ◌∙◌, arith}
 use Rattle.std.proofs.lemmas.List.{length-replicate}
-use Rattle.rv_mem.specs.Memory.{Memory, with_bytes}
+use Rattle.rv_mem.specs.Memory.{Memory}
 use Rattle.page_waits.specs.Kept.{pages_come}
 use Rattle.page_waits.specs.Waiting.{WaitingState, with_page}
 use Rattle.page_waits.proofs.Come.{one_each, one_more}

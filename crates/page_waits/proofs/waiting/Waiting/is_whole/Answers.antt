@@ -1,4 +1,4 @@
-use Rattle.std.proofs.Common.{◌≡◌, nat_eq, sym, ap, ◌∙◌}
+use Rattle.std.proofs.Common.{nat_eq, sym, ap, ◌∙◌}
 use Rattle.page_waits.specs.Waiting.{WaitingState, is_whole}
 use Rattle.page_waits.proofs.Come.{whole_where}
 use Rattle.page_waits.proofs.waiting.Waiting.is_whole.Goals as goal

@@ -1,4 +1,4 @@
-use Rattle.std.proofs.Common.{◌≡◌, ◌<◌, ◌≤◌, length, Some, sym, ap, ◌∙◌, arith}
+use Rattle.std.proofs.Common.{length, Some, sym, ap, ◌∙◌, arith}
 use Rattle.page_waits.specs.Waiting.{WaitingState}
 use Rattle.page_waits.proofs.Asking.{none_left, one_left}
 use Rattle.page_waits.proofs.Come.{pages_len}

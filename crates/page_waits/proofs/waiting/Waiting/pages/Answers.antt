@@ -1,4 +1,4 @@
-use Rattle.std.proofs.Common.{◌≡◌, length, sym, ap, ◌∙◌}
+use Rattle.std.proofs.Common.{length, sym, ap, ◌∙◌}
 use Rattle.page_waits.specs.Waiting.{WaitingState}
 use Rattle.page_waits.proofs.Come.{pages_len}
 use Rattle.page_waits.proofs.waiting.Waiting.pages.Goals as goal
