@@ -70,7 +70,10 @@ fn pages_are_asked_for_in_order_and_come_in_another(rt: HostRuntime) -> Result<(
     same(
         "what was asked for, and whether all had come",
         &(asked, whole),
-        &([Some(0), Some(1), Some(2), None], [false, false, false, true]),
+        &(
+            [Some(0), Some(1), Some(2), None],
+            [false, false, false, true],
+        ),
     )
 }
 
