@@ -18,10 +18,12 @@ use t32_base::streams::NoMemory;
 #[derive(Drop)]
 pub struct Waiting {
     kept: Record,
-    // Each page lies in its place here once it has come.
+    // A page lies in its place in it once it has come.
     ram: Ram,
+    // Which pages have come, and how many have not.
     here: Vec<bool>,
     lacking: u16,
+    // How many pages were asked for.
     asked: u16,
 }
 
