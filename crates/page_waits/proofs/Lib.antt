@@ -5,3 +5,4 @@ mod OneEnd
 mod GoingOn
 mod AllPages
 mod OnePage
+mod Started
