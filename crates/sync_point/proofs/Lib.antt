@@ -1,1 +1,4 @@
 pub mod Marked
+pub mod WhichMarked
+pub mod PostLaws
+pub mod PageLaws

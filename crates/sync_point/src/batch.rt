@@ -14,11 +14,7 @@ use t32_base::streams::NoMemory;
 /// that changed since the last time, by rising index, and then its state with the numbers of the letters that it
 /// read. The process is synchronised by it. Its marks are looked at once, and the bytes of the marked pages alone
 /// are copied. All memory is taken first: where it is refused, the process is as it was.
-pub fn build(
-    alloc: Global,
-    process: &mut Process,
-    by: ClusterNo,
-) -> Result<List<Post>, NoMemory>
+pub fn build(alloc: Global, process: &mut Process, by: ClusterNo) -> Result<List<Post>, NoMemory>
     ensures posts { IfOk result (λ posts. posts ≡ batch process.old by) }
     ensures synced { OnOk result (process.new ≡ synced process.old) }
     ensures err { OnErr result (process.new ≡ process.old) }
@@ -57,12 +53,7 @@ fn page_posts(alloc: Global, process: &Process, by: ClusterNo) -> Result<Vec<Pos
 }
 
 // The post of a page as it is.
-fn page_post(
-    alloc: Global,
-    process: &Process,
-    by: ClusterNo,
-    index: u16,
-) -> Result<Post, NoMemory>
+fn page_post(alloc: Global, process: &Process, by: ClusterNo, index: u16) -> Result<Post, NoMemory>
     requires { index < length process.now.ram.dirty }
     ensures { IfOk result (λ post. post ≡ page_post process.now by index) }
 {
