@@ -1,3 +1,4 @@
+mod Examples
 pub mod Marked
 pub mod WhichMarked
 pub mod PostLaws
