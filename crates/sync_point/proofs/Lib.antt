@@ -3,3 +3,4 @@ pub mod Marked
 pub mod WhichMarked
 pub mod PostLaws
 pub mod PageLaws
+pub mod WholeLaws

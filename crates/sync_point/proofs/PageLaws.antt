@@ -1,10 +1,11 @@
 -- The pages that a batch sends, and an account after them.
-use Rattle.std.proofs.Common.{◌≡◌, ℕ, Bool, true, false, ◌||◌, cond, eqb, List, [], ◌∷◌, map, Some, None, refl, sym, ap, subst, ◌∙◌}
+use Rattle.std.proofs.Common.{◌≡◌, ℕ, Bool, true, false, T, ◌||◌, cond, eqb, List, [], ◌∷◌, map, Some, None, refl, sym, ap, subst, ◌∙◌}
 use Rattle.std.proofs.lemmas.Bool.{eqb-true}
 use Rattle.std.proofs.lemmas.List.{append-nil}
 use Rattle.std.proofs.lemmas.List.Elements.{filter_map-append}
 use Rattle.std.specs.Cmp.{nat_cmp_total, unsigned_tied}
-use Rattle.std.specs.FinMap.Entries.{find-put}
+use Rattle.std.specs.FinMap.{is_sorted}
+use Rattle.std.specs.FinMap.Entries.{find-put, is_sorted-put}
 use Rattle.std.specs.List.{list_any}
 use Rattle.std.specs.List.Sorted.{IsStrictlySortedBy}
 use Rattle.std.specs.Map.{keys_of}
@@ -21,14 +22,14 @@ use Rattle.sync_point.proofs.WhichMarked.{marked_has, marked_rise}
 -- ---- pages by their numbers
 
 -- the pages of these numbers
-abbrev numbered : (ℕ → List ℕ) → List ℕ → List (ℕ × List ℕ)
+abbrev pub numbered : (ℕ → List ℕ) → List ℕ → List (ℕ × List ℕ)
 numbered page is = map (λ i. (i, page i)) is
 
 keys-numbered : (page : ℕ → List ℕ) (is : List ℕ) → keys_of (numbered page is) ≡ is
 keys-numbered page [] = refl
 keys-numbered page (i ∷ is) = ap (λ rest. i ∷ rest) (keys-numbered page is)
 
-find-numbered : (page : ℕ → List ℕ) (q : ℕ) (is : List ℕ) → page_in (numbered page is) q ≡ cond (list_any (λ i. eqb q i) is) (Some (page q)) None
+pub find-numbered : (page : ℕ → List ℕ) (q : ℕ) (is : List ℕ) → page_in (numbered page is) q ≡ cond (list_any (λ i. eqb q i) is) (Some (page q)) None
 find-numbered page q [] = refl
 find-numbered page q (i ∷ is) = ap (λ b. cond b (Some (page i)) (page_in (numbered page is) q)) (unsigned_tied q i) ∙ by_test (find-numbered page q is) (eqb q i) refl
   where
@@ -79,6 +80,16 @@ pub come_now : (p : Process) (by : ClusterNo) (a : Account) (i : ℕ) → page_i
 come_now p by a i =
     ap (λ pages. page_in (with_pages pages a).now i) (sent_of_batch p by) ∙ with_pages-now (page_at (p.ram).bytes) i (marked_pages p) a
     ∙ ap (λ b. cond b (Some (page_at (p.ram).bytes i)) (page_in a.now i)) (marked_has p i)
+
+come_rise : (page : ℕ → List ℕ) (is : List ℕ) (a : Account) → T (is_sorted nat_cmp a.now) → T (is_sorted nat_cmp (with_pages (numbered page is) a).now)
+come_rise page [] a rises = rises
+come_rise page (i ∷ is) a rises = come_rise page is (with_page i (page i) a) (is_sorted-put nat_cmp nat_cmp_total i (page i) a.now rises)
+
+-- an account by rising number is one after the pages came
+pub sent_keep_order : (p : Process) (by : ClusterNo) (a : Account) → T (is_sorted nat_cmp a.now) → T (is_sorted nat_cmp (with_pages (pages_sent (batch p by)) a).now)
+sent_keep_order p by a rises =
+    let P : List (ℕ × List ℕ) → Type 0 = λ pages. T (is_sorted nat_cmp (with_pages pages a).now) in
+    subst P (sym (sent_of_batch p by)) (come_rise (page_at (p.ram).bytes) (marked_pages p) a rises)
 
 pub come_kept : (p : Process) (by : ClusterNo) (a : Account) → (with_pages (pages_sent (batch p by)) a).kept ≡ a.kept
 come_kept p by a = with_pages-kept (pages_sent (batch p by)) a

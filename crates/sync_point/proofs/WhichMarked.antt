@@ -1,6 +1,6 @@
 -- Which pages are marked: their numbers rise, each is within, and a number is there where its mark is set.
 use Rattle.std.proofs.Common.{◌≡◌, ℕ, zero, suc, ◌+◌, ◌<◌, ◌≤◌, Bool, true, false, ◌&&◌, ◌||◌, cond, eqb, ltb, List, [], ◌∷◌, filter, length, replicate, slice_get, refl, sym, ap, ◌∙◌, arith}
-use Rattle.std.proofs.lemmas.Bool.{eqb-true, eqb-false, lt-ltb}
+use Rattle.std.proofs.lemmas.Bool.{eqb-true, eqb-false, ne_eqb, lt-ltb, false_from_ne_true}
 use Rattle.std.proofs.lemmas.List.FromFn.{get_or-range_with_len, length-range_with_len}
 use Rattle.std.proofs.lemmas.List.Kept.{IsStrictlySortedBy-filter}
 use Rattle.std.proofs.lemmas.Map.Keys.{sorted_from_strictly_increasing}
@@ -34,13 +34,20 @@ passing_below test n a (suc k) fits = by_test (passing_below test n (a + 1) k (o
     by_test rest false = rest
 
 -- a number of the range is there
-in_range : (a n q : ℕ) → a ≤ q → q < a + n → list_any (λ i. eqb q i) (range_with_len a n) ≡ true
+pub in_range : (a n q : ℕ) → a ≤ q → q < a + n → list_any (λ i. eqb q i) (range_with_len a n) ≡ true
 in_range a zero q low high = absurd (omega arith)
 in_range a (suc n) q low high = by_test (in_range (a + 1) n q) (eqb q a) refl
   where
     by_test : (a + 1 ≤ q → q < a + 1 + n → list_any (λ i. eqb q i) (range_with_len (a + 1) n) ≡ true) → (b : Bool) → eqb q a ≡ b → (b || list_any (λ i. eqb q i) (range_with_len (a + 1) n)) ≡ true
     by_test rest true is = refl
     by_test rest false is = rest (let apart = eqb-false q a is in omega (arith, apart)) (omega arith)
+
+-- a number behind it is not
+pub not_in_range : (a n q : ℕ) → a + n ≤ q → list_any (λ i. eqb q i) (range_with_len a n) ≡ false
+not_in_range a zero q behind = refl
+not_in_range a (suc n) q behind =
+    ap (λ b. b || list_any (λ i. eqb q i) (range_with_len (a + 1) n)) (ne_eqb q a (λ at. omega (arith, at)))
+    ∙ not_in_range (a + 1) n q (omega arith)
 
 -- a number is among those that pass where it passes and is among all
 passing_has : (test : ℕ → Bool) (q : ℕ) (xs : List ℕ) → list_any (λ i. eqb q i) (filter test xs) ≡ (test q && list_any (λ i. eqb q i) xs)
@@ -86,6 +93,10 @@ marked_has p q = passing_has (is_marked p) q (range_with_len 0 (length (p.ram).d
     by_mark : (b : Bool) → is_marked p q ≡ b → (b && list_any (λ i. eqb q i) (range_with_len 0 (length (p.ram).dirty))) ≡ b
     by_mark true is = in_range 0 (length (p.ram).dirty) q (omega arith) (let within = mark_within (p.ram).dirty q is in omega (arith, within))
     by_mark false is = refl
+
+-- no page behind the memory is marked
+pub unmarked_behind : (p : Process) (i : ℕ) → length (p.ram).dirty ≤ i → is_marked p i ≡ false
+unmarked_behind p i behind = false_from_ne_true (is_marked p i) (λ is. let within = mark_within (p.ram).dirty i is in omega (arith, within))
 
 pub none_marked : (p : Process) → marked_pages (synced p) ≡ []
 none_marked p = none_pass (is_marked (synced p)) (mark_cleared (length (p.ram).dirty)) (range_with_len 0 (length (replicate (length (p.ram).dirty) false)))

@@ -11,10 +11,10 @@ ghost use Rattle.bus_msg.specs.declared.entry.By.TheVariants.{Cluster};
 ghost use Rattle.bus_msg.specs.declared.entry.Post.{Post};
 ghost use Rattle.sync_point.specs.Due.{is_due_by};
 ghost use Rattle.sync_point.specs.Batch.{batch, is_marked, sync_post, synced};
-ghost use Rattle.sync_point.specs.Laws.{EndsWithSync, pages_sent, with_pages};
+ghost use Rattle.sync_point.specs.Laws.{EndsWithSync, HasUnmarked, pages_sent, whole_memory, with_pages};
 
 /// A law and no code: the last post of a batch is its only `Sync`, and each before it is a page of the process at its
-/// step count. The cluster sends them all.
+/// step count. Each is from the cluster `by`.
 pub fn batches_end_with_a_sync()
     ensures ends { (p : Process) (by : ClusterNo) → EndsWithSync p (batch p by) }
     ensures own { (p : Process) (by : ClusterNo) → All (λ (post : Post). post.by ≡ Cluster by) (batch p by) }
@@ -28,9 +28,10 @@ pub fn batches_have_the_marked_pages()
 {}
 
 /// A law and no code: once the pages of a batch came, an account has each marked page as the process has it, and any
-/// other as before. What was kept stays.
+/// other as before. One that had each page without a mark has the whole memory then. What was kept stays.
 pub fn batches_bring_accounts_up_to_date()
     ensures now { (p : Process) (by : ClusterNo) (a : Account) (i : ℕ) → page_in (with_pages (pages_sent (batch p by)) a).now i ≡ (if is_marked p i then Some (page_at (p.ram).bytes i) else page_in a.now i) }
+    ensures whole { (p : Process) (by : ClusterNo) (a : Account) → HasUnmarked p a → (with_pages (pages_sent (batch p by)) a).now ≡ whole_memory p }
     ensures kept { (p : Process) (by : ClusterNo) (a : Account) → (with_pages (pages_sent (batch p by)) a).kept ≡ a.kept }
 {}
 
