@@ -1,0 +1,5 @@
+pub mod OneEntry
+pub mod PagesStay
+pub mod Keeping
+pub mod Waiting
+pub mod Leaving

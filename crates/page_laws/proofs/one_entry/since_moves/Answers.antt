@@ -1,0 +1,8 @@
+use Rattle.page_laws.proofs.OneEntry.{any_since-snoc, moved_with_state-snoc}
+use Rattle.page_laws.proofs.one_entry.since_moves.Goals as goal
+
+pub returns-clause-any : goal.returns-clause-any
+returns-clause-any c = any_since-snoc
+
+pub returns-clause-state : goal.returns-clause-state
+returns-clause-state c = moved_with_state-snoc

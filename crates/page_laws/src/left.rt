@@ -1,0 +1,19 @@
+//! What is left to ask for and to answer of the pages of processes that a loss moved.
+ghost use Rattle.std.specs.Prelude.{ℕ, ◌≡◌, ◌<◌, ◌≤◌, true, List, [], ◌∷◌, ◌++◌};
+ghost use Rattle.t32_base.specs.declared.process.Pid.{Pid};
+ghost use Rattle.sys_text.specs.declared.system.System.{System};
+ghost use Rattle.bus_msg.specs.declared.entry.What.TheVariants.{Fetch, PageIs};
+ghost use Rattle.bus_msg.specs.declared.entry.Entry.{Entry};
+ghost use Rattle.bus_msg.specs.PlacedAfter.{what};
+ghost use Rattle.cert_sched.specs.Built.{tells_or_closes};
+ghost use Rattle.cert_sched.specs.Legal.{Stands};
+ghost use Rattle.page_laws.specs.Left.{left_of_pages};
+
+/// A law and no code: what is left falls.
+pub fn left_falls()
+    // A fetch makes it less, and so does a page that comes;
+    ensures fetch { (system : System) (log : List Entry) (e : Entry) (p : Pid) (i : ℕ) → Stands system log e → what e ≡ Fetch p i → left_of_pages system (log ++ e ∷ []) < left_of_pages system log }
+    ensures page_is { (system : System) (log : List Entry) (e : Entry) (p : Pid) (i : ℕ) (bytes : List ℕ) → Stands system log e → what e ≡ PageIs p i bytes → left_of_pages system (log ++ e ∷ []) < left_of_pages system log }
+    // a letter, an exit, the end and a stop do not raise it.
+    ensures most { (system : System) (log : List Entry) (e : Entry) → Stands system log e → tells_or_closes (what e) ≡ true → left_of_pages system (log ++ e ∷ []) ≤ left_of_pages system log }
+{}
