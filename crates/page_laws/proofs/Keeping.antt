@@ -1,20 +1,18 @@
 -- What a process has got it keeps, and what may be asked or answered may still be.
-use Rattle.std.proofs.Common.{◌≡◌, ℕ, ◌<◌, refl, sym, ◌∙◌, ap, subst, List, [], ◌∷◌, ◌++◌, Bool, true, false, cond, not, ◌&&◌, ◌||◌, eqb, Option, Some, None, true≢false}
+use Rattle.std.proofs.Common.{◌≡◌, ℕ, ◌<◌, refl, sym, ◌∙◌, ap, subst, List, [], ◌∷◌, ◌++◌, Bool, true, false, cond, not, ◌||◌, Some, true≢false}
 use Rattle.std.specs.Prelude.{filter, option_map}
 use Rattle.std.specs.List.{list_all, range_with_len}
-use Rattle.std.specs.Option.{option_map_or}
 use Rattle.t32_base.specs.declared.process.Pid.{Pid}
 use Rattle.sys_text.specs.declared.system.System.{System}
 use Rattle.bus_msg.specs.declared.entry.What.{What}
 use Rattle.bus_msg.specs.declared.entry.What.TheVariants.{Mail, Birth, Exit, Page, Sync, Fetch, PageIs, Crash, Return, Rebackup, Done, Stop}
 use Rattle.bus_msg.specs.declared.entry.Entry.{Entry}
-use Rattle.bus_msg.specs.Places.{same_pid}
 use Rattle.bus_msg.specs.PlacedAfter.{what}
 use Rattle.cert_sched.specs.Parts.{first_of}
 use Rattle.cert_sched.specs.Told.{moves}
 use Rattle.cert_sched.specs.Deeds.{is_cut}
 use Rattle.cert_sched.specs.Account.{Account, no_pages, page_in, account_after, page_put, is_exit_of}
-use Rattle.cert_sched.specs.Moved.{any_since_moved, moved_with_state, waiting_fetches, fetched, is_page_is, is_fetch, ends_wait}
+use Rattle.cert_sched.specs.Moved.{any_since_moved, moved_with_state, waiting_fetches, fetched, is_page_is, is_fetch}
 use Rattle.cert_sched.specs.Rules.{has_its_pages}
 use Rattle.cert_sched.specs.Steps.{page_count}
 use Rattle.cert_sched.specs.Kinds.{FetchHolds, PageIsHolds}

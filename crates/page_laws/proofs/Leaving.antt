@@ -1,6 +1,6 @@
 -- What is left to ask for and to answer falls by each fetch and by each page, and no letter, exit or end raises it.
-use Rattle.std.proofs.Common.{◌≡◌, ℕ, zero, suc, ◌+◌, ◌*◌, ◌<◌, ◌≤◌, add-zero, refl, sym, ◌∙◌, ap, subst, arith, List, [], ◌∷◌, ◌++◌, map, length, length-append, Bool, true, false, cond, not, ◌&&◌, ◌||◌, eqb, eqb-true, eq-eqb, Option, Some, None, is_some, true≢false}
-use Rattle.std.specs.Prelude.{filter, find, count_by, sum_by, option_map, option_and_then}
+use Rattle.std.proofs.Common.{◌≡◌, ℕ, zero, suc, ◌+◌, ◌<◌, ◌≤◌, add-zero, refl, sym, ◌∙◌, ap, subst, arith, List, [], ◌∷◌, ◌++◌, map, length, length-append, Bool, true, false, cond, not, ◌&&◌, ◌||◌, eqb, eqb-true, eq-eqb, Option, Some, None, is_some, true≢false}
+use Rattle.std.specs.Prelude.{filter, find, count_by, sum_by, option_map}
 use Rattle.std.specs.List.{list_any, range_with_len}
 use Rattle.std.specs.Option.{option_map_or}
 use Rattle.std.proofs.lemmas.Bool.{and_parts}
@@ -24,7 +24,7 @@ use Rattle.cert_sched.specs.Rules.{is_by_right, is_living, is_by, home_at}
 use Rattle.cert_sched.specs.Steps.{page_count}
 use Rattle.cert_sched.specs.Kinds.{FetchHolds}
 use Rattle.cert_sched.specs.Built.{tells_or_closes}
-use Rattle.cert_sched.specs.Legal.{IsLegalBy, Stands}
+use Rattle.cert_sched.specs.Legal.{Stands}
 use Rattle.cert_sched.proofs.LogLaws.{placement-snoc}
 use Rattle.page_laws.specs.Next.{moves_next}
 use Rattle.page_laws.specs.Waited.{is_wait_for}
@@ -157,8 +157,8 @@ unended_there p (q ∷ qs) there = by_tests (same_pid q.pid p) q.ended refl ther
     by_tests false true is there more = more there
     by_tests false false is there more = ap (λ b. b || list_any (λ (q : Placed). same_pid q.pid p) (filter (λ (q : Placed). not q.ended) qs)) is ∙ more there
 
-asker_unended : (system : System) (log : List Entry) (e : Entry) (p : Pid) (i : ℕ) → Stands system log e → what e ≡ Fetch p i → list_any (λ (q : Placed). same_pid q.pid p) (unended_in (placement system log)) ≡ true
-asker_unended system log e p i stands is = unended_there p (placement system log).placed (from_home (unended_at (placement system log) p) home)
+pub asker_is_there : (system : System) (log : List Entry) (e : Entry) (p : Pid) (i : ℕ) → Stands system log e → what e ≡ Fetch p i → is_some (unended_at (placement system log) p) ≡ true
+asker_is_there system log e p i stands is = from_home (unended_at (placement system log) p) home
   where
     right : is_by_right (placement system log) (e.post).by (Fetch p i) ≡ true
     right = sym (ap (is_by_right (placement system log) (e.post).by) is) ∙ stands.by_right
@@ -169,6 +169,9 @@ asker_unended system log e p i stands is = unended_there p (placement system log
     from_home : (o : Option Placed) → is_some (option_map (λ (q : Placed). q.home) o) ≡ true → is_some o ≡ true
     from_home None h = h
     from_home (Some q) h = refl
+
+asker_unended : (system : System) (log : List Entry) (e : Entry) (p : Pid) (i : ℕ) → Stands system log e → what e ≡ Fetch p i → list_any (λ (q : Placed). same_pid q.pid p) (unended_in (placement system log)) ≡ true
+asker_unended system log e p i stands is = unended_there p (placement system log).placed (asker_is_there system log e p i stands is)
 
 module _ (system : System) (log : List Entry) (e : Entry) (stands : Stands system log e) (none : (r : Pid) → moves_next system log e r ≡ false) where
   -- over the same processes no more is unasked

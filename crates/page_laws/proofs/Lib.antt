@@ -1,5 +1,10 @@
 pub mod OneEntry
+pub mod InsnSizes
+pub mod StepSizes
 pub mod PagesStay
+pub mod SizesStay
 pub mod Keeping
 pub mod Waiting
 pub mod Leaving
+pub mod StartPages
+mod WorkedLeft

@@ -1,6 +1,6 @@
 -- A fetch that waits is of a process that lacks the page: the page was fetched since a crash moved the process, and has not come since.
-use Rattle.std.proofs.Common.{◌≡◌, ℕ, zero, suc, ◌+◌, ◌<◌, add-zero, refl, sym, ◌∙◌, ap, subst, arith, List, [], ◌∷◌, ◌++◌, Bool, true, false, cond, not, ◌&&◌, ◌||◌, eqb, eqb-true, Option, Some, None, is_some, true≢false}
-use Rattle.std.specs.Prelude.{option_map, option_and_then}
+use Rattle.std.proofs.Common.{◌≡◌, ℕ, zero, suc, ◌+◌, ◌<◌, add-zero, refl, sym, ◌∙◌, ap, subst, arith, List, [], ◌∷◌, ◌++◌, Bool, true, false, cond, not, ◌&&◌, ◌||◌, eqb, eqb-true, Some, true≢false}
+use Rattle.std.specs.Prelude.{option_map}
 use Rattle.std.specs.List.{list_any, list_all, range_with_len}
 use Rattle.std.specs.Option.{option_map_or}
 use Rattle.std.proofs.lemmas.Bool.{and_parts}
@@ -22,9 +22,9 @@ use Rattle.cert_sched.specs.Legal.{IsLegalBy, Stands, MayFollow}
 use Rattle.cert_sched.proofs.Induction.{legal_induction}
 use Rattle.page_laws.specs.Next.{moves_next, ends_wait_next}
 use Rattle.page_laws.specs.Waited.{is_wait_for, is_waited}
-use Rattle.page_laws.proofs.OneEntry.{any_since-snoc, any_since-goes_on, any_since-kept, moved-goes_on, is_waited-snoc, wait_is}
+use Rattle.page_laws.proofs.OneEntry.{any_since-snoc, any_since-goes_on, any_since-kept, moved-goes_on, is_waited-snoc}
 use Rattle.page_laws.proofs.PagesStay.{page_count-snoc}
-use Rattle.page_laws.proofs.Keeping.{GoesOn, wait_goes_on}
+use Rattle.page_laws.proofs.Keeping.{wait_goes_on}
 
 -- ---- what an entry of these kinds tells
 

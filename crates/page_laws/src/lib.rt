@@ -3,5 +3,6 @@
 
 pub mod left;
 pub mod one_entry;
+pub mod start_pages;
 pub mod stays;
 pub mod waits;
