@@ -48,12 +48,6 @@ wait_goes_on system log e p i goes =
 pub pages_kept : (system : System) (log : List Entry) (e : Entry) (p : Pid) → Stands system log e → moves_next system log e p ≡ false → has_its_pages system log p ≡ true → has_its_pages system (log ++ e ∷ []) p ≡ true
 pages_kept system log e p stands stays has = by_moved (moved_with_state system log p) refl has
   where
-    came : ℕ → Bool
-    came i = any_since_moved system log p (is_page_is p i)
-
-    came_after : ℕ → Bool
-    came_after i = any_since_moved system (log ++ e ∷ []) p (is_page_is p i)
-
     by_moved : (b : Bool) → moved_with_state system log p ≡ b → (not b || list_all (λ i. any_since_moved system log p (is_page_is p i)) (range_with_len 0 (page_count system log p))) ≡ true
         → (not (moved_with_state system (log ++ e ∷ []) p) || list_all (λ i. any_since_moved system (log ++ e ∷ []) p (is_page_is p i)) (range_with_len 0 (page_count system (log ++ e ∷ []) p))) ≡ true
     by_moved false is all = ap (λ b. not b || list_all (λ i. any_since_moved system (log ++ e ∷ []) p (is_page_is p i)) (range_with_len 0 (page_count system (log ++ e ∷ []) p))) (moved-goes_on system log e p stays ∙ is)

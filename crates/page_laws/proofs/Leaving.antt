@@ -2,7 +2,6 @@
 use Rattle.std.proofs.Common.{◌≡◌, ℕ, zero, suc, ◌+◌, ◌<◌, ◌≤◌, add-zero, refl, sym, ◌∙◌, ap, subst, arith, List, [], ◌∷◌, ◌++◌, map, length, length-append, Bool, true, false, cond, not, ◌&&◌, ◌||◌, eqb, eqb-true, eq-eqb, Option, Some, None, is_some, true≢false}
 use Rattle.std.specs.Prelude.{filter, find, count_by, sum_by, option_map}
 use Rattle.std.specs.List.{list_any, range_with_len}
-use Rattle.std.specs.Option.{option_map_or}
 use Rattle.std.proofs.lemmas.Bool.{and_parts}
 use Rattle.std.proofs.lemmas.List.Sums.{sum_by-cons, length-filter, count_by-le-length}
 use Rattle.t32_base.specs.declared.process.Pid.{Pid}
@@ -18,7 +17,7 @@ use Rattle.bus_msg.specs.declared.placed.Placed.{Placed}
 use Rattle.bus_msg.specs.Places.{Places, same_pid, unended_at, unended_in}
 use Rattle.bus_msg.specs.PlacedAfter.{what, placed_after, after_exit}
 use Rattle.cert_sched.specs.Schedule.{placement}
-use Rattle.cert_sched.specs.Told.{is_moved, cluster_lost}
+use Rattle.cert_sched.specs.Told.{cluster_lost}
 use Rattle.cert_sched.specs.Moved.{any_since_moved, moved_with_state, waiting_fetches, is_fetch}
 use Rattle.cert_sched.specs.Rules.{is_by_right, is_living, is_by, home_at}
 use Rattle.cert_sched.specs.Steps.{page_count}
@@ -29,7 +28,7 @@ use Rattle.cert_sched.proofs.LogLaws.{placement-snoc}
 use Rattle.page_laws.specs.Next.{moves_next}
 use Rattle.page_laws.specs.Waited.{is_wait_for}
 use Rattle.page_laws.specs.Left.{is_unasked, unasked_of, unasked, left_of_pages}
-use Rattle.page_laws.proofs.OneEntry.{any_since-goes_on, moved-goes_on, waiting-snoc, waits_after, after_fetch, after_page_is, after_exit_of, after_other}
+use Rattle.page_laws.proofs.OneEntry.{moves_none, any_since-goes_on, moved-goes_on, waiting-snoc, waits_after, after_fetch, after_page_is, after_exit_of, after_other}
 use Rattle.page_laws.proofs.PagesStay.{page_count-snoc}
 use Rattle.page_laws.proofs.Waiting.{fetch_holds, came_waited}
 
@@ -77,7 +76,7 @@ filter_most t xs = subst (λ n. n ≤ length xs) (sym (length-filter t xs)) (cou
 
 -- ---- the pages of one process
 
-abbrev one_if : Bool → ℕ
+abbrev pub one_if : Bool → ℕ
 one_if b = cond b 1 0
 
 -- a page was not asked for, nor is it by the entry
@@ -135,17 +134,13 @@ fetch-less system log e p i stands is stays =
 
 -- ---- all processes
 
--- none is moved by an entry that is no loss
-no_loss : (system : System) (log : List Entry) (e : Entry) (w : What) → what e ≡ w → cluster_lost w ≡ None → (r : Pid) → moves_next system log e r ≡ false
-no_loss system log e w is none r = ap (λ x. option_map_or (is_moved r (placement system log)) (cluster_lost x) false) is ∙ ap (λ o. option_map_or (is_moved r (placement system log)) o false) none
-
 -- who asks has not ended
 asker_there : (by : By) (o : Option ClusterNo) → is_by by o ≡ true → is_some o ≡ true
 asker_there (Cluster k) None right = absurd (true≢false (sym right))
 asker_there (Cluster k) (Some j) right = refl
 asker_there Bus o right = absurd (true≢false (sym right))
 
-unended_there : (p : Pid) (qs : List Placed) → is_some (find (λ (q : Placed). same_pid q.pid p && not q.ended) qs) ≡ true → list_any (λ (q : Placed). same_pid q.pid p) (filter (λ (q : Placed). not q.ended) qs) ≡ true
+pub unended_there : (p : Pid) (qs : List Placed) → is_some (find (λ (q : Placed). same_pid q.pid p && not q.ended) qs) ≡ true → list_any (λ (q : Placed). same_pid q.pid p) (filter (λ (q : Placed). not q.ended) qs) ≡ true
 unended_there p [] there = absurd (true≢false (sym there))
 unended_there p (q ∷ qs) there = by_tests (same_pid q.pid p) q.ended refl there (unended_there p qs)
   where
@@ -190,7 +185,7 @@ unasked-less system log e p i stands is =
     (λ q. unasked_of-most system log e stands q.pid (none q.pid)) at_asker (unended_in (placement system log)) (asker_unended system log e p i stands is))
   where
     none : (r : Pid) → moves_next system log e r ≡ false
-    none = no_loss system log e (Fetch p i) is refl
+    none = moves_none system log e (ap cluster_lost is)
 
     at_asker : (q : Placed) → same_pid q.pid p ≡ true → unasked_of system (log ++ e ∷ []) q.pid + 1 ≤ unasked_of system log q.pid
     at_asker q same =
@@ -226,7 +221,7 @@ unasked-exit : (system : System) (log : List Entry) (e : Entry) (p : Pid) (at : 
 unasked-exit system log e p at end stands is =
     let first : sum_by (λ (q : Placed). unasked_of system (log ++ e ∷ []) q.pid) (unended_in (placed_after (placement system log) (Exit p at end))) ≤ sum_by (λ (q : Placed). unasked_of system (log ++ e ∷ []) q.pid) (unended_in (placement system log)) =
     exit_sum (unasked_of system (log ++ e ∷ [])) p (placement system log).placed in
-    let second = most_over system log e stands (no_loss system log e (Exit p at end) is refl) (unended_in (placement system log)) in
+    let second = most_over system log e stands (moves_none system log e (ap cluster_lost is)) (unended_in (placement system log)) in
     subst (λ (places : Places). sum_by (λ (q : Placed). unasked_of system (log ++ e ∷ []) q.pid) (unended_in places) ≤ unasked system log)
     (sym (placement-snoc system log e ∙ ap (placed_after (placement system log)) is)) (omega (arith, first, second))
 
@@ -242,7 +237,7 @@ left_fetch system log e p i stands is =
 
 pub left_page_is : (system : System) (log : List Entry) (e : Entry) (p : Pid) (i : ℕ) (bytes : List ℕ) → Stands system log e → what e ≡ PageIs p i bytes → left_of_pages system (log ++ e ∷ []) < left_of_pages system log
 left_page_is system log e p i bytes stands is =
-    let asked = unasked-most system log e stands (no_loss system log e (PageIs p i bytes) is refl) (placement-snoc system log e ∙ ap (placed_after (placement system log)) is) in
+    let asked = unasked-most system log e stands (moves_none system log e (ap cluster_lost is)) (placement-snoc system log e ∙ ap (placed_after (placement system log)) is) in
     let waits : length (waiting_fetches system (log ++ e ∷ [])) ≡ length (filter (λ (f : Pid × ℕ). not (is_wait_for p i f)) (waiting_fetches system log)) =
     ap length (waiting-snoc system log e ∙ ap (λ w. waits_after (placement system log) w (waiting_fetches system log)) is ∙ after_page_is (placement system log) p i bytes (waiting_fetches system log)) in
     let less = filter_less (is_wait_for p i) (waiting_fetches system log) (came_waited system log e p i bytes stands is) in
@@ -252,7 +247,7 @@ module _ (system : System) (log : List Entry) (e : Entry) (stands : Stands syste
   left_still : (w : What) → what e ≡ w → cluster_lost w ≡ None → placed_after (placement system log) w ≡ placement system log → waits_after (placement system log) w (waiting_fetches system log) ≡ waiting_fetches system log
       → left_of_pages system (log ++ e ∷ []) ≤ left_of_pages system log
   left_still w is no_crash places waits =
-      let asked = unasked-most system log e stands (no_loss system log e w is no_crash) (placement-snoc system log e ∙ ap (placed_after (placement system log)) is ∙ places) in
+      let asked = unasked-most system log e stands (moves_none system log e (ap cluster_lost is ∙ no_crash)) (placement-snoc system log e ∙ ap (placed_after (placement system log)) is ∙ places) in
       let same : length (waiting_fetches system (log ++ e ∷ [])) ≡ length (waiting_fetches system log) =
       ap length (waiting-snoc system log e ∙ ap (λ w. waits_after (placement system log) w (waiting_fetches system log)) is ∙ waits) in
       omega (arith, asked, same)

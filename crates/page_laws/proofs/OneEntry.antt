@@ -62,6 +62,10 @@ turned m n = by_test (eqb n m) refl
 
 -- ---- since a crash moved the process
 
+-- an entry that loses no cluster moves no process
+pub moves_none : (system : System) (log : List Entry) (e : Entry) → cluster_lost (what e) ≡ None → (p : Pid) → moves_next system log e p ≡ false
+moves_none system log e none p = ap (λ o. option_map_or (is_moved p (placement system log)) o false) none
+
 module _ (system : System) (log : List Entry) (e : Entry) (p : Pid) where
   -- a crash that moves it leaves nothing; any other entry is one more
   pub any_since-snoc : (test : What → Bool) → any_since_moved system (log ++ e ∷ []) p test ≡ cond (moves_next system log e p) false (any_since_moved system log p test || test (what e))
@@ -119,12 +123,6 @@ waiting_in-snoc t [] = by_option (fetched (what t.entry))
     by_option (Some f) = refl
 waiting_in-snoc t (x ∷ ts) = by_option (fetched (what x.entry)) (waiting_in-snoc t ts)
   where
-    last : List (Pid × ℕ)
-    last = added (fetched (what t.entry))
-
-    left : List (Pid × ℕ)
-    left = filter (goes_on t) (waiting_in ts) ++ added (fetched (what t.entry))
-
     by_tests : (f : Pid × ℕ) (b c : Bool) → ends_wait f.0 f.1 t ≡ b
         → cond (c || b) (filter (goes_on t) (waiting_in ts) ++ added (fetched (what t.entry))) (f ∷ (filter (goes_on t) (waiting_in ts) ++ added (fetched (what t.entry))))
         ≡ filter (goes_on t) (cond c (waiting_in ts) (f ∷ waiting_in ts)) ++ added (fetched (what t.entry))

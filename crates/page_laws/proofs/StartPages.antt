@@ -1,6 +1,5 @@
 -- The pages that come are those with which the process starts again.
 use Rattle.std.proofs.Common.{◌≡◌, ℕ, zero, suc, ◌+◌, ◌*◌, ◌/◌, ◌<◌, add-zero, refl, sym, ◌∙◌, ap, subst, arith, List, [], ◌∷◌, ◌++◌, append_assoc, append-nil, length, take, drop, drop-drop, Bool, true, false, cond, not, ◌&&◌, ◌||◌, Option, Some, None, is_some, true≢false}
-use Rattle.std.specs.Prelude.{map, option_map}
 use Rattle.std.specs.Option.{option_map_or}
 use Rattle.std.specs.Ordering.{nat_cmp, is_eq}
 use Rattle.std.specs.FinMap.{find as find_in}
@@ -14,9 +13,8 @@ use Rattle.plain_kernel.proofs.Entries.{some_same}
 use Rattle.bus_msg.specs.declared.entry.What.{What}
 use Rattle.bus_msg.specs.declared.entry.What.TheVariants.{Mail, Birth, Exit, Page, Sync, Fetch, PageIs, Crash, Return, Rebackup, Done, Stop}
 use Rattle.bus_msg.specs.declared.entry.Entry.{Entry}
-use Rattle.bus_msg.specs.declared.placed.Placed.{Placed}
-use Rattle.bus_msg.specs.Places.{Places, unended_at}
-use Rattle.bus_msg.specs.PlacedAfter.{what, placed_after, after_sync, after_loss, after_rebackup}
+use Rattle.bus_msg.specs.Places.{unended_at}
+use Rattle.bus_msg.specs.PlacedAfter.{what}
 use Rattle.cert_sched.specs.Schedule.{process_after, placement}
 use Rattle.cert_sched.specs.Told.{told}
 use Rattle.cert_sched.specs.Deeds.{starts, start_of, is_cut, is_birth_of}
@@ -30,9 +28,7 @@ use Rattle.cert_sched.specs.Simulation.{IsUnended}
 use Rattle.cert_sched.proofs.LogLaws.{placement-snoc}
 use Rattle.cert_sched.proofs.RecordLaws.{has_state-snoc, start_of-snoc}
 use Rattle.cert_sched.proofs.Induction.{legal_induction}
-use Rattle.cert_sched.proofs.ExitLaws.{unended_exit}
-use Rattle.cert_sched.proofs.UnendedLaws.{Keeps, unended_map, sync_keeps, backup_keeps, loss_keeps}
-use Rattle.cert_sched.proofs.CameLaws.{IsStandingRule, is_birth, not_birth, apart_from}
+use Rattle.cert_sched.proofs.CameLaws.{IsStandingRule, is_birth, not_birth}
 use Rattle.cert_sched.proofs.OpenLaws.{unended_open}
 use Rattle.cert_sched.proofs.PageLaws.{all_kept_pages}
 use Rattle.page_laws.specs.Next.{moves_next, ends_wait_next}
@@ -42,6 +38,7 @@ use Rattle.page_laws.proofs.Keeping.{wait_goes_on}
 use Rattle.page_laws.proofs.Waiting.{waited_lacks, came_waited, page_is_holds, fetch_is}
 use Rattle.page_laws.proofs.Leaving.{asker_is_there}
 use Rattle.page_laws.proofs.SizesStay.{start_sized}
+use Rattle.page_laws.proofs.StayingUnended.{unended_stays}
 
 -- ---- the pages of a memory
 
@@ -110,31 +107,6 @@ kept_pages system log p start i valid legal moved unended started within =
     ∙ page_found start.memory (page_count system log p) i (start_sized system log p start now valid there started) within)
 
 -- ---- who waits has not ended
-
--- a process that is there stays there where the entry is not its exit
-unended_stays : (w : What) → is_birth w ≡ false → (places : Places) (p : Pid) → is_exit_of p w ≡ false → is_some (unended_at places p) ≡ true → is_some (unended_at (placed_after places w) p) ≡ true
-unended_stays w no_birth places p no_exit there = by_what w no_birth no_exit
-  where
-    mapped : (f : Placed → Placed) → Keeps f → (after : Places) → after.placed ≡ map f places.placed → is_some (unended_at after p) ≡ true
-    mapped f keeps after is = ap is_some (unended_map f keeps places after is p) ∙ some_still (unended_at places p) ∙ there
-      where
-        some_still : (o : Option Placed) → is_some (option_map f o) ≡ is_some o
-        some_still None = refl
-        some_still (Some q) = refl
-
-    by_what : (w : What) → is_birth w ≡ false → is_exit_of p w ≡ false → is_some (unended_at (placed_after places w) p) ≡ true
-    by_what (Mail at letter) other stays = there
-    by_what (Birth parent at child end) other stays = absurd (true≢false other)
-    by_what (Exit q at end) other stays = ap is_some (unended_exit q p places.placed (apart_from q p stays)) ∙ there
-    by_what (Page q at index bytes) other stays = there
-    by_what (Sync q small read took) other stays = mapped (after_sync q) (sync_keeps q) (placed_after places (Sync q small read took)) refl
-    by_what (Fetch q index) other stays = there
-    by_what (PageIs q index bytes) other stays = there
-    by_what (Crash k cause) other stays = mapped (after_loss k) (loss_keeps k) (placed_after places (Crash k cause)) refl
-    by_what (Return k) other stays = there
-    by_what (Rebackup to fresh recs) other stays = mapped (after_rebackup to fresh recs) (backup_keeps to fresh recs) (placed_after places (Rebackup to fresh recs)) refl
-    by_what (Done rests) other stays = there
-    by_what Stop other stays = there
 
 pub waited_unended : (system : System) (log : List Entry) (p : Pid) (i : ℕ) → IsLegalBy Stands system log → is_waited system log p i ≡ true → IsUnended system log p
 unfolding told

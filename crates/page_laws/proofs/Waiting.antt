@@ -2,7 +2,6 @@
 use Rattle.std.proofs.Common.{◌≡◌, ℕ, zero, suc, ◌+◌, ◌<◌, add-zero, refl, sym, ◌∙◌, ap, subst, arith, List, [], ◌∷◌, ◌++◌, Bool, true, false, cond, not, ◌&&◌, ◌||◌, eqb, eqb-true, Some, true≢false}
 use Rattle.std.specs.Prelude.{option_map}
 use Rattle.std.specs.List.{list_any, list_all, range_with_len}
-use Rattle.std.specs.Option.{option_map_or}
 use Rattle.std.proofs.lemmas.Bool.{and_parts}
 use Rattle.t32_base.specs.declared.process.Pid.{Pid}
 use Rattle.sys_text.specs.declared.system.System.{System}
@@ -12,8 +11,7 @@ use Rattle.bus_msg.specs.declared.entry.Entry.{Entry}
 use Rattle.bus_msg.specs.Places.{same_pid}
 use Rattle.bus_msg.specs.PlacedAfter.{what}
 use Rattle.cert_sched.specs.Parts.{first_of}
-use Rattle.cert_sched.specs.Schedule.{placement}
-use Rattle.cert_sched.specs.Told.{told, is_moved, cluster_lost}
+use Rattle.cert_sched.specs.Told.{told, cluster_lost}
 use Rattle.cert_sched.specs.Moved.{any_since_moved, moved_with_state, waiting_fetches, is_page_is, is_fetch}
 use Rattle.cert_sched.specs.Rules.{has_its_pages, awaits_pages, holds_of}
 use Rattle.cert_sched.specs.Steps.{page_count, process_of}
@@ -22,7 +20,7 @@ use Rattle.cert_sched.specs.Legal.{IsLegalBy, Stands, MayFollow}
 use Rattle.cert_sched.proofs.Induction.{legal_induction}
 use Rattle.page_laws.specs.Next.{moves_next, ends_wait_next}
 use Rattle.page_laws.specs.Waited.{is_wait_for, is_waited}
-use Rattle.page_laws.proofs.OneEntry.{any_since-snoc, any_since-goes_on, any_since-kept, moved-goes_on, is_waited-snoc}
+use Rattle.page_laws.proofs.OneEntry.{moves_none, any_since-snoc, any_since-goes_on, any_since-kept, moved-goes_on, is_waited-snoc}
 use Rattle.page_laws.proofs.PagesStay.{page_count-snoc}
 use Rattle.page_laws.proofs.Keeping.{wait_goes_on}
 
@@ -65,13 +63,6 @@ page_came (Return k) p i is = absurd (true≢false (sym is))
 page_came (Rebackup to fresh recs) p i is = absurd (true≢false (sym is))
 page_came (Done rests) p i is = absurd (true≢false (sym is))
 page_came Stop p i is = absurd (true≢false (sym is))
-
--- an entry that asks for a page moves no process
-pub fetch_moves_none : (system : System) (log : List Entry) (e : Entry) (p q : Pid) (i : ℕ) → what e ≡ Fetch p i → moves_next system log e q ≡ false
-fetch_moves_none system log e p q i is = ap (λ w. option_map_or (is_moved q (placement system log)) (cluster_lost w) false) is
-
-pub page_is_moves_none : (system : System) (log : List Entry) (e : Entry) (p q : Pid) (i : ℕ) (bytes : List ℕ) → what e ≡ PageIs p i bytes → moves_next system log e q ≡ false
-page_is_moves_none system log e p q i bytes is = ap (λ w. option_map_or (is_moved q (placement system log)) (cluster_lost w) false) is
 
 pub fetch_holds : (system : System) (log : List Entry) (e : Entry) (p : Pid) (i : ℕ) → Stands system log e → what e ≡ Fetch p i → FetchHolds system log p i
 fetch_holds system log e p i stands is = subst (KindHolds system log e) is stands.kind
@@ -147,7 +138,7 @@ module _ (system : System) (log : List Entry) (e : Entry) (p : Pid) (i : ℕ) (s
   now_lacks asks =
       let is = fetch_is (what e) p i asks in
       let holds = fetch_holds system log e p i stands is in
-      let stays = fetch_moves_none system log e p p i is in
+      let stays = moves_none system log e (ap cluster_lost is) p in
       record {
         fetched = any_since-goes_on system log e p (is_fetch p i) stays ∙ (λ j. holds.unasked j || asks j);
         not_come = any_since-goes_on system log e p (is_page_is p i) stays ∙ (λ j. not_come_before holds.unasked j || is_page_is p i (is j));

@@ -1,5 +1,5 @@
 //! What one more entry of a log makes of what stands since a loss moved a process, and of the fetches that wait.
-ghost use Rattle.std.specs.Prelude.{ℕ, ◌≡◌, Bool, true, false, not, ◌&&◌, ◌||◌, if◌then◌else◌, List, [], ◌∷◌, ◌++◌, filter};
+ghost use Rattle.std.specs.Prelude.{ℕ, ◌≡◌, Bool, true, false, not, ◌&&◌, ◌||◌, if◌then◌else◌, List, [], ◌∷◌, ◌++◌, filter, None};
 ghost use Rattle.t32_base.specs.declared.process.Pid.{Pid};
 ghost use Rattle.t32_base.specs.declared.process.ClusterNo.{ClusterNo};
 ghost use Rattle.t32_base.specs.declared.process.End.{End};
@@ -11,7 +11,7 @@ ghost use Rattle.bus_msg.specs.declared.entry.Entry.{Entry};
 ghost use Rattle.bus_msg.specs.Places.{same_pid};
 ghost use Rattle.bus_msg.specs.PlacedAfter.{what};
 ghost use Rattle.cert_sched.specs.Schedule.{placement};
-ghost use Rattle.cert_sched.specs.Told.{is_moved};
+ghost use Rattle.cert_sched.specs.Told.{cluster_lost, is_moved};
 ghost use Rattle.cert_sched.specs.Record.{has_state};
 ghost use Rattle.cert_sched.specs.Moved.{any_since_moved, moved_with_state, waiting_fetches, is_fetch};
 ghost use Rattle.page_laws.specs.Next.{moves_next, ends_wait_next, leaves_waits};
@@ -19,6 +19,8 @@ ghost use Rattle.page_laws.specs.Waited.{is_wait_for, is_waited};
 
 /// A law and no code: what was seen since a crash moved the process, after one more entry.
 pub fn since_moves()
+    // Only an entry that loses a cluster moves processes.
+    ensures none { (system : System) (log : List Entry) (e : Entry) (p : Pid) → cluster_lost (what e) ≡ None → moves_next system log e p ≡ false }
     // A crash that moves it leaves nothing seen; any other entry is seen beside what was.
     ensures any { (system : System) (log : List Entry) (e : Entry) (p : Pid) (test : What → Bool) → any_since_moved system (log ++ e ∷ []) p test ≡ (if moves_next system log e p then false else any_since_moved system log p test || test (what e)) }
     // Such a crash finds a state in the record of the process or none; any other entry leaves what the last one found.
