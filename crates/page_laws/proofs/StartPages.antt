@@ -1,5 +1,5 @@
 -- The pages that come are those with which the process starts again.
-use Rattle.std.proofs.Common.{◌≡◌, ℕ, zero, suc, ◌+◌, ◌*◌, ◌/◌, ◌<◌, add-zero, refl, sym, ◌∙◌, ap, subst, arith, List, [], ◌∷◌, ◌++◌, append_assoc, append-nil, length, take, drop, drop-drop, Bool, true, false, cond, not, ◌&&◌, ◌||◌, Option, Some, None, is_some, true≢false}
+use Rattle.std.proofs.Common.{option_map, ◌≡◌, ℕ, zero, suc, ◌+◌, ◌*◌, ◌/◌, ◌<◌, add-zero, refl, sym, ◌∙◌, ap, subst, arith, List, [], ◌∷◌, ◌++◌, append_assoc, append-nil, length, take, drop, drop-drop, Bool, true, false, cond, not, ◌&&◌, ◌||◌, Option, Some, None, is_some, true≢false, eq-eqb}
 use Rattle.std.specs.Option.{option_map_or}
 use Rattle.std.specs.Ordering.{nat_cmp, is_eq}
 use Rattle.std.specs.FinMap.{find as find_in}
@@ -17,11 +17,13 @@ use Rattle.bus_msg.specs.Places.{unended_at}
 use Rattle.bus_msg.specs.PlacedAfter.{what}
 use Rattle.cert_sched.specs.Schedule.{process_after, placement}
 use Rattle.cert_sched.specs.Told.{told}
+use Rattle.cert_sched.specs.Parts.{first_of}
 use Rattle.cert_sched.specs.Deeds.{starts, start_of, is_cut, is_birth_of}
 use Rattle.cert_sched.specs.Record.{has_state}
 use Rattle.cert_sched.specs.Account.{account_after, all_pages, pages_from, page_in, is_exit_of}
-use Rattle.cert_sched.specs.Moved.{moved_with_state, is_fetch}
+use Rattle.cert_sched.specs.Moved.{waiting_fetches, moved_with_state, is_fetch}
 use Rattle.cert_sched.specs.Steps.{page_count}
+use Rattle.cert_sched.specs.Kinds.{PageIsHolds}
 use Rattle.cert_sched.specs.Built.{is_built, BuiltMayFollow}
 use Rattle.cert_sched.specs.Legal.{IsLegalBy, IsLegalFrom, Stands}
 use Rattle.cert_sched.specs.Simulation.{IsUnended}
@@ -32,10 +34,10 @@ use Rattle.cert_sched.proofs.CameLaws.{IsStandingRule, is_birth, not_birth}
 use Rattle.cert_sched.proofs.OpenLaws.{unended_open}
 use Rattle.cert_sched.proofs.PageLaws.{all_kept_pages}
 use Rattle.page_laws.specs.Next.{moves_next, ends_wait_next}
-use Rattle.page_laws.specs.Waited.{is_waited}
+use Rattle.page_laws.specs.Waited.{is_wait_for, is_waited}
 use Rattle.page_laws.proofs.OneEntry.{moved_with_state-snoc, is_waited-snoc}
 use Rattle.page_laws.proofs.Keeping.{wait_goes_on}
-use Rattle.page_laws.proofs.Waiting.{waited_lacks, came_waited, page_is_holds, fetch_is}
+use Rattle.page_laws.proofs.Waiting.{first_waited, waited_lacks, came_waited, page_is_holds, fetch_is}
 use Rattle.page_laws.proofs.Leaving.{asker_is_there}
 use Rattle.page_laws.proofs.SizesStay.{start_sized}
 use Rattle.page_laws.proofs.StayingUnended.{unended_stays}
@@ -135,6 +137,18 @@ waited_unended system log p i legal =
         by_tests false x false was ends asks h = absurd (true≢false (sym h))
 
 -- ---- a page that comes
+
+-- a wait is one for its page
+itself_is : (p : Pid) (i : ℕ) → is_wait_for p i (p, i) ≡ true
+itself_is p i = (λ k. eq-eqb p.0 p.0 refl k && eq-eqb i i refl k)
+
+-- the fetch that waits longest may be answered with the page of the start
+pub first_answer : (system : System) (log : List Entry) (p : Pid) (i : ℕ) (start : ProcState) → is_system system ≡ true → IsLegalBy Stands system log → first_of (waiting_fetches system log) ≡ Some (p, i) → start_of system log p ≡ Some start → PageIsHolds system log p i (page_at start.memory i)
+first_answer system log p i start valid legal first started =
+    let asked : option_map (is_wait_for p i) (first_of (waiting_fetches system log)) ≡ Some true = ap (option_map (is_wait_for p i)) first ∙ ap Some (itself_is p i) in
+    let waited = first_waited p i (waiting_fetches system log) asked in
+    let lacks = waited_lacks system log p i legal waited in
+    record { asked = asked; page = kept_pages system log p start i valid legal lacks.moved (waited_unended system log p i legal waited) started lacks.within }
 
 -- a page that comes next is that of the start
 pub next_page : (system : System) (log : List Entry) (e : Entry) (p : Pid) (i : ℕ) (bytes : List ℕ) (start : ProcState) → is_system system ≡ true → IsLegalBy Stands system log → Stands system log e → what e ≡ PageIs p i bytes → start_of system log p ≡ Some start → bytes ≡ page_at start.memory i

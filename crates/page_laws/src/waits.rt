@@ -20,7 +20,7 @@ pub fn waits_lack()
     ensures within { (system : System) (log : List Entry) (p : Pid) (i : ℕ) → IsLegalBy Stands system log → is_waited system log p i ≡ true → i < page_count system log p }
     // So it has not got its pages,
     ensures has_not { (system : System) (log : List Entry) (p : Pid) (i : ℕ) → IsLegalBy Stands system log → is_waited system log p i ≡ true → has_its_pages system log p ≡ false }
-    // and no entry may follow by which it sends, ends, forks or is cut.
+    // and no letter, birth, exit, page or cut of it may follow.
     ensures still { (system : System) (log : List Entry) (e : Entry) (p : Pid) (i : ℕ) → IsLegalBy Stands system log → MayFollow system log e → awaits_pages (what e) ≡ true → process_of (what e) ≡ Some p → is_waited system log p i ≡ false }
     // A page that came was fetched before.
     ensures came { (system : System) (log : List Entry) (p : Pid) (i : ℕ) → IsLegalBy Stands system log → any_since_moved system log p (is_page_is p i) ≡ true → any_since_moved system log p (is_fetch p i) ≡ true }
