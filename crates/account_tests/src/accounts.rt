@@ -30,21 +30,21 @@ const FIRST_BYTE: u8 = 0x93;
 
 // A page server that has booted, and the placement of its system.
 #[derive(Drop)]
-struct Booted {
+struct Server {
     pager: Pager<MemDisk>,
     places: Placement,
 }
 
-fn booted(alloc: Global) -> Result<Booted, Fail> {
+fn server_at_boot(alloc: Global) -> Result<Server, Fail> {
     let system = read_system(alloc, HI.as_bytes())?;
     let processes = processes_of(alloc, &system)?;
     let mut pager = Pager::new(alloc, MemDisk::new(alloc, List::new(alloc)));
     put_roots(&mut pager, &processes)?;
     let places = placement_at_boot(alloc, &system)?;
-    Ok(Booted { pager, places })
+    Ok(Server { pager, places })
 }
 
-impl Booted {
+impl Server {
     fn note(&mut self, what: What) -> Result<(), Fail> {
         let entry = Entry {
             place: 0,
@@ -135,7 +135,7 @@ fn exit() -> What {
 #[test]
 fn a_fetch_is_answered_with_the_page_of_the_last_cut(rt: HostRuntime) -> Result<(), Fail> {
     let alloc = rt.alloc();
-    let mut server = booted(alloc)?;
+    let mut server = server_at_boot(alloc)?;
     same("nothing asked", &server.owed()?, &None)?;
     server.note(fetch())?;
     same("at boot", &server.owed()?, &Some(FIRST_BYTE))?;
@@ -150,7 +150,7 @@ fn a_fetch_is_answered_with_the_page_of_the_last_cut(rt: HostRuntime) -> Result<
 #[test]
 fn a_crash_ends_the_wait_and_goes_back_to_the_last_cut(rt: HostRuntime) -> Result<(), Fail> {
     let alloc = rt.alloc();
-    let mut server = booted(alloc)?;
+    let mut server = server_at_boot(alloc)?;
     server.note(fetch())?;
     server.note(page(alloc, 7)?)?;
     server.note(crash())?;
@@ -163,7 +163,7 @@ fn a_crash_ends_the_wait_and_goes_back_to_the_last_cut(rt: HostRuntime) -> Resul
 #[test]
 fn a_page_that_came_and_an_exit_end_the_wait(rt: HostRuntime) -> Result<(), Fail> {
     let alloc = rt.alloc();
-    let mut server = booted(alloc)?;
+    let mut server = server_at_boot(alloc)?;
     server.note(fetch())?;
     server.note(What::PageIs {
         pid: ROOT,

@@ -9,7 +9,7 @@ use Rattle.std.specs.FinMap.{put, find, is_sorted}
 use Rattle.std.specs.FinMap.Entries.{by_order, is_sorted-put}
 use Rattle.std.proofs.lemmas.Bool.Decides.{nat_tests}
 use Rattle.std.proofs.lemmas.List.{length-append, length-replicate}
-use Rattle.std.proofs.lemmas.List.Sums.{sum_by-cons, sum_by_push}
+use Rattle.std.proofs.lemmas.List.Sums.{sum_by-append, sum_by-cons, sum_by_push}
 use Rattle.t32_base.specs.declared.process.Pid.{Pid}
 use Rattle.sys_text.specs.declared.system.System.{System}
 use Rattle.sys_text.specs.declared.system.Image.{Image}
@@ -200,3 +200,12 @@ all_pages_of system es valid states = state_pages_of es ∙ ap state_pages (stat
 -- one process more
 pub pages_last : (es : List (ℕ × Process)) (e : ℕ × Process) → pages_of (es ++ e ∷ []) ≡ pages_of es + length ((e.1).ram).bytes / 256
 pages_last es e = sum_by_push (λ (e : ℕ × Process). length ((e.1).ram).bytes / 256) es e
+
+-- and those behind it are no fewer
+pub pages_upto : (es : List (ℕ × Process)) (e : ℕ × Process) (rest : List (ℕ × Process)) → pages_of es + length ((e.1).ram).bytes / 256 ≤ pages_of (es ++ e ∷ rest)
+pages_upto es e rest =
+    let f : ℕ × Process → ℕ = λ (e : ℕ × Process). length ((e.1).ram).bytes / 256 in
+    at_most (pages_of es) (length ((e.1).ram).bytes / 256) (pages_of rest) (pages_of (e ∷ rest)) (pages_of (es ++ e ∷ rest)) (sum_by-append f es (e ∷ rest)) (sum_by-cons f e rest)
+  where
+    at_most : (a b c m n : ℕ) → n ≡ a + m → m ≡ b + c → a + b ≤ n
+    at_most a b c m n h g = omega (arith, h, g)

@@ -1,5 +1,5 @@
 -- What a page server puts at boot, and what its disk counts by then.
-use Rattle.std.specs.Prelude.{ℕ, ◌≡◌, ◌+◌, ◌/◌, ◌≤◌, List, [], length, Result, Ok, Err}
+use Rattle.std.specs.Prelude.{ℕ, ◌≡◌, ◌+◌, ◌/◌, ◌<◌, ◌≤◌, List, [], length, Result, Ok, Err}
 use Rattle.std.specs.List.{sum_by}
 use Rattle.proc_state.specs.declared.process.Process.{Process}
 use Rattle.cert_sched.specs.Account.{Account, all_pages}
@@ -17,23 +17,30 @@ abbrev pub pages_of : List (ℕ × Process) → ℕ
 pages_of es = sum_by (λ (e : ℕ × Process). length ((e.1).ram).bytes / 256) es
 
 -- the uncommitted account alone holds every page of a memory
-abbrev pub put_memory : List ℕ → Account
-put_memory bytes = record { now = all_pages bytes; kept = [] }
+abbrev pub memory_put : List ℕ → Account
+memory_put bytes = record { now = all_pages bytes; kept = [] }
 
--- so many calls of the disk were carried out at least, as far as a count goes, and no count of faults fell
+-- so many calls of the disk were carried out, as far as a count goes, and the count of faults did not fall
 pub record CallsMade (made : ℕ) (old new : Counts) : Type 0 where
-  pub calls : capped (old.calls + made) ≤ new.calls
+  pub least : capped (old.calls + made) ≤ new.calls
+  pub most : new.calls ≤ old.calls + made
   pub faults : old.faults ≤ new.faults
   pub failing : new.failing ≡ old.failing
 
--- one of several calls failed: it has the number of the calls before it, which did not fall, and the count of faults rose
-pub record FailedAmong (old new : Counts) (call : ℕ) : Type 0 where
+-- fewer calls than these were carried out
+pub record FewerMade (calls : ℕ) (old new : Counts) : Type 0 where
+  pub made : ℕ
+  pub fewer : made < calls
+  pub so_many : CallsMade made old new
+
+-- one of so many calls failed: it has the number of the calls before it, and the count of faults rose
+pub record FailedAmong (calls : ℕ) (old new : Counts) (call : ℕ) : Type 0 where
   pub before : Counts
-  pub made : CallsMade 0 old before
+  pub made : FewerMade calls old before
   pub failed : Failed before new call
 
--- what the disk counts after so many pages were to be put
+-- what the disk counts after so many pages were to be put, by one call each
 abbrev pub CountsAfterPuts : ℕ → Counts → Counts → Result (Unit {0}) DiskRefused → Type 0
 CountsAfterPuts pages old new (Ok done) = CallsMade pages old new
-CountsAfterPuts pages old new (Err (Fault fault)) = FailedAmong old new fault.call
-CountsAfterPuts pages old new (Err NoMemory) = CallsMade 0 old new
+CountsAfterPuts pages old new (Err (Fault fault)) = FailedAmong pages old new fault.call
+CountsAfterPuts pages old new (Err NoMemory) = FewerMade pages old new

@@ -1,14 +1,13 @@
-use Rattle.std.proofs.Common.{◌≡◌, ◌≤◌, ◌+◌, ℕ, length, append-nil, sym, ◌∙◌, ap, subst, List, [], ◌∷◌, ◌++◌, map, append_assoc, Ok}
+use Rattle.std.proofs.Common.{◌≡◌, ◌≤◌, ◌+◌, ℕ, length, append-nil, sym, ◌∙◌, ap, subst, List, [], ◌∷◌, ◌++◌, map, append_assoc, Ok, Err, rules}
 use Rattle.std.specs.Prelude.{◌/◌}
 use Rattle.std.specs.List.Sorted.{IsStrictlySortedBy}
 use Rattle.std.specs.Ordering.{nat_cmp}
 use Rattle.plain_kernel.specs.Maps.{processes_of as states_of}
-use Rattle.cert_sched.specs.Losses.{capped}
 use Rattle.proc_state.specs.declared.process.Process.{Process}
-use Rattle.page_accounts.specs.Booting.{CallsMade, pages_of}
+use Rattle.page_accounts.specs.Booting.{CallsMade, CountsAfterPuts, pages_of}
 use Rattle.page_accounts.proofs.Booted.{HoldsMemories, all_kept, next_empty, next_holds, seen, seen_last}
-use Rattle.page_accounts.proofs.Counts.{then_puts}
-use Rattle.page_accounts.proofs.RootPages.{all_pages_of, pages_last}
+use Rattle.page_accounts.proofs.Counts.{refused_among, then_puts}
+use Rattle.page_accounts.proofs.RootPages.{all_pages_of, pages_last, pages_upto}
 use Rattle.page_accounts.proofs.booting.put_roots.Goals as goal
 
 pub put_memory-requires : goal.put_memory-requires
@@ -43,4 +42,19 @@ pub returns-clause-calls : goal.returns-clause-calls
 returns-clause-calls g c system valid states =
     let before = seen c.loop-pid.yielded in
     let whole : before ≡ c.args.processes.now.entries = sym (append-nil before) ∙ sym (ap (λ es. before ++ es) c.in-None.ensures.steps.0) ∙ c.loop-pid.invariant.all in
-    subst (λ n. capped (c.args.pager.now.counts.calls + n) ≤ c.loop-pid.pager.counts.calls) (ap pages_of whole ∙ all_pages_of system c.args.processes.now.entries valid states) c.loop-pid.invariant.counts.calls
+    subst (λ n. CallsMade n c.args.pager.now.counts c.loop-pid.pager.counts) (ap pages_of whole ∙ all_pages_of system c.args.processes.now.entries valid states) c.loop-pid.invariant.counts
+
+pub returns-in_err-put_memory-clause-counts : goal.returns-in_err-put_memory-clause-counts
+returns-in_err-put_memory-clause-counts g c =
+    let e : ℕ × Process = (c.in-Some.pid.now, c.in-Some.process.now) in
+    let old = c.args.pager.now.counts in
+    let mid = c.loop-pid.pager.counts in
+    let new = c.put_memory.new.pager.counts in
+    let before : List (ℕ × Process) = seen c.loop-pid.yielded in
+    let n = length (c.in-Some.process.now.ram).bytes / 256 in
+    let refused = c.in_err-put_memory.field-0.0 in
+    let same : c.from_residual.result ≡ Err refused = search rules in
+    let all : before ++ e ∷ c.next.new.self ≡ c.args.processes.now.entries = rw c.in-Some.ensures.steps at c.loop-pid.invariant.all in
+    let among = then_puts (pages_of before) n old mid new (Err refused) c.loop-pid.invariant.counts c.in_err-put_memory.ensures.counts in
+    subst (CountsAfterPuts (pages_of c.args.processes.now.entries) old new) (sym same)
+    (refused_among (pages_of before + n) (pages_of c.args.processes.now.entries) old new refused (subst (λ es. pages_of before + n ≤ pages_of es) all (pages_upto before e c.next.new.self)) among)
