@@ -1,7 +1,5 @@
-//! Tests of the page server: each call, a disk that fails at each of its calls in turn, and its accounts beside a log.
+//! Tests of the page server: each call, and a disk that fails at each of its calls in turn.
 #![tactic(auto)]
 
-#[cfg(test)]
-mod accounts;
 #[cfg(test)]
 mod pages;

@@ -1,0 +1,144 @@
+-- Each process has as much memory as its pages have, at boot and after each log.
+use Rattle.std.proofs.Common.{◌≡◌, ℕ, ◌*◌, ◌-◌, ◌≤◌, refl, sym, ◌∙◌, ap, subst, arith, List, [], ◌∷◌, ◌++◌, length, true, Bool, false, cond, Option, Some, None, slice_get}
+use Rattle.std.specs.Prelude.{replicate, unwrap_or, option_map, option_and_then}
+use Rattle.std.specs.Option.{option_map_or}
+use Rattle.std.specs.declared.cmp.Ordering.{Ordering}
+use Rattle.std.specs.declared.cmp.Ordering.TheVariants.{Less, Equal, Greater}
+use Rattle.std.specs.Ordering.{is_eq}
+use Rattle.std.proofs.lemmas.List.{length-append, length-replicate}
+use Rattle.t32_base.specs.declared.process.Pid.{Pid}
+use Rattle.sys_text.specs.declared.system.System.{System}
+use Rattle.sys_text.specs.declared.system.Image.{Image}
+use Rattle.sys_text.specs.declared.system.Root.{Root}
+use Rattle.sys_text.specs.Valid.{is_system}
+use Rattle.sys_text.specs.Boot.{bytes_of_words}
+use Rattle.sys_text.proofs.Bounds.{image_bounds}
+use Rattle.proc_state.specs.State.{ProcState, delivered, has_ended}
+use Rattle.sys_calls.specs.declared.steps.Emission.{Emission}
+use Rattle.sys_calls.specs.declared.steps.Emission.TheVariants.{Mail, Exit}
+use Rattle.sys_calls.specs.Calls.{Next, Silent, Blocked, Forks, Emits, Over}
+use Rattle.sys_calls.specs.Next.{next_step}
+use Rattle.plain_kernel.specs.Kernel.{Kernel, pid_cmp, process_at, with_process, boot, emitted, no_image, root_process}
+use Rattle.plain_kernel.specs.Apply.{after_step, one_step}
+use Rattle.plain_kernel.proofs.AtBoot.{boot-each}
+use Rattle.plain_kernel.proofs.Entries.{some_same}
+use Rattle.plain_kernel.proofs.Laws.{process_at-with_process}
+use Rattle.bus_msg.specs.declared.entry.Entry.{Entry}
+use Rattle.cert_sched.specs.Parts.{upto_last}
+use Rattle.cert_sched.specs.Schedule.{plain_after, process_after}
+use Rattle.cert_sched.specs.Deeds.{starts, start_of, is_end_of}
+use Rattle.cert_sched.specs.Steps.{page_count}
+use Rattle.cert_sched.proofs.MailLaws.{received, process_at-emitted}
+use Rattle.cert_sched.proofs.StepLaws.{plain_after-keeps}
+use Rattle.page_laws.proofs.StepSizes.{SameSize, Keeps, next_keeps}
+use Rattle.page_laws.proofs.PagesStay.{boot_pages, page_count-boot}
+
+-- the memory has its pages, of 256 bytes each
+abbrev pub IsSized : ProcState → Type 0
+IsSized s = length s.memory ≡ 256 * (s.small).pages
+
+-- ---- at boot
+
+four_each : (words : List ℕ) → length (bytes_of_words words) ≡ 4 * length words
+four_each [] = refl
+four_each (w ∷ words) = omega (arith, four_each words)
+
+-- an image that fits is filled up
+filled : (image : Image) → 4 * length image.words ≤ 256 * image.pages → length (bytes_of_words image.words ++ replicate (256 * image.pages - length (bytes_of_words image.words)) 0) ≡ 256 * image.pages
+filled image fits =
+    let more = 256 * image.pages - length (bytes_of_words image.words) in
+    omega (arith, length-append (bytes_of_words image.words) (replicate more 0), length-replicate {A = ℕ} more 0, four_each image.words, fits)
+
+root_size : (system : System) → is_system system ≡ true → (p : Pid) (r : Root) → IsSized (root_process system p r)
+root_size system valid p r = by_image (slice_get system.images r.image) refl
+  where
+    by_image : (o : Option Image) → slice_get system.images r.image ≡ o
+        → length (bytes_of_words (unwrap_or o no_image).words ++ replicate (256 * (unwrap_or o no_image).pages - length (bytes_of_words (unwrap_or o no_image).words)) 0) ≡ 256 * (unwrap_or o no_image).pages
+    by_image None is = refl
+    by_image (Some image) is = filled image (image_bounds system r.image image valid is).fits
+
+-- ---- in a kernel
+
+-- each process of a kernel is so
+AllSized : Kernel → Type 0
+AllSized k = (p : Pid) (s : ProcState) → process_at k p ≡ Some s → IsSized s
+
+boot_sized : (system : System) → is_system system ≡ true → AllSized (boot system)
+unfolding AllSized
+boot_sized system valid = boot-each (λ p s. IsSized s) system (root_size system valid) (λ p s peer far has. has)
+
+put_sized : (k : Kernel) (p : Pid) (t : ProcState) → AllSized k → IsSized t → AllSized (with_process k p t)
+unfolding AllSized
+put_sized k p t all sized q s there = by_order (pid_cmp q p) (sym (process_at-with_process k p t q) ∙ there)
+  where
+    by_order : (o : Ordering) → cond (is_eq o) (Some t) (process_at k q) ≡ Some s → IsSized s
+    by_order Less e = all q s e
+    by_order Equal e = subst (λ (x : ProcState). IsSized x) (some_same t s e) sized
+    by_order Greater e = all q s e
+
+received_sized : (m : Emission) (q : Pid) (s : ProcState) → IsSized s → IsSized (received m q s)
+received_sized (Exit end) q s sized = sized
+received_sized (Mail letter) q s sized = by_tests (has_ended (s.small).status) (is_end_of q letter.to)
+  where
+    by_tests : (b c : Bool) → IsSized (cond b s (cond c (delivered s letter) s))
+    by_tests true c = sized
+    by_tests false true = sized
+    by_tests false false = sized
+
+emitted_sized : (k : Kernel) (m : Emission) → AllSized k → AllSized (emitted k m)
+unfolding AllSized
+emitted_sized k m all q s there = by_process (process_at k q) refl (sym (process_at-emitted k m q) ∙ there)
+  where
+    by_process : (o : Option ProcState) → process_at k q ≡ o → option_map (received m q) o ≡ Some s → IsSized s
+    by_process None here e = cc
+    by_process (Some was) here e = subst (λ (x : ProcState). IsSized x) (some_same (received m q was) s e) (received_sized m q was (all q was here))
+
+one_step-sized : (p : Pid) (k j : Kernel) → AllSized k → one_step p k ≡ Some j → AllSized j
+unfolding one_step AllSized
+one_step-sized p k j all made = by_process (process_at k p) refl made
+  where
+    grown : (s t : ProcState) → SameSize s t → IsSized s → IsSized t
+    grown s t same sized = same.bytes ∙ sized ∙ ap (λ n. 256 * n) (sym same.pages)
+
+    by_next : (s : ProcState) (next : Next) → process_at k p ≡ Some s → Keeps s next → after_step k p next ≡ Some j → AllSized j
+    by_next s (Silent t) there same e = subst AllSized (some_same (with_process k p t) j e) (put_sized k p t all (grown s t same (all p s there)))
+    by_next s (Emits m t) there same e = subst AllSized (some_same (emitted (with_process k p t) m) j e) (emitted_sized (with_process k p t) m (put_sized k p t all (grown s t same (all p s there))))
+    by_next s Blocked there same e = cc
+    by_next s Forks there same e = cc
+    by_next s Over there same e = cc
+
+    by_process : (o : Option ProcState) → process_at k p ≡ o → option_and_then (λ s. after_step k p (next_step s)) o ≡ Some j → AllSized j
+    by_process None there e = cc
+    by_process (Some s) there e = by_next s (next_step s) there (next_keeps s) e
+
+-- ---- after a log
+
+-- a process with the kernel where it is
+record InKernel (system : System) (log : List Entry) (p : Pid) (s : ProcState) : Type 0 where
+  pub kernel : Kernel
+  pub is : plain_after system log ≡ Some kernel
+  pub there : process_at kernel p ≡ Some s
+
+in_kernel : (system : System) (log : List Entry) (p : Pid) (s : ProcState) → process_after system log p ≡ Some s → InKernel system log p s
+in_kernel system log p s there = by_kernel (plain_after system log) refl there
+  where
+    by_kernel : (o : Option Kernel) → plain_after system log ≡ o → option_and_then (λ k. process_at k p) o ≡ Some s → InKernel system log p s
+    by_kernel None is e = cc
+    by_kernel (Some k) is e = record { kernel = k; is = is; there = e }
+
+pub process_sized : (system : System) (log : List Entry) (p : Pid) (s : ProcState) → is_system system ≡ true → process_after system log p ≡ Some s → IsSized s
+unfolding AllSized
+process_sized system log p s valid there =
+    let k = in_kernel system log p s there in
+    plain_after-keeps AllSized one_step-sized system log k.kernel (boot_sized system valid) k.is p s k.there
+
+counted_pages : (system : System) (log : List Entry) (p : Pid) (s : ProcState) → process_after system log p ≡ Some s → boot_pages system p ≡ (s.small).pages
+counted_pages system log p s there =
+    let k = in_kernel system log p s there in
+    sym (page_count-boot system log k.kernel p k.is) ∙ ap (λ o. option_map_or (λ (s : ProcState). (s.small).pages) o 0) there
+
+-- with as many pages as the process has after the log, its start has the memory of so many
+pub start_sized : (system : System) (log : List Entry) (p : Pid) (start now : ProcState) → is_system system ≡ true → process_after system log p ≡ Some now → start_of system log p ≡ Some start → length start.memory ≡ 256 * page_count system log p
+start_sized system log p start now valid there started =
+    process_sized system (upto_last (starts p) log) p start valid started
+    ∙ ap (λ n. 256 * n) (sym (counted_pages system (upto_last (starts p) log) p start started) ∙ counted_pages system log p now there ∙ sym (ap (λ o. option_map_or (λ (s : ProcState). (s.small).pages) o 0) there))

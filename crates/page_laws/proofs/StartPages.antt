@@ -1,0 +1,212 @@
+-- The pages that come are those with which the process starts again.
+use Rattle.std.proofs.Common.{option_map, ◌≡◌, ℕ, zero, suc, ◌+◌, ◌*◌, ◌/◌, ◌<◌, add-zero, refl, sym, ◌∙◌, ap, subst, arith, List, [], ◌∷◌, ◌++◌, append_assoc, append-nil, length, take, drop, drop-drop, Bool, true, false, cond, not, ◌&&◌, ◌||◌, Option, Some, None, is_some, true≢false, eq-eqb}
+use Rattle.std.specs.Option.{option_map_or}
+use Rattle.std.specs.Ordering.{nat_cmp, is_eq}
+use Rattle.std.specs.FinMap.{find as find_in}
+use Rattle.std.proofs.lemmas.Bool.Decides.{nat_tests}
+use Rattle.t32_base.specs.declared.process.Pid.{Pid}
+use Rattle.sys_text.specs.declared.system.System.{System}
+use Rattle.sys_text.specs.Valid.{is_system}
+use Rattle.rv_mem.specs.Memory.{page_at}
+use Rattle.proc_state.specs.State.{ProcState}
+use Rattle.plain_kernel.proofs.Entries.{some_same}
+use Rattle.bus_msg.specs.declared.entry.What.{What}
+use Rattle.bus_msg.specs.declared.entry.What.TheVariants.{Mail, Birth, Exit, Page, Sync, Fetch, PageIs, Crash, Return, Rebackup, Done, Stop}
+use Rattle.bus_msg.specs.declared.entry.Entry.{Entry}
+use Rattle.bus_msg.specs.Places.{unended_at}
+use Rattle.bus_msg.specs.PlacedAfter.{what}
+use Rattle.cert_sched.specs.Schedule.{process_after, placement}
+use Rattle.cert_sched.specs.Told.{told}
+use Rattle.cert_sched.specs.Parts.{first_of}
+use Rattle.cert_sched.specs.Deeds.{starts, start_of, is_cut, is_birth_of}
+use Rattle.cert_sched.specs.Record.{has_state}
+use Rattle.cert_sched.specs.Account.{account_after, all_pages, pages_from, page_in, is_exit_of}
+use Rattle.cert_sched.specs.Moved.{waiting_fetches, moved_with_state, is_fetch}
+use Rattle.cert_sched.specs.Steps.{page_count}
+use Rattle.cert_sched.specs.Kinds.{PageIsHolds}
+use Rattle.cert_sched.specs.Built.{is_built, BuiltMayFollow}
+use Rattle.cert_sched.specs.Legal.{IsLegalBy, IsLegalFrom, Stands}
+use Rattle.cert_sched.specs.Simulation.{IsUnended}
+use Rattle.cert_sched.proofs.LogLaws.{placement-snoc}
+use Rattle.cert_sched.proofs.RecordLaws.{has_state-snoc, start_of-snoc}
+use Rattle.cert_sched.proofs.Induction.{legal_induction}
+use Rattle.cert_sched.proofs.CameLaws.{IsStandingRule, is_birth, not_birth}
+use Rattle.cert_sched.proofs.OpenLaws.{unended_open}
+use Rattle.cert_sched.proofs.PageLaws.{all_kept_pages}
+use Rattle.page_laws.specs.Next.{moves_next, ends_wait_next}
+use Rattle.page_laws.specs.Waited.{is_wait_for, is_waited}
+use Rattle.page_laws.proofs.OneEntry.{moved_with_state-snoc, is_waited-snoc}
+use Rattle.page_laws.proofs.Keeping.{wait_goes_on}
+use Rattle.page_laws.proofs.Waiting.{first_waited, waited_lacks, came_waited, page_is_holds, fetch_is}
+use Rattle.page_laws.proofs.Leaving.{asker_is_there}
+use Rattle.page_laws.proofs.SizesStay.{start_sized}
+use Rattle.page_laws.proofs.StayingUnended.{unended_stays}
+
+-- ---- the pages of a memory
+
+same_is : (m n : ℕ) → m ≡ n → is_eq (nat_cmp m n) ≡ true
+same_is m n e = grind (arith, nat_tests)
+
+other_is : (a i : ℕ) → is_eq (nat_cmp (a + suc i) a) ≡ false
+other_is a i = grind (arith, nat_tests)
+
+found_from : (a n i : ℕ) (bytes : List ℕ) → i < n → find_in nat_cmp (a + i) (pages_from a n bytes) ≡ Some (page_at bytes i)
+found_from a zero i bytes within = absurd (omega (arith, within))
+found_from a (suc n) zero bytes within = ap (λ b. cond b (Some (take 256 bytes)) (find_in nat_cmp (a + 0) (pages_from (a + 1) n (drop 256 bytes)))) (same_is (a + 0) a (add-zero a))
+found_from a (suc n) (suc i) bytes within =
+    let less : i < n = omega (arith, within) in
+    let same : a + suc i ≡ (a + 1) + i = omega arith in
+    let further : 256 + 256 * i ≡ 256 * suc i = omega arith in
+    ap (λ b. cond b (Some (take 256 bytes)) (find_in nat_cmp (a + suc i) (pages_from (a + 1) n (drop 256 bytes)))) (other_is a i)
+    ∙ ap (λ m. find_in nat_cmp m (pages_from (a + 1) n (drop 256 bytes))) same
+    ∙ found_from (a + 1) n i (drop 256 bytes) less
+    ∙ ap (λ bs. Some (take 256 bs)) (drop-drop (256 * i) 256 bytes ∙ ap (λ m. drop m bytes) further)
+
+page_found : (bytes : List ℕ) (n i : ℕ) → length bytes ≡ 256 * n → i < n → page_in (all_pages bytes) i ≡ Some (page_at bytes i)
+page_found bytes n i size within =
+    let more : i ≡ 0 + i = omega arith in
+    let pages : length bytes / 256 ≡ n = omega (arith, size) in
+    ap (λ m. find_in nat_cmp m (all_pages bytes)) more ∙ found_from 0 (length bytes / 256) i bytes (subst (λ m. i < m) (sym pages) within)
+
+-- ---- a state in the record
+
+-- a process that was moved with a state has one
+moved_stated : (system : System) (log : List Entry) (p : Pid) → IsLegalBy Stands system log → moved_with_state system log p ≡ true → has_state system log p ≡ true
+unfolding told
+moved_stated system log p legal =
+    legal_induction Stands system (λ log. moved_with_state system log p ≡ true → has_state system log p ≡ true) at_start more log legal
+  where
+    at_start : moved_with_state system [] p ≡ true → has_state system [] p ≡ true
+    at_start moved = absurd (true≢false (sym moved))
+
+    by_test : (b s m c : Bool) → (m ≡ true → s ≡ true) → cond b s m ≡ true → (s || c) ≡ true
+    by_test true true m c before h = refl
+    by_test true false m c before h = absurd (true≢false (sym h))
+    by_test false s m c before h = ap (λ b. b || c) (before h)
+
+    more : (log : List Entry) (e : Entry) → (moved_with_state system log p ≡ true → has_state system log p ≡ true) → Stands system log e → moved_with_state system (log ++ e ∷ []) p ≡ true → has_state system (log ++ e ∷ []) p ≡ true
+    more log e before stands moved =
+        has_state-snoc system log e p ∙ by_test (moves_next system log e p) (has_state system log p) (moved_with_state system log p) _ before (sym (moved_with_state-snoc system log e p) ∙ moved)
+
+-- ---- the account of the last cut
+
+-- a process of the kernel has pages
+there_of : (system : System) (log : List Entry) (p : Pid) (i : ℕ) → i < page_count system log p → (P : Type 0) → ((now : ProcState) → process_after system log p ≡ Some now → P) → P
+there_of system log p i within P with_it = by_process (process_after system log p) refl within
+  where
+    by_process : (o : Option ProcState) → process_after system log p ≡ o → i < option_map_or (λ (s : ProcState). (s.small).pages) o 0 → P
+    by_process None is within = absurd (omega (arith, within))
+    by_process (Some now) is within = with_it now is
+
+itself : IsStandingRule Stands
+itself system log e stands = stands
+
+pub kept_pages : (system : System) (log : List Entry) (p : Pid) (start : ProcState) (i : ℕ) → is_system system ≡ true → IsLegalBy Stands system log → moved_with_state system log p ≡ true → IsUnended system log p → start_of system log p ≡ Some start → i < page_count system log p
+    → page_in (account_after system log p).kept i ≡ Some (page_at start.memory i)
+kept_pages system log p start i valid legal moved unended started within =
+    there_of system log p i within (page_in (account_after system log p).kept i ≡ Some (page_at start.memory i)) (λ now there.
+    ap (λ pages. page_in pages i) (all_kept_pages Stands itself system log valid legal p now there (unended_open Stands itself system log p valid legal unended now there) start started (moved_stated system log p legal moved))
+    ∙ page_found start.memory (page_count system log p) i (start_sized system log p start now valid there started) within)
+
+-- ---- who waits has not ended
+
+pub waited_unended : (system : System) (log : List Entry) (p : Pid) (i : ℕ) → IsLegalBy Stands system log → is_waited system log p i ≡ true → IsUnended system log p
+unfolding told
+waited_unended system log p i legal =
+    legal_induction Stands system (λ log. is_waited system log p i ≡ true → IsUnended system log p) at_start more log legal
+  where
+    at_start : is_waited system [] p i ≡ true → IsUnended system [] p
+    at_start waited = absurd (true≢false (sym waited))
+
+    more : (log : List Entry) (e : Entry) → (is_waited system log p i ≡ true → IsUnended system log p) → Stands system log e → is_waited system (log ++ e ∷ []) p i ≡ true → IsUnended system (log ++ e ∷ []) p
+    more log e before stands waited =
+        by_tests (is_waited system log p i) (ends_wait_next system log e p i) (is_fetch p i (what e)) refl refl refl (sym (is_waited-snoc system log e p i) ∙ waited)
+      where
+        no_birth : is_birth (what e) ≡ false
+        no_birth = not_birth system log e stands.applies (what e) refl
+
+        after : is_exit_of p (what e) ≡ false → IsUnended system log p → IsUnended system (log ++ e ∷ []) p
+        after no_exit there = ap (λ places. is_some (unended_at places p)) (placement-snoc system log e) ∙ unended_stays (what e) no_birth (placement system log) p no_exit there
+
+        by_tests : (w x f : Bool) → is_waited system log p i ≡ w → ends_wait_next system log e p i ≡ x → is_fetch p i (what e) ≡ f → ((w && not x) || f) ≡ true → IsUnended system (log ++ e ∷ []) p
+        by_tests w x true was ends asks h =
+            let is = fetch_is (what e) p i asks in
+            after (ap (is_exit_of p) is) (asker_is_there system log e p i stands is)
+        by_tests true false false was ends asks h = after (wait_goes_on system log e p i ends).no_exit (before was)
+        by_tests true true false was ends asks h = absurd (true≢false (sym h))
+        by_tests false x false was ends asks h = absurd (true≢false (sym h))
+
+-- ---- a page that comes
+
+-- a wait is one for its page
+itself_is : (p : Pid) (i : ℕ) → is_wait_for p i (p, i) ≡ true
+itself_is p i = (λ k. eq-eqb p.0 p.0 refl k && eq-eqb i i refl k)
+
+-- the fetch that waits longest may be answered with the page of the start
+pub first_answer : (system : System) (log : List Entry) (p : Pid) (i : ℕ) (start : ProcState) → is_system system ≡ true → IsLegalBy Stands system log → first_of (waiting_fetches system log) ≡ Some (p, i) → start_of system log p ≡ Some start → PageIsHolds system log p i (page_at start.memory i)
+first_answer system log p i start valid legal first started =
+    let asked : option_map (is_wait_for p i) (first_of (waiting_fetches system log)) ≡ Some true = ap (option_map (is_wait_for p i)) first ∙ ap Some (itself_is p i) in
+    let waited = first_waited p i (waiting_fetches system log) asked in
+    let lacks = waited_lacks system log p i legal waited in
+    record { asked = asked; page = kept_pages system log p start i valid legal lacks.moved (waited_unended system log p i legal waited) started lacks.within }
+
+-- a page that comes next is that of the start
+pub next_page : (system : System) (log : List Entry) (e : Entry) (p : Pid) (i : ℕ) (bytes : List ℕ) (start : ProcState) → is_system system ≡ true → IsLegalBy Stands system log → Stands system log e → what e ≡ PageIs p i bytes → start_of system log p ≡ Some start → bytes ≡ page_at start.memory i
+next_page system log e p i bytes start valid legal stands is started =
+    let waited = came_waited system log e p i bytes stands is in
+    let lacks = waited_lacks system log p i legal waited in
+    some_same bytes (page_at start.memory i)
+    (sym (page_is_holds system log e p i bytes stands is).page ∙ kept_pages system log p start i valid legal lacks.moved (waited_unended system log p i legal waited) started lacks.within)
+
+-- ---- in a log of the kinds that are built
+
+no_start : (p : Pid) (e : Entry) → is_built (what e) ≡ true → starts p e ≡ false
+no_start p e built = by_what (what e) built
+  where
+    by_what : (w : What) → is_built w ≡ true → (is_cut p w || is_birth_of p w) ≡ false
+    by_what (Mail at letter) h = refl
+    by_what (Birth parent at child end) h = absurd (true≢false (sym h))
+    by_what (Exit q at end) h = refl
+    by_what (Page q at index bytes) h = refl
+    by_what (Sync q small read took) h = absurd (true≢false (sym h))
+    by_what (Fetch q index) h = refl
+    by_what (PageIs q index bytes) h = refl
+    by_what (Crash k cause) h = refl
+    by_what (Return k) h = refl
+    by_what (Rebackup to fresh recs) h = absurd (true≢false (sym h))
+    by_what (Done rests) h = refl
+    by_what Stop h = refl
+
+-- no process starts again or anew by such an entry
+pub start_stays : (system : System) (log : List Entry) (e : Entry) (p : Pid) → is_built (what e) ≡ true → start_of system (log ++ e ∷ []) p ≡ start_of system log p
+start_stays system log e p built = start_of-snoc system log e p ∙ ap (λ b. cond b (process_after system (log ++ e ∷ []) p) (start_of system log p)) (no_start p e built)
+
+start_at_boot : (system : System) (log : List Entry) (p : Pid) → IsLegalBy BuiltMayFollow system log → start_of system log p ≡ start_of system [] p
+start_at_boot system log p legal =
+    legal_induction BuiltMayFollow system (λ log. start_of system log p ≡ start_of system [] p) refl (λ log e same may. start_stays system log e p may.built ∙ same) log legal
+
+-- what a log is legal by, its front is, and so is the next entry
+front : (May : System → List Entry → Entry → Type 0) (system : System) (log more rest : List Entry) (e : Entry) → IsLegalFrom May system log (more ++ e ∷ rest) → IsLegalFrom May system log more × May system (log ++ more) e
+front May system log [] rest e h = (tt, rw (append-nil log) h.0)
+front May system log (f ∷ more) rest e h =
+    let r = front May system (log ++ f ∷ []) more rest e h.1 in
+    ((h.0, r.0), rw (← append_assoc log (f ∷ []) more) r.1)
+
+legal_front : (system : System) (before after : List Entry) (e : Entry) → IsLegalBy BuiltMayFollow system (before ++ e ∷ after) → IsLegalBy BuiltMayFollow system before × BuiltMayFollow system before e
+unfolding IsLegalBy
+legal_front system before after e legal = front BuiltMayFollow system [] before after e legal
+
+stands_from : (system : System) (log rest : List Entry) → IsLegalFrom BuiltMayFollow system log rest → IsLegalFrom Stands system log rest
+stands_from system log [] legal = tt
+stands_from system log (e ∷ rest) legal = ((legal.0).stands, stands_from system (log ++ e ∷ []) rest legal.1)
+
+pub built_stands : (system : System) (log : List Entry) → IsLegalBy BuiltMayFollow system log → IsLegalBy Stands system log
+unfolding IsLegalBy
+built_stands system log legal = stands_from system [] log legal
+
+-- each page that came is that of the start
+pub page_in_log : (system : System) (before after : List Entry) (e : Entry) (p : Pid) (i : ℕ) (bytes : List ℕ) (start : ProcState) → is_system system ≡ true → IsLegalBy BuiltMayFollow system (before ++ e ∷ after) → what e ≡ PageIs p i bytes → start_of system (before ++ e ∷ after) p ≡ Some start → bytes ≡ page_at start.memory i
+page_in_log system before after e p i bytes start valid legal is started =
+    let parts = legal_front system before after e legal in
+    next_page system before e p i bytes start valid (built_stands system before parts.0) (parts.1).stands is
+    (start_at_boot system before p parts.0 ∙ sym (start_at_boot system (before ++ e ∷ after) p legal) ∙ started)

@@ -1,0 +1,11 @@
+use Rattle.page_laws.proofs.Leaving.{left_fetch, left_page_is, left_most}
+use Rattle.page_laws.proofs.left.left_falls.Goals as goal
+
+pub returns-clause-fetch : goal.returns-clause-fetch
+returns-clause-fetch c = left_fetch
+
+pub returns-clause-page_is : goal.returns-clause-page_is
+returns-clause-page_is c = left_page_is
+
+pub returns-clause-most : goal.returns-clause-most
+returns-clause-most c = left_most

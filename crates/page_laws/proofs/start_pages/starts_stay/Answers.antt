@@ -1,0 +1,8 @@
+use Rattle.page_laws.proofs.StartPages.{start_stays, page_in_log}
+use Rattle.page_laws.proofs.start_pages.starts_stay.Goals as goal
+
+pub returns-clause-one : goal.returns-clause-one
+returns-clause-one c = start_stays
+
+pub returns-clause-came : goal.returns-clause-came
+returns-clause-came c = page_in_log

@@ -1,0 +1,39 @@
+use Rattle.std.proofs.Common.{◌≡◌, false, length, sym, ap, ◌∙◌, subst, refl, arith}
+use Rattle.std.specs.Prelude.{replicate}
+use Rattle.std.proofs.lemmas.List.{length-replicate}
+use Rattle.page_waits.specs.Kept.{pages_come}
+use Rattle.page_waits.specs.Waiting.{WaitingState, CanGoOn, is_whole, rolling_of}
+use Rattle.page_waits.proofs.Come.{come_memory}
+use Rattle.page_waits.proofs.GoingOn.{can_start, goes_on, has_state}
+use Rattle.page_waits.proofs.waiting.Waiting.into_rolling.Goals as goal
+
+pub start-requires-clause-runs_out : goal.start-requires-clause-runs_out
+start-requires-clause-runs_out c =
+    let marks = c.self.inside.here.items in
+    let ram = c.self.inside.ram in
+    let w : WaitingState = record { kept = c.self.inside.kept; asked = c.self.inside.asked; come = pages_come marks ram.bytes } in
+    let whole = ap (λ (w : WaitingState). is_whole w) c.self.view_is ∙ c.requires.whole in
+    can_start w ram (come_memory marks ram.bytes c.self.invariant.size whole) (subst (λ (w : WaitingState). CanGoOn w) (sym c.self.view_is) c.requires.rolls)
+
+pub returns : goal.returns
+returns c =
+    let marks = c.self.inside.here.items in
+    let ram = c.self.inside.ram in
+    let keeps = c.self.invariant in
+    let w : WaitingState = record { kept = c.self.inside.kept; asked = c.self.inside.asked; come = pages_come marks ram.bytes } in
+    let whole = ap (λ (w : WaitingState). is_whole w) c.self.view_is ∙ c.requires.whole in
+    let dirty : length ram.dirty ≡ length marks = ap length keeps.clean ∙ length-replicate (length marks) false in
+    ap rolling_of (sym c.self.view_is) ∙ goes_on w ram c.start.result (record {
+      pages = has_state c.self.inside.kept.state c.self.inside.kept (length ram.dirty) refl (keeps.pages ∙ sym dirty) (omega (arith, dirty, keeps.some));
+      memory = come_memory marks ram.bytes keeps.size whole;
+      clean = keeps.clean ∙ ap (λ n. replicate n false) (sym dirty);
+      can = subst (λ (w : WaitingState). CanGoOn w) (sym c.self.view_is) c.requires.rolls;
+      state = c.start.ensures.state;
+      marks = c.start.ensures.marks;
+      read = c.start.ensures.read;
+      since = c.start.ensures.since;
+      counts = c.start.ensures.counts;
+      births = c.start.ensures.births;
+      ahead = c.start.ensures.ahead;
+      recorded = c.start.ensures.recorded;
+    })

@@ -1,0 +1,5 @@
+//! A process that the loss of a cluster moved, while it waits for its pages. No cluster calls it yet.
+#![tactic(auto)]
+
+pub mod laws;
+pub mod waiting;

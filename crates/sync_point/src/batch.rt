@@ -1,0 +1,69 @@
+//! The posts by which a process synchronises.
+ghost use Rattle.std.specs.Prelude.{◌≡◌, ◌<◌, length, IfOk, OnOk, OnErr};
+ghost use Rattle.sync_point.specs.Batch.{batch, page_post, page_posts, synced};
+
+use bus_msg::entry::{By, Post, What};
+use bus_msg::shared::Shared;
+use proc_state::process::Process;
+use std::alloc::Global;
+use t32_base::lists::List;
+use t32_base::process::ClusterNo;
+use t32_base::streams::NoMemory;
+
+/// The posts by which a process of the cluster `by` synchronises, in the order in which they are sent: each page
+/// that changed since the last time, by rising index, and then its state with the numbers of the letters that it
+/// read. The process is synchronised by it. Its marks are looked at once, and the bytes of the marked pages alone
+/// are copied. All memory is taken first: where it is refused, the process is as it was.
+pub fn build(alloc: Global, process: &mut Process, by: ClusterNo) -> Result<List<Post>, NoMemory>
+    ensures posts { IfOk result (λ posts. posts ≡ batch process.old by) }
+    ensures synced { OnOk result (process.new ≡ synced process.old) }
+    ensures err { OnErr result (process.new ≡ process.old) }
+{
+    let mut posts = page_posts(alloc, process, by)?;
+    posts.reserve(1)?;
+    let small = Shared::new(alloc, process.small.copy())?;
+    let pid = process.small.pid;
+    let read = std::mem::replace(&mut process.read, List::new(alloc));
+    process.synced();
+    posts.push_reserved(Post {
+        by: By::Cluster(by),
+        what: What::Sync {
+            pid,
+            small,
+            read,
+            // A signal that is taken will stand here.
+            took: None,
+        },
+    });
+    Ok(List::from_vec(posts))
+}
+
+// A post for each marked page, by rising index.
+#[tactic(auto, using(crate::proofs::Marked::one_passes, crate::proofs::Marked::none_passes))]
+fn page_posts(alloc: Global, process: &Process, by: ClusterNo) -> Result<Vec<Post>, NoMemory>
+    ensures { IfOk result (λ posts. posts.items ≡ page_posts process.now by) }
+{
+    let mut posts = Vec::new(alloc);
+    for index in 0..process.ram.pages() {
+        if process.ram.is_dirty(index) {
+            posts.push(page_post(alloc, process, by, index)?)?;
+        }
+    }
+    Ok(posts)
+}
+
+// The post of a page as it is.
+fn page_post(alloc: Global, process: &Process, by: ClusterNo, index: u16) -> Result<Post, NoMemory>
+    requires { index < length process.now.ram.dirty }
+    ensures { IfOk result (λ post. post ≡ page_post process.now by index) }
+{
+    Ok(Post {
+        by: By::Cluster(by),
+        what: What::Page {
+            pid: process.small.pid,
+            at: process.small.steps,
+            index,
+            bytes: Shared::new(alloc, process.ram.page(index))?,
+        },
+    })
+}
