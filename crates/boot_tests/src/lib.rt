@@ -1,0 +1,5 @@
+//! Tests of a cluster at its start.
+#![tactic(auto)]
+
+#[cfg(test)]
+mod disks;
