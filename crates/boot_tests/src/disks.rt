@@ -14,7 +14,11 @@ use test_systems::PAIR;
 // The calls of its disk that the first page server of a system with two roots of one page makes at boot, and the one
 // that failed, where these calls fail.
 fn booted(alloc: Global, failing: &[u64]) -> Result<(u64, Option<u64>), Fail> {
-    let system = Arc::new(alloc, read_system(alloc, PAIR.as_bytes())?)?;
+    let system = read_system(alloc, PAIR.as_bytes())?;
+    if system.clusters == 0 || system.pager.0 != ClusterNo(0) {
+        return Err("cluster 0 is no page server".into());
+    }
+    let system = Arc::new(alloc, system)?;
     let disk = MemDisk::new(alloc, List::from_vec(failing.to_vec(alloc)?));
     let cluster = Cluster::boot(alloc, &system, ClusterNo(0), Some(disk))?;
     Ok((cluster.disk_calls(), cluster.failed()))
