@@ -16,8 +16,8 @@ mod BackupsLive
 mod Losing
 mod Unmoved
 mod Paging
-mod Served
-mod Counted
+pub mod Served
+pub mod Counted
 pub mod Passing
 pub mod Booted
 pub mod Following

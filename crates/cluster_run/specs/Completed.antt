@@ -4,6 +4,7 @@ use Rattle.sys_text.specs.declared.system.System.{System}
 use Rattle.cert_sched.specs.declared.script.ScriptWord.{ScriptWord}
 use Rattle.report_text.specs.declared.run.Ended.TheVariants.{Finished}
 use Rattle.report_text.specs.Good.{IsGoodBuilt}
+use Rattle.cluster_core.specs.View.{disk_calls}
 use Rattle.cluster_run.specs.declared.life.Life.{Life}
 use Rattle.cluster_run.specs.declared.life.Ran.{Ran}
 use Rattle.cluster_run.specs.Lived.{ends_at_done, LivedBuilt}
@@ -12,9 +13,14 @@ use Rattle.cluster_run.specs.Lived.{ends_at_done, LivedBuilt}
 abbrev pub HasStepsOf : Ran → Type 0
 HasStepsOf ran = (n : ℕ) (l : Life) → slice_get ran.lives n ≡ Some l → ends_at_done (ran.run).log l.cluster l.from ≡ true → (l.value).failed ≡ None → slice_get (ran.run).steps (l.cluster).0 ≡ Some (l.value).steps
 
--- The run is what its system and its script allow, and it came to its end: its clusters did its work, and it has their steps.
+-- and the disk calls of that cluster
+abbrev pub HasCallsOf : Ran → Type 0
+HasCallsOf ran = (n : ℕ) (l : Life) → slice_get ran.lives n ≡ Some l → ends_at_done (ran.run).log l.cluster l.from ≡ true → (l.value).failed ≡ None → slice_get (ran.run).disk_calls (l.cluster).0 ≡ Some (disk_calls l.value)
+
+-- The run is what its system and its script allow, and it came to its end: its clusters did its work, and it has their steps and disk calls.
 pub record IsCompleted (system : System) (script : List ScriptWord) (ran : Ran) : Type 0 where
   pub good : IsGoodBuilt system script ran.run
   pub ended : (ran.run).ended ≡ Finished
   pub lived : LivedBuilt system script (ran.run).log ran.lives
   pub steps : HasStepsOf ran
+  pub calls : HasCallsOf ran
