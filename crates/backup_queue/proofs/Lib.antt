@@ -1,2 +1,4 @@
 mod Examples
+mod FrontLaws
+mod PlaceLaws
 pub mod QueueLaws

@@ -1,6 +1,7 @@
 //! What a backup keeps of a process, and the letters that it saves until a synchronisation says which of them were read.
 #![tactic(auto)]
 
+mod fronts;
 pub mod record;
 #[cfg(test)]
 mod tests;

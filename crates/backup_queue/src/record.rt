@@ -2,12 +2,14 @@
 #[cfg(test)]
 mod tests;
 
-ghost use Rattle.std.specs.Prelude.{◌≡◌, ◌+◌, ◌-◌, ◌^◌, ◌<◌, [], ◌∷◌, ◌++◌, OnOk, OnErr};
+ghost use Rattle.std.specs.Prelude.{◌≡◌, ◌+◌, ◌-◌, ◌^◌, ◌<◌, [], ◌∷◌, ◌++◌, Some, OnOk, OnErr};
 ghost use Rattle.std.specs.Option.{option_copied};
-ghost use Rattle.backup_queue.specs.Queue.{saved_with};
+ghost use Rattle.backup_queue.specs.Queue.{saved_with, unread};
+ghost use Rattle.backup_queue.specs.Fronts.{AreFronts, AreOnEnds};
 ghost use Rattle.backup_queue.specs.Record.{record_of};
 ghost use Rattle.write_count.specs.Counting.{count_for, no_counts, raised};
 
+use crate::fronts::drop_fronts;
 use proc_state::mailbox::Mailbox;
 use std::alloc::Global;
 use std::marker::Model;
@@ -93,6 +95,27 @@ impl Record {
     {
         self.parts.births.push(child)?;
         Ok(())
+    }
+
+    /// The process has synchronised with this state, and had read the letters with these numbers: they are
+    /// dropped, the others stay in order, and nothing was sent and no child born since. Takes no memory.
+    pub fn cut(&mut self, state: Small, read: &[u64])
+        requires fronts { AreFronts read.now self.old.saved }
+        requires ends { AreOnEnds read.now self.old.saved }
+        ensures { self.new ≡ record self.old {
+          state = Some state;
+          saved = unread read.now self.old.saved;
+          counts = no_counts;
+          births = [];
+        } }
+    {
+        drop_fronts(&mut self.parts.saved, read);
+        self.parts.state = Some(state);
+        self.parts.counts = Counts {
+            ends: [0; 32],
+            signals: 0,
+        };
+        self.parts.births = List::new(self.parts.births.allocator());
     }
 
     /// The process that it is the record of.

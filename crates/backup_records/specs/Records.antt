@@ -1,13 +1,15 @@
 -- The records that a cluster keeps of the processes whose backup it has, by rising pid, and what an entry makes of them.
-use Rattle.std.specs.Prelude.{◌≡◌, ◌+◌, ◌-◌, ◌^◌, ◌<◌, Bool, true, false, not, ◌&&◌, nat_lt, if◌then◌else◌, List, [], ◌∷◌, map, filter, find, Option, Some}
+use Rattle.std.specs.Prelude.{ℕ, ◌≡◌, ◌+◌, ◌-◌, ◌^◌, ◌<◌, Bool, true, false, not, ◌&&◌, nat_lt, if◌then◌else◌, List, [], ◌∷◌, map, filter, find, Option, Some}
 use Rattle.std.specs.List.{list_all}
 use Rattle.t32_base.specs.declared.process.Pid.{Pid}
 use Rattle.t32_base.specs.declared.letter.Letter.{Letter}
 use Rattle.t32_base.specs.declared.letter.To.{To}
 use Rattle.t32_base.specs.declared.letter.To.TheVariants.{Proc, Tty}
 use Rattle.t32_base.specs.declared.letter.BackRec.{BackRec}
-use Rattle.write_count.specs.Counting.{count_for, raised}
-use Rattle.backup_queue.specs.Queue.{saved_with}
+use Rattle.t32_base.specs.Small.{SmallState}
+use Rattle.write_count.specs.Counting.{count_for, no_counts, raised}
+use Rattle.backup_queue.specs.Queue.{saved_with, unread}
+use Rattle.backup_queue.specs.Fronts.{AreFronts, AreOnEnds}
 use Rattle.bus_msg.specs.declared.entry.What.{What}
 use Rattle.bus_msg.specs.declared.entry.What.TheVariants.{Mail, Birth, Exit, Page, Sync, Fetch, PageIs, Crash, Return, Rebackup, Done, Stop}
 use Rattle.bus_msg.specs.Places.{same_pid}
@@ -50,6 +52,20 @@ saved_by_receiver letter r = if is_receiver r.pid letter.to then with_saved lett
 -- and the record of its sender counts it
 abbrev pub counted_by_sender : Letter → BackRec → BackRec
 counted_by_sender letter r = if same_pid letter.from r.pid then with_counted letter r else r
+
+-- ---- a synchronisation
+
+-- a record is cut: the state is the one of the synchronisation, the letters that were read go, and nothing was sent and no child born since
+abbrev pub with_cut : SmallState → List ℕ → BackRec → BackRec
+with_cut small read r = record r { state = Some small; saved = unread read r.saved; counts = no_counts; births = [] }
+
+-- the record of the process that synchronised is cut
+abbrev pub cut_of_synced : Pid → SmallState → List ℕ → BackRec → BackRec
+cut_of_synced p small read r = if same_pid p r.pid then with_cut small read r else r
+
+-- the process read the letters of its record from the fronts of its ends
+abbrev pub CanCut : Pid → List ℕ → List BackRec → Type 0
+CanCut p read recs = (r : BackRec) → record_in recs p ≡ Some r → AreFronts read r.saved × AreOnEnds read r.saved
 
 -- ---- an entry
 

@@ -6,7 +6,8 @@ ghost use Rattle.std.specs.Ordering.{nat_cmp};
 ghost use Rattle.t32_base.specs.declared.letter.BackRec.{BackRec};
 ghost use Rattle.write_count.specs.Counting.{count_for};
 ghost use Rattle.crash_notice.specs.Splitting.{moves_here};
-ghost use Rattle.backup_records.specs.Records.{with_saved, with_counted};
+ghost use Rattle.backup_records.specs.Records.{with_saved, with_counted, with_cut};
+ghost use Rattle.backup_queue.specs.Fronts.{AreFronts, AreOnEnds};
 ghost use Rattle.backup_records.specs.ByPid.{changed_at, left_after, taken_at};
 
 use backup_queue::record::Record;
@@ -16,7 +17,7 @@ use std::alloc::Global;
 use std::collections::{BTreeMap, VecDeque};
 use t32_base::letter::Letter;
 use t32_base::lists::List;
-use t32_base::process::ClusterNo;
+use t32_base::process::{ClusterNo, Small};
 use t32_base::streams::NoMemory;
 
 /// The record of a process saves a letter, if it is there. The letter's bytes are shared. After want of memory no
@@ -43,6 +44,16 @@ pub fn count_at(records: &mut BTreeMap<u32, Record>, pid: u32, letter: &Letter)
 {
     if let Some(record) = records.get_mut(&pid) {
         record.count(letter);
+    }
+}
+
+/// The record of a process is cut, if it is there. Takes no memory.
+pub fn cut_at(records: &mut BTreeMap<u32, Record>, pid: u32, state: Small, read: &[u64])
+    requires { (r : BackRec) → get nat_cmp records.old pid ≡ Some r → AreFronts read.now r.saved × AreOnEnds read.now r.saved }
+    ensures { records.new.entries ≡ changed_at pid (with_cut state read.now) records.old.entries }
+{
+    if let Some(record) = records.get_mut(&pid) {
+        record.cut(state, read);
     }
 }
 

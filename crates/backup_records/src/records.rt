@@ -4,9 +4,9 @@ ghost use Rattle.std.specs.Option.{option_copied};
 ghost use Rattle.t32_base.specs.declared.letter.BackRec.{BackRec};
 ghost use Rattle.bus_msg.specs.Places.{same_pid};
 ghost use Rattle.crash_notice.specs.Splitting.{moves_here, stays};
-ghost use Rattle.backup_records.specs.Records.{CanCount, CanNote, CanSave, are_rising, counted_by_sender, record_in, records_after, saved_by_receiver, with_record, with_saved};
+ghost use Rattle.backup_records.specs.Records.{CanCount, CanCut, CanNote, CanSave, are_rising, counted_by_sender, cut_of_synced, record_in, records_after, saved_by_receiver, with_record, with_saved};
 
-use crate::by_pid::{count_at, moved_pids, save_at, take_out};
+use crate::by_pid::{count_at, cut_at, moved_pids, save_at, take_out};
 use backup_queue::record::Record;
 use bus_msg::entry::What;
 use channel_table::placement::Placement;
@@ -15,7 +15,7 @@ use std::collections::BTreeMap;
 use std::marker::Model;
 use t32_base::letter::{Letter, To};
 use t32_base::lists::List;
-use t32_base::process::{ClusterNo, Pid};
+use t32_base::process::{ClusterNo, Pid, Small};
 use t32_base::streams::NoMemory;
 
 /// The records that a cluster keeps of the processes whose backup it has, by rising pid.
@@ -102,6 +102,16 @@ impl Records {
             What::Done { .. } => Ok(()),
             What::Stop => Ok(()),
         }
+    }
+
+    /// The record of a process is cut, if it is here: the process has synchronised with this state, and had read
+    /// the letters with these numbers. They are dropped, the others stay in order, and nothing was sent and no
+    /// child born since. Takes no memory.
+    pub fn cut(&mut self, pid: Pid, state: Small, read: &[u64])
+        requires { CanCut pid read.now self.old }
+        ensures { self.new ≡ map (cut_of_synced pid state read.now) self.old }
+    {
+        cut_at(&mut self.by_pid, pid.0, state, read);
     }
 
     /// At the loss of a cluster the records of the processes that it moves here leave, by rising pid; the

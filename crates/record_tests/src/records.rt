@@ -1,18 +1,22 @@
 //! The records of a few processes, with what entries make of them.
-ghost use Rattle.std.specs.Prelude.{◌≡◌, ◌<◌, ◌^◌, ◌-◌, IsTrue, true};
+ghost use Rattle.std.specs.Prelude.{◌≡◌, ◌<◌, ◌^◌, ◌-◌, [], ◌∷◌, IfOk, IsTrue, true};
 ghost use Rattle.write_count.specs.Counting.{count_for};
-ghost use Rattle.backup_records.specs.Records.{CanCount, CanSave};
+ghost use Rattle.backup_queue.specs.Fronts.{AreFronts, AreOnEnds};
+ghost use Rattle.backup_records.specs.Records.{CanCount, CanCut, CanSave};
+ghost use Rattle.t32_base.specs.declared.letter.To.TheVariants.{Proc};
+ghost use Rattle.t32_base.specs.declared.letter.Body.TheVariants.{EndOf};
 
 use backup_queue::record::Record;
 use backup_records::records::Records;
 use bus_msg::entry::What;
 use bus_msg::placed::Placed;
 use channel_table::placement::Placement;
+use proc_state::process::Process;
 use std::alloc::Global;
 use std::test::Fail;
 use t32_base::letter::{Arrived, Body, Letter, To};
 use t32_base::lists::List;
-use t32_base::process::{ClusterNo, Counts, End, Mode, Pid};
+use t32_base::process::{ClusterNo, Counts, End, Mode, Pid, Small};
 use t32_base::shared_bytes::SharedBytes;
 use t32_base::streams::NoMemory;
 use test_asserts::same;
@@ -270,4 +274,56 @@ const MOVED: Moved = (
 #[test]
 fn a_loss_takes_the_records_that_move_here_with_their_letters(rt: HostRuntime) -> Result<(), Fail> {
     same("what moved and what stays", &shown(rt.alloc())?, &MOVED)
+}
+
+// An end letter to end 1 of the process 16.
+fn last_to_one() -> Letter
+    ensures { result ≡ record { from = record { 0 = 17 }; out = 1; to = Proc (record { 0 = 16 }) 1; body = EndOf } }
+{
+    Letter {
+        from: Pid(17),
+        out: 1,
+        to: To::Proc(Pid(16), 1),
+        body: Body::EndOf,
+    }
+}
+
+// The record of the process 16, with two letters for an end.
+fn two_saved(alloc: Global) -> Result<Record, NoMemory>
+    ensures pid { IfOk result (λ kept. kept.pid ≡ record { 0 = 16 }) }
+    ensures fronts { IfOk result (λ kept. AreFronts (0 ∷ []) kept.saved) }
+    ensures ends { IfOk result (λ kept. AreOnEnds (0 ∷ []) kept.saved) }
+{
+    let mut kept = Record::new(alloc, Pid(16), None);
+    kept.save(last_to_one())?;
+    kept.save(last_to_one())?;
+    Ok(kept)
+}
+
+// That record alone.
+fn one_kept(alloc: Global) -> Result<Records, NoMemory>
+    ensures { IfOk result (λ kept. CanCut (record { 0 = 16 }) (0 ∷ []) kept) }
+{
+    let mut kept = Records::none(alloc);
+    kept.add(two_saved(alloc)?)?;
+    Ok(kept)
+}
+
+fn fresh_state(alloc: Global) -> Result<Small, NoMemory> {
+    let Process { small, .. } = Process::root(alloc, Pid(16), 1, &[], 1000, 3, 0)?;
+    Ok(small)
+}
+
+// The steps that the process of a record may make, the letters that arrived and those that it sent.
+fn state_told(records: &Records) -> Option<(u32, u64, u32)> {
+    let record = records.get(Pid(16))?;
+    Some((record.state()?.left, record.next(), record.counts().ends[2]))
+}
+
+#[test]
+fn a_cut_gives_the_record_its_state(rt: HostRuntime) -> Result<(), Fail> {
+    let alloc = rt.alloc();
+    let mut kept = one_kept(alloc)?;
+    kept.cut(Pid(16), fresh_state(alloc)?, &[0]);
+    same("the record", &state_told(&kept), &Some((1000, 2, 0)))
 }
