@@ -1,0 +1,6 @@
+pub mod Beside
+pub mod WholePages
+pub mod PageEntry
+pub mod Standing
+pub mod CutEntry
+pub mod CutMarks
