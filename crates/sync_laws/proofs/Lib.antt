@@ -4,3 +4,5 @@ pub mod PageEntry
 pub mod Standing
 pub mod CutEntry
 pub mod CutMarks
+pub mod PagedAccounts
+pub mod MailNumbers

@@ -1,3 +1,4 @@
 pub mod Marked
 pub mod Sending
 pub mod Cut
+pub mod Paged

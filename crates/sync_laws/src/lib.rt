@@ -1,6 +1,7 @@
 //! The posts by which a process synchronises may stand next in the log, and what the log says of it after them: laws and no code.
 #![tactic(auto)]
 
+pub mod accounts;
 pub mod cuts;
 pub mod pages;
 pub mod syncs;
