@@ -6,3 +6,6 @@ pub mod CutEntry
 pub mod CutMarks
 pub mod PagedAccounts
 pub mod MailNumbers
+pub mod SilentSizes
+pub mod SavedNumbers
+pub mod MarksLead

@@ -2,3 +2,4 @@ pub mod Marked
 pub mod Sending
 pub mod Cut
 pub mod Paged
+pub mod Running

@@ -3,5 +3,6 @@
 
 pub mod accounts;
 pub mod cuts;
+pub mod marks;
 pub mod pages;
 pub mod syncs;
