@@ -9,3 +9,4 @@ pub mod MailNumbers
 pub mod SilentSizes
 pub mod SavedNumbers
 pub mod MarksLead
+pub mod BatchStands

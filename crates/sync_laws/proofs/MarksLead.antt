@@ -53,7 +53,7 @@ itself system log e stands = stands
 -- ---- the process after the log
 
 -- where the process was after the log, from where silent steps lead to it
-record Was (system : System) (log : List Entry) (p : Pid) (process : Process) : Type 0 where
+pub record Was (system : System) (log : List Entry) (p : Pid) (process : Process) : Type 0 where
   pub was : ProcState
   pub there : process_after system log p ≡ Some was
   pub next : (process.mail).next ≡ was.next
@@ -64,7 +64,7 @@ module _ (system : System) (log : List Entry) (p : Pid) (process : Process) (run
   s : ProcState
   s = state_of process
 
-  was_there : Was system log p process
+  pub was_there : Was system log p process
   was_there =
       let f = silent_from system log p (process.small).steps (state_of process) runs.reached in
       let n : ℕ = (process.small).steps - done f.kernel p in
@@ -101,7 +101,7 @@ module _ (system : System) (log : List Entry) (p : Pid) (process : Process) (run
   -- ---- the pages
 
   -- as many marks as pages
-  marks_count : length (process.ram).dirty ≡ (process.small).pages
+  pub marks_count : length (process.ram).dirty ≡ (process.small).pages
   marks_count =
       let w = was_there in
       let sized = process_sized system log p w.was runs.valid w.there in

@@ -3,3 +3,4 @@ pub mod Sending
 pub mod Cut
 pub mod Paged
 pub mod Running
+pub mod Batched

@@ -2,6 +2,7 @@
 #![tactic(auto)]
 
 pub mod accounts;
+pub mod batches;
 pub mod cuts;
 pub mod marks;
 pub mod pages;
