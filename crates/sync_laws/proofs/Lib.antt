@@ -10,3 +10,4 @@ pub mod SilentSizes
 pub mod SavedNumbers
 pub mod MarksLead
 pub mod BatchStands
+mod WorkedSync
