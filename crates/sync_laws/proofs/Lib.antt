@@ -1,0 +1,13 @@
+pub mod Beside
+pub mod WholePages
+pub mod PageEntry
+pub mod Standing
+pub mod CutEntry
+pub mod CutMarks
+pub mod PagedAccounts
+pub mod MailNumbers
+pub mod SilentSizes
+pub mod SavedNumbers
+pub mod MarksLead
+pub mod BatchStands
+mod WorkedSync

@@ -1,0 +1,129 @@
+-- The pages of an account stand by rising number, and each is one of its process.
+use Rattle.std.proofs.Common.{◌≡◌, ℕ, ◌*◌, ◌<◌, refl, sym, ◌∙◌, ap, subst, arith, List, [], ◌∷◌, ◌++◌, length, Bool, true, false, T, cond, ne_eqb, Option, Some, None}
+use Rattle.std.specs.Prelude.{option_and_then}
+use Rattle.std.specs.Option.{option_map_or}
+use Rattle.std.specs.Cmp.{nat_cmp_total, unsigned_tied}
+use Rattle.std.specs.FinMap.{put, is_sorted}
+use Rattle.std.specs.FinMap.Entries.{find-put, is_sorted-put}
+use Rattle.std.specs.Ordering.{nat_cmp}
+use Rattle.t32_base.specs.declared.process.Pid.{Pid}
+use Rattle.t32_base.specs.Account.{Account, no_pages, page_in, committed, reverted}
+use Rattle.sys_text.specs.declared.system.System.{System}
+use Rattle.sys_text.specs.Valid.{is_system}
+use Rattle.proc_state.specs.State.{ProcState}
+use Rattle.plain_kernel.specs.Kernel.{Kernel, process_at}
+use Rattle.bus_msg.specs.declared.entry.What.{What}
+use Rattle.bus_msg.specs.declared.entry.What.TheVariants.{Mail, Birth, Exit, Page, Sync, Fetch, PageIs, Crash, Return, Rebackup, Done, Stop}
+use Rattle.bus_msg.specs.declared.entry.Entry.{Entry}
+use Rattle.bus_msg.specs.Places.{same_pid}
+use Rattle.bus_msg.specs.PlacedAfter.{what}
+use Rattle.cert_sched.specs.Schedule.{plain_after, placement, process_after}
+use Rattle.cert_sched.specs.Told.{told, cluster_lost, is_moved}
+use Rattle.cert_sched.specs.Deeds.{is_cut}
+use Rattle.cert_sched.specs.Account.{account_after, all_pages, image_pages, is_exit_of, page_put}
+use Rattle.cert_sched.specs.Steps.{page_count}
+use Rattle.cert_sched.specs.Kinds.{KindHolds}
+use Rattle.cert_sched.specs.Legal.{IsLegalBy, Stands}
+use Rattle.cert_sched.proofs.Induction.{legal_induction}
+use Rattle.cert_sched.proofs.CameLaws.{same_of}
+use Rattle.cert_sched.proofs.StepLaws.{applied}
+use Rattle.page_laws.proofs.PagesStay.{boot_pages, page_count-boot}
+use Rattle.page_laws.proofs.SizesStay.{process_sized}
+use Rattle.sync_laws.specs.Paged.{ArePaged}
+use Rattle.sync_laws.proofs.WholePages.{no_page_behind, pages_rise}
+use Rattle.sync_laws.proofs.PageEntry.{account_next}
+
+-- so of both accounts
+pub record BothPaged (n : ℕ) (a : Account) : Type 0 where
+  pub now : ArePaged n a.now
+  pub kept : ArePaged n a.kept
+
+none_paged : (n : ℕ) → ArePaged n []
+none_paged n = record { rising = refl; within = λ i behind. refl }
+
+-- ---- a page that is put
+
+true_of : (b : Bool) → T b → b ≡ true
+true_of true holds = refl
+true_of false holds = absurd holds
+
+holds_of : (b : Bool) → b ≡ true → T b
+holds_of b is = let P : Bool → Type 0 = λ b. T b in subst P (sym is) tt
+
+put_paged : (n i : ℕ) (bytes : List ℕ) (pages : List (ℕ × List ℕ)) → i < n → ArePaged n pages → ArePaged n (put nat_cmp i bytes pages)
+put_paged n i bytes pages below paged = record {
+  rising = true_of (is_sorted nat_cmp (put nat_cmp i bytes pages)) (is_sorted-put nat_cmp nat_cmp_total i bytes pages (holds_of (is_sorted nat_cmp pages) paged.rising));
+  within = λ j behind.
+      find-put nat_cmp nat_cmp_total j i bytes pages
+      ∙ ap (λ b. cond b (Some bytes) (page_in pages j)) (unsigned_tied j i ∙ ne_eqb j i (λ at. omega (arith, at, below, behind)))
+      ∙ paged.within j behind;
+}
+
+module _ (system : System) (p : Pid) where
+  -- the number of pages of the process is that of the boot
+  pub counted : (log : List Entry) (s : ProcState) → process_after system log p ≡ Some s → boot_pages system p ≡ (s.small).pages
+  counted log s there = by_kernel (plain_after system log) refl there
+    where
+      by_kernel : (o : Option Kernel) → plain_after system log ≡ o → option_and_then (λ k. process_at k p) o ≡ Some s → boot_pages system p ≡ (s.small).pages
+      by_kernel None is e = cc
+      by_kernel (Some k) is e = sym (page_count-boot system log k p is) ∙ ap (λ (o : Option ProcState). option_map_or (λ (s : ProcState). (s.small).pages) o 0) there
+
+  -- ---- at boot
+
+  at_boot : is_system system ≡ true → BothPaged (boot_pages system p) (account_after system [] p)
+  unfolding plain_after account_after told
+  at_boot valid = by_process (process_after system [] p) refl
+    where
+      by_process : (o : Option ProcState) → process_after system [] p ≡ o → BothPaged (boot_pages system p) (option_map_or image_pages o no_pages)
+      by_process None is = record { now = none_paged (boot_pages system p); kept = none_paged (boot_pages system p) }
+      by_process (Some s) is =
+          let size : length s.memory ≡ 256 * boot_pages system p = process_sized system [] p s valid is ∙ ap (λ n. 256 * n) (sym (counted [] s is)) in
+          let paged : ArePaged (boot_pages system p) (all_pages s.memory) = record { rising = pages_rise s.memory (boot_pages system p) size; within = λ i behind. no_page_behind s.memory (boot_pages system p) i size behind } in
+          record { now = paged; kept = paged }
+
+  -- ---- one more entry
+
+  module _ (log : List Entry) (e : Entry) (stands : Stands system log e) where
+    fits : page_count system log p ≡ boot_pages system p
+    fits = let a = applied system log e stands.applies in page_count-boot system log a.old p a.before
+
+    put_of : (w : What) → KindHolds system log e w → (pages : List (ℕ × List ℕ)) → ArePaged (boot_pages system p) pages → ArePaged (boot_pages system p) (page_put p w pages)
+    put_of (Page q at index bytes) kind pages paged = by_test (same_pid q p) refl
+      where
+        by_test : (b : Bool) → same_pid q p ≡ b → ArePaged (boot_pages system p) (cond b (put nat_cmp index bytes pages) pages)
+        by_test true is =
+            let count : page_count system log q ≡ boot_pages system p = ap (page_count system log) (same_of q p is) ∙ fits in
+            put_paged (boot_pages system p) index bytes pages (subst (λ n. index < n) count kind.within) paged
+        by_test false is = paged
+    put_of (Mail at letter) kind pages paged = paged
+    put_of (Birth parent at child end) kind pages paged = paged
+    put_of (Exit q at end) kind pages paged = paged
+    put_of (Sync q small read took) kind pages paged = paged
+    put_of (Fetch q index) kind pages paged = paged
+    put_of (PageIs q index bytes) kind pages paged = paged
+    put_of (Crash k cause) kind pages paged = paged
+    put_of (Return k) kind pages paged = paged
+    put_of (Rebackup to fresh recs) kind pages paged = paged
+    put_of (Done rests) kind pages paged = paged
+    put_of Stop kind pages paged = paged
+
+    by_tests : (exits cuts moved : Bool) (n : ℕ) (a : Account) (now : List (ℕ × List ℕ)) → BothPaged n a → ArePaged n now
+        → BothPaged n (cond exits no_pages (cond cuts (committed a) (cond moved (reverted a) (record { now = now; kept = a.kept }))))
+    by_tests true cuts moved n a now before put_now = record { now = none_paged n; kept = none_paged n }
+    by_tests false true moved n a now before put_now = record { now = before.now; kept = before.now }
+    by_tests false false true n a now before put_now = record { now = before.kept; kept = before.kept }
+    by_tests false false false n a now before put_now = record { now = put_now; kept = before.kept }
+
+    one_more : BothPaged (boot_pages system p) (account_after system log p) → BothPaged (boot_pages system p) (account_after system (log ++ e ∷ []) p)
+    one_more before =
+        let a : Account = account_after system log p in
+        subst (λ (a : Account). BothPaged (boot_pages system p) a) (sym (account_next system log e p (what e) refl))
+        (by_tests (is_exit_of p (what e)) (is_cut p (what e)) (option_map_or (is_moved p (placement system log)) (cluster_lost (what e)) false) (boot_pages system p) a (page_put p (what e) a.now) before
+        (put_of (what e) stands.kind a.now before.now))
+
+  -- ---- the whole
+
+  pub both_paged : (log : List Entry) (s : ProcState) → is_system system ≡ true → IsLegalBy Stands system log → process_after system log p ≡ Some s → BothPaged (s.small).pages (account_after system log p)
+  both_paged log s valid legal there =
+      subst (λ n. BothPaged n (account_after system log p)) (counted log s there)
+      (legal_induction Stands system (λ log. BothPaged (boot_pages system p) (account_after system log p)) (at_boot valid) (λ log e before stands. one_more log e stands before) log legal)

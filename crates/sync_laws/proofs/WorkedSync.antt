@@ -1,0 +1,70 @@
+-- A worked process: it changes its one page and is due after 64 steps. Its batch may stand, and it is marked as the log says then.
+use Rattle.std.proofs.Common.{◌≡◌, ℕ, zero, suc, ◌<◌, refl, arith, [], ◌∷◌, true, false, Some}
+use Rattle.std.specs.Option.{option_map_or}
+use Rattle.t32_base.specs.declared.process.Pid.{Pid}
+use Rattle.t32_base.specs.Account.{page_in}
+use Rattle.sys_text.specs.declared.system.System.{System}
+use Rattle.rv_mem.specs.Memory.{page_at}
+use Rattle.proc_state.specs.declared.process.Process.{Process}
+use Rattle.proc_state.specs.State.{ProcState, state_of, root_state}
+use Rattle.sys_calls.specs.Next.{silently}
+use Rattle.plain_kernel.specs.Kernel.{boot}
+use Rattle.plain_kernel.specs.Apply.{one_step, steps}
+use Rattle.bus_msg.specs.declared.entry.By.TheVariants.{Cluster}
+use Rattle.sync_point.specs.Batch.{batch, synced}
+use Rattle.sync_point.specs.Due.{is_due_by}
+use Rattle.cert_sched.specs.Schedule.{plain_after, placement}
+use Rattle.cert_sched.specs.Told.{told}
+use Rattle.cert_sched.specs.Account.{account_after}
+use Rattle.cert_sched.specs.Steps.{silent_upto}
+use Rattle.cert_sched.specs.Rules.{is_over}
+use Rattle.cert_sched.specs.Legal.{IsLegalBy}
+use Rattle.cert_sched.proofs.Systems.{cluster, store_system, store_words}
+use Rattle.sync_laws.specs.Marked.{IsMarked, is_dirty}
+use Rattle.sync_laws.specs.Sending.{MaySend}
+use Rattle.sync_laws.specs.Running.{RunsMarked}
+use Rattle.sync_laws.specs.Batched.{AllStand, log_with}
+use Rattle.sync_laws.proofs.BatchStands.{batch_stands, batch_marks}
+
+-- a program that stores to its page and then jumps to itself, by a name; its process is to synchronise after 64 steps
+abbrev named : System
+named = record store_system { images = record { name = 115 ∷ []; pages = 1; words = store_words } ∷ [] }
+
+-- process 16
+abbrev it : Pid
+it = record { 0 = 16 }
+
+-- the process after so many steps
+abbrev there : ProcState
+there = option_map_or (λ s. s) (silent_upto named [] it 64) (root_state it 1 [] 0 0 0)
+
+-- its page is marked
+abbrev process : Process
+process = record { small = there.small; ram = record { bytes = there.memory; dirty = true ∷ [] }; mail = record { letters = there.mail; next = there.next }; read = []; since = 0 }
+
+runs : RunsMarked named [] it process
+unfolding boot one_step steps silently plain_after placement told is_over silent_upto account_after IsLegalBy
+runs = record { valid = refl; legal = tt; reached = refl; runs = refl; sized = refl; marked = record { since_start = refl; read = refl; clean = clean; unsent = unsent } }
+  where
+    clean : (i : ℕ) → i < 1 → is_dirty process i ≡ false → page_in (account_after named [] it).now i ≡ Some (page_at (process.ram).bytes i)
+    clean zero within is = cc
+    clean (suc i) within is = absurd (omega arith)
+
+    unsent : (i : ℕ) → i < 1 → is_dirty process i ≡ true → false ≡ false
+    unsent i within is = refl
+
+may : MaySend named [] (Cluster (cluster 0)) it (state_of process)
+unfolding boot one_step steps silently plain_after placement told is_over silent_upto
+may = record { goes_on = refl; by_home = refl; reached = refl }
+
+due : is_due_by process 32 64 ≡ true
+unfolding boot one_step steps silently plain_after silent_upto
+due = refl
+
+-- its batch, which is its page and its state, may stand
+stands : AllStand named [] (batch process (cluster 0))
+stands = batch_stands named [] it process (cluster 0) runs may refl due
+
+-- after it the process is marked as the log says
+marked : IsMarked named (log_with named [] (batch process (cluster 0))) it (synced process)
+marked = batch_marks named [] it process (cluster 0) runs may refl

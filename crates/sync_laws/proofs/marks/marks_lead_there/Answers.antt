@@ -1,0 +1,11 @@
+use Rattle.sync_laws.proofs.MarksLead.{marks_reads, marks_due, marks_account}
+use Rattle.sync_laws.proofs.marks.marks_lead_there.Goals as goal
+
+pub returns-clause-reads : goal.returns-clause-reads
+returns-clause-reads c = marks_reads
+
+pub returns-clause-due : goal.returns-clause-due
+returns-clause-due c = marks_due
+
+pub returns-clause-account : goal.returns-clause-account
+returns-clause-account c = marks_account

@@ -1,0 +1,30 @@
+-- What is asked of a process that sends a page of itself, or synchronises.
+use Rattle.std.specs.Prelude.{ℕ, ◌≡◌, Bool, true, false, ◌||◌, nat_le, List, Some}
+use Rattle.t32_base.specs.declared.process.Pid.{Pid}
+use Rattle.sys_text.specs.declared.system.System.{System}
+use Rattle.proc_state.specs.State.{ProcState}
+use Rattle.bus_msg.specs.declared.entry.By.{By}
+use Rattle.bus_msg.specs.declared.entry.Entry.{Entry}
+use Rattle.cert_sched.specs.Parts.{rising}
+use Rattle.cert_sched.specs.Schedule.{placement}
+use Rattle.cert_sched.specs.Account.{account_after, all_pages}
+use Rattle.cert_sched.specs.Steps.{silent_upto, numbers_read, saved_of, reads_since, steps_since}
+use Rattle.cert_sched.specs.Rules.{is_over, is_by_home}
+use Rattle.cert_sched.specs.Kinds.{ChildrenSynced}
+
+-- The log is not over, it is sent by the home of the process, which lives, and silent steps lead from the log to the process as it is.
+pub record MaySend (system : System) (log : List Entry) (by : By) (p : Pid) (s : ProcState) : Type 0 where
+  pub goes_on : is_over system log ≡ false
+  pub by_home : is_by_home (placement system log) by (Some p) ≡ true
+  pub reached : silent_upto system log p (s.small).steps ≡ Some s
+
+-- since its start it has read so many letters, or made so many steps, as the system asks
+abbrev pub is_due_since : System → List Entry → Pid → ProcState → Bool
+is_due_since system log p s = nat_le system.syncreads (reads_since system log p s) || nat_le system.syncsteps (steps_since system log p s)
+
+-- These are the letters that it has read, its children have synchronised, the pages that came are its memory, and it is due.
+pub record MaySync (system : System) (log : List Entry) (p : Pid) (s : ProcState) (read : List ℕ) : Type 0 where
+  pub reads : rising read ≡ numbers_read (saved_of system log p) s.mail
+  pub children : ChildrenSynced system log p
+  pub account : (account_after system log p).now ≡ all_pages s.memory
+  pub due : is_due_since system log p s ≡ true

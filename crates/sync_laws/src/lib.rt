@@ -1,0 +1,9 @@
+//! The posts by which a process synchronises may stand next in the log, and what the log says of it after them: laws and no code.
+#![tactic(auto)]
+
+pub mod accounts;
+pub mod batches;
+pub mod cuts;
+pub mod marks;
+pub mod pages;
+pub mod syncs;
