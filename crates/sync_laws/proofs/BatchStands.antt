@@ -52,7 +52,7 @@ less_of : (i n : ℕ) → ltb i n ≡ true → i < n
 less_of i n less = grind (arith, nat_tests)
 
 -- a process that silent steps lead to has the pid under which it stands
-own_pid : (system : System) (log : List Entry) (p : Pid) (s : ProcState) (at : ℕ) → silent_upto system log p at ≡ Some s → (s.small).pid ≡ p
+pub own_pid : (system : System) (log : List Entry) (p : Pid) (s : ProcState) (at : ℕ) → silent_upto system log p at ≡ Some s → (s.small).pid ≡ p
 own_pid system log p s at reached =
     let f = silent_from system log p at s reached in
     (silently_counts _ f.was s f.silent).pid ∙ process_after-own system log p f.was (ap (option_and_then (λ k. process_at k p)) f.before ∙ f.there)

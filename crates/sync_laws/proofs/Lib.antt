@@ -10,4 +10,5 @@ pub mod SilentSizes
 pub mod SavedNumbers
 pub mod MarksLead
 pub mod BatchStands
+pub mod BatchIsNew
 mod WorkedSync

@@ -21,10 +21,11 @@ use Rattle.cert_sched.specs.Rules.{is_over}
 use Rattle.cert_sched.specs.Legal.{IsLegalBy}
 use Rattle.cert_sched.proofs.Systems.{cluster, store_system, store_words}
 use Rattle.sync_laws.specs.Marked.{IsMarked, is_dirty}
-use Rattle.sync_laws.specs.Sending.{MaySend}
+use Rattle.sync_laws.specs.Sending.{MaySend, is_due_since}
 use Rattle.sync_laws.specs.Running.{RunsMarked}
-use Rattle.sync_laws.specs.Batched.{AllStand, log_with}
+use Rattle.sync_laws.specs.Batched.{AllNew, AllStand, log_with}
 use Rattle.sync_laws.proofs.BatchStands.{batch_stands, batch_marks}
+use Rattle.sync_laws.proofs.BatchIsNew.{batch_is_new}
 
 -- a program that stores to its page and then jumps to itself, by a name; its process is to synchronise after 64 steps
 abbrev named : System
@@ -68,3 +69,12 @@ stands = batch_stands named [] it process (cluster 0) runs may refl due
 -- after it the process is marked as the log says
 marked : IsMarked named (log_with named [] (batch process (cluster 0))) it (synced process)
 marked = batch_marks named [] it process (cluster 0) runs may refl
+
+-- its page is sent for the first time
+fresh : AllNew named [] (batch process (cluster 0))
+fresh = batch_is_new named [] it process (cluster 0) runs
+
+-- a step earlier it was not due
+not_due : is_due_since named [] it (option_map_or (λ s. s) (silent_upto named [] it 63) (root_state it 1 [] 0 0 0)) ≡ false
+unfolding boot one_step steps silently plain_after silent_upto
+not_due = refl

@@ -12,13 +12,18 @@ ghost use Rattle.sync_point.specs.Due.{is_due_by};
 ghost use Rattle.cert_sched.specs.Kinds.{ChildrenSynced};
 ghost use Rattle.sync_laws.specs.Sending.{MaySend};
 ghost use Rattle.sync_laws.specs.Running.{RunsMarked};
-ghost use Rattle.sync_laws.specs.Batched.{AllStand, log_with};
+ghost use Rattle.sync_laws.specs.Batched.{AllNew, AllStand, log_with};
 ghost use Rattle.sync_laws.specs.Marked.{IsMarked};
 
 /// A law and no code: where a process whose children have synchronised is due by its own counts, its batch may stand,
 /// post by post.
 pub fn batches_stand()
     ensures { (system : System) (log : List Entry) (p : Pid) (process : Process) (by : ClusterNo) → RunsMarked system log p process → MaySend system log (Cluster by) p (state_of process) → ChildrenSynced system log p → is_due_by process system.syncreads system.syncsteps ≡ true → AllStand system log (batch process by) }
+{}
+
+/// A law and no code: no page of a batch was sent at its step count already.
+pub fn batches_are_new()
+    ensures { (system : System) (log : List Entry) (p : Pid) (process : Process) (by : ClusterNo) → RunsMarked system log p process → AllNew system log (batch process by) }
 {}
 
 /// A law and no code: after its batch the process that was synchronised is marked as the log says.
