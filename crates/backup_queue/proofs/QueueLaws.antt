@@ -50,10 +50,10 @@ unread-unread earlier later saved =
 abbrev pub NumbersDiffer : Arrived → Arrived → Type 0
 NumbersDiffer a b = a.number ≢ b.number
 
-pairs_head : (a : Arrived) (rest : List Arrived) → AllPairs NumbersDiffer (a ∷ rest) → All (NumbersDiffer a) rest
+pub pairs_head : (a : Arrived) (rest : List Arrived) → AllPairs NumbersDiffer (a ∷ rest) → All (NumbersDiffer a) rest
 pairs_head a rest pairs = λ k d h. pairs 0 (suc k) d (omega arith) (omega arith)
 
-pairs_tail : (a : Arrived) (rest : List Arrived) → AllPairs NumbersDiffer (a ∷ rest) → AllPairs NumbersDiffer rest
+pub pairs_tail : (a : Arrived) (rest : List Arrived) → AllPairs NumbersDiffer (a ∷ rest) → AllPairs NumbersDiffer rest
 pairs_tail a rest pairs = λ i j d below within. pairs (suc i) (suc j) d (omega arith) (omega arith)
 
 -- the arrival numbers of the letters that do not pass
