@@ -26,9 +26,10 @@ fronts_at_start (a ∷ rest) = (λ kept. all rest, fronts_at_start rest)
 -- one more letter that was not read is behind all
 pub fronts_saved : (read : List ℕ) (saved : List Arrived) (letter : Letter) (number : ℕ) → list_any (λ n. eqb n number) read ≡ false → AreFronts read saved → AreFronts read (saved_with saved letter number)
 fronts_saved read [] letter number new fronts = (λ kept. All-nil (λ (b : Arrived). is_on (end_of letter.to) b ≡ true → is_unread read b ≡ true), tt)
-fronts_saved read (a ∷ rest) letter number new fronts =
-    (λ kept. All-push (λ (b : Arrived). is_on (end_of_letter a) b ≡ true → is_unread read b ≡ true) rest (record { number = number; letter = letter }) (fronts.0 kept) (λ on. ap not new),
-    fronts_saved read rest letter number new fronts.1)
+fronts_saved read (a ∷ rest) letter number new fronts = (
+  λ kept. All-push (λ (b : Arrived). is_on (end_of_letter a) b ≡ true → is_unread read b ≡ true) rest (record { number = number; letter = letter }) (fronts.0 kept) (λ on. ap not new),
+  fronts_saved read rest letter number new fronts.1,
+)
 
 -- ---- with a letter that is read
 
@@ -59,10 +60,11 @@ none_more n read end (a ∷ rest) others none =
 fronts_more : (n : ℕ) (read : List ℕ) (letters : List Arrived) → All (λ (a : Arrived). n ≢ a.number) letters → AreFronts read letters → AreFronts (n ∷ read) letters
 fronts_more n read [] others fronts = tt
 fronts_more n read (a ∷ rest) others fronts =
-    let behind : All (λ (b : Arrived). n ≢ b.number) rest = All-tail (λ (b : Arrived). n ≢ b.number) a rest others in
-    (λ kept. none_more n read (end_of_letter a) rest (All-weaker (λ (b : Arrived). n ≢ b.number) (λ (b : Arrived). is_on (end_of_letter a) b ≡ true → n ≢ b.number) (λ b other on. other) rest behind)
-      (fronts.0 (unread_parts n read a kept).0),
-    fronts_more n read rest behind fronts.1)
+    let behind : All (λ (b : Arrived). n ≢ b.number) rest = All-tail (λ (b : Arrived). n ≢ b.number) a rest others in (
+      λ kept. none_more n read (end_of_letter a) rest (All-weaker (λ (b : Arrived). n ≢ b.number) (λ (b : Arrived). is_on (end_of_letter a) b ≡ true → n ≢ b.number) (λ b other on. other) rest behind)
+          (fronts.0 (unread_parts n read a kept).0),
+      fronts_more n read rest behind fronts.1,
+    )
 
 -- what is found among some of the letters is the first of all, or is found behind it
 found_split : (keep test : Arrived → Bool) (a : Arrived) (rest : List Arrived) (found : Arrived) → find test (filter keep (a ∷ rest)) ≡ Some found
@@ -114,18 +116,20 @@ fronts_read read end (a ∷ rest) found pairs is fronts =
     let differ : All (NumbersDiffer a) rest = pairs_head a rest pairs in
     elim (found_split (is_unread read) (is_on end) a rest found is) [
       | inl here ↦
-          let same : a.number ≡ n = ap (λ (x : Arrived). x.number) here.1 in
-          (λ kept. absurd ((unread_parts n read a kept).1 (sym same)),
-          fronts_more n read rest (All-weaker (NumbersDiffer a) (λ (b : Arrived). n ≢ b.number) (λ b other eq. other (same ∙ eq)) rest differ) fronts.1)
+          let same : a.number ≡ n = ap (λ (x : Arrived). x.number) here.1 in (
+            λ kept. absurd ((unread_parts n read a kept).1 (sym same)),
+            fronts_more n read rest (All-weaker (NumbersDiffer a) (λ (b : Arrived). n ≢ b.number) (λ b other eq. other (same ∙ eq)) rest differ) fronts.1,
+          )
       | inr later ↦
-          let alone : All (λ (b : Arrived). n ≡ b.number → is_on end b ≡ true) rest = found_alone read end rest found (pairs_tail a rest pairs) later.1 in
-          (λ kept. elim later.0 [
-            | inl gone ↦ absurd (true≢false (sym (unread_parts n read a kept).0 ∙ gone))
-            | inr off ↦ none_more n read (end_of_letter a) rest
-                (All-weaker (λ (b : Arrived). n ≡ b.number → is_on end b ≡ true) (λ (b : Arrived). is_on (end_of_letter a) b ≡ true → n ≢ b.number) (λ b its on same. ends_differ end a b off on (its same)) rest alone)
-                (fronts.0 (unread_parts n read a kept).0)
-          ],
-          fronts_read read end rest found (pairs_tail a rest pairs) later.1 fronts.1)
+          let alone : All (λ (b : Arrived). n ≡ b.number → is_on end b ≡ true) rest = found_alone read end rest found (pairs_tail a rest pairs) later.1 in (
+            λ kept. elim later.0 [
+              | inl gone ↦ absurd (true≢false (sym (unread_parts n read a kept).0 ∙ gone))
+              | inr off ↦ none_more n read (end_of_letter a) rest
+                  (All-weaker (λ (b : Arrived). n ≡ b.number → is_on end b ≡ true) (λ (b : Arrived). is_on (end_of_letter a) b ≡ true → n ≢ b.number) (λ b its on same. ends_differ end a b off on (its same)) rest alone)
+                  (fronts.0 (unread_parts n read a kept).0)
+            ],
+            fronts_read read end rest found (pairs_tail a rest pairs) later.1 fronts.1,
+          )
     ]
 
 -- ---- the ends of the letters that were read
@@ -151,3 +155,11 @@ ends_more n read end (a ∷ rest) within alone ends =
 pub ends_read : (read : List ℕ) (end : ℕ) (saved : List Arrived) (found : Arrived) → AllPairs NumbersDiffer saved → find (is_on end) (unread read saved) ≡ Some found → end < 32
     → AreOnEnds read saved → AreOnEnds (found.number ∷ read) saved
 ends_read read end saved found pairs is within ends = ends_more found.number read end saved within (found_alone read end saved found pairs is) ends
+
+pub ends_at_start : (saved : List Arrived) → AreOnEnds [] saved
+ends_at_start [] = All-nil (λ (a : Arrived). is_unread [] a ≡ false → end_of_letter a < 32)
+ends_at_start (a ∷ rest) = All-cons (λ (b : Arrived). is_unread [] b ≡ false → end_of_letter b < 32) a rest (λ gone. absurd (true≢false gone)) (ends_at_start rest)
+
+pub ends_saved : (read : List ℕ) (saved : List Arrived) (letter : Letter) (number : ℕ) → list_any (λ n. eqb n number) read ≡ false → AreOnEnds read saved → AreOnEnds read (saved_with saved letter number)
+ends_saved read saved letter number new ends =
+    All-push (λ (a : Arrived). is_unread read a ≡ false → end_of_letter a < 32) saved (record { number = number; letter = letter }) ends (λ gone. absurd (true≢false (sym (ap not new) ∙ gone)))
