@@ -83,7 +83,7 @@ absent keep n (a ∷ rest) h =
     ∙ absent_at (keep a) n a.number (numbers_without keep rest) (All-head (λ (x : Arrived). n ≢ x.number) a rest h) (absent keep n rest (All-tail (λ (x : Arrived). n ≢ x.number) a rest h))
 
 -- to have read a number that no letter has drops nothing more
-another_number : (n : ℕ) (read : List ℕ) (saved : List Arrived) → All (λ (a : Arrived). n ≢ a.number) saved → unread (n ∷ read) saved ≡ unread read saved
+pub another_number : (n : ℕ) (read : List ℕ) (saved : List Arrived) → All (λ (a : Arrived). n ≢ a.number) saved → unread (n ∷ read) saved ≡ unread read saved
 another_number n read [] h = refl
 another_number n read (a ∷ rest) h =
     let here : is_unread (n ∷ read) a ≡ is_unread read a =

@@ -4,10 +4,10 @@ use Rattle.std.specs.List.{list_any, AllPairs}
 use Rattle.std.proofs.lemmas.List.Elements.{All-nil, All-cons, All-head, All-tail, All-push, All-weaker}
 use Rattle.t32_base.specs.declared.letter.Arrived.{Arrived}
 use Rattle.t32_base.specs.declared.letter.Letter.{Letter}
-use Rattle.proc_state.specs.Mail.{end_of, is_on}
+use Rattle.proc_state.specs.Mail.{end_of, is_on, without_first}
 use Rattle.backup_queue.specs.Queue.{saved_with, is_unread, unread}
 use Rattle.backup_queue.specs.Fronts.{NoneReadOn, AreFronts, AreOnEnds}
-use Rattle.backup_queue.proofs.QueueLaws.{NumbersDiffer, pairs_head, pairs_tail}
+use Rattle.backup_queue.proofs.QueueLaws.{NumbersDiffer, pairs_head, pairs_tail, another_number}
 
 abbrev end_of_letter : Arrived → ℕ
 end_of_letter a = end_of (a.letter).to
@@ -68,7 +68,7 @@ fronts_more n read (a ∷ rest) others fronts =
 
 -- what is found among some of the letters is the first of all, or is found behind it
 found_split : (keep test : Arrived → Bool) (a : Arrived) (rest : List Arrived) (found : Arrived) → find test (filter keep (a ∷ rest)) ≡ Some found
-    → ((test a ≡ true) × (a ≡ found)) ⊎ (((keep a ≡ false) ⊎ (test a ≡ false)) × (find test (filter keep rest) ≡ Some found))
+    → ((keep a ≡ true) × (test a ≡ true) × (a ≡ found)) ⊎ (((keep a ≡ false) ⊎ ((keep a ≡ true) × (test a ≡ false))) × (find test (filter keep rest) ≡ Some found))
 found_split keep test a rest found is = at (keep a) (test a) refl refl (parted (keep a) is)
   where
     parted : (k : Bool) → find test (cond k (a ∷ filter keep rest) (filter keep rest)) ≡ Some found → cond k (cond (test a) (Some a) (find test (filter keep rest))) (find test (filter keep rest)) ≡ Some found
@@ -76,15 +76,15 @@ found_split keep test a rest found is = at (keep a) (test a) refl refl (parted (
     parted false is = is
 
     at : (k t : Bool) → keep a ≡ k → test a ≡ t → cond k (cond t (Some a) (find test (filter keep rest))) (find test (filter keep rest)) ≡ Some found
-        → ((test a ≡ true) × (a ≡ found)) ⊎ (((keep a ≡ false) ⊎ (test a ≡ false)) × (find test (filter keep rest) ≡ Some found))
-    at true true kept passes is = let same : a ≡ found = cc in inl (passes, same)
-    at true false kept fails is = inr (inr fails, is)
+        → ((keep a ≡ true) × (test a ≡ true) × (a ≡ found)) ⊎ (((keep a ≡ false) ⊎ ((keep a ≡ true) × (test a ≡ false))) × (find test (filter keep rest) ≡ Some found))
+    at true true kept passes is = let same : a ≡ found = cc in inl (kept, passes, same)
+    at true false kept fails is = inr (inr (kept, fails), is)
     at false t gone tested is = inr (inl gone, is)
 
 found_in : (P : Arrived → Type 0) (keep test : Arrived → Bool) (letters : List Arrived) (found : Arrived) → find test (filter keep letters) ≡ Some found → All P letters → P found
 found_in P keep test [] found is all = cc
 found_in P keep test (a ∷ rest) found is all = elim (found_split keep test a rest found is) [
-  | inl here ↦ subst P here.1 (All-head P a rest all)
+  | inl here ↦ subst P here.2 (All-head P a rest all)
   | inr later ↦ found_in P keep test rest found later.1 (All-tail P a rest all)
 ]
 
@@ -95,8 +95,8 @@ found_alone read end [] found pairs is = All-nil (λ (a : Arrived). found.number
 found_alone read end (a ∷ rest) found pairs is =
     let differ : All (NumbersDiffer a) rest = pairs_head a rest pairs in
     elim (found_split (is_unread read) (is_on end) a rest found is) [
-      | inl here ↦ All-cons (λ (b : Arrived). found.number ≡ b.number → is_on end b ≡ true) a rest (λ same. here.0)
-          (All-weaker (NumbersDiffer a) (λ (b : Arrived). found.number ≡ b.number → is_on end b ≡ true) (λ b other same. absurd (other (ap (λ (x : Arrived). x.number) here.1 ∙ same))) rest differ)
+      | inl here ↦ All-cons (λ (b : Arrived). found.number ≡ b.number → is_on end b ≡ true) a rest (λ same. here.1)
+          (All-weaker (NumbersDiffer a) (λ (b : Arrived). found.number ≡ b.number → is_on end b ≡ true) (λ b other same. absurd (other (ap (λ (x : Arrived). x.number) here.2 ∙ same))) rest differ)
       | inr later ↦ All-cons (λ (b : Arrived). found.number ≡ b.number → is_on end b ≡ true) a rest
           (λ same. absurd (found_in (NumbersDiffer a) (is_unread read) (is_on end) rest found later.1 differ (sym same)))
           (found_alone read end rest found (pairs_tail a rest pairs) later.1)
@@ -116,7 +116,7 @@ fronts_read read end (a ∷ rest) found pairs is fronts =
     let differ : All (NumbersDiffer a) rest = pairs_head a rest pairs in
     elim (found_split (is_unread read) (is_on end) a rest found is) [
       | inl here ↦
-          let same : a.number ≡ n = ap (λ (x : Arrived). x.number) here.1 in (
+          let same : a.number ≡ n = ap (λ (x : Arrived). x.number) here.2 in (
             λ kept. absurd ((unread_parts n read a kept).1 (sym same)),
             fronts_more n read rest (All-weaker (NumbersDiffer a) (λ (b : Arrived). n ≢ b.number) (λ b other eq. other (same ∙ eq)) rest differ) fronts.1,
           )
@@ -125,7 +125,7 @@ fronts_read read end (a ∷ rest) found pairs is fronts =
             λ kept. elim later.0 [
               | inl gone ↦ absurd (true≢false (sym (unread_parts n read a kept).0 ∙ gone))
               | inr off ↦ none_more n read (end_of_letter a) rest
-                  (All-weaker (λ (b : Arrived). n ≡ b.number → is_on end b ≡ true) (λ (b : Arrived). is_on (end_of_letter a) b ≡ true → n ≢ b.number) (λ b its on same. ends_differ end a b off on (its same)) rest alone)
+                  (All-weaker (λ (b : Arrived). n ≡ b.number → is_on end b ≡ true) (λ (b : Arrived). is_on (end_of_letter a) b ≡ true → n ≢ b.number) (λ b its on same. ends_differ end a b off.1 on (its same)) rest alone)
                   (fronts.0 (unread_parts n read a kept).0)
             ],
             fronts_read read end rest found (pairs_tail a rest pairs) later.1 fronts.1,
@@ -163,3 +163,45 @@ ends_at_start (a ∷ rest) = All-cons (λ (b : Arrived). is_unread [] b ≡ fals
 pub ends_saved : (read : List ℕ) (saved : List Arrived) (letter : Letter) (number : ℕ) → list_any (λ n. eqb n number) read ≡ false → AreOnEnds read saved → AreOnEnds read (saved_with saved letter number)
 ends_saved read saved letter number new ends =
     All-push (λ (a : Arrived). is_unread read a ≡ false → end_of_letter a < 32) saved (record { number = number; letter = letter }) ends (λ gone. absurd (true≢false (sym (ap not new) ∙ gone)))
+
+-- ---- the letters that are left
+
+-- what was read stays read
+stays_read : (n : ℕ) (read : List ℕ) (a : Arrived) → is_unread read a ≡ false → is_unread (n ∷ read) a ≡ false
+stays_read n read a gone = at (eqb n a.number) (list_any (λ k. eqb k a.number) read) gone
+  where
+    at : (b r : Bool) → not r ≡ false → not (b || r) ≡ false
+    at true r gone = refl
+    at false r gone = gone
+
+read_now : (n : ℕ) (read : List ℕ) (a : Arrived) → n ≡ a.number → is_unread (n ∷ read) a ≡ false
+read_now n read a same = ap (λ b. not (b || list_any (λ k. eqb k a.number) read)) (eq-eqb n a.number same)
+
+-- Those that were not read are the ones before without the one that is read.
+pub left_read : (read : List ℕ) (end : ℕ) (saved : List Arrived) (found : Arrived) → AllPairs NumbersDiffer saved → find (is_on end) (unread read saved) ≡ Some found
+    → unread (found.number ∷ read) saved ≡ without_first (is_on end) (unread read saved)
+left_read read end [] found pairs is = refl
+left_read read end (a ∷ rest) found pairs is =
+    let n : ℕ = found.number in
+    let differ : All (NumbersDiffer a) rest = pairs_head a rest pairs in
+    elim (found_split (is_unread read) (is_on end) a rest found is) [
+      | inl here ↦
+          let same : a.number ≡ n = ap (λ (x : Arrived). x.number) here.2 in
+          ap (λ b. cond b (a ∷ unread (n ∷ read) rest) (unread (n ∷ read) rest)) (read_now n read a (sym same))
+          ∙ another_number n read rest (All-weaker (NumbersDiffer a) (λ (b : Arrived). n ≢ b.number) (λ b other eq. other (same ∙ eq)) rest differ)
+          ∙ ap (λ b. cond b (unread read rest) (a ∷ without_first (is_on end) (unread read rest))) (sym here.1)
+          ∙ ap (λ b. without_first (is_on end) (cond b (a ∷ unread read rest) (unread read rest))) (sym here.0)
+      | inr later ↦
+          let more : unread (n ∷ read) rest ≡ without_first (is_on end) (unread read rest) = left_read read end rest found (pairs_tail a rest pairs) later.1 in
+          elim later.0 [
+            | inl gone ↦
+                ap (λ b. cond b (a ∷ unread (n ∷ read) rest) (unread (n ∷ read) rest)) (stays_read n read a gone) ∙ more
+                ∙ ap (λ b. without_first (is_on end) (cond b (a ∷ unread read rest) (unread read rest))) (sym gone)
+            | inr off ↦
+                ap (λ b. cond b (a ∷ unread (n ∷ read) rest) (unread (n ∷ read) rest))
+                (unread_both n read a off.0 (λ same. found_in (NumbersDiffer a) (is_unread read) (is_on end) rest found later.1 differ (sym same)))
+                ∙ ap (λ left. a ∷ left) more
+                ∙ ap (λ b. cond b (unread read rest) (a ∷ without_first (is_on end) (unread read rest))) (sym off.1)
+                ∙ ap (λ b. without_first (is_on end) (cond b (a ∷ unread read rest) (unread read rest))) (sym off.0)
+          ]
+    ]
