@@ -2,3 +2,4 @@ mod Examples
 mod FrontLaws
 mod PlaceLaws
 pub mod QueueLaws
+pub mod ReadingLaws

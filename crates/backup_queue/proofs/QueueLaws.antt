@@ -50,10 +50,10 @@ unread-unread earlier later saved =
 abbrev pub NumbersDiffer : Arrived → Arrived → Type 0
 NumbersDiffer a b = a.number ≢ b.number
 
-pairs_head : (a : Arrived) (rest : List Arrived) → AllPairs NumbersDiffer (a ∷ rest) → All (NumbersDiffer a) rest
+pub pairs_head : (a : Arrived) (rest : List Arrived) → AllPairs NumbersDiffer (a ∷ rest) → All (NumbersDiffer a) rest
 pairs_head a rest pairs = λ k d h. pairs 0 (suc k) d (omega arith) (omega arith)
 
-pairs_tail : (a : Arrived) (rest : List Arrived) → AllPairs NumbersDiffer (a ∷ rest) → AllPairs NumbersDiffer rest
+pub pairs_tail : (a : Arrived) (rest : List Arrived) → AllPairs NumbersDiffer (a ∷ rest) → AllPairs NumbersDiffer rest
 pairs_tail a rest pairs = λ i j d below within. pairs (suc i) (suc j) d (omega arith) (omega arith)
 
 -- the arrival numbers of the letters that do not pass
@@ -83,7 +83,7 @@ absent keep n (a ∷ rest) h =
     ∙ absent_at (keep a) n a.number (numbers_without keep rest) (All-head (λ (x : Arrived). n ≢ x.number) a rest h) (absent keep n rest (All-tail (λ (x : Arrived). n ≢ x.number) a rest h))
 
 -- to have read a number that no letter has drops nothing more
-another_number : (n : ℕ) (read : List ℕ) (saved : List Arrived) → All (λ (a : Arrived). n ≢ a.number) saved → unread (n ∷ read) saved ≡ unread read saved
+pub another_number : (n : ℕ) (read : List ℕ) (saved : List Arrived) → All (λ (a : Arrived). n ≢ a.number) saved → unread (n ∷ read) saved ≡ unread read saved
 another_number n read [] h = refl
 another_number n read (a ∷ rest) h =
     let here : is_unread (n ∷ read) a ≡ is_unread read a =

@@ -2,6 +2,7 @@
 #![tactic(auto)]
 
 mod fronts;
+pub mod reading;
 pub mod record;
 #[cfg(test)]
 mod tests;
