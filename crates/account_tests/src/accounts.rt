@@ -132,10 +132,9 @@ fn exit() -> What {
     }
 }
 
-#[test]
-fn a_fetch_is_answered_with_the_page_of_the_last_cut(rt: HostRuntime) -> Result<(), Fail> {
-    let alloc = rt.alloc();
-    let mut server = server_at_boot(alloc)?;
+// What is done with a server is done by functions that borrow it: who owns it pays for its drop on each way out.
+
+fn asked_and_cut(alloc: Global, server: &mut Server) -> Result<(), Fail> {
     same("nothing asked", &server.owed()?, &None)?;
     server.note(fetch())?;
     same("at boot", &server.owed()?, &Some(FIRST_BYTE))?;
@@ -148,9 +147,12 @@ fn a_fetch_is_answered_with_the_page_of_the_last_cut(rt: HostRuntime) -> Result<
 }
 
 #[test]
-fn a_crash_ends_the_wait_and_goes_back_to_the_last_cut(rt: HostRuntime) -> Result<(), Fail> {
-    let alloc = rt.alloc();
-    let mut server = server_at_boot(alloc)?;
+fn a_fetch_is_answered_with_the_page_of_the_last_cut(rt: HostRuntime) -> Result<(), Fail> {
+    let mut server = server_at_boot(rt.alloc())?;
+    asked_and_cut(rt.alloc(), &mut server)
+}
+
+fn asked_and_lost(alloc: Global, server: &mut Server) -> Result<(), Fail> {
     server.note(fetch())?;
     server.note(page(alloc, 7)?)?;
     server.note(crash())?;
@@ -161,18 +163,31 @@ fn a_crash_ends_the_wait_and_goes_back_to_the_last_cut(rt: HostRuntime) -> Resul
 }
 
 #[test]
-fn a_page_that_came_and_an_exit_end_the_wait(rt: HostRuntime) -> Result<(), Fail> {
-    let alloc = rt.alloc();
-    let mut server = server_at_boot(alloc)?;
+fn a_crash_ends_the_wait_and_goes_back_to_the_last_cut(rt: HostRuntime) -> Result<(), Fail> {
+    let mut server = server_at_boot(rt.alloc())?;
+    asked_and_lost(rt.alloc(), &mut server)
+}
+
+fn came(alloc: Global, server: &mut Server) -> Result<(), Fail> {
     server.note(fetch())?;
     server.note(What::PageIs {
         pid: ROOT,
         index: 0,
         bytes: Shared::new(alloc, [0; 256])?,
     })?;
-    same("the page came", &server.owed()?, &None)?;
+    same("the page came", &server.owed()?, &None)
+}
+
+fn ended(server: &mut Server) -> Result<(), Fail> {
     server.note(fetch())?;
     server.note(exit())?;
     same("the process ended", &server.owed()?, &None)?;
     same("its page", &server.pager.has_committed(ROOT, 0), &false)
+}
+
+#[test]
+fn a_page_that_came_and_an_exit_end_the_wait(rt: HostRuntime) -> Result<(), Fail> {
+    let mut server = server_at_boot(rt.alloc())?;
+    came(rt.alloc(), &mut server)?;
+    ended(&mut server)
 }
