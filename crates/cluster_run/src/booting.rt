@@ -8,12 +8,12 @@ ghost use Rattle.cert_sched.specs.Scripted.{is_server};
 ghost use Rattle.cluster_run.specs.Along.{AllAlong, IsOwned};
 ghost use Rattle.cluster_run.specs.Started.{AllStarted};
 
+use crate::member::Member;
 use bus_order::bus::Bus;
 use cert_sched::script::ScriptWord;
-use crate::member::Member;
+use page_server::mem_disk::MemDisk;
 use std::alloc::Global;
 use std::sync::Arc;
-use page_server::mem_disk::MemDisk;
 use sys_text::system::System;
 use t32_base::lists::List;
 use t32_base::process::ClusterNo;

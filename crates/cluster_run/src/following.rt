@@ -9,6 +9,7 @@ ghost use Rattle.cluster_run.specs.Seated.{IsSeatOf, Shows, made_of};
 ghost use Rattle.cluster_run.specs.Threads.{HasEnded, OneEnded, Starts};
 
 use crate::locked::stop;
+use crate::member::Member;
 use crate::offers::News;
 use crate::seated::{Seated, TURNS};
 use crate::sleepers::Sleepers;
@@ -16,7 +17,6 @@ use crate::turn::{Turn, take_turn};
 use bus_lock::{LogLock, LogSeat};
 use bus_order::shared::SharedBus;
 use cert_sched::script::ScriptWord;
-use crate::member::Member;
 use std::alloc::Global;
 use std::sync::{Arc, Wait};
 use sys_text::system::System;

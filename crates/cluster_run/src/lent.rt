@@ -1,10 +1,10 @@
 //! A bus that no other has is its own port.
+use crate::member::Member;
 use crate::offers::{Offered, lose_at, offer_to, tell_to};
 use crate::port::Port;
 use bus_msg::entry::{Cause, Entry, Post};
 use bus_order::bus::Bus;
 use bus_order::marks::{Idled, Mark};
-use crate::member::Member;
 use t32_base::process::ClusterNo;
 use t32_base::streams::NoMemory;
 

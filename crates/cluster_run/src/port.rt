@@ -11,10 +11,10 @@ ghost use Rattle.cluster_run.specs.Along.{IsAlong, IsNamed, IsSound, IsStopped, 
 ghost use Rattle.cluster_run.specs.Offers.{Adds, IsToldBy, Later, OfferIs, TellIs, Visits};
 ghost use Rattle.cluster_run.specs.Turns.{GoesOwn, LosesOwn};
 
+use crate::member::Member;
 use crate::offers::Offered;
 use bus_msg::entry::{Entry, Post};
 use bus_order::marks::{Idled, Mark};
-use crate::member::Member;
 use t32_base::process::ClusterNo;
 use t32_base::streams::NoMemory;
 

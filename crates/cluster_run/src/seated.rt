@@ -10,6 +10,7 @@ ghost use Rattle.bus_order.specs.Script.{has_unused};
 ghost use Rattle.cert_sched.specs.Losses.{is_step_word};
 
 use crate::locked::{give, take_for, take_sound};
+use crate::member::Member;
 use crate::offers::{News, Offered, lose_at, news_of, offer_to, receiver_of, tell_to};
 use crate::port::Port;
 use crate::sleepers::Sleepers;
@@ -18,7 +19,6 @@ use bus_msg::entry::{Entry, Post};
 use bus_order::marks::{Idled, Mark};
 use bus_order::shared::SharedBus;
 use cert_sched::script::ScriptWord;
-use crate::member::Member;
 use std::sync::{Arc, Wait};
 use sys_text::system::System;
 use t32_base::gate::Gate;
