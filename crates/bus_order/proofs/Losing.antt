@@ -41,6 +41,7 @@ crash_may_follow system log k cause legal goes_on lives = record {
     kind = lives;
   };
   built = refl;
+  pages = refl;
 }
 
 pub loss_more : (b : BusView) (k : ClusterNo) (cause : Cause) (left : List ScriptWord) → IsLegalBy BuiltMayFollow b.system b.log → MayLose b k cause left → IsMore b (crash_entry b.system b.log k cause) left

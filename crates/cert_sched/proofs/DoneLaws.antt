@@ -148,4 +148,5 @@ done_may_follow system log rests valid legal goes_on rest =
         };
       };
       built = refl;
+      pages = refl;
     }

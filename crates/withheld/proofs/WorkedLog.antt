@@ -21,19 +21,19 @@ valid = refl
 
 follows_0 : BuiltMayFollow two_writers [] (writes 0 0 16 2 6 97)
 unfolding boot one_step steps silently plain_after placement told is_over silent_upto emission_at backup_record
-follows_0 = record { stands = record { placed = (refl, refl, refl); by_right = refl; applies = refl; kind = refl }; built = refl }
+follows_0 = record { stands = record { placed = (refl, refl, refl); by_right = refl; applies = refl; kind = refl }; built = refl; pages = refl }
 
 follows_1 : BuiltMayFollow two_writers (writes 0 0 16 2 6 97 ∷ []) (writes 1 1 17 1 6 97)
 unfolding boot one_step steps silently plain_after placement told is_over silent_upto emission_at backup_record
-follows_1 = record { stands = record { placed = (refl, refl, refl); by_right = refl; applies = refl; kind = refl }; built = refl }
+follows_1 = record { stands = record { placed = (refl, refl, refl); by_right = refl; applies = refl; kind = refl }; built = refl; pages = refl }
 
 follows_2 : BuiltMayFollow two_writers (writes 0 0 16 2 6 97 ∷ writes 1 1 17 1 6 97 ∷ []) (writes 2 0 16 2 9 98)
 unfolding boot one_step steps silently plain_after placement told is_over silent_upto emission_at backup_record
-follows_2 = record { stands = record { placed = (refl, refl, refl); by_right = refl; applies = refl; kind = refl }; built = refl }
+follows_2 = record { stands = record { placed = (refl, refl, refl); by_right = refl; applies = refl; kind = refl }; built = refl; pages = refl }
 
 follows_3 : BuiltMayFollow two_writers two_and_one (loss 3)
 unfolding boot one_step steps silently plain_after placement told is_over silent_upto emission_at backup_record
-follows_3 = record { stands = record { placed = (refl, refl, refl); by_right = refl; applies = refl; kind = refl }; built = refl }
+follows_3 = record { stands = record { placed = (refl, refl, refl); by_right = refl; applies = refl; kind = refl }; built = refl; pages = refl }
 
 pub legal_before : IsLegalBy BuiltMayFollow two_writers two_and_one
 unfolding IsLegalBy
