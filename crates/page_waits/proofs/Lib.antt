@@ -3,6 +3,6 @@ mod Asking
 mod Keeping
 mod OneEnd
 mod GoingOn
-mod AllPages
-mod OnePage
-mod Started
+pub mod AllPages
+pub mod OnePage
+pub mod Started

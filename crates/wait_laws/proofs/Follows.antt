@@ -1,0 +1,143 @@
+-- What an entry that tells of no deed of a process makes of its wait.
+use Rattle.std.proofs.Common.{◌≡◌, ℕ, ◌<◌, ◌≤◌, refl, sym, ◌∙◌, ap, subst, List, [], ◌∷◌, ◌++◌, length, set, Bool, true, false, cond, ◌&&◌, ◌||◌, eqb, eqb-true, eq-eqb, ne_eqb, Option, Some, None, slice_get, true≢false}
+use Rattle.std.proofs.lemmas.List.{length-set}
+use Rattle.t32_base.specs.declared.process.Pid.{Pid}
+use Rattle.sys_text.specs.declared.system.System.{System}
+use Rattle.sys_text.specs.Valid.{is_system}
+use Rattle.bus_msg.specs.declared.entry.What.{What}
+use Rattle.bus_msg.specs.declared.entry.What.TheVariants.{Exit, PageIs}
+use Rattle.bus_msg.specs.declared.entry.Entry.{Entry}
+use Rattle.bus_msg.specs.Places.{same_pid}
+use Rattle.bus_msg.specs.PlacedAfter.{what}
+use Rattle.roll_forward.specs.Deeds.{Sends}
+use Rattle.sys_calls.specs.declared.steps.Emission.TheVariants.{Exit as Ended}
+use Rattle.cert_sched.specs.Account.{account_after, page_in, is_exit_of}
+use Rattle.cert_sched.specs.Built.{BuiltMayFollow}
+use Rattle.cert_sched.specs.Deeds.{deeds_in, is_cut}
+use Rattle.cert_sched.specs.Legal.{IsLegalBy, Stands}
+use Rattle.cert_sched.specs.Moved.{any_since_moved, is_fetch, is_page_is}
+use Rattle.cert_sched.specs.Simulation.{IsUnended}
+use Rattle.cert_sched.specs.Told.{cluster_lost}
+use Rattle.cert_sched.proofs.LogLaws.{IsLegal-before, IsLegal-last}
+use Rattle.cert_sched.proofs.MailLaws.{built_is_plain}
+use Rattle.recovery_laws.proofs.Entries.{plain_starts_none}
+use Rattle.record_laws.proofs.Standing.{built_stands}
+use Rattle.backup_records.specs.Records.{record_after}
+use Rattle.page_laws.specs.Next.{moves_next}
+use Rattle.page_laws.proofs.Keeping.{kept_still}
+use Rattle.page_laws.proofs.OneEntry.{any_since-goes_on, moved-goes_on, moves_none}
+use Rattle.page_laws.proofs.PagesStay.{page_count-snoc}
+use Rattle.page_laws.proofs.Waiting.{came_waited, page_is_holds, waited_lacks}
+use Rattle.page_waits.specs.Waiting.{WaitingState, with_page}
+use Rattle.page_waits.proofs.OnePage.{others_same, written_there}
+use Rattle.wait_laws.specs.Waits.{WaitsAs, page_come}
+use Rattle.wait_laws.proofs.Records.{record_next}
+
+or_nothing : (b : Bool) → (b || false) ≡ b
+or_nothing true = refl
+or_nothing false = refl
+
+or_true : (b : Bool) → (b || true) ≡ true
+or_true true = refl
+or_true false = refl
+
+or_of_three : (a b c : Bool) → (a || (b || c)) ≡ ((a || b) || c)
+or_of_three true b c = refl
+or_of_three false b c = refl
+
+and_false : (b : Bool) → (b && false) ≡ false
+and_false true = refl
+and_false false = refl
+
+-- an entry that tells of no deed of the process is not its exit
+no_exit : (p : Pid) (w : What) → deeds_in p w ≡ [] → is_exit_of p w ≡ false
+no_exit p (Exit q at end) none = by_test (same_pid q p) none
+  where
+    by_test : (b : Bool) → cond b (Sends (Ended end) ∷ []) [] ≡ [] → b ≡ false
+    by_test true e = cc
+    by_test false e = refl
+no_exit p w none = refl
+
+module _ (system : System) (log : List Entry) (e : Entry) (p : Pid) (queued : ℕ → Bool) (w : WaitingState) (valid : is_system system ≡ true) (legal : IsLegalBy BuiltMayFollow system (log ++ e ∷ [])) where
+  stands : Stands system log e
+  stands = (IsLegal-last BuiltMayFollow system log e legal).stands
+
+  -- what was kept of it at its last cut is kept still
+  still : is_exit_of p (what e) ≡ false → (account_after system (log ++ e ∷ []) p).kept ≡ (account_after system log p).kept
+  still exit = kept_still system log e p exit (plain_starts_none p (what e) (built_is_plain system log e (IsLegal-last BuiltMayFollow system log e legal)).1).0
+
+  -- a page that the entry does not bring is there or not, as before
+  come_same : (i : ℕ) → moves_next system log e p ≡ false → is_exit_of p (what e) ≡ false → is_page_is p i (what e) ≡ false → page_come system (log ++ e ∷ []) p i ≡ page_come system log p i
+  come_same i stays exit none =
+      let seen : any_since_moved system (log ++ e ∷ []) p (is_page_is p i) ≡ any_since_moved system log p (is_page_is p i) =
+      any_since-goes_on system log e p (is_page_is p i) stays ∙ ap (λ b. any_since_moved system log p (is_page_is p i) || b) none ∙ or_nothing (any_since_moved system log p (is_page_is p i)) in
+      let kept = still exit in
+      λ k. cond (seen k) (page_in (kept k) i) None
+
+  -- an entry that is no page of it
+  pub other_entry : IsUnended system log p → moves_next system log e p ≡ false → deeds_in p (what e) ≡ [] → ((i : ℕ) → is_page_is p i (what e) ≡ false) → WaitsAs system log p (λ i. is_fetch p i (what e) || queued i) w
+      → WaitsAs system (log ++ e ∷ []) p queued (record w { kept = record_after (what e) w.kept })
+  other_entry unended stays none no_page waits = record {
+    kept = record_next system log e p w.kept valid legal unended waits.kept;
+    moved = moved-goes_on system log e p stays ∙ waits.moved;
+    pages = waits.pages ∙ sym (page_count-snoc system log e p stands.applies);
+    some = waits.some;
+    at_most = waits.at_most;
+    asked = λ i within.
+        waits.asked i within ∙ or_of_three (any_since_moved system log p (is_fetch p i)) (is_fetch p i (what e)) (queued i)
+        ∙ ap (λ b. b || queued i) (sym (any_since-goes_on system log e p (is_fetch p i) stays));
+    come = λ i within. waits.come i within ∙ ap Some (sym (come_same i stays (no_exit p (what e) none) (no_page i)));
+  }
+
+  module _ (i : ℕ) (bytes : List ℕ) (is : what e ≡ PageIs p i bytes) (waits : WaitsAs system log p queued w) where
+    -- a page of it comes that it has
+    pub page_within : i < length w.come
+    page_within =
+        subst (λ n. i < n) (sym waits.pages)
+        (waited_lacks system log p i (built_stands system log (IsLegal-before BuiltMayFollow system log e legal)) (came_waited system log e p i bytes stands is)).within
+
+    stays : moves_next system log e p ≡ false
+    stays = moves_none system log e (ap cluster_lost is) p
+
+    exit : is_exit_of p (what e) ≡ false
+    exit = ap (is_exit_of p) is
+
+    -- that page is there from now on
+    this_came : page_come system (log ++ e ∷ []) p i ≡ Some bytes
+    this_came =
+        let here : is_page_is p i (what e) ≡ true = ap (is_page_is p i) is ∙ (λ k. eq-eqb p.0 p.0 refl k && eq-eqb i i refl k) in
+        let seen : any_since_moved system (log ++ e ∷ []) p (is_page_is p i) ≡ true =
+        any_since-goes_on system log e p (is_page_is p i) stays ∙ ap (λ b. any_since_moved system log p (is_page_is p i) || b) here ∙ or_true (any_since_moved system log p (is_page_is p i)) in
+        ap (λ b. cond b (page_in (account_after system (log ++ e ∷ []) p).kept i) None) seen
+        ∙ ap (λ pages. page_in pages i) (still exit)
+        ∙ (page_is_holds system log e p i bytes stands is).page
+
+    -- no other page is
+    other_page : (j : ℕ) → eqb i j ≡ false → is_page_is p j (what e) ≡ false
+    other_page j apart = ap (is_page_is p j) is ∙ ap (λ b. same_pid p p && b) apart ∙ and_false (same_pid p p)
+
+    come_next : (j : ℕ) → j < length w.come → slice_get (set w.come i (Some bytes)) j ≡ Some (page_come system (log ++ e ∷ []) p j)
+    come_next j within = by_test (eqb i j) refl
+      where
+        by_test : (b : Bool) → eqb i j ≡ b → slice_get (set w.come i (Some bytes)) j ≡ Some (page_come system (log ++ e ∷ []) p j)
+        by_test true same =
+            subst (λ j. slice_get (set w.come i (Some bytes)) j ≡ Some (page_come system (log ++ e ∷ []) p j)) (eqb-true i j same)
+            (written_there w.come i (Some bytes) page_within ∙ ap Some (sym this_came))
+        by_test false apart =
+            others_same w.come i j (Some bytes) (λ same. true≢false (sym (eq-eqb i j (sym same)) ∙ apart))
+            ∙ waits.come j within ∙ ap Some (sym (come_same j stays exit (other_page j apart)))
+
+    pub page_entry : IsUnended system log p → WaitsAs system (log ++ e ∷ []) p queued (with_page i bytes w)
+    page_entry unended =
+        let many : length (set w.come i (Some bytes)) ≡ length w.come = length-set w.come i (Some bytes) in
+        record {
+          kept = record_next system log e p w.kept valid legal unended waits.kept ∙ ap (λ (x : What). Some (record_after x w.kept)) is;
+          moved = moved-goes_on system log e p stays ∙ waits.moved;
+          pages = many ∙ waits.pages ∙ sym (page_count-snoc system log e p stands.applies);
+          some = subst (λ n. 1 ≤ n) (sym many) waits.some;
+          at_most = subst (λ n. n ≤ 256) (sym many) waits.at_most;
+          asked = λ j within.
+              waits.asked j (subst (λ n. j < n) many within)
+              ∙ ap (λ b. b || queued j) (sym (any_since-goes_on system log e p (is_fetch p j) stays ∙ ap (λ b. any_since_moved system log p (is_fetch p j) || b) (ap (is_fetch p j) is) ∙ or_nothing (any_since_moved system log p (is_fetch p j))));
+          come = λ j within. come_next j (subst (λ n. j < n) many within);
+        }

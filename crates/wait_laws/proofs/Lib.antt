@@ -1,0 +1,10 @@
+pub mod BootPages
+pub mod Records
+pub mod Begins
+pub mod Follows
+pub mod PagesCame
+pub mod GoesOn
+pub mod Asks
+pub mod KeptCame
+pub mod FetchesWait
+mod WorkedWaits

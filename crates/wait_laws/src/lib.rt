@@ -1,0 +1,6 @@
+//! What a log says of a process that waits for its pages: laws and no code.
+#![tactic(auto)]
+
+pub mod entries;
+pub mod goes_on;
+pub mod lacks;
