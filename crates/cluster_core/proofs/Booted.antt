@@ -2,6 +2,7 @@
 use Rattle.std.proofs.Common.{◌≡◌, ℕ, ◌+◌, ◌*◌, ◌<◌, Bool, true, false, ◌&&◌, cond, eqb, List, [], ◌∷◌, ◌++◌, length, map, refl, sym, ap, subst, ◌∙◌, arith, Some, None, eqb-true, eq-eqb, true≢false, Option, is_some}
 use Rattle.std.specs.Prelude.{◌%◌, filter, find, option_map}
 use Rattle.std.specs.List.{count_by, list_any}
+use Rattle.std.specs.Option.{IfSome}
 use Rattle.std.specs.FinMap as finmap
 use Rattle.t32_base.specs.declared.process.Pid.{Pid}
 use Rattle.t32_base.specs.declared.process.ClusterNo.{ClusterNo}
@@ -23,6 +24,8 @@ use Rattle.bus_msg.specs.declared.placed.Placed.{Placed}
 use Rattle.bus_msg.specs.Places.{same_pid, is_at_home}
 use Rattle.cert_sched.specs.Parts.{rising}
 use Rattle.cert_sched.specs.Rests.{home_pids}
+use Rattle.cert_sched.specs.Rules.{has_its_pages}
+use Rattle.cert_sched.specs.Told.{told}
 use Rattle.cert_sched.specs.Schedule.{next_pid, placed_root, places_at_boot, placement, plain_after}
 use Rattle.cert_sched.specs.Steps.{silent_upto}
 use Rattle.cert_sched.proofs.BootPids.{boot_apart, boot_numbers, root_pids, state_pids}
@@ -158,7 +161,6 @@ boot_view system number here recs server failed = record {
   cursor = 0;
   places = places_at_boot system;
   here = here;
-  pages = [];
   records = recs;
   server = server;
   queue = [];
@@ -176,14 +178,21 @@ held_as system number here is p h at =
     let one = here_booted system number here is p h at in
     subst (λ (h : Held). IsHeldAs system [] [] p h) (sym one.is) (steps_now system p (state_of one.process) one.at)
 
--- a cluster at boot follows the empty log
+-- no crash has moved a process
+pages_at_boot : (system : System) (p : Pid) → has_its_pages system [] p ≡ true
+unfolding told
+pages_at_boot system p = refl
+
+-- a cluster at boot follows the empty log, where its disk fails no call
 pub boot_follows : (system : System) (number : ClusterNo) (here : List (Pid × Held)) (recs : List BackRec) (server : Option PagerState) (failed : Option ℕ) → is_system system ≡ true → AreBooted system number here → KeepsRecords system [] number recs
-    → is_some server ≡ is_server system number → BeginsToServe system server → FollowsBuilt system [] (boot_view system number here recs server failed)
-boot_follows system number here recs server failed valid is kept there begins = record {
+    → is_some server ≡ is_server system number → BeginsToServe system server → IfSome server (λ (s : PagerState). (s.counts).failing ≡ Some []) → FollowsBuilt system [] (boot_view system number here recs server failed)
+boot_follows system number here recs server failed valid is kept there begins sound = record {
   log = record { cursor = refl; places = placed_at_boot system };
   processes = record { held = held_as system number here is; each_once = once system number here valid is };
   queue = record { own = refl; legal = tt };
   steps = record { counted = λ lost. omega arith };
+  pages = λ p h at some. pages_at_boot system p;
   records = kept;
   accounts = accounts_begin system (boot_view system number here recs server failed) refl there begins;
+  disk = sound;
 }

@@ -7,7 +7,11 @@ use Rattle.bus_msg.specs.declared.entry.What.{What}
 use Rattle.bus_msg.specs.declared.entry.What.TheVariants.{Mail, Birth, Exit, Page, Sync, Fetch, PageIs, Crash, Return, Rebackup, Done, Stop}
 use Rattle.t32_base.specs.declared.process.ClusterNo.{ClusterNo}
 use Rattle.bus_msg.specs.declared.entry.Cause.{Cause}
-use Rattle.cert_sched.specs.Built.{is_built, tells_or_closes}
+use Rattle.sys_text.specs.declared.system.System.{System}
+use Rattle.bus_msg.specs.declared.entry.Entry.{Entry}
+use Rattle.bus_msg.specs.PlacedAfter.{what}
+use Rattle.cert_sched.specs.Built.{is_built, is_unlost, tells_or_closes, TellingMayFollow, UnlostMayFollow}
+use Rattle.cert_sched.proofs.UnlostLaws.{telling_unlost}
 
 pub by_kind : (P : What → Type 0) → ((at : ℕ) (letter : Letter) → P (Mail at letter)) → ((pid : Pid) (at : ℕ) (end : End) → P (Exit pid at end)) → ((rests : List (Pid × ℕ)) → P (Done rests)) → P Stop → (w : What) → tells_or_closes w ≡ true → P w
 by_kind P mail exit done stop (Mail at letter) built = mail at letter
@@ -66,3 +70,31 @@ kind_is (Page pid at index bytes) built = absurd (true≢false (sym built))
 kind_is (Sync pid small read took) built = absurd (true≢false (sym built))
 kind_is (Return k) built = absurd (true≢false (sym built))
 kind_is (Rebackup to fresh recs) built = absurd (true≢false (sym built))
+
+-- what a cluster sends tells or closes, or is of a page
+pub unlost_is : (w : What) → is_unlost w ≡ true → (tells_or_closes w ≡ true) ⊎ (is_of_page w ≡ true)
+unlost_is (Mail at letter) unlost = inl refl
+unlost_is (Exit pid at end) unlost = inl refl
+unlost_is (Fetch pid index) unlost = inr refl
+unlost_is (PageIs pid index bytes) unlost = inr refl
+unlost_is (Done rests) unlost = inl refl
+unlost_is Stop unlost = inl refl
+unlost_is (Birth parent at child end) unlost = absurd (true≢false (sym unlost))
+unlost_is (Page pid at index bytes) unlost = absurd (true≢false (sym unlost))
+unlost_is (Sync pid small read took) unlost = absurd (true≢false (sym unlost))
+unlost_is (Crash k cause) unlost = absurd (true≢false (sym unlost))
+unlost_is (Return k) unlost = absurd (true≢false (sym unlost))
+unlost_is (Rebackup to fresh recs) unlost = absurd (true≢false (sym unlost))
+
+pub page_unlost : (w : What) → is_of_page w ≡ true → is_unlost w ≡ true
+page_unlost = by_page (λ w. is_unlost w ≡ true) (λ pid index. refl) (λ pid index bytes. refl)
+
+pub page_built : (w : What) → is_of_page w ≡ true → is_built w ≡ true
+page_built = by_page (λ w. is_built w ≡ true) (λ pid index. refl) (λ pid index bytes. refl)
+
+-- a post that may follow and tells of steps, as one that tells
+pub told_may : (system : System) (log : List Entry) (e : Entry) → UnlostMayFollow system log e → tells_or_closes (what e) ≡ true → TellingMayFollow system log e
+told_may system log e may tells = record { stands = may.stands; built = tells; pages = may.pages }
+
+pub may_told : (system : System) (log : List Entry) (e : Entry) → TellingMayFollow system log e → UnlostMayFollow system log e
+may_told system log e may = record { stands = may.stands; built = telling_unlost (what e) may.built; pages = may.pages }

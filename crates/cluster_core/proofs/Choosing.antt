@@ -167,9 +167,9 @@ fewer_rise (e ∷ here) rise = by_test (not (is_stuck e.1)) (fewer_rise here par
     by_test false more = more
 
 -- each of them is ready
-able_ready : (slots : Slab Held) (ready : List ℕ) (es : List (ℕ × ℕ)) → AllByRecursion (IsSlot slots ready) es → (q : ℕ) → list_any (at_key q) (pids_able (stands_in slots es)) ≡ true → list_any (at_key q) ready ≡ true
-able_ready slots ready [] kept q any = cc
-able_ready slots ready (e ∷ es) kept q any = in_front (get slots e.1) (λ p is steps. (kept.0).able p is steps) any (able_ready slots ready es kept.1 q)
+able_ready : (slots : Slab Held) (ready asking : List ℕ) (es : List (ℕ × ℕ)) → AllByRecursion (IsSlot slots ready asking) es → (q : ℕ) → list_any (at_key q) (pids_able (stands_in slots es)) ≡ true → list_any (at_key q) ready ≡ true
+able_ready slots ready asking [] kept q any = cc
+able_ready slots ready asking (e ∷ es) kept q any = in_front (get slots e.1) (λ p is steps. (kept.0).able p is steps) any (able_ready slots ready asking es kept.1 q)
   where
     by_step : (p : Held) (b c : Bool) → can_act p ≡ b → at_key q e.0 ≡ c → (b ≡ true → list_any (at_key e.0) ready ≡ true)
         → list_any (at_key q) (pids_in (cond (not (not b)) ((pid_of e.0, p) ∷ filter (λ (e : Pid × Held). not (is_stuck e.1)) (stands_in slots es)) (filter (λ (e : Pid × Held). not (is_stuck e.1)) (stands_in slots es)))) ≡ true
@@ -204,10 +204,10 @@ able_there n (e ∷ here) p there steps = by_tests (same_pid e.0 (pid_of n)) (ca
     by_tests false false at has there more = more there steps
 
 -- where the next of those that are ready has a step, it is the next of those that have one
-pub next_able : (slots : Slab Held) (keys : List (ℕ × ℕ)) (ready : List ℕ) (last n : ℕ) (p : Held) → IsKept slots keys ready → are_rising ready ≡ true → are_rising (pids_in (stands_in slots keys)) ≡ true → next_ready ready last ≡ Some n
+pub next_able : (slots : Slab Held) (keys : List (ℕ × ℕ)) (ready asking : List ℕ) (last n : ℕ) (p : Held) → IsKept slots keys ready asking → are_rising ready ≡ true → are_rising (pids_in (stands_in slots keys)) ≡ true → next_ready ready last ≡ Some n
     → held_of (stands_in slots keys) (pid_of n) ≡ Some p → can_act p ≡ true → next_ready (pids_able (stands_in slots keys)) last ≡ Some n
-next_able slots keys ready last n p kept rise rise_here next there steps =
-    next_of_those ready (pids_able (stands_in slots keys)) last n rise (fewer_rise (stands_in slots keys) rise_here) (able_ready slots ready keys kept.each) next (able_there n (stands_in slots keys) p there steps)
+next_able slots keys ready asking last n p kept rise rise_here next there steps =
+    next_of_those ready (pids_able (stands_in slots keys)) last n rise (fewer_rise (stands_in slots keys) rise_here) (able_ready slots ready asking keys kept.each) next (able_there n (stands_in slots keys) p there steps)
 
 -- ---- the turn of the one that was chosen
 

@@ -1,6 +1,6 @@
 -- The processes of a cluster in their slots stay as they have to: what is kept over a write, a removal and one more.
-use Rattle.std.proofs.Common.{◌≡◌, ℕ, ◌<◌, Bool, true, false, cond, not, ◌||◌, ◌&&◌, eqb, ltb, eqb-true, eq-eqb, ne_eqb, List, [], ◌∷◌, ◌++◌, map, find, length, refl, sym, ap, subst, ◌∙◌, arith, Option, Some, None, IsSome, is_some, true≢false, append_assoc}
-use Rattle.std.specs.Prelude.{filter, Result, Ok, Err, OnOk, slice_get, slice_index_or, IfSome}
+use Rattle.std.proofs.Common.{◌≡◌, ℕ, ◌<◌, Bool, true, false, cond, not, ◌||◌, ◌&&◌, eqb, ltb, eqb-true, eq-eqb, ne_eqb, List, [], ◌∷◌, ◌++◌, find, length, refl, sym, ap, subst, ◌∙◌, arith, Option, Some, None, IsSome, is_none, is_some, true≢false, append_assoc}
+use Rattle.std.specs.Prelude.{filter, Result, Ok, Err, slice_get, slice_index_or, IfSome}
 use Rattle.std.specs.Borrow.{Bor}
 use Rattle.std.specs.BTreeMap.Range.{range_contains}
 use Rattle.std.specs.declared.ops.Bound.TheVariants.{Excluded, Unbounded}
@@ -15,75 +15,79 @@ use Rattle.std.proofs.lemmas.Bool.Decides.{nat_tests}
 use Rattle.std.proofs.lemmas.Bool.{false≢true}
 use Rattle.slab.specs.Slab.{Slab, get, Updates}
 use Rattle.t32_base.specs.declared.process.Pid.{Pid}
-use Rattle.t32_base.specs.declared.letter.Letter.{Letter}
-use Rattle.t32_base.specs.declared.letter.To.{To}
-use Rattle.t32_base.specs.declared.letter.To.TheVariants.{Tty}
-use Rattle.cert_sched.specs.Deeds.{is_end_of}
-use Rattle.cluster_core.specs.View.{Held, arrived_held, can_act, steps_of_held}
+use Rattle.cluster_core.specs.View.{Held, can_act, page_lacked, steps_of_held}
 use Rattle.cluster_core.specs.Calls.{rests_in}
 use Rattle.bus_msg.specs.Places.{same_pid}
 use Rattle.plain_kernel.specs.Maps.{at_key, pid_of}
 use Rattle.plain_kernel.proofs.Entries.{some_same}
 use Rattle.cert_sched.specs.Parts.{first_of}
 use Rattle.cert_sched.proofs.RisingLaws.{NoTwo, either_not}
-use Rattle.cluster_core.specs.Residents.{is_stuck, are_rising, are_stuck, pids_in, next_ready, is_stuck_at, TakesTurn, GivenTurnIs, with_more}
+use Rattle.cluster_core.specs.Residents.{is_stuck, are_rising, are_settled, are_stuck, pids_in, next_ready, is_settled, is_stuck_at, lacks_none_at, TakesTurn, GivenTurnIs, with_more}
 use Rattle.cluster_core.specs.Slots.{in_slot, stands_in, IsSlot, IsKept}
 use Rattle.t32_base.specs.declared.streams.NoMemory.{NoMemory}
 use Rattle.cluster_core.specs.declared.quantum.Quantum.{Quantum}
 use Rattle.cluster_core.specs.declared.quantum.Quantum.TheVariants.{Moved, Sent, Stuck}
 use Rattle.cluster_core.specs.Quantum.{RunsQuantum}
-use Rattle.cluster_core.proofs.Slots.{IsOne, all_more, all_removed, all_with, at_key_is, both_true, entry_goes, later_is_other, no_entry, nobody_changed, none_not_some, not_true, one_key, pids, process_there, slot_keys, taken_out, turned, written}
+use Rattle.cluster_core.proofs.Slots.{IsOne, all_more, all_removed, all_with, at_key_is, entry_goes, later_is_other, none_not_some, not_true, one_key, passes_each, passes_there, pids, process_there, slot_keys, taken_out, turned, written}
 
 -- ---- what is kept
 
--- more pids may be ready
-pub ready_more : (slots : Slab Held) (keys : List (ℕ × ℕ)) (ready more : List ℕ) → ((q : ℕ) → list_any (at_key q) ready ≡ true → list_any (at_key q) more ≡ true) → IsKept slots keys ready → IsKept slots keys more
-ready_more slots keys ready more adds k = record {
+-- more pids may be ready, and more may ask
+pub listed_more : (slots : Slab Held) (keys : List (ℕ × ℕ)) (ready more asking wider : List ℕ) → ((q : ℕ) → list_any (at_key q) ready ≡ true → list_any (at_key q) more ≡ true)
+    → ((q : ℕ) → list_any (at_key q) asking ≡ true → list_any (at_key q) wider ≡ true) → IsKept slots keys ready asking → IsKept slots keys more wider
+listed_more slots keys ready more asking wider adds widens k = record {
   ordered = k.ordered;
   apart = k.apart;
-  each = all_more (IsSlot slots ready) (IsSlot slots more) (λ e s. record { filled = s.filled; able = λ p is steps. adds e.0 (s.able p is steps) }) keys k.each;
+  each = all_more (IsSlot slots ready asking) (IsSlot slots more wider) (λ e s. record { filled = s.filled; able = λ p is steps. adds e.0 (s.able p is steps); lacks = λ p is some. widens e.0 (s.lacks p is some) }) keys k.each;
 }
 
--- the process of one that is ready was written
-pub kept_written : (slots new : Slab Held) (n key : ℕ) (now : Held) (keys : List (ℕ × ℕ)) (ready : List ℕ) → list_any (at_key n) ready ≡ true → lookup (at_key n) keys ≡ Some key → Updates slots new key (Some now) → IsKept slots keys ready → IsKept new keys ready
-kept_written slots new n key now keys ready listed found updates k = record {
+-- a process was written, whose pid is ready where it can move, and asks where it has a page to ask for
+pub kept_written : (slots new : Slab Held) (n key : ℕ) (now : Held) (keys : List (ℕ × ℕ)) (ready asking : List ℕ) → (can_act now ≡ true → list_any (at_key n) ready ≡ true) → (is_some (page_lacked now) ≡ true → list_any (at_key n) asking ≡ true)
+    → lookup (at_key n) keys ≡ Some key → Updates slots new key (Some now) → IsKept slots keys ready asking → IsKept new keys ready asking
+kept_written slots new n key now keys ready asking able_now lacks_now found updates k = record {
   ordered = k.ordered;
   apart = k.apart;
-  each = all_with (IsOne n key) (IsSlot slots ready) (IsSlot new ready) each keys (one_key n key keys k.ordered k.apart found) k.each;
+  each = all_with (IsOne n key) (IsSlot slots ready asking) (IsSlot new ready asking) each keys (one_key n key keys k.ordered k.apart found) k.each;
 }
   where
-    each : (e : ℕ × ℕ) → IsOne n key e → IsSlot slots ready e → IsSlot new ready e
+    each : (e : ℕ × ℕ) → IsOne n key e → IsSlot slots ready asking e → IsSlot new ready asking e
     each e one s = by_test (eqb e.1 key) refl
       where
-        by_test : (b : Bool) → eqb e.1 key ≡ b → IsSlot new ready e
-        by_test true is = record {
-          filled = ap is_some (ap (get new) (eqb-true e.1 key is) ∙ updates.changed);
-          able = λ p there steps. ap (λ m. list_any (at_key m) ready) (eqb-true e.0 n (one ∙ is)) ∙ listed;
-        }
+        by_test : (b : Bool) → eqb e.1 key ≡ b → IsSlot new ready asking e
+        by_test true is =
+            let at : get new e.1 ≡ Some now = ap (get new) (eqb-true e.1 key is) ∙ updates.changed in
+            let pid : e.0 ≡ n = eqb-true e.0 n (one ∙ is) in
+            record {
+              filled = ap is_some at;
+              able = λ p there steps. ap (λ m. list_any (at_key m) ready) pid ∙ able_now (ap can_act (some_same now p (sym at ∙ there)) ∙ steps);
+              lacks = λ p there some. ap (λ m. list_any (at_key m) asking) pid ∙ lacks_now (ap (λ (h : Held). is_some (page_lacked h)) (some_same now p (sym at ∙ there)) ∙ some);
+            }
         by_test false is =
             let same : get new e.1 ≡ get slots e.1 = updates.others e.1 (λ same. true≢false (sym (eq-eqb e.1 key same) ∙ is)) in
             record {
               filled = ap is_some same ∙ s.filled;
               able = λ p there steps. s.able p (sym same ∙ there) steps;
+              lacks = λ p there some. s.lacks p (sym same ∙ there) some;
             }
 
 -- a process is in a slot that no entry names
-pub unnamed : (slots : Slab Held) (ready : List ℕ) (key : ℕ) (es : List (ℕ × ℕ)) → AllByRecursion (IsSlot slots ready) es → get slots key ≡ None → AllByRecursion (λ (e : ℕ × ℕ). eqb e.1 key ≡ false) es
-unnamed slots ready key es kept none = all_more (IsSlot slots ready) (λ (e : ℕ × ℕ). eqb e.1 key ≡ false) (λ e s. ne_eqb e.1 key (λ same. none_not_some (get slots e.1) (ap (get slots) same ∙ none) s.filled)) es kept
+pub unnamed : (slots : Slab Held) (ready asking : List ℕ) (key : ℕ) (es : List (ℕ × ℕ)) → AllByRecursion (IsSlot slots ready asking) es → get slots key ≡ None → AllByRecursion (λ (e : ℕ × ℕ). eqb e.1 key ≡ false) es
+unnamed slots ready asking key es kept none = all_more (IsSlot slots ready asking) (λ (e : ℕ × ℕ). eqb e.1 key ≡ false) (λ e s. ne_eqb e.1 key (λ same. none_not_some (get slots e.1) (ap (get slots) same ∙ none) s.filled)) es kept
 
-pub kept_beside : (slots new : Slab Held) (key : ℕ) (o : Option Held) (keys : List (ℕ × ℕ)) (ready : List ℕ) → get slots key ≡ None → Updates slots new key o → IsKept slots keys ready → IsKept new keys ready
-kept_beside slots new key o keys ready none updates k = record {
+pub kept_beside : (slots new : Slab Held) (key : ℕ) (o : Option Held) (keys : List (ℕ × ℕ)) (ready asking : List ℕ) → get slots key ≡ None → Updates slots new key o → IsKept slots keys ready asking → IsKept new keys ready asking
+kept_beside slots new key o keys ready asking none updates k = record {
   ordered = k.ordered;
   apart = k.apart;
-  each = all_with (λ (e : ℕ × ℕ). eqb e.1 key ≡ false) (IsSlot slots ready) (IsSlot new ready) each keys (unnamed slots ready key keys k.each none) k.each;
+  each = all_with (λ (e : ℕ × ℕ). eqb e.1 key ≡ false) (IsSlot slots ready asking) (IsSlot new ready asking) each keys (unnamed slots ready asking key keys k.each none) k.each;
 }
   where
-    each : (e : ℕ × ℕ) → eqb e.1 key ≡ false → IsSlot slots ready e → IsSlot new ready e
+    each : (e : ℕ × ℕ) → eqb e.1 key ≡ false → IsSlot slots ready asking e → IsSlot new ready asking e
     each e other s =
         let same : get new e.1 ≡ get slots e.1 = updates.others e.1 (λ same. true≢false (sym (eq-eqb e.1 key same) ∙ other)) in
         record {
           filled = ap is_some same ∙ s.filled;
           able = λ p there steps. s.able p (sym same ∙ there) steps;
+          lacks = λ p there some. s.lacks p (sym same ∙ there) some;
         }
 
 -- ---- one more
@@ -106,19 +110,19 @@ put_first n key e es other = by_test (ltb n e.0) refl
     by_test false is = rw (after_it n e.0 is other) refl
 
 -- no entry has the pid of a process that is not here
-pub none_here : (slots : Slab Held) (ready : List ℕ) (n : ℕ) (es : List (ℕ × ℕ)) → AllByRecursion (IsSlot slots ready) es → list_any (λ (e : Pid × Held). same_pid e.0 (pid_of n)) (stands_in slots es) ≡ false → OtherPids n es
-none_here slots ready n [] kept none = tt
-none_here slots ready n (e ∷ es) kept none = let parts = in_front (get slots e.1) (kept.0).filled none in (parts.0, none_here slots ready n es kept.1 parts.1)
+pub none_here : (slots : Slab Held) (ready asking : List ℕ) (n : ℕ) (es : List (ℕ × ℕ)) → AllByRecursion (IsSlot slots ready asking) es → list_any (λ (e : Pid × Held). same_pid e.0 (pid_of n)) (stands_in slots es) ≡ false → OtherPids n es
+none_here slots ready asking n [] kept none = tt
+none_here slots ready asking n (e ∷ es) kept none = let parts = in_front (get slots e.1) (kept.0).filled none in (parts.0, none_here slots ready asking n es kept.1 parts.1)
   where
     in_front : (o : Option Held) → IsSome o → list_any (λ (e : Pid × Held). same_pid e.0 (pid_of n)) (in_slot (pid_of e.0) o (stands_in slots es)) ≡ false
         → (eqb e.0 n ≡ false) × (list_any (λ (e : Pid × Held). same_pid e.0 (pid_of n)) (stands_in slots es) ≡ false)
     in_front None there none = absurd (false≢true there)
     in_front (Some p) there none = either_not (eqb e.0 n) (list_any (λ (e : Pid × Held). same_pid e.0 (pid_of n)) (stands_in slots es)) none
 
-pub stands_put : (slots : Slab Held) (ready : List ℕ) (n key : ℕ) (p : Held) (es : List (ℕ × ℕ)) → get slots key ≡ Some p → AllByRecursion (IsSlot slots ready) es → OtherPids n es
+pub stands_put : (slots : Slab Held) (ready asking : List ℕ) (n key : ℕ) (p : Held) (es : List (ℕ × ℕ)) → get slots key ≡ Some p → AllByRecursion (IsSlot slots ready asking) es → OtherPids n es
     → stands_in slots (insert_entry nat_cmp es n key) ≡ with_more (pid_of n) p (stands_in slots es)
-stands_put slots ready n key p [] there kept others = ap (λ o. in_slot (pid_of n) o []) there
-stands_put slots ready n key p (e ∷ es) there kept others = ap (stands_in slots) (put_first n key e es others.0) ∙ by_slot (get slots e.1) refl (kept.0).filled (stands_put slots ready n key p es there kept.1 others.1)
+stands_put slots ready asking n key p [] there kept others = ap (λ o. in_slot (pid_of n) o []) there
+stands_put slots ready asking n key p (e ∷ es) there kept others = ap (stands_in slots) (put_first n key e es others.0) ∙ by_slot (get slots e.1) refl (kept.0).filled (stands_put slots ready asking n key p es there kept.1 others.1)
   where
     by_slot : (o : Option Held) → get slots e.1 ≡ o → IsSome o → stands_in slots (insert_entry nat_cmp es n key) ≡ with_more (pid_of n) p (stands_in slots es)
         → stands_in slots (cond (ltb n e.0) ((n, key) ∷ e ∷ es) (e ∷ insert_entry nat_cmp es n key)) ≡ with_more (pid_of n) p (in_slot (pid_of e.0) o (stands_in slots es))
@@ -157,12 +161,12 @@ all_put P n key (e ∷ es) others all mine = subst (AllByRecursion P) (sym (put_
     by_test true more = (mine, all)
     by_test false more = (all.0, more)
 
-pub kept_added : (slots : Slab Held) (n key : ℕ) (keys : List (ℕ × ℕ)) (ready : List ℕ) → IsSome (get slots key) → AllByRecursion (λ (e : ℕ × ℕ). eqb e.1 key ≡ false) keys → OtherPids n keys → list_any (at_key n) ready ≡ true
-    → IsStrictlySortedBy nat_cmp (pids (insert_entry nat_cmp keys n key)) → IsKept slots keys ready → IsKept slots (insert_entry nat_cmp keys n key) ready
-kept_added slots n key keys ready there unkeyed others listed ordered k = record {
+pub kept_added : (slots : Slab Held) (n key : ℕ) (keys : List (ℕ × ℕ)) (ready asking : List ℕ) → IsSome (get slots key) → AllByRecursion (λ (e : ℕ × ℕ). eqb e.1 key ≡ false) keys → OtherPids n keys
+    → list_any (at_key n) ready ≡ true → list_any (at_key n) asking ≡ true → IsStrictlySortedBy nat_cmp (pids (insert_entry nat_cmp keys n key)) → IsKept slots keys ready asking → IsKept slots (insert_entry nat_cmp keys n key) ready asking
+kept_added slots n key keys ready asking there unkeyed others listed asks ordered k = record {
   ordered = ordered;
   apart = apart_put n key keys others k.apart unkeyed;
-  each = all_put (IsSlot slots ready) n key keys others k.each (record { filled = there; able = λ p is steps. listed });
+  each = all_put (IsSlot slots ready asking) n key keys others k.each (record { filled = there; able = λ p is steps. listed; lacks = λ p is some. asks });
 }
 
 -- ---- one less
@@ -198,83 +202,76 @@ gone n (e ∷ es) ordered = by_test (at_key n e.0) (at_key_is n e.0) (gone n es 
     by_test true is more = later_apart e.0 n es ordered.0 (eqb-true e.0 n (sym is))
     by_test false is more = (sym is, more)
 
-pub kept_gone : (slots new : Slab Held) (n key : ℕ) (keys : List (ℕ × ℕ)) (ready less : List ℕ) → lookup (at_key n) keys ≡ Some key → Updates slots new key None
-    → ((q : ℕ) → at_key n q ≡ false → list_any (at_key q) less ≡ list_any (at_key q) ready) → IsStrictlySortedBy nat_cmp (pids (remove_entry (at_key n) keys)) → IsKept slots keys ready → IsKept new (remove_entry (at_key n) keys) less
-kept_gone slots new n key keys ready less found updates keeps ordered k = record {
+-- the pids that are left, but one, are listed as they were
+abbrev pub LeavesOthers : ℕ → List ℕ → List ℕ → Type 0
+LeavesOthers n old less = (q : ℕ) → at_key n q ≡ false → list_any (at_key q) less ≡ list_any (at_key q) old
+
+pub kept_gone : (slots new : Slab Held) (n key : ℕ) (keys : List (ℕ × ℕ)) (ready less asking fewer : List ℕ) → lookup (at_key n) keys ≡ Some key → Updates slots new key None → LeavesOthers n ready less → LeavesOthers n asking fewer
+    → IsStrictlySortedBy nat_cmp (pids (remove_entry (at_key n) keys)) → IsKept slots keys ready asking → IsKept new (remove_entry (at_key n) keys) less fewer
+kept_gone slots new n key keys ready less asking fewer found updates keeps leaves ordered k = record {
   ordered = ordered;
   apart = apart_removed (at_key n) keys k.apart;
   each =
-      all_with (λ (e : ℕ × ℕ). eqb e.0 n ≡ false) (λ (e : ℕ × ℕ). IsOne n key e × IsSlot slots ready e) (IsSlot new less) each (remove_entry (at_key n) keys) (gone n keys k.ordered)
-      (all_removed (λ (e : ℕ × ℕ). IsOne n key e × IsSlot slots ready e) (at_key n) keys
-      (all_with (IsOne n key) (IsSlot slots ready) (λ (e : ℕ × ℕ). IsOne n key e × IsSlot slots ready e) (λ e one s. (one, s)) keys (one_key n key keys k.ordered k.apart found) k.each));
+      all_with (λ (e : ℕ × ℕ). eqb e.0 n ≡ false) (λ (e : ℕ × ℕ). IsOne n key e × IsSlot slots ready asking e) (IsSlot new less fewer) each (remove_entry (at_key n) keys) (gone n keys k.ordered)
+      (all_removed (λ (e : ℕ × ℕ). IsOne n key e × IsSlot slots ready asking e) (at_key n) keys
+      (all_with (IsOne n key) (IsSlot slots ready asking) (λ (e : ℕ × ℕ). IsOne n key e × IsSlot slots ready asking e) (λ e one s. (one, s)) keys (one_key n key keys k.ordered k.apart found) k.each));
 }
   where
-    each : (e : ℕ × ℕ) → eqb e.0 n ≡ false → IsOne n key e × IsSlot slots ready e → IsSlot new less e
+    each : (e : ℕ × ℕ) → eqb e.0 n ≡ false → IsOne n key e × IsSlot slots ready asking e → IsSlot new less fewer e
     each e other s =
         let same : get new e.1 ≡ get slots e.1 = updates.others e.1 (λ same. true≢false (sym (eq-eqb e.1 key same) ∙ sym s.0 ∙ other)) in
         record {
           filled = ap is_some same ∙ (s.1).filled;
           able = λ p there steps. keeps e.0 (at_key_is n e.0 ∙ other) ∙ (s.1).able p (sym same ∙ there) steps;
+          lacks = λ p there some. leaves e.0 (at_key_is n e.0 ∙ other) ∙ (s.1).lacks p (sym same ∙ there) some;
         }
 
 -- ---- one rests
 
-stuck_here : (slots : Slab Held) (n pid : ℕ) (o : Option Held) (rest : List (Pid × Held)) → IsSome o → is_stuck_at (pid_of n) (in_slot (pid_of pid) o rest) ≡ true
-    → ((p : Held) → o ≡ Some p → eqb pid n ≡ true → can_act p ≡ false) × (is_stuck_at (pid_of n) rest ≡ true)
-stuck_here slots n pid None rest there stuck = absurd (false≢true there)
-stuck_here slots n pid (Some q) rest there stuck =
-    let parts = both_true (not (eqb pid n) || is_stuck q) (is_stuck_at (pid_of n) rest) stuck in
-    (λ p same at. ap can_act (sym (some_same q p same)) ∙ not_true (can_act q) ((λ i. not (sym at i) || is_stuck q) ∙ parts.0), parts.1)
+filled_each : (slots : Slab Held) (ready asking : List ℕ) (es : List (ℕ × ℕ)) → AllByRecursion (IsSlot slots ready asking) es → AllByRecursion (λ (e : ℕ × ℕ). IsSome (get slots e.1)) es
+filled_each slots ready asking es kept = all_more (IsSlot slots ready asking) (λ (e : ℕ × ℕ). IsSome (get slots e.1)) (λ e s. s.filled) es kept
 
-stuck_each : (slots : Slab Held) (ready : List ℕ) (n : ℕ) (es : List (ℕ × ℕ)) → AllByRecursion (IsSlot slots ready) es → is_stuck_at (pid_of n) (stands_in slots es) ≡ true
-    → AllByRecursion (λ (e : ℕ × ℕ). (p : Held) → get slots e.1 ≡ Some p → eqb e.0 n ≡ true → can_act p ≡ false) es
-stuck_each slots ready n [] kept stuck = tt
-stuck_each slots ready n (e ∷ es) kept stuck =
-    let parts = stuck_here slots n e.0 (get slots e.1) (stands_in slots es) (kept.0).filled stuck in
-    (parts.0, stuck_each slots ready n es kept.1 parts.1)
-
-pub kept_resting : (slots : Slab Held) (n : ℕ) (keys : List (ℕ × ℕ)) (ready less : List ℕ) → is_stuck_at (pid_of n) (stands_in slots keys) ≡ true → ((q : ℕ) → at_key n q ≡ false → list_any (at_key q) less ≡ list_any (at_key q) ready)
-    → IsKept slots keys ready → IsKept slots keys less
-kept_resting slots n keys ready less stuck keeps k = record {
+-- one that cannot move is no longer ready
+pub kept_resting : (slots : Slab Held) (n : ℕ) (keys : List (ℕ × ℕ)) (ready less asking : List ℕ) → is_stuck_at (pid_of n) (stands_in slots keys) ≡ true → LeavesOthers n ready less → IsKept slots keys ready asking → IsKept slots keys less asking
+kept_resting slots n keys ready less asking stuck keeps k = record {
   ordered = k.ordered;
   apart = k.apart;
   each =
-      all_with (λ (e : ℕ × ℕ). (p : Held) → get slots e.1 ≡ Some p → eqb e.0 n ≡ true → can_act p ≡ false) (IsSlot slots ready) (IsSlot slots less) each keys (stuck_each slots ready n keys k.each stuck) k.each;
+      all_with (λ (e : ℕ × ℕ). (p : Held) → get slots e.1 ≡ Some p → eqb e.0 n ≡ true → is_stuck p ≡ true) (IsSlot slots ready asking) (IsSlot slots less asking) each keys
+      (passes_each (λ p. is_stuck p) slots n keys (filled_each slots ready asking keys k.each) stuck) k.each;
 }
   where
-    each : (e : ℕ × ℕ) → ((p : Held) → get slots e.1 ≡ Some p → eqb e.0 n ≡ true → can_act p ≡ false) → IsSlot slots ready e → IsSlot slots less e
-    each e quiet s = record { filled = s.filled; able = λ p there steps. by_test (eqb e.0 n) refl p there steps }
+    each : (e : ℕ × ℕ) → ((p : Held) → get slots e.1 ≡ Some p → eqb e.0 n ≡ true → is_stuck p ≡ true) → IsSlot slots ready asking e → IsSlot slots less asking e
+    each e quiet s = record { filled = s.filled; able = λ p there steps. by_test (eqb e.0 n) refl p there steps; lacks = s.lacks }
       where
         by_test : (b : Bool) → eqb e.0 n ≡ b → (p : Held) → get slots e.1 ≡ Some p → can_act p ≡ true → list_any (at_key e.0) less ≡ true
-        by_test true is p there steps = absurd (true≢false (sym steps ∙ quiet p there is))
+        by_test true is p there steps = absurd (true≢false (sym steps ∙ not_true (can_act p) (quiet p there is)))
         by_test false is p there steps = keeps e.0 (at_key_is n e.0 ∙ is) ∙ s.able p there steps
 
--- the process with a pid has no step
-pub stuck_there : (slots : Slab Held) (n key : ℕ) (was : Held) (es : List (ℕ × ℕ)) → AllByRecursion (IsOne n key) es → get slots key ≡ Some was → can_act was ≡ false → is_stuck_at (pid_of n) (stands_in slots es) ≡ true
-stuck_there slots n key was [] one there none = refl
-stuck_there slots n key was (e ∷ es) one there none = by_test (eqb e.1 key) refl (stuck_there slots n key was es one.1 there none)
+-- one that has no page to ask for asks no longer
+pub kept_asked : (slots : Slab Held) (n : ℕ) (keys : List (ℕ × ℕ)) (ready asking fewer : List ℕ) → lacks_none_at (pid_of n) (stands_in slots keys) ≡ true → LeavesOthers n asking fewer → IsKept slots keys ready asking → IsKept slots keys ready fewer
+kept_asked slots n keys ready asking fewer none leaves k = record {
+  ordered = k.ordered;
+  apart = k.apart;
+  each =
+      all_with (λ (e : ℕ × ℕ). (p : Held) → get slots e.1 ≡ Some p → eqb e.0 n ≡ true → is_none (page_lacked p) ≡ true) (IsSlot slots ready asking) (IsSlot slots ready fewer) each keys
+      (passes_each (λ p. is_none (page_lacked p)) slots n keys (filled_each slots ready asking keys k.each) none) k.each;
+}
   where
-    or_true : (b : Bool) → ((b || true) && true) ≡ true
-    or_true true = refl
-    or_true false = refl
+    not_both : (o : Option ℕ) → is_none o ≡ true → is_some o ≡ true → ⊥
+    not_both None none some = absurd (false≢true some)
+    not_both (Some i) none some = absurd (false≢true none)
 
-    here : (o : Option Held) (m : ℕ) → o ≡ Some was → is_stuck_at (pid_of n) (stands_in slots es) ≡ true → is_stuck_at (pid_of n) (in_slot (pid_of m) o (stands_in slots es)) ≡ true
-    here None m same more = more
-    here (Some q) m same more =
-        let quiet : can_act q ≡ false = ap can_act (some_same q was same) ∙ none in
-        (λ i. (not (eqb m n) || not (quiet i)) && more i) ∙ or_true (not (eqb m n))
-
-    elsewhere : (o : Option Held) (m : ℕ) → eqb m n ≡ false → is_stuck_at (pid_of n) (stands_in slots es) ≡ true → is_stuck_at (pid_of n) (in_slot (pid_of m) o (stands_in slots es)) ≡ true
-    elsewhere None m other more = more
-    elsewhere (Some q) m other more = λ i. ((λ j. (not (other j) || is_stuck q) && is_stuck_at (pid_of n) (stands_in slots es)) ∙ more) i
-
-    by_test : (b : Bool) → eqb e.1 key ≡ b → is_stuck_at (pid_of n) (stands_in slots es) ≡ true → is_stuck_at (pid_of n) (stands_in slots (e ∷ es)) ≡ true
-    by_test true is more = here (get slots e.1) e.0 (ap (get slots) (eqb-true e.1 key is) ∙ there) more
-    by_test false is more = elsewhere (get slots e.1) e.0 (one.0 ∙ is) more
+    each : (e : ℕ × ℕ) → ((p : Held) → get slots e.1 ≡ Some p → eqb e.0 n ≡ true → is_none (page_lacked p) ≡ true) → IsSlot slots ready asking e → IsSlot slots ready fewer e
+    each e has s = record { filled = s.filled; able = s.able; lacks = λ p there some. by_test (eqb e.0 n) refl p there some }
+      where
+        by_test : (b : Bool) → eqb e.0 n ≡ b → (p : Held) → get slots e.1 ≡ Some p → is_some (page_lacked p) ≡ true → list_any (at_key e.0) fewer ≡ true
+        by_test true is p there some = absurd (not_both (page_lacked p) (has p there is) some)
+        by_test false is p there some = leaves e.0 (at_key_is n e.0 ∙ is) ∙ s.lacks p there some
 
 -- ---- the next
 
-first_some : {X : Type 0} → (xs : List X) → first_of xs ≡ None → xs ≡ []
+pub first_some : {X : Type 0} → (xs : List X) → first_of xs ≡ None → xs ≡ []
 first_some [] none = refl
 first_some (x ∷ xs) none = cc
 
@@ -285,9 +282,9 @@ none_ready ready last none = by_case (find (λ n. ltb last n) ready) none
     by_case None none = first_some ready none
     by_case (Some n) none = cc
 
-pub all_stuck : (slots : Slab Held) (es : List (ℕ × ℕ)) → AllByRecursion (IsSlot slots []) es → are_stuck (stands_in slots es) ≡ true
-all_stuck slots [] kept = refl
-all_stuck slots (e ∷ es) kept = in_front (get slots e.1) (λ p is. (kept.0).able p is) (all_stuck slots es kept.1)
+pub all_stuck : (slots : Slab Held) (asking : List ℕ) (es : List (ℕ × ℕ)) → AllByRecursion (IsSlot slots [] asking) es → are_stuck (stands_in slots es) ≡ true
+all_stuck slots asking [] kept = refl
+all_stuck slots asking (e ∷ es) kept = in_front (get slots e.1) (λ p is. (kept.0).able p is) (all_stuck slots asking es kept.1)
   where
     quiet : (b : Bool) → (b ≡ true → false ≡ true) → not b ≡ true
     quiet true steps = steps refl
@@ -309,7 +306,7 @@ find_any t n (x ∷ xs) found = by_test (t x) found (λ found. find_any t n xs f
     by_test true found more = ap (λ b. b || list_any (at_key n) xs) (at_key_is n x ∙ eq-eqb x n (some_same x n found))
     by_test false found more = ap (λ b. at_key n x || b) (more found) ∙ or_true (at_key n x)
 
-first_any : (n : ℕ) (xs : List ℕ) → first_of xs ≡ Some n → list_any (at_key n) xs ≡ true
+pub first_any : (n : ℕ) (xs : List ℕ) → first_of xs ≡ Some n → list_any (at_key n) xs ≡ true
 first_any n [] first = cc
 first_any n (x ∷ xs) first = ap (λ b. b || list_any (at_key n) xs) (at_key_is n x ∙ eq-eqb x n (some_same x n first))
 
@@ -335,44 +332,44 @@ unfolding IsStrictlySortedBy
 in_order [] ordered = refl
 in_order (n ∷ ns) ordered = ap (λ b. b && are_rising ns) (all_after n ns ordered.0) ∙ in_order ns ordered.1
 
-pub pids_stand : (slots : Slab Held) (ready : List ℕ) (es : List (ℕ × ℕ)) → AllByRecursion (IsSlot slots ready) es → pids_in (stands_in slots es) ≡ pids es
-pids_stand slots ready [] kept = refl
-pids_stand slots ready (e ∷ es) kept = in_front (get slots e.1) (kept.0).filled (pids_stand slots ready es kept.1)
+pub pids_stand : (slots : Slab Held) (ready asking : List ℕ) (es : List (ℕ × ℕ)) → AllByRecursion (IsSlot slots ready asking) es → pids_in (stands_in slots es) ≡ pids es
+pids_stand slots ready asking [] kept = refl
+pids_stand slots ready asking (e ∷ es) kept = in_front (get slots e.1) (kept.0).filled (pids_stand slots ready asking es kept.1)
   where
     in_front : (o : Option Held) → IsSome o → pids_in (stands_in slots es) ≡ pids es → pids_in (in_slot (pid_of e.0) o (stands_in slots es)) ≡ e.0 ∷ pids es
     in_front None there more = absurd (false≢true there)
     in_front (Some p) there more = ap (λ ns. e.0 ∷ ns) more
 
-pub rising_here : (slots : Slab Held) (keys : List (ℕ × ℕ)) (ready : List ℕ) → IsKept slots keys ready → are_rising (pids_in (stands_in slots keys)) ≡ true
-rising_here slots keys ready k = ap are_rising (pids_stand slots ready keys k.each) ∙ in_order (pids keys) k.ordered
+pub rising_here : (slots : Slab Held) (keys : List (ℕ × ℕ)) (ready asking : List ℕ) → IsKept slots keys ready asking → are_rising (pids_in (stands_in slots keys)) ≡ true
+rising_here slots keys ready asking k = ap are_rising (pids_stand slots ready asking keys k.each) ∙ in_order (pids keys) k.ordered
 
--- what rests, after some: all, or nothing where one of them has a step
+-- what rests, after some: all, or nothing where one of them can move or waits
 abbrev pub rests_with : List (Pid × ℕ) → List (Pid × Held) → Option (List (Pid × ℕ))
-rests_with before here = cond (are_stuck here) (Some (before ++ rests_in here)) None
+rests_with before here = cond (are_settled here) (Some (before ++ rests_in here)) None
 
-pub one_rests : (slots : Slab Held) (before : List (Pid × ℕ)) (e : ℕ × ℕ) (p : Held) (es : List (ℕ × ℕ)) → get slots e.1 ≡ Some p → can_act p ≡ false
+pub one_rests : (slots : Slab Held) (before : List (Pid × ℕ)) (e : ℕ × ℕ) (p : Held) (es : List (ℕ × ℕ)) → get slots e.1 ≡ Some p → is_settled p ≡ true
     → rests_with before (stands_in slots (e ∷ es)) ≡ rests_with (before ++ (pid_of e.0, steps_of_held p) ∷ []) (stands_in slots es)
-one_rests slots before e p es there none =
+one_rests slots before e p es there settled =
     ap (λ o. rests_with before (in_slot (pid_of e.0) o (stands_in slots es))) there
-    ∙ (λ i. cond (not (none i) && are_stuck (stands_in slots es)) (Some (sym (append_assoc before ((pid_of e.0, steps_of_held p) ∷ []) (rests_in (stands_in slots es))) i)) None)
+    ∙ (λ i. cond (settled i && are_settled (stands_in slots es)) (Some (sym (append_assoc before ((pid_of e.0, steps_of_held p) ∷ []) (rests_in (stands_in slots es))) i)) None)
 
-pub one_steps : (slots : Slab Held) (before : List (Pid × ℕ)) (e : ℕ × ℕ) (p : Held) (es : List (ℕ × ℕ)) → get slots e.1 ≡ Some p → can_act p ≡ true → rests_with before (stands_in slots (e ∷ es)) ≡ None
-one_steps slots before e p es there steps =
+pub one_goes_on : (slots : Slab Held) (before : List (Pid × ℕ)) (e : ℕ × ℕ) (p : Held) (es : List (ℕ × ℕ)) → get slots e.1 ≡ Some p → is_settled p ≡ false → rests_with before (stands_in slots (e ∷ es)) ≡ None
+one_goes_on slots before e p es there unsettled =
     ap (λ o. rests_with before (in_slot (pid_of e.0) o (stands_in slots es))) there
-    ∙ (λ i. cond (not (steps i) && are_stuck (stands_in slots es)) (Some (before ++ (pid_of e.0, steps_of_held p) ∷ rests_in (stands_in slots es))) None)
+    ∙ (λ i. cond (unsettled i && are_settled (stands_in slots es)) (Some (before ++ (pid_of e.0, steps_of_held p) ∷ rests_in (stands_in slots es))) None)
 
 -- ---- one process of those that are kept
 
-filled_at : (slots : Slab Held) (ready : List ℕ) (n key : ℕ) (es : List (ℕ × ℕ)) → lookup (at_key n) es ≡ Some key → AllByRecursion (IsSlot slots ready) es → IsSome (get slots key)
-filled_at slots ready n key [] found kept = cc
-filled_at slots ready n key (e ∷ es) found kept = by_test (at_key n e.0) found (λ found. filled_at slots ready n key es found kept.1)
+filled_at : (slots : Slab Held) (ready asking : List ℕ) (n key : ℕ) (es : List (ℕ × ℕ)) → lookup (at_key n) es ≡ Some key → AllByRecursion (IsSlot slots ready asking) es → IsSome (get slots key)
+filled_at slots ready asking n key [] found kept = cc
+filled_at slots ready asking n key (e ∷ es) found kept = by_test (at_key n e.0) found (λ found. filled_at slots ready asking n key es found kept.1)
   where
     by_test : (b : Bool) → cond b (Some e.1) (lookup (at_key n) es) ≡ Some key → (lookup (at_key n) es ≡ Some key → IsSome (get slots key)) → IsSome (get slots key)
     by_test true found more = ap (λ k. is_some (get slots k)) (sym (some_same e.1 key found)) ∙ (kept.0).filled
     by_test false found more = more found
 
-pub never_empty : (slots : Slab Held) (n key : ℕ) (keys : List (ℕ × ℕ)) (ready : List ℕ) → IsKept slots keys ready → lookup (at_key n) keys ≡ Some key → get slots key ≡ None → ⊥
-never_empty slots n key keys ready k found none = none_not_some (get slots key) none (filled_at slots ready n key keys found k.each)
+pub never_empty : (slots : Slab Held) (n key : ℕ) (keys : List (ℕ × ℕ)) (ready asking : List ℕ) → IsKept slots keys ready asking → lookup (at_key n) keys ≡ Some key → get slots key ≡ None → ⊥
+never_empty slots n key keys ready asking k found none = none_not_some (get slots key) none (filled_at slots ready asking n key keys found k.each)
 
 -- a slot that is written as it was
 pub written_back : (slots new : Slab Held) (key : ℕ) (was now : Held) (es : List (ℕ × ℕ)) → get slots key ≡ Some was → Updates slots new key (Some now) → now ≡ was → stands_in new es ≡ stands_in slots es
@@ -389,7 +386,7 @@ written_back slots new key was now (e ∷ es) there updates same =
     by_test false is = updates.others e.1 (λ same. true≢false (sym (eq-eqb e.1 key same) ∙ is))
 
 -- a process had its turn
-module _ (slots new : Slab Held) (n key : ℕ) (keys : List (ℕ × ℕ)) (ready : List ℕ) (was now : Held) (old : List (Pid × Held)) (kept : IsKept slots keys ready) (found : lookup (at_key n) keys ≡ Some key)
+module _ (slots new : Slab Held) (n key : ℕ) (keys : List (ℕ × ℕ)) (ready asking : List ℕ) (was now : Held) (old : List (Pid × Held)) (kept : IsKept slots keys ready asking) (found : lookup (at_key n) keys ≡ Some key)
     (there : get slots key ≡ Some was) (updates : Updates slots new key (Some now)) (same : stands_in slots keys ≡ old) where
   took : (quantum : Quantum) → RunsQuantum 64 was (Ok quantum) now → TakesTurn (pid_of n) old quantum (stands_in new keys)
   took quantum ran =
@@ -406,13 +403,13 @@ module _ (slots new : Slab Held) (n key : ℕ) (keys : List (ℕ × ℕ)) (ready
   given_turn (Ok Moved) ran = took Moved ran
   given_turn (Ok (Sent sending)) ran = took (Sent sending) ran
   given_turn (Ok Stuck) ran =
-      (ap (is_stuck_at (pid_of n)) (sym same) ∙ stuck_there slots n key was keys (one_key n key keys kept.ordered kept.apart found) there ran.0, written_back slots new key was now keys there updates ran.1 ∙ same)
+      (ap (is_stuck_at (pid_of n)) (sym same) ∙ passes_there (λ p. is_stuck p) slots n key was keys (one_key n key keys kept.ordered kept.apart found) there (ap not ran.0), written_back slots new key was now keys there updates ran.1 ∙ same)
   given_turn (Err fault) ran = written_back slots new key was now keys there updates ran ∙ same
 
 -- a process goes with its entry
-pub goes : (slots new : Slab Held) (n key : ℕ) (keys : List (ℕ × ℕ)) (ready : List ℕ) → IsKept slots keys ready → lookup (at_key n) keys ≡ Some key → Updates slots new key None
+pub goes : (slots new : Slab Held) (n key : ℕ) (keys : List (ℕ × ℕ)) (ready asking : List ℕ) → IsKept slots keys ready asking → lookup (at_key n) keys ≡ Some key → Updates slots new key None
     → stands_in new (remove_entry (at_key n) keys) ≡ filter (λ (e : Pid × Held). not (same_pid e.0 (pid_of n))) (stands_in slots keys)
-goes slots new n key keys ready kept found updates = entry_goes new (at_key n) key keys found updates.changed ∙ taken_out slots new n key keys (one_key n key keys kept.ordered kept.apart found) updates
+goes slots new n key keys ready asking kept found updates = entry_goes new (at_key n) key keys found updates.changed ∙ taken_out slots new n key keys (one_key n key keys kept.ordered kept.apart found) updates
 
 -- ---- the first of those above
 
@@ -432,8 +429,8 @@ next_above t ready last n same first = sym (ap (λ o. option_or o (first_of read
 pub next_around : (t : ℕ → Bool) (ready : List ℕ) (last : ℕ) → ((m : ℕ) → t m ≡ ltb last m) → first_of (filter t ready) ≡ None → first_of ready ≡ next_ready ready last
 next_around t ready last same first = sym (ap (λ o. option_or o (first_of ready)) (sym (first_filtered t (λ m. ltb last m) same ready) ∙ first))
 
-pub none_next : (slots : Slab Held) (keys : List (ℕ × ℕ)) (ready : List ℕ) (last : ℕ) → IsKept slots keys ready → next_ready ready last ≡ None → are_stuck (stands_in slots keys) ≡ true
-none_next slots keys ready last kept none = all_stuck slots keys (subst (λ ready. AllByRecursion (IsSlot slots ready) keys) (none_ready ready last none) kept.each)
+pub none_next : (slots : Slab Held) (keys : List (ℕ × ℕ)) (ready asking : List ℕ) (last : ℕ) → IsKept slots keys ready asking → next_ready ready last ≡ None → are_stuck (stands_in slots keys) ≡ true
+none_next slots keys ready asking last kept none = all_stuck slots asking keys (subst (λ ready. AllByRecursion (IsSlot slots ready asking) keys) (none_ready ready last none) kept.each)
 
 in_range : (last m : ℕ) → range_contains nat_cmp (Excluded last) Unbounded m ≡ ltb last m
 in_range last m = grind (arith, nat_tests)
@@ -451,45 +448,29 @@ first_is None (x ∷ xs) first there = absurd (false≢true (there (omega arith)
 first_is (Some k) [] first there = cc
 first_is (Some k) (x ∷ xs) first there = sym first
 
--- ---- a letter
-
-flipped : (n m : ℕ) → eqb m n ≡ eqb n m
-flipped n m = grind (arith, nat_tests)
-
-pub arrival : (slots new : Slab Held) (n key : ℕ) (was now : Held) (letter : Letter) (keys : List (ℕ × ℕ)) (ready : List ℕ) (old : List (Pid × Held)) → IsKept slots keys ready → lookup (at_key n) keys ≡ Some key → get slots key ≡ Some was → Updates slots new key (Some now)
-    → stands_in slots keys ≡ old → now ≡ arrived_held was letter → stands_in new keys ≡ map (λ (e : Pid × Held). cond (same_pid (pid_of n) e.0) (e.0, arrived_held e.1 letter) e) old
-arrival slots new n key was now letter keys ready old kept found there updates same is =
-    written slots new n key was now (λ e. (e.0, arrived_held e.1 letter)) keys (one_key n key keys kept.ordered kept.apart found) there updates (ap (λ p. (pid_of n, p)) (sym is))
-    ∙ (λ i. map (λ (e : Pid × Held). cond (flipped n (e.0).0 i) (e.0, arrived_held e.1 letter) e) (same i))
-
-pub no_arrival : (slots : Slab Held) (n : ℕ) (letter : Letter) (keys : List (ℕ × ℕ)) (old : List (Pid × Held)) → lookup (at_key n) keys ≡ None → stands_in slots keys ≡ old → old ≡ map (λ (e : Pid × Held). cond (same_pid (pid_of n) e.0) (e.0, arrived_held e.1 letter) e) old
-no_arrival slots n letter keys old none same =
-    sym same ∙ sym (nobody_changed slots n (λ e. (e.0, arrived_held e.1 letter)) keys (no_entry n keys none)) ∙ (λ i. map (λ (e : Pid × Held). cond (flipped n (e.0).0 i) (e.0, arrived_held e.1 letter) e) (same i))
-
-pub on_ok : {P Q : Type 0} → (r : Result (Unit {0}) NoMemory) → (P → Q) → OnOk r P → OnOk r Q
-on_ok (Ok done) f h = f h
-on_ok (Err fault) f h = tt
-
-all_same : {X : Type 0} → (xs : List X) → map (λ (x : X). x) xs ≡ xs
-all_same [] = refl
-all_same (x ∷ xs) = ap (λ rest. x ∷ rest) (all_same xs)
-
-pub no_end_of : (letter : Letter) (to : To) (tty : ℕ) (here : List (Pid × Held)) → to ≡ Tty tty → map (λ (e : Pid × Held). cond (is_end_of e.0 to) (e.0, arrived_held e.1 letter) e) here ≡ here
-no_end_of letter to tty here is = (λ i. map (λ (e : Pid × Held). cond (is_end_of e.0 (is i)) (e.0, arrived_held e.1 letter) e) here) ∙ all_same here
-
 -- ---- one more is ready, or there is more room
 
 adds : (b c d : Bool) → d ≡ cond b true c → c ≡ true → d ≡ true
 adds true c d is h = is
 adds false c d is h = is ∙ h
 
-pub ready_put : (slots : Slab Held) (keys : List (ℕ × ℕ)) (n : ℕ) (ready more : List ℕ) → ((q : ℕ) → list_any (at_key q) more ≡ cond (at_key n q) true (list_any (at_key q) ready)) → IsKept slots keys ready → IsKept slots keys more
-ready_put slots keys n ready more puts kept = ready_more slots keys ready more (λ q h. adds (at_key n q) (list_any (at_key q) ready) (list_any (at_key q) more) (puts q) h) kept
+-- one more pid is listed
+abbrev pub PutsOne : ℕ → List ℕ → List ℕ → Type 0
+PutsOne n old more = (q : ℕ) → list_any (at_key q) more ≡ cond (at_key n q) true (list_any (at_key q) old)
 
-pub more_room : (slots new : Slab Held) (keys : List (ℕ × ℕ)) (ready : List ℕ) → new.slots ≡ slots.slots → IsKept slots keys ready → IsKept new keys ready
-more_room slots new keys ready same kept = record { ordered = kept.ordered; apart = kept.apart; each = all_more (IsSlot slots ready) (IsSlot new ready) each keys kept.each }
+puts_more : (n : ℕ) (old more : List ℕ) → PutsOne n old more → (q : ℕ) → list_any (at_key q) old ≡ true → list_any (at_key q) more ≡ true
+puts_more n old more puts q h = adds (at_key n q) (list_any (at_key q) old) (list_any (at_key q) more) (puts q) h
+
+pub ready_put : (slots : Slab Held) (keys : List (ℕ × ℕ)) (n : ℕ) (ready more asking : List ℕ) → PutsOne n ready more → IsKept slots keys ready asking → IsKept slots keys more asking
+ready_put slots keys n ready more asking puts kept = listed_more slots keys ready more asking asking (puts_more n ready more puts) (λ q h. h) kept
+
+pub asking_put : (slots : Slab Held) (keys : List (ℕ × ℕ)) (n : ℕ) (ready asking more : List ℕ) → PutsOne n asking more → IsKept slots keys ready asking → IsKept slots keys ready more
+asking_put slots keys n ready asking more puts kept = listed_more slots keys ready ready asking more (λ q h. h) (puts_more n asking more puts) kept
+
+pub more_room : (slots new : Slab Held) (keys : List (ℕ × ℕ)) (ready asking : List ℕ) → new.slots ≡ slots.slots → IsKept slots keys ready asking → IsKept new keys ready asking
+more_room slots new keys ready asking same kept = record { ordered = kept.ordered; apart = kept.apart; each = all_more (IsSlot slots ready asking) (IsSlot new ready asking) each keys kept.each }
   where
-    each : (e : ℕ × ℕ) → IsSlot slots ready e → IsSlot new ready e
+    each : (e : ℕ × ℕ) → IsSlot slots ready asking e → IsSlot new ready asking e
     each e s =
         let at : get new e.1 ≡ get slots e.1 = ap (λ l. slice_index_or l e.1 None) same in
-        record { filled = ap is_some at ∙ s.filled; able = λ p there steps. s.able p (sym at ∙ there) steps }
+        record { filled = ap is_some at ∙ s.filled; able = λ p there steps. s.able p (sym at ∙ there) steps; lacks = λ p there some. s.lacks p (sym at ∙ there) some }

@@ -5,16 +5,24 @@ pub mod Here
 pub mod Slots
 pub mod Kept
 pub mod Choosing
+pub mod Asking
+pub mod Coming
+mod BeginWaits
 pub mod Homes
+mod NotMoved
+mod HasPages
+mod PagePosts
 mod MovedRecords
 mod RecoveredHere
 mod HomesMoved
 mod QuietSaved
 mod Moving
-mod Recovering
 mod BackupsLive
+mod LostQueue
 mod Losing
+mod OwningWaits
 mod Unmoved
+mod Waiting
 mod Paging
 pub mod Served
 pub mod Counted
@@ -23,7 +31,11 @@ pub mod Booted
 pub mod Following
 pub mod Owning
 mod Catching
+mod FirstServer
 pub mod Working
+mod Answering
+mod Fetching
+mod Lacking
 pub mod Resting
 pub mod Turning
 mod Absorbed

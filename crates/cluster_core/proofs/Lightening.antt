@@ -1,5 +1,5 @@
--- A cluster that works has fewer steps left.
-use Rattle.std.proofs.Common.{◌≡◌, ℕ, ◌+◌, ◌≤◌, refl, sym, ◌∙◌, ap, subst, arith, List, [], ◌∷◌, Bool, true, false, cond, ◌||◌, eqb, ltb, eqb-true, eq-eqb, true≢false, Some}
+-- A cluster that works has fewer steps left, or as many where it tells or asks for a page.
+use Rattle.std.proofs.Common.{◌≡◌, ℕ, ◌+◌, ◌≤◌, refl, sym, ◌∙◌, ap, subst, arith, List, [], ◌∷◌, Bool, true, false, cond, ◌||◌, eqb, ltb, eqb-true, eq-eqb, true≢false, Some, inl, inr}
 use Rattle.std.specs.Prelude.{find, option_map}
 use Rattle.std.specs.List.{list_any, sum_by}
 use Rattle.std.proofs.lemmas.List.Sums.{sum_by-cons}
@@ -23,8 +23,9 @@ use Rattle.cert_sched.proofs.RisingLaws.{NoTwo, either_not, rising-any, rising-a
 use Rattle.cert_sched.proofs.RollLaws.{all_roll, two_apart}
 use Rattle.cluster_core.specs.declared.worked.Worked.TheVariants.{Moved, Queued}
 use Rattle.roll_forward.proofs.RolledLaws.{rolled_keeps}
-use Rattle.cluster_core.specs.View.{ClusterView, Held, Runs, Rolls, Waits, held_load, held_of, load}
-use Rattle.cluster_core.specs.Calls.{FollowsSome, WorkIs}
+use Rattle.cluster_core.specs.View.{ClusterView, Held, Runs, Rolls, Waits, asked_held, held_load, held_of, load}
+use Rattle.cluster_core.specs.Follows.{FollowsBuilt}
+use Rattle.cluster_core.specs.Calls.{FollowsSome, QueuesFetch, QueuesOne, WorkIs}
 use Rattle.cluster_core.specs.Quantum.{RollsTo, RunsTo, going}
 use Rattle.cluster_core.specs.Residents.{pids_in, with_changed}
 
@@ -74,10 +75,11 @@ homes_apart : (system : System) (log : List Entry) (k : ClusterNo) → is_system
 homes_apart system log k valid legal =
     apart_fewer (is_at_home k) (placement system log).placed (two_apart system log (all_roll BuiltMayFollow (λ system log e may. may.stands) system log valid legal))
 
+pub pids_apart : (c : ClusterView) (log : List Entry) → is_system c.system ≡ true → IsLegalBy BuiltMayFollow c.system log → FollowsBuilt c.system log c → NoTwo (pids_in c.here)
+pids_apart c log valid legal f = apart_unsorted (pids_in c.here) (subst NoTwo (sym (f.processes).each_once) (rising-apart (home_pids c.system log c.number) (homes_apart c.system log c.number valid legal)))
+
 pub held_apart : (c : ClusterView) → is_system c.system ≡ true → FollowsSome c → NoTwo (pids_in c.here)
-held_apart c valid f =
-    apart_unsorted (pids_in c.here)
-    (subst NoTwo (sym (((f.follows).processes).each_once)) (rising-apart (home_pids c.system f.log c.number) (homes_apart c.system f.log c.number valid (f.open_log).0)))
+held_apart c valid f = pids_apart c f.log valid (f.open_log).0 f.follows
 
 -- ---- one of them has fewer steps left
 
@@ -113,32 +115,50 @@ one_lighter p was now n (e ∷ here) two at less = by_test (same_pid e.0 p) refl
 rolled_leaves : (n : ℕ) (was between : Held) → RollsTo n was between → held_load between + n ≤ held_load was
 rolled_leaves n (Runs p) (Runs q) rolls = omega (arith, rolls.0, ap (λ (x : Process). weight x.small) rolls.1)
 rolled_leaves n (Runs p) (Rolls q left unborn) rolls = absurd rolls
-rolled_leaves n (Runs p) (Waits kept) rolls = absurd rolls
+rolled_leaves n (Runs p) (Waits waiting) rolls = absurd rolls
 rolled_leaves n (Rolls p counts births) (Runs q) rolls = (rolled_keeps n (going p counts births) (going q rolls.0 rolls.1) (rolls.2).rolled).weight
 rolled_leaves n (Rolls p counts births) (Rolls q left unborn) rolls = (rolled_keeps n (going p counts births) (going q left unborn) (rolls.2).rolled).weight
-rolled_leaves n (Rolls p counts births) (Waits kept) rolls = absurd rolls
-rolled_leaves n (Waits kept) between rolls = absurd rolls
+rolled_leaves n (Rolls p counts births) (Waits waiting) rolls = absurd rolls
+rolled_leaves n (Waits waiting) between rolls = absurd rolls
 
 -- and so do silent ones
 silent_leaves : (m : ℕ) (between now : Held) → RunsTo m between now → held_load now + m ≤ held_load between
 silent_leaves m (Runs p) (Runs q) runs = silently_leaves m (state_of p) (state_of q) runs
 silent_leaves m (Runs p) (Rolls q left unborn) runs = absurd runs
-silent_leaves m (Runs p) (Waits kept) runs = absurd runs
+silent_leaves m (Runs p) (Waits waiting) runs = absurd runs
 silent_leaves m (Rolls p counts births) now runs = omega (arith, runs.0, ap held_load runs.1)
-silent_leaves m (Waits kept) now runs = absurd runs
+silent_leaves m (Waits waiting) now runs = absurd runs
 
 pub moved_lightens : (old new : ClusterView) → is_system old.system ≡ true → FollowsSome old → WorkIs old Moved new → load new + 1 ≤ load old
 moved_lightens old new valid f work =
-    let one = work.1 in
+    let one = work.2 in
     let m = one.moves in
     let less : held_load one.now + 1 ≤ held_load one.was = omega (arith, m.some, rolled_leaves m.rolled one.was m.between m.rolls, silent_leaves m.silent m.between one.now m.runs) in
     subst (λ (c : ClusterView). load c + 1 ≤ load old) (sym one.rest) (one_lighter one.pid one.was one.now 1 old.here (held_apart old valid f) one.there less)
 
-pub queued_lightens : (old new : ClusterView) → is_system old.system ≡ true → FollowsSome old → WorkIs old Queued new → load new + 1 ≤ load old
-queued_lightens old new valid f work =
-    let one = work.1 in
+-- one that sent something has a step fewer left
+sent_lightens : (old new : ClusterView) → is_system old.system ≡ true → FollowsSome old → QueuesOne old new → load new + 1 ≤ load old
+sent_lightens old new valid f one =
     let s = one.sends in
     let same : weight (s.now).small ≡ weight (one.now).small = ap held_load (sym s.new_is) in
     let less : held_load (Runs one.now) + 1 ≤ held_load one.was =
     omega (arith, same, rolled_leaves s.rolled one.was (Runs s.between) s.rolls, silently_leaves s.silent (state_of s.between) s.before s.runs, emits_leaves s.before (state_of s.now) one.emission s.sends) in
     subst (λ (c : ClusterView). load c + 1 ≤ load old) (sym one.rest) (one_lighter one.pid one.was (Runs one.now) 1 old.here (held_apart old valid f) one.there less)
+
+-- a page that is asked for is no step
+asked_load : (h : Held) → held_load (asked_held h) ≡ held_load h
+asked_load (Runs p) = refl
+asked_load (Rolls p counts births) = refl
+asked_load (Waits waiting) = refl
+
+asked_lightens : (old new : ClusterView) → is_system old.system ≡ true → FollowsSome old → QueuesFetch old new → load new ≤ load old
+asked_lightens old new valid f one =
+    let asks = one.asks in
+    let alike : held_load (asked_held asks.was) + 0 ≤ held_load asks.was = omega (arith, asked_load asks.was) in
+    let less : sum_held (with_changed one.pid (asked_held asks.was) old.here) + 0 ≤ sum_held old.here = one_lighter one.pid asks.was (asked_held asks.was) 0 old.here (held_apart old valid f) asks.there alike in
+    omega (arith, less, ap sum_held asks.new_is, ap load one.rest)
+
+pub queued_lightens : (old new : ClusterView) → is_system old.system ≡ true → FollowsSome old → WorkIs old Queued new → load new ≤ load old
+queued_lightens old new valid f (inl answer) = omega (arith, ap load answer.rest)
+queued_lightens old new valid f (inr (inl asked)) = asked_lightens old new valid f asked.1
+queued_lightens old new valid f (inr (inr sent)) = omega (arith, sent_lightens old new valid f sent.2)

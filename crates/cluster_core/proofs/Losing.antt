@@ -1,7 +1,7 @@
--- A cluster that takes in the loss of another goes on to follow the log: the processes that it moves here begin again from their records.
-use Rattle.std.proofs.Common.{◌≡◌, ◌⊎◌, ℕ, ◌+◌, ◌-◌, refl, sym, ◌∙◌, ap, subst, List, [], ◌∷◌, ◌++◌, map, length-append, Bool, true, false, cond, not, ◌&&◌, ◌||◌, arith, eqb, eqb-true, eq-eqb, Option, Some, None, is_some, inl, inr, true≢false}
-use Rattle.std.specs.Prelude.{filter, find, nat_lt, option_map, option_and_then}
-use Rattle.std.specs.List.{list_all, list_any, AllByRecursion}
+-- A cluster that takes in the loss of another goes on to follow the log: the processes that it moves here wait for their pages, beside their records.
+use Rattle.std.proofs.Common.{◌≡◌, ◌⊎◌, ℕ, ◌+◌, refl, sym, ◌∙◌, ap, subst, List, [], ◌∷◌, ◌++◌, map, length-append, Bool, true, false, cond, not, ◌&&◌, ◌||◌, arith, eqb, eqb-true, eq-eqb, Option, Some, None, is_some, inl, inr, true≢false}
+use Rattle.std.specs.Prelude.{filter, find, nat_lt, option_map}
+use Rattle.std.specs.List.{list_all, list_any}
 use Rattle.std.specs.Option.{option_map_or}
 use Rattle.std.proofs.lemmas.Bool.{and_parts}
 use Rattle.std.proofs.lemmas.Bool.Decides.{nat_tests}
@@ -11,75 +11,69 @@ use Rattle.t32_base.specs.declared.letter.BackRec.{BackRec}
 use Rattle.sys_text.specs.declared.system.System.{System}
 use Rattle.sys_text.specs.Valid.{is_system}
 use Rattle.proc_state.specs.State.{ProcState, state_of}
-use Rattle.sys_calls.specs.declared.steps.Emission.{Emission}
-use Rattle.sys_calls.specs.Next.{silently, last_emission}
 use Rattle.sys_calls.proofs.RunLemma.{all_delivered}
-use Rattle.plain_kernel.specs.Kernel.{Kernel, boot, process_at}
-use Rattle.plain_kernel.proofs.Entries.{some_same}
-use Rattle.bus_msg.specs.declared.entry.What.{What}
+use Rattle.plain_kernel.specs.Kernel.{Kernel}
 use Rattle.bus_msg.specs.declared.entry.What.TheVariants.{Crash}
 use Rattle.bus_msg.specs.declared.entry.Cause.{Cause}
-use Rattle.bus_msg.specs.declared.entry.By.{By}
-use Rattle.bus_msg.specs.declared.entry.By.TheVariants.{Cluster, Bus}
 use Rattle.bus_msg.specs.declared.entry.Post.{Post}
 use Rattle.bus_msg.specs.declared.entry.Entry.{Entry}
 use Rattle.bus_msg.specs.declared.placed.Placed.{Placed}
-use Rattle.bus_msg.specs.Places.{Places, is_at_home, is_cluster, lives_in, placed_at, same_cluster, same_pid, unended_at}
-use Rattle.bus_msg.specs.PlacedAfter.{after_loss, what, placed_after}
+use Rattle.bus_msg.specs.Places.{Places, is_at_home, is_cluster, placed_at, same_cluster, same_pid, unended_at, is_moved_by}
+use Rattle.bus_msg.specs.PlacedAfter.{what, placed_after}
 use Rattle.crash_notice.specs.Splitting.{is_moved_here, moves_here, stays}
-use Rattle.roll_forward.specs.RunsOut.{nothing_left}
-use Rattle.cert_sched.specs.Built.{BuiltMayFollow, TellingMayFollow, tells_or_closes}
+use Rattle.cert_sched.specs.Built.{BuiltMayFollow, UnlostMayFollow}
 use Rattle.cert_sched.specs.Deeds.{deeds_in, letter_for, start_of}
-use Rattle.cert_sched.specs.Legal.{IsLegalBy}
-use Rattle.cert_sched.specs.Losses.{is_by_cluster, is_from}
-use Rattle.cert_sched.specs.Appended.{entry_of}
+use Rattle.cert_sched.specs.Losses.{is_by_cluster, is_from, is_crash_of}
 use Rattle.cert_sched.specs.Parts.{rising}
 use Rattle.cert_sched.specs.Record.{backup_record, record_from}
 use Rattle.cert_sched.specs.Rests.{home_pids}
-use Rattle.cert_sched.specs.Rules.{is_over, is_by, is_living, is_by_home, home_at}
-use Rattle.cert_sched.specs.Schedule.{done, items_of, placement, plain_after}
+use Rattle.cert_sched.specs.Rules.{home_at, has_its_pages}
+use Rattle.cert_sched.specs.Schedule.{items_of, placement}
 use Rattle.cert_sched.specs.Simulation.{IsUnended}
-use Rattle.cert_sched.specs.Steps.{after_items, emission_at, silent_upto}
-use Rattle.cert_sched.proofs.LogLaws.{no_items}
-use Rattle.cert_sched.proofs.CoverLaws.{lives_on}
 use Rattle.cert_sched.proofs.FreshLaws.{only_one}
-use Rattle.cert_sched.proofs.LogLaws.{IsLegal-last, placement-snoc}
+use Rattle.cert_sched.proofs.LogLaws.{IsLegal-last}
 use Rattle.cert_sched.proofs.MailLaws.{built_is_plain}
 use Rattle.cert_sched.proofs.PidLaws.{apart_fewer, placed_pids}
 use Rattle.cert_sched.proofs.RisingLaws.{NoTwo, put_all}
 use Rattle.cert_sched.proofs.RollLaws.{all_roll, two_apart}
-use Rattle.cert_sched.proofs.UnendedLaws.{loss_keeps, unended_map}
-use Rattle.backup_records.specs.Records.{are_rising, record_in, records_after}
+use Rattle.backup_records.specs.Records.{are_rising, record_in, records_after, record_after}
 use Rattle.record_laws.specs.Kept.{KeepsRecords, has_backup_in}
 use Rattle.record_laws.proofs.LossLaws.{loss_kept}
 use Rattle.record_laws.proofs.Standing.{built_stands}
-use Rattle.recovery.specs.Begun.{begun, number_of}
+use Rattle.recovery.specs.Begun.{number_of}
 use Rattle.recovery_laws.specs.Behind.{RollsBehind}
-use Rattle.recovery_laws.proofs.ByRule.{built_silent}
 use Rattle.recovery_laws.proofs.KeepingBehind.{behind_entry}
 use Rattle.cluster_core.specs.View.{ClusterView, Held, Runs, Rolls, Waits, held_of, next_count, with_server}
 use Rattle.cluster_core.specs.Residents.{pids_in}
 use Rattle.cluster_core.specs.Parts.{AllOwn, posts_of}
-use Rattle.cluster_core.specs.Queue.{IsQueueLegal, is_move_of, move_of, state_by, state_now, taken_by}
-use Rattle.cluster_core.specs.Recovered.{CanRecover, left_by, moved_by, recovered, with_all_recovered}
-use Rattle.cluster_core.specs.Holds.{IsHeldAs}
+use Rattle.cluster_core.specs.Queue.{IsQueueLegal, move_of}
+use Rattle.cluster_core.specs.Recovered.{left_by, moved_by, CanWait, with_all_waiting}
+use Rattle.cluster_core.specs.Holds.{IsHeldAs, is_fetch_queued, process_in}
 use Rattle.cluster_core.specs.Follows.{FollowsBuilt}
 use Rattle.cluster_core.specs.Calls.{absorbed, here_after}
-use Rattle.cluster_core.proofs.ByKind.{by_kind}
 use Rattle.cluster_core.proofs.Here.{is_among, pid_same}
 use Rattle.cluster_core.proofs.Homes.{HomeHere, differ_built, home_here}
-use Rattle.cluster_core.proofs.HomesMoved.{any_moved, homes_after, pids_moved, put_same, same_in_order, stays_home}
+use Rattle.cluster_core.proofs.HomesMoved.{any_moved, homes_after, pids_moved, put_same, same_in_order}
 use Rattle.cluster_core.proofs.MovedRecords.{all_recorded, number_there, passing_record, record_pid}
-use Rattle.cluster_core.proofs.Moving.{StartsSo, begins_behind, can_begin, starts_so}
-use Rattle.cluster_core.proofs.Owning.{own_at}
-use Rattle.cluster_core.proofs.RecoveredHere.{Recovery, StartsThere, held_recovered, pids_recovered}
-use Rattle.cluster_core.proofs.Telling.{Telling, telling}
-use Rattle.cluster_core.proofs.Unmoved.{emission_same, state_same}
+use Rattle.cluster_core.proofs.RecoveredHere.{Recovery, held_waiting, pids_waiting}
+use Rattle.cluster_core.proofs.Unmoved.{state_same}
 use Rattle.cluster_core.proofs.Counted.{lost_before}
-use Rattle.cluster_core.proofs.Following.{by_home_of, counted_foreign, moves_it, no_end, post_may}
-use Rattle.cluster_core.proofs.Served.{accounts_next, foreign_no_answer}
+use Rattle.cluster_core.proofs.Following.{counted_foreign}
+use Rattle.cluster_core.proofs.Served.{accounts_next, foreign_no_answer, disk_after}
 use Rattle.cluster_core.specs.Serving.{Serves}
 use Rattle.page_server.specs.Account.{PagerState}
+use Rattle.wait_laws.proofs.BootPages.{HasPages, has_pages, starts_so}
+use Rattle.cluster_core.proofs.LostQueue.{NextLoss, no_fetch_queued, no_move_queued, not_here_lost, places_after, queue_stays}
+use Rattle.cert_sched.specs.Legal.{Stands}
+use Rattle.wait_laws.specs.Waits.{WaitsAs, first_wait, none_queued}
+use Rattle.wait_laws.proofs.Begins.{begins}
+use Rattle.cert_sched.specs.Told.{cluster_lost, is_moved}
+use Rattle.cluster_core.proofs.NotMoved.{home_not_moved}
+use Rattle.cert_sched.specs.Moved.{is_fetch, is_page_is}
+use Rattle.page_laws.specs.Next.{moves_next}
+use Rattle.wait_laws.proofs.Follows.{other_entry}
+use Rattle.cluster_core.proofs.HasPages.{pages_after}
+use Rattle.cluster_core.proofs.Waiting.{queued_alike}
 
 -- ---- lists
 
@@ -118,15 +112,20 @@ backup_there : (system : System) (log : List Entry) (p : Pid) (start : ProcState
 unfolding backup_record
 backup_there system log p start is = ap (λ o. is_some (option_map (record_from system log p) o)) is
 
--- ---- the entry
+-- where the process that is found passes a test, one of those with its pid does
+found_passes : (t : Placed → Bool) (p : Pid) (qs : List Placed) (q : Placed) → find (λ (q : Placed). same_pid q.pid p && not q.ended) qs ≡ Some q → t q ≡ true → list_any (λ (q : Placed). same_pid q.pid p && t q) qs ≡ true
+found_passes t p [] q found passes = cc
+found_passes t p (r ∷ qs) q found passes = by_tests (same_pid r.pid p) (not r.ended) found (λ found. found_passes t p qs q found passes)
+  where
+    more_or : (b : Bool) → list_any (λ (q : Placed). same_pid q.pid p && t q) qs ≡ true → (b || list_any (λ (q : Placed). same_pid q.pid p && t q) qs) ≡ true
+    more_or true more = refl
+    more_or false more = more
 
--- a log, and the loss of a cluster that stands next
-pub record NextLoss (system : System) (log : List Entry) (e : Entry) (lost : ClusterNo) (cause : Cause) : Type 0 where
-  pub legal : IsLegalBy BuiltMayFollow system log
-  pub more : IsLegalBy BuiltMayFollow system (log ++ e ∷ [])
-  pub before : is_over system log ≡ false
-  pub goes_on : is_over system (log ++ e ∷ []) ≡ false
-  pub same : what e ≡ Crash lost cause
+    by_tests : (b c : Bool) → cond (b && c) (Some r) (find (λ (q : Placed). same_pid q.pid p && not q.ended) qs) ≡ Some q
+        → (find (λ (q : Placed). same_pid q.pid p && not q.ended) qs ≡ Some q → list_any (λ (q : Placed). same_pid q.pid p && t q) qs ≡ true) → ((b && t r) || list_any (λ (q : Placed). same_pid q.pid p && t q) qs) ≡ true
+    by_tests true true is more = let same : r ≡ q = cc in ap (λ b. b || list_any (λ (q : Placed). same_pid q.pid p && t q) qs) (ap t same ∙ passes)
+    by_tests true false is more = more_or (t r) (more is)
+    by_tests false c is more = more is
 
 module _ (system : System) (valid : is_system system ≡ true) (log : List Entry) (e : Entry) (lost : ClusterNo) (cause : Cause) (n : NextLoss system log e lost cause) (k : ClusterNo) (apart : same_cluster lost k ≡ false) where
   abbrev later : List Entry
@@ -135,24 +134,19 @@ module _ (system : System) (valid : is_system system ≡ true) (log : List Entry
   abbrev places : Places
   places = placement system log
 
+  -- ---- where processes are
+
   none : (kernel : Kernel) → items_of kernel (what e) ≡ []
   none kernel = ap (items_of kernel) n.same
 
-  -- ---- where processes are
+  there_after : placement system later ≡ placed_after places (Crash lost cause)
+  there_after = places_after system valid log e lost cause n k apart
 
-  places_after : placement system later ≡ placed_after places (Crash lost cause)
-  places_after = placement-snoc system log e ∙ ap (placed_after places) n.same
+  spared : is_crash_of k (what e) ≡ false
+  spared = not_here_lost system valid log e lost cause n k apart
 
-  found_after : (p : Pid) → unended_at (placement system later) p ≡ option_map (after_loss lost) (unended_at places p)
-  found_after p = ap (λ places. unended_at places p) places_after ∙ unended_map (after_loss lost) (loss_keeps lost) places (placed_after places (Crash lost cause)) refl p
-
-  -- who was not ended is not
-  unended_after : (p : Pid) → is_some (unended_at places p) ≡ true → is_some (unended_at (placement system later) p) ≡ true
-  unended_after p there = ap is_some (found_after p) ∙ by_found (unended_at places p) there
-    where
-      by_found : (o : Option Placed) → is_some o ≡ true → is_some (option_map (after_loss lost) o) ≡ true
-      by_found None there = there
-      by_found (Some q) there = refl
+  stands : Stands system log e
+  stands = (IsLegal-last BuiltMayFollow system log e n.more).stands
 
   differ : NoTwo (placed_pids places.placed)
   differ = two_apart system log (all_roll BuiltMayFollow (λ system log e may. may.stands) system log valid n.legal)
@@ -164,97 +158,6 @@ module _ (system : System) (valid : is_system system ≡ true) (log : List Entry
       same : (here.placed).home ≡ k
       same = λ i. record { 0 = eqb-true ((here.placed).home).0 k.0 here.home i }
 
-  -- it stays there
-  home_stays : (p : Pid) → home_at places p ≡ Some k → home_at (placement system later) p ≡ Some k
-  home_stays p at = ap (option_map (λ (q : Placed). q.home)) (found_after p) ∙ by_found (unended_at places p) at
-    where
-      turned : same_cluster k lost ≡ false
-      turned = by_test (same_cluster k lost) refl
-        where
-          by_test : (b : Bool) → same_cluster k lost ≡ b → b ≡ false
-          by_test true is = absurd (true≢false (sym (eq-eqb lost.0 k.0 (sym (eqb-true k.0 lost.0 is))) ∙ apart))
-          by_test false is = refl
-
-      by_found : (o : Option Placed) → option_map (λ (q : Placed). q.home) o ≡ Some k → option_map (λ (q : Placed). q.home) (option_map (after_loss lost) o) ≡ Some k
-      by_found None is = cc
-      by_found (Some q) is =
-          let home : q.home ≡ k = cc in
-          ap Some (stays_home lost q (ap (λ h. same_cluster h lost) home ∙ turned) ∙ home)
-
-  -- ---- posts
-
-  -- a post of a cluster that lives on may follow after the loss
-  post_stays : (post : Post) → is_from k post.by ≡ true → TellingMayFollow system log (entry_of system log post) → TellingMayFollow system later (entry_of system later post)
-  post_stays post own may = post_may system later post u.pid u.at u.emission u.after n.more n.goes_on may.built u.tells (emission_same system log e none u.pid u.at ∙ u.is) at_home
-    where
-      u : Telling system log (entry_of system log post)
-      u = telling system log (entry_of system log post) may (no_end k places post.by post.what may.built own (may.stands).by_right)
-
-      halves : (is_living places post.by ≡ true) × (is_by post.by (home_at places u.pid) ≡ true)
-      halves = and_parts (is_living places post.by) (is_by post.by (home_at places u.pid)) u.by_home
-
-      by_is : (b : By) → is_from k b ≡ true → b ≡ Cluster k
-      by_is (Cluster j) from = λ i. Cluster (record { 0 = eqb-true j.0 k.0 from i })
-      by_is Bus from = absurd (true≢false (sym from))
-
-      by_k : post.by ≡ Cluster k
-      by_k = by_is post.by own
-
-      home : home_at places u.pid ≡ Some k
-      home = by_home (home_at places u.pid) (ap (λ b. is_by b (home_at places u.pid)) (sym by_k) ∙ halves.1)
-        where
-          by_home : (o : Option ClusterNo) → is_by (Cluster k) o ≡ true → o ≡ Some k
-          by_home None is = absurd (true≢false (sym is))
-          by_home (Some h) is = λ i. Some (record { 0 = sym (eqb-true k.0 h.0 is) i })
-
-      lives : is_living (placement system later) (Cluster k) ≡ true
-      lives = ap (λ places. lives_in places k) places_after ∙ lives_on places lost k cause turned (ap (is_living places) (sym by_k) ∙ halves.0)
-        where
-          turned : same_cluster k lost ≡ false
-          turned = by_test (same_cluster k lost) refl
-            where
-              by_test : (b : Bool) → same_cluster k lost ≡ b → b ≡ false
-              by_test true is = absurd (true≢false (sym (eq-eqb lost.0 k.0 (sym (eqb-true k.0 lost.0 is))) ∙ apart))
-              by_test false is = refl
-
-      at_home : is_by_home (placement system later) post.by (Some u.pid) ≡ true
-      at_home =
-          ap (λ b. is_living (placement system later) b && is_by b (home_at (placement system later) u.pid)) by_k
-          ∙ (λ i. lives i && is_by (Cluster k) (home_stays u.pid home i)) ∙ eq-eqb k.0 k.0 refl
-
-  queue_stays : (q : Option Post) → list_all (λ (post : Post). is_from k post.by) (posts_of q) ≡ true → IsQueueLegal TellingMayFollow system log (posts_of q) → IsQueueLegal TellingMayFollow system later (posts_of q)
-  queue_stays None own legal = tt
-  queue_stays (Some post) own legal = (post_stays post (and_parts (is_from k post.by) true own).0 legal.0, tt)
-
-  -- nothing is queued for a process that is at home elsewhere
-  none_queued_for : (q : Option Post) (p : Pid) → list_all (λ (post : Post). is_from k post.by) (posts_of q) ≡ true → IsQueueLegal TellingMayFollow system log (posts_of q) → (home_at places p ≡ Some k → ⊥) → move_of p (posts_of q) ≡ None
-  none_queued_for None p own legal away = refl
-  none_queued_for (Some post) p own legal away = by_move (is_move_of p post) refl
-    where
-      by_move : (b : Bool) → is_move_of p post ≡ b → option_map (λ (post : Post). post.what) (cond b (Some post) None) ≡ None
-      by_move true is = absurd (away home)
-        where
-          from : is_from k post.by ≡ true
-          from = (and_parts (is_from k post.by) true own).0
-
-          u : Telling system log (entry_of system log post)
-          u = telling system log (entry_of system log post) legal.0 (no_end k places post.by post.what (legal.0).built from ((legal.0).stands).by_right)
-
-          of : u.pid ≡ p
-          of = some_same u.pid p (sym u.process ∙ moves_it p (post ∷ []) post.what (ap (λ b. option_map (λ (post : Post). post.what) (cond b (Some post) None)) is))
-
-          by_it : is_by post.by (home_at places p) ≡ true
-          by_it = ap (λ p. is_by post.by (home_at places p)) (sym of) ∙ by_home_of places post.by u.pid u.by_home
-
-          home : home_at places p ≡ Some k
-          home = by_home (home_at places p) post.by from by_it
-            where
-              by_home : (o : Option ClusterNo) (b : By) → is_from k b ≡ true → is_by b o ≡ true → o ≡ Some k
-              by_home None (Cluster j) from at = absurd (true≢false (sym at))
-              by_home (Some h) (Cluster j) from at = λ i. Some (record { 0 = (sym (eqb-true j.0 h.0 at) ∙ eqb-true j.0 k.0 from) i })
-              by_home o Bus from at = absurd (true≢false (sym from))
-      by_move false is = refl
-
   -- ---- the processes that it moves here
 
   abbrev moves : Pid → Bool
@@ -265,23 +168,36 @@ module _ (system : System) (valid : is_system system ≡ true) (log : List Entry
     pub own : r.pid ≡ p
     pub placed : Placed
     pub found : unended_at places p ≡ Some placed
+    pub leaves : is_moved_by lost placed ≡ true
     pub home : same_cluster placed.home lost ≡ true
     pub kept : backup_record system log p ≡ Some r
 
   pub moving : (recs : List BackRec) (p : Pid) (r : BackRec) → KeepsRecords system log k recs → record_in (filter (moves_here places lost k) recs) p ≡ Some r → Moves recs p r
   moving recs p r keeps at = by_moves (moves p) refl (sym (passing_record moves recs p) ∙ at)
     where
-      by_backup : (q : Placed) → unended_at places p ≡ Some q → same_cluster q.home lost ≡ true → (b : Bool) → record_in recs p ≡ Some r → cond b (backup_record system log p) None ≡ record_in recs p → Moves recs p r
-      by_backup q found home true is at = record { own = record_pid recs p r is; placed = q; found = found; home = home; kept = at ∙ is }
-      by_backup q found home false is at = let none : None ≡ Some r = at ∙ is in cc
+      some_backup : (o : Option ClusterNo) → is_cluster o k ≡ true → is_some o ≡ true
+      some_backup None is = absurd (true≢false (sym is))
+      some_backup (Some b) is = refl
+
+      by_backup : (q : Placed) → unended_at places p ≡ Some q → is_moved_here lost k q ≡ true → (b : Bool) → record_in recs p ≡ Some r → cond b (backup_record system log p) None ≡ record_in recs p → Moves recs p r
+      by_backup q found test true is at =
+          let halves = and_parts (is_at_home lost q) (is_cluster q.backup k) test in
+          record {
+            own = record_pid recs p r is;
+            placed = q;
+            found = found;
+            leaves = λ i. halves.0 i && some_backup q.backup halves.1 i;
+            home = (and_parts (same_cluster q.home lost) (not q.ended) halves.0).0;
+            kept = at ∙ is;
+          }
+      by_backup q found test false is at = let none : None ≡ Some r = at ∙ is in cc
 
       by_unended : (o : Option Placed) → unended_at places p ≡ o → moves p ≡ true → record_in recs p ≡ Some r → Moves recs p r
       by_unended None found passes is = let none : None ≡ Some r = sym (keeps p ∙ ap (λ o. cond (option_map_or (λ (q : Placed). is_cluster q.backup k) o false) (backup_record system log p) None) found) ∙ is in cc
       by_unended (Some q) found passes is =
           let placed : placed_at places p ≡ Some q = only_one p places.placed q differ found in
           let test : is_moved_here lost k q ≡ true = ap (λ o. option_map_or (is_moved_here lost k) o false) (sym placed) ∙ passes in
-          let home = (and_parts (same_cluster q.home lost) (not q.ended) (and_parts (is_at_home lost q) (is_cluster q.backup k) test).0).0 in
-          by_backup q found home (has_backup_in system log k p) is (sym (keeps p))
+          by_backup q found test (has_backup_in system log k p) is (sym (keeps p))
 
       by_moves : (b : Bool) → moves p ≡ b → cond b (record_in recs p) None ≡ Some r → Moves recs p r
       by_moves true passes is = by_unended (unended_at places p) refl passes is
@@ -299,15 +215,15 @@ module _ (system : System) (valid : is_system system ≡ true) (log : List Entry
   unended_of : (recs : List BackRec) (p : Pid) (r : BackRec) → Moves recs p r → IsUnended system log p
   unended_of recs p r m = ap is_some m.found
 
-  -- so each of them can begin again, and is not here yet
-  pub can_recover : (recs : List BackRec) (here : List (Pid × Held)) → KeepsRecords system log k recs → rising (pids_in here) ≡ rising (home_pids system log k) → CanRecover system (filter (moves_here places lost k) recs) here
-  can_recover recs here keeps once p r at = (can_begin system valid log n.legal p r (unended_of recs p r m) m.kept s.start s.at_boot m.own, away (list_any (λ (e : Pid × Held). same_pid e.0 p) here) refl)
+  -- so each of them has 1 to 256 pages, and is not here yet
+  pub can_wait : (recs : List BackRec) (here : List (Pid × Held)) → KeepsRecords system log k recs → rising (pids_in here) ≡ rising (home_pids system log k) → CanWait (filter (moves_here places lost k) recs) here
+  can_wait recs here keeps once p r at = (pages.some, pages.at_most, away (list_any (λ (e : Pid × Held). same_pid e.0 p) here) refl)
     where
       m : Moves recs p r
       m = moving recs p r keeps at
 
-      s : StartsSo system log p
-      s = starts_so system log p valid n.legal (unended_of recs p r m)
+      pages : HasPages system log p r
+      pages = has_pages system log p r valid n.legal (unended_of recs p r m) m.kept
 
       away : (b : Bool) → list_any (λ (e : Pid × Held). same_pid e.0 p) here ≡ b → b ≡ false
       away true is = absurd (not_here recs p r m (home_is p (home_here places k (pids_in here) p (differ_built system log valid n.legal) once (sym (any_pids here) ∙ is))))
@@ -319,51 +235,52 @@ module _ (system : System) (valid : is_system system ≡ true) (log : List Entry
 
   -- ---- what is held
 
-  -- a process that begins again is held as the log with the loss says
-  recovered_held : (q : Option Post) (recs : List BackRec) (p : Pid) (r : BackRec) (start : ProcState) → Moves recs p r → process_at (boot system) p ≡ Some start → move_of p (posts_of q) ≡ None → IsHeldAs system later (posts_of q) p (recovered r start)
-  recovered_held q recs p r start m at_boot none = by_left (nothing_left r.counts r.births) refl
-    where
-      s : ProcState
-      s = state_of (begun start r).process
+  -- the loss moves a process of which a record moves
+  moves_it_here : (recs : List BackRec) (p : Pid) (r : BackRec) → Moves recs p r → moves_next system log e p ≡ true
+  moves_it_here recs p r m = ap (λ w. option_map_or (is_moved p places) (cluster_lost w) false) n.same ∙ found_passes (is_moved_by lost) p places.placed m.placed m.found m.leaves
 
-      behind : RollsBehind system later p s r.counts r.births
-      behind =
-          subst (λ w. RollsBehind system later p (all_delivered s (letter_for p w)) r.counts r.births) n.same
-          (behind_entry system log e p BuiltMayFollow built_is_plain s r.counts r.births valid n.more (unended_of recs p r m) (ap (deeds_in p) n.same) (begins_behind system valid log n.legal p r (unended_of recs p r m) m.kept start at_boot))
-
-      by_left : (b : Bool) → nothing_left r.counts r.births ≡ b → IsHeldAs system later (posts_of q) p (cond b (Runs (begun start r).process) (Rolls (begun start r).process r.counts r.births))
-      by_left true left = ap (state_by system later p (s.small).steps) none ∙ built_silent system later p s r.counts r.births valid n.more n.goes_on (unended_after p (unended_of recs p r m)) behind left
-      by_left false left = (none, behind)
+  -- so it waits for all its pages, as the log with the loss says
+  waiting_held : (q : Option Post) (recs : List BackRec) (p : Pid) (r : BackRec) → Moves recs p r → move_of p (posts_of q) ≡ None → ((i : ℕ) → is_fetch_queued p (posts_of q) i ≡ false) → IsHeldAs system later (posts_of q) p (Waits (first_wait r))
+  waiting_held q recs p r m unmoved unasked = (
+    unmoved,
+    queued_alike system later p none_queued (is_fetch_queued p (posts_of q)) (first_wait r) (λ i. sym (unasked i)) (begins system log e p r valid n.more (unended_of recs p r m) (moves_it_here recs p r m) m.kept),
+  )
 
   -- one that was here is held as before
-  held_still : (q : Option Post) (p : Pid) (h : Held) → IsQueueLegal TellingMayFollow system log (posts_of q) → is_some (unended_at places p) ≡ true → ((kept : BackRec) → h ≡ Waits kept → ⊥) → IsHeldAs system log (posts_of q) p h → IsHeldAs system later (posts_of q) p h
-  held_still q p (Runs s) legal unended runs held = state_same system log e none q p (s.small).steps legal ∙ held
-  held_still q p (Rolls s counts births) legal unended runs held = (
+  held_still : (q : Option Post) (p : Pid) (h : Held) → IsQueueLegal UnlostMayFollow system log (posts_of q) → HomeHere places p k → IsHeldAs system log (posts_of q) p h → IsHeldAs system later (posts_of q) p h
+  held_still q p (Runs s) legal home held = state_same system log e none q p (s.small).steps legal ∙ held
+  held_still q p (Rolls s counts births) legal home held = (
     held.0,
     subst (λ w. RollsBehind system later p (all_delivered (state_of s) (letter_for p w)) counts births) n.same
-        (behind_entry system log e p BuiltMayFollow built_is_plain (state_of s) counts births valid n.more unended (ap (deeds_in p) n.same) held.1),
+        (behind_entry system log e p BuiltMayFollow built_is_plain (state_of s) counts births valid n.more (ap is_some home.found) (ap (deeds_in p) n.same) held.1),
   )
-  held_still q p (Waits kept) legal unended runs held = absurd (runs kept refl)
+  held_still q p (Waits waiting) legal home held = (
+    held.0,
+    subst (λ w. WaitsAs system later p (is_fetch_queued p (posts_of q)) (record waiting { kept = record_after w waiting.kept })) n.same
+        (other_entry system log e p (is_fetch_queued p (posts_of q)) waiting valid n.more (ap is_some home.found) (home_not_moved system log e p k (differ_built system log valid n.legal) home spared) (ap (deeds_in p) n.same)
+        (λ i. ap (is_page_is p i) n.same) (subst (λ w. WaitsAs system log p (λ i. is_fetch p i w || is_fetch_queued p (posts_of q) i) waiting) (sym n.same) held.1)),
+  )
+
+  -- it has its pages if it had them
+  pages_still : (p : Pid) → HomeHere places p k → has_its_pages system log p ≡ true → has_its_pages system later p ≡ true
+  pages_still p home has = pages_after system log e p k stands (differ_built system log valid n.legal) home spared has
 
   -- ---- each once
 
   once_after_loss : (recs : List BackRec) (here : List (Pid × Held)) → KeepsRecords system log k recs → are_rising (filter (moves_here places lost k) recs) ≡ true → rising (pids_in here) ≡ rising (home_pids system log k)
-      → rising (pids_in (with_all_recovered system (filter (moves_here places lost k) recs) here)) ≡ rising (home_pids system later k)
+      → rising (pids_in (with_all_waiting (filter (moves_here places lost k) recs) here)) ≡ rising (home_pids system later k)
   once_after_loss recs here keeps order once =
-      pids_recovered system moved here starts
+      pids_waiting moved here
       ∙ put_same (map number_of moved) (pids_moved lost k places.placed) (rising (pids_in here)) (same_in_order (map number_of moved) (pids_moved lost k places.placed) (numbers_apart moved order) (moved_apart lost k places.placed differ) same)
       ∙ ap (put_all (pids_moved lost k places.placed)) once
       ∙ sym (homes_after lost k places.placed apart)
-      ∙ ap (λ (places : Places). rising (home_pids_in places)) (sym places_after)
+      ∙ ap (λ (places : Places). rising (home_pids_in places)) (sym there_after)
     where
       moved : List BackRec
       moved = filter (moves_here places lost k) recs
 
       home_pids_in : Places → List ℕ
       home_pids_in places = map (λ (q : Placed). (q.pid).0) (filter (is_at_home k) places.placed)
-
-      starts : AllByRecursion (StartsThere system) moved
-      starts = all_recorded (StartsThere system) moved order (λ r at. let m = moving recs r.pid r keeps at in ap is_some (starts_so system log r.pid valid n.legal (unended_of recs r.pid r m)).at_boot)
 
       same : (p : Pid) → list_any (λ m. eqb m p.0) (map number_of moved) ≡ list_any (λ m. eqb m p.0) (pids_moved lost k places.placed)
       same p = number_there moved p ∙ ap is_some (passing_record moves recs p) ∙ by_moves (moves p) refl ∙ sym (any_moved lost k places.placed p differ)
@@ -390,7 +307,7 @@ module _ (system : System) (valid : is_system system ≡ true) (log : List Entry
   follows_lost c q server serves system_is number_is queue_is own f foreign order = subst (λ v. FollowsBuilt system later (with_server server v)) (sym whole) (record {
     log = record {
       cursor = ap (λ m. m + 1) (f.log).cursor ∙ sym (length-append log (e ∷ []));
-      places = sym places_after;
+      places = sym there_after;
     };
     processes = record { held = held; each_once = once_after_loss c.records c.here keeps order once ∙ ap (λ k. rising (home_pids system later k)) (sym number_is) };
     queue = record {
@@ -398,9 +315,11 @@ module _ (system : System) (valid : is_system system ≡ true) (log : List Entry
       legal = legal_still;
     };
     steps = record { counted = λ kept. counted_foreign c log e (ap (λ k. is_by_cluster k e) number_is ∙ foreign) ((f.steps).counted (lost_before log e c.number kept)) };
+    pages = pages;
     records = subst (λ k. KeepsRecords system later k (filter (stays places lost k) c.records)) (sym number_is) (loss_kept system log e lost k cause c.records valid (built_stands system later n.more) n.same apart keeps);
     accounts =
-        accounts_next system log e c (with_server server after) (IsLegal-last BuiltMayFollow system log e n.more).built (foreign_no_answer c.number e (ap (λ k. is_by_cluster k e) number_is ∙ foreign)) serves refl (f.queue).legal legal_still f.accounts;
+        accounts_next system log e c (with_server server after) q (IsLegal-last BuiltMayFollow system log e n.more).built (foreign_no_answer c.number e (ap (λ k. is_by_cluster k e) number_is ∙ foreign)) serves refl queue_is queue_is posts_legal f.accounts;
+    disk = disk_after places e c.server server serves f.disk;
   })
     where
       moved : List BackRec
@@ -415,29 +334,29 @@ module _ (system : System) (valid : is_system system ≡ true) (log : List Entry
       posts_own : list_all (λ (post : Post). is_from k post.by) (posts_of q) ≡ true
       posts_own = sym (λ i. list_all (λ (post : Post). is_from (number_is i) post.by) (queue_is i)) ∙ (f.queue).own
 
-      posts_legal : IsQueueLegal TellingMayFollow system log (posts_of q)
-      posts_legal = subst (IsQueueLegal TellingMayFollow system log) queue_is (f.queue).legal
+      posts_legal : IsQueueLegal UnlostMayFollow system log (posts_of q)
+      posts_legal = subst (IsQueueLegal UnlostMayFollow system log) queue_is (f.queue).legal
 
-      legal_still : IsQueueLegal TellingMayFollow system later c.queue
-      legal_still = subst (IsQueueLegal TellingMayFollow system later) (sym queue_is) (queue_stays q posts_own posts_legal)
+      legal_still : IsQueueLegal UnlostMayFollow system later c.queue
+      legal_still = subst (IsQueueLegal UnlostMayFollow system later) (sym queue_is) (queue_stays system valid log e lost cause n k apart q posts_own foreign posts_legal)
 
       -- what the cluster is after it
       after : ClusterView
-      after = record c { cursor = c.cursor + 1; places = placed_after places (Crash lost cause); here = with_all_recovered system moved c.here; records = filter (stays places lost c.number) c.records; steps = next_count c.steps }
+      after = record c { cursor = c.cursor + 1; places = placed_after places (Crash lost cause); here = with_all_waiting moved c.here; records = filter (stays places lost c.number) c.records; steps = next_count c.steps }
 
       whole : absorbed c e ≡ after
       whole =
           (λ i. record c {
             cursor = c.cursor + 1;
             places = placed_after (places_is i) (n.same i);
-            here = with_all_recovered c.system (moved_by (places_is i) c.number (n.same i) (records_after (n.same i) c.records)) (here_after (n.same i) c.here);
+            here = with_all_waiting (moved_by (places_is i) c.number (n.same i) (records_after (n.same i) c.records)) (here_after (n.same i) c.here);
             records = left_by (places_is i) c.number (n.same i) (records_after (n.same i) c.records);
             steps = next_count c.steps;
           })
           ∙ (λ i. record c {
             cursor = c.cursor + 1;
             places = placed_after places (Crash lost cause);
-            here = with_all_recovered (system_is i) (filter (moves_here places lost (number_is i)) c.records) c.here;
+            here = with_all_waiting (filter (moves_here places lost (number_is i)) c.records) c.here;
             records = filter (stays places lost c.number) c.records;
             steps = next_count c.steps;
           })
@@ -445,15 +364,29 @@ module _ (system : System) (valid : is_system system ≡ true) (log : List Entry
           places_is : c.places ≡ places
           places_is = (f.log).places
 
-      held : (p : Pid) (h : Held) → held_of (with_all_recovered system moved c.here) p ≡ Some h → IsHeldAs system later c.queue p h
-      held p h at = subst (λ ps. IsHeldAs system later ps p h) (sym queue_is) (by_either (held_recovered system (λ r. Moves c.records r.pid r) moved c.here p h (all_recorded (λ r. Moves c.records r.pid r) moved order (λ r found. moving c.records r.pid r keeps found)) at))
+      -- a process that was here is at home here
+      home_of : (p : Pid) (h : Held) → held_of c.here p ≡ Some h → HomeHere places p k
+      home_of p h there = home_here places k (pids_in c.here) p (differ_built system log valid n.legal) once (is_among c.here p h there)
+
+      -- who is here then was here, or waits
+      found : (p : Pid) (h : Held) → held_of (with_all_waiting moved c.here) p ≡ Some h → (held_of c.here p ≡ Some h) ⊎ Recovery (λ r. Moves c.records r.pid r) p h
+      found p h at = held_waiting (λ r. Moves c.records r.pid r) moved c.here p h (all_recorded (λ r. Moves c.records r.pid r) moved order (λ r found. moving c.records r.pid r keeps found)) at
+
+      held : (p : Pid) (h : Held) → held_of (with_all_waiting moved c.here) p ≡ Some h → IsHeldAs system later c.queue p h
+      held p h at = subst (λ ps. IsHeldAs system later ps p h) (sym queue_is) (by_either (found p h at))
         where
-          by_either : (held_of c.here p ≡ Some h) ⊎ Recovery system (λ r. Moves c.records r.pid r) p h → IsHeldAs system later (posts_of q) p h
-          by_either (inl there) =
-              let home = home_here places k (pids_in c.here) p (differ_built system log valid n.legal) once (is_among c.here p h there) in
-              held_still q p h posts_legal (ap is_some home.found) (λ kept is. own_at c.cursor c.here p (Waits kept) own (there ∙ ap Some is)) (subst (λ ps. IsHeldAs system log ps p h) queue_is ((f.processes).held p h there))
+          by_either : (held_of c.here p ≡ Some h) ⊎ Recovery (λ r. Moves c.records r.pid r) p h → IsHeldAs system later (posts_of q) p h
+          by_either (inl there) = held_still q p h posts_legal (home_of p h there) (subst (λ ps. IsHeldAs system log ps p h) queue_is ((f.processes).held p h there))
           by_either (inr y) =
               let pids : (y.kept).pid ≡ p = pid_same (y.kept).pid p (eqb-true ((y.kept).pid).0 p.0 y.own) in
               let m : Moves c.records p y.kept = subst (λ p. Moves c.records p y.kept) pids y.has in
+              let elsewhere = not_here c.records p y.kept m in
               subst (λ x. IsHeldAs system later (posts_of q) p x) (sym y.is)
-              (recovered_held q c.records p y.kept y.start m (ap (process_at (boot system)) (sym pids) ∙ y.at_boot) (none_queued_for q p posts_own posts_legal (not_here c.records p y.kept m)))
+              (waiting_held q c.records p y.kept m (no_move_queued system valid log e lost cause n k apart q p posts_own posts_legal elsewhere) (λ i. no_fetch_queued system valid log e lost cause n k apart q p i posts_own posts_legal elsewhere))
+
+      pages : (p : Pid) (h : Held) → held_of (with_all_waiting moved c.here) p ≡ Some h → is_some (process_in h) ≡ true → has_its_pages system later p ≡ true
+      pages p h at runs = by_either (found p h at)
+        where
+          by_either : (held_of c.here p ≡ Some h) ⊎ Recovery (λ r. Moves c.records r.pid r) p h → has_its_pages system later p ≡ true
+          by_either (inl there) = pages_still p (home_of p h there) (f.pages p h there runs)
+          by_either (inr y) = absurd (true≢false (sym runs ∙ ap (λ x. is_some (process_in x)) y.is))

@@ -35,7 +35,7 @@ use Rattle.cluster_core.specs.Calls.{IsReady, ReadyFor}
 use Rattle.cluster_core.specs.Absorbing.{IsNotedHere, goes_to}
 use Rattle.cluster_core.proofs.Here.{pid_same, same_itself}
 use Rattle.cluster_core.proofs.ByKind.{OneOf, by_kind, by_page, kind_is}
-use Rattle.cluster_core.proofs.Following.{left_of, own_tells}
+use Rattle.cluster_core.proofs.Following.{left_of, own_unlost}
 use Rattle.cluster_core.proofs.BackupsLive.{BackupsLive, backups_live}
 
 -- ---- the clusters that an entry goes to
@@ -224,7 +224,7 @@ record Kept (c : ClusterView) (log : List Entry) : Type 0 where
 kept_of : (c : ClusterView) (log : List Entry) (e : Entry) → IsReady log e c → Kept c log
 kept_of c log e (inl f) = record { cursor = ((f.0).log).cursor; records = (f.0).records }
 kept_of c log e (inr s) =
-    let l = left_of c log e (own_tells c log e s.0) s.1 s.0 in
+    let l = left_of c log e (own_unlost c log e s.0) s.1 s.0 in
     let number : (l.before).number ≡ c.number = sym (ap (λ (d : ClusterView). d.number) l.same) in
     record {
       cursor = ap (λ (d : ClusterView). d.cursor) l.same ∙ ((l.followed).log).cursor;

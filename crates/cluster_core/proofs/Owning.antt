@@ -1,11 +1,11 @@
 -- What is here keeps its pid, and no signal comes to it.
-use Rattle.std.proofs.Common.{◌≡◌, ℕ, ◌+◌, ◌-◌, ◌^◌, ◌<◌, ◌≤◌, ◌∙◌, refl, sym, subst, arith, List, [], ◌∷◌, Bool, true, false, cond, not, ◌&&◌, ◌||◌, eqb-true, Some}
+use Rattle.std.proofs.Common.{◌≡◌, ℕ, ◌+◌, ◌-◌, ◌^◌, ◌<◌, ◌≤◌, ◌∙◌, refl, sym, subst, arith, List, [], ◌∷◌, Bool, true, false, cond, not, ◌&&◌, ◌||◌, eqb-true, Some, ap, true≢false}
 use Rattle.std.specs.Prelude.{filter, find, option_map}
 use Rattle.t32_base.specs.declared.process.Pid.{Pid}
 use Rattle.t32_base.specs.declared.process.Counts.{Counts}
 use Rattle.t32_base.specs.declared.letter.Letter.{Letter}
 use Rattle.proc_state.specs.declared.process.Process.{Process}
-use Rattle.proc_state.specs.Mail.{carries_signal}
+use Rattle.proc_state.specs.Mail.{carries_signal, is_signal}
 use Rattle.proc_state.specs.State.{state_of}
 use Rattle.sys_calls.specs.Next.{next_step, has_step, silently}
 use Rattle.sys_calls.proofs.Counting.{silently_counts, emits_counts}
@@ -14,10 +14,10 @@ use Rattle.bus_msg.specs.declared.entry.What.{What}
 use Rattle.bus_msg.specs.declared.entry.What.TheVariants.{Mail}
 use Rattle.bus_msg.specs.Places.{same_pid}
 use Rattle.cert_sched.specs.Deeds.{is_end_of}
-use Rattle.cluster_core.specs.View.{Held, Runs, Rolls, Waits, arrived, arrived_held, held_of, next_number}
-use Rattle.cluster_core.specs.Residents.{with_changed, are_stuck, is_stuck, HasRoom}
-use Rattle.cluster_core.specs.Parts.{IsHeldOwn, IsOwn, AllOwn}
-use Rattle.cluster_core.specs.Calls.{are_at_rest, here_after, is_at_rest}
+use Rattle.cluster_core.specs.View.{Held, Runs, Rolls, Waits, arrived, arrived_held, held_of, next_number, asked_held, going_on, page_held, rolling_held, is_waiting}
+use Rattle.cluster_core.specs.Residents.{with_changed, are_stuck, is_stuck, HasRoom, are_settled, is_settled}
+use Rattle.cluster_core.specs.Parts.{IsHeldOwn, IsOwn, AllOwn, WaitsOwn}
+use Rattle.cluster_core.specs.Calls.{are_at_rest, here_after, is_at_rest, with_page_come}
 use Rattle.cluster_core.specs.declared.quantum.Sending.{Sending}
 use Rattle.cluster_core.specs.Quantum.{Moves, RollsTo, RunsTo, Sends, going}
 use Rattle.roll_forward.specs.Advancing.{rolled_on}
@@ -25,6 +25,15 @@ use Rattle.roll_forward.proofs.RolledLaws.{rolled_keeps}
 use Rattle.cert_sched.specs.Built.{tells_or_closes}
 use Rattle.cluster_core.proofs.Here.{pid_same}
 use Rattle.cluster_core.proofs.ByKind.{by_kind}
+use Rattle.t32_base.specs.Small.{SmallState}
+use Rattle.page_waits.specs.Waiting.{WaitingState, is_whole, rolling_of, start_of, with_page}
+use Rattle.cluster_core.specs.Work.{any_waits}
+use Rattle.recovery.specs.Begun.{begun}
+use Rattle.cert_sched.proofs.RisingLaws.{either_not}
+use Rattle.roll_forward.specs.RunsOut.{nothing_left}
+use Rattle.std.specs.List.{list_any}
+use Rattle.std.specs.Option.{option_map_or}
+use Rattle.std.proofs.lemmas.List.Folds.{list_any-append}
 
 -- ---- one of them
 
@@ -49,23 +58,54 @@ has_room cursor here own room p h there = by_held h (own_at cursor here p h own 
     by_held : (h : Held) → IsHeldOwn cursor p h → next_number h < 2 ^ 64 - 1
     by_held (Runs s) o = omega (arith, o.arrived, room)
     by_held (Rolls s counts births) o = omega (arith, o.arrived, room)
-    by_held (Waits kept) o = absurd o
+    by_held (Waits waiting) o = omega (arith, o.arrived, room)
 
 -- ---- none of them can move
 
--- who cannot move is at rest, since no signal waits
-one_rest : (cursor : ℕ) (p : Pid) (h : Held) → IsHeldOwn cursor p h → is_at_rest h ≡ is_stuck h
+-- who cannot move and does not wait for a page is at rest, since no signal waits
+one_rest : (cursor : ℕ) (p : Pid) (h : Held) → IsHeldOwn cursor p h → is_at_rest h ≡ is_settled h
 one_rest cursor p (Runs s) own = (λ i. not (has_step (next_step (state_of s)) || takes_none (state_of s) own.quiet i)) ∙ alike (has_step (next_step (state_of s)))
   where
-    alike : (a : Bool) → not (a || false) ≡ not a
+    alike : (a : Bool) → not (a || false) ≡ (not a && true)
     alike true = refl
     alike false = refl
 one_rest cursor p (Rolls s counts births) own = refl
-one_rest cursor p (Waits kept) own = absurd own
+one_rest cursor p (Waits waiting) own = refl
 
-pub stuck_rest : (cursor : ℕ) (here : List (Pid × Held)) → AllOwn cursor here → are_at_rest here ≡ are_stuck here
-stuck_rest cursor [] own = refl
-stuck_rest cursor (e ∷ here) own = λ i. one_rest cursor e.0 e.1 own.0 i && stuck_rest cursor here own.1 i
+pub settled_rest : (cursor : ℕ) (here : List (Pid × Held)) → AllOwn cursor here → are_at_rest here ≡ are_settled here
+settled_rest cursor [] own = refl
+settled_rest cursor (e ∷ here) own = λ i. one_rest cursor e.0 e.1 own.0 i && settled_rest cursor here own.1 i
+
+-- where none waits, who cannot move is at rest
+none_waits : (here : List (Pid × Held)) → any_waits here ≡ false → are_settled here ≡ are_stuck here
+none_waits [] none = refl
+none_waits (e ∷ here) none =
+    let parts = either_not (is_waiting e.1) (any_waits here) none in
+    λ i. by_stuck (is_stuck e.1) (is_waiting e.1) parts.0 i && none_waits here parts.1 i
+  where
+    and_true : (a : Bool) → (a && true) ≡ a
+    and_true true = refl
+    and_true false = refl
+
+    by_stuck : (a b : Bool) → b ≡ false → (a && not b) ≡ a
+    by_stuck a b is = ap (λ b. a && not b) is ∙ and_true a
+
+pub stuck_rest : (cursor : ℕ) (here : List (Pid × Held)) → AllOwn cursor here → any_waits here ≡ false → are_at_rest here ≡ are_stuck here
+stuck_rest cursor here own none = settled_rest cursor here own ∙ none_waits here none
+
+-- where one waits, not all rest
+pub waiting_rests_not : (here : List (Pid × Held)) → any_waits here ≡ true → are_at_rest here ≡ false
+waiting_rests_not [] waits = absurd (true≢false (sym waits))
+waiting_rests_not (e ∷ here) waits = by_held e.1 waits (waiting_rests_not here)
+  where
+    none_of : (a : Bool) → (a && false) ≡ false
+    none_of true = refl
+    none_of false = refl
+
+    by_held : (h : Held) → (is_waiting h || any_waits here) ≡ true → (any_waits here ≡ true → are_at_rest here ≡ false) → (is_at_rest h && are_at_rest here) ≡ false
+    by_held (Runs s) waits more = ap (λ b. is_at_rest (Runs s) && b) (more waits) ∙ none_of (is_at_rest (Runs s))
+    by_held (Rolls s counts births) waits more = refl
+    by_held (Waits waiting) waits more = refl
 
 -- ---- a turn
 
@@ -136,7 +176,15 @@ brings_none w = Unit {0}
 one_later : (cursor : ℕ) (pid : Pid) (h : Held) → IsHeldOwn cursor pid h → IsHeldOwn (cursor + 1) pid h
 one_later cursor pid (Runs s) own = record { pid_is = own.pid_is; quiet = own.quiet; arrived = omega (arith, own.arrived) }
 one_later cursor pid (Rolls s counts births) own = record { pid_is = own.pid_is; quiet = own.quiet; arrived = omega (arith, own.arrived) }
-one_later cursor pid (Waits kept) own = absurd own
+one_later cursor pid (Waits waiting) own = record {
+  pid_is = own.pid_is;
+  small = own.small;
+  state_is = own.state_is;
+  small_is = own.small_is;
+  quiet = own.quiet;
+  arrived = omega (arith, own.arrived);
+  lacks = own.lacks;
+}
 
 pub own_later : (cursor : ℕ) (here : List (Pid × Held)) → AllOwn cursor here → AllOwn (cursor + 1) here
 own_later cursor [] own = tt
@@ -148,7 +196,15 @@ own_arrived cursor pid s letter other own = record { pid_is = own.pid_is; quiet 
 one_letter : (cursor : ℕ) (pid : Pid) (h : Held) (letter : Letter) → carries_signal letter.body ≡ false → IsHeldOwn cursor pid h → IsHeldOwn (cursor + 1) pid (arrived_held h letter)
 one_letter cursor pid (Runs s) letter other own = own_arrived cursor pid s letter other own
 one_letter cursor pid (Rolls s counts births) letter other own = own_arrived cursor pid s letter other own
-one_letter cursor pid (Waits kept) letter other own = absurd own
+one_letter cursor pid (Waits waiting) letter other own = record {
+  pid_is = own.pid_is;
+  small = own.small;
+  state_is = own.state_is;
+  small_is = own.small_is;
+  quiet = list_any-append is_signal (waiting.kept).saved (record { number = (waiting.kept).next; letter = letter } ∷ []) ∙ (λ i. own.quiet i || (other i || false));
+  arrived = omega (arith, own.arrived);
+  lacks = own.lacks;
+}
 
 own_letter : (cursor : ℕ) (letter : Letter) (here : List (Pid × Held)) → carries_signal letter.body ≡ false → AllOwn cursor here → AllOwn (cursor + 1) (here_after (Mail 0 letter) here)
 own_letter cursor letter [] other own = tt
@@ -171,3 +227,41 @@ pub own_after : (cursor : ℕ) (w : What) (here : List (Pid × Held)) → tells_
 own_after cursor w here =
     by_kind (λ w. brings_none w → AllOwn cursor here → AllOwn (cursor + 1) (here_after w here))
     (λ at letter none own. own_letter cursor letter here none own) (λ pid at end none own. own_later cursor _ (own_exit cursor pid here own)) (λ rests none own. own_later cursor here own) (λ none own. own_later cursor here own) w
+
+-- ---- a page comes
+
+-- where all pages have come to one that waits under its own pid, what goes on from there is its own
+own_going_on : (cursor : ℕ) (pid : Pid) (w : WaitingState) (small : SmallState) → (w.kept).state ≡ Some small → small.pid ≡ pid → (w.kept).pid ≡ pid → list_any is_signal (w.kept).saved ≡ false → (w.kept).next ≤ cursor
+    → IsHeldOwn cursor pid (going_on w)
+own_going_on cursor pid w small state_is small_is pid_is quiet arrived = by_whole (is_whole w) refl
+  where
+    own : IsOwn cursor pid (begun (start_of w small) w.kept).process
+    own = record { pid_is = small_is; quiet = quiet; arrived = arrived }
+
+    by_left : (b : Bool) → IsHeldOwn cursor pid (cond b (Runs (begun (start_of w small) w.kept).process) (Rolls (begun (start_of w small) w.kept).process (w.kept).counts (w.kept).births))
+    by_left true = own
+    by_left false = own
+
+    by_whole : (b : Bool) → is_whole w ≡ b → IsHeldOwn cursor pid (cond b (option_map_or rolling_held (rolling_of w) (Waits w)) (Waits w))
+    by_whole true is = subst (λ o. IsHeldOwn cursor pid (option_map_or rolling_held (option_map (λ (small : SmallState). begun (start_of w small) w.kept) o) (Waits w))) (sym state_is) (by_left (nothing_left (w.kept).counts (w.kept).births))
+    by_whole false is = record { pid_is = pid_is; small = small; state_is = state_is; small_is = small_is; quiet = quiet; arrived = arrived; lacks = is }
+
+one_page : (cursor : ℕ) (pid : Pid) (i : ℕ) (bytes : List ℕ) (h : Held) → IsHeldOwn cursor pid h → IsHeldOwn cursor pid (page_held i bytes h)
+one_page cursor pid i bytes (Runs s) own = own
+one_page cursor pid i bytes (Rolls s counts births) own = own
+one_page cursor pid i bytes (Waits waiting) own = own_going_on cursor pid (with_page i bytes waiting) own.small own.state_is own.small_is own.pid_is own.quiet own.arrived
+
+pub own_page : (cursor : ℕ) (p : Pid) (i : ℕ) (bytes : List ℕ) (here : List (Pid × Held)) → AllOwn cursor here → AllOwn cursor (with_page_come p i bytes here)
+own_page cursor p i bytes [] own = tt
+own_page cursor p i bytes (e ∷ here) own = (by_test (same_pid e.0 p), own_page cursor p i bytes here own.1)
+  where
+    by_test : (b : Bool) → IsHeldOwn cursor (cond b (e.0, page_held i bytes e.1) e).0 (cond b (e.0, page_held i bytes e.1) e).1
+    by_test true = one_page cursor e.0 i bytes e.1 own.0
+    by_test false = own.0
+
+-- ---- a page is asked for
+
+pub own_asked : (cursor : ℕ) (pid : Pid) (h : Held) → IsHeldOwn cursor pid h → IsHeldOwn cursor pid (asked_held h)
+own_asked cursor pid (Runs s) own = own
+own_asked cursor pid (Rolls s counts births) own = own
+own_asked cursor pid (Waits waiting) own = record { pid_is = own.pid_is; small = own.small; state_is = own.state_is; small_is = own.small_is; quiet = own.quiet; arrived = own.arrived; lacks = own.lacks }

@@ -1,5 +1,5 @@
--- A cluster that takes in an entry of a page, which it did not send, goes on to follow the log.
-use Rattle.std.proofs.Common.{◌≡◌, ◌⊎◌, ℕ, ◌+◌, refl, sym, ◌∙◌, ap, subst, List, [], ◌∷◌, ◌++◌, map, length-append, Bool, true, false, ◌&&◌, Option, Some, None, is_some, true≢false}
+-- A cluster that takes in an entry of a page goes on to follow the log.
+use Rattle.std.proofs.Common.{◌≡◌, ◌⊎◌, ℕ, ◌+◌, refl, sym, ◌∙◌, ap, subst, List, [], ◌∷◌, ◌++◌, length-append, Bool, true, false, ◌&&◌, Option, Some, None, is_some, true≢false, inl, inr, cond, eqb, eqb-true, eq-eqb, ◌||◌}
 use Rattle.std.specs.List.{list_all}
 use Rattle.std.proofs.lemmas.Bool.{and_parts}
 use Rattle.t32_base.specs.declared.process.Pid.{Pid}
@@ -13,16 +13,15 @@ use Rattle.plain_kernel.specs.Kernel.{Kernel}
 use Rattle.bus_msg.specs.declared.entry.What.{What}
 use Rattle.bus_msg.specs.declared.entry.Post.{Post}
 use Rattle.bus_msg.specs.declared.entry.Entry.{Entry}
-use Rattle.bus_msg.specs.Places.{Places, unended_at}
+use Rattle.bus_msg.specs.Places.{Places, unended_at, same_pid}
 use Rattle.bus_msg.specs.PlacedAfter.{what, placed_after}
 use Rattle.cert_sched.specs.Appended.{entry_of}
-use Rattle.cert_sched.specs.Built.{BuiltMayFollow, TellingMayFollow}
+use Rattle.cert_sched.specs.Built.{tells_or_closes, BuiltMayFollow, TellingMayFollow, UnlostMayFollow}
 use Rattle.cert_sched.specs.Deeds.{deeds_in, letter_for}
-use Rattle.cert_sched.specs.Legal.{IsLegalBy}
-use Rattle.cert_sched.specs.Losses.{is_by_cluster, is_from}
+use Rattle.cert_sched.specs.Losses.{is_by_cluster, is_from, is_crash_of}
 use Rattle.cert_sched.specs.Parts.{rising}
 use Rattle.cert_sched.specs.Rests.{home_pids}
-use Rattle.cert_sched.specs.Rules.{is_over, is_by_home}
+use Rattle.cert_sched.specs.Rules.{is_by_home, has_its_pages, home_at, is_by, is_by_right}
 use Rattle.cert_sched.specs.Schedule.{items_of, placement}
 use Rattle.cert_sched.proofs.LogLaws.{IsLegal-last, placement-snoc}
 use Rattle.cert_sched.proofs.MailLaws.{built_is_plain}
@@ -32,36 +31,112 @@ use Rattle.record_laws.proofs.KeptLaws.{records_kept}
 use Rattle.record_laws.proofs.Standing.{built_stands}
 use Rattle.recovery_laws.specs.Behind.{RollsBehind}
 use Rattle.recovery_laws.proofs.KeepingBehind.{behind_entry}
-use Rattle.cluster_core.specs.View.{ClusterView, Held, Runs, Rolls, Waits, held_at, next_count, with_server}
+use Rattle.cluster_core.specs.View.{page_held, ClusterView, Held, Runs, Rolls, Waits, next_count, with_server, held_of}
 use Rattle.cluster_core.specs.Residents.{pids_in}
-use Rattle.cluster_core.specs.Parts.{AllOwn, posts_of}
-use Rattle.cluster_core.specs.Queue.{IsQueueLegal}
-use Rattle.cluster_core.specs.Recovered.{left_by, moved_by, with_all_recovered}
-use Rattle.cluster_core.specs.Holds.{IsHeldAs}
+use Rattle.cluster_core.specs.Parts.{posts_of}
+use Rattle.cluster_core.specs.Queue.{IsQueueLegal, move_of, state_by, state_now}
+use Rattle.cluster_core.specs.Recovered.{left_by, moved_by, with_all_waiting}
+use Rattle.cluster_core.specs.Holds.{IsHeldAs, is_fetch_queued, process_in}
 use Rattle.cluster_core.specs.Follows.{FollowsBuilt, IsOpen}
-use Rattle.cluster_core.specs.Calls.{absorbed, here_after}
-use Rattle.cluster_core.proofs.ByKind.{by_page, is_of_page}
-use Rattle.cluster_core.proofs.Here.{is_among}
+use Rattle.cluster_core.specs.Calls.{absorbed, here_after, with_page_come}
+use Rattle.cluster_core.proofs.ByKind.{by_page, is_of_page, may_told, page_unlost, told_may, unlost_is}
+use Rattle.cluster_core.proofs.Here.{is_among, pid_same}
 use Rattle.cluster_core.proofs.Homes.{HomeHere, differ_built, home_here, pids_home}
-use Rattle.cluster_core.proofs.Owning.{own_at}
 use Rattle.cluster_core.proofs.Telling.{Telling, telling}
 use Rattle.cluster_core.proofs.Counted.{lost_before}
-use Rattle.cluster_core.proofs.Following.{counted_foreign, no_end, post_may}
-use Rattle.cluster_core.proofs.Served.{accounts_next, foreign_no_answer}
+use Rattle.cluster_core.proofs.Following.{counted_foreign, no_end, post_may, Left, by_home_of, by_one, counted_left, letter_pids, page_queued}
+use Rattle.cluster_core.proofs.Served.{accounts_next, foreign_no_answer, accounts_sent, disk_after, SoundDisk}
 use Rattle.cluster_core.specs.Serving.{Serves}
 use Rattle.page_server.specs.Account.{PagerState}
-use Rattle.cluster_core.proofs.Unmoved.{emission_same, state_same}
+use Rattle.cluster_core.proofs.Unmoved.{emission_same, state_same, silent_same}
+use Rattle.cert_sched.specs.Simulation.{IsUnended}
+use Rattle.page_waits.specs.Waiting.{WaitingState}
+use Rattle.cluster_core.proofs.Waiting.{has_come, queued_alike, waits_page, waits_come}
+use Rattle.cert_sched.specs.Moved.{is_fetch, is_page_is}
+use Rattle.channel_table.specs.Changes.{pids_differ}
+use Rattle.cluster_core.proofs.HasPages.{pages_after, waits_after}
+use Rattle.cluster_core.proofs.PagePosts.{page_post_stays}
+use Rattle.std.specs.Prelude.{find, option_map}
+use Rattle.std.specs.Option.{option_map_or}
+use Rattle.bus_msg.specs.declared.entry.What.TheVariants.{PageIs, Fetch}
+use Rattle.bus_msg.specs.declared.entry.By.TheVariants.{Cluster}
+use Rattle.bus_msg.specs.declared.placed.Placed.{Placed}
+use Rattle.proc_state.specs.declared.process.Process.{Process}
+use Rattle.t32_base.specs.declared.process.Counts.{Counts}
+
+-- ---- what is here then
+
+-- what an entry of a page makes of one process
+abbrev pub page_at : What → Pid → Held → Held
+page_at (PageIs pid index bytes) p h = cond (same_pid pid p) (page_held index bytes h) h
+page_at w p h = h
+
+-- a process that is here after it was here before
+pub record WasPaged (w : What) (here : List (Pid × Held)) (p : Pid) (h : Held) : Type 0 where
+  pub was : Held
+  pub there : held_of here p ≡ Some was
+  pub same : h ≡ page_at w p was
+
+abbrev PageFound : Pid → ℕ → List ℕ → List (Pid × Held) → Pid → Type 0
+PageFound q i bytes here p = held_of (with_page_come q i bytes here) p ≡ option_map (λ (h : Held). cond (same_pid q p) (page_held i bytes h) h) (held_of here p)
+
+page_found : (q : Pid) (i : ℕ) (bytes : List ℕ) (here : List (Pid × Held)) (p : Pid) → PageFound q i bytes here p
+page_found q i bytes [] p = refl
+page_found q i bytes (e ∷ here) p = by_tests (same_pid e.0 q) refl (page_found q i bytes here p)
+  where
+    by_pid : (x : Held) (b : Bool) → (b ≡ true → x ≡ cond (same_pid q p) (page_held i bytes e.1) e.1) → PageFound q i bytes here p
+        → option_map (λ (e : Pid × Held). e.1) (cond b (Some (e.0, x)) (find (λ (e : Pid × Held). same_pid e.0 p) (with_page_come q i bytes here)))
+        ≡ option_map (λ (h : Held). cond (same_pid q p) (page_held i bytes h) h) (option_map (λ (e : Pid × Held). e.1) (cond b (Some e) (find (λ (e : Pid × Held). same_pid e.0 p) here)))
+    by_pid x true is more = ap Some (is refl)
+    by_pid x false is more = more
+
+    -- where the process at p is this one, the page is for it where it is for p
+    for_it : (c : Bool) → same_pid e.0 q ≡ c → same_pid e.0 p ≡ true → c ≡ same_pid q p
+    for_it true is own =
+        let named : e.0 ≡ q = pid_same e.0 q (eqb-true (e.0).0 q.0 is) in
+        sym own ∙ ap (λ r. same_pid r p) named
+    for_it false is own =
+        let mine : e.0 ≡ p = pid_same e.0 p (eqb-true (e.0).0 p.0 own) in
+        sym (not_it (same_pid q p) refl mine)
+      where
+        not_it : (b : Bool) → same_pid q p ≡ b → e.0 ≡ p → b ≡ false
+        not_it true same mine = absurd (true≢false (sym (eq-eqb (e.0).0 q.0 (ap (λ (r : Pid). r.0) mine ∙ sym (eqb-true q.0 p.0 same))) ∙ is))
+        not_it false same mine = refl
+
+    by_tests : (c : Bool) → same_pid e.0 q ≡ c → PageFound q i bytes here p
+        → option_map (λ (e : Pid × Held). e.1) (find (λ (e : Pid × Held). same_pid e.0 p) (cond c (e.0, page_held i bytes e.1) e ∷ with_page_come q i bytes here))
+        ≡ option_map (λ (h : Held). cond (same_pid q p) (page_held i bytes h) h) (held_of (e ∷ here) p)
+    by_tests true is more = by_pid (page_held i bytes e.1) (same_pid e.0 p) (λ own. ap (λ c. cond c (page_held i bytes e.1) e.1) (for_it true is own)) more
+    by_tests false is more = by_pid e.1 (same_pid e.0 p) (λ own. ap (λ c. cond c (page_held i bytes e.1) e.1) (for_it false is own)) more
+
+page_was : (q : Pid) (i : ℕ) (bytes : List ℕ) (here : List (Pid × Held)) (p : Pid) (h : Held) (o : Option Held) → held_of here p ≡ o → option_map (λ (h : Held). cond (same_pid q p) (page_held i bytes h) h) o ≡ Some h
+    → WasPaged (PageIs q i bytes) here p h
+page_was q i bytes here p h None there is = cc
+page_was q i bytes here p h (Some was) there is = record { was = was; there = there; same = cc }
+
+pub was_paged : (w : What) (here : List (Pid × Held)) (p : Pid) (h : Held) → is_of_page w ≡ true → held_of (here_after w here) p ≡ Some h → WasPaged w here p h
+was_paged w here p h =
+    by_page (λ w. held_of (here_after w here) p ≡ Some h → WasPaged w here p h)
+    (λ pid index is. record { was = h; there = is; same = refl })
+    (λ pid index bytes is. page_was pid index bytes here p h (held_of here p) refl (sym (page_found pid index bytes here p) ∙ is))
+    w
+
+pids_paged : (w : What) (here : List (Pid × Held)) → is_of_page w ≡ true → pids_in (here_after w here) ≡ pids_in here
+pids_paged w here = by_page (λ w. pids_in (here_after w here) ≡ pids_in here) (λ pid index. refl) (λ pid index bytes. letter_pids (λ q. same_pid q pid) (λ h. page_held index bytes h) here) w
 
 -- what the cluster is then
-pub page_taken : (c : ClusterView) (e : Entry) → is_of_page (what e) ≡ true → absorbed c e ≡ record c { cursor = c.cursor + 1; steps = next_count c.steps }
+abbrev pub paged : ClusterView → Entry → ClusterView
+paged c e = record c { cursor = c.cursor + 1; places = placed_after c.places (what e); here = here_after (what e) c.here; steps = next_count c.steps }
+
+pub page_taken : (c : ClusterView) (e : Entry) → is_of_page (what e) ≡ true → absorbed c e ≡ paged c e
 page_taken c e =
     by_page (λ w. record c {
       cursor = c.cursor + 1;
       places = placed_after c.places w;
-      here = with_all_recovered c.system (moved_by c.places c.number w (records_after w c.records)) (here_after w c.here);
+      here = with_all_waiting (moved_by c.places c.number w (records_after w c.records)) (here_after w c.here);
       records = left_by c.places c.number w (records_after w c.records);
       steps = next_count c.steps;
-    } ≡ record c { cursor = c.cursor + 1; steps = next_count c.steps }) (λ pid index. refl) (λ pid index bytes. refl) (what e)
+    } ≡ record c { cursor = c.cursor + 1; places = placed_after c.places w; here = here_after w c.here; steps = next_count c.steps }) (λ pid index. refl) (λ pid index bytes. refl) (what e)
 
 module _ (system : System) (valid : is_system system ≡ true) (log : List Entry) (e : Entry) (of : is_of_page (what e) ≡ true) (now : IsOpen BuiltMayFollow system log) (next : IsOpen BuiltMayFollow system (log ++ e ∷ [])) where
   abbrev later : List Entry
@@ -73,67 +148,250 @@ module _ (system : System) (valid : is_system system ≡ true) (log : List Entry
   places_same : placement system later ≡ placement system log
   places_same = placement-snoc system log e ∙ by_page (λ w. placed_after (placement system log) w ≡ placement system log) (λ pid index. refl) (λ pid index bytes. refl) (what e) of
 
-  -- a post of the cluster may follow after it
+  differ : pids_differ (placement system log).placed ≡ true
+  differ = differ_built system log valid now.0
+
+  unended_later : (p : Pid) → IsUnended system log p → IsUnended system later p
+  unended_later p unended = ap (λ (places : Places). is_some (unended_at places p)) places_same ∙ unended
+
+  -- it loses no cluster
+  loses_none : (k : ClusterNo) → is_crash_of k (what e) ≡ false
+  loses_none k = by_page (λ w. is_crash_of k w ≡ false) (λ pid index. refl) (λ pid index bytes. refl) (what e) of
+
+  -- ---- the queue
+
+  -- a post of the cluster that tells may follow after it
   post_stays : (k : ClusterNo) (post : Post) → is_from k post.by ≡ true → TellingMayFollow system log (entry_of system log post) → TellingMayFollow system later (entry_of system later post)
   post_stays k post own may =
       post_may system later post u.pid u.at u.emission u.after next.0 next.1 may.built u.tells (emission_same system log e none u.pid u.at ∙ u.is) (ap (λ (places : Places). is_by_home places post.by (Some u.pid)) places_same ∙ u.by_home)
+      (waits_after system log e k post (IsLegal-last BuiltMayFollow system log e next.0).stands differ (loses_none k) may.built (ap (is_by_home (placement system log) post.by) u.process ∙ u.by_home) own may.pages)
     where
       u : Telling system log (entry_of system log post)
       u = telling system log (entry_of system log post) may (no_end k (placement system log) post.by post.what may.built own (may.stands).by_right)
 
-  queue_stays : (k : ClusterNo) (q : Option Post) → list_all (λ (post : Post). is_from k post.by) (posts_of q) ≡ true → IsQueueLegal TellingMayFollow system log (posts_of q) → IsQueueLegal TellingMayFollow system later (posts_of q)
-  queue_stays k None own legal = tt
-  queue_stays k (Some post) own legal = (post_stays k post (and_parts (is_from k post.by) true own).0 legal.0, tt)
+  queue_stays : (k : ClusterNo) (q : Option Post) → is_by_cluster k e ≡ false → list_all (λ (post : Post). is_from k post.by) (posts_of q) ≡ true → IsQueueLegal UnlostMayFollow system log (posts_of q) → IsQueueLegal UnlostMayFollow system later (posts_of q)
+  queue_stays k None foreign own legal = tt
+  queue_stays k (Some post) foreign own legal = (by_kind_of (unlost_is post.what (legal.0).built), tt)
+    where
+      from : is_from k post.by ≡ true
+      from = (and_parts (is_from k post.by) true own).0
 
-  -- what is held stays what the log says
-  held_still : (q : Option Post) (p : Pid) (h : Held) → IsQueueLegal TellingMayFollow system log (posts_of q) → is_some (unended_at (placement system log) p) ≡ true → ((kept : BackRec) → h ≡ Waits kept → ⊥)
-      → IsHeldAs system log (posts_of q) p h → IsHeldAs system later (posts_of q) p h
-  held_still q p (Runs s) legal unended runs held = state_same system log e none q p (s.small).steps legal ∙ held
-  held_still q p (Rolls s counts births) legal unended runs held = (held.0, subst (λ t. RollsBehind system later p t counts births) no_letter behind)
+      by_kind_of : (tells_or_closes post.what ≡ true) ⊎ (is_of_page post.what ≡ true) → UnlostMayFollow system later (entry_of system later post)
+      by_kind_of (inl tells) = may_told system later (entry_of system later post) (post_stays k post from (told_may system log (entry_of system log post) legal.0 tells))
+      by_kind_of (inr page) = page_post_stays system valid log e k post now next foreign (loses_none k) from page legal.0
+
+  -- ---- the processes
+
+  -- how the queues before and after it are alike for a process
+  record QueuesAlike (before after : List Post) (p : Pid) : Type 0 where
+    pub states : (steps : ℕ) → state_now system later after p steps ≡ state_now system log before p steps
+    pub unmoved : move_of p before ≡ None → move_of p after ≡ None
+    pub fetches : (i : ℕ) → is_fetch_queued p before i ≡ (is_fetch p i (what e) || is_fetch_queued p after i)
+
+  -- one that runs stays what the log says
+  runs_still : (before after : List Post) (p : Pid) (s : Process) → QueuesAlike before after p → IsHeldAs system log before p (Runs s) → IsHeldAs system later after p (Runs s)
+  runs_still before after p s alike held = alike.states (s.small).steps ∙ held
+
+  -- so does one that rolls forward
+  rolls_still : (before after : List Post) (p : Pid) (s : Process) (counts : Counts) (births : List Pid) → IsUnended system log p → QueuesAlike before after p → IsHeldAs system log before p (Rolls s counts births) → IsHeldAs system later after p (Rolls s counts births)
+  rolls_still before after p s counts births unended alike held = (alike.unmoved held.0, subst (λ t. RollsBehind system later p t counts births) no_letter behind)
     where
       behind : RollsBehind system later p (all_delivered (state_of s) (letter_for p (what e))) counts births
       behind = behind_entry system log e p BuiltMayFollow built_is_plain (state_of s) counts births valid next.0 unended (by_page (λ w. deeds_in p w ≡ []) (λ pid index. refl) (λ pid index bytes. refl) (what e) of) held.1
 
       no_letter : all_delivered (state_of s) (letter_for p (what e)) ≡ state_of s
       no_letter = by_page (λ w. all_delivered (state_of s) (letter_for p w) ≡ state_of s) (λ pid index. refl) (λ pid index bytes. refl) (what e) of
-  held_still q p (Waits kept) legal unended runs held = absurd (runs kept refl)
+
+  -- and one that waits, where the entry is no page of it
+  held_still : (before after : List Post) (p : Pid) (h : Held) → IsUnended system log p → QueuesAlike before after p → ((i : ℕ) → is_page_is p i (what e) ≡ false) → IsHeldAs system log before p h → IsHeldAs system later after p h
+  held_still before after p (Runs s) unended alike other held = runs_still before after p s alike held
+  held_still before after p (Rolls s counts births) unended alike other held = rolls_still before after p s counts births unended alike held
+  held_still before after p (Waits waiting) unended alike other held = waits_page system log e before after p waiting valid next.0 unended of other (alike.unmoved held.0) alike.fetches held.1
+
+  -- where it is one, that comes to it
+  held_come : (before after : List Post) (p : Pid) (i : ℕ) (bytes : List ℕ) (h : Held) → IsUnended system log p → QueuesAlike before after p → what e ≡ PageIs p i bytes → IsHeldAs system log before p h → IsHeldAs system later after p (page_held i bytes h)
+  held_come before after p i bytes (Runs s) unended alike is held = runs_still before after p s alike held
+  held_come before after p i bytes (Rolls s counts births) unended alike is held = rolls_still before after p s counts births unended alike held
+  held_come before after p i bytes (Waits waiting) unended alike is held =
+      waits_come system log e after p i bytes waiting valid next unended (unended_later p unended) is (alike.unmoved held.0)
+      (queued_alike system log p (is_fetch_queued p before) (is_fetch_queued p after) waiting (λ j. alike.fetches j ∙ ap (λ w. is_fetch p j w || is_fetch_queued p after j) is) held.1)
+
+  held_after : (before after : List Post) (p : Pid) (was : Held) → IsUnended system log p → QueuesAlike before after p → IsHeldAs system log before p was → IsHeldAs system later after p (page_at (what e) p was)
+  held_after before after p was unended alike held =
+      by_page (λ w. what e ≡ w → IsHeldAs system later after p (page_at w p was))
+      (λ pid index is. held_still before after p was unended alike (λ i. ap (is_page_is p i) is) held) (λ pid index bytes is. by_pid pid index bytes is (same_pid pid p) refl) (what e) of refl
+    where
+      by_pid : (pid : Pid) (index : ℕ) (bytes : List ℕ) → what e ≡ PageIs pid index bytes → (b : Bool) → same_pid pid p ≡ b → IsHeldAs system later after p (cond b (page_held index bytes was) was)
+      by_pid pid index bytes is true own = held_come before after p index bytes was unended alike (is ∙ ap (λ q. PageIs q index bytes) (pid_same pid p (eqb-true pid.0 p.0 own))) held
+      by_pid pid index bytes is false other = held_still before after p was unended alike (λ i. ap (is_page_is p i) is ∙ ap (λ b. b && eqb index i) other) held
+
+  -- who runs or rolls forward then has its pages
+  has_after : (before : List Post) (k : ClusterNo) (p : Pid) (was : Held) → HomeHere (placement system log) p k → IsHeldAs system log before p was → (is_some (process_in was) ≡ true → has_its_pages system log p ≡ true) → is_some (process_in (page_at (what e) p was)) ≡ true
+      → has_its_pages system later p ≡ true
+  has_after before k p was home held pages = by_was was held pages
+    where
+      stays : has_its_pages system log p ≡ true → has_its_pages system later p ≡ true
+      stays has = pages_after system log e p k (IsLegal-last BuiltMayFollow system log e next.0).stands differ home (loses_none k) has
+
+      come : (waiting : WaitingState) → IsHeldAs system log before p (Waits waiting) → (w : What) → is_of_page w ≡ true → what e ≡ w → is_some (process_in (page_at w p (Waits waiting))) ≡ true → has_its_pages system later p ≡ true
+      come waiting held = by_page (λ w. what e ≡ w → is_some (process_in (page_at w p (Waits waiting))) ≡ true → has_its_pages system later p ≡ true) (λ pid index is runs. absurd (true≢false (sym runs))) (λ pid index bytes is. by_pid pid index bytes is (same_pid pid p) refl)
+        where
+          by_pid : (pid : Pid) (index : ℕ) (bytes : List ℕ) → what e ≡ PageIs pid index bytes → (b : Bool) → same_pid pid p ≡ b → is_some (process_in (cond b (page_held index bytes (Waits waiting)) (Waits waiting))) ≡ true → has_its_pages system later p ≡ true
+          by_pid pid index bytes is true own runs = has_come system log e before p index bytes waiting valid next.0 (ap is_some home.found) (is ∙ ap (λ q. PageIs q index bytes) (pid_same pid p (eqb-true pid.0 p.0 own))) held.1 runs
+          by_pid pid index bytes is false other runs = absurd (true≢false (sym runs))
+
+      same : (h : Held) → page_at (what e) p h ≡ h → is_some (process_in (page_at (what e) p h)) ≡ true → is_some (process_in h) ≡ true
+      same h is runs = ap (λ h. is_some (process_in h)) (sym is) ∙ runs
+
+      runs_same : (s : Process) → page_at (what e) p (Runs s) ≡ Runs s
+      runs_same s = by_page (λ w. page_at w p (Runs s) ≡ Runs s) (λ pid index. refl) (λ pid index bytes. either (same_pid pid p)) (what e) of
+        where
+          either : (b : Bool) → cond b (Runs s) (Runs s) ≡ Runs s
+          either true = refl
+          either false = refl
+
+      rolls_same : (s : Process) (counts : Counts) (births : List Pid) → page_at (what e) p (Rolls s counts births) ≡ Rolls s counts births
+      rolls_same s counts births = by_page (λ w. page_at w p (Rolls s counts births) ≡ Rolls s counts births) (λ pid index. refl) (λ pid index bytes. either (same_pid pid p)) (what e) of
+        where
+          either : (b : Bool) → cond b (Rolls s counts births) (Rolls s counts births) ≡ Rolls s counts births
+          either true = refl
+          either false = refl
+
+      by_was : (was : Held) → IsHeldAs system log before p was → (is_some (process_in was) ≡ true → has_its_pages system log p ≡ true) → is_some (process_in (page_at (what e) p was)) ≡ true → has_its_pages system later p ≡ true
+      by_was (Runs s) held pages runs = stays (pages (same (Runs s) (runs_same s) runs))
+      by_was (Rolls s counts births) held pages runs = stays (pages (same (Rolls s counts births) (rolls_same s counts births) runs))
+      by_was (Waits waiting) held pages runs = come waiting held (what e) of refl runs
+
+  -- ---- the queues
+
+  -- an entry of another cluster asks for no page of a process that is at home here
+  foreign_fetch : (k : ClusterNo) (p : Pid) (i : ℕ) → HomeHere (placement system log) p k → is_by_cluster k e ≡ false → is_fetch p i (what e) ≡ false
+  foreign_fetch k p i home foreign = by_page (λ w. is_by_right (placement system log) (e.post).by w ≡ true → is_fetch p i w ≡ false) (λ pid index right. by_pid pid index right (same_pid pid p) refl) (λ pid index bytes right. refl) (what e) of ((IsLegal-last BuiltMayFollow system log e next.0).stands).by_right
+    where
+      by_pid : (pid : Pid) (index : ℕ) → is_by_home (placement system log) (e.post).by (Some pid) ≡ true → (b : Bool) → same_pid pid p ≡ b → (b && eqb index i) ≡ false
+      by_pid pid index right true own =
+          let at_home : home_at (placement system log) pid ≡ Some (home.placed).home = ap (home_at (placement system log)) (pid_same pid p (eqb-true pid.0 p.0 own)) ∙ ap (option_map (λ (q : Placed). q.home)) home.found in
+          let by : is_by (e.post).by (Some (home.placed).home) ≡ true = subst (λ h. is_by (e.post).by h ≡ true) at_home (by_home_of (placement system log) (e.post).by pid right) in
+          absurd (true≢false (sym (by_one k (Cluster (home.placed).home) (e.post).by (Some (home.placed).home) (eq-eqb ((home.placed).home).0 ((home.placed).home).0 refl) by home.home) ∙ foreign))
+      by_pid pid index right false other = refl
+
+  alike_foreign : (k : ClusterNo) (q : Option Post) (p : Pid) → HomeHere (placement system log) p k → is_by_cluster k e ≡ false → IsQueueLegal UnlostMayFollow system log (posts_of q) → QueuesAlike (posts_of q) (posts_of q) p
+  alike_foreign k q p home foreign legal = record {
+    states = λ steps. state_same system log e none q p steps legal;
+    unmoved = λ unmoved. unmoved;
+    fetches = λ i. ap (λ b. b || is_fetch_queued p (posts_of q) i) (sym (foreign_fetch k p i home foreign));
+  }
+
+  -- what the cluster sent itself was its only post
+  alike_own : (p : Pid) → QueuesAlike (e.post ∷ []) [] p
+  alike_own p = record {
+    states = λ steps. silent_same system log e none p steps ∙ sym (ap (state_by system log p steps) (page_queued p e.post of));
+    unmoved = λ unmoved. refl;
+    fetches = λ i. refl;
+  }
+
+  -- ---- the whole
 
   records_stay : (k : ClusterNo) (recs : List BackRec) → KeepsRecords system log k recs → KeepsRecords system later k recs
   records_stay k recs keeps =
       subst (KeepsRecords system later k) (by_page (λ w. records_after w recs ≡ recs) (λ pid index. refl) (λ pid index bytes. refl) (what e) of)
       (records_kept system log e k recs valid (built_stands system later next.0) (by_page (λ w. changes_in_place w ≡ true) (λ pid index. refl) (λ pid index bytes. refl) (what e) of) keeps)
 
-  pub follows_page : (c : ClusterView) (q : Option Post) (server : Option PagerState) → Serves (placement system log) e c.server server → c.queue ≡ posts_of q → AllOwn c.cursor c.here → FollowsBuilt system log c → is_by_cluster c.number e ≡ false
+  once_stays : (k : ClusterNo) (here : List (Pid × Held)) → rising (pids_in here) ≡ rising (home_pids system log k) → rising (pids_in (here_after (what e) here)) ≡ rising (home_pids system later k)
+  once_stays k here once = ap rising (pids_paged (what e) here of) ∙ once ∙ ap (λ (places : Places). rising (pids_home k places.placed)) (sym places_same)
+
+  places_after : (places : Places) → places ≡ placement system log → placed_after places (what e) ≡ placement system later
+  places_after places same = ap (λ places. placed_after places (what e)) same ∙ sym (placement-snoc system log e)
+
+  home_of : (k : ClusterNo) (here : List (Pid × Held)) (p : Pid) (h : Held) → rising (pids_in here) ≡ rising (home_pids system log k) → held_of here p ≡ Some h → HomeHere (placement system log) p k
+  home_of k here p h once there = home_here (placement system log) k (pids_in here) p differ once (is_among here p h there)
+
+  pub follows_page : (c : ClusterView) (q : Option Post) (server : Option PagerState) → Serves (placement system log) e c.server server → c.queue ≡ posts_of q → FollowsBuilt system log c → is_by_cluster c.number e ≡ false
       → FollowsBuilt system later (with_server server (absorbed c e))
-  follows_page c q server serves queue_is own f foreign = subst (λ v. FollowsBuilt system later (with_server server v)) (sym (page_taken c e of)) (record {
+  follows_page c q server serves queue_is f foreign = subst (λ v. FollowsBuilt system later (with_server server v)) (sym (page_taken c e of)) (record {
     log = record {
       cursor = ap (λ m. m + 1) (f.log).cursor ∙ sym (length-append log (e ∷ []));
-      places = (f.log).places ∙ sym places_same;
+      places = places_after c.places (f.log).places;
     };
-    processes = record { held = held; each_once = (f.processes).each_once ∙ ap (λ (places : Places). rising (pids_home c.number places.placed)) (sym places_same) };
+    processes = record { held = held; each_once = once_stays c.number c.here once };
     queue = record {
       own = (f.queue).own;
       legal = legal_still;
     };
     steps = record { counted = λ kept. counted_foreign c log e foreign ((f.steps).counted (lost_before log e c.number kept)) };
+    pages = pages;
     records = records_stay c.number c.records f.records;
-    accounts = accounts_next system log e c (with_server server after) (IsLegal-last BuiltMayFollow system log e next.0).built (foreign_no_answer c.number e foreign) serves refl (f.queue).legal legal_still f.accounts;
+    accounts = accounts_next system log e c (with_server server (paged c e)) q (IsLegal-last BuiltMayFollow system log e next.0).built (foreign_no_answer c.number e foreign) serves refl queue_is queue_is posts_legal f.accounts;
+    disk = disk_after (placement system log) e c.server server serves f.disk;
   })
     where
-      after : ClusterView
-      after = record c { cursor = c.cursor + 1; steps = next_count c.steps }
+      once : rising (pids_in c.here) ≡ rising (home_pids system log c.number)
+      once = (f.processes).each_once
 
       posts_own : list_all (λ (post : Post). is_from c.number post.by) (posts_of q) ≡ true
       posts_own = subst (λ ps. list_all (λ (post : Post). is_from c.number post.by) ps ≡ true) queue_is (f.queue).own
 
-      posts_legal : IsQueueLegal TellingMayFollow system log (posts_of q)
-      posts_legal = subst (IsQueueLegal TellingMayFollow system log) queue_is (f.queue).legal
+      posts_legal : IsQueueLegal UnlostMayFollow system log (posts_of q)
+      posts_legal = subst (IsQueueLegal UnlostMayFollow system log) queue_is (f.queue).legal
 
-      legal_still : IsQueueLegal TellingMayFollow system later c.queue
-      legal_still = subst (IsQueueLegal TellingMayFollow system later) (sym queue_is) (queue_stays c.number q posts_own posts_legal)
+      legal_still : IsQueueLegal UnlostMayFollow system later c.queue
+      legal_still = subst (IsQueueLegal UnlostMayFollow system later) (sym queue_is) (queue_stays c.number q foreign posts_own posts_legal)
 
-      held : (p : Pid) (h : Held) → held_at c p ≡ Some h → IsHeldAs system later c.queue p h
+      held : (p : Pid) (h : Held) → held_of (here_after (what e) c.here) p ≡ Some h → IsHeldAs system later c.queue p h
       held p h at =
-          let home : HomeHere (placement system log) p c.number = home_here (placement system log) c.number (pids_in c.here) p (differ_built system log valid now.0) (f.processes).each_once (is_among c.here p h at) in
+          let before = was_paged (what e) c.here p h of at in
+          let home = home_of c.number c.here p before.was once before.there in
+          let was : IsHeldAs system log (posts_of q) p before.was = subst (λ ps. IsHeldAs system log ps p before.was) queue_is ((f.processes).held p before.was before.there) in
           subst (λ ps. IsHeldAs system later ps p h) (sym queue_is)
-          (held_still q p h posts_legal (ap is_some home.found) (λ kept is. own_at c.cursor c.here p (Waits kept) own (at ∙ ap Some is)) (subst (λ ps. IsHeldAs system log ps p h) queue_is ((f.processes).held p h at)))
+          (subst (λ x. IsHeldAs system later (posts_of q) p x) (sym before.same) (held_after (posts_of q) (posts_of q) p before.was (ap is_some home.found) (alike_foreign c.number q p home foreign posts_legal) was))
+
+      pages : (p : Pid) (h : Held) → held_of (here_after (what e) c.here) p ≡ Some h → is_some (process_in h) ≡ true → has_its_pages system later p ≡ true
+      pages p h at runs =
+          let before = was_paged (what e) c.here p h of at in
+          has_after c.queue c.number p before.was (home_of c.number c.here p before.was once before.there) ((f.processes).held p before.was before.there) (f.pages p before.was before.there) (ap (λ x. is_some (process_in x)) (sym before.same) ∙ runs)
+
+  pub follows_own_page : (c : ClusterView) (l : Left c log e) (server : Option PagerState) → system ≡ c.system → c.queue ≡ [] → Serves (placement system log) e c.server server → FollowsBuilt system later (with_server server (absorbed c e))
+  follows_own_page c l server system_is empty serves = subst (λ v. FollowsBuilt system later (with_server server v)) (sym (page_taken c e of)) (record {
+    log = record {
+      cursor = ap (λ m. m + 1) (ap (λ (d : ClusterView). d.cursor) l.same ∙ (f.log).cursor) ∙ sym (length-append log (e ∷ []));
+      places = places_after c.places (ap (λ (d : ClusterView). d.places) l.same ∙ (f.log).places);
+    };
+    processes = record { held = λ p h at. subst (λ ps. IsHeldAs system later ps p h) (sym empty) (held p h at); each_once = once_stays c.number c.here once };
+    queue = record {
+      own = ap (λ ps. list_all (λ (post : Post). is_from c.number post.by) ps) empty;
+      legal = subst (IsQueueLegal UnlostMayFollow system later) (sym empty) tt;
+    };
+    steps = record { counted = counted_left c log e l };
+    pages = pages;
+    records = records_stay c.number c.records (subst (λ recs. KeepsRecords system log c.number recs) (sym (ap (λ (d : ClusterView). d.records) l.same)) (subst (λ k. KeepsRecords system log k (l.before).records) number f.records));
+    accounts =
+        accounts_sent system log e l.before (with_server server (paged c e)) (page_unlost (what e) of) (subst (λ old. Serves (placement system log) e old server) (ap (λ (d : ClusterView). d.server) l.same) serves) (sym number) l.posts empty f.accounts;
+    disk = disk_after (placement system log) e c.server server serves (subst SoundDisk (sym (ap (λ (d : ClusterView). d.server) l.same)) f.disk);
+  })
+    where
+      f : FollowsBuilt system log l.before
+      f = subst (λ s. FollowsBuilt s log l.before) (sym system_is) l.followed
+
+      number : (l.before).number ≡ c.number
+      number = sym (ap (λ (d : ClusterView). d.number) l.same)
+
+      here : (l.before).here ≡ c.here
+      here = sym (ap (λ (d : ClusterView). d.here) l.same)
+
+      once : rising (pids_in c.here) ≡ rising (home_pids system log c.number)
+      once = ap (λ hs. rising (pids_in hs)) (sym here) ∙ (f.processes).each_once ∙ ap (λ k. rising (home_pids system log k)) number
+
+      was_held : (p : Pid) (h : Held) → held_of c.here p ≡ Some h → IsHeldAs system log (e.post ∷ []) p h
+      was_held p h there = subst (λ ps. IsHeldAs system log ps p h) l.posts ((f.processes).held p h (ap (λ hs. held_of hs p) here ∙ there))
+
+      held : (p : Pid) (h : Held) → held_of (here_after (what e) c.here) p ≡ Some h → IsHeldAs system later [] p h
+      held p h at =
+          let before = was_paged (what e) c.here p h of at in
+          let home = home_of c.number c.here p before.was once before.there in
+          subst (λ x. IsHeldAs system later [] p x) (sym before.same) (held_after (e.post ∷ []) [] p before.was (ap is_some home.found) (alike_own p) (was_held p before.was before.there))
+
+      pages : (p : Pid) (h : Held) → held_of (here_after (what e) c.here) p ≡ Some h → is_some (process_in h) ≡ true → has_its_pages system later p ≡ true
+      pages p h at runs =
+          let before = was_paged (what e) c.here p h of at in
+          has_after (e.post ∷ []) c.number p before.was (home_of c.number c.here p before.was once before.there) (was_held p before.was before.there) (f.pages p before.was (ap (λ hs. held_of hs p) here ∙ before.there))
+          (ap (λ x. is_some (process_in x)) (sym before.same) ∙ runs)

@@ -84,9 +84,9 @@ moved_alone most p new m = by_parts m.between new m.rolls m.runs
           is = refl;
         }
     by_parts (Runs q) (Rolls r left unborn) rolls runs = absurd runs
-    by_parts (Runs q) (Waits kept) rolls runs = absurd runs
+    by_parts (Runs q) (Waits waiting) rolls runs = absurd runs
     by_parts (Rolls q left unborn) h rolls runs = absurd rolls
-    by_parts (Waits kept) h rolls runs = absurd rolls
+    by_parts (Waits waiting) h rolls runs = absurd rolls
 
 -- its last step sent something, and it runs
 pub record SentAlone (most : ℕ) (p : Process) (sending : Sending) (new : Held) : Type 0 where
@@ -119,12 +119,12 @@ sent_alone most p sending new s =
 pub moves_can : (most : ℕ) (old new : Held) → Moves most old new → can_act old ≡ true
 moves_can most (Runs p) new m = let a = moved_alone most p new m in some_has a.steps (state_of p) (state_of a.now) a.some a.silent
 moves_can most (Rolls p counts births) new m = refl
-moves_can most (Waits kept) new m = absurd m.rolls
+moves_can most (Waits waiting) new m = absurd m.rolls
 
 pub sends_can : (most : ℕ) (old : Held) (sending : Sending) (new : Held) → Sends most old sending new → can_act old ≡ true
 sends_can most (Runs p) sending new s = let a = sent_alone most p sending new s in sends_has most (state_of p) (state_of a.now) sending.emission a.runs
 sends_can most (Rolls p counts births) sending new s = refl
-sends_can most (Waits kept) sending new s = absurd s.rolls
+sends_can most (Waits waiting) sending new s = absurd s.rolls
 
 -- ---- what the rest of a quantum answers
 

@@ -1,20 +1,17 @@
--- What is here once the processes of some records began again.
-use Rattle.std.proofs.Common.{◌≡◌, ◌⊎◌, refl, sym, ◌∙◌, ap, List, [], ◌∷◌, map, Bool, true, false, cond, ltb, Option, Some, None, is_some, inl, inr, true≢false}
+-- What is here once the processes of some records wait for their pages.
+use Rattle.std.proofs.Common.{◌≡◌, ◌⊎◌, refl, ◌∙◌, ap, List, [], ◌∷◌, map, Bool, true, false, cond, ltb, Some, inl, inr}
 use Rattle.std.specs.Prelude.{find, option_map}
 use Rattle.std.specs.List.{AllByRecursion}
-use Rattle.std.specs.Option.{option_map_or}
 use Rattle.t32_base.specs.declared.process.Pid.{Pid}
 use Rattle.t32_base.specs.declared.letter.BackRec.{BackRec}
-use Rattle.sys_text.specs.declared.system.System.{System}
-use Rattle.proc_state.specs.State.{ProcState}
-use Rattle.plain_kernel.specs.Kernel.{boot, process_at}
 use Rattle.bus_msg.specs.Places.{same_pid}
 use Rattle.cert_sched.specs.Parts.{put_rising, rising}
 use Rattle.cert_sched.proofs.RisingLaws.{put_all, put_all-put, put_rising-swap}
 use Rattle.recovery.specs.Begun.{number_of}
-use Rattle.cluster_core.specs.View.{Held, held_of}
+use Rattle.wait_laws.specs.Waits.{first_wait}
+use Rattle.cluster_core.specs.View.{Held, Waits, held_of}
 use Rattle.cluster_core.specs.Residents.{pids_in, with_more}
-use Rattle.cluster_core.specs.Recovered.{recovered, with_recovered, with_all_recovered}
+use Rattle.cluster_core.specs.Recovered.{with_all_waiting, with_waiting}
 
 -- ---- one more
 
@@ -51,45 +48,30 @@ pids_more q x (e ∷ here) = by_order (ltb q.0 (e.0).0) (pids_more q x here)
 
 -- ---- all of them
 
--- it is the process of a record of which something holds, as that begins again
-pub record Recovery (system : System) (P : BackRec → Type 0) (p : Pid) (h : Held) : Type 0 where
+-- it is the process of a record of which something holds, which waits for its pages
+pub record Recovery (P : BackRec → Type 0) (p : Pid) (h : Held) : Type 0 where
   pub kept : BackRec
   pub has : P kept
   pub own : same_pid kept.pid p ≡ true
-  pub start : ProcState
-  pub at_boot : process_at (boot system) kept.pid ≡ Some start
-  pub is : h ≡ recovered kept start
+  pub is : h ≡ Waits (first_wait kept)
 
--- what is found was there, or began again
-pub held_recovered : (system : System) (P : BackRec → Type 0) (moved : List BackRec) (here : List (Pid × Held)) (p : Pid) (h : Held) → AllByRecursion P moved → held_of (with_all_recovered system moved here) p ≡ Some h
-    → (held_of here p ≡ Some h) ⊎ Recovery system P p h
-held_recovered system P [] here p h all at = inl at
-held_recovered system P (r ∷ rest) here p h all at = by_either (held_recovered system P rest (with_recovered system here r) p h all.1 at)
+-- what is found was there, or waits from now on
+pub held_waiting : (P : BackRec → Type 0) (moved : List BackRec) (here : List (Pid × Held)) (p : Pid) (h : Held) → AllByRecursion P moved → held_of (with_all_waiting moved here) p ≡ Some h → (held_of here p ≡ Some h) ⊎ Recovery P p h
+held_waiting P [] here p h all at = inl at
+held_waiting P (r ∷ rest) here p h all at = by_either (held_waiting P rest (with_waiting here r) p h all.1 at)
   where
-    by_more : (start : ProcState) → process_at (boot system) r.pid ≡ Some start → ((same_pid r.pid p ≡ true) × (h ≡ recovered r start)) ⊎ (held_of here p ≡ Some h) → (held_of here p ≡ Some h) ⊎ Recovery system P p h
-    by_more start at_boot (inl mine) = inr (record { kept = r; has = all.0; own = mine.0; start = start; at_boot = at_boot; is = mine.1 })
-    by_more start at_boot (inr was) = inl was
+    by_more : ((same_pid r.pid p ≡ true) × (h ≡ Waits (first_wait r))) ⊎ (held_of here p ≡ Some h) → (held_of here p ≡ Some h) ⊎ Recovery P p h
+    by_more (inl mine) = inr (record { kept = r; has = all.0; own = mine.0; is = mine.1 })
+    by_more (inr was) = inl was
 
-    by_start : (o : Option ProcState) → process_at (boot system) r.pid ≡ o → held_of (option_map_or (λ (start : ProcState). with_more r.pid (recovered r start) here) o here) p ≡ Some h → (held_of here p ≡ Some h) ⊎ Recovery system P p h
-    by_start None at_boot there = inl there
-    by_start (Some start) at_boot there = by_more start at_boot (held_more r.pid (recovered r start) here p h there)
-
-    by_either : (held_of (with_recovered system here r) p ≡ Some h) ⊎ Recovery system P p h → (held_of here p ≡ Some h) ⊎ Recovery system P p h
-    by_either (inl there) = by_start (process_at (boot system) r.pid) refl there
+    by_either : (held_of (with_waiting here r) p ≡ Some h) ⊎ Recovery P p h → (held_of here p ≡ Some h) ⊎ Recovery P p h
+    by_either (inl there) = by_more (held_more r.pid (Waits (first_wait r)) here p h there)
     by_either (inr mine) = inr mine
 
--- the process of a record starts with the system
-abbrev pub StartsThere : System → BackRec → Type 0
-StartsThere system r = is_some (process_at (boot system) r.pid) ≡ true
-
 -- the pids are those that were there, and theirs
-pub pids_recovered : (system : System) (moved : List BackRec) (here : List (Pid × Held)) → AllByRecursion (StartsThere system) moved → rising (pids_in (with_all_recovered system moved here)) ≡ put_all (map number_of moved) (rising (pids_in here))
-pids_recovered system [] here all = refl
-pids_recovered system (r ∷ rest) here all =
-    pids_recovered system rest (with_recovered system here r) all.1
-    ∙ ap (put_all (map number_of rest)) (by_start (process_at (boot system) r.pid) all.0)
+pub pids_waiting : (moved : List BackRec) (here : List (Pid × Held)) → rising (pids_in (with_all_waiting moved here)) ≡ put_all (map number_of moved) (rising (pids_in here))
+pids_waiting [] here = refl
+pids_waiting (r ∷ rest) here =
+    pids_waiting rest (with_waiting here r)
+    ∙ ap (put_all (map number_of rest)) (pids_more r.pid (Waits (first_wait r)) here)
     ∙ put_all-put (map number_of rest) (number_of r) (rising (pids_in here))
-  where
-    by_start : (o : Option ProcState) → is_some o ≡ true → rising (pids_in (option_map_or (λ (start : ProcState). with_more r.pid (recovered r start) here) o here)) ≡ put_rising (number_of r) (rising (pids_in here))
-    by_start None there = absurd (true≢false (sym there))
-    by_start (Some start) there = pids_more r.pid (recovered r start) here

@@ -19,10 +19,10 @@ use Rattle.cluster_core.specs.View.{ClusterView, Held, Runs, Rolls, Waits, held_
 use Rattle.bus_msg.specs.Places.{same_pid}
 use Rattle.cert_sched.proofs.RisingLaws.{NoTwo}
 use Rattle.cluster_core.proofs.Here.{is_among, same_itself}
-use Rattle.cluster_core.specs.Residents.{are_rising, pids_in, are_stuck}
+use Rattle.cluster_core.specs.Residents.{are_rising, pids_in, are_settled}
 use Rattle.cluster_core.specs.Parts.{AllOwn}
 use Rattle.cluster_core.specs.Calls.{RestsIn, are_at_rest, is_at_rest, is_resting, rests_in, rests_of}
-use Rattle.cluster_core.proofs.Owning.{stuck_rest}
+use Rattle.cluster_core.proofs.Owning.{settled_rest}
 use Rattle.cluster_core.proofs.Working.{ahead, held_before}
 
 -- ---- a process at rest
@@ -64,7 +64,7 @@ apart (n ∷ ns) h = let parts = and_parts (list_all (λ m. ltb n m) ns) (are_ri
 rest_idle : (system : System) (log : List Entry) (p : Pid) (h : Held) → ((s : Process) → h ≡ Runs s → silent_upto system log p (s.small).steps ≡ Some (state_of s)) → is_at_rest h ≡ true → is_idle_at system log (p, steps_of_held h) ≡ true
 rest_idle system log p (Runs s) there rest = idle_at system log p (state_of s) (there s refl) rest
 rest_idle system log p (Rolls s counts births) there rest = absurd (true≢false (sym rest))
-rest_idle system log p (Waits kept) there rest = absurd (true≢false (sym rest))
+rest_idle system log p (Waits waiting) there rest = absurd (true≢false (sym rest))
 
 -- each that is at rest here is so in each log that the cluster follows
 each_idle : (c : ClusterView) (log : List Entry) (here : List (Pid × Held)) → ((p : Pid) (s : Process) → held_of here p ≡ Some (Runs s) → silent_upto c.system log p (s.small).steps ≡ Some (state_of s)) → NoTwo (pids_in here)
@@ -93,16 +93,16 @@ rests_told c ordered at_rest empty log now f = record {
 
 -- what a call answers that tells them
 pub told_rests : {E : Type 0} (c : ClusterView) (result : Result (Option (List (Pid × ℕ))) E) → AllOwn c.cursor c.here → are_rising (pids_in c.here) ≡ true
-    → IfOk result (λ rests. rests ≡ cond (are_stuck c.here) (Some (rests_in c.here)) None) → IfOk result (λ rests. IfSome rests (RestsIn c))
+    → IfOk result (λ rests. rests ≡ cond (are_settled c.here) (Some (rests_in c.here)) None) → IfOk result (λ rests. IfSome rests (RestsIn c))
 told_rests c (Err e) own ordered told = tt
-told_rests c (Ok o) own ordered told = by_test (are_stuck c.here) refl told
+told_rests c (Ok o) own ordered told = by_test (are_settled c.here) refl told
   where
-    by_test : (b : Bool) → are_stuck c.here ≡ b → o ≡ cond b (Some (rests_in c.here)) None → IfSome o (RestsIn c)
-    by_test true stuck is = let P : Option (List (Pid × ℕ)) → Type 0 = λ o. IfSome o (RestsIn c) in subst P (sym is) (rests_told c ordered (stuck_rest c.cursor c.here own ∙ stuck))
-    by_test false stuck is = let P : Option (List (Pid × ℕ)) → Type 0 = λ o. IfSome o (RestsIn c) in subst P (sym is) tt
+    by_test : (b : Bool) → are_settled c.here ≡ b → o ≡ cond b (Some (rests_in c.here)) None → IfSome o (RestsIn c)
+    by_test true settled is = let P : Option (List (Pid × ℕ)) → Type 0 = λ o. IfSome o (RestsIn c) in subst P (sym is) (rests_told c ordered (settled_rest c.cursor c.here own ∙ settled))
+    by_test false settled is = let P : Option (List (Pid × ℕ)) → Type 0 = λ o. IfSome o (RestsIn c) in subst P (sym is) tt
 
 -- it answers so of the cluster
 pub answered_rests : {E : Type 0} (c : ClusterView) (result : Result (Option (List (Pid × ℕ))) E) → AllOwn c.cursor c.here
-    → IfOk result (λ rests. rests ≡ cond (are_stuck c.here) (Some (rests_in c.here)) None) → IfOk result (λ rests. rests ≡ cond (is_resting c) (Some (rests_of c)) None)
+    → IfOk result (λ rests. rests ≡ cond (are_settled c.here) (Some (rests_in c.here)) None) → IfOk result (λ rests. rests ≡ cond (is_resting c) (Some (rests_of c)) None)
 answered_rests c (Err e) own told = tt
-answered_rests c (Ok o) own told = told ∙ ap (λ b. cond b (Some (rests_in c.here)) None) (sym (stuck_rest c.cursor c.here own))
+answered_rests c (Ok o) own told = told ∙ ap (λ b. cond b (Some (rests_in c.here)) None) (sym (settled_rest c.cursor c.here own))

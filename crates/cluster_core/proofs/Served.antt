@@ -1,10 +1,12 @@
 -- What a cluster keeps as a page server stays what the log says: after an entry, and where a post is queued.
-use Rattle.std.proofs.Common.{◌≡◌, ℕ, ◌+◌, ◌≤◌, refl, sym, ◌∙◌, ap, subst, arith, List, [], ◌∷◌, ◌++◌, Bool, true, false, cond, ◌&&◌, Option, Some, None, is_some, inl, inr, true≢false}
-use Rattle.std.specs.Prelude.{count_by}
-use Rattle.std.specs.Option.{option_map_or}
+use Rattle.std.proofs.Common.{◌≡◌, ℕ, ◌+◌, ◌≤◌, refl, sym, ◌∙◌, ap, subst, arith, List, [], ◌∷◌, ◌++◌, Bool, true, false, cond, ◌&&◌, eq-eqb, Option, Some, None, is_some, inl, inr, true≢false}
+use Rattle.std.specs.Prelude.{◌⊎◌, ⊤}
+use Rattle.std.specs.Option.{IfSome, option_map_or}
+use Rattle.page_server.specs.Account.{PagerState}
 use Rattle.page_server.specs.Disk.{Counts}
+use Rattle.page_accounts.specs.Keeps.{KeepsAccounts}
 use Rattle.sys_text.specs.declared.system.System.{System}
-use Rattle.t32_base.specs.declared.process.Pid.{Pid}
+use Rattle.t32_base.specs.Streams.{one_more}
 use Rattle.t32_base.specs.declared.process.ClusterNo.{ClusterNo}
 use Rattle.bus_msg.specs.declared.entry.What.{What}
 use Rattle.bus_msg.specs.declared.entry.Post.{Post}
@@ -12,16 +14,18 @@ use Rattle.bus_msg.specs.declared.entry.Entry.{Entry}
 use Rattle.bus_msg.specs.Places.{Places}
 use Rattle.bus_msg.specs.PlacedAfter.{what}
 use Rattle.cert_sched.specs.Appended.{entry_of}
-use Rattle.cert_sched.specs.Built.{TellingMayFollow, is_built, tells_or_closes}
-use Rattle.cert_sched.specs.Losses.{capped, is_by_cluster, is_page_entry, is_page_is_entry, least_calls, was_lost_in}
+use Rattle.cert_sched.specs.Built.{UnlostMayFollow, is_built, is_unlost, tells_or_closes}
+use Rattle.cert_sched.specs.Losses.{capped, is_by_cluster, is_from, is_page_entry, is_page_is_entry, least_calls, was_lost_in}
 use Rattle.cert_sched.specs.Schedule.{placement}
 use Rattle.cert_sched.specs.Scripted.{is_server}
-use Rattle.page_server.specs.Account.{PagerState}
+use Rattle.cert_sched.proofs.UnlostLaws.{unlost_built}
 use Rattle.cluster_core.specs.Holds.{HoldsAccounts, KeepsIfThere}
+use Rattle.cluster_core.specs.Parts.{posts_of}
 use Rattle.cluster_core.specs.Queue.{IsQueueLegal, is_rebackup, with_queue}
 use Rattle.cluster_core.specs.Serving.{BeginsToServe, Serves}
-use Rattle.cluster_core.specs.View.{ClusterView, disk_calls, with_server}
-use Rattle.cluster_core.proofs.ByKind.{IsLoss, OneOf, by_kind, by_page, kind_is}
+use Rattle.cluster_core.specs.View.{ClusterView}
+use Rattle.cluster_core.specs.Work.{AnswersNext}
+use Rattle.cluster_core.proofs.ByKind.{OneOf, by_kind, by_page, is_of_page, kind_is, unlost_is}
 use Rattle.cluster_core.proofs.Counted.{count_by-snoc, lost_before}
 
 -- ---- what a cluster has answered
@@ -30,36 +34,15 @@ use Rattle.cluster_core.proofs.Counted.{count_by-snoc, lost_before}
 abbrev pub answers : ClusterNo → Entry → Bool
 answers k e = is_page_is_entry (what e) && is_by_cluster k e
 
-no_rebackup : (w : What) → tells_or_closes w ≡ true → is_rebackup w ≡ false
-no_rebackup = by_kind (λ w. is_rebackup w ≡ false) (λ at letter. refl) (λ pid at end. refl) (λ rests. refl) refl
+none_of : (b : Bool) → (b && false) ≡ false
+none_of true = refl
+none_of false = refl
 
-pub no_answer : (w : What) (b : Bool) → tells_or_closes w ≡ true → (is_page_is_entry w && b) ≡ false
-no_answer w b = by_kind (λ w. (is_page_is_entry w && b) ≡ false) (λ at letter. refl) (λ pid at end. refl) (λ rests. refl) refl w
-
--- nor is what another sent
+-- what another sent is none
 pub foreign_no_answer : (k : ClusterNo) (e : Entry) → is_by_cluster k e ≡ false → answers k e ≡ false
-foreign_no_answer k e foreign = ap (λ b. is_page_is_entry (what e) && b) foreign ∙ by_kind_of (is_page_is_entry (what e))
-  where
-    by_kind_of : (b : Bool) → (b && false) ≡ false
-    by_kind_of true = refl
-    by_kind_of false = refl
+foreign_no_answer k e foreign = ap (λ b. is_page_is_entry (what e) && b) foreign ∙ none_of (is_page_is_entry (what e))
 
-one_more : (test : Entry → Bool) (log : List Entry) (e : Entry) → test e ≡ false → count_by test (log ++ e ∷ []) ≡ count_by test log
-one_more test log e none = let more = count_by-snoc test log e in let zero : ◌≡◌ {A = ℕ} (cond (test e) 1 0) 0 = ap (λ (b : Bool). cond b 1 0) none in omega (arith, more, zero)
-
--- what is queued is no answer
-queued_no_answer : (system : System) (log : List Entry) (queue : List Post) (k : ClusterNo) → IsQueueLegal TellingMayFollow system log queue → count_by (answers k) (with_queue system log queue) ≡ count_by (answers k) log
-queued_no_answer system log [] k legal = refl
-queued_no_answer system log (post ∷ rest) k legal =
-    ap (λ b. count_by (answers k) (cond b (with_queue system log rest) (with_queue system (log ++ entry_of system log post ∷ []) rest))) (no_rebackup post.what (legal.0).built)
-    ∙ queued_no_answer system (log ++ entry_of system log post ∷ []) rest k legal.1
-    ∙ one_more (answers k) log (entry_of system log post) (no_answer post.what (is_by_cluster k (entry_of system log post)) (legal.0).built)
-
--- the least calls of the log, with a queue and without
-pub least_queued : (system : System) (log : List Entry) (queue : List Post) (k : ClusterNo) → IsQueueLegal TellingMayFollow system log queue → least_calls system log (with_queue system log queue) k ≡ least_calls system log log k
-least_queued system log queue k legal = let same = queued_no_answer system log queue k legal in omega (arith, same)
-
--- ---- one more entry
+-- ---- an entry more
 
 -- an entry of a kind that is built brings no page
 pub no_page : (w : What) → is_built w ≡ true → is_page_entry w ≡ false
@@ -68,14 +51,49 @@ no_page w built = by_one (kind_is w built)
     by_one : OneOf w → is_page_entry w ≡ false
     by_one (inl tells) = by_kind (λ w. is_page_entry w ≡ false) (λ at letter. refl) (λ pid at end. refl) (λ rests. refl) refl w tells
     by_one (inr (inl of)) = by_page (λ w. is_page_entry w ≡ false) (λ pid index. refl) (λ pid index bytes. refl) w of
-    by_one (inr (inr loss)) = ap is_page_entry (loss.same)
+    by_one (inr (inr loss)) = ap is_page_entry loss.same
 
--- where it is no answer of the cluster either, that has to have made no call more
-least_next : (system : System) (log : List Entry) (e : Entry) (k : ClusterNo) → is_built (what e) ≡ true → answers k e ≡ false → least_calls system (log ++ e ∷ []) (log ++ e ∷ []) k ≡ least_calls system log log k
-least_next system log e k built none =
-    let pages = one_more (λ (e : Entry). is_page_entry (what e)) log e (no_page (what e) built) in
-    let answered = one_more (answers k) log e none in
-    omega (arith, pages, answered)
+-- so the least calls rise by it where it is an answer, and only there
+least_more : (system : System) (log : List Entry) (e : Entry) (k : ClusterNo) → is_built (what e) ≡ true → least_calls system (log ++ e ∷ []) (log ++ e ∷ []) k ≡ least_calls system log log k + cond (answers k e) 1 0
+least_more system log e k built =
+    let pages = count_by-snoc (λ (e : Entry). is_page_entry (what e)) log e in
+    let none : ◌≡◌ {A = ℕ} (cond (is_page_entry (what e)) 1 0) 0 = ap (λ (b : Bool). cond b 1 0) (no_page (what e) built) in
+    let answered = count_by-snoc (answers k) log e in
+    omega (arith, pages, none, answered)
+
+-- ---- a post more
+
+-- a post adds one call where it is an answer of the cluster
+abbrev owed : ClusterNo → Option Post → ℕ
+owed k None = 0
+owed k (Some post) = cond (is_page_is_entry post.what && is_from k post.by) 1 0
+
+-- what stands in a log as it is queued
+abbrev IsPlain : Option Post → Type 0
+IsPlain None = ⊤
+IsPlain (Some post) = is_rebackup post.what ≡ false
+
+plain_kind : (w : What) → is_unlost w ≡ true → is_rebackup w ≡ false
+plain_kind w unlost = by_one (unlost_is w unlost)
+  where
+    by_one : (tells_or_closes w ≡ true) ⊎ (is_of_page w ≡ true) → is_rebackup w ≡ false
+    by_one (inl tells) = by_kind (λ w. is_rebackup w ≡ false) (λ at letter. refl) (λ pid at end. refl) (λ rests. refl) refl w tells
+    by_one (inr of) = by_page (λ w. is_rebackup w ≡ false) (λ pid index. refl) (λ pid index bytes. refl) w of
+
+plain_post : (system : System) (log : List Entry) (q : Option Post) → IsQueueLegal UnlostMayFollow system log (posts_of q) → IsPlain q
+plain_post system log None legal = tt
+plain_post system log (Some post) legal = plain_kind post.what (legal.0).built
+
+-- the least calls of a log with at most one post
+least_queued : (system : System) (log : List Entry) (q : Option Post) (k : ClusterNo) → IsPlain q → least_calls system log (with_queue system log (posts_of q)) k ≡ least_calls system log log k + owed k q
+least_queued system log None k plain = omega arith
+least_queued system log (Some post) k plain =
+    let stands : with_queue system log (post ∷ []) ≡ log ++ entry_of system log post ∷ [] = ap (λ b. cond b log (log ++ entry_of system log post ∷ [])) plain in
+    let same = ap (λ sent. least_calls system log sent k) stands in
+    let answered = count_by-snoc (answers k) log (entry_of system log post) in
+    omega (arith, same, answered)
+
+-- ---- one more entry
 
 -- what it serves
 keeps_on : (system : System) (log : List Entry) (e : Entry) (old new : Option PagerState) → Serves (placement system log) e old new → KeepsIfThere system log old → KeepsIfThere system (log ++ e ∷ []) new
@@ -96,19 +114,17 @@ same_calls before e None new serves = ap calls_of serves
 same_calls before e (Some old) None serves = absurd serves
 same_calls before e (Some old) (Some new) serves = ap (λ (c : Counts). c.calls) serves.counts
 
--- A cluster that takes in an entry which is no answer of its own, with a queue before and one after.
-pub accounts_next : (system : System) (log : List Entry) (e : Entry) (c d : ClusterView) → is_built (what e) ≡ true → answers c.number e ≡ false → Serves (placement system log) e c.server d.server → d.number ≡ c.number
-    → IsQueueLegal TellingMayFollow system log c.queue → IsQueueLegal TellingMayFollow system (log ++ e ∷ []) d.queue → HoldsAccounts system log c → HoldsAccounts system (log ++ e ∷ []) d
-accounts_next system log e c d built none serves number legal later f = record {
+-- A cluster that takes in an entry, where the least calls stay with what was queued before and what is queued after.
+accounts_on : (system : System) (log : List Entry) (e : Entry) (c d : ClusterView) → Serves (placement system log) e c.server d.server → d.number ≡ c.number
+    → least_calls system (log ++ e ∷ []) (with_queue system (log ++ e ∷ []) d.queue) c.number ≡ least_calls system log (with_queue system log c.queue) c.number → HoldsAccounts system log c → HoldsAccounts system (log ++ e ∷ []) d
+accounts_on system log e c d serves number least f = record {
   keeps = keeps_on system log e c.server d.server serves f.keeps;
   there = λ kept server. still_there (placement system log) e c.server d.server serves (f.there (before kept) (is_one server));
   calls = λ kept server.
       let was : capped (least_calls system log (with_queue system log c.queue) c.number) ≤ calls_of c.server = f.calls (before kept) (is_one server) in
-      let old = least_queued system log c.queue c.number legal in
-      let new = least_queued system (log ++ e ∷ []) d.queue d.number later in
-      let next : least_calls system (log ++ e ∷ []) (log ++ e ∷ []) d.number ≡ least_calls system log log c.number = ap (least_calls system (log ++ e ∷ []) (log ++ e ∷ [])) number ∙ least_next system log e c.number built none in
+      let same : least_calls system (log ++ e ∷ []) (with_queue system (log ++ e ∷ []) d.queue) d.number ≡ least_calls system log (with_queue system log c.queue) c.number = ap (least_calls system (log ++ e ∷ []) (with_queue system (log ++ e ∷ []) d.queue)) number ∙ least in
       let calls = same_calls (placement system log) e c.server d.server serves in
-      omega (arith, was, old, new, next, calls);
+      omega (arith, was, same, calls);
 }
   where
     before : was_lost_in (log ++ e ∷ []) d.number ≡ false → was_lost_in log c.number ≡ false
@@ -117,20 +133,102 @@ accounts_next system log e c d built none serves number legal later f = record {
     is_one : is_server system d.number ≡ true → is_server system c.number ≡ true
     is_one server = ap (is_server system) (sym number) ∙ server
 
--- where another post is queued
-pub accounts_queued : (system : System) (log : List Entry) (c d : ClusterView) → d.server ≡ c.server → d.number ≡ c.number → IsQueueLegal TellingMayFollow system log c.queue → IsQueueLegal TellingMayFollow system log d.queue
+-- so it is where the entry is no answer of its own, and at most one post is queued before and after
+pub accounts_next : (system : System) (log : List Entry) (e : Entry) (c d : ClusterView) (q : Option Post) → is_built (what e) ≡ true → answers c.number e ≡ false → Serves (placement system log) e c.server d.server → d.number ≡ c.number
+    → c.queue ≡ posts_of q → d.queue ≡ posts_of q → IsQueueLegal UnlostMayFollow system log (posts_of q) → HoldsAccounts system log c → HoldsAccounts system (log ++ e ∷ []) d
+accounts_next system log e c d q built none serves number was now legal f = accounts_on system log e c d serves number least f
+  where
+    plain : IsPlain q
+    plain = plain_post system log q legal
+
+    least : least_calls system (log ++ e ∷ []) (with_queue system (log ++ e ∷ []) d.queue) c.number ≡ least_calls system log (with_queue system log c.queue) c.number
+    least =
+        ap (λ ps. least_calls system (log ++ e ∷ []) (with_queue system (log ++ e ∷ []) ps) c.number) now
+        ∙ least_queued system (log ++ e ∷ []) q c.number plain
+        ∙ ap (λ n. n + owed c.number q) (least_more system log e c.number built ∙ ap (λ b. least_calls system log log c.number + cond b 1 0) none ∙ nothing (least_calls system log log c.number))
+        ∙ sym (ap (λ ps. least_calls system log (with_queue system log ps) c.number) was ∙ least_queued system log q c.number plain)
+      where
+        nothing : (n : ℕ) → n + 0 ≡ n
+        nothing n = omega arith
+
+-- and where it was the only post of the cluster
+pub accounts_sent : (system : System) (log : List Entry) (e : Entry) (c d : ClusterView) → is_unlost (what e) ≡ true → Serves (placement system log) e c.server d.server → d.number ≡ c.number → c.queue ≡ e.post ∷ [] → d.queue ≡ []
+    → HoldsAccounts system log c → HoldsAccounts system (log ++ e ∷ []) d
+accounts_sent system log e c d unlost serves number was now f = accounts_on system log e c d serves number least f
+  where
+    least : least_calls system (log ++ e ∷ []) (with_queue system (log ++ e ∷ []) d.queue) c.number ≡ least_calls system log (with_queue system log c.queue) c.number
+    least =
+        ap (λ ps. least_calls system (log ++ e ∷ []) (with_queue system (log ++ e ∷ []) ps) c.number) now
+        ∙ least_more system log e c.number (unlost_built (what e) unlost)
+        ∙ sym (ap (λ ps. least_calls system log (with_queue system log ps) c.number) was ∙ least_queued system log (Some e.post) c.number (plain_kind (what e) unlost))
+
+-- ---- where a post is queued
+
+-- one that is no answer, in an empty queue
+pub accounts_queued : (system : System) (log : List Entry) (c d : ClusterView) (post : Post) → d.server ≡ c.server → d.number ≡ c.number → c.queue ≡ [] → d.queue ≡ post ∷ [] → is_page_is_entry post.what ≡ false
     → HoldsAccounts system log c → HoldsAccounts system log d
-accounts_queued system log c d server number legal later f = record {
+accounts_queued system log c d post server number empty queue other f = record {
   keeps = subst (KeepsIfThere system log) (sym server) f.keeps;
   there = λ kept serves. ap is_some server ∙ f.there (ap (was_lost_in log) (sym number) ∙ kept) (ap (is_server system) (sym number) ∙ serves);
   calls = λ kept serves.
       let was : capped (least_calls system log (with_queue system log c.queue) c.number) ≤ calls_of c.server = f.calls (ap (was_lost_in log) (sym number) ∙ kept) (ap (is_server system) (sym number) ∙ serves) in
-      let old = least_queued system log c.queue c.number legal in
-      let new = least_queued system log d.queue d.number later in
-      let same : least_calls system log log d.number ≡ least_calls system log log c.number = ap (least_calls system log log) number in
       let calls = ap calls_of server in
-      omega (arith, was, old, new, same, calls);
+      let same : least_calls system log (with_queue system log d.queue) d.number ≡ least_calls system log (with_queue system log c.queue) c.number =
+      (λ i. least_calls system log (with_queue system log (queue i)) (number i)) ∙ least ∙ sym (ap (λ ps. least_calls system log (with_queue system log ps) c.number) empty) in
+      omega (arith, was, same, calls);
 }
+  where
+    least : least_calls system log (with_queue system log (post ∷ [])) c.number ≡ least_calls system log log c.number
+    least = by_kind_of (is_rebackup post.what)
+      where
+        by_kind_of : (b : Bool) → least_calls system log (cond b log (log ++ entry_of system log post ∷ [])) c.number ≡ least_calls system log log c.number
+        by_kind_of true = refl
+        by_kind_of false =
+            let answered = count_by-snoc (answers c.number) log (entry_of system log post) in
+            let none : ◌≡◌ {A = ℕ} (cond (answers c.number (entry_of system log post)) 1 0) 0 = ap (λ (b : Bool). cond (b && is_from c.number post.by) 1 0) other in
+            omega (arith, answered, none)
+
+-- and the answer that is owed, for which the disk was called once
+pub accounts_answered : (system : System) (log : List Entry) (c d : ClusterView) (post : Post) → AnswersNext c.number c.server d.server post → d.number ≡ c.number → c.queue ≡ [] → d.queue ≡ post ∷ [] → HoldsAccounts system log c → HoldsAccounts system log d
+accounts_answered system log c d post a number empty queue f = record {
+  keeps = subst (KeepsIfThere system log) (sym a.new_is) (record {
+    accounts = λ p. (a.same).accounts p ∙ kept_before.accounts p;
+    waits = (a.same).fetches ∙ kept_before.waits;
+  });
+  there = λ kept serves. ap is_some a.new_is;
+  calls = λ kept serves.
+      let was : capped (least_calls system log (with_queue system log c.queue) c.number) ≤ calls_of c.server = f.calls (ap (was_lost_in log) (sym number) ∙ kept) (ap (is_server system) (sym number) ∙ serves) in
+      let before = ap (λ ps. least_calls system log (with_queue system log ps) c.number) empty in
+      let old = ap calls_of a.old_is in
+      let new : calls_of d.server ≡ one_more ((a.was).counts).calls = ap calls_of a.new_is ∙ (a.called).calls in
+      let now : least_calls system log (with_queue system log d.queue) d.number ≡ least_calls system log log c.number + 1 = (λ i. least_calls system log (with_queue system log (queue i)) (number i)) ∙ least in
+      omega (arith, was, before, old, new, now);
+}
+  where
+    kept_before : KeepsAccounts system log a.was
+    kept_before = subst (KeepsIfThere system log) a.old_is f.keeps
+
+    answer : ◌≡◌ {A = ℕ} (owed c.number (Some post)) 1
+    answer = ap (λ (p : Post). owed c.number (Some p)) a.post_is ∙ ap (λ (b : Bool). cond b 1 0) (eq-eqb (c.number).0 (c.number).0 refl)
+
+    least : least_calls system log (with_queue system log (post ∷ [])) c.number ≡ least_calls system log log c.number + 1
+    least = least_queued system log (Some post) c.number (ap (λ (p : Post). is_rebackup p.what) a.post_is) ∙ ap (λ n. least_calls system log log c.number + n) answer
+
+-- ---- the disk
+
+-- no call of the disk fails
+abbrev pub SoundDisk : Option PagerState → Type 0
+SoundDisk o = IfSome o (λ s. (s.counts).failing ≡ Some [])
+
+-- an entry that is taken in calls no disk
+pub disk_after : (before : Places) (e : Entry) (old new : Option PagerState) → Serves before e old new → SoundDisk old → SoundDisk new
+disk_after before e None new serves sound = subst SoundDisk (sym serves) tt
+disk_after before e (Some old) None serves sound = absurd serves
+disk_after before e (Some old) (Some new) serves sound = ap (λ (c : Counts). c.failing) serves.counts ∙ sound
+
+-- and an answer leaves which calls fail
+pub disk_answered : (k : ClusterNo) (old new : Option PagerState) (post : Post) → AnswersNext k old new post → SoundDisk old → SoundDisk new
+disk_answered k old new post a sound = subst SoundDisk (sym a.new_is) ((a.called).failing ∙ subst SoundDisk a.old_is sound)
 
 -- ---- the start
 

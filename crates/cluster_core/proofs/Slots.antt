@@ -1,7 +1,7 @@
 -- The processes of a cluster in their slots: what a write, a removal and one more make of them.
 use Rattle.std.proofs.Common.{◌≡◌, ◌≢◌, ℕ, Bool, true, false, cond, not, ◌||◌, ◌&&◌, eqb, eqb-true, eq-eqb, List, [], ◌∷◌, map, find, refl, sym, ap, subst, ◌∙◌, arith, Option, Some, None, IsSome, option_map, true≢false}
 use Rattle.std.specs.Prelude.{filter}
-use Rattle.std.specs.List.{list_any, AllByRecursion}
+use Rattle.std.specs.List.{list_all, list_any, AllByRecursion}
 use Rattle.std.specs.List.Sorted.{IsStrictlySortedBy}
 use Rattle.std.specs.Ordering.{nat_cmp}
 use Rattle.std.specs.declared.cmp.Ordering.TheVariants.{Less}
@@ -15,7 +15,6 @@ use Rattle.plain_kernel.specs.Maps.{at_key, pid_of}
 use Rattle.plain_kernel.proofs.Entries.{some_same}
 use Rattle.cert_sched.proofs.RisingLaws.{NoTwo, either_not}
 use Rattle.cluster_core.specs.View.{Held, held_of}
-use Rattle.cluster_core.specs.Residents.{is_stuck, is_stuck_at}
 use Rattle.cluster_core.specs.Slots.{in_slot, stands_in}
 
 abbrev pub pids : List (ℕ × ℕ) → List ℕ
@@ -152,13 +151,57 @@ nobody_goes slots n (e ∷ es) none = in_front (get slots e.1) (nobody_goes slot
     in_front None more = more
     in_front (Some p) more = λ i. cond (not (none.0 i)) ((pid_of e.0, p) ∷ more i) (more i)
 
-pub nobody_stuck : (slots : Slab Held) (n : ℕ) (es : List (ℕ × ℕ)) → AllByRecursion (λ (e : ℕ × ℕ). eqb e.0 n ≡ false) es → is_stuck_at (pid_of n) (stands_in slots es) ≡ true
-nobody_stuck slots n [] none = refl
-nobody_stuck slots n (e ∷ es) none = in_front (get slots e.1) (nobody_stuck slots n es none.1)
+-- ---- a test of the process with a pid
+
+-- it passes, if it is there
+abbrev pub passes_at : (Held → Bool) → Pid → List (Pid × Held) → Bool
+passes_at t pid here = list_all (λ (e : Pid × Held). not (same_pid e.0 pid) || t e.1) here
+
+pub nobody_fails : (t : Held → Bool) (slots : Slab Held) (n : ℕ) (es : List (ℕ × ℕ)) → AllByRecursion (λ (e : ℕ × ℕ). eqb e.0 n ≡ false) es → passes_at t (pid_of n) (stands_in slots es) ≡ true
+nobody_fails t slots n [] none = refl
+nobody_fails t slots n (e ∷ es) none = in_front (get slots e.1) (nobody_fails t slots n es none.1)
   where
-    in_front : (o : Option Held) → is_stuck_at (pid_of n) (stands_in slots es) ≡ true → is_stuck_at (pid_of n) (in_slot (pid_of e.0) o (stands_in slots es)) ≡ true
+    in_front : (o : Option Held) → passes_at t (pid_of n) (stands_in slots es) ≡ true → passes_at t (pid_of n) (in_slot (pid_of e.0) o (stands_in slots es)) ≡ true
     in_front None more = more
-    in_front (Some p) more = ap (λ b. (not b || is_stuck p) && is_stuck_at (pid_of n) (stands_in slots es)) none.0 ∙ more
+    in_front (Some p) more = ap (λ b. (not b || t p) && passes_at t (pid_of n) (stands_in slots es)) none.0 ∙ more
+
+passes_here : (t : Held → Bool) (n pid : ℕ) (o : Option Held) (rest : List (Pid × Held)) → IsSome o → passes_at t (pid_of n) (in_slot (pid_of pid) o rest) ≡ true
+    → ((p : Held) → o ≡ Some p → eqb pid n ≡ true → t p ≡ true) × (passes_at t (pid_of n) rest ≡ true)
+passes_here t n pid None rest there passes = absurd (false≢true there)
+passes_here t n pid (Some q) rest there passes =
+    let parts = both_true (not (eqb pid n) || t q) (passes_at t (pid_of n) rest) passes in
+    (λ p same at. ap t (sym (some_same q p same)) ∙ (λ i. not (sym at i) || t q) ∙ parts.0, parts.1)
+
+-- where it passes, what is in the slot of its key passes
+pub passes_each : (t : Held → Bool) (slots : Slab Held) (n : ℕ) (es : List (ℕ × ℕ)) → AllByRecursion (λ (e : ℕ × ℕ). IsSome (get slots e.1)) es → passes_at t (pid_of n) (stands_in slots es) ≡ true
+    → AllByRecursion (λ (e : ℕ × ℕ). (p : Held) → get slots e.1 ≡ Some p → eqb e.0 n ≡ true → t p ≡ true) es
+passes_each t slots n [] filled passes = tt
+passes_each t slots n (e ∷ es) filled passes =
+    let parts = passes_here t n e.0 (get slots e.1) (stands_in slots es) filled.0 passes in
+    (parts.0, passes_each t slots n es filled.1 parts.1)
+
+-- and the other way round
+pub passes_there : (t : Held → Bool) (slots : Slab Held) (n key : ℕ) (was : Held) (es : List (ℕ × ℕ)) → AllByRecursion (IsOne n key) es → get slots key ≡ Some was → t was ≡ true → passes_at t (pid_of n) (stands_in slots es) ≡ true
+passes_there t slots n key was [] one there passes = refl
+passes_there t slots n key was (e ∷ es) one there passes = by_test (eqb e.1 key) refl (passes_there t slots n key was es one.1 there passes)
+  where
+    or_true : (b : Bool) → ((b || true) && true) ≡ true
+    or_true true = refl
+    or_true false = refl
+
+    here : (o : Option Held) (m : ℕ) → o ≡ Some was → passes_at t (pid_of n) (stands_in slots es) ≡ true → passes_at t (pid_of n) (in_slot (pid_of m) o (stands_in slots es)) ≡ true
+    here None m same more = more
+    here (Some q) m same more =
+        let passed : t q ≡ true = ap t (some_same q was same) ∙ passes in
+        (λ i. (not (eqb m n) || passed i) && more i) ∙ or_true (not (eqb m n))
+
+    elsewhere : (o : Option Held) (m : ℕ) → eqb m n ≡ false → passes_at t (pid_of n) (stands_in slots es) ≡ true → passes_at t (pid_of n) (in_slot (pid_of m) o (stands_in slots es)) ≡ true
+    elsewhere None m other more = more
+    elsewhere (Some q) m other more = λ i. ((λ j. (not (other j) || t q) && passes_at t (pid_of n) (stands_in slots es)) ∙ more) i
+
+    by_test : (b : Bool) → eqb e.1 key ≡ b → passes_at t (pid_of n) (stands_in slots es) ≡ true → passes_at t (pid_of n) (stands_in slots (e ∷ es)) ≡ true
+    by_test true is more = here (get slots e.1) e.0 (ap (get slots) (eqb-true e.1 key is) ∙ there) more
+    by_test false is more = elsewhere (get slots e.1) e.0 (one.0 ∙ is) more
 
 -- ---- a slot is written
 

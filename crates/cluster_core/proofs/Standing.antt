@@ -1,7 +1,9 @@
 -- How a process that is here stands: a letter that comes to it, and its steps of roll-forward.
-use Rattle.std.proofs.Common.{◌≡◌, ℕ, zero, suc, ◌+◌, ◌≤◌, ◌<◌, false, Option, Some, None, option_and_then, refl, sym, subst, arith}
+use Rattle.std.proofs.Common.{◌≡◌, ℕ, zero, suc, ◌+◌, ◌≤◌, ◌<◌, true, false, Option, Some, None, option_map, option_and_then, refl, sym, subst, arith}
 use Rattle.std.proofs.lemmas.Bool.{false≢true}
 use Rattle.std.specs.Prelude.{IsTrue, min, Result, Ok, Err, OnOk, OnErr}
+use Rattle.std.specs.Option.{IfSome}
+use Rattle.t32_base.specs.Small.{SmallState}
 use Rattle.t32_base.specs.declared.process.Counts.{Counts}
 use Rattle.t32_base.specs.declared.letter.Letter.{Letter}
 use Rattle.t32_base.specs.declared.streams.NoMemory.{NoMemory}
@@ -13,9 +15,13 @@ use Rattle.sys_calls.specs.Next.{next_step}
 use Rattle.sys_calls.proofs.Quiet.{no_fork}
 use Rattle.write_count.specs.Counting.{lowered}
 use Rattle.roll_forward.specs.RunsOut.{RunsOn, RunsOut}
-use Rattle.roll_forward.specs.Rolling.{RollingState}
+use Rattle.roll_forward.specs.Rolling.{CanRoll, RollingState}
 use Rattle.roll_forward.specs.Advancing.{Going, going_of, gone_on, rolled_on}
+use Rattle.roll_forward.proofs.AheadLaws.{runs_out_ahead}
 use Rattle.roll_forward.proofs.Delivering.{RunsOut-delivered}
+use Rattle.plain_kernel.proofs.Entries.{some_same}
+use Rattle.recovery.specs.Begun.{begun}
+use Rattle.page_waits.specs.Waiting.{WaitingState, CanGoOn, rolling_of, start_of}
 use Rattle.cluster_core.specs.declared.resident.Standing.TheVariants.{Runs as IsRunning, Rolls as IsRolling}
 use Rattle.cluster_core.specs.View.{arrived}
 use Rattle.cluster_core.specs.Quantum.{RollsOn}
@@ -34,6 +40,19 @@ delivered_stands old new letter (Ok done) stands is left same =
     subst (λ (s : ProcState). RunsOut s old.counts old.births old.ahead) (sym is) (RunsOut-delivered old.ahead (state_of old.process) letter old.counts old.births stands.1) in
     subst (λ (r : RollingState). StandsSo (Some (IsRolling r))) (sym left) (stands.0, runs)
 delivered_stands old new letter (Err fault) stands is left same = subst (λ (r : RollingState). StandsSo (Some (IsRolling r))) (sym same) stands
+
+-- ---- a page
+
+-- one whose pages have all come runs out where it goes on
+pub goes_on_runs_out : (w : WaitingState) (r : RollingState) → CanGoOn w → rolling_of w ≡ Some r → RunsOut (state_of r.process) r.counts r.births r.ahead
+goes_on_runs_out w r can is = by_state (w.kept).state can is
+  where
+    by_state : (o : Option SmallState) → IfSome o (λ small. CanRoll (start_of w small) (w.kept).counts (w.kept).births) → option_map (λ (small : SmallState). begun (start_of w small) w.kept) o ≡ Some r
+        → RunsOut (state_of r.process) r.counts r.births r.ahead
+    by_state None can is = cc
+    by_state (Some small) can is =
+        subst (λ (r : RollingState). RunsOut (state_of r.process) r.counts r.births r.ahead) (some_same (begun (start_of w small) w.kept) r is)
+        (runs_out_ahead (start_of w small) (w.kept).counts (w.kept).births can)
 
 -- ---- steps of roll-forward
 

@@ -1,5 +1,5 @@
 -- An entry without an item leaves the kernel without failures as it is: what a cluster holds of its processes beside at most one post stays what the log says.
-use Rattle.std.proofs.Common.{◌≡◌, ℕ, ◌-◌, refl, ap, List, [], ◌∷◌, ◌++◌, Bool, true, false, cond, Option, Some, None}
+use Rattle.std.proofs.Common.{◌≡◌, ◌⊎◌, ℕ, ◌-◌, refl, sym, ◌∙◌, ap, List, [], ◌∷◌, ◌++◌, Bool, true, false, cond, Option, Some, None, inl, inr}
 use Rattle.std.specs.Prelude.{option_map, option_and_then}
 use Rattle.std.specs.Option.{option_map_or}
 use Rattle.t32_base.specs.declared.process.Pid.{Pid}
@@ -11,14 +11,20 @@ use Rattle.plain_kernel.specs.Kernel.{Kernel, process_at}
 use Rattle.bus_msg.specs.declared.entry.What.{What}
 use Rattle.bus_msg.specs.declared.entry.Post.{Post}
 use Rattle.bus_msg.specs.declared.entry.Entry.{Entry}
+use Rattle.bus_msg.specs.Places.{same_pid}
 use Rattle.bus_msg.specs.PlacedAfter.{what}
-use Rattle.cert_sched.specs.Built.{TellingMayFollow, tells_or_closes}
+use Rattle.cert_sched.specs.Built.{UnlostMayFollow, tells_or_closes}
 use Rattle.cert_sched.specs.Schedule.{done, items_of, plain_after}
-use Rattle.cert_sched.specs.Steps.{after_items, emission_at, silent_upto}
+use Rattle.cert_sched.specs.Steps.{after_items, emission_at, process_of, silent_upto}
 use Rattle.cert_sched.proofs.LogLaws.{no_items}
 use Rattle.cluster_core.specs.Parts.{posts_of}
-use Rattle.cluster_core.specs.Queue.{IsQueueLegal, is_move_of, state_by, state_now, taken_by}
-use Rattle.cluster_core.proofs.ByKind.{by_kind}
+use Rattle.cluster_core.specs.Queue.{IsQueueLegal, is_move_of, state_by, state_now, taken_by, tells_steps}
+use Rattle.cluster_core.proofs.ByKind.{by_kind, by_page, is_of_page, unlost_is}
+
+-- a post of a page moves no process
+pub page_moves_none : (p : Pid) (post : Post) → is_of_page post.what ≡ true → is_move_of p post ≡ false
+page_moves_none p post of =
+    by_page (λ w. cond (tells_steps w) (option_map_or (λ q. same_pid q p) (process_of w) false) false ≡ false) (λ pid index. refl) (λ pid index bytes. refl) post.what of
 
 module _ (system : System) (log : List Entry) (e : Entry) (none : (k : Kernel) → items_of k (what e) ≡ []) where
   abbrev later : List Entry
@@ -41,10 +47,17 @@ module _ (system : System) (log : List Entry) (e : Entry) (none : (k : Kernel) �
       (λ at letter. ap (option_map (λ (r : Emission × ProcState). r.1)) (emission_same letter.from at)) (λ pid at end. ap (option_map (λ (r : Emission × ProcState). r.1)) (emission_same pid at)) (λ rests. refl) refl
 
   -- a process stands where it stood, beside at most one post
-  pub state_same : (q : Option Post) (p : Pid) (steps : ℕ) → IsQueueLegal TellingMayFollow system log (posts_of q) → state_now system later (posts_of q) p steps ≡ state_now system log (posts_of q) p steps
+  pub state_same : (q : Option Post) (p : Pid) (steps : ℕ) → IsQueueLegal UnlostMayFollow system log (posts_of q) → state_now system later (posts_of q) p steps ≡ state_now system log (posts_of q) p steps
   state_same None p steps legal = silent_same p steps
-  state_same (Some post) p steps legal = by_move (is_move_of p post)
+  state_same (Some post) p steps legal = by_what (unlost_is post.what (legal.0).built)
     where
-      by_move : (b : Bool) → state_by system later p steps (option_map (λ (post : Post). post.what) (cond b (Some post) None)) ≡ state_by system log p steps (option_map (λ (post : Post). post.what) (cond b (Some post) None))
-      by_move true = ap (option_map (taken_by post.what)) (items_same post.what (legal.0).built)
-      by_move false = silent_same p steps
+      now_at : List Entry → Bool → Option ProcState
+      now_at entries b = state_by system entries p steps (option_map (λ (post : Post). post.what) (cond b (Some post) None))
+
+      by_move : (b : Bool) → tells_or_closes post.what ≡ true → now_at later b ≡ now_at log b
+      by_move true tells = ap (option_map (taken_by post.what)) (items_same post.what tells)
+      by_move false tells = silent_same p steps
+
+      by_what : (tells_or_closes post.what ≡ true) ⊎ (is_of_page post.what ≡ true) → now_at later (is_move_of p post) ≡ now_at log (is_move_of p post)
+      by_what (inl tells) = by_move (is_move_of p post) tells
+      by_what (inr of) = ap (now_at later) (page_moves_none p post of) ∙ silent_same p steps ∙ ap (now_at log) (sym (page_moves_none p post of))

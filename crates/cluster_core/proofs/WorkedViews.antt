@@ -32,13 +32,16 @@ use Rattle.bus_msg.specs.declared.entry.Post.{Post}
 use Rattle.bus_msg.specs.Places.{same_pid}
 use Rattle.cert_sched.specs.Schedule.{plain_after, placement}
 use Rattle.cert_sched.specs.Told.{told}
+use Rattle.cert_sched.specs.Rules.{has_its_pages}
 use Rattle.cert_sched.specs.Record.{backup_record}
 use Rattle.cert_sched.specs.Account.{Account, account_after, page_in}
 use Rattle.cert_sched.specs.Steps.{silent_upto, emission_at}
 use Rattle.backup_records.specs.Records.{record_in}
 use Rattle.record_laws.specs.Kept.{has_backup_in}
-use Rattle.cluster_core.specs.View.{ClusterView, Held, Runs, Waits, account_at, held_of}
-use Rattle.cluster_core.specs.Holds.{GetsPages, HoldsAccounts, HoldsMarks, HoldsPages, HoldsRecords, IsMarked, MarkedIfThere, unended_process}
+use Rattle.page_waits.specs.Waiting.{WaitingState}
+use Rattle.wait_laws.specs.Waits.{WaitsAs, none_queued}
+use Rattle.cluster_core.specs.View.{ClusterView, Held, Runs, account_at, held_of}
+use Rattle.cluster_core.specs.Holds.{HoldsAccounts, HoldsMarks, HoldsPages, HoldsRecords, IsMarked, MarkedIfThere, is_fetch_queued, unended_process}
 use Rattle.cluster_core.specs.Queue.{with_queue}
 use Rattle.cluster_core.proofs.Here.{pid_same}
 
@@ -122,7 +125,6 @@ empty_view system n log = record {
   cursor = 0;
   places = placement system log;
   here = [];
-  pages = [];
   records = [];
   server = None;
   queue = [];
@@ -142,6 +144,16 @@ both a b P first second p h at = by_tests (same_pid a.0 p) (same_pid b.0 p) refl
     by_tests true y is other found = let same : a.1 ≡ h = cc in moved a is same first
     by_tests false true other is found = let same : b.1 ≡ h = cc in moved b is same second
     by_tests false false other another found = cc
+
+-- and of one
+one : (a : Pid × Held) (P : Pid → Held → Type 0) → P a.0 a.1 → (p : Pid) (h : Held) → held_of (a ∷ []) p ≡ Some h → P p h
+one a P first p h at = by_test (same_pid a.0 p) refl at
+  where
+    by_test : (x : Bool) → same_pid a.0 p ≡ x → option_map (λ (e : Pid × Held). e.1) (cond x (Some a) None) ≡ Some h → P p h
+    by_test true is found =
+        let same : a.1 ≡ h = cc in
+        subst (λ x. P p x) same (subst (λ q. P q a.1) (pid_same a.0 p (eqb-true (a.0).0 p.0 is)) first)
+    by_test false other found = cc
 
 -- what holds of the one page of a process
 one_page : (P : ℕ → Type 0) → P 0 → (i : ℕ) → i < 1 → P i
@@ -217,7 +229,7 @@ records_refused : HoldsRecords far_system (far_0 ∷ []) (records_view no_counts
 unfolding boot one_step steps silently plain_after placement told silent_upto emission_at backup_record
 records_refused records = differ 0 1 refl (ap (λ (o : Option BackRec). option_map_or (λ (r : BackRec). get_or (r.counts).ends 1 0) o 0) (records (pid 17)))
 
--- ---- pages: cluster 0 is lost after the page and before the synchronisation of the reader
+-- ---- waits and pages: cluster 0 is lost after the page and before the synchronisation of the reader, and cluster 1 asks for that page
 
 abbrev far_1 : Entry
 far_1 = entry 1 (by_cluster 1) 3 (Mail 10 (record { from = pid 17; out = 1; to = Proc (pid 16) 1; body = EndOf }))
@@ -235,30 +247,76 @@ far_2 = entry 2 (by_cluster 0) 3 (Page (pid 16) 6 0 read_page)
 abbrev far_3 : Entry
 far_3 = entry 3 Bus 3 (Crash (cluster 0) Place)
 
+abbrev fetch_of : Post
+fetch_of = record { by = by_cluster 1; what = Fetch (pid 16) 0 }
+
 abbrev far_4 : Entry
 far_4 = entry 4 (by_cluster 1) 2 (Fetch (pid 16) 0)
 
 abbrev far_5 : Entry
 far_5 = entry 5 (by_cluster 1) 2 (PageIs (pid 16) 0 (image_page reader_words))
 
+abbrev lost_log : List Entry
+lost_log = far_0 ∷ far_1 ∷ far_2 ∷ far_3 ∷ []
+
+abbrev asked_log : List Entry
+asked_log = far_0 ∷ far_1 ∷ far_2 ∷ far_3 ∷ far_4 ∷ []
+
 abbrev fetched_log : List Entry
 fetched_log = far_0 ∷ far_1 ∷ far_2 ∷ far_3 ∷ far_4 ∷ far_5 ∷ []
 
+-- both letters were saved for it
 abbrev reader_record : BackRec
-reader_record = record { pid = pid 16; state = Some (upto far_system [] 16 0).small; saved = []; next = 0; counts = no_counts; births = [] }
+reader_record = record {
+  pid = pid 16;
+  state = Some (upto far_system [] 16 0).small;
+  saved = record { number = 0; letter = written_by 17 } ∷ record { number = 1; letter = record { from = pid 17; out = 1; to = Proc (pid 16) 1; body = EndOf } } ∷ [];
+  next = 2;
+  counts = no_counts;
+  births = [];
+}
 
--- the reader waits in cluster 1, with this page
-abbrev pages_view : List ℕ → ClusterView
-pages_view page = record (empty_view far_system 1 fetched_log) { here = (pid 16, Waits reader_record) ∷ []; pages = record { pid = pid 16; index = 0; asked = true; page = Some page } ∷ [] }
+-- it has asked for so many pages, and its page has come or not
+abbrev reader_waits : ℕ → Option (List ℕ) → WaitingState
+reader_waits asked page = record { kept = reader_record; asked = asked; come = page ∷ [] }
 
-pages_got : GetsPages far_system fetched_log (pages_view (image_page reader_words)) (pid 16)
+-- nothing is asked for at first
+waits_first : WaitsAs far_system lost_log (pid 16) none_queued (reader_waits 0 None)
 unfolding boot one_step steps silently plain_after placement told silent_upto emission_at backup_record account_after
-pages_got = record { asked = one_page _ refl; come = one_page _ refl }
+waits_first = record { kept = refl; moved = refl; pages = refl; some = omega arith; at_most = omega arith; asked = one_page _ refl; come = one_page _ refl }
 
--- it is the page of its start, and not the one that was sent before the synchronisation
-pages_refused : HoldsPages far_system fetched_log (pages_view read_page) → ⊥
+-- its page is asked for where its fetch is queued, and still where that stands in the log
+waits_queued : WaitsAs far_system lost_log (pid 16) (is_fetch_queued (pid 16) (fetch_of ∷ [])) (reader_waits 1 None)
 unfolding boot one_step steps silently plain_after placement told silent_upto emission_at backup_record account_after
-pages_refused pages = differ 120 0 refl (ap (λ (o : Option (List ℕ)). option_map_or (λ bytes. get_or bytes 52 0) o 0) (((pages.waits) (pid 16) reader_record refl refl).come 0 (lit< tt)))
+waits_queued = record { kept = refl; moved = refl; pages = refl; some = omega arith; at_most = omega arith; asked = one_page _ refl; come = one_page _ refl }
+
+waits_asked : WaitsAs far_system asked_log (pid 16) none_queued (reader_waits 1 None)
+unfolding boot one_step steps silently plain_after placement told silent_upto emission_at backup_record account_after
+waits_asked = record { kept = refl; moved = refl; pages = refl; some = omega arith; at_most = omega arith; asked = one_page _ refl; come = one_page _ refl }
+
+-- the page that comes is that of its start
+waits_whole : WaitsAs far_system fetched_log (pid 16) none_queued (reader_waits 1 (Some (image_page reader_words)))
+unfolding boot one_step steps silently plain_after placement told silent_upto emission_at backup_record account_after
+waits_whole = record { kept = refl; moved = refl; pages = refl; some = omega arith; at_most = omega arith; asked = one_page _ refl; come = one_page _ refl }
+
+-- and not the one that was sent before the synchronisation
+waits_refused : WaitsAs far_system fetched_log (pid 16) none_queued (reader_waits 1 (Some read_page)) → ⊥
+unfolding boot one_step steps silently plain_after placement told silent_upto emission_at backup_record account_after
+waits_refused waits = differ 120 0 refl (ap (λ (o : Option (Option (List ℕ))). option_map_or (λ (o : Option (List ℕ)). option_map_or (λ bytes. get_or bytes 52 0) o 0) o 0) (waits.come 0 (lit< tt)))
+
+-- the reader runs in cluster 1
+abbrev runs_view : List Entry → ClusterView
+runs_view log = record (empty_view far_system 1 log) { here = (pid 16, Runs (unmarked (upto far_system [] 16 0))) ∷ [] }
+
+-- so it may after its page,
+pages_held : HoldsPages far_system fetched_log (runs_view fetched_log)
+unfolding boot one_step steps silently plain_after placement told silent_upto emission_at backup_record account_after
+pages_held p h at some = one (pid 16, Runs (unmarked (upto far_system [] 16 0))) (λ p h. has_its_pages far_system fetched_log p ≡ true) refl p h at
+
+-- and not before it
+pages_refused : HoldsPages far_system asked_log (runs_view asked_log) → ⊥
+unfolding boot one_step steps silently plain_after placement told silent_upto emission_at backup_record account_after
+pages_refused pages = true≢false (sym (pages (pid 16) (Runs (unmarked (upto far_system [] 16 0))) refl refl))
 
 -- ---- accounts: the reader has synchronised
 

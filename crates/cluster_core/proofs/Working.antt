@@ -1,5 +1,5 @@
 -- A cluster that works goes on to follow each log that it followed.
-use Rattle.std.proofs.Common.{◌≡◌, ℕ, zero, suc, ◌+◌, ◌-◌, ◌≤◌, ◌<◌, refl, sym, ◌∙◌, ap, subst, arith, List, [], ◌∷◌, Bool, true, false, cond, not, ◌&&◌, ◌||◌, eqb-true, eq-eqb, add-zero, Option, Some, None, is_some, true≢false}
+use Rattle.std.proofs.Common.{◌≡◌, ℕ, zero, suc, ◌+◌, ◌-◌, ◌≤◌, ◌<◌, refl, sym, ◌∙◌, ap, subst, arith, List, [], ◌∷◌, Bool, true, false, cond, not, ◌&&◌, ◌||◌, eqb-true, eq-eqb, add-zero, Option, Some, None, is_some, inr, true≢false}
 use Rattle.std.specs.Prelude.{option_map, option_and_then, find}
 use Rattle.std.specs.Option.{option_map_or}
 use Rattle.t32_base.specs.declared.process.Pid.{Pid}
@@ -22,37 +22,37 @@ use Rattle.bus_msg.specs.Places.{Places, same_pid, same_cluster}
 use Rattle.cert_sched.specs.Parts.{rising}
 use Rattle.cert_sched.specs.Schedule.{placement, process_after, done_after}
 use Rattle.cert_sched.specs.Steps.{silent_upto, emission_at, after_items}
-use Rattle.cert_sched.specs.Rules.{is_by, is_living, is_by_home, is_by_right, home_at}
+use Rattle.cert_sched.specs.Rules.{has_its_pages, is_by, is_living, is_by_home, is_by_right, home_at}
 use Rattle.cert_sched.specs.Kinds.{KindHolds}
 use Rattle.cert_sched.specs.Legal.{IsLegalBy}
-use Rattle.cert_sched.specs.Built.{tells_or_closes, BuiltMayFollow, TellingMayFollow}
-use Rattle.cert_sched.specs.Losses.{least_steps, capped, is_from}
+use Rattle.cert_sched.specs.Built.{is_unlost, BuiltMayFollow, KeepsWaits, UnlostMayFollow}
+use Rattle.cert_sched.specs.Losses.{least_steps, capped, is_from, is_page_is_entry}
 use Rattle.cert_sched.specs.Appended.{entry_of}
 use Rattle.cert_sched.proofs.UnlostLaws.{built_births}
 use Rattle.cert_sched.proofs.StepLaws.{Tells, sent_applies}
-use Rattle.cluster_core.specs.declared.worked.Worked.TheVariants.{Moved, Queued, Rests}
+use Rattle.cluster_core.specs.declared.worked.Worked.TheVariants.{Moved, Queued}
 use Rattle.cluster_core.specs.View.{ClusterView, Held, Runs, Rolls, Waits, can_act, held_at, held_of, next_count, counted_once, tried_once}
-use Rattle.cluster_core.specs.Residents.{pids_in, with_changed, are_stuck}
-use Rattle.cluster_core.specs.Parts.{IsOwn, AllOwn}
+use Rattle.cluster_core.specs.Residents.{pids_in, with_changed}
+use Rattle.cluster_core.specs.Parts.{IsOwn}
 use Rattle.cluster_core.proofs.Served.{accounts_queued}
 use Rattle.cluster_core.specs.Queue.{IsQueueLegal, move_of, taken_by, state_by, state_now}
-use Rattle.cluster_core.specs.Holds.{IsHeldAs}
+use Rattle.cluster_core.specs.Holds.{HoldsPages, IsHeldAs, is_fetch_queued, process_in}
 use Rattle.cluster_core.specs.Follows.{FollowsBuilt, IsOpen}
-use Rattle.cluster_core.specs.Calls.{GoesOn, WorkIs, is_at_rest, are_at_rest}
+use Rattle.cluster_core.specs.Calls.{GoesOn, OwesNothing, WorkIs, is_at_rest, are_at_rest}
 use Rattle.cluster_core.specs.declared.quantum.Sending.{Sending}
 use Rattle.cluster_core.specs.Quantum.{Moves, RollsTo, RunsTo, Sends, told_of, post_told}
 use Rattle.cluster_core.proofs.Here.{FoundChanged, found_changed, is_among, pid_same, pids_changed}
 use Rattle.cluster_core.proofs.Telling.{done_is}
 use Rattle.cluster_core.proofs.Quanta.{moves_can, sends_can}
 use Rattle.cluster_core.proofs.Catching.{rolled_held}
-use Rattle.cluster_core.proofs.Owning.{stuck_rest}
+use Rattle.cluster_core.proofs.Waiting.{queued_alike}
 use Rattle.cluster_core.proofs.Homes.{HomeHere, differ_built, home_here, home_lives}
 use Rattle.cluster_core.proofs.Following.{no_child}
 
 -- ---- kernel steps
 
 -- one kernel step more is still enough
-more_counted : (n s : ℕ) → capped n ≤ s → capped n ≤ next_count s
+pub more_counted : (n s : ℕ) → capped n ≤ s → capped n ≤ next_count s
 more_counted n s h = omega (arith, h)
 
 -- ---- silent steps in two parts
@@ -118,10 +118,7 @@ ahead_sent system log p s b t n e is silent sends =
 pub held_before : (c : ClusterView) (log : List Entry) (p : Pid) (s : Process) → c.queue ≡ [] → FollowsBuilt c.system log c → held_at c p ≡ Some (Runs s) → silent_upto c.system log p (s.small).steps ≡ Some (state_of s)
 held_before c log p s empty f there = ap (λ ps. state_now c.system log ps p (s.small).steps) (sym empty) ∙ (f.processes).held p (Runs s) there
 
--- ---- all rest
-
-pub rested : (c : ClusterView) → AllOwn c.cursor c.here → are_stuck c.here ≡ true → WorkIs c Rests (counted_once c)
-rested c own stuck = (stuck_rest c.cursor c.here own ∙ stuck, refl)
+-- ---- nothing can move
 
 pub goes_on_rested : (c : ClusterView) → GoesOn c (counted_once c)
 goes_on_rested c log now f = record {
@@ -129,8 +126,10 @@ goes_on_rested c log now f = record {
   processes = record { held = (f.processes).held; each_once = (f.processes).each_once };
   queue = record { own = (f.queue).own; legal = (f.queue).legal };
   steps = record { counted = λ kept. more_counted (least_steps log log c.number + cond c.tried 1 0) c.steps ((f.steps).counted kept) };
+  pages = f.pages;
   records = f.records;
   accounts = record { keeps = (f.accounts).keeps; there = (f.accounts).there; calls = (f.accounts).calls };
+  disk = f.disk;
 }
 
 -- ---- its head was tried
@@ -146,8 +145,10 @@ follows_tried c log f = record {
   processes = record { held = (f.processes).held; each_once = (f.processes).each_once };
   queue = record { own = (f.queue).own; legal = (f.queue).legal };
   steps = record { counted = λ kept. more_tried (least_steps log log c.number) c.steps c.tried ((f.steps).counted kept) };
+  pages = f.pages;
   records = f.records;
   accounts = record { keeps = (f.accounts).keeps; there = (f.accounts).there; calls = (f.accounts).calls };
+  disk = f.disk;
 }
 
 pub goes_on_tried : (c : ClusterView) → GoesOn c (tried_once c)
@@ -174,7 +175,7 @@ some_moves (e ∷ here) p h there can = by_test (same_pid e.0 p) there (some_mov
     moves : (h : Held) → can_act h ≡ true → is_at_rest h ≡ false
     moves (Runs s) can = ap (λ b. not (b || can_take (state_of s))) can
     moves (Rolls s counts births) can = refl
-    moves (Waits kept) can = refl
+    moves (Waits waiting) can = refl
 
     by_test : (b : Bool) → option_map (λ (e : Pid × Held). e.1) (cond b (Some e) (find (λ (e : Pid × Held). same_pid e.0 p) here)) ≡ Some h
         → (held_of here p ≡ Some h → can_act h ≡ true → are_at_rest here ≡ false) → are_at_rest (e ∷ here) ≡ false
@@ -183,14 +184,15 @@ some_moves (e ∷ here) p h there can = by_test (same_pid e.0 p) there (some_mov
         first (is_at_rest e.1) (are_at_rest here) (ap is_at_rest (sym same) ∙ moves h can)
     by_test false is more = none (is_at_rest e.1) (are_at_rest here) (more is can)
 
-pub moved_work : (c : ClusterView) (p : Pid) (was now : Held) → held_at c p ≡ Some was → Moves 64 was now → WorkIs c Moved (moved_view c (with_changed p now c.here))
-moved_work c p was now there moves = (
+pub moved_work : (c : ClusterView) (p : Pid) (was now : Held) → OwesNothing c → held_at c p ≡ Some was → Moves 64 was now → WorkIs c Moved (moved_view c (with_changed p now c.here))
+moved_work c p was now nothing there moves = (
+  nothing,
   some_moves c.here p was there (moves_can 64 was now moves),
   record { pid = p; was = was; now = now; there = there; moves = moves; rest = refl },
 )
 
 -- what is held after one process has changed, where the others are held as before
-held_beside : (c : ClusterView) (log : List Entry) (p : Pid) (now : Held) (queue : List Post) → FollowsBuilt c.system log c
+pub held_beside : (c : ClusterView) (log : List Entry) (p : Pid) (now : Held) (queue : List Post) → FollowsBuilt c.system log c
     → IsHeldAs c.system log queue p now → ((q : Pid) (h : Held) → same_pid q p ≡ false → IsHeldAs c.system log c.queue q h → IsHeldAs c.system log queue q h)
     → (q : Pid) (h : Held) → held_of (with_changed p now c.here) q ≡ Some h → IsHeldAs c.system log queue q h
 held_beside c log p now queue f mine others q h at = by_pid (same_pid q p) refl
@@ -205,6 +207,24 @@ held_beside c log p now queue f mine others q h at = by_pid (same_pid q p) refl
     by_pid false other =
         let old : IsHeldAs c.system log c.queue q w.was = (f.processes).held q w.was w.there in
         subst (λ (x : Held). IsHeldAs c.system log queue q x) (sym (w.is.1 other)) (others q w.was other old)
+
+-- who can move runs or rolls forward
+can_in : (h : Held) → can_act h ≡ true → is_some (process_in h) ≡ true
+can_in (Runs s) can = refl
+can_in (Rolls s counts births) can = refl
+can_in (Waits waiting) can = absurd (true≢false (sym can))
+
+-- the others have their pages as before
+pub pages_beside : (c : ClusterView) (log : List Entry) (p : Pid) (now : Held) → HoldsPages c.system log c → (is_some (process_in now) ≡ true → has_its_pages c.system log p ≡ true)
+    → (q : Pid) (h : Held) → held_of (with_changed p now c.here) q ≡ Some h → is_some (process_in h) ≡ true → has_its_pages c.system log q ≡ true
+pages_beside c log p now pages mine q h at = by_pid (same_pid q p) refl
+  where
+    w : FoundChanged p now c.here q h
+    w = found_changed p now c.here q h at
+
+    by_pid : (b : Bool) → same_pid q p ≡ b → is_some (process_in h) ≡ true → has_its_pages c.system log q ≡ true
+    by_pid true own some = ap (has_its_pages c.system log) (pid_same q p (eqb-true q.0 p.0 own)) ∙ mine (ap (λ x. is_some (process_in x)) (sym (w.is.0 own)) ∙ some)
+    by_pid false other some = pages q w.was w.there (ap (λ x. is_some (process_in x)) (sym (w.is.1 other)) ∙ some)
 
 -- a process of a cluster that follows a log, with its cluster
 module _ (c : ClusterView) (p : Pid) (was : Held) (empty : c.queue ≡ []) (there : held_at c p ≡ Some was) (valid : is_system c.system ≡ true) (log : List Entry) (now : IsOpen BuiltMayFollow c.system log) (f : FollowsBuilt c.system log c) where
@@ -224,9 +244,9 @@ module _ (c : ClusterView) (p : Pid) (was : Held) (empty : c.queue ≡ []) (ther
       by_parts : (between new : Held) → IsHeldAs c.system log [] p between → RunsTo m.silent between new → IsHeldAs c.system log [] p new
       by_parts (Runs q) (Runs r) held runs = ahead_moved c.system log p (state_of q) (state_of r) m.silent held runs
       by_parts (Runs q) (Rolls r left unborn) held runs = absurd runs
-      by_parts (Runs q) (Waits kept) held runs = absurd runs
+      by_parts (Runs q) (Waits waiting) held runs = absurd runs
       by_parts (Rolls q left unborn) new held runs = subst (λ (x : Held). IsHeldAs c.system log [] p x) (sym runs.1) held
-      by_parts (Waits kept) new held runs = absurd runs
+      by_parts (Waits waiting) new held runs = absurd runs
 
 pub moved_goes_on : (c : ClusterView) (p : Pid) (was new : Held) → is_system c.system ≡ true → c.queue ≡ [] → held_at c p ≡ Some was → Moves 64 was new → GoesOn c (moved_view c (with_changed p new c.here))
 moved_goes_on c p was new valid empty there moves log go f = record {
@@ -237,8 +257,10 @@ moved_goes_on c p was new valid empty there moves log go f = record {
   };
   queue = record { own = (f.queue).own; legal = (f.queue).legal };
   steps = record { counted = λ kept. more_counted (least_steps log log c.number + cond c.tried 1 0) c.steps ((f.steps).counted kept) };
+  pages = pages_beside c log p new f.pages (λ some. f.pages p was there (can_in was (moves_can 64 was new moves)));
   records = f.records;
   accounts = record { keeps = (f.accounts).keeps; there = (f.accounts).there; calls = (f.accounts).calls };
+  disk = f.disk;
 }
 
 -- ---- one of them posted something
@@ -247,9 +269,19 @@ abbrev pub posted_view : ClusterView → List (Pid × Held) → Post → Cluster
 posted_view c here post = record c { here = here; queue = post ∷ []; steps = next_count c.steps }
 
 -- whatever is posted is of a kind that is built
-built_of : (pid : Pid) (at : ℕ) (e : Emission) → tells_or_closes (told_of pid at e) ≡ true
+built_of : (pid : Pid) (at : ℕ) (e : Emission) → is_unlost (told_of pid at e) ≡ true
 built_of pid at (Sent letter) = refl
 built_of pid at (Ended end) = refl
+
+-- and no page
+no_page_of : (pid : Pid) (at : ℕ) (e : Emission) → is_page_is_entry (told_of pid at e) ≡ false
+no_page_of pid at (Sent letter) = refl
+no_page_of pid at (Ended end) = refl
+
+-- it waits for no pages of the process
+waits_of_post : (system : System) (log : List Entry) (pid : Pid) (at : ℕ) (k : ClusterNo) (e : Emission) → Tells pid at e (told_of pid at e) → has_its_pages system log pid ≡ true → KeepsWaits system log (entry_of system log (post_told k pid at e))
+waits_of_post system log pid at k (Sent letter) tells has = ap (has_its_pages system log) tells.0 ∙ has
+waits_of_post system log pid at k (Ended end) tells has = has
 
 -- what is posted tells of the process
 tells_of : (s t : ProcState) (pid : Pid) (at : ℕ) (e : Emission) → next_step s ≡ Emits e t → (s.small).pid ≡ pid → Tells pid at e (told_of pid at e)
@@ -275,13 +307,13 @@ right_of_post : (places : Places) (k : ClusterNo) (pid : Pid) (at : ℕ) (e : Em
 right_of_post places k pid at (Sent letter) tells h = ap (λ p. is_by_home places (Cluster k) (Some p)) tells.0 ∙ h
 right_of_post places k pid at (Ended end) tells h = h
 
-home_by : (places : Places) (k : ClusterNo) (p : Pid) → is_living places (Cluster k) ≡ true → HomeHere places p k → is_by_home places (Cluster k) (Some p) ≡ true
+pub home_by : (places : Places) (k : ClusterNo) (p : Pid) → is_living places (Cluster k) ≡ true → HomeHere places p k → is_by_home places (Cluster k) (Some p) ≡ true
 home_by places k p lives here =
     let home : home_at places p ≡ Some (here.placed).home = ap (option_map (λ (q : Placed). q.home)) here.found in
     let same : same_cluster k (here.placed).home ≡ true = eq-eqb k.0 ((here.placed).home).0 (sym (eqb-true ((here.placed).home).0 k.0 here.home)) in
     (λ i. lives i && is_by (Cluster k) (home i)) ∙ same
 
-turned : (p q : Pid) → same_pid q p ≡ false → same_pid p q ≡ false
+pub turned : (p q : Pid) → same_pid q p ≡ false → same_pid p q ≡ false
 turned p q other = by_test (same_pid p q) refl
   where
     by_test : (b : Bool) → same_pid p q ≡ b → b ≡ false
@@ -292,6 +324,11 @@ turned p q other = by_test (same_pid p q) refl
 moves_no_other : (pid q : Pid) (at : ℕ) (k : ClusterNo) (e : Emission) → Tells pid at e (told_of pid at e) → same_pid q pid ≡ false → move_of q (post_told k pid at e ∷ []) ≡ None
 moves_no_other pid q at k (Sent letter) tells other = ap (λ b. option_map (λ (post : Post). post.what) (cond b (Some (post_told k pid at (Sent letter))) None)) (ap (λ r. same_pid r q) tells.0 ∙ turned pid q other)
 moves_no_other pid q at k (Ended end) tells other = ap (λ b. option_map (λ (post : Post). post.what) (cond b (Some (post_told k pid at (Ended end))) None)) (turned pid q other)
+
+-- it asks for no page
+fetches_none : (pid q : Pid) (at : ℕ) (k : ClusterNo) (e : Emission) (i : ℕ) → is_fetch_queued q (post_told k pid at e ∷ []) i ≡ false
+fetches_none pid q at k (Sent letter) i = refl
+fetches_none pid q at k (Ended end) i = refl
 
 -- what it was, where its quantum sent something
 module _ (c : ClusterView) (p : Pid) (was : Held) (sending : Sending) (new : Held) (s : Sends 64 was sending new) (post : Post)
@@ -318,7 +355,7 @@ module _ (c : ClusterView) (p : Pid) (was : Held) (sending : Sending) (new : Hel
     emission_is : emission_at c.system log p at ≡ Some (e, state_of s.now)
     emission_is = ahead_sent c.system log p (state_of s.between) s.before (state_of s.now) s.silent e (held_between c p was empty there valid log go f s.rolled (Runs s.between) s.rolls) s.runs s.sends
 
-    may_follow : TellingMayFollow c.system log (entry_of c.system log (post_told c.number p at e))
+    may_follow : UnlostMayFollow c.system log (entry_of c.system log (post_told c.number p at e))
     may_follow = record {
       stands = record {
         placed = (refl, refl, go.1);
@@ -329,6 +366,7 @@ module _ (c : ClusterView) (p : Pid) (was : Held) (sending : Sending) (new : Hel
         kind = kind_of_post c.system log c.number p at e (state_of s.now) tells emission_is go.0;
       };
       built = built_of p at e;
+      pages = waits_of_post c.system log p at c.number e tells (f.pages p was there (can_in was (sends_can 64 was sending new s)));
     }
 
     -- the others are held as before, since the post moves none of them
@@ -337,7 +375,10 @@ module _ (c : ClusterView) (p : Pid) (was : Held) (sending : Sending) (new : Hel
         ap (λ (x : Post). state_now c.system log (x ∷ []) q (r.small).steps) post_is ∙ ap (state_by c.system log q (r.small).steps) (moves_no_other p q at c.number e tells other)
         ∙ sym (ap (λ ps. state_now c.system log ps q (r.small).steps) empty) ∙ as_before
     others q (Rolls r counts births) other as_before = (ap (λ (x : Post). move_of q (x ∷ [])) post_is ∙ moves_no_other p q at c.number e tells other, as_before.1)
-    others q (Waits kept) other as_before = as_before
+    others q (Waits waiting) other as_before = (
+      ap (λ (x : Post). move_of q (x ∷ [])) post_is ∙ moves_no_other p q at c.number e tells other,
+      queued_alike c.system log q (is_fetch_queued q c.queue) (is_fetch_queued q (post ∷ [])) waiting (λ i. ap (λ ps. is_fetch_queued q ps i) empty ∙ sym (ap (λ (x : Post). is_fetch_queued q (x ∷ []) i) post_is ∙ fetches_none p q at c.number e i)) as_before.1,
+    )
 
   pub posted_goes_on : is_system c.system ≡ true → (c.number).0 < (c.system).clusters → GoesOn c (posted_view c (with_changed p (Runs s.now) c.here) post)
   posted_goes_on valid has log go f = record {
@@ -355,18 +396,25 @@ module _ (c : ClusterView) (p : Pid) (was : Held) (sending : Sending) (new : Hel
       legal = legal_post;
     };
     steps = record { counted = λ kept. more_counted (least_steps log log c.number + cond c.tried 1 0) c.steps ((f.steps).counted kept) };
+    pages = pages_beside c log p (Runs s.now) f.pages (λ some. f.pages p was there (can_in was (sends_can 64 was sending new s)));
     records = f.records;
-    accounts = accounts_queued c.system log c (posted_view c (with_changed p (Runs s.now) c.here) post) refl refl (f.queue).legal legal_post f.accounts;
+    accounts = accounts_queued c.system log c (posted_view c (with_changed p (Runs s.now) c.here) post) post refl refl empty refl no_page f.accounts;
+    disk = f.disk;
   }
     where
-      legal_post : IsQueueLegal TellingMayFollow c.system log (post ∷ [])
-      legal_post = (subst (λ (q : Post). TellingMayFollow c.system log (entry_of c.system log q)) (sym post_is) (may_follow valid has log go f), tt)
+      legal_post : IsQueueLegal UnlostMayFollow c.system log (post ∷ [])
+      legal_post = (subst (λ (q : Post). UnlostMayFollow c.system log (entry_of c.system log q)) (sym post_is) (may_follow valid has log go f), tt)
 
-  pub posted_work : WorkIs c Queued (posted_view c (with_changed p (Runs s.now) c.here) post)
-  posted_work =
+      no_page : is_page_is_entry post.what ≡ false
+      no_page = ap (λ (q : Post). is_page_is_entry q.what) post_is ∙ no_page_of p at e
+
+  pub posted_work : OwesNothing c → WorkIs c Queued (posted_view c (with_changed p (Runs s.now) c.here) post)
+  posted_work nothing =
       let named : sending.pid ≡ p = s.pid_is ∙ now_own in
       let one : Sending = record { pid = p; at = at; emission = e } in
-      let same : sending ≡ one = λ i. record { pid = named i; at = s.at_is i; emission = e } in (
+      let same : sending ≡ one = λ i. record { pid = named i; at = s.at_is i; emission = e } in
+      inr (inr (
+        nothing,
         some_moves c.here p was there (sends_can 64 was sending new s),
         record {
           pid = p;
@@ -377,4 +425,4 @@ module _ (c : ClusterView) (p : Pid) (was : Held) (sending : Sending) (new : Hel
           sends = subst (λ (x : Held). Sends 64 was one x) s.new_is (subst (λ (x : Sending). Sends 64 was x new) same s);
           rest = λ i. record c { here = with_changed p (Runs s.now) c.here; queue = post_is i ∷ []; steps = next_count c.steps };
         },
-      )
+      ))

@@ -1,16 +1,17 @@
 -- Which entries concern the processes and the records of a cluster.
-use Rattle.std.specs.Prelude.{◌≡◌, Bool, true, false, ◌==◌, List, Some}
+use Rattle.std.specs.Prelude.{◌≡◌, Bool, true, false, ◌==◌, List, Some, ⊤}
 use Rattle.std.specs.Int.{bit_at}
 use Rattle.t32_base.specs.declared.process.Pid.{Pid}
 use Rattle.t32_base.specs.declared.process.ClusterNo.{ClusterNo}
 use Rattle.t32_base.specs.declared.letter.BackRec.{BackRec}
 use Rattle.bus_msg.specs.declared.entry.What.{What}
-use Rattle.bus_msg.specs.declared.entry.What.TheVariants.{Mail}
+use Rattle.bus_msg.specs.declared.entry.What.TheVariants.{Mail, PageIs}
 use Rattle.bus_msg.specs.declared.entry.Dests.{Dests}
 use Rattle.bus_msg.specs.declared.entry.Entry.{Entry}
 use Rattle.bus_msg.specs.PlacedAfter.{what}
 use Rattle.cert_sched.specs.Deeds.{is_end_of}
 use Rattle.backup_records.specs.Records.{records_after}
+use Rattle.cluster_core.specs.Resident.{CanComeTo}
 use Rattle.cluster_core.specs.View.{Held, held_of}
 
 -- the cluster is one of those that an entry goes to
@@ -29,3 +30,8 @@ ComesHere k e here = (p : Pid) (h : Held) → held_of here p ≡ Some h → is_l
 -- where an entry does not go to this cluster it leaves the records as they are
 abbrev pub IsNotedHere : ClusterNo → Entry → List BackRec → Type 0
 IsNotedHere k e recs = goes_to e.dests k ≡ false → records_after (what e) recs ≡ recs
+
+-- a page that an entry tells of may come to its process, if that is here
+abbrev pub CanCome : What → List (Pid × Held) → Type 0
+CanCome (PageIs p i bytes) here = (h : Held) → held_of here p ≡ Some h → CanComeTo i bytes h
+CanCome w here = ⊤

@@ -1,5 +1,5 @@
 -- What the calls on a cluster ask and promise. What a call asks holds of some log; what it promises, of every log that the cluster follows.
-use Rattle.std.specs.Prelude.{ℕ, ◌+◌, ◌≡◌, ◌⊎◌, Bool, true, false, not, if◌then◌else◌, List, [], ◌∷◌, ◌++◌, map, filter, Some, None}
+use Rattle.std.specs.Prelude.{ℕ, ◌+◌, ◌≡◌, ◌≢◌, ◌⊎◌, Bool, true, false, not, if◌then◌else◌, List, [], ◌∷◌, ◌++◌, map, filter, Some, None}
 use Rattle.std.specs.List.{list_all}
 use Rattle.t32_base.specs.declared.process.Pid.{Pid}
 use Rattle.t32_base.specs.declared.process.ClusterNo.{ClusterNo}
@@ -9,21 +9,26 @@ use Rattle.proc_state.specs.declared.process.Process.{Process}
 use Rattle.proc_state.specs.State.{state_of}
 use Rattle.sys_calls.specs.declared.steps.Emission.{Emission}
 use Rattle.bus_msg.specs.declared.entry.What.{What}
-use Rattle.bus_msg.specs.declared.entry.What.TheVariants.{Mail, Exit}
+use Rattle.bus_msg.specs.declared.entry.What.TheVariants.{Mail, Exit, PageIs}
 use Rattle.bus_msg.specs.declared.entry.Entry.{Entry}
-use Rattle.bus_msg.specs.Places.{same_pid}
+use Rattle.bus_msg.specs.declared.entry.Post.{Post}
+use Rattle.bus_msg.specs.Places.{same_pid, servers_in}
 use Rattle.bus_msg.specs.PlacedAfter.{what, placed_after}
 use Rattle.cert_sched.specs.Built.{BuiltMayFollow}
 use Rattle.cert_sched.specs.Deeds.{is_end_of}
 use Rattle.cert_sched.specs.Losses.{is_by_cluster, is_crash_of}
+use Rattle.cert_sched.specs.Moved.{waiting_fetches}
+use Rattle.cert_sched.specs.Parts.{first_of}
 use Rattle.cert_sched.specs.Rests.{is_idle, IsRestOf}
+use Rattle.cert_sched.specs.Schedule.{placement}
 use Rattle.cluster_core.specs.declared.worked.Worked.{Worked}
 use Rattle.cluster_core.specs.declared.worked.Worked.TheVariants.{Moved, Queued, Waits as IsWaiting, Rests}
 use Rattle.backup_records.specs.Records.{records_after}
-use Rattle.cluster_core.specs.View.{ClusterView, Held, Runs, Rolls, Waits, arrived_held, held_at, steps_of_held, next_count, counted_once}
+use Rattle.cluster_core.specs.View.{ClusterView, Held, Runs, Rolls, Waits, arrived_held, held_at, page_held, steps_of_held, next_count, counted_once}
 use Rattle.cluster_core.specs.Quantum.{Moves, Sends, post_told}
 use Rattle.cluster_core.specs.Residents.{with_changed}
-use Rattle.cluster_core.specs.Recovered.{left_by, moved_by, with_all_recovered}
+use Rattle.cluster_core.specs.Recovered.{left_by, moved_by, with_all_waiting}
+use Rattle.cluster_core.specs.Work.{AnswersNext, AsksNext, any_lacks, fetch_post, owes_answer}
 use Rattle.cluster_core.specs.Follows.{FollowsBuilt, IsOpen, StandsBetween}
 
 -- ---- the start
@@ -71,18 +76,23 @@ Absorbs e old new =
 abbrev pub with_letter : Letter → List (Pid × Held) → List (Pid × Held)
 with_letter letter here = map (λ (e : Pid × Held). if is_end_of e.0 letter.to then (e.0, arrived_held e.1 letter) else e) here
 
--- what an entry that was taken in makes of the processes here: a letter arrives, and a process that ended is here no more
+-- a page comes to a process that is here
+abbrev pub with_page_come : Pid → ℕ → List ℕ → List (Pid × Held) → List (Pid × Held)
+with_page_come p i bytes here = map (λ (e : Pid × Held). if same_pid e.0 p then (e.0, page_held i bytes e.1) else e) here
+
+-- what an entry that was taken in makes of the processes here: a letter arrives, a process that ended is here no more, and a page comes
 abbrev pub here_after : What → List (Pid × Held) → List (Pid × Held)
 here_after (Mail at letter) here = with_letter letter here
 here_after (Exit pid at end) here = filter (λ (e : Pid × Held). not (same_pid e.0 pid)) here
+here_after (PageIs pid index bytes) here = with_page_come pid index bytes here
 here_after w here = here
 
--- the cluster with one more entry of the log taken in, by one kernel step; at the loss of another it has the processes that this moves here, and no record of them
+-- the cluster with one more entry of the log taken in, by one kernel step; at the loss of another the processes that this moves here wait for their pages, and it has no record of them
 abbrev pub absorbed : ClusterView → Entry → ClusterView
 absorbed c e = record c {
   cursor = c.cursor + 1;
   places = placed_after c.places (what e);
-  here = with_all_recovered c.system (moved_by c.places c.number (what e) (records_after (what e) c.records)) (here_after (what e) c.here);
+  here = with_all_waiting (moved_by c.places c.number (what e) (records_after (what e) c.records)) (here_after (what e) c.here);
   records = left_by c.places c.number (what e) (records_after (what e) c.records);
   steps = next_count c.steps;
 }
@@ -93,7 +103,7 @@ absorbed c e = record c {
 abbrev pub is_at_rest : Held → Bool
 is_at_rest (Runs p) = is_idle (state_of p)
 is_at_rest (Rolls p counts births) = false
-is_at_rest (Waits kept) = false
+is_at_rest (Waits waiting) = false
 
 abbrev pub are_at_rest : List (Pid × Held) → Bool
 are_at_rest here = list_all (λ (e : Pid × Held). is_at_rest e.1) here
@@ -132,12 +142,42 @@ pub record QueuesOne (old new : ClusterView) : Type 0 where
   pub sends : Sends 64 was (record { pid = pid; at = (now.small).steps; emission = emission }) (Runs now)
   pub rest : new ≡ record old { here = with_changed pid (Runs now) old.here; queue = post_told old.number pid (now.small).steps emission ∷ []; steps = next_count old.steps }
 
--- what a work says that it did; nothing here waits for a page yet
+-- a fetch waits, in each log that the cluster follows
+abbrev pub WaitsForPages : ClusterView → Type 0
+WaitsForPages c = (log : List Entry) → IsOpen BuiltMayFollow c.system log → FollowsBuilt c.system log c → waiting_fetches c.system log ≢ []
+
+-- none does where it is the first of the page servers that live, in each such log
+abbrev pub OwesNoAnswer : ClusterView → Type 0
+OwesNoAnswer c = (log : List Entry) → IsOpen BuiltMayFollow c.system log → FollowsBuilt c.system log c → first_of (servers_in (placement c.system log)) ≡ Some c.number → waiting_fetches c.system log ≡ []
+
+-- the answer that it owes is queued
+pub record QueuesAnswer (old new : ClusterView) : Type 0 where
+  pub post : Post
+  pub owed : owes_answer old.places old.number old.server ≡ true
+  pub answers : AnswersNext old.number old.server new.server post
+  pub rest : new ≡ record old { server = new.server; queue = post ∷ []; steps = next_count old.steps }
+
+-- the lowest page that the lowest process here has not asked for is asked for
+pub record QueuesFetch (old new : ClusterView) : Type 0 where
+  pub pid : Pid
+  pub index : ℕ
+  pub asks : AsksNext old.here new.here pid index
+  pub rest : new ≡ record old { here = new.here; queue = fetch_post old.number pid index ∷ []; steps = next_count old.steps }
+
+-- it owes no answer, and no page is to be asked for
+pub record OwesNothing (c : ClusterView) : Type 0 where
+  pub unowed : owes_answer c.places c.number c.server ≡ false
+  pub none : any_lacks c.here ≡ false
+
+-- What a work says that it did: an answer that is owed comes first, then a page that is to be asked for, then the step of a process.
 abbrev pub WorkIs : ClusterView → Worked → ClusterView → Type 0
-WorkIs old Moved new = (is_resting old ≡ false) × MovedOne old new
-WorkIs old Queued new = (is_resting old ≡ false) × QueuesOne old new
-WorkIs old IsWaiting new = ⊥
-WorkIs old Rests new = (is_resting old ≡ true) × (new ≡ counted_once old)
+WorkIs old Moved new = OwesNothing old × (is_resting old ≡ false) × MovedOne old new
+WorkIs old Queued new =
+    QueuesAnswer old new
+    ⊎ ((owes_answer old.places old.number old.server ≡ false) × QueuesFetch old new)
+    ⊎ (OwesNothing old × (is_resting old ≡ false) × QueuesOne old new)
+WorkIs old IsWaiting new = OwesNothing old × (is_resting old ≡ false) × WaitsForPages old × OwesNoAnswer old × (new ≡ counted_once old)
+WorkIs old Rests new = OwesNothing old × (is_resting old ≡ true) × OwesNoAnswer old × (new ≡ counted_once old)
 
 -- a work changes neither the system nor the number, the cursor or the placement, and is one kernel step
 pub record KeepsPlace (old new : ClusterView) : Type 0 where

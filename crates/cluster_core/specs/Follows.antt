@@ -4,10 +4,10 @@ use Rattle.sys_text.specs.declared.system.System.{System}
 use Rattle.bus_msg.specs.declared.entry.Entry.{Entry}
 use Rattle.cert_sched.specs.Legal.{IsLegalBy, MayFollow}
 use Rattle.cert_sched.specs.Rules.{is_over}
-use Rattle.cert_sched.specs.Built.{TellingMayFollow}
+use Rattle.cert_sched.specs.Built.{UnlostMayFollow}
 use Rattle.cluster_core.specs.View.{ClusterView, head_of, after_sent}
 use Rattle.cert_sched.specs.Appended.{entry_of}
-use Rattle.cluster_core.specs.Holds.{HoldsLog, HoldsProcesses, HoldsQueue, HoldsSteps, HoldsPages, HoldsMarks, HoldsRecords, HoldsAccounts}
+use Rattle.cluster_core.specs.Holds.{HoldsLog, HoldsProcesses, HoldsQueue, HoldsSteps, HoldsPages, HoldsMarks, HoldsRecords, HoldsAccounts, HasSoundDisk}
 
 -- all that a cluster holds
 pub record Follows (system : System) (entries : List Entry) (c : ClusterView) : Type 0 where
@@ -24,10 +24,12 @@ pub record Follows (system : System) (entries : List Entry) (c : ClusterView) : 
 pub record FollowsBuilt (system : System) (entries : List Entry) (c : ClusterView) : Type 0 where
   pub log : HoldsLog system entries c
   pub processes : HoldsProcesses system entries c
-  pub queue : HoldsQueue TellingMayFollow system entries c
+  pub queue : HoldsQueue UnlostMayFollow system entries c
   pub steps : HoldsSteps entries c
+  pub pages : HoldsPages system entries c
   pub records : HoldsRecords system entries c
   pub accounts : HoldsAccounts system entries c
+  pub disk : HasSoundDisk c
 
 -- a log that goes on, by a rule
 abbrev pub IsOpen : (System → List Entry → Entry → Type 0) → System → List Entry → Type 0

@@ -3,13 +3,15 @@ use Rattle.std.specs.Prelude.{ℕ, ◌≡◌, ◌<◌, ◌≤◌, true, false, L
 use Rattle.std.specs.List.{list_any, list_all}
 use Rattle.t32_base.specs.declared.process.Pid.{Pid}
 use Rattle.t32_base.specs.declared.process.ClusterNo.{ClusterNo}
+use Rattle.t32_base.specs.Small.{SmallState}
 use Rattle.sys_text.specs.declared.system.System.{System}
 use Rattle.sys_text.specs.Valid.{is_system}
 use Rattle.proc_state.specs.declared.process.Process.{Process}
 use Rattle.proc_state.specs.Mail.{is_signal}
 use Rattle.bus_msg.specs.declared.entry.Post.{Post}
-use Rattle.cert_sched.specs.Built.{tells_or_closes}
+use Rattle.cert_sched.specs.Built.{is_unlost}
 use Rattle.cert_sched.specs.Losses.{is_from}
+use Rattle.page_waits.specs.Waiting.{WaitingState, is_whole}
 use Rattle.cluster_core.specs.View.{Held, Runs, Rolls, Waits}
 
 abbrev pub posts_of : Option Post → List Post
@@ -22,11 +24,21 @@ pub record IsOwn (cursor : ℕ) (pid : Pid) (p : Process) : Type 0 where
   pub quiet : list_any is_signal (p.mail).letters ≡ false
   pub arrived : (p.mail).next ≤ cursor
 
--- one that runs or rolls forward is its own; none waits yet
+-- a process that waits under its own pid lacks a page; no signal was saved for it, and no more letters came to it than the cluster took entries in
+pub record WaitsOwn (cursor : ℕ) (pid : Pid) (w : WaitingState) : Type 0 where
+  pub pid_is : (w.kept).pid ≡ pid
+  pub small : SmallState
+  pub state_is : (w.kept).state ≡ Some small
+  pub small_is : small.pid ≡ pid
+  pub quiet : list_any is_signal (w.kept).saved ≡ false
+  pub arrived : (w.kept).next ≤ cursor
+  pub lacks : is_whole w ≡ false
+
+-- each is its own
 abbrev pub IsHeldOwn : ℕ → Pid → Held → Type 0
 IsHeldOwn cursor pid (Runs p) = IsOwn cursor pid p
 IsHeldOwn cursor pid (Rolls p counts births) = IsOwn cursor pid p
-IsHeldOwn cursor pid (Waits kept) = ⊥
+IsHeldOwn cursor pid (Waits waiting) = WaitsOwn cursor pid waiting
 
 abbrev pub AllOwn : ℕ → List (Pid × Held) → Type 0
 AllOwn cursor [] = ⊤
@@ -38,4 +50,4 @@ pub record IsSound (system : System) (number : ClusterNo) (cursor : ℕ) (here :
   pub has : number.0 < system.clusters
   pub residents : AllOwn cursor here
   pub own : list_all (λ (post : Post). is_from number post.by) queue ≡ true
-  pub built : list_all (λ (post : Post). tells_or_closes post.what) queue ≡ true
+  pub built : list_all (λ (post : Post). is_unlost post.what) queue ≡ true

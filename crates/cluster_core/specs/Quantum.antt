@@ -37,11 +37,11 @@ pub record RollsOn (n ahead : ℕ) (p : Process) (counts : Counts) (births : Lis
 abbrev pub RollsTo : ℕ → Held → Held → Type 0
 RollsTo n (Runs p) (Runs q) = (n ≡ 0) × (q ≡ p)
 RollsTo n (Runs p) (Rolls q left unborn) = ⊥
-RollsTo n (Runs p) (Waits kept) = ⊥
+RollsTo n (Runs p) (Waits waiting) = ⊥
 RollsTo n (Rolls p counts births) (Runs q) = (left : Counts) × (unborn : List Pid) × RollsOn n 0 p counts births q left unborn
 RollsTo n (Rolls p counts births) (Rolls q left unborn) = (ahead : ℕ) × (1 ≤ ahead) × RollsOn n ahead p counts births q left unborn
-RollsTo n (Rolls p counts births) (Waits kept) = ⊥
-RollsTo n (Waits kept) new = ⊥
+RollsTo n (Rolls p counts births) (Waits waiting) = ⊥
+RollsTo n (Waits waiting) new = ⊥
 
 -- ---- the quantum
 
@@ -49,9 +49,9 @@ RollsTo n (Waits kept) new = ⊥
 abbrev pub RunsTo : ℕ → Held → Held → Type 0
 RunsTo m (Runs p) (Runs q) = silently m (state_of p) ≡ Some (state_of q)
 RunsTo m (Runs p) (Rolls q left unborn) = ⊥
-RunsTo m (Runs p) (Waits kept) = ⊥
+RunsTo m (Runs p) (Waits waiting) = ⊥
 RunsTo m (Rolls p counts births) new = (m ≡ 0) × (new ≡ Rolls p counts births)
-RunsTo m (Waits kept) new = ⊥
+RunsTo m (Waits waiting) new = ⊥
 
 -- steps that are withheld, and then silent ones, one at least of both together
 pub record Moves (most : ℕ) (old new : Held) : Type 0 where

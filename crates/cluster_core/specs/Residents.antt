@@ -1,5 +1,5 @@
 -- The processes at home in a cluster, as its code keeps them.
-use Rattle.std.specs.Prelude.{ℕ, ◌≡◌, ◌<◌, ◌-◌, ◌^◌, Bool, true, not, ◌&&◌, nat_lt, if◌then◌else◌, List, [], ◌∷◌, map, filter, find, Option, Some, ◌||◌, Result, Ok, Err}
+use Rattle.std.specs.Prelude.{ℕ, ◌≡◌, ◌<◌, ◌-◌, ◌^◌, Bool, true, not, ◌&&◌, nat_lt, if◌then◌else◌, List, [], ◌∷◌, map, filter, find, Option, Some, None, is_none, ◌||◌, Result, Ok, Err}
 use Rattle.std.specs.List.{list_all}
 use Rattle.std.specs.Option.{option_or}
 use Rattle.t32_base.specs.declared.process.Pid.{Pid}
@@ -10,12 +10,13 @@ use Rattle.cert_sched.specs.Parts.{first_of}
 use Rattle.cluster_core.specs.declared.quantum.Quantum.{Quantum}
 use Rattle.cluster_core.specs.declared.quantum.Quantum.TheVariants.{Moved, Sent, Stuck}
 use Rattle.cluster_core.specs.Quantum.{RunsQuantum}
-use Rattle.cluster_core.specs.View.{Held, can_act, held_of, next_number}
+use Rattle.cluster_core.specs.View.{Held, asked_held, can_act, held_of, is_waiting, next_number, page_lacked}
 
--- the processes by rising pid; the pids of those that may move, rising; and the pid that was chosen last, 0 before any was
+-- the processes by rising pid; the pids of those that may move, rising; those of which some may have pages to ask for, rising; and the pid that was chosen last, 0 before any was
 pub record ResidentsView : Type 0 where
   pub here : List (Pid × Held)
   pub ready : List ℕ
+  pub asking : List ℕ
   pub last : ℕ
 
 -- each of them may get one letter more
@@ -80,6 +81,34 @@ TurnIs old (Ok Moved) new = ChosenTurn old Moved new
 TurnIs old (Ok (Sent sending)) new = ChosenTurn old (Sent sending) new
 TurnIs old (Ok Stuck) new = (are_stuck old.here ≡ true) × (new.here ≡ old.here) × (new.last ≡ old.last)
 TurnIs old (Err fault) new = new.here ≡ old.here
+
+-- it cannot move, and does not wait for a page
+abbrev pub is_settled : Held → Bool
+is_settled h = is_stuck h && not (is_waiting h)
+
+-- so it is of each of them
+abbrev pub are_settled : List (Pid × Held) → Bool
+are_settled here = list_all (λ (e : Pid × Held). is_settled e.1) here
+
+-- ---- pages to ask for
+
+-- the process with a pid has no page to ask for, if it is there
+abbrev pub lacks_none_at : Pid → List (Pid × Held) → Bool
+lacks_none_at pid here = list_all (λ (e : Pid × Held). not (same_pid e.0 pid) || is_none (page_lacked e.1)) here
+
+-- the lowest page that the process with a pid had not asked for is asked for
+pub record AsksPage (pid : Pid) (old : List (Pid × Held)) (index : ℕ) (new : List (Pid × Held)) : Type 0 where
+  pub was : Held
+  pub there : held_of old pid ≡ Some was
+  pub lacks : page_lacked was ≡ Some index
+  pub here : new ≡ with_changed pid (asked_held was) old
+
+-- so it is, or it has none to ask for
+abbrev pub AsksOf : Pid → List (Pid × Held) → Option ℕ → List (Pid × Held) → Type 0
+AsksOf pid old None new = (lacks_none_at pid old ≡ true) × (new ≡ old)
+AsksOf pid old (Some index) new = AsksPage pid old index new
+
+-- ---- a turn of one of them
 
 -- the process with a pid cannot move, if it is there
 abbrev pub is_stuck_at : Pid → List (Pid × Held) → Bool

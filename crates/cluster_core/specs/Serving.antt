@@ -7,6 +7,13 @@ use Rattle.cert_sched.specs.Losses.{capped, root_pages}
 use Rattle.cert_sched.specs.Schedule.{placement}
 use Rattle.page_server.specs.Account.{PagerState}
 use Rattle.page_accounts.specs.Keeps.{KeepsAccounts}
+use Rattle.page_accounts.specs.declared.answering.Answer.{Answer}
+use Rattle.page_accounts.specs.Answering.{IsKept, earliest}
+use Rattle.bus_msg.specs.declared.entry.Post.{Post}
+use Rattle.bus_msg.specs.declared.entry.What.TheVariants.{PageIs}
+use Rattle.bus_msg.specs.declared.entry.By.TheVariants.{Cluster}
+use Rattle.t32_base.specs.declared.process.ClusterNo.{ClusterNo}
+use Rattle.std.specs.Option.{IfSome}
 
 -- nothing, or the accounts of the empty log, for which the disk was called once at least for each page of a root
 abbrev pub BeginsToServe : System → Option PagerState → Type 0
@@ -23,3 +30,11 @@ abbrev pub Serves : Places → Entry → Option PagerState → Option PagerState
 Serves before e None new = new ≡ None
 Serves before e (Some old) None = ⊥
 Serves before e (Some old) (Some new) = Notes before e old new
+
+-- a page server has the page of the earliest fetch that waits, and no call of its disk fails
+abbrev pub CanAnswer : Option PagerState → Type 0
+CanAnswer None = ⊤
+CanAnswer (Some state) = IfSome (earliest state) (IsKept state) × ((state.counts).failing ≡ Some [])
+
+abbrev pub answer_post : ClusterNo → Answer → Post
+answer_post k a = record { by = Cluster k; what = PageIs a.pid a.index a.bytes }

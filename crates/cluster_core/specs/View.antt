@@ -17,21 +17,18 @@ use Rattle.bus_msg.specs.declared.entry.What.{What}
 use Rattle.bus_msg.specs.declared.entry.What.TheVariants.{Rebackup}
 use Rattle.bus_msg.specs.Places.{Places, same_pid}
 use Rattle.page_server.specs.Account.{Account, PagerState, account, no_pages}
+use Rattle.backup_records.specs.Records.{with_saved}
+use Rattle.roll_forward.specs.Rolling.{RollingState}
+use Rattle.roll_forward.specs.RunsOut.{nothing_left}
+use Rattle.page_waits.specs.Waiting.{WaitingState, is_whole, next_page, rolling_of, with_page}
 
--- a process at home here runs; or it rolls forward, with what is left to withhold; or it waits as its record for its backup, its pages or its parent's fork
+-- a process at home here runs; or it rolls forward, with what is left to withhold; or it waits for its pages, beside its record
 pub data Held : Type 0 where
   Runs : (process : Process) → Held
   Rolls : (process : Process) (counts : Counts) (births : List Pid) → Held
-  Waits : (kept : BackRec) → Held
+  Waits : (waiting : WaitingState) → Held
 
--- a page of a process that was moved: whether it was asked for, and the page where it has come
-pub record PageWait : Type 0 where
-  pub pid : Pid
-  pub index : ℕ
-  pub asked : Bool
-  pub page : Option (List ℕ)
-
--- its system and number, the length of the log that it has taken in, and the placement then; the processes at home here and their pages; the records of
+-- its system and number, the length of the log that it has taken in, and the placement then; the processes at home here; the records of
 -- processes whose backup is here; what it keeps where it is a page server: the accounts, the fetches that wait, and the counts of its disk; the posts
 -- that are still to be sent, and whether the first was tried; its kernel steps, and the disk call that failed
 pub record ClusterView : Type 0 where
@@ -40,7 +37,6 @@ pub record ClusterView : Type 0 where
   pub cursor : ℕ
   pub places : Places
   pub here : List (Pid × Held)
-  pub pages : List PageWait
   pub records : List BackRec
   pub server : Option PagerState
   pub queue : List Post
@@ -61,18 +57,23 @@ held_at c p = held_of c.here p
 abbrev pub can_act : Held → Bool
 can_act (Runs p) = has_step (next_step (state_of p))
 can_act (Rolls p counts births) = true
-can_act (Waits kept) = false
+can_act (Waits waiting) = false
+
+-- it waits for its pages
+abbrev pub is_waiting : Held → Bool
+is_waiting (Waits waiting) = true
+is_waiting h = false
 
 abbrev pub steps_of_held : Held → ℕ
 steps_of_held (Runs p) = (p.small).steps
 steps_of_held (Rolls p counts births) = (p.small).steps
-steps_of_held (Waits kept) = 0
+steps_of_held (Waits waiting) = 0
 
 -- the number that the next letter gets
 abbrev pub next_number : Held → ℕ
 next_number (Runs p) = (p.mail).next
 next_number (Rolls p counts births) = (p.mail).next
-next_number (Waits kept) = kept.next
+next_number (Waits waiting) = (waiting.kept).next
 
 -- no pages where it has no account of the process
 abbrev pub account_at : ClusterView → Pid → Account
@@ -81,9 +82,6 @@ account_at c p = option_map_or (λ (s : PagerState). account s p) c.server no_pa
 -- none where it has no disk
 abbrev pub disk_calls : ClusterView → ℕ
 disk_calls c = option_map_or (λ (s : PagerState). (s.counts).calls) c.server 0
-
-abbrev pub page_wait : ClusterView → Pid → ℕ → Option PageWait
-page_wait c p i = find (λ (w : PageWait). same_pid w.pid p && w.index == i) c.pages
 
 abbrev pub head_of : List Post → Option Post
 head_of [] = None
@@ -99,7 +97,34 @@ arrived p letter = record p { mail = record { letters = (p.mail).letters ++ reco
 abbrev pub arrived_held : Held → Letter → Held
 arrived_held (Runs p) letter = Runs (arrived p letter)
 arrived_held (Rolls p counts births) letter = Rolls (arrived p letter) counts births
-arrived_held (Waits kept) letter = Waits (record kept { saved = kept.saved ++ record { number = kept.next; letter = letter } ∷ []; next = kept.next + 1 })
+arrived_held (Waits waiting) letter = Waits (record waiting { kept = with_saved letter waiting.kept })
+
+-- ---- a page comes
+
+-- it rolls forward, or runs where nothing is left to withhold
+abbrev pub rolling_held : RollingState → Held
+rolling_held r = if nothing_left r.counts r.births then Runs r.process else Rolls r.process r.counts r.births
+
+-- once all its pages have come a process that waits goes on
+abbrev pub going_on : WaitingState → Held
+going_on w = if is_whole w then option_map_or rolling_held (rolling_of w) (Waits w) else Waits w
+
+-- a page of a process comes, which is of use to one that waits
+abbrev pub page_held : ℕ → List ℕ → Held → Held
+page_held i bytes (Waits waiting) = going_on (with_page i bytes waiting)
+page_held i bytes h = h
+
+-- ---- a page is asked for
+
+-- the lowest page of one that waits that was not asked for yet
+abbrev pub page_lacked : Held → Option ℕ
+page_lacked (Waits waiting) = next_page waiting
+page_lacked h = None
+
+-- that page is asked for
+abbrev pub asked_held : Held → Held
+asked_held (Waits waiting) = Waits (record waiting { asked = waiting.asked + 1 })
+asked_held h = h
 
 -- ---- the head was sent
 
@@ -110,7 +135,7 @@ synced p = record p { ram = record (p.ram) { dirty = replicate (length (p.ram).d
 abbrev pub synced_held : Held → Held
 synced_held (Runs p) = Runs (synced p)
 synced_held (Rolls p counts births) = Rolls p counts births
-synced_held (Waits r) = Waits r
+synced_held (Waits waiting) = Waits waiting
 
 abbrev pub with_synced : Pid → List (Pid × Held) → List (Pid × Held)
 with_synced p here = map (λ (e : Pid × Held). if same_pid e.0 p then (e.0, synced_held e.1) else e) here
@@ -149,7 +174,7 @@ tried_once c = record c { tried = true; steps = next_count c.steps }
 abbrev pub held_load : Held → ℕ
 held_load (Runs p) = weight p.small
 held_load (Rolls p counts births) = weight p.small
-held_load (Waits kept) = 0
+held_load (Waits waiting) = 0
 
 -- the most steps that all processes here have left
 abbrev pub load : ClusterView → ℕ

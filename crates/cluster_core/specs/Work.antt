@@ -1,17 +1,117 @@
--- What a work of a cluster makes of its parts: of what is here, and of the queue.
-use Rattle.std.specs.Prelude.{◌≡◌, Option, Some, None, Ok}
+-- What a work of a cluster makes of its parts: of what is here, of what it keeps as a page server, and of the queue.
+use Rattle.std.specs.Prelude.{ℕ, ◌≡◌, ◌⊎◌, Bool, true, false, not, ◌&&◌, ◌||◌, nat_lt, List, Option, Some, None, is_some, is_none, option_and_then, Ok}
+use Rattle.std.specs.List.{list_any, list_all}
+use Rattle.std.specs.Option.{option_map_or}
+use Rattle.t32_base.specs.declared.process.Pid.{Pid}
 use Rattle.t32_base.specs.declared.process.ClusterNo.{ClusterNo}
 use Rattle.bus_msg.specs.declared.entry.Post.{Post}
+use Rattle.bus_msg.specs.declared.entry.What.TheVariants.{Fetch, PageIs}
+use Rattle.bus_msg.specs.declared.entry.By.TheVariants.{Cluster}
+use Rattle.bus_msg.specs.Places.{Places, same_cluster, servers_in}
+use Rattle.cert_sched.specs.Parts.{first_of}
+use Rattle.page_server.specs.Account.{PagerState, account, page_in}
+use Rattle.page_server.specs.Disk.{Passed}
+use Rattle.page_accounts.specs.Answering.{earliest}
+use Rattle.page_accounts.specs.Keeps.{SamePages}
 use Rattle.cluster_core.specs.declared.quantum.Sending.{Sending}
 use Rattle.cluster_core.specs.declared.quantum.Quantum.TheVariants.{Moved as QuantumMoved, Sent, Stuck}
 use Rattle.cluster_core.specs.declared.worked.Worked.{Worked}
-use Rattle.cluster_core.specs.declared.worked.Worked.TheVariants.{Moved, Queued, Waits, Rests}
+use Rattle.cluster_core.specs.declared.worked.Worked.TheVariants.{Moved, Queued, Waits as IsWaiting, Rests}
 use Rattle.cluster_core.specs.Quantum.{post_told}
-use Rattle.cluster_core.specs.Residents.{ResidentsView, TurnIs}
+use Rattle.cluster_core.specs.Residents.{ResidentsView, TurnIs, with_changed}
+use Rattle.cluster_core.specs.View.{Held, asked_held, held_of, is_waiting, page_lacked}
 
--- a turn of one that is here; what it sent is queued
-abbrev pub WorksOn : ClusterNo → ResidentsView → Worked → ResidentsView → Option Post → Type 0
-WorksOn k old Moved new queue = TurnIs old (Ok QuantumMoved) new × (queue ≡ None)
-WorksOn k old Queued new queue = (sending : Sending) × TurnIs old (Ok (Sent sending)) new × (queue ≡ Some (post_told k sending.pid sending.at sending.emission))
-WorksOn k old Waits new queue = ⊥
-WorksOn k old Rests new queue = TurnIs old (Ok Stuck) new × (queue ≡ None)
+-- ---- the answer that a page server owes
+
+-- the cluster is the first of the page servers that were never lost
+abbrev pub is_first_server : Places → ClusterNo → Bool
+is_first_server places k = option_map_or (λ s. same_cluster s k) (first_of (servers_in places)) false
+
+-- and a fetch waits
+abbrev pub owes_answer : Places → ClusterNo → Option PagerState → Bool
+owes_answer places k server = is_first_server places k && is_some (option_and_then earliest server)
+
+-- the post is the answer to the earliest fetch, with the page of the committed account, by one call of the disk
+pub record AnswersNext (k : ClusterNo) (old new : Option PagerState) (post : Post) : Type 0 where
+  pub was : PagerState
+  pub now : PagerState
+  pub pid : Pid
+  pub index : ℕ
+  pub bytes : List ℕ
+  pub old_is : old ≡ Some was
+  pub new_is : new ≡ Some now
+  pub waits : earliest was ≡ Some (pid, index)
+  pub page : page_in (account was pid).kept index ≡ Some bytes
+  pub same : SamePages was now
+  pub called : Passed was.counts now.counts
+  pub post_is : post ≡ record { by = Cluster k; what = PageIs pid index bytes }
+
+-- ---- the pages that a process lacks
+
+-- a process here lacks a page that was not asked for
+abbrev pub any_lacks : List (Pid × Held) → Bool
+any_lacks here = list_any (λ (e : Pid × Held). is_some (page_lacked e.1)) here
+
+-- no process below the pid does
+abbrev pub is_lowest_lacking : Pid → List (Pid × Held) → Bool
+is_lowest_lacking p here = list_all (λ (e : Pid × Held). not (nat_lt (e.0).0 p.0) || is_none (page_lacked e.1)) here
+
+-- the lowest page of the lowest process is asked for
+pub record AsksNext (old new : List (Pid × Held)) (pid : Pid) (index : ℕ) : Type 0 where
+  pub was : Held
+  pub there : held_of old pid ≡ Some was
+  pub lacks : page_lacked was ≡ Some index
+  pub lowest : is_lowest_lacking pid old ≡ true
+  pub new_is : new ≡ with_changed pid (asked_held was) old
+
+abbrev pub fetch_post : ClusterNo → Pid → ℕ → Post
+fetch_post k pid index = record { by = Cluster k; what = Fetch pid index }
+
+-- ---- who waits
+
+-- a process here waits for its pages
+abbrev pub any_waits : List (Pid × Held) → Bool
+any_waits here = list_any (λ (e : Pid × Held). is_waiting e.1) here
+
+-- ---- the work
+
+-- the answer that is owed is queued
+pub record QueuesAnswer (k : ClusterNo) (places : Places) (old : ResidentsView) (server : Option PagerState) (new : ResidentsView) (served : Option PagerState) (queue : Option Post) : Type 0 where
+  pub post : Post
+  pub owed : owes_answer places k server ≡ true
+  pub answers : AnswersNext k server served post
+  pub same : new ≡ old
+  pub queue_is : queue ≡ Some post
+
+-- nothing is owed, and a fetch is queued
+pub record QueuesFetch (k : ClusterNo) (places : Places) (old : ResidentsView) (server : Option PagerState) (new : ResidentsView) (served : Option PagerState) (queue : Option Post) : Type 0 where
+  pub pid : Pid
+  pub index : ℕ
+  pub unowed : owes_answer places k server ≡ false
+  pub asks : AsksNext old.here new.here pid index
+  pub last : new.last ≡ old.last
+  pub kept : served ≡ server
+  pub queue_is : queue ≡ Some (fetch_post k pid index)
+
+-- nothing is owed and no page is to be asked for, and the page server stays
+pub record NoPages (k : ClusterNo) (places : Places) (old : ResidentsView) (server served : Option PagerState) : Type 0 where
+  pub unowed : owes_answer places k server ≡ false
+  pub none : any_lacks old.here ≡ false
+  pub kept : served ≡ server
+
+-- a turn of one that is here, and what it sent is queued; where none can move, whether a process waits for its pages
+abbrev pub RunsNext : ClusterNo → ResidentsView → Worked → ResidentsView → Option Post → Type 0
+RunsNext k old Moved new queue = TurnIs old (Ok QuantumMoved) new × (queue ≡ None)
+RunsNext k old Queued new queue = (sending : Sending) × TurnIs old (Ok (Sent sending)) new × (queue ≡ Some (post_told k sending.pid sending.at sending.emission))
+RunsNext k old IsWaiting new queue = TurnIs old (Ok Stuck) new × (any_waits old.here ≡ true) × (queue ≡ None)
+RunsNext k old Rests new queue = TurnIs old (Ok Stuck) new × (any_waits old.here ≡ false) × (queue ≡ None)
+
+-- an answer that is owed comes first, then a page that is to be asked for, and then the turn of one that is here; what it sent is queued
+abbrev pub WorksOn : ClusterNo → Places → ResidentsView → Option PagerState → Worked → ResidentsView → Option PagerState → Option Post → Type 0
+WorksOn k places old server Queued new served queue =
+    QueuesAnswer k places old server new served queue
+    ⊎ QueuesFetch k places old server new served queue
+    ⊎ (NoPages k places old server served × RunsNext k old Queued new queue)
+WorksOn k places old server Moved new served queue = NoPages k places old server served × RunsNext k old Moved new queue
+WorksOn k places old server IsWaiting new served queue = NoPages k places old server served × RunsNext k old IsWaiting new queue
+WorksOn k places old server Rests new served queue = NoPages k places old server served × RunsNext k old Rests new queue

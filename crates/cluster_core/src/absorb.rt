@@ -2,23 +2,30 @@
 ghost use Rattle.std.specs.Prelude.{◌≡◌, ◌<◌, OnErr, OnOk};
 ghost use Rattle.bus_msg.specs.PlacedAfter.{what};
 ghost use Rattle.backup_records.specs.Records.{CanNote, records_after};
-ghost use Rattle.cluster_core.specs.Absorbing.{ComesHere, IsNotedHere, goes_to};
+ghost use Rattle.cluster_core.specs.Absorbing.{CanCome, ComesHere, IsNotedHere, goes_to};
 ghost use Rattle.cluster_core.specs.Calls.{here_after};
 ghost use Rattle.cluster_core.specs.Residents.{HasRoom};
 
 use crate::residents::Residents;
 use backup_records::records::Records;
 use bus_msg::entry::{Dests, Entry, What};
+use std::alloc::Global;
 use t32_base::process::ClusterNo;
 use t32_base::streams::NoMemory;
 
 /// Tells the parts of the cluster with a number what an entry changes in them; the placement is still the one
 /// before the entry. A letter goes to some clusters only, and a process here gets one only where this is one
-/// of them. After want of memory no process has changed.
-pub fn tell(number: ClusterNo, here: &mut Residents, entry: &Entry) -> Result<(), NoMemory>
+/// of them. A page comes to its process. After want of memory no process has changed.
+pub fn tell(
+    alloc: Global,
+    number: ClusterNo,
+    here: &mut Residents,
+    entry: &Entry,
+) -> Result<(), NoMemory>
     requires number { number.0 < 16 }
     requires room { HasRoom here.old.here }
     requires comes { ComesHere number entry.now here.old.here }
+    requires page { CanCome (what entry.now) here.old.here }
     ensures ok { OnOk result (here.new.here ≡ here_after (what entry.now) here.old.here) }
     ensures err { OnErr result (here.new.here ≡ here.old.here) }
 {
@@ -38,7 +45,7 @@ pub fn tell(number: ClusterNo, here: &mut Residents, entry: &Entry) -> Result<()
         What::Page { .. } => Ok(()),
         What::Sync { .. } => Ok(()),
         What::Fetch { .. } => Ok(()),
-        What::PageIs { .. } => Ok(()),
+        What::PageIs { pid, index, bytes } => here.come(alloc, *pid, *index, bytes.get()),
         What::Crash { .. } => Ok(()),
         What::Return { .. } => Ok(()),
         What::Rebackup { .. } => Ok(()),

@@ -53,6 +53,7 @@ pub fn parts_at_boot<D: PageDisk + Drop>(
     ensures server { IfOk result (λ parts. parts.failed ≡ None → BeginsToServe system.now parts.server) }
     ensures there { IfOk result (λ parts. is_some parts.server ≡ is_some disk) }
     ensures whole { IfOk result (λ parts. IfSome disk (λ d. (D.counts d).failing ≡ Some []) → parts.failed ≡ None) }
+    ensures sound { IfOk result (λ parts. IfSome disk (λ d. (D.counts d).failing ≡ Some []) → IfSome parts.server (λ s. (s.counts).failing ≡ Some [])) }
 {
     let processes = processes_of(alloc, system)?;
     let (server, failed) = serve_roots(alloc, disk, &processes)?;

@@ -62,7 +62,6 @@ impl<D: PageDisk> Model for Cluster<D> {
       cursor = c.cursor;
       places = c.places;
       here = (c.here).here;
-      pages = [];
       records = c.records;
       server = c.server;
       queue = posts_of c.queue;
@@ -88,7 +87,7 @@ impl<D: PageDisk + Drop> Cluster<D> {
         requires valid { is_system (arc_value system.now) ≡ true }
         requires has { number.0 < (arc_value system.now).clusters }
         requires disk { is_some disk ≡ is_server (arc_value system.now) number }
-        ensures follows { IfOk result (λ c. c.failed ≡ None → FollowsBuilt (arc_value system.now) [] c) }
+        ensures follows { IfOk result (λ c. IfSome disk (λ d. (D.counts d).failing ≡ Some []) → FollowsBuilt (arc_value system.now) [] c) }
         ensures begins { IfOk result (IsFirst (arc_value system.now) number) }
         ensures whole { IfOk result (λ c. IfSome disk (λ d. (D.counts d).failing ≡ Some []) → c.failed ≡ None) }
     {
@@ -179,10 +178,10 @@ impl<D: PageDisk + Drop> Cluster<D> {
 
     /// Takes in the next entry of the log: a letter arrives at the process here whose end it is for, and a
     /// process that ended is let go; the record of the receiver saves the letter, that of the sender counts it,
-    /// and the record of a process that ended goes. A page server notes what is asked for and what came. At the loss
-    /// of another cluster the processes that this moves here
-    /// begin again from their records, which are kept no more. After want of memory nothing is said of the cluster but
-    /// that it can be dropped.
+    /// and the record of a process that ended goes. A page server notes what is asked for and what came. A page comes to the
+    /// process here that waits for it, which goes on from its record once all have come. At the loss of another cluster the
+    /// processes that this moves here wait for their pages, and their records are kept no more. After want of memory nothing
+    /// is said of the cluster but that it can be dropped.
     pub fn absorb(&mut self, entry: &Entry) -> Result<(), NoMemory>
         requires room { self.old.cursor < 2 ^ 64 - 1 }
         requires ready { ReadyFor entry.now self.old }
@@ -191,11 +190,10 @@ impl<D: PageDisk + Drop> Cluster<D> {
     {
         note(self.number, &mut self.records, entry)?;
         serve(&mut self.server, &self.places, entry)?;
-        tell(self.number, &mut self.here, entry)?;
+        tell(self.alloc, self.number, &mut self.here, entry)?;
         self.cursor += 1;
         take_over(
             self.alloc,
-            &self.system,
             self.number,
             &self.places,
             &mut self.records,
@@ -207,9 +205,11 @@ impl<D: PageDisk + Drop> Cluster<D> {
         Ok(())
     }
 
-    /// Does the next thing that is to be done here: a process runs, up to something that it sends, or
-    /// nothing can move. It is the next one in rising pid order that can move, after the one that ran last,
-    /// cyclically. After want of memory nothing is said of the cluster but that it can be dropped.
+    /// Does the next thing that is to be done here. The first of the page servers that live queues its answer to the earliest
+    /// fetch that waits. Else the lowest page is asked for that the lowest process here lacks and has not asked for. Else a
+    /// process runs, up to something that it sends: the next one in rising pid order that can move, after the one that ran
+    /// last, cyclically. Where none can, the cluster waits if a process here waits for its pages, and rests if none does.
+    /// After want of memory nothing is said of the cluster but that it can be dropped.
     pub fn work(&mut self) -> Result<Worked, NoMemory>
         requires empty { self.old.queue ≡ [] }
         requires follows { FollowsSome self.old }
@@ -217,12 +217,19 @@ impl<D: PageDisk + Drop> Cluster<D> {
         ensures work { IfOk result (λ worked. WorkIs self.old worked self.new) }
         ensures place { OnOk result (KeepsPlace self.old self.new) }
     {
-        let worked = work_on(self.alloc, self.number, &mut self.here, &mut self.queue)?;
+        let worked = work_on(
+            self.alloc,
+            self.number,
+            &self.places,
+            &mut self.here,
+            &mut self.server,
+            &mut self.queue,
+        )?;
         self.count_step();
         Ok(worked)
     }
 
-    /// Each process here with its steps: None exactly where something here can move.
+    /// Each process here with its steps: None exactly where something here can move or waits for a page.
     pub fn rests(&self) -> Result<Option<List<(Pid, u64)>>, NoMemory>
         ensures rests { IfOk result (λ rests. rests ≡ (if is_resting self.now then Some (rests_of self.now) else None)) }
         ensures idle { IfOk result (λ rests. IfSome rests (RestsIn self.now)) }

@@ -1,12 +1,14 @@
-//! A process at home in a cluster: it runs, or it rolls forward.
-ghost use Rattle.std.specs.Prelude.{◌≡◌, ◌≤◌, ◌<◌, ◌^◌, ◌-◌, OnOk, OnErr, IfOk, Some, if◌then◌else◌};
+//! A process at home in a cluster: it runs, or it rolls forward, or it waits for its pages.
+ghost use Rattle.std.specs.Prelude.{◌≡◌, ◌≤◌, ◌<◌, ◌^◌, ◌-◌, ◌+◌, OnOk, OnErr, IfOk, Some, is_some, if◌then◌else◌};
 ghost use Rattle.proc_state.specs.State.{state_of};
 ghost use Rattle.roll_forward.specs.RunsOut.{RunsOut, nothing_left};
-ghost use Rattle.cluster_core.specs.View.{Runs, Rolls, arrived_held, can_act, next_number, steps_of_held};
+ghost use Rattle.page_waits.specs.Waiting.{next_page};
+ghost use Rattle.cluster_core.specs.View.{Runs, Rolls, Waits, arrived_held, asked_held, can_act, is_waiting, next_number, page_held, page_lacked, rolling_held, steps_of_held};
 ghost use Rattle.cluster_core.specs.Quantum.{RunsQuantum};
-ghost use Rattle.cluster_core.specs.Resident.{held_standing, running_on, HasCaughtUp, HasRolled, StandsSo};
+ghost use Rattle.cluster_core.specs.Resident.{gone_on, held_standing, running_on, CanComeTo, CanGoOnFrom, HasCaughtUp, HasRolled, StandsSo};
 
 use crate::quantum::{MOST, Quantum, run_rest};
+use page_waits::waiting::Waiting;
 use proc_state::process::Process;
 use roll_forward::rolling::Rolling;
 use std::alloc::Global;
@@ -16,7 +18,8 @@ use t32_base::letter::Letter;
 use t32_base::process::Small;
 use t32_base::streams::NoMemory;
 
-/// A process at home in a cluster: it runs, or it rolls forward, and then something is left to withhold.
+/// A process at home in a cluster: it runs; or it rolls forward, and then something is left to withhold; or it waits for
+/// its pages.
 #[derive(Drop)]
 pub struct Resident {
     standing: Option<Standing>,
@@ -26,6 +29,7 @@ pub struct Resident {
 enum Standing {
     Runs(Process),
     Rolls(Rolling),
+    Waits(Waiting),
 }
 
 impl Model for Resident {
@@ -54,17 +58,22 @@ impl Resident {
         requires { RunsOut (state_of rolling.process) rolling.counts rolling.births rolling.ahead }
         ensures { result ≡ (if nothing_left rolling.counts rolling.births then Runs rolling.process else Rolls rolling.process rolling.counts rolling.births) }
     {
-        let standing = if rolling.caught_up() {
-            Standing::Runs(rolling.into_process())
-        } else {
-            Standing::Rolls(rolling)
-        };
         Resident {
-            standing: Some(standing),
+            standing: Some(standing_of(rolling)),
         }
     }
 
-    /// A letter arrives: it is put last in the mailbox. After want of memory nothing has changed.
+    /// A process that waits for its pages. Takes no memory.
+    pub fn waiting(waiting: Waiting) -> Resident
+        ensures { result ≡ Waits waiting }
+    {
+        Resident {
+            standing: Some(Standing::Waits(waiting)),
+        }
+    }
+
+    /// A letter arrives: it is put last in the mailbox, or its record saves it where the process waits. After want of memory
+    /// nothing has changed.
     pub fn deliver(&mut self, letter: Letter) -> Result<(), NoMemory>
         requires { next_number self.old < 2 ^ 64 - 1 }
         ensures ok { OnOk result (self.new ≡ arrived_held self.old letter) }
@@ -73,24 +82,55 @@ impl Resident {
         receive(&mut self.standing, letter)
     }
 
-    /// Its steps. Takes no memory.
+    /// A page of the process comes, by its index from 0: where the process waits, it has the page then, and goes on once all
+    /// have come. To another it is of no use. Takes no memory.
+    pub fn come(&mut self, alloc: Global, index: u16, page: &[u8; 256])
+        requires { CanComeTo index page.now self.old }
+        ensures { self.new ≡ page_held index page.now self.old }
+    {
+        come_to(alloc, &mut self.standing, index, page);
+    }
+
+    /// The lowest page that it has not asked for, which is asked for now: none of one that does not wait, or that has asked
+    /// for all. Takes no memory.
+    pub fn ask(&mut self) -> Option<u16>
+        ensures page { result ≡ page_lacked self.old }
+        ensures asked { self.new ≡ (if is_some result then asked_held self.old else self.old) }
+    {
+        match &mut self.standing {
+            Some(Standing::Waits(waiting)) => ask_next(waiting),
+            _ => None,
+        }
+    }
+
+    /// Whether it waits for its pages. Takes no memory.
+    pub fn waits(&self) -> bool
+        ensures { result ≡ is_waiting self.now }
+    {
+        matches!(&self.standing, Some(Standing::Waits(_)))
+    }
+
+    /// Its steps: 0 of one that waits. Takes no memory.
     pub fn steps(&self) -> u64
         ensures { result ≡ steps_of_held self.now }
     {
         match &self.standing {
             Some(Standing::Runs(process)) => steps_made(&process.small),
             Some(Standing::Rolls(rolling)) => steps_made(&rolling.process().small),
+            Some(Standing::Waits(_)) => 0,
             None => unreachable!(),
         }
     }
 
-    /// Whether it can move: one that runs has a step, and one that rolls forward has one always. Takes no memory.
+    /// Whether it can move: one that runs has a step, one that rolls forward has one always, and one that waits has none.
+    /// Takes no memory.
     pub fn can_act(&self) -> bool
         ensures { result ≡ can_act self.now }
     {
         match &self.standing {
             Some(Standing::Runs(process)) => can_step(process),
             Some(Standing::Rolls(_)) => true,
+            Some(Standing::Waits(_)) => false,
             None => unreachable!(),
         }
     }
@@ -106,6 +146,7 @@ impl Resident {
         match &mut self.standing {
             Some(Standing::Runs(process)) => run_rest(alloc, process, made),
             Some(Standing::Rolls(_)) => Ok(Quantum::Moved),
+            Some(Standing::Waits(_)) => Ok(Quantum::Stuck),
             None => unreachable!(),
         }
     }
@@ -122,11 +163,12 @@ fn receive(standing: &mut Option<Standing>, letter: Letter) -> Result<(), NoMemo
     match standing {
         Some(Standing::Runs(process)) => process.deliver(letter),
         Some(Standing::Rolls(rolling)) => rolling.deliver(letter),
+        Some(Standing::Waits(waiting)) => waiting.deliver(letter),
         None => unreachable!(),
     }
 }
 
-// The steps of a quantum that one makes which rolls forward, and how many they are; one that runs makes none.
+// The steps of a quantum that one makes which rolls forward, and how many they are; any other makes none.
 fn roll(standing: &mut Option<Standing>) -> Result<u32, NoMemory>
     requires { StandsSo standing.old }
     ensures stands { StandsSo standing.new }
@@ -154,6 +196,58 @@ fn run_on(standing: &mut Option<Standing>)
         Some(Standing::Rolls(rolling)) => Some(Standing::Runs(rolling.into_process())),
         other => other,
     };
+}
+
+// One that rolls forward, or runs where nothing is left to withhold.
+fn standing_of(rolling: Rolling) -> Standing
+    requires { RunsOut (state_of rolling.process) rolling.counts rolling.births rolling.ahead }
+    ensures stands { StandsSo (Some result) }
+    ensures held { held_standing (Some result) ≡ rolling_held rolling }
+{
+    if rolling.caught_up() {
+        Standing::Runs(rolling.into_process())
+    } else {
+        Standing::Rolls(rolling)
+    }
+}
+
+// A page comes to one that waits.
+fn come_to(alloc: Global, standing: &mut Option<Standing>, index: u16, page: &[u8; 256])
+    requires stands { StandsSo standing.old }
+    requires can { CanComeTo index page.now (held_standing standing.old) }
+    ensures stands { StandsSo standing.new }
+    ensures held { held_standing standing.new ≡ page_held index page.now (held_standing standing.old) }
+{
+    if let Some(Standing::Waits(waiting)) = standing {
+        waiting.come(index, page);
+        if waiting.is_whole() {
+            go_on(alloc, standing);
+        }
+    }
+}
+
+// One whose pages have all come goes on.
+fn go_on(alloc: Global, standing: &mut Option<Standing>)
+    requires stands { StandsSo standing.old }
+    requires can { CanGoOnFrom standing.old }
+    ensures stands { StandsSo standing.new }
+    ensures held { held_standing standing.new ≡ gone_on (held_standing standing.old) }
+{
+    *standing = match standing.take() {
+        Some(Standing::Waits(waiting)) => Some(standing_of(waiting.into_rolling(alloc))),
+        other => other,
+    };
+}
+
+// The lowest page that one that waits has not asked for, which is asked for now.
+fn ask_next(waiting: &mut Waiting) -> Option<u16>
+    ensures page { result ≡ next_page waiting.old }
+    ensures asked { waiting.new ≡ (if is_some result then record waiting.old { asked = waiting.old.asked + 1 } else waiting.old) }
+{
+    if waiting.lacks().is_none() {
+        return None;
+    }
+    Some(waiting.ask())
 }
 
 fn steps_made(small: &Small) -> u64

@@ -1,12 +1,15 @@
 //! The processes at home in a cluster.
-ghost use Rattle.std.specs.Prelude.{ℕ, ◌≡◌, ◌+◌, [], IfOk, OnOk, OnErr, Some, None, true, length, filter, map, not, if◌then◌else◌, false};
+ghost use Rattle.std.specs.Prelude.{ℕ, ◌≡◌, ◌+◌, [], IfOk, IfSome, OnOk, OnErr, Some, None, true, length, filter, map, not, if◌then◌else◌, false};
 ghost use Rattle.std.specs.List.{list_any};
 ghost use Rattle.slab.specs.Slab.{Updates};
 ghost use Rattle.bus_msg.specs.Places.{same_pid};
 ghost use Rattle.plain_kernel.specs.Maps.{at_key, pid_of};
-ghost use Rattle.cluster_core.specs.Calls.{rests_in, with_letter};
-ghost use Rattle.cluster_core.specs.Residents.{GivenTurnIs, HasRoom, NextAble, TurnIs, are_rising, are_stuck, is_stuck_at, next_ready, pids_in, with_more};
-ghost use Rattle.cluster_core.specs.View.{arrived_held};
+ghost use Rattle.cert_sched.specs.Parts.{first_of};
+ghost use Rattle.cluster_core.specs.Calls.{rests_in, with_letter, with_page_come};
+ghost use Rattle.cluster_core.specs.Residents.{AsksOf, GivenTurnIs, HasRoom, NextAble, TurnIs, are_rising, are_settled, are_stuck, is_settled, is_stuck_at, lacks_none_at, next_ready, pids_in, with_more};
+ghost use Rattle.cluster_core.specs.Resident.{CanComeTo};
+ghost use Rattle.cluster_core.specs.View.{Held, arrived_held, held_of};
+ghost use Rattle.cluster_core.specs.Work.{AsksNext, any_lacks, any_waits, is_lowest_lacking};
 
 use crate::quantum::Quantum;
 use crate::resident::Resident;
@@ -20,13 +23,15 @@ use t32_base::lists::List;
 use t32_base::process::Pid;
 use t32_base::streams::NoMemory;
 
-/// The processes at home in a cluster, by pid. One that cannot move, but may get a step by a letter, is
-/// not asked again before a letter comes to it.
+/// The processes at home in a cluster, by pid. One that cannot move, but may get a step by a letter or a page, is
+/// not asked again before one comes to it. Nor is one whose pages were all asked for.
 #[derive(Drop)]
 pub struct Residents {
     residents: Slab<Resident>,
     keys: BTreeMap<u32, usize>,
     ready: BTreeSet<u32>,
+    // Of these processes some may have pages to ask for.
+    asking: BTreeSet<u32>,
     last: u32,
 }
 
@@ -36,9 +41,9 @@ impl Model for Residents {
 
     ghost Value = { ResidentsView };
 
-    ghost view = { λ r. record { here = stands_in r.residents r.keys.entries; ready = r.ready.keys; last = r.last } };
+    ghost view = { λ r. record { here = stands_in r.residents r.keys.entries; ready = r.ready.keys; asking = r.asking.keys; last = r.last } };
 
-    ghost invariant = { λ r. IsKept r.residents r.keys.entries r.ready.keys };
+    ghost invariant = { λ r. IsKept r.residents r.keys.entries r.ready.keys r.asking.keys };
 }
 
 impl Residents {
@@ -51,6 +56,7 @@ impl Residents {
             residents: Slab::new(alloc),
             keys: BTreeMap::new(alloc),
             ready: BTreeSet::new(alloc),
+            asking: BTreeSet::new(alloc),
             last: 0,
         }
     }
@@ -63,6 +69,7 @@ impl Residents {
         ensures last { OnOk result (self.new.last ≡ self.old.last) }
     {
         self.ready.insert(pid.0)?;
+        self.asking.insert(pid.0)?;
         let key = self.residents.insert(resident)?;
         self.keys.insert(pid.0, key)?;
         Ok(())
@@ -166,6 +173,102 @@ impl Residents {
         }
     }
 
+    /// A page comes to the process with a pid, if it is here. After want of memory no process has changed.
+    pub fn come(
+        &mut self,
+        alloc: Global,
+        pid: Pid,
+        index: u16,
+        page: &[u8; 256],
+    ) -> Result<(), NoMemory>
+        requires { (h : Held) → held_of self.old.here pid ≡ Some h → CanComeTo index page.now h }
+        ensures ok { OnOk result (self.new.here ≡ with_page_come pid index page.now self.old.here) }
+        ensures err { OnErr result (self.new.here ≡ self.old.here) }
+        ensures last { self.new.last ≡ self.old.last }
+    {
+        match self.keys.get(&pid.0) {
+            Some(key) => {
+                self.ready.insert(pid.0)?;
+                match self.residents.get_mut(*key) {
+                    Some(resident) => {
+                        resident.come(alloc, index, page);
+                        Ok(())
+                    }
+                    None => unreachable!(),
+                }
+            }
+            None => Ok(()),
+        }
+    }
+
+    /// The lowest page that the lowest process here has not asked for, which is asked for now; none where no process lacks
+    /// one. Takes no memory.
+    pub fn ask(&mut self) -> Option<(Pid, u16)>
+        ensures asks { IfSome result (λ r. AsksNext self.old.here self.new.here r.0 r.1) }
+        ensures none { result ≡ None → (any_lacks self.old.here ≡ false) × (self.new.here ≡ self.old.here) }
+        ensures last { self.new.last ≡ self.old.last }
+    {
+        'processes: while let Some(pid) = self.next_asking() {
+            match self.ask_of(pid) {
+                Some(page) => return Some((Pid(pid), page)),
+                None => self.has_asked(pid),
+            }
+        }
+        None
+    }
+
+    // The lowest of those that may have pages to ask for. Takes no memory.
+    fn next_asking(&self) -> Option<u32>
+        ensures first { result ≡ first_of self.now.asking }
+        ensures none { result ≡ None → any_lacks self.now.here ≡ false }
+        ensures lowest { (pid : ℕ) → result ≡ Some pid → is_lowest_lacking (pid_of pid) self.now.here ≡ true }
+    {
+        self.asking.first().copied()
+    }
+
+    // The lowest page that the process with a pid has not asked for, if it is here; it is asked for now.
+    fn ask_of(&mut self, pid: u32) -> Option<u16>
+        ensures asks { AsksOf (pid_of pid) self.old.here result self.new.here }
+        ensures asking { self.new.asking ≡ self.old.asking }
+        ensures last { self.new.last ≡ self.old.last }
+    {
+        match self.keys.get(&pid) {
+            Some(key) => match self.residents.get_mut(*key) {
+                Some(resident) => resident.ask(),
+                None => unreachable!(),
+            },
+            None => None,
+        }
+    }
+
+    // A process that has asked for all its pages is not asked again.
+    fn has_asked(&mut self, pid: u32)
+        requires lacks { lacks_none_at (pid_of pid) self.old.here ≡ true }
+        requires there { list_any (at_key pid) self.old.asking ≡ true }
+        ensures here { self.new.here ≡ self.old.here }
+        ensures fewer { length self.new.asking + 1 ≡ length self.old.asking }
+        ensures last { self.new.last ≡ self.old.last }
+    {
+        self.asking.remove(&pid);
+    }
+
+    /// Whether a process here waits for its pages. Takes no memory.
+    pub fn waits(&self) -> bool
+        ensures { result ≡ any_waits self.now.here }
+    {
+        for (_, key) in &self.keys {
+            match self.residents.get(*key) {
+                Some(resident) => {
+                    if resident.waits() {
+                        return true;
+                    }
+                }
+                None => unreachable!(),
+            }
+        }
+        false
+    }
+
     /// Lets the process with a pid go, if it is here. Takes no memory.
     pub fn let_go(&mut self, pid: Pid)
         ensures here { self.new.here ≡ filter (λ e. not (same_pid e.0 pid)) self.old.here }
@@ -173,20 +276,21 @@ impl Residents {
     {
         if let Some(key) = self.keys.remove(&pid.0) {
             self.ready.remove(&pid.0);
+            self.asking.remove(&pid.0);
             clear(&mut self.residents, key);
         }
     }
 
-    /// Each process with its steps, by rising pid: None exactly where one of them can move.
+    /// Each process with its steps, by rising pid: None exactly where one of them can move or waits for a page.
     pub fn rests(&self, alloc: Global) -> Result<Option<List<(Pid, u64)>>, NoMemory>
-        ensures rests { IfOk result (λ rests. rests ≡ (if are_stuck self.now.here then Some (rests_in self.now.here) else None)) }
+        ensures rests { IfOk result (λ rests. rests ≡ (if are_settled self.now.here then Some (rests_in self.now.here) else None)) }
         ensures ordered { are_rising (pids_in self.now.here) ≡ true }
     {
         let mut rests = List::new(alloc);
         for (pid, key) in &self.keys {
             match self.residents.get(*key) {
                 Some(resident) => {
-                    if resident.can_act() {
+                    if !is_settled(resident) {
                         return Ok(None);
                     }
                     rests.push((Pid(*pid), resident.steps()))?;
@@ -196,6 +300,13 @@ impl Residents {
         }
         Ok(Some(rests))
     }
+}
+
+// Whether a process can neither move nor waits for a page. Takes no memory.
+fn is_settled(resident: &Resident) -> bool
+    ensures { result ≡ is_settled resident.now }
+{
+    !resident.can_act() && !resident.waits()
 }
 
 // Drops the process in a slot, if there is one. Takes no memory.

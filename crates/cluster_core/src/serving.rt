@@ -6,10 +6,13 @@ ghost use Rattle.plain_kernel.specs.Maps.{linked_processes};
 ghost use Rattle.plain_kernel.specs.Maps.{processes_of as states_of};
 ghost use Rattle.bus_msg.specs.PlacedAfter.{what};
 ghost use Rattle.cert_sched.specs.Built.{is_built};
-ghost use Rattle.cluster_core.specs.Serving.{BeginsToServe, Serves};
+ghost use Rattle.cluster_core.specs.Serving.{BeginsToServe, CanAnswer, Serves, answer_post};
+ghost use Rattle.cluster_core.specs.Work.{AnswersNext, is_first_server, owes_answer};
 
-use bus_msg::entry::Entry;
+use bus_msg::entry::{By, Entry, Post, What};
+use bus_msg::shared::Shared;
 use channel_table::placement::Placement;
+use page_accounts::answering::{Answer, next_answer};
 use page_accounts::booting::put_roots;
 use page_accounts::noting::note;
 use page_server::disk::{DiskRefused, PageDisk};
@@ -17,6 +20,7 @@ use page_server::pager::Pager;
 use proc_state::process::Process;
 use std::alloc::Global;
 use std::collections::BTreeMap;
+use t32_base::process::ClusterNo;
 use t32_base::streams::NoMemory;
 
 /// What a cluster keeps as a page server at its start: with a disk the pages of all roots, which are these processes;
@@ -30,6 +34,7 @@ pub fn serve_roots<D: PageDisk + Drop>(
     ensures begins { IfOk result (λ r. r.1 ≡ None → (system : System) → is_system system ≡ true → states_of processes.now.entries ≡ linked_processes system → BeginsToServe system r.0) }
     ensures there { IfOk result (λ r. is_some r.0 ≡ is_some disk) }
     ensures whole { IfOk result (λ r. IfSome disk (λ d. (D.counts d).failing ≡ Some []) → r.1 ≡ None) }
+    ensures sound { IfOk result (λ r. IfSome disk (λ d. (D.counts d).failing ≡ Some []) → IfSome r.0 (λ s. (s.counts).failing ≡ Some [])) }
 {
     let Some(disk) = disk else {
         return Ok((None, None));
@@ -40,6 +45,60 @@ pub fn serve_roots<D: PageDisk + Drop>(
         Err(DiskRefused::Fault(fault)) => Ok((Some(pager), Some(fault.call))),
         Err(DiskRefused::NoMemory) => Err(NoMemory),
     }
+}
+
+/// The answer to the earliest fetch that waits, where the cluster with a number is the first of the page servers that were
+/// never lost: the page of the committed account, by one call of the disk. None where no answer is owed, with no call.
+/// After want of memory nothing is said but that the value can be dropped.
+pub fn answer_next<D: PageDisk>(
+    alloc: Global,
+    number: ClusterNo,
+    places: &Placement,
+    server: &mut Option<Pager<D>>,
+) -> Result<Option<Post>, NoMemory>
+    requires { CanAnswer server.old }
+    ensures owed { IfOk result (λ post. is_some post ≡ owes_answer places.now number server.old) }
+    ensures none { IfOk result (λ post. post ≡ None → server.new ≡ server.old) }
+    ensures answers { IfOk result (λ post. IfSome post (AnswersNext number server.old server.new)) }
+{
+    if !is_first(places, number) {
+        return Ok(None);
+    }
+    let Some(pager) = server else {
+        return Ok(None);
+    };
+    if pager.waiting().is_none() {
+        return Ok(None);
+    }
+    match next_answer(pager) {
+        Ok(Some(answer)) => Ok(Some(post_of(alloc, number, answer)?)),
+        Ok(None) => unreachable!(),
+        Err(_) => unreachable!(),
+    }
+}
+
+// Whether the cluster with a number is the first of the page servers that were never lost. Takes no memory.
+fn is_first(places: &Placement, number: ClusterNo) -> bool
+    ensures { result ≡ is_first_server places.now number }
+{
+    match places.first_server() {
+        Some(first) => first.0 == number.0,
+        None => false,
+    }
+}
+
+// The post of an answer by the cluster with a number.
+fn post_of(alloc: Global, number: ClusterNo, answer: Answer) -> Result<Post, NoMemory>
+    ensures { IfOk result (λ post. post ≡ answer_post number answer) }
+{
+    Ok(Post {
+        by: By::Cluster(number),
+        what: What::PageIs {
+            pid: answer.pid,
+            index: answer.index,
+            bytes: Shared::new(alloc, answer.bytes)?,
+        },
+    })
 }
 
 /// Takes in an entry of a kind that is built, of which none makes a call of the disk; the placement is the one before

@@ -1,28 +1,60 @@
 //! The work of a cluster.
-ghost use Rattle.std.specs.Prelude.{◌≡◌, None, IfOk, OnErr};
+ghost use Rattle.std.specs.Prelude.{◌≡◌, None, IfOk, OnErr, if◌then◌else◌};
 ghost use Rattle.cluster_core.specs.Quantum.{post_told};
-ghost use Rattle.cluster_core.specs.Work.{WorksOn};
+ghost use Rattle.cluster_core.specs.Serving.{CanAnswer};
+ghost use Rattle.cluster_core.specs.Work.{RunsNext, WorksOn, any_waits, fetch_post};
 
 use crate::quantum::{Quantum, Sending};
 use crate::residents::Residents;
+use crate::serving::answer_next;
 use crate::worked::Worked;
 use bus_msg::entry::{By, Post, What};
+use channel_table::placement::Placement;
+use page_server::disk::PageDisk;
+use page_server::pager::Pager;
 use std::alloc::Global;
 use sys_calls::steps::Emission;
-use t32_base::process::ClusterNo;
+use t32_base::process::{ClusterNo, Pid};
 use t32_base::streams::NoMemory;
 
-/// Does the next thing that is to be done in the cluster with a number: the next process that can move runs for a
-/// quantum, and what it sends is queued; or nothing can move. After want of memory no process has changed, and
-/// nothing is queued.
-pub fn work_on(
+/// Does the next thing that is to be done in the cluster with a number. An answer that it owes as a page server is queued;
+/// or a fetch of a page that a process here lacks; or the next process that can move runs for a quantum, and what it sends
+/// is queued; or nothing can move, where a process may wait for its pages. After want of memory nothing is queued, and
+/// nothing else is said but that the values can be dropped.
+pub fn work_on<D: PageDisk>(
+    alloc: Global,
+    number: ClusterNo,
+    places: &Placement,
+    here: &mut Residents,
+    server: &mut Option<Pager<D>>,
+    queue: &mut Option<Post>,
+) -> Result<Worked, NoMemory>
+    requires queue { queue.old ≡ None }
+    requires can { CanAnswer server.old }
+    ensures ok { IfOk result (λ worked. WorksOn number places.now here.old server.old worked here.new server.new queue.new) }
+    ensures here { OnErr result (here.new.here ≡ here.old.here) }
+    ensures queue { OnErr result (queue.new ≡ None) }
+{
+    if let Some(post) = answer_next(alloc, number, places, server)? {
+        *queue = Some(post);
+        return Ok(Worked::Queued);
+    }
+    if let Some((pid, index)) = here.ask() {
+        *queue = Some(fetch_of(number, pid, index));
+        return Ok(Worked::Queued);
+    }
+    run_next(alloc, number, here, queue)
+}
+
+// The next process that can move runs for a quantum, and what it sends is queued.
+fn run_next(
     alloc: Global,
     number: ClusterNo,
     here: &mut Residents,
     queue: &mut Option<Post>,
 ) -> Result<Worked, NoMemory>
     requires { queue.old ≡ None }
-    ensures ok { IfOk result (λ worked. WorksOn number here.old worked here.new queue.new) }
+    ensures ok { IfOk result (λ worked. RunsNext number here.old worked here.new queue.new) }
     ensures here { OnErr result (here.new.here ≡ here.old.here) }
     ensures queue { OnErr result (queue.new ≡ None) }
 {
@@ -32,7 +64,28 @@ pub fn work_on(
             *queue = Some(post_of(number, sending));
             Ok(Worked::Queued)
         }
-        Quantum::Stuck => Ok(Worked::Rests),
+        Quantum::Stuck => Ok(stuck(here)),
+    }
+}
+
+// Nothing can move: a process waits for its pages, or all rest.
+fn stuck(here: &Residents) -> Worked
+    ensures { result ≡ (if any_waits here.now.here then Worked.Waits else Worked.Rests) }
+{
+    if here.waits() {
+        Worked::Waits
+    } else {
+        Worked::Rests
+    }
+}
+
+// The fetch of a page by the cluster with a number. Takes no memory.
+fn fetch_of(number: ClusterNo, pid: Pid, index: u16) -> Post
+    ensures { result ≡ fetch_post number pid index }
+{
+    Post {
+        by: By::Cluster(number),
+        what: What::Fetch { pid, index },
     }
 }
 

@@ -7,13 +7,14 @@ use Rattle.backup_records.specs.Records.{CanNote, are_rising, records_after}
 use Rattle.cluster_core.specs.View.{ClusterView, next_count, with_server}
 use Rattle.cluster_core.specs.Serving.{Serves}
 use Rattle.cluster_core.specs.Parts.{AllOwn}
-use Rattle.cluster_core.specs.Recovered.{CanRecover, left_by, moved_by, with_all_recovered}
+use Rattle.cluster_core.specs.Recovered.{CanWait, left_by, moved_by, with_all_waiting}
 use Rattle.cluster_core.specs.Calls.{Absorbs, absorbed, here_after}
-use Rattle.cluster_core.specs.Absorbing.{ComesHere, IsNotedHere}
+use Rattle.cluster_core.specs.Absorbing.{CanCome, ComesHere, IsNotedHere}
 use Rattle.cluster_core.proofs.Arriving.{comes_here}
 use Rattle.cluster_core.proofs.Noting.{can_note_next, noted_next}
 use Rattle.cluster_core.proofs.Owning.{has_room}
-use Rattle.cluster_core.proofs.Absorbed.{absorbs, own_either, owns_recovered, ready_built, ready_no_birth, ready_own, recovers}
+use Rattle.cluster_core.proofs.Absorbed.{absorbs, may_come, may_wait, own_either, ready_built, ready_no_birth, ready_own}
+use Rattle.cluster_core.proofs.OwningWaits.{owns_waiting}
 use Rattle.cluster_core.proofs.cluster.Cluster.absorb.Goals as goal
 
 pub tell-requires-clause-room : goal.tell-requires-clause-room
@@ -38,15 +39,20 @@ note-requires-clause-here g c =
 pub note-requires-2 : goal.note-requires-2
 note-requires-2 g c = ready_no_birth c.args.self.now c.args.entry.now c.requires.ready
 
-pub take_over-requires-clause-can : goal.take_over-requires-clause-can
-take_over-requires-clause-can g c =
+pub take_over-requires : goal.take_over-requires
+take_over-requires g c =
     let e = c.args.entry.now in
     let w = what e in
     let valid : is_system c.args.self.now.system ≡ true = subst (λ (v : ClusterView). is_system v.system ≡ true) c.self.view_is c.self.invariant.valid in
-    let can = subst (λ (v : ClusterView). CanRecover v.system (moved_by v.places v.number w (records_after w v.records)) (here_after w v.here)) (sym c.self.view_is) (recovers c.args.self.now e valid c.requires.ready) in
-    subst (λ s. CanRecover s (moved_by c.self.inside.places c.self.inside.number w c.note.new.records) c.tell.new.here.here) (sym c.deref.ensures)
-    (subst (λ recs. CanRecover (arc_value c.self.inside.system) (moved_by c.self.inside.places c.self.inside.number w recs) c.tell.new.here.here) (sym c.in_ok-note.ensures.ok)
-    (subst (λ hs. CanRecover (arc_value c.self.inside.system) (moved_by c.self.inside.places c.self.inside.number w (records_after w c.self.inside.records)) hs) (sym c.in_ok-tell.ensures.ok) can))
+    let can = subst (λ (v : ClusterView). CanWait (moved_by v.places v.number w (records_after w v.records)) (here_after w v.here)) (sym c.self.view_is) (may_wait c.args.self.now e valid c.requires.ready) in
+    subst (λ recs. CanWait (moved_by c.self.inside.places c.self.inside.number w recs) c.tell.new.here.here) (sym c.in_ok-note.ensures.ok)
+    (subst (λ hs. CanWait (moved_by c.self.inside.places c.self.inside.number w (records_after w c.self.inside.records)) hs) (sym c.in_ok-tell.ensures.ok) can)
+
+pub tell-requires-clause-page : goal.tell-requires-clause-page
+tell-requires-clause-page g c =
+    let old : ClusterView = c.args.self.now in
+    let valid : is_system old.system ≡ true = subst (λ (v : ClusterView). is_system v.system ≡ true) c.self.view_is c.self.invariant.valid in
+    subst (λ (v : ClusterView). CanCome (what c.args.entry.now) v.here) (sym c.self.view_is) (may_come old c.args.entry.now valid c.requires.ready)
 
 pub invariant_of-self-in_err-take_over : goal.invariant_of-self-in_err-take_over
 invariant_of-self-in_err-take_over g c =
@@ -72,10 +78,10 @@ invariant_of-self-2 g c =
     let order : are_rising (moved_by old.places old.number w (records_after w old.records)) ≡ true =
     subst (λ (v : ClusterView). are_rising (moved_by v.places v.number w (records_after w v.records)) ≡ true) c.self.view_is
     (subst (λ recs. are_rising (moved_by c.self.inside.places c.self.inside.number w recs) ≡ true) c.in_ok-note.ensures.ok c.in_ok-take_over.ensures.rising) in
-    let mine : AllOwn (c.self.inside.cursor + 1) (with_all_recovered (arc_value c.self.inside.system) (moved_by c.self.inside.places c.self.inside.number w (records_after w c.self.inside.records)) (here_after w c.self.inside.here.here)) =
-    subst (λ (v : ClusterView). AllOwn (v.cursor + 1) (with_all_recovered v.system (moved_by v.places v.number w (records_after w v.records)) (here_after w v.here))) (sym c.self.view_is)
-    (owns_recovered old e valid c.requires.ready order (here_after w old.here) told) in
-    let here = c.in_ok-take_over.ensures.here ∙ (λ i. with_all_recovered (c.deref.ensures i) (moved_by c.self.inside.places c.self.inside.number w (c.in_ok-note.ensures.ok i)) (c.in_ok-tell.ensures.ok i)) in
+    let mine : AllOwn (c.self.inside.cursor + 1) (with_all_waiting (moved_by c.self.inside.places c.self.inside.number w (records_after w c.self.inside.records)) (here_after w c.self.inside.here.here)) =
+    subst (λ (v : ClusterView). AllOwn (v.cursor + 1) (with_all_waiting (moved_by v.places v.number w (records_after w v.records)) (here_after w v.here))) (sym c.self.view_is)
+    (owns_waiting old e valid c.requires.ready order (here_after w old.here) told) in
+    let here = c.in_ok-take_over.ensures.here ∙ (λ i. with_all_waiting (moved_by c.self.inside.places c.self.inside.number w (c.in_ok-note.ensures.ok i)) (c.in_ok-tell.ensures.ok i)) in
     record {
       valid = c.self.invariant.valid;
       has = c.self.invariant.has;
@@ -90,13 +96,13 @@ returns-clause-follows g c =
     let e = c.args.entry.now in
     let w = what e in
     let recs = c.in_ok-take_over.ensures.records ∙ ap (left_by c.self.inside.places c.self.inside.number w) c.in_ok-note.ensures.ok in
-    let here = c.in_ok-take_over.ensures.here ∙ (λ i. with_all_recovered (c.deref.ensures i) (moved_by c.self.inside.places c.self.inside.number w (c.in_ok-note.ensures.ok i)) (c.in_ok-tell.ensures.ok i)) in
+    let here = c.in_ok-take_over.ensures.here ∙ (λ i. with_all_waiting (moved_by c.self.inside.places c.self.inside.number w (c.in_ok-note.ensures.ok i)) (c.in_ok-tell.ensures.ok i)) in
     let server = c.serve.new.server in
     let whole : c.count_step.new.self ≡ with_server server (absorbed old e) =
     c.count_step.ensures
     ∙ ap (λ (v : ClusterView). record v { cursor = v.cursor + 1; places = c.note-2.new.self; here = c.take_over.new.here.here; records = c.take_over.new.records; server = server; steps = next_count v.steps }) c.self.view_is
     ∙ (λ i. record old { cursor = old.cursor + 1; places = c.note-2.ensures i; here = here i; records = recs i; server = server; steps = next_count old.steps })
-    ∙ ap (λ (v : ClusterView). record old { cursor = old.cursor + 1; places = placed_after v.places w; here = with_all_recovered v.system (moved_by v.places v.number w (records_after w v.records)) (here_after w v.here); records = left_by v.places v.number w (records_after w v.records); server = server; steps = next_count old.steps }) c.self.view_is in
+    ∙ ap (λ (v : ClusterView). record old { cursor = old.cursor + 1; places = placed_after v.places w; here = with_all_waiting (moved_by v.places v.number w (records_after w v.records)) (here_after w v.here); records = left_by v.places v.number w (records_after w v.records); server = server; steps = next_count old.steps }) c.self.view_is in
     let valid : is_system old.system ≡ true = subst (λ (v : ClusterView). is_system v.system ≡ true) c.self.view_is c.self.invariant.valid in
     let own = subst (λ (v : ClusterView). AllOwn v.cursor v.here) c.self.view_is c.self.invariant.residents in
     let order : are_rising (moved_by old.places old.number w (records_after w old.records)) ≡ true =

@@ -24,10 +24,11 @@ returns-clause-follows g c whole =
     let kept : KeepsRecords system [] c.args.number recs = subst (λ s. KeepsRecords s [] c.args.number recs) c.deref-2.ensures c.in_ok-parts.ensures.records in
     let server = c.in_ok-parts.parts.server in
     let failed = c.in_ok-parts.parts.failed in
-    let begins : BeginsToServe system server = subst (λ s. BeginsToServe s server) c.deref-2.ensures (c.in_ok-parts.ensures.server whole) in
+    let begins : BeginsToServe system server = subst (λ s. BeginsToServe s server) c.deref-2.ensures (c.in_ok-parts.ensures.server (c.in_ok-parts.ensures.whole whole)) in
+    let sound = c.in_ok-parts.ensures.sound whole in
     let old : ClusterView = record (boot_view system c.args.number here recs server failed) { system = arc_value c.in_ok-clone.field-0; places = c.in_ok-places.places } in
     let same : old ≡ boot_view system c.args.number here recs server failed = λ i. record (boot_view system c.args.number here recs server failed) { system = shared i; places = places i } in
-    subst (FollowsBuilt system []) (sym same) (boot_follows system c.args.number here recs server failed c.requires.valid booted kept (c.in_ok-parts.ensures.there ∙ c.requires.disk) begins)
+    subst (FollowsBuilt system []) (sym same) (boot_follows system c.args.number here recs server failed c.requires.valid booted kept (c.in_ok-parts.ensures.there ∙ c.requires.disk) begins sound)
 
 pub invariant_of-result : goal.invariant_of-result
 invariant_of-result g c =

@@ -2,7 +2,7 @@ use Rattle.std.proofs.Common.{◌≡◌, subst, true}
 use Rattle.std.specs.Prelude.{IfOk, Some, None, if◌then◌else◌}
 use Rattle.cluster_core.specs.View.{ClusterView}
 use Rattle.cluster_core.specs.Parts.{AllOwn}
-use Rattle.cluster_core.specs.Residents.{are_rising, are_stuck, pids_in}
+use Rattle.cluster_core.specs.Residents.{are_rising, are_settled, pids_in}
 use Rattle.cluster_core.specs.Calls.{rests_in}
 use Rattle.cluster_core.proofs.Resting.{told_rests, answered_rests}
 use Rattle.cluster_core.proofs.cluster.Cluster.rests.Goals as goal
@@ -10,12 +10,12 @@ use Rattle.cluster_core.proofs.cluster.Cluster.rests.Goals as goal
 pub returns-clause-rests : goal.returns-clause-rests
 returns-clause-rests g c =
     let own = subst (λ (v : ClusterView). AllOwn v.cursor v.here) c.self.view_is c.self.invariant.residents in
-    let told = subst (λ (v : ClusterView). IfOk c.rests.result (λ rests. rests ≡ (if are_stuck v.here then Some (rests_in v.here) else None))) c.self.view_is c.rests.ensures.rests in
+    let told = subst (λ (v : ClusterView). IfOk c.rests.result (λ rests. rests ≡ (if are_settled v.here then Some (rests_in v.here) else None))) c.self.view_is c.rests.ensures.rests in
     answered_rests c.args.self.now c.rests.result own told
 
 pub returns-clause-idle : goal.returns-clause-idle
 returns-clause-idle g c =
     let own = subst (λ (v : ClusterView). AllOwn v.cursor v.here) c.self.view_is c.self.invariant.residents in
-    let told = subst (λ (v : ClusterView). IfOk c.rests.result (λ rests. rests ≡ (if are_stuck v.here then Some (rests_in v.here) else None))) c.self.view_is c.rests.ensures.rests in
+    let told = subst (λ (v : ClusterView). IfOk c.rests.result (λ rests. rests ≡ (if are_settled v.here then Some (rests_in v.here) else None))) c.self.view_is c.rests.ensures.rests in
     let ordered = subst (λ (v : ClusterView). are_rising (pids_in v.here) ≡ true) c.self.view_is c.rests.ensures.ordered in
     told_rests c.args.self.now c.rests.result own ordered told

@@ -8,5 +8,5 @@ use Rattle.cluster_core.proofs.residents.Residents.rests.Given as goal
 abbrev pub invariant-loop-pid : goal.invariant-loop-pid
 invariant-loop-pid l = record {
   same : rests_with l.rests (stands_in l.self-inside.residents l.pid-iterator) ≡ rests_with [] (stands_in l.self-inside.residents l.self-inside.keys.entries);
-  each : AllByRecursion (IsSlot l.self-inside.residents l.self-inside.ready.keys) l.pid-iterator;
+  each : AllByRecursion (IsSlot l.self-inside.residents l.self-inside.ready.keys l.self-inside.asking.keys) l.pid-iterator;
 }
