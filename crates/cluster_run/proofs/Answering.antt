@@ -11,15 +11,22 @@ use Rattle.bus_msg.specs.declared.entry.By.TheVariants.{Cluster, Bus}
 use Rattle.bus_msg.specs.declared.entry.What.TheVariants.{Done}
 use Rattle.bus_msg.specs.declared.entry.Post.{Post}
 use Rattle.cert_sched.specs.Appended.{entry_of}
-use Rattle.cert_sched.specs.Built.{BuiltMayFollow, TellingMayFollow}
+use Rattle.cert_sched.specs.Built.{BuiltMayFollow, UnlostMayFollow}
 use Rattle.cert_sched.specs.Legal.{IsLegalBy}
 use Rattle.cert_sched.specs.Losses.{is_from, least_steps, capped, was_lost_in}
 use Rattle.cert_sched.specs.Rests.{IsRestOf}
 use Rattle.cert_sched.specs.Rules.{is_over}
 use Rattle.cert_sched.specs.Schedule.{placement}
-use Rattle.cert_sched.proofs.UnlostLaws.{telling_built}
+use Rattle.cert_sched.proofs.UnlostLaws.{may_unlost}
 use Rattle.cluster_core.specs.View.{ClusterView}
-use Rattle.cluster_core.specs.Follows.{FollowsBuilt}
+use Rattle.cluster_core.specs.Follows.{FollowsBuilt, IsOpen}
+use Rattle.cluster_core.specs.Calls.{OwesNoAnswer, WaitsForPages}
+use Rattle.cluster_run.specs.Progress.{AwaitsPage, HasAnswered}
+use Rattle.cert_sched.specs.Moved.{waiting_fetches}
+use Rattle.cert_sched.specs.Parts.{first_of}
+use Rattle.bus_msg.specs.Places.{servers_in}
+use Rattle.bus_msg.specs.declared.entry.Entry.{Entry}
+use Rattle.std.specs.Prelude.{List, ◌≢◌}
 use Rattle.cluster_core.specs.Queue.{IsQueueLegal}
 use Rattle.bus_lock.specs.Lists.{MayAdd}
 use Rattle.bus_order.specs.Log.{author, author_of}
@@ -52,6 +59,18 @@ own_post k (Cluster j) from = λ i. Cluster (record { 0 = eqb-true j.0 k.0 from 
 follows_all : (b : BusView) (c : ClusterView) → IsAlong b c → c.cursor ≡ length b.log → FollowsBuilt c.system b.log c
 follows_all b c along seen = subst (λ log. FollowsBuilt c.system log c) (take_all c.cursor b.log (omega (arith, seen))) (along.beside).follows
 
+-- what holds in each log that it follows holds in that of the bus
+in_its_log : (P : System → List Entry → Type 0) (b : BusView) (c : ClusterView) → IsSound b → IsAlong b c → c.cursor ≡ length b.log → is_over b.system b.log ≡ false → ((log : List Entry) → IsOpen BuiltMayFollow c.system log → FollowsBuilt c.system log c → P c.system log) → P b.system b.log
+in_its_log P b c sound along seen goes holds =
+    subst (λ s. P s b.log) along.system
+    (holds b.log (subst (λ s. IsLegalBy BuiltMayFollow s b.log) (sym along.system) sound.legal, ap (λ s. is_over s b.log) along.system ∙ goes) (follows_all b c along seen))
+
+pub along_awaits : (b : BusView) (c : ClusterView) → IsSound b → IsAlong b c → c.cursor ≡ length b.log → is_over b.system b.log ≡ false → WaitsForPages c → AwaitsPage b
+along_awaits b c sound along seen goes waits = in_its_log (λ system log. waiting_fetches system log ≢ []) b c sound along seen goes waits
+
+pub along_answered : (b : BusView) (c : ClusterView) → IsSound b → IsAlong b c → c.cursor ≡ length b.log → is_over b.system b.log ≡ false → OwesNoAnswer c → HasAnswered b (c.number).0
+along_answered b c sound along seen goes owes = in_its_log (λ system log. first_of (servers_in (placement system log)) ≡ Some c.number → waiting_fetches system log ≡ []) b c sound along seen goes owes
+
 -- so is the one post of a cluster
 pub own_of : (b : BusView) (c : ClusterView) (post : Post) (k : ClusterNo) → IsAlong b c → c.queue ≡ post ∷ [] → k ≡ c.number → post.by ≡ Cluster k
 own_of b c post k along only k_is =
@@ -69,9 +88,9 @@ may_be_sent b c post k n along only k_is n_is =
           own_post c.number post.by (and_parts (is_from c.number post.by) true all).0;
       may = λ goes_on seen.
           let follows = follows_all b c along seen in
-          let queue = subst (λ q. IsQueueLegal TellingMayFollow c.system b.log q) only (follows.queue).legal in
-          let may : TellingMayFollow c.system b.log (entry_of c.system b.log post) = queue.0 in
-          subst (λ s. BuiltMayFollow s b.log (entry_of s b.log post)) along.system (telling_built c.system b.log (entry_of c.system b.log post) may);
+          let queue = subst (λ q. IsQueueLegal UnlostMayFollow c.system b.log q) only (follows.queue).legal in
+          let may : UnlostMayFollow c.system b.log (entry_of c.system b.log post) = queue.0 in
+          subst (λ s. BuiltMayFollow s b.log (entry_of s b.log post)) along.system (may_unlost c.system b.log (entry_of c.system b.log post) may);
     }))
 
 pub may_be_told : (b : BusView) (c : ClusterView) (m : Mark) (k : ClusterNo) (n : ℕ) → IsSound b → IsAlong b c → IsToldBy c m → k ≡ c.number → n ≡ c.cursor → MayIdle b k n m

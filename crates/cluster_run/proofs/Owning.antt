@@ -29,10 +29,10 @@ use Rattle.script_laws.proofs.CoveredLosses.{few_losses_close}
 use Rattle.cluster_run.specs.declared.offers.Offered.TheVariants.{Sent, Behind, Over, Off}
 use Rattle.cluster_run.specs.Along.{IsAlong, IsOwned, IsSound, TakesIn}
 use Rattle.cluster_run.specs.Offers.{Adds, Later, OfferIs, TakesMark, TellIs, Visits}
-use Rattle.cluster_run.specs.Progress.{Falls, GetsOn, IsAtMost, IsOver, log_load, remaining_of}
+use Rattle.cluster_run.specs.Progress.{Falls, GetsOn, IsAtMost, IsOver, left_after, remaining_of, AwaitsPage, HasAnswered, Rests}
 use Rattle.cluster_run.specs.Turns.{GoesOwn, HasRested, HasSpent, IsSent, LosesOwn, SendsAll, SendsOwn, Spends, TellsOwn, TurnsOwn}
 use Rattle.cluster_run.proofs.Offering.{adds_none, alone_later, alone_left}
-use Rattle.cluster_run.proofs.Progressing.{at_most_then, then_falls, told_rest}
+use Rattle.cluster_run.proofs.Progressing.{at_most_then, then_falls, told_rest, waiting_rests}
 use Rattle.cluster_run.proofs.Sending.{sent_goes_on, sent_spends}
 use Rattle.cluster_run.proofs.StepLosses.{lost_adds}
 use Rattle.cluster_run.proofs.TakingIn.{seen_lives}
@@ -139,11 +139,11 @@ module _ (a : Bool) (alone : a ≡ true) (b after : BusView) (c : ClusterView) (
       by_case is (inr fewer) = inl (subst (λ (x : BusView). length x.left < length b.left) (sym is) fewer)
       by_case is (inl same) =
           let found : after_words v.found ≡ b = words_there v.found v.later ∙ same in
-          let load_is : log_load c.system (after_words v.found).log ≡ log_load b.system b.log = λ i. log_load ((s.system ∙ adds.system) i) (found i).log in
+          let left_is : left_after c.system (after_words v.found).log ≡ left_after b.system b.log = λ i. left_after ((s.system ∙ adds.system) i) (found i).log in
           let long : length (after_words v.found).log ≡ length b.log = ap (λ (x : BusView). length x.log) found in
           inr (
             ap (λ (x : BusView). length x.left) is ∙ ap (λ (x : BusView). length x.left) same,
-            omega (arith, sent_spends (after_words v.found).log c post after s, load_is, long),
+            omega (arith, sent_spends (after_words v.found).log c post after s, left_is, long),
           )
 
   -- one that had seen all of the log is behind only where words were due
@@ -174,7 +174,7 @@ module _ (a : Bool) (alone : a ≡ true) (b after : BusView) (c : ClusterView) (
 
 -- ---- a rest
 
-module _ (b after : BusView) (k : ClusterNo) (cursor : ℕ) (m : Mark) (own : GoesOwn b) (sound : IsSound after) (seen : cursor ≡ length b.log) (lives : was_lost_in b.log k ≡ false) (has : k.0 < (b.system).clusters) where
+module _ (b after : BusView) (k : ClusterNo) (cursor : ℕ) (m : Mark) (own : GoesOwn b) (sound : IsSound after) (seen : cursor ≡ length b.log) (lives : was_lost_in b.log k ≡ false) (has : k.0 < (b.system).clusters) (answered : HasAnswered b k.0) where
   words_system : (after_words b).system ≡ b.system
   words_system = (after_worded b).system
 
@@ -185,7 +185,7 @@ module _ (b after : BusView) (k : ClusterNo) (cursor : ℕ) (m : Mark) (own : Go
   rests_or : (idled : Idled) → TakesMark (after_words b) k cursor m idled after → after.left ≡ (after_words b).left → IsSameOrFewer b (after_words b) → HasRested k b after
   rests_or idled took left (inr fewer) = inr (inl (subst (λ (l : List ScriptWord). length l < length b.left) (sym left) fewer))
   rests_or idled took left (inl same) =
-      elim (told_rest b after k cursor m idled (subst (λ x. TakesMark x k cursor m idled after) same took) (omega (arith, has, (own.0).marks))) [
+      elim (told_rest b after k cursor m idled (subst (λ x. TakesMark x k cursor m idled after) same took) (omega (arith, has, (own.0).marks)) answered) [
         | inl over ↦ inl over
         | inr rest ↦ inr (inr (ap length left ∙ ap (λ (x : BusView). length x.left) same, rest))
       ]
@@ -215,12 +215,12 @@ module _ (b after : BusView) (k : ClusterNo) (cursor : ℕ) (m : Mark) (own : Go
       never (inr (inl lost)) same = true≢false (sym lost ∙ ap (λ (x : BusView). was_lost_in x.log k) same ∙ lives)
       never (inr (inr behind)) same = let less : cursor < length b.log = subst (λ (x : BusView). cursor < length x.log) same behind in omega (arith, seen, less)
 
-pub told_own : (a : Bool) → a ≡ true → (b after : BusView) (c : ClusterView) (m : Mark) (t : Option Idled) → GoesOwn b → IsSound after → IsAlong b c → c.cursor ≡ length b.log → Adds c.number b after → Visits a c.number b after (TellIs c.number c.cursor m t) → TellsOwn c.number b after
-told_own a alone b after c m t own sound along seen adds v =
+pub told_own : (a : Bool) → a ≡ true → (b after : BusView) (c : ClusterView) (m : Mark) (t : Option Idled) → GoesOwn b → IsSound after → IsAlong b c → c.cursor ≡ length b.log → HasAnswered b (c.number).0 → Adds c.number b after → Visits a c.number b after (TellIs c.number c.cursor m t) → TellsOwn c.number b after
+told_own a alone b after c m t own sound along seen answered adds v =
     let is : TellIs c.number c.cursor m t b after =
     subst (λ x. TellIs c.number c.cursor m t b x) (sym (alone_left a v.left after alone v.is_left)) (subst (λ x. TellIs c.number c.cursor m t x v.left) (alone_later a c.number b v.found alone v.later) v.done) in
     let has : (c.number).0 < (b.system).clusters = subst (λ (s : System). (c.number).0 < s.clusters) along.system (along.beside).has in
-    let done = told_owned b after c.number c.cursor m own sound seen (seen_lives b c along seen) has t is in
+    let done = told_owned b after c.number c.cursor m own sound seen (seen_lives b c along seen) has answered t is in
     record { owned = done.0; adds = adds; rests = done.1 }
 
 -- ---- turns
@@ -350,13 +350,29 @@ tells_turn b mid after c caught new same taken is empty tells =
         let within = ((takes.along).beside).within in
         let cursor : new.cursor ≡ caught.cursor = ap (λ (v : ClusterView). v.cursor) is in
         let long : length after.log ≡ length b.log = ap length log in
-        inl (inr (words, inr (inl ((λ i. log_load (system i) (log i)), omega (arith, more, within, cursor, long)))))
-    at_most words takes system log (inr none) = inr (words, (λ i. log_load (system i) (log i)), (λ i. length (log i) - ((ap (λ (v : ClusterView). v.cursor) is ∙ ap (λ (v : ClusterView). v.cursor) none) i)), ap load is ∙ ap load none)
+        inl (inr (words, inr (inl ((λ i. left_after (system i) (log i)), omega (arith, more, within, cursor, long)))))
+    at_most words takes system log (inr none) = inr (words, (λ i. left_after (system i) (log i)), (λ i. length (log i) - ((ap (λ (v : ClusterView). v.cursor) is ∙ ap (λ (v : ClusterView). v.cursor) none) i)), ap load is ∙ ap load none)
 
     lasting : TakesIn b c caught → after.system ≡ b.system → HasRested c.number b after → IsOver after ⊎ IsAtMost (remaining_of b c) (remaining_of after new)
     lasting takes system (inl over) = inl over
     lasting takes system (inr (inl fewer)) = inr (inl (inl fewer))
     lasting takes system (inr (inr rest)) = inr (at_most rest.0 takes system (rest.1).log takes.some)
+
+-- the cluster waits for a page, and left the bus as it is
+pub waits_turn : (b mid : BusView) (c caught new : ClusterView) → mid ≡ b → GoesOwn b → TakesIn mid c caught → new ≡ counted_once caught → c.queue ≡ [] → AwaitsPage mid → HasAnswered mid (caught.number).0 → TurnsOwn b mid c new
+waits_turn b mid c caught new same own taken is empty waits answered =
+    let takes : TakesIn b c caught = subst (λ x. TakesIn x c caught) same taken in
+    let number : caught.number ≡ c.number = (takes.same).number in
+    let rest : Rests b b (c.number).0 ((c.number).0 + 1) =
+    waiting_rests b c.number (subst AwaitsPage same waits) (subst (λ x. HasAnswered x (c.number).0) same (subst (λ (k : ClusterNo). HasAnswered mid k.0) number answered)) in
+    subst (λ x. TurnsOwn b x c new) (sym same) (record {
+      owned = own.0;
+      adds = adds_none c.number b;
+      empty = λ lives. ap (λ (v : ClusterView). v.queue) is ∙ takes.queue ∙ empty;
+      spends = inr (inr (refl, inr refl));
+      lasts = inr (subst (λ x. IsAtMost (remaining_of b c) (remaining_of b x)) (sym is) (taken_most b c caught takes));
+      gets_on = inr (inr rest);
+    })
 
 -- the cluster worked and then sent its posts, or was lost
 pub sends_turn : (b mid after : BusView) (c caught worked new : ClusterView) → mid ≡ b → TakesIn mid c caught → worked.number ≡ caught.number → (length after.left < length mid.left) ⊎ (length mid.log < length after.log) → SendsOwn worked.number mid after
@@ -374,12 +390,12 @@ sends_turn b mid after c caught worked new same taken number_is more sends empty
       gets_on = inl (falls did);
     }
   where
-    by_more : (length after.left < length b.left) ⊎ (length b.log < length after.log) → Spends b after → (length after.left < length b.left) ⊎ ((length after.left ≡ length b.left) × (log_load after.system after.log < log_load b.system b.log))
+    by_more : (length after.left < length b.left) ⊎ (length b.log < length after.log) → Spends b after → (length after.left < length b.left) ⊎ ((length after.left ≡ length b.left) × (left_after after.system after.log < left_after b.system b.log))
     by_more more (inl fewer) = inl fewer
     by_more (inl fewer) (inr less) = inl fewer
     by_more (inr grown) (inr less) = inr (less.0, omega (arith, grown, less.1))
 
-    falls : (length after.left < length b.left) ⊎ ((length after.left ≡ length b.left) × (log_load after.system after.log < log_load b.system b.log)) → Falls (remaining_of b c) (remaining_of after new)
+    falls : (length after.left < length b.left) ⊎ ((length after.left ≡ length b.left) × (left_after after.system after.log < left_after b.system b.log)) → Falls (remaining_of b c) (remaining_of after new)
     falls (inl fewer) = inl fewer
     falls (inr less) = inr (less.0, inl less.1)
 

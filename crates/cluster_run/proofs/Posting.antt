@@ -1,5 +1,5 @@
 -- A cluster goes on posting, by what became of its head.
-use Rattle.std.proofs.Common.{◌≡◌, ℕ, ◌+◌, ◌≤◌, ◌<◌, sym, ◌∙◌, ap, subst, arith, List, [], ◌∷◌, length, take, drop, length-append, false}
+use Rattle.std.proofs.Common.{◌≡◌, ℕ, ◌+◌, ◌≤◌, ◌<◌, sym, ◌∙◌, ap, subst, arith, List, [], ◌∷◌, length, take, drop, length-append, false, inl, inr, is_some, true}
 use Rattle.std.specs.List.{list_all, list_any}
 use Rattle.t32_base.specs.declared.process.ClusterNo.{ClusterNo}
 use Rattle.sys_text.specs.declared.system.System.{System}
@@ -14,7 +14,7 @@ use Rattle.cluster_core.specs.declared.worked.Worked.{Worked}
 use Rattle.cluster_core.specs.declared.worked.Worked.TheVariants.{Moved, Queued, Waits, Rests}
 use Rattle.cluster_core.specs.Follows.{FollowsBuilt}
 use Rattle.cluster_core.specs.Calls.{FollowsSome, GoesOn, KeepsPlace, WorkIs}
-use Rattle.cluster_core.specs.View.{ClusterView, after_sent, tried_once}
+use Rattle.cluster_core.specs.View.{ClusterView, after_sent, tried_once, head_of}
 use Rattle.bus_order.specs.Script.{is_unpassed}
 use Rattle.bus_order.specs.View.{BusView}
 use Rattle.cluster_run.specs.Gone.{is_told_by}
@@ -26,6 +26,8 @@ use Rattle.cluster_run.proofs.Prefixes.{legal_prefix}
 use Rattle.cluster_run.proofs.Offering.{along_tried}
 use Rattle.cluster_run.proofs.TakingIn.{upto_all}
 use Rattle.cluster_run.proofs.Sending.{clears, ready_sent, sent_along, sent_empty, sent_goes_on, sent_seen}
+use Rattle.cluster_core.specs.Work.{fetch_post}
+use Rattle.cluster_core.specs.Quantum.{post_told}
 
 -- its head is tried
 pub tried_posting : (Shows : Type 0) (from : ℕ) (b : BusView) (c t : ClusterView) → t ≡ tried_once c → IsUnnamed b c → IsPosting Shows from b c → IsPosting Shows from b t
@@ -96,10 +98,21 @@ worked_along b c new sound along unnamed goes keeps failed =
     }
 
 unfailed_by : (w : Worked) (c new : ClusterView) → WorkIs c w new → new.failed ≡ c.failed
-unfailed_by Moved c new is = ap (λ (v : ClusterView). v.failed) (is.1).rest
-unfailed_by Queued c new is = ap (λ (v : ClusterView). v.failed) (is.1).rest
-unfailed_by Waits c new is = absurd is
-unfailed_by Rests c new is = ap (λ (v : ClusterView). v.failed) is.1
+unfailed_by Moved c new is = ap (λ (v : ClusterView). v.failed) (is.2).rest
+unfailed_by Queued c new (inl answer) = ap (λ (v : ClusterView). v.failed) answer.rest
+unfailed_by Queued c new (inr (inl fetch)) = ap (λ (v : ClusterView). v.failed) (fetch.1).rest
+unfailed_by Queued c new (inr (inr sent)) = ap (λ (v : ClusterView). v.failed) (sent.2).rest
+unfailed_by Waits c new is = ap (λ (v : ClusterView). v.failed) is.4
+unfailed_by Rests c new is = ap (λ (v : ClusterView). v.failed) is.3
+
+-- what it queued is one post
+queued_one : (c new : ClusterView) → WorkIs c Queued new → (post : Post) × (new.queue ≡ post ∷ [])
+queued_one c new (inl answer) = (answer.post, ap (λ (v : ClusterView). v.queue) answer.rest)
+queued_one c new (inr (inl fetch)) = (fetch_post c.number (fetch.1).pid (fetch.1).index, ap (λ (v : ClusterView). v.queue) (fetch.1).rest)
+queued_one c new (inr (inr sent)) = (post_told c.number (sent.2).pid (((sent.2).now).small).steps (sent.2).emission, ap (λ (v : ClusterView). v.queue) (sent.2).rest)
+
+pub queued_head : (c new : ClusterView) → WorkIs c Queued new → is_some (head_of new.queue) ≡ true
+queued_head c new is = ap (λ q. is_some (head_of q)) (queued_one c new is).1
 
 pub worked_shown : (Shows : Type 0) (from : ℕ) (b : BusView) (c new : ClusterView) (w : Worked) → IsShown Shows from b c → IsUnnamed b c → GoesOn c new → KeepsPlace c new → WorkIs c w new → IsShown Shows from b new
 worked_shown Shows from b c new w shown unnamed goes keeps is = record {
@@ -109,11 +122,11 @@ worked_shown Shows from b c new w shown unnamed goes keeps is = record {
   along = worked_along b c new shown.sound shown.along unnamed goes keeps (unfailed_by w c new is);
 }
 
--- and what it queued is one post
+-- and goes on posting
 pub worked_posting : (Shows : Type 0) (from : ℕ) (b : BusView) (c new : ClusterView) → IsShown Shows from b c → IsUnnamed b c → c.cursor ≡ length b.log → is_over b.system b.log ≡ false → GoesOn c new → KeepsPlace c new → WorkIs c Queued new → IsPosting Shows from b new
 worked_posting Shows from b c new shown unnamed seen goes_on goes keeps is = record {
   shown = worked_shown Shows from b c new Queued shown unnamed goes keeps is;
   seen = keeps.cursor ∙ seen;
   goes_on = goes_on;
-  few = let one : length new.queue ≡ 1 = ap (λ (v : ClusterView). length v.queue) (is.1).rest in omega (arith, one);
+  few = let one : length new.queue ≡ 1 = ap length (queued_one c new is).1 in omega (arith, one);
 }

@@ -7,7 +7,7 @@ use Rattle.std.proofs.lemmas.Bool.Decides.{nat_tests}
 use Rattle.std.proofs.lemmas.Option.{slice_get-map}
 use Rattle.std.proofs.lemmas.List.{get_or-set_same, get_or-set_other}
 use Rattle.t32_base.specs.declared.process.ClusterNo.{ClusterNo}
-use Rattle.bus_msg.specs.Places.{all_clusters, cluster_no, lives_in}
+use Rattle.bus_msg.specs.Places.{all_clusters, cluster_no, lives_in, servers_in}
 use Rattle.cert_sched.specs.Schedule.{placement}
 use Rattle.cert_sched.specs.Losses.{was_lost_in}
 use Rattle.cert_sched.specs.Rules.{is_over}
@@ -21,11 +21,15 @@ use Rattle.bus_order.specs.declared.marks.Idled.TheVariants.{Marked, Done as Was
 use Rattle.bus_order.specs.View.{BusView, is_awaited, mark_in, with_mark}
 use Rattle.cluster_run.specs.Offers.{TakesMark}
 use Rattle.bus_order.proofs.MarksLaws.{mark_in-get_or}
-use Rattle.cluster_run.specs.Progress.{Falls, FallsBehind, GetsOn, HasMark, IsAtMost, IsAwaiting, IsLost, IsOver, LivesMarked, Remaining, Rests, remaining, remaining_of, total, unseen}
+use Rattle.cluster_run.specs.Progress.{Falls, FallsBehind, GetsOn, HasMark, IsAtMost, IsAwaiting, IsLost, IsOver, LivesMarked, Remaining, Rests, remaining, remaining_of, total, unseen, AwaitsPage, HasAnswered}
 use Rattle.cluster_run.specs.Along.{is_done_with}
 use Rattle.cluster_run.specs.Turns.{HasSpent, TurnsOwn}
 use Rattle.cert_sched.specs.Legal.{IsLegalBy}
 use Rattle.cert_sched.specs.Built.{BuiltMayFollow}
+use Rattle.cluster_run.proofs.FirstServer.{first_lives, first_there}
+use Rattle.cert_sched.specs.Moved.{waiting_fetches}
+use Rattle.cert_sched.specs.Parts.{first_of}
+use Rattle.sys_text.specs.Valid.{is_system}
 
 -- ---- marks
 
@@ -50,24 +54,26 @@ marked_still b k m n within had = by_place (nat_eq n k.0) refl had
     ]
 
 -- what a bus made of an idle cluster that lives
-pub told_rest : (b after : BusView) (k : ClusterNo) (cursor : ℕ) (m : Mark) (idled : Idled) → TakesMark b k cursor m idled after → k.0 < length b.marks → IsOver after ⊎ Rests b after k.0 (k.0 + 1)
-told_rest b after k cursor m Marked idles within = inr (record {
+pub told_rest : (b after : BusView) (k : ClusterNo) (cursor : ℕ) (m : Mark) (idled : Idled) → TakesMark b k cursor m idled after → k.0 < length b.marks → HasAnswered b k.0 → IsOver after ⊎ Rests b after k.0 (k.0 + 1)
+told_rest b after k cursor m Marked idles within answered = inr (record {
+  system = ap (λ (x : BusView). x.system) idles.3;
   log = ap (λ (x : BusView). x.log) idles.3;
+  answered = λ n low high. along (λ (x : BusView). HasAnswered x n) (subst (HasAnswered b) (let same : k.0 ≡ n = omega (arith, low, high) in same) answered);
   marked = λ n low high. inl (along (λ (x : BusView). HasMark x n) (marked_still b k m n within (inr (omega (arith, low, high)))));
   kept = λ n has. along (λ (x : BusView). HasMark x n) (marked_still b k m n within (inl has));
-  awaits = λ any. let P : BusView → Type 0 = λ x. is_awaited (placement x.system x.log) after.marks ≡ true in subst P (sym (λ i. record (idles.3 i) { marks = b.marks })) idles.2;
+  awaits = λ none any. let P : BusView → Type 0 = λ x. is_awaited (placement x.system x.log) after.marks ≡ true in subst P (sym (λ i. record (idles.3 i) { marks = b.marks })) idles.2;
 })
   where
     along : (P : BusView → Type 0) → P (with_mark b k m) → P after
     along P holds = subst P (sym idles.3) holds
-told_rest b after k cursor m (WasDone at) idles within =
+told_rest b after k cursor m (WasDone at) idles within answered =
     let ends = idles.3 in
     inl (let P : BusView → Type 0 = λ x. is_over x.system x.log ≡ true in subst P (sym ends.ended) (is_over-snoc b.system b.log _))
 
 -- ---- what is left
 
 -- the parts behind the words
-behind_then : (a b c : Remaining) → FallsBehind a b → FallsBehind b c ⊎ ((c.steps ≡ b.steps) × (c.entries ≡ b.entries) × (c.moves ≡ b.moves)) → FallsBehind a c
+behind_then : (a b c : Remaining) → FallsBehind a b → FallsBehind b c ⊎ ((c.posts ≡ b.posts) × (c.entries ≡ b.entries) × (c.moves ≡ b.moves)) → FallsBehind a c
 behind_then a b c (inl x) (inl (inl y)) = inl (omega (arith, x, y))
 behind_then a b c (inl x) (inl (inr (inl y))) = inl (omega (arith, x, y.0))
 behind_then a b c (inl x) (inl (inr (inr y))) = inl (omega (arith, x, y.0))
@@ -81,7 +87,7 @@ behind_then a b c (inr (inr x)) (inl (inr (inl y))) = inr (inl (y.0 ∙ x.0, ome
 behind_then a b c (inr (inr x)) (inl (inr (inr y))) = inr (inr (y.0 ∙ x.0, y.1 ∙ x.1, omega (arith, x.2, y.2)))
 behind_then a b c (inr (inr x)) (inr y) = inr (inr (y.0 ∙ x.0, y.1 ∙ x.1, omega (arith, x.2, y.2)))
 
-then_behind : (a b c : Remaining) → (b.steps ≡ a.steps) × (b.entries ≡ a.entries) × (b.moves ≡ a.moves) → FallsBehind b c → FallsBehind a c
+then_behind : (a b c : Remaining) → (b.posts ≡ a.posts) × (b.entries ≡ a.entries) × (b.moves ≡ a.moves) → FallsBehind b c → FallsBehind a c
 then_behind a b c x (inl y) = inl (omega (arith, x.0, y))
 then_behind a b c x (inr (inl y)) = inr (inl (y.0 ∙ x.0, omega (arith, x.1, y.1)))
 then_behind a b c x (inr (inr y)) = inr (inr (y.0 ∙ x.0, y.1 ∙ x.1, omega (arith, x.2, y.2)))
@@ -162,25 +168,43 @@ module _ (b after : BusView) (cs : List ClusterView) (n : ℕ) (d new : ClusterV
 -- no turn yet
 pub none_given : (b : BusView) (left : Remaining) (from : ℕ) → GetsOn b b left left from from
 none_given b left from = inr (inr (record {
+  system = refl;
   log = refl;
   marked = λ n low high. absurd (omega (arith, low, high));
+  answered = λ n low high. absurd (omega (arith, low, high));
   kept = λ n has. has;
-  awaits = λ any. none_or any;
+  awaits = λ none any. none_or any;
 }))
   where
     none_or : LivesMarked b from from ⊎ IsAwaiting b → IsAwaiting b
     none_or (inl one) = let low = one.low in let high = one.high in absurd (omega (arith, low, high))
     none_or (inr awaiting) = awaiting
 
--- a cluster that was lost rests
-pub lost_rests : (b : BusView) (n : ℕ) → IsLost b n → Rests b b n (n + 1)
-lost_rests b n lost = record {
+-- a cluster that waits for a page, and has answered, leaves the bus as it is
+pub waiting_rests : (b : BusView) (k : ClusterNo) → AwaitsPage b → HasAnswered b k.0 → Rests b b k.0 (k.0 + 1)
+waiting_rests b k waits answered = record {
+  system = refl;
   log = refl;
-  marked = λ m low high. inr (subst (IsLost b) (let same : n ≡ m = omega (arith, low, high) in same) lost);
+  marked = λ n low high. inr (inr waits);
+  answered = λ n low high. subst (HasAnswered b) (let same : k.0 ≡ n = omega (arith, low, high) in same) answered;
+  kept = λ n has. has;
+  awaits = λ none any. absurd (waits none);
+}
+
+-- a cluster that was lost rests
+pub lost_rests : (b : BusView) (n : ℕ) → IsLegalBy BuiltMayFollow b.system b.log → IsLost b n → Rests b b n (n + 1)
+lost_rests b n legal lost = record {
+  system = refl;
+  log = refl;
+  marked = λ m low high. inr (inl (is_lost m low high));
+  answered = λ m low high first. absurd (true≢false (sym (is_lost m low high) ∙ first_lives b.system b.log (cluster_no m) legal first));
   kept = λ m has. has;
-  awaits = λ any. none_or any;
+  awaits = λ none any. none_or any;
 }
   where
+    is_lost : (m : ℕ) → n ≤ m → m < n + 1 → IsLost b m
+    is_lost m low high = subst (IsLost b) (let same : n ≡ m = omega (arith, low, high) in same) lost
+
     none_or : LivesMarked b n (n + 1) ⊎ IsAwaiting b → IsAwaiting b
     none_or (inl one) =
         let low = one.low in
@@ -190,12 +214,32 @@ lost_rests b n lost = record {
     none_or (inr awaiting) = awaiting
 
 -- nor has one that has done with the log
-pub done_given : (b : BusView) (left : Remaining) (n : ℕ) (k : ClusterNo) → k.0 ≡ n → is_done_with k b.system b.log ≡ true → GetsOn b b left left n (n + 1)
-done_given b left n k same done = by_end (is_over b.system b.log) refl
+pub done_given : (b : BusView) (left : Remaining) (n : ℕ) (k : ClusterNo) → IsLegalBy BuiltMayFollow b.system b.log → k.0 ≡ n → is_done_with k b.system b.log ≡ true → GetsOn b b left left n (n + 1)
+done_given b left n k legal same done = by_end (is_over b.system b.log) refl
   where
     by_end : (t : Bool) → is_over b.system b.log ≡ t → GetsOn b b left left n (n + 1)
     by_end true over = inr (inl over)
-    by_end false goes_on = inr (inr (lost_rests b n (ap (λ m. was_lost_in b.log (cluster_no m)) (sym same) ∙ ap (λ t. t || was_lost_in b.log k) (sym goes_on) ∙ done)))
+    by_end false goes_on = inr (inr (lost_rests b n legal (ap (λ m. was_lost_in b.log (cluster_no m)) (sym same) ∙ ap (λ t. t || was_lost_in b.log k) (sym goes_on) ∙ done)))
+
+-- ---- a bus on which nothing was done, and one before it
+
+-- what was asked for is what was asked for before
+none_before : (mid after : BusView) → after.system ≡ mid.system → after.log ≡ mid.log → waiting_fetches after.system after.log ≡ [] → waiting_fetches mid.system mid.log ≡ []
+none_before mid after system log none = sym (λ i. waiting_fetches (system i) (log i)) ∙ none
+
+marked_then : (mid after : BusView) (m : ℕ) → after.system ≡ mid.system → after.log ≡ mid.log → (HasMark mid m → HasMark after m) → HasMark mid m ⊎ IsLost mid m ⊎ AwaitsPage mid → HasMark after m ⊎ IsLost after m ⊎ AwaitsPage after
+marked_then mid after m system log kept (inl has) = inl (kept has)
+marked_then mid after m system log kept (inr (inl lost)) = inr (inl (ap (λ l. was_lost_in l (cluster_no m)) log ∙ lost))
+marked_then mid after m system log kept (inr (inr waits)) = inr (inr (λ none. waits (none_before mid after system log none)))
+
+answered_then : (mid after : BusView) (m : ℕ) → after.system ≡ mid.system → after.log ≡ mid.log → HasAnswered mid m → HasAnswered after m
+answered_then mid after m system log answered first = (λ i. waiting_fetches (system i) (log i)) ∙ answered (sym (λ i. first_of (servers_in (placement (system i) (log i)))) ∙ first)
+
+-- one that lives has its mark where each page has come
+has_mark : (b : BusView) (n : ℕ) → waiting_fetches b.system b.log ≡ [] → was_lost_in b.log (cluster_no n) ≡ false → HasMark b n ⊎ IsLost b n ⊎ AwaitsPage b → HasMark b n
+has_mark b n none lives (inl has) = has
+has_mark b n none lives (inr (inl lost)) = absurd (true≢false (sym lost ∙ lives))
+has_mark b n none lives (inr (inr waits)) = absurd (waits none)
 
 -- one turn more
 module _ (b mid after : BusView) (left now still : Remaining) (from n : ℕ) (over : IsOver mid → IsOver after) (first : IsOver mid ⊎ IsAtMost left now) (last : IsOver after ⊎ IsAtMost now still) where
@@ -207,34 +251,43 @@ module _ (b mid after : BusView) (left now still : Remaining) (from n : ℕ) (ov
   by_first falls (inl ended) = inr (inl (over ended))
   by_first falls (inr less) = inl (then_falls left now still less falls)
 
-  by_place : (m : ℕ) → Rests b mid from n → Rests mid after n (n + 1) → (m < n) ⊎ (n ≤ m) → from ≤ m → m < n + 1 → HasMark after m ⊎ IsLost after m
-  by_place m one two (inl earlier) low high = elim (one.marked m low earlier) [ inl has ↦ inl (two.kept m has) | inr lost ↦ inr (ap (λ l. was_lost_in l (cluster_no m)) two.log ∙ lost) ]
+  by_place : (m : ℕ) → Rests b mid from n → Rests mid after n (n + 1) → (m < n) ⊎ (n ≤ m) → from ≤ m → m < n + 1 → HasMark after m ⊎ IsLost after m ⊎ AwaitsPage after
+  by_place m one two (inl earlier) low high = marked_then mid after m two.system two.log (two.kept m) (one.marked m low earlier)
   by_place m one two (inr here) low high = two.marked m here high
 
+  answered_by : (m : ℕ) → Rests b mid from n → Rests mid after n (n + 1) → (m < n) ⊎ (n ≤ m) → from ≤ m → m < n + 1 → HasAnswered after m
+  answered_by m one two (inl earlier) low high = answered_then mid after m two.system two.log (one.answered m low earlier)
+  answered_by m one two (inr here) low high = two.answered m here high
+
   -- one of them that lives was marked by a turn
-  by_living : Rests b mid from n → Rests mid after n (n + 1) → (l : LivesMarked after from (n + 1)) → (l.number < n) ⊎ (n ≤ l.number) → IsAwaiting after
-  by_living one two l (inl earlier) = two.awaits (inr (one.awaits (inl (record {
+  by_living : Rests b mid from n → Rests mid after n (n + 1) → waiting_fetches after.system after.log ≡ [] → (l : LivesMarked after from (n + 1)) → (l.number < n) ⊎ (n ≤ l.number) → IsAwaiting after
+  by_living one two none l (inl earlier) = two.awaits none (inr (one.awaits none_mid (inl (record {
     number = l.number;
     low = l.low;
     high = earlier;
     lives = lives_mid;
-    marked = elim (one.marked l.number l.low earlier) [ inl has ↦ has | inr lost ↦ absurd (true≢false (sym lost ∙ lives_mid)) ];
+    marked = has_mark mid l.number none_mid lives_mid (one.marked l.number l.low earlier);
   }))))
     where
+      none_mid : waiting_fetches mid.system mid.log ≡ []
+      none_mid = none_before mid after two.system two.log none
+
       lives_mid : was_lost_in mid.log (cluster_no l.number) ≡ false
       lives_mid = ap (λ x. was_lost_in x (cluster_no l.number)) (sym two.log) ∙ l.lives
-  by_living one two l (inr here) = two.awaits (inl (record { number = l.number; low = here; high = l.high; lives = l.lives; marked = l.marked }))
+  by_living one two none l (inr here) = two.awaits none (inl (record { number = l.number; low = here; high = l.high; lives = l.lives; marked = l.marked }))
 
-  by_any : Rests b mid from n → Rests mid after n (n + 1) → LivesMarked after from (n + 1) ⊎ IsAwaiting b → IsAwaiting after
-  by_any one two (inl l) = by_living one two l (nat_lt_or l.number n)
-  by_any one two (inr awaiting) = two.awaits (inr (one.awaits (inr awaiting)))
+  by_any : Rests b mid from n → Rests mid after n (n + 1) → waiting_fetches after.system after.log ≡ [] → LivesMarked after from (n + 1) ⊎ IsAwaiting b → IsAwaiting after
+  by_any one two none (inl l) = by_living one two none l (nat_lt_or l.number n)
+  by_any one two none (inr awaiting) = two.awaits none (inr (one.awaits (none_before mid after two.system two.log none) (inr awaiting)))
 
   by_next : Rests b mid from n → GetsOn mid after now still n (n + 1) → GetsOn b after left still from (n + 1)
   by_next one (inl falls) = by_first falls first
   by_next one (inr (inl ended)) = inr (inl ended)
   by_next one (inr (inr two)) = inr (inr (record {
+    system = two.system ∙ one.system;
     log = two.log ∙ one.log;
     marked = λ m low high. by_place m one two (nat_lt_or m n) low high;
+    answered = λ m low high. answered_by m one two (nat_lt_or m n) low high;
     kept = λ m has. two.kept m (one.kept m has);
     awaits = by_any one two;
   }))
@@ -288,31 +341,47 @@ none_awaited b legal all = any_none (λ k. lives_in (placement b.system b.log) k
         subst (λ k. (lives_in (placement b.system b.log) k && is_none (mark_in b.marks k)) ≡ false) same (marked_or i within (all i within))
 
 -- a round leaves less to do, or the log is over, where one cluster lives
-module _ (b then after : BusView) (left still now : Remaining) (first count : ℕ) (legal : IsLegalBy BuiltMayFollow after.system after.log) (each : count ≡ (after.system).clusters) (alive : LivesThere after) (over : IsOver then → IsOver after)
+module _ (b then after : BusView) (left still now : Remaining) (first count : ℕ) (valid : is_system after.system ≡ true) (legal : IsLegalBy BuiltMayFollow after.system after.log) (each : count ≡ (after.system).clusters) (alive : LivesThere after) (over : IsOver then → IsOver after)
     (first_lasts : IsOver then ⊎ IsAtMost left still) (second_lasts : IsOver after ⊎ IsAtMost still now) where
-  all_marked : Rests b then first count → Rests then after 0 first → (n : ℕ) → (n < first) ⊎ (first ≤ n) → n < count → HasMark after n ⊎ IsLost after n
+  all_marked : Rests b then first count → Rests then after 0 first → (n : ℕ) → (n < first) ⊎ (first ≤ n) → n < count → HasMark after n ⊎ IsLost after n ⊎ AwaitsPage after
   all_marked one two n (inl earlier) low = two.marked n (omega arith) earlier
-  all_marked one two n (inr later) low = elim (one.marked n later low) [ inl has ↦ inl (two.kept n has) | inr lost ↦ inr (ap (λ l. was_lost_in l (cluster_no n)) two.log ∙ lost) ]
+  all_marked one two n (inr later) low = marked_then then after n two.system two.log (two.kept n) (one.marked n later low)
+
+  all_answered : Rests b then first count → Rests then after 0 first → (n : ℕ) → (n < first) ⊎ (first ≤ n) → n < count → HasAnswered after n
+  all_answered one two n (inl earlier) low = two.answered n (omega arith) earlier
+  all_answered one two n (inr later) low = answered_then then after n two.system two.log (one.answered n later low)
+
+  -- the first page server had its turn, so each page has come
+  none_awaits : is_over after.system after.log ≡ false → Rests b then first count → Rests then after 0 first → waiting_fetches after.system after.log ≡ []
+  none_awaits goes one two =
+      let server = first_there after.system after.log valid legal goes in
+      all_answered one two server.number (nat_lt_or server.number first) (let within = server.within in omega (arith, within, each)) server.first
 
   -- the one that lives was marked, so that one was awaited still
-  awaited_by : Rests b then first count → Rests then after 0 first → (alive.number < first) ⊎ (first ≤ alive.number) → HasMark after alive.number → IsAwaiting after
-  awaited_by one two (inl earlier) has = two.awaits (inl (record { number = alive.number; low = omega arith; high = earlier; lives = alive.lives; marked = has }))
-  awaited_by one two (inr later) has = two.awaits (inr (one.awaits (inl (record {
+  awaited_by : Rests b then first count → Rests then after 0 first → waiting_fetches after.system after.log ≡ [] → (alive.number < first) ⊎ (first ≤ alive.number) → HasMark after alive.number → IsAwaiting after
+  awaited_by one two none (inl earlier) has = two.awaits none (inl (record { number = alive.number; low = omega arith; high = earlier; lives = alive.lives; marked = has }))
+  awaited_by one two none (inr later) has = two.awaits none (inr (one.awaits (none_before then after two.system two.log none) (inl (record {
     number = alive.number;
     low = later;
     high = let within = alive.within in omega (arith, within, each);
     lives = lives_then;
-    marked = elim (one.marked alive.number later (let within = alive.within in omega (arith, within, each))) [ inl has ↦ has | inr lost ↦ absurd (true≢false (sym lost ∙ lives_then)) ];
+    marked = has_mark then alive.number (none_before then after two.system two.log none) lives_then (one.marked alive.number later (let within = alive.within in omega (arith, within, each)));
   }))))
     where
       lives_then : was_lost_in then.log (cluster_no alive.number) ≡ false
       lives_then = ap (λ x. was_lost_in x (cluster_no alive.number)) (sym two.log) ∙ alive.lives
 
-  never_rest : Rests b then first count → Rests then after 0 first → ⊥
-  never_rest one two =
-      let all = λ (n : ℕ) (low : n < (after.system).clusters). all_marked one two n (nat_lt_or n first) (omega (arith, low, each)) in
-      let has : HasMark after alive.number = elim (all alive.number alive.within) [ inl has ↦ has | inr lost ↦ absurd (true≢false (sym lost ∙ alive.lives)) ] in
-      true≢false (sym (awaited_by one two (nat_lt_or alive.number first) has) ∙ none_awaited after legal all)
+  never_rest : is_over after.system after.log ≡ false → Rests b then first count → Rests then after 0 first → ⊥
+  never_rest goes one two =
+      let none = none_awaits goes one two in
+      let all = λ (n : ℕ) (low : n < (after.system).clusters). marked_or_lost n none (all_marked one two n (nat_lt_or n first) (omega (arith, low, each))) in
+      let has : HasMark after alive.number = has_mark after alive.number none alive.lives (all_marked one two alive.number (nat_lt_or alive.number first) (let within = alive.within in omega (arith, within, each))) in
+      true≢false (sym (awaited_by one two none (nat_lt_or alive.number first) has) ∙ none_awaited after legal all)
+    where
+      marked_or_lost : (n : ℕ) → waiting_fetches after.system after.log ≡ [] → HasMark after n ⊎ IsLost after n ⊎ AwaitsPage after → HasMark after n ⊎ IsLost after n
+      marked_or_lost n none (inl has) = inl has
+      marked_or_lost n none (inr (inl lost)) = inr lost
+      marked_or_lost n none (inr (inr waits)) = absurd (waits none)
 
   second_after : Falls left still → IsOver after ⊎ IsAtMost still now → Falls left now ⊎ IsOver after
   second_after falls (inl ended) = inr ended
@@ -325,7 +394,11 @@ module _ (b then after : BusView) (left still now : Remaining) (first count : �
   after_rest : Rests b then first count → GetsOn then after still now 0 first → Falls left now ⊎ IsOver after
   after_rest one (inl falls) = first_before falls first_lasts
   after_rest one (inr (inl ended)) = inr ended
-  after_rest one (inr (inr two)) = absurd (never_rest one two)
+  after_rest one (inr (inr two)) = by_over (is_over after.system after.log) refl
+    where
+      by_over : (t : Bool) → is_over after.system after.log ≡ t → Falls left now ⊎ IsOver after
+      by_over true ended = inr ended
+      by_over false goes = absurd (never_rest goes one two)
 
   pub round_gets_on : GetsOn b then left still first count → GetsOn then after still now 0 first → Falls left now ⊎ IsOver after
   round_gets_on (inl falls) next = second_after falls second_lasts

@@ -1,71 +1,43 @@
 -- A cluster takes in the entry that it sent.
-use Rattle.std.proofs.Common.{◌≡◌, ◌+◌, ◌≤◌, ◌<◌, take, refl, sym, ◌∙◌, ap, subst, arith, List, [], ◌∷◌, ◌++◌, length, drop, length-append, false, true, ◌||◌, Some, slice_get, true≢false, inr}
+use Rattle.std.proofs.Common.{◌≡◌, ◌+◌, ◌≤◌, ◌<◌, take, refl, sym, ◌∙◌, ap, subst, arith, List, [], ◌∷◌, ◌++◌, length, drop, length-append, false, true, ◌||◌, Some, slice_get, inr}
 use Rattle.std.specs.Prelude.{option_map}
 use Rattle.std.specs.List.{list_any, list_all}
 use Rattle.std.proofs.lemmas.List.{take-append-le, take_all}
 use Rattle.std.proofs.lemmas.Bool.{and_parts}
 use Rattle.std.proofs.lemmas.List.Folds.{list_any-append}
-use Rattle.t32_base.specs.declared.process.ClusterNo.{ClusterNo}
 use Rattle.sys_text.specs.declared.system.System.{System}
-use Rattle.bus_msg.specs.declared.entry.What.{What}
-use Rattle.bus_msg.specs.declared.entry.What.TheVariants.{Mail, Birth, Exit, Page, Sync, Fetch, PageIs, Crash, Return, Rebackup, Done, Stop}
 use Rattle.bus_msg.specs.declared.entry.Post.{Post}
 use Rattle.bus_msg.specs.declared.entry.Entry.{Entry}
-use Rattle.bus_msg.specs.Places.{Places}
 use Rattle.bus_msg.specs.PlacedAfter.{what}
 use Rattle.cert_sched.specs.Schedule.{placement}
-use Rattle.cert_sched.specs.Scripted.{closes}
 use Rattle.cert_sched.specs.Appended.{entry_of}
-use Rattle.cert_sched.specs.Rules.{ends_run, is_over}
+use Rattle.cert_sched.specs.Rules.{is_over}
 use Rattle.cert_sched.specs.Legal.{IsLegalBy}
-use Rattle.cert_sched.specs.Built.{BuiltMayFollow, TellingMayFollow, tells_or_closes}
+use Rattle.cert_sched.specs.Built.{BuiltMayFollow, UnlostMayFollow}
 use Rattle.cert_sched.specs.Losses.{is_by_cluster, is_crash_of, is_from, was_lost_in}
 use Rattle.cert_sched.proofs.Induction.{is_over-snoc}
 use Rattle.cert_sched.proofs.LogLaws.{IsLegal-snoc}
-use Rattle.cert_sched.proofs.UnlostLaws.{telling_built}
-use Rattle.cluster_core.specs.View.{ClusterView, head_of, after_head, after_sent, with_server}
+use Rattle.cert_sched.proofs.UnlostLaws.{may_unlost}
+use Rattle.cluster_core.specs.View.{ClusterView, head_of, after_sent, with_server}
 use Rattle.cluster_core.specs.Queue.{IsQueueLegal}
 use Rattle.cluster_core.specs.Follows.{FollowsBuilt, IsOpen, StandsBetween}
 use Rattle.cluster_core.specs.Calls.{Absorbs, IsReady, ReadyFor, absorbed}
-use Rattle.cluster_core.proofs.ByKind.{by_kind}
-use Rattle.cluster_core.proofs.Following.{no_end}
 use Rattle.bus_order.specs.Script.{is_unpassed}
 use Rattle.bus_order.specs.View.{BusView}
 use Rattle.script_laws.proofs.PassedWords.{all_longer}
 use Rattle.cluster_run.specs.Gone.{IsBeforeStep, is_told_by}
 use Rattle.cluster_run.specs.Along.{IsAlong, IsReadyAt, IsSound, IsUnnamed, TakesNext}
-use Rattle.cluster_run.specs.Progress.{log_load}
+use Rattle.cluster_run.specs.Progress.{left_after}
 use Rattle.cluster_run.specs.Turns.{IsSent}
 use Rattle.cluster_run.proofs.Prefixes.{drop_whole, get_last}
 use Rattle.cluster_run.proofs.OwnLosses.{none_own, passed_next}
-use Rattle.cluster_run.proofs.StepsLeft.{entry_leaves}
+use Rattle.cluster_run.proofs.PostsLeft.{entry_leaves}
+use Rattle.cluster_run.proofs.Unlost.{closes_not, ends_closed, no_loss, same_after}
 use Rattle.cluster_run.proofs.TakingIn.{upto_all}
 
 -- a cluster whose one post was sent
 abbrev pub cleared : ClusterView → ClusterView
 cleared c = record c { queue = []; tried = false }
-
-pub same_after : (w : What) (c : ClusterView) → tells_or_closes w ≡ true → after_head c w ≡ c
-same_after (Mail at letter) c h = refl
-same_after (Birth parent at child end) c h = refl
-same_after (Exit pid at end) c h = refl
-same_after (Page pid at index bytes) c h = refl
-same_after (Sync pid small read took) c h = refl
-same_after (Fetch pid index) c h = refl
-same_after (PageIs pid index bytes) c h = refl
-same_after (Crash k cause) c h = refl
-same_after (Return k) c h = refl
-same_after (Rebackup to fresh recs) c h = absurd (true≢false (sym h))
-same_after (Done rests) c h = refl
-same_after Stop c h = refl
-
--- a log ends by an entry that is no loss exactly where that closes it
-ends_closed : (places : Places) (w : What) → tells_or_closes w ≡ true → ends_run places w ≡ closes w
-ends_closed places = by_kind (λ w. ends_run places w ≡ closes w) (λ at letter. refl) (λ pid at end. refl) (λ rests. refl) refl
-
--- an entry that is no loss loses no cluster
-no_loss : (k : ClusterNo) (w : What) → tells_or_closes w ≡ true → is_crash_of k w ≡ false
-no_loss k = by_kind (λ w. is_crash_of k w ≡ false) (λ at letter. refl) (λ pid at end. refl) (λ rests. refl) refl
 
 module _ (log : List Entry) (c : ClusterView) (post : Post) (after : BusView) (s : IsSent log c post after) where
   abbrev next : Entry
@@ -74,8 +46,8 @@ module _ (log : List Entry) (c : ClusterView) (post : Post) (after : BusView) (s
   follows : FollowsBuilt c.system log c
   follows = subst (λ l. FollowsBuilt c.system l c) (take_all c.cursor log (omega (arith, s.seen))) (s.beside).follows
 
-  may : TellingMayFollow c.system log next
-  may = let queue = subst (λ q. IsQueueLegal TellingMayFollow c.system log q) s.only (follows.queue).legal in queue.0
+  may : UnlostMayFollow c.system log next
+  may = let queue = subst (λ q. IsQueueLegal UnlostMayFollow c.system log q) s.only (follows.queue).legal in queue.0
 
   pub own : is_from c.number post.by ≡ true
   own =
@@ -86,7 +58,7 @@ module _ (log : List Entry) (c : ClusterView) (post : Post) (after : BusView) (s
   clears = ap (after_sent c) s.only ∙ ap (λ (v : ClusterView). record v { queue = []; tried = false }) (same_after post.what c may.built)
 
   legal_next : IsLegalBy BuiltMayFollow c.system (log ++ next ∷ [])
-  legal_next = IsLegal-snoc BuiltMayFollow c.system log next s.legal (telling_built c.system log next may)
+  legal_next = IsLegal-snoc BuiltMayFollow c.system log next s.legal (may_unlost c.system log next may)
 
   lives_log : was_lost_in log c.number ≡ false
   lives_log = ap (λ l. was_lost_in l c.number) (sym (take_all c.cursor log (omega (arith, s.seen)))) ∙ (s.beside).lives
@@ -98,18 +70,18 @@ module _ (log : List Entry) (c : ClusterView) (post : Post) (after : BusView) (s
       ∙ (λ i. lives_log i || (no_loss c.number (what next) may.built i || false))
 
   goes_on_next : is_over c.system (log ++ next ∷ []) ≡ false
-  goes_on_next = is_over-snoc c.system log next ∙ ends_closed (placement c.system log) (what next) may.built ∙ no_end c.number (placement c.system log) post.by post.what may.built own (may.stands).by_right
+  goes_on_next = is_over-snoc c.system log next ∙ ends_closed (placement c.system log) (what next) may.built ∙ closes_not c.number (placement c.system log) post.by post.what may.built own (may.stands).by_right
 
   pub sent_goes_on : is_over after.system after.log ≡ false
   sent_goes_on = (λ i. is_over (sym s.system i) (s.longer i)) ∙ goes_on_next
 
-  -- it leaves the kernel without failures a step fewer, at least
-  pub sent_spends : log_load after.system after.log + length after.log ≤ log_load c.system log + length log
+  -- it leaves a post less to send, at least
+  pub sent_spends : left_after after.system after.log + length after.log ≤ left_after c.system log + length log
   sent_spends =
       let less = entry_leaves c.system log c.number next may own in
-      let load_is : log_load after.system after.log ≡ log_load c.system (log ++ next ∷ []) = λ i. log_load (sym s.system i) (s.longer i) in
+      let left_is : left_after after.system after.log ≡ left_after c.system (log ++ next ∷ []) = λ i. left_after (sym s.system i) (s.longer i) in
       let grown : length after.log ≡ length log + 1 = ap length s.longer ∙ length-append log (next ∷ []) in
-      omega (arith, less, load_is, grown)
+      omega (arith, less, left_is, grown)
 
   long : length after.log ≡ c.cursor + 1
   long = ap length s.longer ∙ length-append log (next ∷ []) ∙ ap (λ n. n + 1) (sym s.seen)

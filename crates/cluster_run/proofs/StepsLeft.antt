@@ -1,4 +1,4 @@
--- Each step of the kernel without failures leaves it fewer, so each entry that a cluster sends does.
+-- Each step of the kernel without failures leaves it fewer, so each entry that tells of what a process sent does.
 use Rattle.std.proofs.Common.{◌≡◌, ℕ, ◌+◌, ◌≤◌, refl, sym, ◌∙◌, ap, subst, arith, List, [], ◌∷◌, ◌++◌, Bool, true, false, cond, T, Option, Some, None, is_some, true≢false}
 use Rattle.std.specs.Prelude.{option_and_then}
 use Rattle.std.specs.List.{sum_by}
@@ -10,7 +10,6 @@ use Rattle.std.specs.FinMap.{find, put, is_sorted}
 use Rattle.std.specs.FinMap.Entries.{by_order}
 use Rattle.std.proofs.lemmas.List.Sums.{sum_by-cons}
 use Rattle.t32_base.specs.declared.process.Pid.{Pid}
-use Rattle.t32_base.specs.declared.process.ClusterNo.{ClusterNo}
 use Rattle.t32_base.specs.declared.letter.Letter.{Letter}
 use Rattle.t32_base.specs.declared.letter.To.{To}
 use Rattle.t32_base.specs.declared.letter.To.TheVariants.{Proc, Tty}
@@ -27,19 +26,11 @@ use Rattle.plain_kernel.specs.Apply.{after_step, one_step}
 use Rattle.plain_kernel.proofs.Entries.{some_same}
 use Rattle.plain_kernel.proofs.Pids.{HasPids, IsRising, left_true, right_true, not_found, one_step-pids, put_process, pids_in}
 use Rattle.plain_kernel.proofs.AtBoot.{boot-pids}
-use Rattle.bus_msg.specs.declared.entry.What.{What}
-use Rattle.bus_msg.specs.declared.entry.What.TheVariants.{Mail, Birth, Exit, Page, Sync, Fetch, PageIs, Crash, Return, Rebackup, Done, Stop}
-use Rattle.bus_msg.specs.declared.entry.By.{By}
-use Rattle.bus_msg.specs.declared.entry.By.TheVariants.{Cluster, Bus}
 use Rattle.bus_msg.specs.declared.entry.Entry.{Entry}
 use Rattle.bus_msg.specs.PlacedAfter.{what}
-use Rattle.cert_sched.specs.Schedule.{placement, plain_after}
+use Rattle.cert_sched.specs.Schedule.{plain_after}
 use Rattle.cert_sched.specs.Steps.{emission_at}
-use Rattle.cert_sched.specs.Rules.{is_by_right, is_bus}
-use Rattle.cert_sched.specs.Kinds.{KindHolds}
-use Rattle.cert_sched.specs.Losses.{is_from}
-use Rattle.cert_sched.specs.Built.{TellingMayFollow, tells_or_closes}
-use Rattle.cert_sched.proofs.StepLaws.{Tells, is_sent, plain_after-keeps, plain_after-sent, sent_from}
+use Rattle.cert_sched.proofs.StepLaws.{Tells, plain_after-keeps, plain_after-sent, sent_from}
 use Rattle.sys_calls.proofs.Weighing.{Leaves, emits_leaves, next_leaves, silently_leaves}
 use Rattle.cluster_run.specs.Progress.{kernel_load, log_load}
 
@@ -127,7 +118,7 @@ after_log system log k is =
 -- ---- an entry
 
 -- an entry that tells of what a process sent
-sent_leaves : (system : System) (log : List Entry) (entry : Entry) (p : Pid) (at : ℕ) (e : Emission) (t : ProcState) → emission_at system log p at ≡ Some (e, t) → Tells p at e (what entry)
+pub sent_leaves : (system : System) (log : List Entry) (entry : Entry) (p : Pid) (at : ℕ) (e : Emission) (t : ProcState) → emission_at system log p at ≡ Some (e, t) → Tells p at e (what entry)
     → log_load system (log ++ entry ∷ []) + 1 ≤ log_load system log
 sent_leaves system log entry p at e t is tells =
     let s = sent_from system log p at e t is in
@@ -136,25 +127,3 @@ sent_leaves system log entry p at e t is tells =
     let after : log_load system (log ++ entry ∷ []) ≡ kernel_load (emitted (with_process s.kernel p t) e) = ap (λ o. option_map_or kernel_load o 0) (plain_after-sent system log entry p at e t s.kernel s.before is tells) in
     let before : log_load system log ≡ kernel_load s.kernel = ap (λ o. option_map_or kernel_load o 0) s.before in
     omega (arith, after, before, sent_weighs (pids_in (boot system)) s.kernel p s.was t e (plain_after-keeps (HasPids (pids_in (boot system))) (one_step-pids (pids_in (boot system))) system log s.kernel (boot-pids system) s.before) s.there less)
-
-not_bus : (k : ClusterNo) (by : By) → is_from k by ≡ true → is_bus by ≡ true → ⊥
-not_bus k Bus own bus = true≢false (sym own)
-not_bus k (Cluster j) own bus = true≢false (sym bus)
-
--- each entry that a cluster may send next leaves fewer steps in the kernel without failures
-pub entry_leaves : (system : System) (log : List Entry) (k : ClusterNo) (entry : Entry) → TellingMayFollow system log entry → is_from k (entry.post).by ≡ true → log_load system (log ++ entry ∷ []) + 1 ≤ log_load system log
-entry_leaves system log k entry may own = by_what (what entry) refl may.built (may.stands).kind (may.stands).by_right
-  where
-    by_what : (w : What) → what entry ≡ w → tells_or_closes w ≡ true → KindHolds system log entry w → is_by_right (placement system log) (entry.post).by w ≡ true → log_load system (log ++ entry ∷ []) + 1 ≤ log_load system log
-    by_what (Mail at letter) is built kind right = let s = is_sent system log letter.from at (Sent letter) kind in sent_leaves system log entry letter.from at (Sent letter) s.after s.is (refl, is)
-    by_what (Birth parent at child end) is built kind right = cc
-    by_what (Exit pid at end) is built kind right = let s = is_sent system log pid at (Ended end) kind.0 in sent_leaves system log entry pid at (Ended end) s.after s.is is
-    by_what (Page pid at index bytes) is built kind right = cc
-    by_what (Sync pid small read took) is built kind right = cc
-    by_what (Fetch pid index) is built kind right = cc
-    by_what (PageIs pid index bytes) is built kind right = cc
-    by_what (Crash c cause) is built kind right = cc
-    by_what (Return c) is built kind right = cc
-    by_what (Rebackup to fresh recs) is built kind right = cc
-    by_what (Done rests) is built kind right = absurd (not_bus k (entry.post).by own right)
-    by_what Stop is built kind right = absurd (not_bus k (entry.post).by own right)

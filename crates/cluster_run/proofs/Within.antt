@@ -21,26 +21,22 @@ use Rattle.sys_calls.proofs.Quiet.{no_fork}
 use Rattle.plain_kernel.specs.Kernel.{Kernel, boot, process_at}
 use Rattle.bus_msg.specs.declared.entry.Post.{Post}
 use Rattle.bus_msg.specs.declared.entry.Entry.{Entry}
-use Rattle.bus_msg.specs.declared.placed.Placed.{Placed}
 use Rattle.bus_msg.specs.declared.entry.What.{What}
-use Rattle.bus_msg.specs.declared.entry.What.TheVariants.{Mail, Birth, Exit, Page, Sync, Fetch, PageIs, Crash, Return, Rebackup, Done, Stop}
-use Rattle.bus_msg.specs.PlacedAfter.{after_exit, after_loss, placed_after, what}
-use Rattle.bus_msg.specs.Places.{Places, is_at_home, same_pid}
+use Rattle.bus_msg.specs.declared.placed.Placed.{Placed}
+use Rattle.bus_msg.specs.Places.{is_at_home, same_pid}
 use Rattle.roll_forward.specs.Deeds.{Deed, Sends, births_in}
 use Rattle.roll_forward.specs.Replay.{put_first, replayed, replay_step}
 use Rattle.cert_sched.specs.Parts.{put_rising, rising, upto_last}
 use Rattle.cert_sched.specs.Deeds.{since, starts}
 use Rattle.cert_sched.specs.Rolling.{refilled}
-use Rattle.cert_sched.specs.Schedule.{placement, places_at_boot, plain_after, process_after}
+use Rattle.cert_sched.specs.Schedule.{placement, plain_after, process_after}
 use Rattle.cert_sched.specs.Steps.{emission_at, silent_upto}
 use Rattle.cert_sched.specs.Appended.{entry_of}
 use Rattle.cert_sched.specs.Rests.{home_pids}
 use Rattle.cert_sched.specs.Rules.{is_over}
-use Rattle.cert_sched.specs.Built.{BuiltMayFollow, TellingMayFollow, is_built, tells_or_closes}
+use Rattle.cert_sched.specs.Built.{BuiltMayFollow, UnlostMayFollow, is_unlost}
 use Rattle.cert_sched.specs.Legal.{IsLegalBy}
 use Rattle.cert_sched.specs.Losses.{was_lost_in}
-use Rattle.cert_sched.proofs.Induction.{legal_induction}
-use Rattle.cert_sched.proofs.LogLaws.{placement-snoc}
 use Rattle.cert_sched.proofs.RisingLaws.{NoTwo}
 use Rattle.cert_sched.proofs.StepLaws.{sent_from, silent_from}
 use Rattle.cluster_core.specs.View.{ClusterView, Held, Runs, Rolls, Waits, after_sent, head_of, held_load, held_of, load}
@@ -48,7 +44,6 @@ use Rattle.cluster_core.specs.Holds.{IsHeldAs}
 use Rattle.cluster_core.specs.Calls.{FollowsSome}
 use Rattle.cluster_core.specs.Follows.{FollowsBuilt, IsOpen}
 use Rattle.cluster_core.specs.Queue.{IsQueueLegal, is_move_of, state_by}
-use Rattle.cluster_core.proofs.ByKind.{by_kind}
 use Rattle.cluster_core.proofs.Here.{same_itself}
 use Rattle.cluster_core.specs.Residents.{pids_in}
 use Rattle.cluster_core.proofs.Lightening.{held_apart}
@@ -57,13 +52,15 @@ use Rattle.sys_calls.proofs.Weighing.{Leaves, emits_leaves, next_leaves, silentl
 use Rattle.bus_order.specs.View.{BusView}
 use Rattle.cluster_run.specs.Gone.{IsGone, StoodBeside, StoodBetween}
 use Rattle.cluster_run.specs.Along.{AllAlong, IsMember, IsOwned, IsSound}
-use Rattle.cluster_run.specs.Progress.{Falls, IsOver, Remaining, kernel_load, log_load, remaining, total, unseen}
+use Rattle.cluster_run.specs.Progress.{Falls, IsOver, Remaining, kernel_load, left_after, log_load, remaining, total, unseen}
 use Rattle.cluster_run.proofs.Posting.{follows_some}
 use Rattle.cluster_run.proofs.Prefixes.{goes_on_before, legal_prefix}
-use Rattle.cluster_run.proofs.Sending.{same_after}
+use Rattle.cluster_run.proofs.PagesWithin.{few_placed, most_pages, pages_within, placed_count}
 use Rattle.cluster_run.proofs.StepLosses.{gone_inside, same_sent}
 use Rattle.cluster_run.proofs.StepsLeft.{after_log, one_of_all}
 use Rattle.cluster_run.proofs.Together.{one_member}
+use Rattle.cluster_run.proofs.Unlost.{by_unlost, same_after}
+use Rattle.page_laws.specs.Left.{left_of_pages}
 
 -- ---- a process
 
@@ -127,32 +124,32 @@ emitted_within system log p at t (Some sent) is there =
     omega (arith, same, silently_leaves l.earlier s.was l.before l.silent, emits_leaves l.before sent.1 sent.0 l.last, within_kernel system log p s.was s.kernel s.before s.there)
 
 -- a process that has moved ahead of the log
-moved_within : (system : System) (log : List Entry) (p : Pid) (steps : ℕ) (t : ProcState) (w : What) → tells_or_closes w ≡ true → state_by system log p steps (Some w) ≡ Some t → weight t.small ≤ boot_load system
+moved_within : (system : System) (log : List Entry) (p : Pid) (steps : ℕ) (t : ProcState) (w : What) → is_unlost w ≡ true → state_by system log p steps (Some w) ≡ Some t → weight t.small ≤ boot_load system
 moved_within system log p steps t =
-    by_kind (λ w. state_by system log p steps (Some w) ≡ Some t → weight t.small ≤ boot_load system)
+    by_unlost (λ w. state_by system log p steps (Some w) ≡ Some t → weight t.small ≤ boot_load system)
     (λ at letter there. emitted_within system log letter.from at t (emission_at system log letter.from at) refl (same_option _ ∙ there))
     (λ pid at end there. emitted_within system log pid at t (emission_at system log pid at) refl (same_option _ ∙ there))
-    (λ rests there. cc) (λ there. cc)
+    (λ pid index there. cc) (λ pid index bytes there. cc) (λ rests there. cc) (λ there. cc)
   where
     same_option : (o : Option ProcState) → o ≡ option_map (λ (s : ProcState). s) o
     same_option None = refl
     same_option (Some s) = refl
 
 -- each post that is found in a legal queue is no loss
-queued_tells : (system : System) (log : List Entry) (queue : List Post) (test : Post → Bool) (post : Post) → IsQueueLegal TellingMayFollow system log queue → find test queue ≡ Some post → tells_or_closes post.what ≡ true
-queued_tells system log [] test post legal found = cc
-queued_tells system log (first ∷ queue) test post legal found = by_test (test first) found (queued_tells system (log ++ entry_of system log first ∷ []) queue test post legal.1)
+queued_unlost : (system : System) (log : List Entry) (queue : List Post) (test : Post → Bool) (post : Post) → IsQueueLegal UnlostMayFollow system log queue → find test queue ≡ Some post → is_unlost post.what ≡ true
+queued_unlost system log [] test post legal found = cc
+queued_unlost system log (first ∷ queue) test post legal found = by_test (test first) found (queued_unlost system (log ++ entry_of system log first ∷ []) queue test post legal.1)
   where
-    by_test : (b : Bool) → cond b (Some first) (find test queue) ≡ Some post → (find test queue ≡ Some post → tells_or_closes post.what ≡ true) → tells_or_closes post.what ≡ true
-    by_test true found more = let same : first ≡ post = cc in subst (λ (p : Post). tells_or_closes p.what ≡ true) same (legal.0).built
+    by_test : (b : Bool) → cond b (Some first) (find test queue) ≡ Some post → (find test queue ≡ Some post → is_unlost post.what ≡ true) → is_unlost post.what ≡ true
+    by_test true found more = let same : first ≡ post = cc in subst (λ (p : Post). is_unlost p.what ≡ true) same (legal.0).built
     by_test false found more = more found
 
-runs_within : (system : System) (log : List Entry) (queue : List Post) (p : Pid) (steps : ℕ) (t : ProcState) → IsQueueLegal TellingMayFollow system log queue → (o : Option Post) → find (is_move_of p) queue ≡ o
+runs_within : (system : System) (log : List Entry) (queue : List Post) (p : Pid) (steps : ℕ) (t : ProcState) → IsQueueLegal UnlostMayFollow system log queue → (o : Option Post) → find (is_move_of p) queue ≡ o
     → state_by system log p steps (option_map (λ (post : Post). post.what) o) ≡ Some t → weight t.small ≤ boot_load system
 runs_within system log queue p steps t legal None found is = silent_within system log p steps t is
-runs_within system log queue p steps t legal (Some post) found is = moved_within system log p steps t post.what (queued_tells system log queue (is_move_of p) post legal found) is
+runs_within system log queue p steps t legal (Some post) found is = moved_within system log p steps t post.what (queued_unlost system log queue (is_move_of p) post legal found) is
 
-held_within : (system : System) (log : List Entry) (queue : List Post) (p : Pid) (h : Held) → IsQueueLegal TellingMayFollow system log queue → IsHeldAs system log queue p h → held_load h ≤ boot_load system
+held_within : (system : System) (log : List Entry) (queue : List Post) (p : Pid) (h : Held) → IsQueueLegal UnlostMayFollow system log queue → IsHeldAs system log queue p h → held_load h ≤ boot_load system
 held_within system log queue p (Runs process) legal is = runs_within system log queue p (process.small).steps (state_of process) legal (find (is_move_of p) queue) refl is
 held_within system log queue p (Rolls process counts births) legal held =
     let rolls = (held.1).rolls in
@@ -202,31 +199,6 @@ rising_long : (xs : List ℕ) → length (rising xs) ≡ length xs
 rising_long [] = refl
 rising_long (x ∷ xs) = omega (arith, put_long x (rising xs), rising_long xs)
 
--- how many processes a system places
-abbrev pub placed_count : System → ℕ
-placed_count system = length (places_at_boot system).placed
-
--- an entry of a kind that is built places as many as before
-same_count : (w : What) (places : Places) → is_built w ≡ true → length (placed_after places w).placed ≡ length places.placed
-same_count (Mail at letter) places h = refl
-same_count (Birth parent at child end) places h = absurd (true≢false (sym h))
-same_count (Exit pid at end) places h = length-map places.placed (after_exit pid)
-same_count (Page pid at index bytes) places h = absurd (true≢false (sym h))
-same_count (Sync pid small read took) places h = absurd (true≢false (sym h))
-same_count (Fetch pid index) places h = refl
-same_count (PageIs pid index bytes) places h = refl
-same_count (Crash k cause) places h = length-map places.placed (after_loss k)
-same_count (Return k) places h = absurd (true≢false (sym h))
-same_count (Rebackup to fresh recs) places h = absurd (true≢false (sym h))
-same_count (Done rests) places h = refl
-same_count Stop places h = refl
-
-few_placed : (system : System) (log : List Entry) → IsLegalBy BuiltMayFollow system log → length (placement system log).placed ≡ placed_count system
-unfolding placement
-few_placed system log legal =
-    legal_induction BuiltMayFollow system (λ log. length (placement system log).placed ≡ placed_count system) refl
-    (λ log e same may. ap (λ (p : Places). length p.placed) (placement-snoc system log e) ∙ same_count (what e) (placement system log) may.built ∙ same) log legal
-
 few_here : (system : System) (log : List Entry) (c : ClusterView) → IsLegalBy BuiltMayFollow system log → rising (pids_in c.here) ≡ rising (home_pids system log c.number) → length c.here ≤ placed_count system
 few_here system log c legal same =
     let here : length c.here ≡ length (home_pids system log c.number) = sym (length-map c.here (λ (e : Pid × Held). (e.0).0)) ∙ sym (rising_long (pids_in c.here)) ∙ ap length same ∙ rising_long (home_pids system log c.number) in
@@ -274,7 +246,7 @@ module _ (b : BusView) (c : ClusterView) (sound : IsSound b) (gone : IsGone b c)
     follows = subst (λ s. FollowsBuilt s (take c.cursor b.log) v) (sym system) follows;
   })
 
-  sent_load : (was : ClusterView) (queue : List Post) (e : Entry) → IsQueueLegal TellingMayFollow b.system (take c.cursor b.log) queue → option_map (entry_of b.system (take c.cursor b.log)) (head_of queue) ≡ Some e → load (after_sent was queue) ≡ load was
+  sent_load : (was : ClusterView) (queue : List Post) (e : Entry) → IsQueueLegal UnlostMayFollow b.system (take c.cursor b.log) queue → option_map (entry_of b.system (take c.cursor b.log)) (head_of queue) ≡ Some e → load (after_sent was queue) ≡ load was
   sent_load was [] e legal head = cc
   sent_load was (p ∷ queue) e legal head = ap load (ap (λ (v : ClusterView). record v { queue = queue; tried = false }) (same_after p.what was (legal.0).built))
 
@@ -319,11 +291,21 @@ steps_within system log = by_kernel (plain_after system log) refl
     by_kernel None before = omega arith
     by_kernel (Some k) before = after_log system log k before
 
+-- the most that clusters may send
+abbrev pub most_posts : System → ℕ
+most_posts system = boot_load system + most_pages system
+
+pub posts_within : (system : System) (log : List Entry) → IsLegalBy BuiltMayFollow system log → length log < 2 ^ 64 → left_after system log ≤ most_posts system
+posts_within system log legal fits = both (log_load system log) (boot_load system) (left_of_pages system log) (most_pages system) (steps_within system log) (pages_within system log legal fits)
+  where
+    both : (a b c d : ℕ) → a ≤ b → c ≤ d → a + c ≤ b + d
+    both a b c d first second = omega (arith, first, second)
+
 -- ---- one number for the parts
 
 -- the most that the parts behind the words may be
 record Bounds : Type 0 where
-  steps : ℕ
+  posts : ℕ
   entries : ℕ
   moves : ℕ
 
@@ -333,7 +315,7 @@ weighed first second bound = first * (bound + 1) + second
 
 -- by bounds of the parts behind the words, a number that falls where what is left falls
 abbrev rank : Bounds → Remaining → ℕ
-rank most r = weighed (weighed (weighed r.words r.steps most.steps) r.entries most.entries) r.moves most.moves
+rank most r = weighed (weighed (weighed r.words r.posts most.posts) r.entries most.entries) r.moves most.moves
 
 -- a first part that falls outweighs a second one that has a bound
 outweighs : (a b c d m : ℕ) → a < c → b ≤ m → weighed a b m < weighed c d m
@@ -349,31 +331,31 @@ outweighs a b c d m less bound =
 weighs_second : (a b c d m : ℕ) → a ≡ c → b < d → weighed a b m < weighed c d m
 weighs_second a b c d m same less = let front : a * (m + 1) ≡ c * (m + 1) = ap (λ n. n * (m + 1)) same in omega (arith, front, less)
 
-module _ (most : Bounds) (old new : Remaining) (steps : new.steps ≤ most.steps) (entries : new.entries ≤ most.entries) (moves : new.moves ≤ most.moves) where
-  abbrev by_steps : Remaining → ℕ
-  by_steps r = weighed r.words r.steps most.steps
+module _ (most : Bounds) (old new : Remaining) (posts : new.posts ≤ most.posts) (entries : new.entries ≤ most.entries) (moves : new.moves ≤ most.moves) where
+  abbrev by_posts : Remaining → ℕ
+  by_posts r = weighed r.words r.posts most.posts
 
   abbrev by_entries : Remaining → ℕ
-  by_entries r = weighed (by_steps r) r.entries most.entries
+  by_entries r = weighed (by_posts r) r.entries most.entries
 
-  steps_fall : by_steps new < by_steps old → rank most new < rank most old
-  steps_fall less = outweighs (by_entries new) new.moves (by_entries old) old.moves most.moves (outweighs (by_steps new) new.entries (by_steps old) old.entries most.entries less entries) moves
+  posts_fall : by_posts new < by_posts old → rank most new < rank most old
+  posts_fall less = outweighs (by_entries new) new.moves (by_entries old) old.moves most.moves (outweighs (by_posts new) new.entries (by_posts old) old.entries most.entries less entries) moves
 
-  entries_fall : by_steps new ≡ by_steps old → new.entries < old.entries → rank most new < rank most old
-  entries_fall same less = outweighs (by_entries new) new.moves (by_entries old) old.moves most.moves (weighs_second (by_steps new) new.entries (by_steps old) old.entries most.entries same less) moves
+  entries_fall : by_posts new ≡ by_posts old → new.entries < old.entries → rank most new < rank most old
+  entries_fall same less = outweighs (by_entries new) new.moves (by_entries old) old.moves most.moves (weighs_second (by_posts new) new.entries (by_posts old) old.entries most.entries same less) moves
 
-  same_steps : new.words ≡ old.words → new.steps ≡ old.steps → by_steps new ≡ by_steps old
-  same_steps words steps = λ i. weighed (words i) (steps i) most.steps
+  same_posts : new.words ≡ old.words → new.posts ≡ old.posts → by_posts new ≡ by_posts old
+  same_posts words posts = λ i. weighed (words i) (posts i) most.posts
 
   rank_falls : Falls old new → rank most new < rank most old
-  rank_falls (inl fewer) = steps_fall (outweighs new.words new.steps old.words old.steps most.steps fewer steps)
-  rank_falls (inr (words, inl less)) = steps_fall (weighs_second new.words new.steps old.words old.steps most.steps words less)
-  rank_falls (inr (words, inr (inl less))) = entries_fall (same_steps words less.0) less.1
-  rank_falls (inr (words, inr (inr less))) = weighs_second (by_entries new) new.moves (by_entries old) old.moves most.moves (λ i. weighed (same_steps words less.0 i) (less.1 i) most.entries) less.2
+  rank_falls (inl fewer) = posts_fall (outweighs new.words new.posts old.words old.posts most.posts fewer posts)
+  rank_falls (inr (words, inl less)) = posts_fall (weighs_second new.words new.posts old.words old.posts most.posts words less)
+  rank_falls (inr (words, inr (inl less))) = entries_fall (same_posts words less.0) less.1
+  rank_falls (inr (words, inr (inr less))) = weighs_second (by_entries new) new.moves (by_entries old) old.moves most.moves (λ i. weighed (same_posts words less.0 i) (less.1 i) most.entries) less.2
 
 -- the most that may be left of a system
 abbrev most_of : System → Bounds
-most_of system = record { steps = boot_load system; entries = system.clusters * 2 ^ 64; moves = most_total system }
+most_of system = record { posts = most_posts system; entries = system.clusters * 2 ^ 64; moves = most_total system }
 
 -- what is left to do, as one number
 abbrev pub left_to_do : BusView → List ClusterView → ℕ
@@ -388,6 +370,6 @@ round_falls b after cs new owned all system goes_on gets = subst (λ t. cond (is
     by_end true is gets = omega arith
     by_end false is (inr over) = absurd (true≢false (sym over ∙ is))
     by_end false is (inl falls) =
-        let less = rank_falls (most_of after.system) (remaining b cs) (remaining after new) (steps_within after.system after.log) (entries_within after new owned all) (total_within after new owned all) falls in
+        let less = rank_falls (most_of after.system) (remaining b cs) (remaining after new) (posts_within after.system after.log (owned.sound).legal (owned.sound).fits) (entries_within after new owned all) (total_within after new owned all) falls in
         let bounds : rank (most_of after.system) (remaining b cs) ≡ left_to_do b cs = ap (λ (s : System). rank (most_of s) (remaining b cs)) system in
         omega (arith, less, bounds)

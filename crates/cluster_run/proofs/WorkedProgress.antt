@@ -5,10 +5,10 @@ use Rattle.proc_state.specs.State.{root_state}
 use Rattle.cluster_run.specs.Progress.{Falls, IsAtMost, Remaining, kernel_load}
 
 abbrev left : ℕ → ℕ → ℕ → ℕ → Remaining
-left words steps entries moves = record { words = words; steps = steps; entries = entries; moves = moves }
+left words posts entries moves = record { words = words; posts = posts; entries = entries; moves = moves }
 
--- a word of the script lost a cluster: the clusters have an entry more to take in, and processes go back
-loses : Falls (left 1 4 0 7) (left 0 4 15 60)
+-- a word of the script lost a cluster: the clusters have an entry more to take in, and processes go back, and ask for four pages
+loses : Falls (left 1 4 0 7) (left 0 12 15 60)
 loses = inl (omega arith)
 
 -- a letter was sent: the clusters have an entry more to take in
@@ -37,7 +37,7 @@ refused_back (inr (words, inl less)) = omega (arith, less)
 refused_back (inr (words, inr (inl less))) = omega (arith, less.1)
 refused_back (inr (words, inr (inr less))) = omega (arith, less.2)
 
--- the kernel without failures has more steps left, whatever stands behind it
+-- more posts are left to send, whatever stands behind them
 refused_more : IsAtMost (left 1 4 14 59) (left 1 5 0 0) → ⊥
 refused_more (inl (inl fewer)) = omega (arith, fewer)
 refused_more (inl (inr (words, inl less))) = omega (arith, less)

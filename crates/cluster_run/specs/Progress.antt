@@ -1,5 +1,5 @@
 -- How far a run has come: what is left to do, and who rests.
-use Rattle.std.specs.Prelude.{ℕ, ◌≡◌, ◌-◌, ◌≤◌, ◌<◌, ◌⊎◌, true, false, List, length, is_some}
+use Rattle.std.specs.Prelude.{ℕ, ◌≡◌, ◌≢◌, ◌+◌, ◌-◌, ◌≤◌, ◌<◌, ◌⊎◌, true, false, List, [], length, Some, is_some}
 use Rattle.std.specs.List.{sum_by}
 use Rattle.std.specs.Option.{option_map_or}
 use Rattle.t32_base.specs.declared.process.Pid.{Pid}
@@ -8,10 +8,13 @@ use Rattle.proc_state.specs.State.{ProcState}
 use Rattle.sys_calls.specs.Small.{weight}
 use Rattle.plain_kernel.specs.Kernel.{Kernel}
 use Rattle.bus_msg.specs.declared.entry.Entry.{Entry}
-use Rattle.bus_msg.specs.Places.{cluster_no}
+use Rattle.bus_msg.specs.Places.{cluster_no, servers_in}
+use Rattle.cert_sched.specs.Moved.{waiting_fetches}
+use Rattle.cert_sched.specs.Parts.{first_of}
 use Rattle.cert_sched.specs.Schedule.{placement, plain_after}
 use Rattle.cert_sched.specs.Losses.{was_lost_in}
 use Rattle.cert_sched.specs.Rules.{is_over}
+use Rattle.page_laws.specs.Left.{left_of_pages}
 use Rattle.cluster_core.specs.View.{ClusterView, load}
 use Rattle.bus_order.specs.View.{BusView, is_awaited, mark_in}
 
@@ -25,6 +28,11 @@ kernel_load k = sum_by (λ (e : Pid × ProcState). weight (e.1).small) k.process
 abbrev pub log_load : System → List Entry → ℕ
 log_load system log = option_map_or kernel_load (plain_after system log) 0
 
+-- the most posts that clusters may send after a log while no cluster is lost: of letters and exits one for each step that the kernel without failures has left, and one for
+-- each page that is to be asked for and each that is to come
+abbrev pub left_after : System → List Entry → ℕ
+left_after system log = log_load system log + left_of_pages system log
+
 -- how many entries of a log a cluster has not taken in
 abbrev pub unseen : List Entry → ClusterView → ℕ
 unseen log c = length log - c.cursor
@@ -33,36 +41,36 @@ unseen log c = length log - c.cursor
 abbrev pub total : List ClusterView → ℕ
 total cs = sum_by load cs
 
--- What is left to do, by its parts: the words of the script that are left, the steps that the kernel without failures has left after the log, the entries that clusters
--- have not taken in, and the steps that the processes of the clusters have left.
+-- What is left to do, by its parts: the words of the script that are left; the posts that clusters may send, which are steps that the kernel without failures has left after
+-- the log and pages of moved processes; the entries that clusters have not taken in; and the steps that the processes of the clusters have left.
 pub record Remaining : Type 0 where
   pub words : ℕ
-  pub steps : ℕ
+  pub posts : ℕ
   pub entries : ℕ
   pub moves : ℕ
 
 -- what is left to one cluster at a bus
 abbrev pub remaining_of : BusView → ClusterView → Remaining
-remaining_of b c = record { words = length b.left; steps = log_load b.system b.log; entries = unseen b.log c; moves = load c }
+remaining_of b c = record { words = length b.left; posts = left_after b.system b.log; entries = unseen b.log c; moves = load c }
 
 -- what is left to all clusters of a bus
 abbrev pub remaining : BusView → List ClusterView → Remaining
-remaining b cs = record { words = length b.left; steps = log_load b.system b.log; entries = sum_by (unseen b.log) cs; moves = total cs }
+remaining b cs = record { words = length b.left; posts = left_after b.system b.log; entries = sum_by (unseen b.log) cs; moves = total cs }
 
 -- of the parts behind the words the first that changed has fallen
 abbrev pub FallsBehind : Remaining → Remaining → Type 0
 FallsBehind old new =
-    (new.steps < old.steps)
-    ⊎ ((new.steps ≡ old.steps) × (new.entries < old.entries))
-    ⊎ ((new.steps ≡ old.steps) × (new.entries ≡ old.entries) × (new.moves < old.moves))
+    (new.posts < old.posts)
+    ⊎ ((new.posts ≡ old.posts) × (new.entries < old.entries))
+    ⊎ ((new.posts ≡ old.posts) × (new.entries ≡ old.entries) × (new.moves < old.moves))
 
--- Less is left: the first part that changed has fallen. Those after it may have risen, as where a process that was lost goes back.
+-- Less is left: the first part that changed has fallen. Those after it may have risen, as where a process that was lost goes back and asks for its pages.
 abbrev pub Falls : Remaining → Remaining → Type 0
 Falls old new = (new.words < old.words) ⊎ ((new.words ≡ old.words) × FallsBehind old new)
 
 -- as much is left
 abbrev pub IsAsMuch : Remaining → Remaining → Type 0
-IsAsMuch old new = (new.words ≡ old.words) × (new.steps ≡ old.steps) × (new.entries ≡ old.entries) × (new.moves ≡ old.moves)
+IsAsMuch old new = (new.words ≡ old.words) × (new.posts ≡ old.posts) × (new.entries ≡ old.entries) × (new.moves ≡ old.moves)
 
 -- less is left, or as much
 abbrev pub IsAtMost : Remaining → Remaining → Type 0
@@ -92,14 +100,28 @@ pub record LivesMarked (b : BusView) (from upto : ℕ) : Type 0 where
   pub lives : was_lost_in b.log (cluster_no number) ≡ false
   pub marked : HasMark b number
 
--- the log stayed as it was; the clusters from one number to another were marked, but for one that was lost, no mark was taken away, and one is still awaited where one
--- that lives was marked or one was awaited before
-pub record Rests (b after : BusView) (from upto : ℕ) : Type 0 where
-  pub log : after.log ≡ b.log
-  pub marked : (n : ℕ) → from ≤ n → n < upto → HasMark after n ⊎ IsLost after n
-  pub kept : (n : ℕ) → HasMark b n → HasMark after n
-  pub awaits : LivesMarked after from upto ⊎ IsAwaiting b → IsAwaiting after
+-- the cluster with a number is the first of the page servers that were never lost
+abbrev pub IsFirstServer : BusView → ℕ → Type 0
+IsFirstServer b n = first_of (servers_in (placement b.system b.log)) ≡ Some (cluster_no n)
 
--- Something was done, of what was left to do. Or the log is over. Or the clusters from one number to another rest, or were lost.
+-- a page that was asked for has not come
+abbrev pub AwaitsPage : BusView → Type 0
+AwaitsPage b = waiting_fetches b.system b.log ≢ []
+
+-- where the cluster is the first page server, each page that was asked for has come
+abbrev pub HasAnswered : BusView → ℕ → Type 0
+HasAnswered b n = IsFirstServer b n → waiting_fetches b.system b.log ≡ []
+
+-- The log stayed as it was. Each cluster from one number to another was marked or lost, or a page has not come; and it has answered, where it is the first page server.
+-- No mark was taken away. Where no page is awaited, a mark of a cluster is still awaited if one of these that lives was marked, or one was awaited before.
+pub record Rests (b after : BusView) (from upto : ℕ) : Type 0 where
+  pub system : after.system ≡ b.system
+  pub log : after.log ≡ b.log
+  pub marked : (n : ℕ) → from ≤ n → n < upto → HasMark after n ⊎ IsLost after n ⊎ AwaitsPage after
+  pub answered : (n : ℕ) → from ≤ n → n < upto → HasAnswered after n
+  pub kept : (n : ℕ) → HasMark b n → HasMark after n
+  pub awaits : waiting_fetches after.system after.log ≡ [] → LivesMarked after from upto ⊎ IsAwaiting b → IsAwaiting after
+
+-- Something was done, of what was left to do. Or the log is over. Or the clusters from one number to another rest, wait for a page, or were lost.
 abbrev pub GetsOn : (b after : BusView) → (left still : Remaining) → (from upto : ℕ) → Type 0
 GetsOn b after left still from upto = Falls left still ⊎ IsOver after ⊎ Rests b after from upto

@@ -13,13 +13,13 @@ use Rattle.cluster_core.specs.View.{ClusterView, head_of}
 use Rattle.bus_order.specs.Script.{is_unpassed}
 use Rattle.bus_order.specs.View.{BusView}
 use Rattle.cluster_run.specs.declared.turn.Turn.{Turn}
-use Rattle.cluster_run.specs.declared.turn.Turn.TheVariants.{Moved, Rests, Over, Lost}
+use Rattle.cluster_run.specs.declared.turn.Turn.TheVariants.{Moved, Waits, Rests, Over, Lost}
 use Rattle.cluster_run.specs.declared.turn.Tried.{Tried}
 use Rattle.cluster_run.specs.declared.turn.Tried.TheVariants.{On as GoesOn, Over as IsOverThere, Lost as IsLostThere}
 use Rattle.cluster_run.specs.Along.{IsBeside, IsOwned, IsPosting, IsShown, IsStopped, is_done_with, upto}
 use Rattle.cluster_run.specs.declared.offers.Offered.{Offered}
 use Rattle.cluster_run.specs.Offers.{Adds, IsLeft, IsTold, OfferIs, Visits}
-use Rattle.cluster_run.specs.Progress.{GetsOn, IsAtMost, IsOver, Rests as RestsThere, log_load, remaining_of}
+use Rattle.cluster_run.specs.Progress.{GetsOn, IsAtMost, IsOver, Rests as RestsThere, left_after, remaining_of}
 
 -- the cluster has told so at the bus that its port shows
 abbrev pub HasTold : Bool → ClusterView → BusView → Type 0
@@ -28,6 +28,7 @@ HasTold alone c b = (left : BusView) × IsLeft alone left b × IsTold c left
 -- How a turn ended. The cluster has nothing to send, and where it rests it told so; or it has followed the log to its end, or to its own loss.
 abbrev pub EndsAs : Bool → Turn → BusView → ClusterView → Type 0
 EndsAs alone Moved b c = c.queue ≡ []
+EndsAs alone Waits b c = c.queue ≡ []
 EndsAs alone Rests b c = (c.queue ≡ []) × HasTold alone c b
 EndsAs alone Over b c = (c.cursor ≡ upto c.number b.log) × (is_done_with c.number b.system b.log ≡ true)
 EndsAs alone Lost b c = ⊤
@@ -35,6 +36,7 @@ EndsAs alone Lost b c = ⊤
 -- where it stands then: along the bus that its port shows; or it was lost at a step, and has stopped
 abbrev pub StandsAs : Type 0 → ℕ → Turn → BusView → ClusterView → Type 0
 StandsAs Shows from Moved b c = IsShown Shows from b c
+StandsAs Shows from Waits b c = IsShown Shows from b c
 StandsAs Shows from Rests b c = IsShown Shows from b c
 StandsAs Shows from Over b c = IsShown Shows from b c
 StandsAs Shows from Lost b c = IsStopped b c
@@ -49,9 +51,9 @@ TriesAs alone Shows from IsLostThere b after c = IsStopped after c
 abbrev pub GoesOwn : BusView → Type 0
 GoesOwn b = IsOwned b × (is_over b.system b.log ≡ false)
 
--- so many words as before are left, and each entry that was added leaves the kernel without failures a step fewer, at least; or fewer words are left
+-- so many words as before are left, and each entry that was added leaves a post less to send, at least; or fewer words are left
 abbrev pub Spends : BusView → BusView → Type 0
-Spends b after = (length after.left < length b.left) ⊎ ((length after.left ≡ length b.left) × (log_load after.system after.log + length after.log ≤ log_load b.system b.log + length b.log))
+Spends b after = (length after.left < length b.left) ⊎ ((length after.left ≡ length b.left) × (left_after after.system after.log + length after.log ≤ left_after b.system b.log + length b.log))
 
 -- posts of a cluster were sent to it, and words that were due were carried out
 pub record SendsOwn (k : ClusterNo) (b after : BusView) : Type 0 where
@@ -87,12 +89,12 @@ pub record TellsOwn (k : ClusterNo) (b after : BusView) : Type 0 where
   pub adds : Adds k b after
   pub rests : HasRested k b after
 
--- the log is over, or fewer words are left, or the kernel without failures has fewer steps left, or the log is as it was
+-- the log is over, or fewer words are left, or fewer posts are left to send, or the log is as it was
 abbrev pub HasSpent : BusView → BusView → Type 0
-HasSpent b after = IsOver after ⊎ (length after.left < length b.left) ⊎ ((length after.left ≡ length b.left) × ((log_load after.system after.log < log_load b.system b.log) ⊎ (after.log ≡ b.log)))
+HasSpent b after = IsOver after ⊎ (length after.left < length b.left) ⊎ ((length after.left ≡ length b.left) × ((left_after after.system after.log < left_after b.system b.log) ⊎ (after.log ≡ b.log)))
 
--- What the turn of a cluster makes of it. The cluster has nothing to send, or it was lost. Where it added to the log, fewer words are left, or the kernel without failures
--- has fewer steps left.
+-- What the turn of a cluster makes of it. The cluster has nothing to send, or it was lost. Where it added to the log, fewer words are left, or fewer posts
+-- are left to send.
 pub record TurnsOwn (b after : BusView) (c new : ClusterView) : Type 0 where
   pub owned : IsOwned after
   pub adds : Adds c.number b after

@@ -94,6 +94,10 @@ fn follow_on<R: Wait, G: Gate>(
     for _ in rt.forever() {
         match take_turn(port, cluster)? {
             Turn::Moved => (),
+            Turn::Waits => {
+                port.looks_after = 0;
+                sleep(rt, port.lock, &mut port.seat, cluster, port.sleepers);
+            }
             Turn::Rests => sleep(rt, port.lock, &mut port.seat, cluster, port.sleepers),
             Turn::Over | Turn::Lost => return Ok(()),
         }

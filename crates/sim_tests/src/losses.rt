@@ -19,17 +19,17 @@ const HI_AROUND: Around = (
 
 const TWO_NONE: &str = "crash none\nbus 4 syncs 0 withheld 0\n";
 
-const TWO_AT_0: &str = "crash 0 at 0\nbus 5 syncs 0 withheld 0\n";
+const TWO_AT_0: &str = "crash 0 at 0\nbus 7 syncs 0 withheld 0\n";
 
-const TWO_AT_1: &str = "crash 0 at 1\nbus 5 syncs 0 withheld 1\n";
+const TWO_AT_1: &str = "crash 0 at 1\nbus 7 syncs 0 withheld 1\n";
 
-const TWO_AT_2: &str = "crash 0 at 2\nbus 5 syncs 0 withheld 2\n";
+const TWO_AT_2: &str = "crash 0 at 2\nbus 7 syncs 0 withheld 2\n";
 
 const HI_NONE: &str = "crash none\nbus 3 syncs 0 withheld 0\n";
 
-const HI_AT_0: &str = "crash 0 at 0\nbus 4 syncs 0 withheld 0\n";
+const HI_AT_0: &str = "crash 0 at 0\nbus 6 syncs 0 withheld 0\n";
 
-const HI_AT_1: &str = "crash 0 at 1\nbus 4 syncs 0 withheld 1\n";
+const HI_AT_1: &str = "crash 0 at 1\nbus 6 syncs 0 withheld 1\n";
 
 // The loss of a cluster in which no process has its home.
 const HI_BACKUP: &str = "crash 1 at 1\nbus 4 syncs 0 withheld 0\n";
@@ -70,9 +70,10 @@ fn a_run_goes_on_after_a_loss(rt: HostRuntime) -> Result<(), Fail> {
     Ok(())
 }
 
-// What stands behind the report of the second loss above, with its log: after the loss the other cluster sends.
+// What stands behind the report of the second loss above, with its log: after the loss the other cluster asks for the
+// one page, answers as the page server that is left, and then sends.
 const LOG_AT_1: &str =
-    "log 5\n0 0 mail 16 at 6 out 0 tty 0 610a\n1 bus crash 0 place\n2 1 mail 16 at 9 out 0 tty 0 620a\n3 1 exit 16 at 13 exit 0\n4 bus done\n";
+    "log 7\n0 0 mail 16 at 6 out 0 tty 0 610a\n1 bus crash 0 place\n2 1 fetch 16 0\n3 1 pageis 16 0\n4 1 mail 16 at 9 out 0 tty 0 620a\n5 1 exit 16 at 13 exit 0\n6 bus done\n";
 
 #[test]
 fn a_loss_stands_in_the_log(rt: HostRuntime) -> Result<(), Fail> {

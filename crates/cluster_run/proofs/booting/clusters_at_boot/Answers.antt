@@ -17,12 +17,12 @@ pub loop-number-preserved : goal.loop-number-preserved
 loop-number-preserved c =
     let system : System = arc_value c.args.system.now in
     let begins = c.in_ok-cluster.ensures.begins in
-    let unfailed = c.in_ok-cluster.ensures.whole (told c.disk_of.result c.disk_of.ensures.whole) in
+    let sound = told c.disk_of.result c.disk_of.ensures.whole in
     one_started system c.loop-number.number c.loop-number.clusters.items c.push.new.self.items c.in_ok-cluster.cluster c.loop-number.invariant
     (record {
       number_is = ap (λ (k : ClusterNo). k.0) begins.number_is;
       first = subst (λ k. IsFirst system k c.in_ok-cluster.cluster) (sym begins.number_is) begins;
-      unfailed = unfailed;
-      follows = c.in_ok-cluster.ensures.follows unfailed;
+      unfailed = c.in_ok-cluster.ensures.whole sound;
+      follows = c.in_ok-cluster.ensures.follows sound;
     })
     c.in_ok-push.ensures.items

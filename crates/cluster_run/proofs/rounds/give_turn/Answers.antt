@@ -116,4 +116,4 @@ pub returns-then-has_ended-clause-gets_on : goal.returns-then-has_ended-clause-g
 returns-then-has_ended-clause-gets_on c =
     let member = one_member c.args.bus.now c.args.clusters.now c.args.number c.index-clusters-number.result c.requires.along c.requires.has in
     let number : c.number.result.0 ≡ c.args.number = ap (λ (k : ClusterNo). k.0) c.number.ensures ∙ member.number in
-    done_given c.args.bus.now (remaining c.args.bus.now c.args.clusters.now) c.args.number c.number.result number (sym c.has_ended.ensures ∙ c.if-has_ended.true)
+    done_given c.args.bus.now (remaining c.args.bus.now c.args.clusters.now) c.args.number c.number.result c.requires.owned.sound.legal number (sym c.has_ended.ensures ∙ c.if-has_ended.true)

@@ -10,7 +10,7 @@ returns-clause-told g c =
 pub returns-clause-own : goal.returns-clause-own
 returns-clause-own g c alone own seen =
     let v = c.in_ok-tell.ensures.told in
-    told_own g.P.Port.alone alone (g.P.Port.bus c.args.port.now) (g.P.Port.bus c.tell.new.self) c.args.cluster.now c.in_ok-mark.mark _ own c.in_ok-tell.ensures.sound c.requires.shown.along seen (c.tell.ensures.adds alone) v
+    told_own g.P.Port.alone alone (g.P.Port.bus c.args.port.now) (g.P.Port.bus c.tell.new.self) c.args.cluster.now c.in_ok-mark.mark _ own c.in_ok-tell.ensures.sound c.requires.shown.along seen c.requires.answered (c.tell.ensures.adds alone) v
 
 pub returns-clause-shown : goal.returns-clause-shown
 returns-clause-shown g c =
