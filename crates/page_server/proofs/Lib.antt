@@ -3,3 +3,4 @@ mod Examples
 pub mod Marks
 pub mod Owners
 pub mod PagerLaws
+pub mod SheetLaws

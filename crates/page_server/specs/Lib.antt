@@ -1,4 +1,5 @@
 pub mod Account
 pub mod Disk
 pub mod Places
+pub mod Sheets
 pub mod Slots

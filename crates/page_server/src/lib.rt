@@ -6,4 +6,5 @@ pub mod mem_disk;
 pub mod pager;
 mod pages;
 mod processes;
+pub mod sheet;
 mod table;

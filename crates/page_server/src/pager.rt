@@ -5,7 +5,7 @@ ghost use Rattle.page_server.specs.Account.{account, page_in, committed, reverte
 
 use crate::disk::{DiskFault, DiskRefused, PageDisk};
 use crate::pages::Pages;
-use crate::processes::{admit, commit_at, kept_at, leave, put_at, revert_at};
+use crate::processes::{admit, commit_at, kept_at, leave, put_if_there, revert_at};
 use std::alloc::Global;
 use std::collections::BTreeMap;
 use std::marker::Model;
@@ -64,10 +64,25 @@ impl<D: PageDisk> Pager<D> {
         ensures fetches { self.new.fetches ≡ self.old.fetches }
         ensures counts { CountsAfterPut self.old.counts self.new.counts result }
     {
+        match put_if_there(&mut self.processes, &mut self.disk, pid.0, i, page) {
+            Some(done) => done,
+            None => self.put_first(pid, i, page),
+        }
+    }
+
+    // Puts a page of a process that may not be there.
+    fn put_first(&mut self, pid: Pid, i: u16, page: &[u8; 256]) -> Result<(), DiskRefused>
+        ensures accounts { AccountsAfterPut self.old self.new pid i page.now result }
+        ensures fetches { self.new.fetches ≡ self.old.fetches }
+        ensures counts { CountsAfterPut self.old.counts self.new.counts result }
+    {
         if admit(self.alloc, &mut self.processes, &mut self.owners, pid.0).is_err() {
             return Err(DiskRefused::NoMemory);
         }
-        put_at(&mut self.processes, &mut self.disk, pid.0, i, page)
+        match put_if_there(&mut self.processes, &mut self.disk, pid.0, i, page) {
+            Some(done) => done,
+            None => unreachable!(),
+        }
     }
 
     /// The committed account of a process becomes equal to its uncommitted one. No memory, no disk call; its

@@ -1,5 +1,5 @@
 //! The pages of each process, and the places of the processes.
-ghost use Rattle.std.specs.Prelude.{◌≡◌, ◌≤◌, ◌<◌, ℕ, length, get_or, None, Some, IsSome, IfOk, OnOk, OnErr, option_map};
+ghost use Rattle.std.specs.Prelude.{◌≡◌, ◌≤◌, ◌<◌, ℕ, length, get_or, None, Some, is_some, IsSome, IfSome, IfNone, IfOk, OnOk, OnErr, option_map};
 ghost use Rattle.std.specs.BTreeMap.{get};
 ghost use Rattle.std.specs.Ordering.{nat_cmp};
 ghost use Rattle.page_server.specs.Disk.{CountsAfterPut};
@@ -92,22 +92,24 @@ pub fn leave(processes: &mut BTreeMap<u32, Pages>, owners: &mut Vec<Option<u32>>
     }
 }
 
-/// Puts a page of a process on the disk and into its uncommitted account.
-pub fn put_at<D: PageDisk>(
+/// Puts a page of a process on the disk and into its uncommitted account, if the process is there.
+pub fn put_if_there<D: PageDisk>(
     processes: &mut BTreeMap<u32, Pages>,
     disk: &mut D,
     pid: u32,
     i: u16,
     page: &[u8; 256],
-) -> Result<(), DiskRefused>
-    requires few { (pages : Pages) → get nat_cmp processes.old pid ≡ Some pages → pages.place < 4194304 }
-    requires there { IsSome (get nat_cmp processes.old pid) }
-    ensures puts { Puts processes.old processes.new (D.slots disk.old) (D.slots disk.new) pid i page.now result }
-    ensures counts { CountsAfterPut (D.counts disk.old) (D.counts disk.new) result }
+) -> Option<Result<(), DiskRefused>>
+    requires { (pages : Pages) → get nat_cmp processes.old pid ≡ Some pages → pages.place < 4194304 }
+    ensures puts { IfSome result (Puts processes.old processes.new (D.slots disk.old) (D.slots disk.new) pid i page.now) }
+    ensures counts { IfSome result (CountsAfterPut (D.counts disk.old) (D.counts disk.new)) }
+    ensures there { is_some result ≡ is_some (get nat_cmp processes.old pid) }
+    ensures processes { IfNone result (processes.new ≡ processes.old) }
+    ensures disk { IfNone result (disk.new ≡ disk.old) }
 {
     match processes.get_mut(&pid) {
-        Some(pages) => pages.table.put(disk, pages.place, i, page),
-        None => unreachable!(),
+        Some(pages) => Some(pages.table.put(disk, pages.place, i, page)),
+        None => None,
     }
 }
 

@@ -168,9 +168,11 @@ fn grow(rows: &mut Vec<Held>, i: u16) -> Result<(), AllocError>
     ensures number { length rows.new.items ≤ 256 }
     ensures err { OnErr result (rows.new.items ≡ rows.old.items) }
 {
-    let wanted = usize::from(i) + 1;
-    if rows.len() < wanted {
-        rows.resize(wanted, ABSENT)?;
+    let row = usize::from(i);
+    if rows.len() == row {
+        rows.push(ABSENT)?;
+    } else if rows.len() < row {
+        rows.resize(row + 1, ABSENT)?;
     }
     Ok(())
 }
