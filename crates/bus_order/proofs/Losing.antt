@@ -1,19 +1,18 @@
--- The loss of a cluster may stand next, by a word for a place that was reached, or by one for a step.
-use Rattle.std.proofs.Common.{◌≡◌, ℕ, ◌+◌, ◌<◌, refl, sym, ◌∙◌, ap, subst, arith, List, [], ◌∷◌, ◌++◌, length, Bool, cond, ◌&&◌, true, false, eqb, eqb-true, Option, Some, None, is_some, true≢false}
-use Rattle.std.specs.Prelude.{filter, count_by, remove, find}
+-- The loss of a cluster may stand next, by a word for a place that was reached, or by one for a step or a disk call.
+use Rattle.std.proofs.Common.{◌≡◌, ℕ, refl, sym, ◌∙◌, ap, subst, arith, List, [], ◌∷◌, ◌++◌, length, Bool, cond, ◌&&◌, true, false, eqb, eqb-true, Option, Some, None, is_some, true≢false}
+use Rattle.std.specs.Prelude.{remove}
 use Rattle.std.specs.List.{list_all}
 use Rattle.std.specs.Option.{option_map}
+use Rattle.std.proofs.Math.Bool.{and-false}
 use Rattle.std.proofs.lemmas.Bool.{and_parts}
 use Rattle.proc_state.specs.Mail.{without_first}
 use Rattle.t32_base.specs.declared.process.ClusterNo.{ClusterNo}
 use Rattle.sys_text.specs.declared.system.System.{System}
-use Rattle.bus_msg.specs.declared.entry.What.{What}
 use Rattle.bus_msg.specs.declared.entry.What.TheVariants.{Crash}
 use Rattle.bus_msg.specs.declared.entry.Cause.{Cause}
 use Rattle.bus_msg.specs.declared.entry.Cause.TheVariants.{Place, Step, Disk}
 use Rattle.bus_msg.specs.declared.entry.Entry.{Entry}
 use Rattle.bus_msg.specs.Places.{Places, same_cluster, lives_in}
-use Rattle.bus_msg.specs.PlacedAfter.{what}
 use Rattle.cert_sched.specs.declared.script.ScriptWord.{ScriptWord}
 use Rattle.cert_sched.specs.declared.script.ScriptWord.TheVariants.{CrashAt, CrashStep, DiskAt, ReturnAt}
 use Rattle.cert_sched.specs.CertAfter.{CertView}
@@ -21,15 +20,15 @@ use Rattle.cert_sched.specs.Schedule.{placement}
 use Rattle.cert_sched.specs.Rules.{is_over}
 use Rattle.cert_sched.specs.Legal.{IsLegalBy}
 use Rattle.cert_sched.specs.Built.{BuiltMayFollow, is_built_word}
-use Rattle.cert_sched.specs.Looked.{Looked, gives, goes_on as goes_by, first_reached, is_bus_word, is_reached, given_by, without_reached}
-use Rattle.cert_sched.specs.Losses.{is_scripted_cause, is_step_crash, is_step_word}
+use Rattle.cert_sched.specs.Looked.{Looked, gives, goes_on as goes_by, first_reached, is_bus_word, is_reached, given_by, waits_for_no_word, without_reached}
+use Rattle.cert_sched.specs.Losses.{is_scripted_cause}
 use Rattle.cert_sched.specs.Simulation.{crash_entry}
 use Rattle.cert_sched.proofs.LogLaws.{no_items}
 use Rattle.cert_sched.proofs.ThereLaws.{plain_there}
-use Rattle.bus_order.specs.Script.{AccountsFor, IsFirst, is_word_for}
+use Rattle.bus_order.specs.Script.{IsFirst, is_loss_for, is_word_for}
 use Rattle.bus_order.specs.View.{BusView, IsKept, KeepsScript, MayLose, MayPass}
 use Rattle.bus_order.proofs.WordsLaws.{find-filter, without-filter, filter-without, all-without, all-found, count-without, length-without}
-use Rattle.bus_order.proofs.Keeping.{IsMore, accounts_more, reached_bus, steps_stay}
+use Rattle.bus_order.proofs.Keeping.{IsMore, accounts_more, reached_bus, words_stay}
 
 -- the crash of a cluster that lives may stand next in a log that goes on
 pub crash_may_follow : (system : System) (log : List Entry) (k : ClusterNo) (cause : Cause) → IsLegalBy BuiltMayFollow system log → is_over system log ≡ false → lives_in (placement system log) k ≡ true → BuiltMayFollow system log (crash_entry system log k cause)
@@ -67,12 +66,10 @@ given_lives places (CrashStep j step) k given built = cc
 given_lives places (DiskAt j call) k given built = cc
 given_lives places (ReturnAt j place) k given built = absurd (true≢false (sym built))
 
-no_place_step : (j k : ClusterNo) (n : ℕ) → is_step_crash j n (Crash k Place) ≡ false
-no_place_step j k n = by_test (same_cluster k j)
-  where
-    by_test : (b : Bool) → (b && false) ≡ false
-    by_test true = refl
-    by_test false = refl
+pub no_place_loss : (j k : ClusterNo) (cause : Cause) → is_loss_for j cause (Crash k Place) ≡ false
+no_place_loss j k Place = refl
+no_place_loss j k (Step n) = and-false (same_cluster k j)
+no_place_loss j k (Disk n) = and-false (same_cluster k j)
 
 -- the loss that the first word that was reached gives may stand next
 pub given_loses : (b : BusView) (w : ScriptWord) (k : ClusterNo) → KeepsScript b → list_all is_built_word b.left ≡ true → is_over b.system b.log ≡ false → first_reached b.log b.left ≡ Some w
@@ -85,9 +82,9 @@ given_loses b w k keeps built goes_on first given = record {
       subst (Looked b.system b.script (b.log ++ crash_entry b.system b.log k Place ∷ [])) (without-filter (is_reached (length b.log)) is_bus_word (reached_bus (length b.log)) b.left)
       (gives keeps.looked w (crash_entry b.system b.log k Place) (find-filter (is_reached (length b.log)) is_bus_word (reached_bus (length b.log)) b.left ∙ first) given);
   scripted = refl;
-  used = accounts_more b.script b.left (without_reached b.log b.left) b.log (crash_entry b.system b.log k Place) keeps.used (λ j n.
-      let stay = steps_stay (length b.log) b.left w j n built first in
-      let none : ◌≡◌ {A = ℕ} (cond (is_step_crash j n (Crash k Place)) 1 0) 0 = ap (λ (c : Bool). cond c 1 0) (no_place_step j k n) in
+  used = accounts_more b.script b.left (without_reached b.log b.left) b.log (crash_entry b.system b.log k Place) keeps.used (λ j cause.
+      let stay = words_stay (length b.log) b.left w j cause built first in
+      let none : ◌≡◌ {A = ℕ} (cond (is_loss_for j cause (Crash k Place)) 1 0) 0 = ap (λ (c : Bool). cond c 1 0) (no_place_loss j k cause) in
       omega (arith, stay, none));
   fewer = let one = length-without (is_reached (length b.log)) b.left w first in omega (arith, one);
 }
@@ -100,48 +97,62 @@ place_loses b over places cert number w k kept goes_on first given = subst (MayL
 pub passes : (b : BusView) (number : ℕ) (w : ScriptWord) (o : Option ClusterNo) → IsFirst (is_reached (length b.log)) b.left number w → o ≡ None → given_by (placement b.system b.log) w ≡ option_map (λ k. Crash k Place) o → MayPass b number
 passes b number w o first none given = record { word = w; first = first; nothing = given ∙ ap (option_map (λ k. Crash k Place)) none }
 
--- ---- by a word for a step
+-- ---- by a word for a step or a disk call
 
-step_not_bus : (k : ClusterNo) (n : ℕ) (w : ScriptWord) → is_step_word k n w ≡ true → is_bus_word w ≡ false
-step_not_bus k n (CrashAt j place) h = absurd (true≢false (sym h))
-step_not_bus k n (CrashStep j step) h = refl
-step_not_bus k n (DiskAt j call) h = refl
-step_not_bus k n (ReturnAt j place) h = absurd (true≢false (sym h))
+word_not_bus : (k : ClusterNo) (cause : Cause) (w : ScriptWord) → is_word_for k cause w ≡ true → is_bus_word w ≡ false
+word_not_bus k Place w h = absurd (true≢false (sym h))
+word_not_bus k (Step n) (CrashAt j place) h = absurd (true≢false (sym h))
+word_not_bus k (Step n) (CrashStep j step) h = refl
+word_not_bus k (Step n) (DiskAt j call) h = refl
+word_not_bus k (Step n) (ReturnAt j place) h = absurd (true≢false (sym h))
+word_not_bus k (Disk n) (CrashAt j place) h = absurd (true≢false (sym h))
+word_not_bus k (Disk n) (CrashStep j step) h = refl
+word_not_bus k (Disk n) (DiskAt j call) h = refl
+word_not_bus k (Disk n) (ReturnAt j place) h = absurd (true≢false (sym h))
 
--- it is a word for another step exactly where the crash is one at that step
-same_step : (k : ClusterNo) (n : ℕ) (w : ScriptWord) (j : ClusterNo) (m : ℕ) → is_step_word k n w ≡ true → is_step_word j m w ≡ is_step_crash j m (Crash k (Step n))
-same_step k n (CrashAt i place) j m h = absurd (true≢false (sym h))
-same_step k n (CrashStep i step) j m h =
-    let parts = and_parts (same_cluster i k) (eqb step n) h in
-    ap (λ a. eqb a j.0 && eqb step m) (eqb-true i.0 k.0 parts.0) ∙ ap (λ a. eqb k.0 j.0 && eqb a m) (eqb-true step n parts.1)
-same_step k n (DiskAt i call) j m h = absurd (true≢false (sym h))
-same_step k n (ReturnAt i place) j m h = absurd (true≢false (sym h))
+-- the loss that it gives comes by no look
+word_unlooked : (k : ClusterNo) (cause : Cause) (w : ScriptWord) → is_word_for k cause w ≡ true → waits_for_no_word (Crash k cause) ≡ true
+word_unlooked k Place w h = absurd (true≢false (sym h))
+word_unlooked k (Step n) w h = refl
+word_unlooked k (Disk n) w h = refl
 
-no_disk_word : (k : ClusterNo) (n : ℕ) (w : ScriptWord) → is_word_for k (Disk n) w ≡ true → is_built_word w ≡ true → ⊥
-no_disk_word k n (CrashAt j place) h built = true≢false (sym h)
-no_disk_word k n (CrashStep j step) h built = true≢false (sym h)
-no_disk_word k n (DiskAt j call) h built = true≢false (sym built)
-no_disk_word k n (ReturnAt j place) h built = true≢false (sym h)
+same_pair : (i k j : ClusterNo) (call n m : ℕ) → (same_cluster i k && eqb call n) ≡ true → (same_cluster i j && eqb call m) ≡ (same_cluster k j && eqb n m)
+same_pair i k j call n m h =
+    let parts = and_parts (same_cluster i k) (eqb call n) h in
+    ap (λ a. eqb a j.0 && eqb call m) (eqb-true i.0 k.0 parts.0) ∙ ap (λ a. eqb k.0 j.0 && eqb a m) (eqb-true call n parts.1)
 
-pub step_loses : (b : BusView) (over : Bool) (places : Places) (cert : CertView) (number : ℕ) (w : ScriptWord) (k : ClusterNo) (cause : Cause) → IsKept b over places cert → is_over b.system b.log ≡ false → lives_in (placement b.system b.log) k ≡ true
+-- it is a word for another cluster and cause exactly where the loss is one of that cluster for that cause
+same_loss : (k : ClusterNo) (cause : Cause) (w : ScriptWord) (j : ClusterNo) (other : Cause) → is_word_for k cause w ≡ true → is_word_for j other w ≡ is_loss_for j other (Crash k cause)
+same_loss k Place w j other h = absurd (true≢false (sym h))
+same_loss k (Step n) (CrashAt i place) j other h = absurd (true≢false (sym h))
+same_loss k (Step n) (CrashStep i step) j Place h = refl
+same_loss k (Step n) (CrashStep i step) j (Step m) h = same_pair i k j step n m h
+same_loss k (Step n) (CrashStep i step) j (Disk m) h = sym (and-false (same_cluster k j))
+same_loss k (Step n) (DiskAt i call) j other h = absurd (true≢false (sym h))
+same_loss k (Step n) (ReturnAt i place) j other h = absurd (true≢false (sym h))
+same_loss k (Disk n) (CrashAt i place) j other h = absurd (true≢false (sym h))
+same_loss k (Disk n) (CrashStep i step) j other h = absurd (true≢false (sym h))
+same_loss k (Disk n) (DiskAt i call) j Place h = refl
+same_loss k (Disk n) (DiskAt i call) j (Step m) h = sym (and-false (same_cluster k j))
+same_loss k (Disk n) (DiskAt i call) j (Disk m) h = same_pair i k j call n m h
+same_loss k (Disk n) (ReturnAt i place) j other h = absurd (true≢false (sym h))
+
+pub word_loses : (b : BusView) (over : Bool) (places : Places) (cert : CertView) (number : ℕ) (w : ScriptWord) (k : ClusterNo) (cause : Cause) → IsKept b over places cert → is_over b.system b.log ≡ false → lives_in (placement b.system b.log) k ≡ true
     → IsFirst (is_word_for k cause) b.left number w → is_scripted_cause b.system b.script b.log k cause ≡ true → MayLose b k cause (remove b.left number)
-step_loses b over places cert number w k Place kept going lives first scripted =
-    absurd (true≢false (sym (all-found (is_word_for k Place) is_built_word b.left w kept.words first.0).0))
-step_loses b over places cert number w k (Disk n) kept going lives first scripted =
-    let found = all-found (is_word_for k (Disk n)) is_built_word b.left w kept.words first.0 in
-    absurd (no_disk_word k n w found.0 found.1)
-step_loses b over places cert number w k (Step n) kept going lives first scripted = subst (MayLose b k (Step n)) (sym first.2) (record {
+word_loses b over places cert number w k cause kept going lives first scripted = subst (MayLose b k cause) (sym first.2) (record {
   goes_on = going;
   lives = lives;
-  words = all-without (is_step_word k n) is_built_word b.left kept.words;
+  words = all-without (is_word_for k cause) is_built_word b.left kept.words;
   looked =
-      subst (Looked b.system b.script (b.log ++ crash_entry b.system b.log k (Step n) ∷ [])) (sym (filter-without (is_step_word k n) is_bus_word (step_not_bus k n) b.left))
-      (goes_by (kept.scripted).looked (crash_entry b.system b.log k (Step n)) refl);
+      subst (Looked b.system b.script (b.log ++ crash_entry b.system b.log k cause ∷ [])) (sym (filter-without (is_word_for k cause) is_bus_word (word_not_bus k cause) b.left))
+      (goes_by (kept.scripted).looked (crash_entry b.system b.log k cause) (word_unlooked k cause w is_for));
   scripted = scripted;
-  used = accounts_more b.script b.left (without_first (is_step_word k n) b.left) b.log (crash_entry b.system b.log k (Step n)) (kept.scripted).used (λ j m.
-      let counted = count-without (is_step_word k n) (is_step_word j m) b.left w first.0 in
-      let same : ◌≡◌ {A = ℕ} (cond (is_step_word j m w) 1 0) (cond (is_step_crash j m (Crash k (Step n))) 1 0) =
-      ap (λ (c : Bool). cond c 1 0) (same_step k n w j m (all-found (is_step_word k n) is_built_word b.left w kept.words first.0).0) in
+  used = accounts_more b.script b.left (without_first (is_word_for k cause) b.left) b.log (crash_entry b.system b.log k cause) (kept.scripted).used (λ j other.
+      let counted = count-without (is_word_for k cause) (is_word_for j other) b.left w first.0 in
+      let same : ◌≡◌ {A = ℕ} (cond (is_word_for j other w) 1 0) (cond (is_loss_for j other (Crash k cause)) 1 0) = ap (λ (c : Bool). cond c 1 0) (same_loss k cause w j other is_for) in
       omega (arith, counted, same));
-  fewer = let one = length-without (is_step_word k n) b.left w first.0 in omega (arith, one);
+  fewer = let one = length-without (is_word_for k cause) b.left w first.0 in omega (arith, one);
 })
+  where
+    is_for : is_word_for k cause w ≡ true
+    is_for = (all-found (is_word_for k cause) is_built_word b.left w kept.words first.0).0

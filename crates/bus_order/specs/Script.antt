@@ -13,7 +13,7 @@ use Rattle.bus_msg.specs.PlacedAfter.{what}
 use Rattle.cert_sched.specs.declared.script.ScriptWord.{ScriptWord}
 use Rattle.cert_sched.specs.declared.script.ScriptWord.TheVariants.{CrashAt, CrashStep, DiskAt, ReturnAt}
 use Rattle.cert_sched.specs.Parts.{last_that}
-use Rattle.cert_sched.specs.Losses.{is_crash_of, is_step_crash, is_step_word, is_disk_word}
+use Rattle.cert_sched.specs.Losses.{is_crash_of, is_step_crash, is_disk_crash, is_step_word, is_disk_word}
 
 -- ---- the words
 
@@ -31,10 +31,16 @@ has_unused left k cause = list_any (is_word_for k cause) left
 abbrev pub IsFirst : (ScriptWord → Bool) → List ScriptWord → ℕ → ScriptWord → Type 0
 IsFirst test words number word = (find test words ≡ Some word) × (number < length words) × (remove words number ≡ without_first test words)
 
--- the words for a step that are left, and the losses at that step, are together as many as the words of the script
+-- a loss of this cluster at this step, or at this disk call
+abbrev pub is_loss_for : ClusterNo → Cause → What → Bool
+is_loss_for k Place w = false
+is_loss_for k (Step n) w = is_step_crash k n w
+is_loss_for k (Disk n) w = is_disk_crash k n w
+
+-- the words for a step or a disk call that are left, and the losses there, are together as many as the words of the script
 abbrev pub AccountsFor : List ScriptWord → List ScriptWord → List Entry → Type 0
 AccountsFor script left log =
-    (k : ClusterNo) (n : ℕ) → count_by (is_step_word k n) left + count_by (λ (e : Entry). is_step_crash k n (what e)) log ≡ count_by (is_step_word k n) script
+    (k : ClusterNo) (cause : Cause) → count_by (is_word_for k cause) left + count_by (λ (e : Entry). is_loss_for k cause (what e)) log ≡ count_by (is_word_for k cause) script
 
 -- a word for a step of this cluster gave a crash, or the cluster has made no more steps than it names
 abbrev pub is_unpassed : ClusterNo → List Entry → ℕ → ScriptWord → Bool

@@ -1,8 +1,9 @@
 pub mod Counts
-pub mod StepKeys
+pub mod LossKeys
 pub mod CrashLaws
 pub mod CoveredLosses
 pub mod LosingAtStep
+pub mod LosingAtCall
 pub mod PassedWords
 pub mod OffLosses
 pub mod LookedOn

@@ -8,8 +8,7 @@ use Rattle.t32_base.specs.declared.process.ClusterNo.{ClusterNo}
 use Rattle.proc_state.specs.Mail.{without_first}
 use Rattle.bus_msg.specs.declared.entry.What.{What}
 use Rattle.bus_msg.specs.declared.entry.What.TheVariants.{Crash}
-use Rattle.bus_msg.specs.declared.entry.Cause.{Cause}
-use Rattle.bus_msg.specs.declared.entry.Cause.TheVariants.{Place, Step, Disk}
+use Rattle.bus_msg.specs.declared.entry.Cause.TheVariants.{Place}
 use Rattle.bus_msg.specs.Places.{lives_in, same_cluster}
 use Rattle.cert_sched.specs.declared.script.ScriptWord.{ScriptWord}
 use Rattle.cert_sched.specs.declared.script.ScriptWord.TheVariants.{CrashAt, CrashStep, DiskAt, ReturnAt}
@@ -26,7 +25,7 @@ use Rattle.bus_order.specs.Script.{is_word_for}
 use Rattle.bus_order.specs.View.{BusView, KeepsScript, after_words, look_once, looks, no_marks, with_given}
 use Rattle.bus_order.proofs.WordsLaws.{all-found, all-without, length-without}
 use Rattle.bus_order.proofs.Looking.{look_over, look_some, settled_stays}
-use Rattle.bus_order.proofs.Keeping.{IsMore, scripted_more, scripted_passed}
+use Rattle.bus_order.proofs.Keeping.{IsMore, reached_no_word, scripted_more, scripted_passed}
 use Rattle.bus_order.proofs.Losing.{given_loses, loss_more}
 use Rattle.script_laws.specs.Added.{AddsLosses, is_bus_loss, is_its_word}
 
@@ -78,17 +77,6 @@ none_first t (x ∷ xs) none =
     ap (λ b. cond b (Some x) (find t xs)) parts.0 ∙ none_first t xs parts.1
 
 -- ---- what is added
-
-reached_no_word : (m : ℕ) (k : ClusterNo) (cause : Cause) (w : ScriptWord) → is_reached m w ≡ true → is_word_for k cause w ≡ false
-reached_no_word m k Place w reached = refl
-reached_no_word m k (Step n) (CrashAt j place) reached = refl
-reached_no_word m k (Step n) (CrashStep j step) reached = absurd (true≢false (sym reached))
-reached_no_word m k (Step n) (DiskAt j call) reached = refl
-reached_no_word m k (Step n) (ReturnAt j place) reached = refl
-reached_no_word m k (Disk n) (CrashAt j place) reached = refl
-reached_no_word m k (Disk n) (CrashStep j step) reached = refl
-reached_no_word m k (Disk n) (DiskAt j call) reached = absurd (true≢false (sym reached))
-reached_no_word m k (Disk n) (ReturnAt j place) reached = refl
 
 adds_nothing : (b : BusView) → AddsLosses b b
 adds_nothing b = record {

@@ -35,7 +35,7 @@ module _ (t : Entry → Bool) where
   or_none false b none = none
 
   -- what stands after it is not counted
-  last_before : (xs ys : List Entry) → list_any t ys ≡ false → before_last t (xs ++ ys) ≡ before_last t xs
+  pub last_before : (xs ys : List Entry) → list_any t ys ≡ false → before_last t (xs ++ ys) ≡ before_last t xs
   last_before [] ys none = none_last ys none
   last_before (x ∷ xs) ys none =
       ap (λ b. cond b (x ∷ before_last t (xs ++ ys)) []) (list_any-append t xs ys ∙ or_none (list_any t xs) (list_any t ys) none)
@@ -76,7 +76,7 @@ module _ (t : Entry → Bool) where
 
 -- ---- the least steps
 
-uncapped : (m n : ℕ) → capped m ≤ n → n < 2 ^ 64 - 1 → m ≤ n
+pub uncapped : (m n : ℕ) → capped m ≤ n → n < 2 ^ 64 - 1 → m ≤ n
 uncapped m n most less = omega (arith, most, less)
 
 -- of a cluster that has taken in what stands before the cursor, and sent nothing from there
@@ -100,7 +100,7 @@ least_at log k cursor none =
 
 -- ---- the loss
 
-or_last : (a b c : Bool) → c ≡ true → (a || b || c) ≡ true
+pub or_last : (a b c : Bool) → c ≡ true → (a || b || c) ≡ true
 or_last true b c h = refl
 or_last false true c h = refl
 or_last false false c h = h
@@ -108,7 +108,7 @@ or_last false false c h = h
 -- one of the words for the step gave no loss yet
 step_left : (b : BusView) (k : ClusterNo) (n : ℕ) → KeepsScript b → has_unused b.left k (Step n) ≡ true → has_step_left b.script b.log k n ≡ true
 step_left b k n keeps unused =
-    let used = keeps.used k n in
+    let used = keeps.used k (Step n) in
     let some = count_some (is_step_word k n) b.left unused in
     let less : count_by (λ (e : Entry). is_step_crash k n (what e)) b.log < count_by (is_step_word k n) b.script = omega (arith, used, some) in
     grind (arith, nat_tests)

@@ -115,7 +115,7 @@ unpassed_unused b k steps keeps none all = by_word (list_any (is_step_word k ste
     by_word true named =
         let some = count_some (is_step_word k steps) b.script named in
         let zero_left = count_none (is_step_word k steps) b.left none in
-        let used = keeps.used k steps in
+        let used = keeps.used k (Step steps) in
         let lost = any_counted (λ (e : Entry). is_step_crash k steps (what e)) b.log (omega (arith, some, zero_left, used)) in
         list_all-weaker (is_unpassed k b.log steps) (is_unpassed k b.log (steps + 1)) (λ w h. unpassed_used k b.log steps w lost h) b.script all
     by_word false unnamed = all_next k b.log steps b.script unnamed all

@@ -34,7 +34,7 @@ is_its_word e (DiskAt k call) = false
 is_its_word e (ReturnAt k place) = false
 
 -- The log has some more entries, each a loss at a place by a word that was left. At least as many words fewer are left, which are of those that
--- were left, each word for a step among them.
+-- were left, each word for a step or a disk call among them.
 pub record AddsLosses (old new : BusView) : Type 0 where
   pub system : new.system ≡ old.system
   pub script : new.script ≡ old.script

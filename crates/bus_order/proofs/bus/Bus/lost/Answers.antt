@@ -1,4 +1,4 @@
-use Rattle.std.proofs.Common.{◌≡◌, refl, sym, ◌∙◌, ap, subst, arith, length, true, false, None, true≢false}
+use Rattle.std.proofs.Common.{◌≡◌, refl, sym, ◌∙◌, ap, subst, arith, true, false, None, true≢false}
 use Rattle.std.specs.Prelude.{find}
 use Rattle.cert_sched.specs.Rules.{is_over}
 use Rattle.bus_order.specs.Script.{IsFirst, is_word_for, off_at}
@@ -6,7 +6,7 @@ use Rattle.bus_order.specs.View.{BusView, IsKept}
 use Rattle.bus_order.proofs.OverLaws.{over_long, over_as_kept}
 use Rattle.bus_order.proofs.OffLaws.{not_off_lives}
 use Rattle.bus_order.proofs.WordsLaws.{none-found}
-use Rattle.bus_order.proofs.Losing.{step_loses}
+use Rattle.bus_order.proofs.Losing.{word_loses}
 use Rattle.bus_order.proofs.bus.Bus.lost.Goals as goal
 
 pub overflow_sub-result : goal.overflow_sub-result
@@ -33,7 +33,7 @@ lose-requires-clause-may c =
     let words : c.deref.result.now ≡ b.left = c.deref.ensures.value ∙ ap (λ (v : BusView). v.left) c.self.view_is in
     let first : IsFirst (is_word_for by cause) b.left c.in-Some-first_for.number c.in-Some-first_for.field-0-1 =
     subst (λ ws. IsFirst (is_word_for by cause) ws c.in-Some-first_for.number c.in-Some-first_for.field-0-1) words c.in-Some-first_for.ensures.some in
-    step_loses b over places cert c.in-Some-first_for.number c.in-Some-first_for.field-0-1 by cause kept goes_on (not_off_lives b.system b.log by kept.legal c.requires.has off) first (c.requires.may goes_on off)
+    word_loses b over places cert c.in-Some-first_for.number c.in-Some-first_for.field-0-1 by cause kept goes_on (not_off_lives b.system b.log by kept.legal c.requires.has off) first (c.requires.may goes_on off)
 
 pub unreachable-requires : goal.unreachable-requires
 unreachable-requires c =
