@@ -1,6 +1,7 @@
 -- What a page server puts at boot, and what its disk counts by then.
-use Rattle.std.specs.Prelude.{ℕ, ◌≡◌, ◌+◌, ◌/◌, ◌<◌, ◌≤◌, List, [], length, Result, Ok, Err}
-use Rattle.std.specs.List.{sum_by}
+use Rattle.std.specs.Prelude.{ℕ, ◌≡◌, ◌+◌, ◌/◌, ◌<◌, ◌≤◌, ◌^◌, true, nat_le, List, [], length, Result, Ok, Err}
+use Rattle.std.specs.List.{list_all, sum_by}
+use Rattle.std.specs.Option.{IfSome}
 use Rattle.proc_state.specs.declared.process.Process.{Process}
 use Rattle.cert_sched.specs.Account.{Account, all_pages}
 use Rattle.cert_sched.specs.Losses.{capped}
@@ -20,12 +21,17 @@ pages_of es = sum_by (λ (e : ℕ × Process). length ((e.1).ram).bytes / 256) e
 abbrev pub memory_put : List ℕ → Account
 memory_put bytes = record { now = all_pages bytes; kept = [] }
 
--- so many calls of the disk were carried out, as far as a count goes, and the count of faults did not fall
+-- a u64 holds the count of calls, and each call that fails is still to come, where the disk tells them
+abbrev pub IsAhead : Counts → Type 0
+IsAhead counts = (counts.calls < 2 ^ 64) × IfSome counts.failing (λ (failing : List ℕ). list_all (λ n. nat_le counts.calls n) failing ≡ true)
+
+-- so many calls of the disk were carried out, as far as a count goes, none of them one that fails, and the count of faults did not fall
 pub record CallsMade (made : ℕ) (old new : Counts) : Type 0 where
   pub least : capped (old.calls + made) ≤ new.calls
   pub most : new.calls ≤ old.calls + made
   pub faults : old.faults ≤ new.faults
   pub failing : new.failing ≡ old.failing
+  pub ahead : IsAhead old → IsAhead new
 
 -- fewer calls than these were carried out
 pub record FewerMade (calls : ℕ) (old new : Counts) : Type 0 where
