@@ -35,7 +35,7 @@ use Rattle.cluster_core.specs.Calls.{FollowsSome, GoesOn, WorkIs}
 use Rattle.cluster_core.specs.Serving.{CanAnswer}
 use Rattle.cluster_core.specs.Work.{AnswersNext, is_first_server, owes_answer}
 use Rattle.cluster_core.proofs.FirstServer.{first_by}
-use Rattle.cluster_core.proofs.Served.{accounts_answered, disk_answered}
+use Rattle.cluster_core.proofs.Served.{accounts_answered, ahead_answered}
 use Rattle.cluster_core.proofs.Working.{more_counted}
 
 -- ---- the answer
@@ -112,7 +112,7 @@ module _ (c : ClusterView) (served : Option PagerState) (post : Post) (owed : ow
     pages = f.pages;
     records = f.records;
     accounts = accounts_answered c.system log c (answered_view c served post) post a refl empty refl f.accounts;
-    disk = disk_answered c.number c.server served post a f.disk;
+    disk = ((f.disk).0, ahead_answered c.number c.server served post a (f.disk).1);
   }
 
   pub answered_work : WorkIs c Queued (answered_view c served post)
@@ -120,10 +120,10 @@ module _ (c : ClusterView) (served : Option PagerState) (post : Post) (owed : ow
 
 -- ---- before it
 
--- a page server that follows some log has the page of the earliest fetch, and its disk fails no call
+-- a page server that follows some log has the page of the earliest fetch
 pub can_answer : (c : ClusterView) → is_system c.system ≡ true → FollowsSome c → CanAnswer c.server
-can_answer c valid f = by_server c.server ((f.follows).accounts).keeps (f.follows).disk
+can_answer c valid f = by_server c.server ((f.follows).accounts).keeps
   where
-    by_server : (o : Option PagerState) → KeepsIfThere c.system f.log o → IfSome o (λ (s : PagerState). (s.counts).failing ≡ Some []) → CanAnswer o
-    by_server None keeps sound = tt
-    by_server (Some s) keeps sound = (earliest_is_kept c.system f.log s valid (built_stands c.system f.log (f.open_log).0) keeps, sound)
+    by_server : (o : Option PagerState) → KeepsIfThere c.system f.log o → CanAnswer o
+    by_server None keeps = tt
+    by_server (Some s) keeps = earliest_is_kept c.system f.log s valid (built_stands c.system f.log (f.open_log).0) keeps

@@ -2,7 +2,6 @@
 use Rattle.std.proofs.Common.{◌≡◌, ℕ, ◌+◌, ◌*◌, ◌<◌, Bool, true, false, ◌&&◌, cond, eqb, List, [], ◌∷◌, ◌++◌, length, map, refl, sym, ap, subst, ◌∙◌, arith, Some, None, eqb-true, eq-eqb, true≢false, Option, is_some}
 use Rattle.std.specs.Prelude.{◌%◌, filter, find, option_map}
 use Rattle.std.specs.List.{count_by, list_any}
-use Rattle.std.specs.Option.{IfSome}
 use Rattle.std.specs.FinMap as finmap
 use Rattle.t32_base.specs.declared.process.Pid.{Pid}
 use Rattle.t32_base.specs.declared.process.ClusterNo.{ClusterNo}
@@ -37,7 +36,7 @@ use Rattle.record_laws.specs.Kept.{KeepsRecords}
 use Rattle.cluster_core.specs.Booting.{AreBooted, belongs_to}
 use Rattle.page_server.specs.Account.{PagerState}
 use Rattle.cert_sched.specs.Scripted.{is_server}
-use Rattle.cluster_core.specs.Serving.{BeginsToServe}
+use Rattle.cluster_core.specs.Serving.{BeginsToServe, IsAheadThere}
 use Rattle.cluster_core.proofs.Served.{accounts_begin}
 use Rattle.cluster_core.specs.Follows.{FollowsBuilt}
 use Rattle.cluster_core.specs.Holds.{IsHeldAs}
@@ -183,9 +182,9 @@ pages_at_boot : (system : System) (p : Pid) → has_its_pages system [] p ≡ tr
 unfolding told
 pages_at_boot system p = refl
 
--- a cluster at boot follows the empty log, where its disk fails no call
+-- a cluster at boot follows the empty log, where no call of its disk failed
 pub boot_follows : (system : System) (number : ClusterNo) (here : List (Pid × Held)) (recs : List BackRec) (server : Option PagerState) (failed : Option ℕ) → is_system system ≡ true → AreBooted system number here → KeepsRecords system [] number recs
-    → is_some server ≡ is_server system number → BeginsToServe system server → IfSome server (λ (s : PagerState). (s.counts).failing ≡ Some []) → FollowsBuilt system [] (boot_view system number here recs server failed)
+    → is_some server ≡ is_server system number → BeginsToServe system server → (failed ≡ None) × IsAheadThere server → FollowsBuilt system [] (boot_view system number here recs server failed)
 boot_follows system number here recs server failed valid is kept there begins sound = record {
   log = record { cursor = refl; places = placed_at_boot system };
   processes = record { held = held_as system number here is; each_once = once system number here valid is };

@@ -59,7 +59,7 @@ use Rattle.cluster_core.proofs.RecoveredHere.{Recovery, held_waiting, pids_waiti
 use Rattle.cluster_core.proofs.Unmoved.{state_same}
 use Rattle.cluster_core.proofs.Counted.{lost_before}
 use Rattle.cluster_core.proofs.Following.{counted_foreign}
-use Rattle.cluster_core.proofs.Served.{accounts_next, foreign_no_answer, disk_after}
+use Rattle.cluster_core.proofs.Served.{accounts_next, foreign_no_answer, ahead_after}
 use Rattle.cluster_core.specs.Serving.{Serves}
 use Rattle.page_server.specs.Account.{PagerState}
 use Rattle.wait_laws.proofs.BootPages.{HasPages, has_pages, starts_so}
@@ -319,7 +319,7 @@ module _ (system : System) (valid : is_system system ≡ true) (log : List Entry
     records = subst (λ k. KeepsRecords system later k (filter (stays places lost k) c.records)) (sym number_is) (loss_kept system log e lost k cause c.records valid (built_stands system later n.more) n.same apart keeps);
     accounts =
         accounts_next system log e c (with_server server after) q (IsLegal-last BuiltMayFollow system log e n.more).built (foreign_no_answer c.number e (ap (λ k. is_by_cluster k e) number_is ∙ foreign)) serves refl queue_is queue_is posts_legal f.accounts;
-    disk = disk_after places e c.server server serves f.disk;
+    disk = ((f.disk).0, ahead_after places e c.server server serves (f.disk).1);
   })
     where
       moved : List BackRec

@@ -45,8 +45,8 @@ use Rattle.cluster_core.proofs.Homes.{HomeHere, differ_built, home_here, pids_ho
 use Rattle.cluster_core.proofs.Telling.{Telling, telling}
 use Rattle.cluster_core.proofs.Counted.{lost_before}
 use Rattle.cluster_core.proofs.Following.{counted_foreign, no_end, post_may, Left, by_home_of, by_one, counted_left, letter_pids, page_queued}
-use Rattle.cluster_core.proofs.Served.{accounts_next, foreign_no_answer, accounts_sent, disk_after, SoundDisk}
-use Rattle.cluster_core.specs.Serving.{Serves}
+use Rattle.cluster_core.proofs.Served.{accounts_next, foreign_no_answer, accounts_sent, ahead_after}
+use Rattle.cluster_core.specs.Serving.{IsAheadThere, Serves}
 use Rattle.page_server.specs.Account.{PagerState}
 use Rattle.cluster_core.proofs.Unmoved.{emission_same, state_same, silent_same}
 use Rattle.cert_sched.specs.Simulation.{IsUnended}
@@ -322,7 +322,7 @@ module _ (system : System) (valid : is_system system ≡ true) (log : List Entry
     pages = pages;
     records = records_stay c.number c.records f.records;
     accounts = accounts_next system log e c (with_server server (paged c e)) q (IsLegal-last BuiltMayFollow system log e next.0).built (foreign_no_answer c.number e foreign) serves refl queue_is queue_is posts_legal f.accounts;
-    disk = disk_after (placement system log) e c.server server serves f.disk;
+    disk = ((f.disk).0, ahead_after (placement system log) e c.server server serves (f.disk).1);
   })
     where
       once : rising (pids_in c.here) ≡ rising (home_pids system log c.number)
@@ -366,7 +366,7 @@ module _ (system : System) (valid : is_system system ≡ true) (log : List Entry
     records = records_stay c.number c.records (subst (λ recs. KeepsRecords system log c.number recs) (sym (ap (λ (d : ClusterView). d.records) l.same)) (subst (λ k. KeepsRecords system log k (l.before).records) number f.records));
     accounts =
         accounts_sent system log e l.before (with_server server (paged c e)) (page_unlost (what e) of) (subst (λ old. Serves (placement system log) e old server) (ap (λ (d : ClusterView). d.server) l.same) serves) (sym number) l.posts empty f.accounts;
-    disk = disk_after (placement system log) e c.server server serves (subst SoundDisk (sym (ap (λ (d : ClusterView). d.server) l.same)) f.disk);
+    disk = (ap (λ (d : ClusterView). d.failed) l.same ∙ (f.disk).0, ahead_after (placement system log) e c.server server serves (subst IsAheadThere (sym (ap (λ (d : ClusterView). d.server) l.same)) (f.disk).1));
   })
     where
       f : FollowsBuilt system log l.before

@@ -4,6 +4,7 @@ use Rattle.std.specs.Prelude.{◌⊎◌, ⊤}
 use Rattle.std.specs.Option.{IfSome, option_map_or}
 use Rattle.page_server.specs.Account.{PagerState}
 use Rattle.page_server.specs.Disk.{Counts}
+use Rattle.page_accounts.specs.Booting.{IsAhead}
 use Rattle.page_accounts.specs.Keeps.{KeepsAccounts}
 use Rattle.sys_text.specs.declared.system.System.{System}
 use Rattle.t32_base.specs.Streams.{one_more}
@@ -22,9 +23,10 @@ use Rattle.cert_sched.proofs.UnlostLaws.{unlost_built}
 use Rattle.cluster_core.specs.Holds.{HoldsAccounts, KeepsIfThere}
 use Rattle.cluster_core.specs.Parts.{posts_of}
 use Rattle.cluster_core.specs.Queue.{IsQueueLegal, is_rebackup, with_queue}
-use Rattle.cluster_core.specs.Serving.{BeginsToServe, Serves}
-use Rattle.cluster_core.specs.View.{ClusterView}
+use Rattle.cluster_core.specs.Serving.{BeginsToServe, IsAheadThere, Serves}
+use Rattle.cluster_core.specs.View.{ClusterView, failing_in}
 use Rattle.cluster_core.specs.Work.{AnswersNext}
+use Rattle.page_accounts.proofs.Counts.{ahead_passed}
 use Rattle.cluster_core.proofs.ByKind.{OneOf, by_kind, by_page, is_of_page, kind_is, unlost_is}
 use Rattle.cluster_core.proofs.Counted.{count_by-snoc, lost_before}
 
@@ -216,19 +218,21 @@ accounts_answered system log c d post a number empty queue f = record {
 
 -- ---- the disk
 
--- no call of the disk fails
-abbrev pub SoundDisk : Option PagerState → Type 0
-SoundDisk o = IfSome o (λ s. (s.counts).failing ≡ Some [])
-
 -- an entry that is taken in calls no disk
-pub disk_after : (before : Places) (e : Entry) (old new : Option PagerState) → Serves before e old new → SoundDisk old → SoundDisk new
-disk_after before e None new serves sound = subst SoundDisk (sym serves) tt
-disk_after before e (Some old) None serves sound = absurd serves
-disk_after before e (Some old) (Some new) serves sound = ap (λ (c : Counts). c.failing) serves.counts ∙ sound
+pub ahead_after : (before : Places) (e : Entry) (old new : Option PagerState) → Serves before e old new → IsAheadThere old → IsAheadThere new
+ahead_after before e None new serves ahead = subst IsAheadThere (sym serves) tt
+ahead_after before e (Some old) None serves ahead = absurd serves
+ahead_after before e (Some old) (Some new) serves ahead = subst IsAhead (sym serves.counts) ahead
 
--- and an answer leaves which calls fail
-pub disk_answered : (k : ClusterNo) (old new : Option PagerState) (post : Post) → AnswersNext k old new post → SoundDisk old → SoundDisk new
-disk_answered k old new post a sound = subst SoundDisk (sym a.new_is) ((a.called).failing ∙ subst SoundDisk a.old_is sound)
+-- and leaves which calls fail
+pub failing_after : (before : Places) (e : Entry) (old new : Option PagerState) → Serves before e old new → failing_in new ≡ failing_in old
+failing_after before e None new serves = ap failing_in serves
+failing_after before e (Some old) None serves = absurd serves
+failing_after before e (Some old) (Some new) serves = ap (λ (c : Counts). Some c.failing) serves.counts
+
+-- the call of an answer did not fail
+pub ahead_answered : (k : ClusterNo) (old new : Option PagerState) (post : Post) → AnswersNext k old new post → IsAheadThere old → IsAheadThere new
+ahead_answered k old new post a ahead = subst IsAheadThere (sym a.new_is) (ahead_passed (a.was).counts (a.now).counts a.called (subst IsAheadThere a.old_is ahead))
 
 -- ---- the start
 

@@ -1,5 +1,5 @@
 -- What the calls on a cluster ask and promise. What a call asks holds of some log; what it promises, of every log that the cluster follows.
-use Rattle.std.specs.Prelude.{ℕ, ◌+◌, ◌≡◌, ◌≢◌, ◌⊎◌, Bool, true, false, not, if◌then◌else◌, List, [], ◌∷◌, ◌++◌, map, filter, Some, None}
+use Rattle.std.specs.Prelude.{ℕ, ◌+◌, ◌≡◌, ◌≢◌, ◌⊎◌, Bool, true, false, not, if◌then◌else◌, List, [], ◌∷◌, ◌++◌, map, filter, Some, None, ⊤}
 use Rattle.std.specs.List.{list_all}
 use Rattle.t32_base.specs.declared.process.Pid.{Pid}
 use Rattle.t32_base.specs.declared.process.ClusterNo.{ClusterNo}
@@ -24,8 +24,11 @@ use Rattle.cert_sched.specs.Schedule.{placement}
 use Rattle.cluster_core.specs.declared.worked.Worked.{Worked}
 use Rattle.cluster_core.specs.declared.worked.Worked.TheVariants.{Moved, Queued, Waits as IsWaiting, Rests}
 use Rattle.backup_records.specs.Records.{records_after}
-use Rattle.cluster_core.specs.View.{ClusterView, Held, Runs, Rolls, Waits, arrived_held, held_at, page_held, steps_of_held, next_count, counted_once}
+use Rattle.cluster_core.specs.View.{ClusterView, Held, Runs, Rolls, Waits, arrived_held, held_at, page_held, steps_of_held, next_count, counted_once, failed_at, with_server}
+use Rattle.cluster_core.specs.declared.hurt.Hurt.{Hurt}
+use Rattle.cluster_core.specs.declared.hurt.Hurt.TheVariants.{Disk, NoMemory}
 use Rattle.cluster_core.specs.Quantum.{Moves, Sends, post_told}
+use Rattle.cluster_core.specs.Serving.{FailsNext}
 use Rattle.cluster_core.specs.Residents.{with_changed}
 use Rattle.cluster_core.specs.Recovered.{left_by, moved_by, with_all_waiting}
 use Rattle.cluster_core.specs.Work.{AnswersNext, AsksNext, any_lacks, fetch_post, owes_answer}
@@ -37,6 +40,7 @@ use Rattle.cluster_core.specs.Follows.{FollowsBuilt, IsOpen, StandsBetween}
 pub record IsFirst (system : System) (number : ClusterNo) (c : ClusterView) : Type 0 where
   pub system_is : c.system ≡ system
   pub number_is : c.number ≡ number
+  pub cursor : c.cursor ≡ 0
   pub queue : c.queue ≡ []
   pub tried : c.tried ≡ false
   pub steps : c.steps ≡ 0
@@ -178,6 +182,16 @@ WorkIs old Queued new =
     ⊎ (OwesNothing old × (is_resting old ≡ false) × QueuesOne old new)
 WorkIs old IsWaiting new = OwesNothing old × (is_resting old ≡ false) × WaitsForPages old × OwesNoAnswer old × (new ≡ counted_once old)
 WorkIs old Rests new = OwesNothing old × (is_resting old ≡ true) × OwesNoAnswer old × (new ≡ counted_once old)
+
+-- a work in which a call of the disk failed: it is the next one, and no process is there any more
+pub record FailsBy (call : ℕ) (old new : ClusterView) : Type 0 where
+  pub disk : FailsNext old.server call
+  pub rest : new ≡ failed_at call (with_server new.server old)
+
+-- What a work makes of a cluster that it does not do. After want of memory nothing is said.
+abbrev pub HurtIs : ClusterView → Hurt → ClusterView → Type 0
+HurtIs old (Disk fault) new = FailsBy fault.call old new
+HurtIs old NoMemory new = ⊤
 
 -- a work changes neither the system nor the number, the cursor or the placement, and is one kernel step
 pub record KeepsPlace (old new : ClusterView) : Type 0 where

@@ -7,7 +7,7 @@ use Rattle.cert_sched.specs.Rules.{is_over}
 use Rattle.cert_sched.specs.Built.{UnlostMayFollow}
 use Rattle.cluster_core.specs.View.{ClusterView, head_of, after_sent}
 use Rattle.cert_sched.specs.Appended.{entry_of}
-use Rattle.cluster_core.specs.Holds.{HoldsLog, HoldsProcesses, HoldsQueue, HoldsSteps, HoldsPages, HoldsMarks, HoldsRecords, HoldsAccounts, HasSoundDisk}
+use Rattle.cluster_core.specs.Holds.{HoldsLog, HoldsProcesses, HoldsQueue, HoldsSteps, HoldsPages, HoldsMarks, HoldsRecords, HoldsAccounts, HasNotFailed}
 
 -- all that a cluster holds
 pub record Follows (system : System) (entries : List Entry) (c : ClusterView) : Type 0 where
@@ -29,7 +29,7 @@ pub record FollowsBuilt (system : System) (entries : List Entry) (c : ClusterVie
   pub pages : HoldsPages system entries c
   pub records : HoldsRecords system entries c
   pub accounts : HoldsAccounts system entries c
-  pub disk : HasSoundDisk c
+  pub disk : HasNotFailed c
 
 -- a log that goes on, by a rule
 abbrev pub IsOpen : (System → List Entry → Entry → Type 0) → System → List Entry → Type 0

@@ -1,11 +1,13 @@
 -- What a cluster keeps as a page server, at its start and after an entry.
-use Rattle.std.specs.Prelude.{ℕ, ◌≡◌, ◌≤◌, List, [], ◌∷◌, ◌++◌, Option, Some, None, ⊤}
+use Rattle.std.specs.Prelude.{ℕ, ◌≡◌, ◌≤◌, true, List, [], ◌∷◌, ◌++◌, Option, Some, None, ⊤}
 use Rattle.sys_text.specs.declared.system.System.{System}
 use Rattle.bus_msg.specs.declared.entry.Entry.{Entry}
 use Rattle.bus_msg.specs.Places.{Places}
 use Rattle.cert_sched.specs.Losses.{capped, root_pages}
 use Rattle.cert_sched.specs.Schedule.{placement}
 use Rattle.page_server.specs.Account.{PagerState}
+use Rattle.page_server.specs.Disk.{Fails}
+use Rattle.page_accounts.specs.Booting.{IsAhead}
 use Rattle.page_accounts.specs.Keeps.{KeepsAccounts}
 use Rattle.page_accounts.specs.declared.answering.Answer.{Answer}
 use Rattle.page_accounts.specs.Answering.{IsKept, earliest}
@@ -14,6 +16,9 @@ use Rattle.bus_msg.specs.declared.entry.What.TheVariants.{PageIs}
 use Rattle.bus_msg.specs.declared.entry.By.TheVariants.{Cluster}
 use Rattle.t32_base.specs.declared.process.ClusterNo.{ClusterNo}
 use Rattle.std.specs.Option.{IfSome}
+use Rattle.cluster_core.specs.declared.hurt.Hurt.{Hurt}
+use Rattle.cluster_core.specs.declared.hurt.Hurt.TheVariants.{Disk, NoMemory}
+use Rattle.cluster_core.specs.View.{calls_in}
 
 -- nothing, or the accounts of the empty log, for which the disk was called once at least for each page of a root
 abbrev pub BeginsToServe : System → Option PagerState → Type 0
@@ -31,10 +36,28 @@ Serves before e None new = new ≡ None
 Serves before e (Some old) None = ⊥
 Serves before e (Some old) (Some new) = Notes before e old new
 
--- a page server has the page of the earliest fetch that waits, and no call of its disk fails
+-- a page server has the page of the earliest fetch that waits
 abbrev pub CanAnswer : Option PagerState → Type 0
-CanAnswer None = ⊤
-CanAnswer (Some state) = IfSome (earliest state) (IsKept state) × ((state.counts).failing ≡ Some [])
+CanAnswer server = IfSome server (λ (state : PagerState). IfSome (earliest state) (IsKept state))
+
+-- the calls of its disk that fail are still to come, where it has one that tells them
+abbrev pub IsAheadThere : Option PagerState → Type 0
+IsAheadThere server = IfSome server (λ (state : PagerState). IsAhead state.counts)
+
+-- there is a disk, of which the call with this number fails, where it tells which do
+abbrev pub IsFailing : Option PagerState → ℕ → Type 0
+IsFailing None call = ⊥
+IsFailing (Some state) call = Fails (state.counts).failing call true
+
+-- the next call of its disk, which has this number, failed
+pub record FailsNext (server : Option PagerState) (call : ℕ) : Type 0 where
+  pub number : call ≡ calls_in server
+  pub failing : IsFailing server call
+
+-- a call of the disk failed, or memory was refused
+abbrev pub HurtsServer : Option PagerState → Hurt → Type 0
+HurtsServer server (Disk fault) = FailsNext server fault.call
+HurtsServer server NoMemory = ⊤
 
 abbrev pub answer_post : ClusterNo → Answer → Post
 answer_post k a = record { by = Cluster k; what = PageIs a.pid a.index a.bytes }

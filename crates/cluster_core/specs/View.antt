@@ -79,9 +79,16 @@ next_number (Waits waiting) = (waiting.kept).next
 abbrev pub account_at : ClusterView → Pid → Account
 account_at c p = option_map_or (λ (s : PagerState). account s p) c.server no_pages
 
--- none where it has no disk
+-- the calls of a disk, none where there is none
+abbrev pub calls_in : Option PagerState → ℕ
+calls_in server = option_map_or (λ (s : PagerState). (s.counts).calls) server 0
+
 abbrev pub disk_calls : ClusterView → ℕ
-disk_calls c = option_map_or (λ (s : PagerState). (s.counts).calls) c.server 0
+disk_calls c = calls_in c.server
+
+-- which calls of a disk fail, where there is one, as far as it tells
+abbrev pub failing_in : Option PagerState → Option (Option (List ℕ))
+failing_in server = option_map (λ (s : PagerState). (s.counts).failing) server
 
 abbrev pub head_of : List Post → Option Post
 head_of [] = None
@@ -163,6 +170,10 @@ next_count n = min (n + 1) (2 ^ 64 - 1)
 -- one kernel step more
 abbrev pub counted_once : ClusterView → ClusterView
 counted_once c = record c { steps = next_count c.steps }
+
+-- a call of its disk failed, by a kernel step: no process is there any more
+abbrev pub failed_at : ℕ → ClusterView → ClusterView
+failed_at call c = record c { here = []; steps = next_count c.steps; failed = Some call }
 
 -- the head was tried, by a kernel step
 abbrev pub tried_once : ClusterView → ClusterView

@@ -1,5 +1,5 @@
 //! The start of a cluster: the roots that are at home there, the records of those whose backup is there, and the pages that it serves.
-ghost use Rattle.std.specs.Prelude.{◌≡◌, IfOk, IfSome, None, Some, true, false, [], map, filter, is_some};
+ghost use Rattle.std.specs.Prelude.{◌≡◌, IfOk, IfSome, None, Some, true, false, [], map, filter, is_some, option_map};
 ghost use Rattle.std.specs.Option.{option_map_or};
 ghost use Rattle.std.specs.List.Sorted.{IsStrictlySortedBy};
 ghost use Rattle.std.specs.Map.{keys_of};
@@ -9,7 +9,9 @@ ghost use Rattle.bus_msg.specs.Places.{is_cluster, unended_at};
 ghost use Rattle.cert_sched.specs.Schedule.{placement};
 ghost use Rattle.record_laws.specs.Kept.{KeepsRecords};
 ghost use Rattle.cluster_core.specs.Booting.{AreBooted, AreFirstRecords, belongs_to, running_at};
-ghost use Rattle.cluster_core.specs.Serving.{BeginsToServe};
+ghost use Rattle.cluster_core.specs.Serving.{BeginsToServe, IsAheadThere, IsFailing};
+ghost use Rattle.cluster_core.specs.View.{failing_in};
+ghost use Rattle.page_accounts.specs.Booting.{IsAhead};
 
 use crate::resident::Resident;
 use crate::residents::Residents;
@@ -38,7 +40,8 @@ pub struct Parts<D: PageDisk> {
 
 /// The processes of the roots that are at home in a cluster, at their start, linked by the channels of the
 /// system; the records of those whose backup is there, with their state at the start; and, with a disk, the pages of
-/// all roots, or the number of the call of the disk that failed. The placement is the one at boot.
+/// all roots. Where a call of the disk failed it has the number of that, and neither processes nor records. The placement is
+/// the one at boot.
 pub fn parts_at_boot<D: PageDisk + Drop>(
     alloc: Global,
     system: &System,
@@ -48,15 +51,25 @@ pub fn parts_at_boot<D: PageDisk + Drop>(
 ) -> Result<Parts<D>, NoMemory>
     requires valid { is_system system.now ≡ true }
     requires places { places.now ≡ placement system.now [] }
-    ensures here { IfOk result (λ parts. AreBooted system.now number parts.here.here) }
-    ensures records { IfOk result (λ parts. KeepsRecords system.now [] number parts.records) }
+    ensures here { IfOk result (λ parts. parts.failed ≡ None → AreBooted system.now number parts.here.here) }
+    ensures none { IfOk result (λ parts. IfSome parts.failed (λ call. parts.here.here ≡ [])) }
+    ensures records { IfOk result (λ parts. parts.failed ≡ None → KeepsRecords system.now [] number parts.records) }
     ensures server { IfOk result (λ parts. parts.failed ≡ None → BeginsToServe system.now parts.server) }
     ensures there { IfOk result (λ parts. is_some parts.server ≡ is_some disk) }
-    ensures whole { IfOk result (λ parts. IfSome disk (λ d. (D.counts d).failing ≡ Some []) → parts.failed ≡ None) }
-    ensures sound { IfOk result (λ parts. IfSome disk (λ d. (D.counts d).failing ≡ Some []) → IfSome parts.server (λ s. (s.counts).failing ≡ Some [])) }
+    ensures told { IfOk result (λ parts. failing_in parts.server ≡ option_map (λ d. (D.counts d).failing) disk) }
+    ensures ahead { IfOk result (λ parts. parts.failed ≡ None → IfSome disk (λ d. IsAhead (D.counts d)) → IsAheadThere parts.server) }
+    ensures fails { IfOk result (λ parts. IfSome parts.failed (IsFailing parts.server)) }
 {
     let processes = processes_of(alloc, system)?;
     let (server, failed) = serve_roots(alloc, disk, &processes)?;
+    if failed.is_some() {
+        return Ok(Parts {
+            here: Residents::none(alloc),
+            records: Records::none(alloc),
+            server,
+            failed,
+        });
+    }
     let records = first_records(alloc, number, places, &processes)?;
     let here = residents_of(alloc, number, processes)?;
     Ok(Parts {

@@ -1,15 +1,18 @@
 //! A cluster with its processes.
-ghost use Rattle.std.specs.Prelude.{◌≡◌, ◌<◌, ◌^◌, ◌-◌, [], Some, None, OnOk, IfOk, IfSome, is_some, true, if◌then◌else◌};
+ghost use Rattle.std.specs.Prelude.{◌≡◌, ◌<◌, ◌^◌, ◌-◌, [], Some, None, OnErr, OnOk, IfErr, IfOk, IfSome, is_some, option_map, true, if◌then◌else◌};
 ghost use Rattle.std.specs.Option.{option_copied};
 ghost use Rattle.std.specs.Arc.{arc_value};
 ghost use Rattle.sys_text.specs.Valid.{is_system};
 ghost use Rattle.cert_sched.specs.Scripted.{is_server};
-ghost use Rattle.cluster_core.specs.View.{head_of, after_sent, counted_once, disk_calls, tried_once, with_server};
+ghost use Rattle.page_accounts.specs.Booting.{IsAhead};
+ghost use Rattle.cluster_core.specs.Serving.{HurtsServer, IsFailing};
+ghost use Rattle.cluster_core.specs.View.{head_of, after_sent, counted_once, disk_calls, failed_at, failing_in, tried_once, with_server};
 ghost use Rattle.cluster_core.specs.Follows.{FollowsBuilt};
-ghost use Rattle.cluster_core.specs.Calls.{Absorbs, absorbed, FollowsSome, GoesOn, is_resting, IsFirst, KeepsPlace, ReadyFor, RestsIn, rests_of, WorkIs};
+ghost use Rattle.cluster_core.specs.Calls.{Absorbs, absorbed, FollowsSome, GoesOn, HurtIs, is_resting, IsFirst, KeepsPlace, ReadyFor, RestsIn, rests_of, WorkIs};
 
 use crate::absorb::{note, tell};
 use crate::booting::parts_at_boot;
+use crate::hurt::Hurt;
 use crate::residents::Residents;
 use crate::serving::serve;
 use crate::taking_over::take_over;
@@ -77,7 +80,7 @@ impl<D: PageDisk + Drop> Cluster<D> {
     /// A cluster at its start: the placement of the roots, and the roots at home there with their images,
     /// linked by the channels; and the records of the roots whose backup is there, with their state at the start. A
     /// page server has a disk, and puts each page of each root. A call of the disk that fails leaves a cluster that has
-    /// failed.
+    /// failed, in which there is no process.
     pub fn boot(
         alloc: Global,
         system: &Arc<System>,
@@ -87,9 +90,10 @@ impl<D: PageDisk + Drop> Cluster<D> {
         requires valid { is_system (arc_value system.now) ≡ true }
         requires has { number.0 < (arc_value system.now).clusters }
         requires disk { is_some disk ≡ is_server (arc_value system.now) number }
-        ensures follows { IfOk result (λ c. IfSome disk (λ d. (D.counts d).failing ≡ Some []) → FollowsBuilt (arc_value system.now) [] c) }
+        ensures follows { IfOk result (λ c. c.failed ≡ None → IfSome disk (λ d. IsAhead (D.counts d)) → FollowsBuilt (arc_value system.now) [] c) }
         ensures begins { IfOk result (IsFirst (arc_value system.now) number) }
-        ensures whole { IfOk result (λ c. IfSome disk (λ d. (D.counts d).failing ≡ Some []) → c.failed ≡ None) }
+        ensures disk { IfOk result (λ c. failing_in c.server ≡ option_map (λ d. (D.counts d).failing) disk) }
+        ensures fails { IfOk result (λ c. IfSome c.failed (λ call. IsFailing c.server call × (c.here ≡ []))) }
     {
         let places = placement_at_boot(alloc, system)?;
         let parts = parts_at_boot(alloc, system, number, &places, disk)?;
@@ -187,6 +191,7 @@ impl<D: PageDisk + Drop> Cluster<D> {
         requires ready { ReadyFor entry.now self.old }
         ensures absorbed { OnOk result (self.new ≡ with_server self.new.server (absorbed self.old entry.now)) }
         ensures follows { OnOk result (Absorbs entry.now self.old self.new) }
+        ensures disk { OnOk result (failing_in self.new.server ≡ failing_in self.old.server) }
     {
         note(self.number, &mut self.records, entry)?;
         serve(&mut self.server, &self.places, entry)?;
@@ -209,13 +214,32 @@ impl<D: PageDisk + Drop> Cluster<D> {
     /// fetch that waits. Else the lowest page is asked for that the lowest process here lacks and has not asked for. Else a
     /// process runs, up to something that it sends: the next one in rising pid order that can move, after the one that ran
     /// last, cyclically. Where none can, the cluster waits if a process here waits for its pages, and rests if none does.
-    /// After want of memory nothing is said of the cluster but that it can be dropped.
-    pub fn work(&mut self) -> Result<Worked, NoMemory>
+    /// A call of its disk that fails leaves a cluster that has failed, in which there is no process. After want of memory nothing
+    /// is said of the cluster but that it can be dropped.
+    pub fn work(&mut self) -> Result<Worked, Hurt>
         requires empty { self.old.queue ≡ [] }
         requires follows { FollowsSome self.old }
         ensures follows { OnOk result (GoesOn self.old self.new) }
         ensures work { IfOk result (λ worked. WorkIs self.old worked self.new) }
         ensures place { OnOk result (KeepsPlace self.old self.new) }
+        ensures hurts { IfErr result (λ hurt. HurtIs self.old hurt self.new) }
+    {
+        let worked = self.do_work();
+        if let Err(Hurt::Disk(fault)) = worked {
+            self.fail(fault.call);
+        }
+        worked
+    }
+
+    // The same, but that a call of the disk that fails is not noted.
+    fn do_work(&mut self) -> Result<Worked, Hurt>
+        requires empty { self.old.queue ≡ [] }
+        requires follows { FollowsSome self.old }
+        ensures follows { OnOk result (GoesOn self.old self.new) }
+        ensures work { IfOk result (λ worked. WorkIs self.old worked self.new) }
+        ensures place { OnOk result (KeepsPlace self.old self.new) }
+        ensures hurts { IfErr result (HurtsServer self.old.server) }
+        ensures same { OnErr result (self.new ≡ with_server self.new.server self.old) }
     {
         let worked = work_on(
             self.alloc,
@@ -235,6 +259,15 @@ impl<D: PageDisk + Drop> Cluster<D> {
         ensures idle { IfOk result (λ rests. IfSome rests (RestsIn self.now)) }
     {
         self.here.rests(self.alloc)
+    }
+
+    // A call of its disk failed, in a kernel step.
+    fn fail(&mut self, call: u64)
+        ensures { self.new ≡ failed_at call self.old }
+    {
+        self.here = Residents::none(self.alloc);
+        self.failed = Some(call);
+        self.count_step();
     }
 
     // One kernel step more.

@@ -1,14 +1,17 @@
 //! What a cluster does as a page server: one call a kind of entry, and the pages of the roots at boot.
-ghost use Rattle.std.specs.Prelude.{◌≡◌, IfOk, IfSome, None, OnOk, Some, [], is_some, true};
+ghost use Rattle.std.specs.Prelude.{◌≡◌, IfErr, IfOk, IfSome, None, OnOk, is_some, option_map, true};
 ghost use Rattle.sys_text.specs.declared.system.System.{System};
 ghost use Rattle.sys_text.specs.Valid.{is_system};
 ghost use Rattle.plain_kernel.specs.Maps.{linked_processes};
 ghost use Rattle.plain_kernel.specs.Maps.{processes_of as states_of};
 ghost use Rattle.bus_msg.specs.PlacedAfter.{what};
 ghost use Rattle.cert_sched.specs.Built.{is_built};
-ghost use Rattle.cluster_core.specs.Serving.{BeginsToServe, CanAnswer, Serves, answer_post};
+ghost use Rattle.page_accounts.specs.Booting.{IsAhead};
+ghost use Rattle.cluster_core.specs.Serving.{BeginsToServe, CanAnswer, HurtsServer, IsAheadThere, IsFailing, Serves, answer_post};
+ghost use Rattle.cluster_core.specs.View.{failing_in};
 ghost use Rattle.cluster_core.specs.Work.{AnswersNext, is_first_server, owes_answer};
 
+use crate::hurt::Hurt;
 use bus_msg::entry::{By, Entry, Post, What};
 use bus_msg::shared::Shared;
 use channel_table::placement::Placement;
@@ -33,8 +36,9 @@ pub fn serve_roots<D: PageDisk + Drop>(
 ) -> Result<(Option<Pager<D>>, Option<u64>), NoMemory>
     ensures begins { IfOk result (λ r. r.1 ≡ None → (system : System) → is_system system ≡ true → states_of processes.now.entries ≡ linked_processes system → BeginsToServe system r.0) }
     ensures there { IfOk result (λ r. is_some r.0 ≡ is_some disk) }
-    ensures whole { IfOk result (λ r. IfSome disk (λ d. (D.counts d).failing ≡ Some []) → r.1 ≡ None) }
-    ensures sound { IfOk result (λ r. IfSome disk (λ d. (D.counts d).failing ≡ Some []) → IfSome r.0 (λ s. (s.counts).failing ≡ Some [])) }
+    ensures told { IfOk result (λ r. failing_in r.0 ≡ option_map (λ d. (D.counts d).failing) disk) }
+    ensures ahead { IfOk result (λ r. r.1 ≡ None → IfSome disk (λ d. IsAhead (D.counts d)) → IsAheadThere r.0) }
+    ensures fails { IfOk result (λ r. IfSome r.1 (IsFailing r.0)) }
 {
     let Some(disk) = disk else {
         return Ok((None, None));
@@ -48,18 +52,19 @@ pub fn serve_roots<D: PageDisk + Drop>(
 }
 
 /// The answer to the earliest fetch that waits, where the cluster with a number is the first of the page servers that were
-/// never lost: the page of the committed account, by one call of the disk. None where no answer is owed, with no call.
-/// After want of memory nothing is said but that the value can be dropped.
+/// never lost: the page of the committed account, by one call of the disk. None where no answer is owed, with no call. Where
+/// that call fails the error has its number. After an error nothing is said but that the value can be dropped.
 pub fn answer_next<D: PageDisk>(
     alloc: Global,
     number: ClusterNo,
     places: &Placement,
     server: &mut Option<Pager<D>>,
-) -> Result<Option<Post>, NoMemory>
+) -> Result<Option<Post>, Hurt>
     requires { CanAnswer server.old }
     ensures owed { IfOk result (λ post. is_some post ≡ owes_answer places.now number server.old) }
     ensures none { IfOk result (λ post. post ≡ None → server.new ≡ server.old) }
     ensures answers { IfOk result (λ post. IfSome post (AnswersNext number server.old server.new)) }
+    ensures hurts { IfErr result (HurtsServer server.old) }
 {
     if !is_first(places, number) {
         return Ok(None);
@@ -73,7 +78,7 @@ pub fn answer_next<D: PageDisk>(
     match next_answer(pager) {
         Ok(Some(answer)) => Ok(Some(post_of(alloc, number, answer)?)),
         Ok(None) => unreachable!(),
-        Err(_) => unreachable!(),
+        Err(fault) => Err(Hurt::Disk(fault)),
     }
 }
 

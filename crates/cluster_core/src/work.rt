@@ -1,9 +1,10 @@
 //! The work of a cluster.
-ghost use Rattle.std.specs.Prelude.{◌≡◌, None, IfOk, OnErr, if◌then◌else◌};
+ghost use Rattle.std.specs.Prelude.{◌≡◌, None, IfErr, IfOk, OnErr, if◌then◌else◌};
 ghost use Rattle.cluster_core.specs.Quantum.{post_told};
-ghost use Rattle.cluster_core.specs.Serving.{CanAnswer};
+ghost use Rattle.cluster_core.specs.Serving.{CanAnswer, HurtsServer};
 ghost use Rattle.cluster_core.specs.Work.{RunsNext, WorksOn, any_waits, fetch_post};
 
+use crate::hurt::Hurt;
 use crate::quantum::{Quantum, Sending};
 use crate::residents::Residents;
 use crate::serving::answer_next;
@@ -19,8 +20,8 @@ use t32_base::streams::NoMemory;
 
 /// Does the next thing that is to be done in the cluster with a number. An answer that it owes as a page server is queued;
 /// or a fetch of a page that a process here lacks; or the next process that can move runs for a quantum, and what it sends
-/// is queued; or nothing can move, where a process may wait for its pages. After want of memory nothing is queued, and
-/// nothing else is said but that the values can be dropped.
+/// is queued; or nothing can move, where a process may wait for its pages. After want of memory, or where the call of the disk
+/// failed, nothing is queued, and nothing else is said but that the values can be dropped.
 pub fn work_on<D: PageDisk>(
     alloc: Global,
     number: ClusterNo,
@@ -28,12 +29,13 @@ pub fn work_on<D: PageDisk>(
     here: &mut Residents,
     server: &mut Option<Pager<D>>,
     queue: &mut Option<Post>,
-) -> Result<Worked, NoMemory>
+) -> Result<Worked, Hurt>
     requires queue { queue.old ≡ None }
     requires can { CanAnswer server.old }
     ensures ok { IfOk result (λ worked. WorksOn number places.now here.old server.old worked here.new server.new queue.new) }
     ensures here { OnErr result (here.new.here ≡ here.old.here) }
     ensures queue { OnErr result (queue.new ≡ None) }
+    ensures hurts { IfErr result (HurtsServer server.old) }
 {
     if let Some(post) = answer_next(alloc, number, places, server)? {
         *queue = Some(post);
@@ -43,7 +45,7 @@ pub fn work_on<D: PageDisk>(
         *queue = Some(fetch_of(number, pid, index));
         return Ok(Worked::Queued);
     }
-    run_next(alloc, number, here, queue)
+    Ok(run_next(alloc, number, here, queue)?)
 }
 
 // The next process that can move runs for a quantum, and what it sends is queued.

@@ -1,4 +1,4 @@
-//! A process that the loss of a cluster moved, while it waits for its pages. No cluster calls it yet.
+//! A process that the loss of a cluster moved, while it waits for its pages.
 #![tactic(auto)]
 
 pub mod laws;

@@ -4,7 +4,8 @@ use Rattle.bus_msg.specs.PlacedAfter.{what, placed_after}
 use Rattle.sys_text.specs.Valid.{is_system}
 use Rattle.sys_text.proofs.Bounds.{system_bounds}
 use Rattle.backup_records.specs.Records.{CanNote, are_rising, records_after}
-use Rattle.cluster_core.specs.View.{ClusterView, next_count, with_server}
+use Rattle.cluster_core.proofs.Served.{failing_after}
+use Rattle.cluster_core.specs.View.{failing_in, ClusterView, next_count, with_server}
 use Rattle.cluster_core.specs.Serving.{Serves}
 use Rattle.cluster_core.specs.Parts.{AllOwn}
 use Rattle.cluster_core.specs.Recovered.{CanWait, left_by, moved_by, with_all_waiting}
@@ -122,3 +123,9 @@ tell-requires-clause-comes g c =
 
 pub serve-requires : goal.serve-requires
 serve-requires g c = ready_built c.args.self.now c.args.entry.now c.requires.ready
+
+pub returns-clause-disk : goal.returns-clause-disk
+returns-clause-disk g c =
+    let old : ClusterView = c.args.self.now in
+    let serves : Serves old.places c.args.entry.now old.server c.serve.new.server = subst (λ (v : ClusterView). Serves v.places c.args.entry.now v.server c.serve.new.server) c.self.view_is c.in_ok-serve.ensures in
+    ap (λ (v : ClusterView). failing_in v.server) c.count_step.ensures ∙ failing_after old.places c.args.entry.now old.server c.serve.new.server serves

@@ -10,7 +10,7 @@ use Rattle.cluster_core.specs.Serving.{CanAnswer}
 use Rattle.cluster_core.specs.Work.{WorksOn}
 use Rattle.cluster_core.proofs.Answering.{can_answer}
 use Rattle.cluster_core.proofs.Turning.{none_queued, worked_view, works}
-use Rattle.cluster_core.proofs.cluster.Cluster.work.Goals as goal
+use Rattle.cluster_core.proofs.cluster.Cluster.do_work.Goals as goal
 
 pub work_on-requires-clause-queue : goal.work_on-requires-clause-queue
 work_on-requires-clause-queue g c = none_queued c.self.inside.queue (ap (λ (v : ClusterView). v.queue) c.self.view_is ∙ c.requires.empty)
