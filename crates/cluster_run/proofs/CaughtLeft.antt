@@ -8,6 +8,7 @@ use Rattle.bus_order.specs.View.{BusView}
 use Rattle.cluster_run.specs.Along.{IsSound}
 use Rattle.cluster_run.specs.Gone.{LeftAs}
 use Rattle.cluster_run.specs.Left.{AllCaught, AllLeft, HasCaught}
+use Rattle.cluster_run.proofs.DiskCalls.{disk_uncalled}
 use Rattle.cluster_run.proofs.AtTheEnd.{open_end}
 use Rattle.cluster_run.proofs.OneLeft.{left_at_end}
 use Rattle.cluster_run.proofs.OwnLosses.{none_sent}
@@ -22,7 +23,7 @@ module _ (b : BusView) (sound : IsSound b) (finished : is_finished b.log ≡ tru
       by_loss true lost = (lost_gone b c sound (before_along b c sound along) lost).left
       by_loss false lives =
           left_at_end b c lives finished along.system (along.beside).unfailed (subst (λ s. FollowsBuilt s (take c.cursor b.log) c) along.system (along.beside).follows) (none_sent c.number (drop c.cursor b.log) (along.beside).told_before)
-          (caught ∙ open_end b finished) along.passed
+          (caught ∙ open_end b finished) along.passed (disk_uncalled b.script c along.disk (((along.beside).follows).disk).1)
 
   pub caught_left : (cs : List ClusterView) → AllCaught b cs → AllLeft b cs
   caught_left cs taken = record {

@@ -13,6 +13,7 @@ use Rattle.bus_msg.specs.declared.entry.By.{By}
 use Rattle.bus_msg.specs.declared.entry.By.TheVariants.{Cluster, Bus}
 use Rattle.bus_msg.specs.declared.entry.What.{What}
 use Rattle.bus_msg.specs.declared.entry.What.TheVariants.{Mail, Birth, Exit, Page, Sync, Fetch, PageIs, Crash, Return, Rebackup, Done, Stop}
+use Rattle.bus_msg.specs.declared.entry.Cause.{Cause}
 use Rattle.bus_msg.specs.declared.entry.Cause.TheVariants.{Place, Step, Disk}
 use Rattle.bus_msg.specs.declared.entry.Entry.{Entry}
 use Rattle.bus_msg.specs.Places.{Places, same_cluster}
@@ -23,12 +24,12 @@ use Rattle.cert_sched.specs.Schedule.{placement}
 use Rattle.cert_sched.specs.Rules.{is_bus, is_by_right}
 use Rattle.cert_sched.specs.Legal.{IsLegalBy}
 use Rattle.cert_sched.specs.Built.{BuiltMayFollow}
-use Rattle.cert_sched.specs.Losses.{is_by_cluster, is_crash_of, is_from, is_step_crash, is_step_word, was_lost_in}
+use Rattle.cert_sched.specs.Losses.{is_by_cluster, is_crash_of, is_disk_crash, is_from, is_step_crash, was_lost_in}
 use Rattle.cert_sched.proofs.Induction.{legal_induction}
 use Rattle.cluster_core.specs.View.{ClusterView, next_count}
 use Rattle.bus_lock.specs.Lists.{is_author}
 use Rattle.bus_order.specs.Log.{author}
-use Rattle.bus_order.specs.Script.{has_unused, is_unpassed}
+use Rattle.bus_order.specs.Script.{has_unused, is_loss_for, is_unpassed, is_word_for}
 use Rattle.bus_order.specs.View.{BusView, KeepsScript}
 use Rattle.script_laws.specs.Crashes.{is_loss}
 use Rattle.script_laws.proofs.Counts.{any_counted, count_none, count_some}
@@ -189,7 +190,7 @@ ends_by_other k Stop c none = tt
 pub ends_there : (log : List Entry) (k : ClusterNo) (c : ClusterView) (n : ℕ) (e : Entry) → list_any (λ (e : Entry). is_own_loss k (what e)) log ≡ false → slice_get log n ≡ Some e → EndsBy (cause_in k (what e)) c
 ends_there log k c n e none at = ends_by_other k (what e) c (none_of_them (λ (e : Entry). is_own_loss k (what e)) log n e none at)
 
--- ---- the words for its steps
+-- ---- the words for its steps and its disk calls
 
 own_step : (k : ClusterNo) (n : ℕ) (w : What) → is_own_loss k w ≡ false → is_step_crash k n w ≡ false
 own_step k n (Mail at letter) none = refl
@@ -211,6 +212,31 @@ own_step k n (Rebackup to fresh recs) none = refl
 own_step k n (Done rests) none = refl
 own_step k n Stop none = refl
 
+own_disk : (k : ClusterNo) (n : ℕ) (w : What) → is_own_loss k w ≡ false → is_disk_crash k n w ≡ false
+own_disk k n (Mail at letter) none = refl
+own_disk k n (Birth parent at child end) none = refl
+own_disk k n (Exit pid at end) none = refl
+own_disk k n (Page pid at index bytes) none = refl
+own_disk k n (Sync pid small read took) none = refl
+own_disk k n (Fetch pid index) none = refl
+own_disk k n (PageIs pid index bytes) none = refl
+own_disk k n (Crash j Place) none = by_same (same_cluster j k)
+  where
+    by_same : (b : Bool) → (b && false) ≡ false
+    by_same true = refl
+    by_same false = refl
+own_disk k n (Crash j (Step m)) none = ap (λ b. b && false) none
+own_disk k n (Crash j (Disk m)) none = ap (λ b. b && m == n) none
+own_disk k n (Return j) none = refl
+own_disk k n (Rebackup to fresh recs) none = refl
+own_disk k n (Done rests) none = refl
+own_disk k n Stop none = refl
+
+own_loss : (k : ClusterNo) (cause : Cause) (w : What) → is_own_loss k w ≡ false → is_loss_for k cause w ≡ false
+own_loss k Place w none = refl
+own_loss k (Step n) w none = own_step k n w none
+own_loss k (Disk n) w none = own_disk k n w none
+
 -- as many left as there were leave one where there was one
 same_any : {X : Type 0} (t : X → Bool) (xs ys : List X) → count_by t xs ≡ count_by t ys → list_any t xs ≡ list_any t ys
 same_any t xs ys same = by_test (list_any t xs) (list_any t ys) refl refl
@@ -222,11 +248,11 @@ same_any t xs ys same = by_test (list_any t xs) (list_any t ys) refl refl
     by_test false true one two = absurd (true≢false (sym (any_counted t xs (let some = count_some t ys two in omega (arith, some, same))) ∙ one))
 
 -- none of them was used: each that the script has is left
-pub unused_as_named : (b : BusView) (k : ClusterNo) (n : ℕ) → KeepsScript b → list_any (λ (e : Entry). is_own_loss k (what e)) b.log ≡ false → has_unused b.left k (Step n) ≡ has_unused b.script k (Step n)
-unused_as_named b k n keeps none =
-    let gone = count_none (λ (e : Entry). is_step_crash k n (what e)) b.log (any_weaker (λ (e : Entry). is_own_loss k (what e)) (λ (e : Entry). is_step_crash k n (what e)) b.log (λ e own. own_step k n (what e) own) none) in
-    let used = keeps.used k n in
-    same_any (is_step_word k n) b.left b.script (omega (arith, used, gone))
+pub unused_as_named : (b : BusView) (k : ClusterNo) (cause : Cause) → KeepsScript b → list_any (λ (e : Entry). is_own_loss k (what e)) b.log ≡ false → has_unused b.left k cause ≡ has_unused b.script k cause
+unused_as_named b k cause keeps none =
+    let gone = count_none (λ (e : Entry). is_loss_for k cause (what e)) b.log (any_weaker (λ (e : Entry). is_own_loss k (what e)) (λ (e : Entry). is_loss_for k cause (what e)) b.log (λ e own. own_loss k cause (what e) own) none) in
+    let used = keeps.used k cause in
+    same_any (is_word_for k cause) b.left b.script (omega (arith, used, gone))
 
 -- ---- the words that it has passed
 

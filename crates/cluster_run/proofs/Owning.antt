@@ -8,7 +8,6 @@ use Rattle.t32_base.specs.declared.process.ClusterNo.{ClusterNo}
 use Rattle.sys_text.specs.declared.system.System.{System}
 use Rattle.bus_msg.specs.declared.entry.By.TheVariants.{Bus}
 use Rattle.bus_msg.specs.declared.entry.What.TheVariants.{Crash, Done}
-use Rattle.bus_msg.specs.declared.entry.Cause.TheVariants.{Step}
 use Rattle.bus_msg.specs.declared.entry.Post.{Post}
 use Rattle.cert_sched.specs.Appended.{entry_of}
 use Rattle.cert_sched.specs.Rules.{is_over}
@@ -27,6 +26,7 @@ use Rattle.bus_order.proofs.OverLaws.{closed-snoc, finished-snoc, open_not_close
 use Rattle.script_laws.specs.Crashes.{crashes}
 use Rattle.script_laws.proofs.CoveredLosses.{few_losses_close}
 use Rattle.cluster_run.specs.declared.offers.Offered.TheVariants.{Sent, Behind, Over, Off}
+use Rattle.cluster_run.specs.Gone.{own_cause}
 use Rattle.cluster_run.specs.Along.{IsAlong, IsOwned, IsSound, TakesIn}
 use Rattle.cluster_run.specs.Offers.{Adds, Later, OfferIs, TakesMark, TellIs, Visits}
 use Rattle.cluster_run.specs.Progress.{Falls, GetsOn, IsAtMost, IsOver, left_after, remaining_of, AwaitsPage, HasAnswered, Rests}
@@ -264,7 +264,7 @@ gone_turn b after c new loses = record {
   gets_on = inl (inl loses.fewer);
 }
 
--- what its loss at a step makes of the bus
+-- what its own loss makes of the bus
 one_fewer : {X : Type 0} (t : X → Bool) (xs : List X) → list_any t xs ≡ true → length (without_first t xs) < length xs
 one_fewer t [] some = absurd (true≢false (sym some))
 one_fewer t (x ∷ xs) some = by_test (t x) some (one_fewer t xs)
@@ -273,14 +273,14 @@ one_fewer t (x ∷ xs) some = by_test (t x) some (one_fewer t xs)
     by_test true some more = omega arith
     by_test false some more = let less = more some in omega (arith, less)
 
-pub loses_own : (b after : BusView) (k : ClusterNo) (n at : ℕ) → GoesOwn b → IsSound after → was_lost_in after.log k ≡ true → has_unused b.left k (Step n) ≡ true → Loses b k (Step n) (Ok at) after → LosesOwn k b after
-loses_own b after k n at own sound lost unused loses =
-    let left : List ScriptWord = without_first (is_word_for k (Step n)) b.left in
-    let is : after ≡ with_loss b k (Step n) left = loses.3 in
+pub loses_own : (b after : BusView) (k : ClusterNo) (c : ClusterView) (at : ℕ) → GoesOwn b → IsSound after → was_lost_in after.log k ≡ true → has_unused b.left k (own_cause c) ≡ true → Loses b k (own_cause c) (Ok at) after → LosesOwn k b after
+loses_own b after k c at own sound lost unused loses =
+    let left : List ScriptWord = without_first (is_word_for k (own_cause c)) b.left in
+    let is : after ≡ with_loss b k (own_cause c) left = loses.3 in
     let few : crashes after.log ≤ 1 = let losses = sound.losses in let one = sound.one in omega (arith, losses, one) in
-    let open_still : is_closed after.log ≡ false = ap (λ (x : BusView). is_closed x.log) is ∙ closed-snoc b.log (entry_of b.system b.log (record { by = Bus; what = Crash k (Step n) })) in
+    let open_still : is_closed after.log ≡ false = ap (λ (x : BusView). is_closed x.log) is ∙ closed-snoc b.log (entry_of b.system b.log (record { by = Bus; what = Crash k (own_cause c) })) in
     let goes_on : is_over after.system after.log ≡ false = by_end few open_still (is_over after.system after.log) refl in
-    let fewer : length after.left < length b.left = subst (λ (x : BusView). length x.left < length b.left) (sym is) (one_fewer (is_word_for k (Step n)) b.left unused) in
+    let fewer : length after.left < length b.left = subst (λ (x : BusView). length x.left < length b.left) (sym is) (one_fewer (is_word_for k (own_cause c)) b.left unused) in
     record {
       sends = record {
         goes_on = (
@@ -291,7 +291,7 @@ loses_own b after k n at own sound lost unused loses =
           },
           goes_on,
         );
-        adds = lost_adds b after k n (Ok at) loses;
+        adds = lost_adds b after k c (Ok at) loses;
         spends = inl fewer;
       };
       lost = lost;

@@ -1,5 +1,5 @@
 -- A cluster takes in the entry that it sent.
-use Rattle.std.proofs.Common.{◌≡◌, ◌+◌, ◌≤◌, ◌<◌, take, refl, sym, ◌∙◌, ap, subst, arith, List, [], ◌∷◌, ◌++◌, length, drop, length-append, false, true, ◌||◌, Some, slice_get, inr}
+use Rattle.std.proofs.Common.{◌≡◌, ◌+◌, ◌≤◌, ◌<◌, take, refl, sym, ◌∙◌, ap, subst, arith, List, [], ◌∷◌, ◌++◌, length, drop, length-append, false, true, ◌||◌, Some, slice_get, inr, inl}
 use Rattle.std.specs.Prelude.{option_map}
 use Rattle.std.specs.List.{list_any, list_all}
 use Rattle.std.proofs.lemmas.List.{take-append-le, take_all}
@@ -161,6 +161,7 @@ module _ (log : List Entry) (c : ClusterView) (post : Post) (after : BusView) (s
             unfailed = (s.beside).unfailed;
           };
           passed = passed_next after (cleared c) (subst (IsUnnamed after) is_left unnamed) passed_then;
+          disk = t.disk ∙ s.disk;
         }) (absorbs log open_first open_next between)
 
   -- before it takes the entry in, it stands between that and the log before
@@ -170,15 +171,17 @@ module _ (log : List Entry) (c : ClusterView) (post : Post) (after : BusView) (s
     has = subst (λ (y : System). (c.number).0 < y.clusters) s.system (s.beside).has;
     within = omega (arith, long);
     lives = ap (λ l. was_lost_in l c.number) front ∙ lives_log;
-    stands = inr (record {
-      entry = next;
-      there = at_cursor;
-      between = subst (λ y. StandsBetween FollowsBuilt y (take c.cursor after.log) next (cleared c)) s.system (subst (λ l. StandsBetween FollowsBuilt c.system l next (cleared c)) (sym front) stands_between);
-      sent_before = ap (λ n. list_any (is_by_cluster c.number) (drop n after.log)) (sym long) ∙ ap (list_any (is_by_cluster c.number)) (drop_whole after.log);
-    });
+    stands = inl (
+      (s.beside).unfailed,
+      inr (record {
+        entry = next;
+        there = at_cursor;
+        between = subst (λ y. StandsBetween FollowsBuilt y (take c.cursor after.log) next (cleared c)) s.system (subst (λ l. StandsBetween FollowsBuilt c.system l next (cleared c)) (sym front) stands_between);
+        sent_before = ap (λ n. list_any (is_by_cluster c.number) (drop n after.log)) (sym long) ∙ ap (list_any (is_by_cluster c.number)) (drop_whole after.log);
+      }),
+    );
     kept = none_own after.system after.log (length after.log) c.number legal (ap (λ l. was_lost_in l c.number) (take_all (length after.log) after.log (omega arith)) ∙ sent_lives) (ap (list_any (is_told_by c.number)) (drop_whole after.log));
     passed = passed_then;
-    unfailed = (s.beside).unfailed;
   })
     where
       front : take c.cursor after.log ≡ log

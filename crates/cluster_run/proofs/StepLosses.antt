@@ -15,7 +15,7 @@ use Rattle.bus_msg.specs.declared.entry.By.TheVariants.{Bus}
 use Rattle.bus_msg.specs.declared.entry.What.{What}
 use Rattle.bus_msg.specs.declared.entry.What.TheVariants.{Mail, Birth, Exit, Page, Sync, Fetch, PageIs, Crash, Return, Rebackup, Done, Stop}
 use Rattle.bus_msg.specs.declared.entry.Post.{Post}
-use Rattle.bus_msg.specs.declared.entry.Cause.TheVariants.{Step}
+use Rattle.bus_msg.specs.declared.entry.Cause.TheVariants.{Step, Disk}
 use Rattle.bus_msg.specs.declared.entry.Entry.{Entry}
 use Rattle.bus_msg.specs.Places.{same_cluster}
 use Rattle.bus_msg.specs.PlacedAfter.{what}
@@ -23,21 +23,23 @@ use Rattle.cert_sched.specs.declared.script.ScriptWord.{ScriptWord}
 use Rattle.cert_sched.specs.Appended.{entry_of}
 use Rattle.cert_sched.specs.Legal.{IsLegalBy}
 use Rattle.cert_sched.specs.Built.{BuiltMayFollow}
-use Rattle.cert_sched.specs.Losses.{capped, is_by_cluster, is_crash_of, least_steps, was_lost_in}
+use Rattle.cert_sched.specs.Losses.{capped, is_by_cluster, is_crash_of, least_calls, least_steps, was_lost_in}
 use Rattle.cluster_core.specs.View.{ClusterView, after_head, after_sent}
 use Rattle.cluster_core.specs.Follows.{FollowsBuilt, StandsBetween}
 use Rattle.bus_lock.specs.Lists.{MayAdd}
-use Rattle.bus_order.specs.Log.{author_of}
-use Rattle.bus_order.specs.Script.{is_unpassed, is_word_for, off_at}
+use Rattle.bus_order.specs.Log.{author, author_of}
+use Rattle.bus_order.specs.Script.{has_unused, is_unpassed, is_word_for, off_at}
 use Rattle.bus_order.specs.View.{BusView, KeepsScript, Loses, MayBeLost, with_loss}
 use Rattle.bus_order.specs.declared.refused.Refused.{Refused}
 use Rattle.std.specs.Prelude.{Result, Ok, Err}
 use Rattle.bus_order.specs.declared.refused.Refused.TheVariants.{Over, Off, Behind, NoMemory}
 use Rattle.script_laws.specs.Off.{IsItsLoss}
+use Rattle.script_laws.proofs.LosingAtCall.{may_at_call}
 use Rattle.script_laws.proofs.LosingAtStep.{may_before, may_sent}
 use Rattle.script_laws.proofs.OffLosses.{not_off_not_lost, off_is_its_loss, silent_once_lost}
 use Rattle.script_laws.proofs.PassedWords.{all_longer}
-use Rattle.cluster_run.specs.Gone.{IsBeforeStep, IsGone, StoodBeside, StoodBetween, is_own_loss, is_told_by}
+use Rattle.cluster_run.specs.Disks.{HasFailed}
+use Rattle.cluster_run.specs.Gone.{IsBeforeStep, IsGone, Stands, StoodAs, StoodBeside, StoodBetween, StoodFailed, is_own_loss, is_told_by, own_cause}
 use Rattle.cluster_run.specs.Along.{IsAlong, IsNamed, IsSound, IsStopped}
 use Rattle.cluster_run.specs.Lived.{EndsBy, cause_in, end_cause, end_of_life}
 use Rattle.cluster_run.specs.Offers.{Adds}
@@ -74,6 +76,25 @@ stood_longer b after c more system longer within others (inr between) =
       sent_before = ap (list_any (is_by_cluster c.number)) back ∙ list_any-append (is_by_cluster c.number) (drop (c.cursor + 1) b.log) more ∙ (λ i. between.sent_before i || others i);
     })
 
+-- so does one of whose disk a call failed
+failed_longer : (b after : BusView) (c : ClusterView) (more : List Entry) → after.system ≡ b.system → after.script ≡ b.script → after.log ≡ b.log ++ more → c.cursor ≤ length b.log → list_any (is_by_cluster c.number) more ≡ false → StoodFailed b c → StoodFailed after c
+failed_longer b after c more system script longer within others failed =
+    let disk = failed.disk in
+    let front : take c.cursor after.log ≡ take c.cursor b.log = ap (take c.cursor) longer ∙ take-append-le c.cursor b.log more within in
+    let back : drop c.cursor after.log ≡ drop c.cursor b.log ++ more = ap (drop c.cursor) longer ∙ drop-append-le c.cursor b.log more within in
+    record {
+      disk = record { call = disk.call; failed = disk.failed; named = ap (λ words. has_unused words c.number (Disk disk.call)) script ∙ disk.named; fits = disk.fits; none = disk.none };
+      sent_before = ap (list_any (is_by_cluster c.number)) back ∙ list_any-append (is_by_cluster c.number) (drop c.cursor b.log) more ∙ (λ i. failed.sent_before i || others i);
+      counted = elim failed.counted [
+        | inl none ↦ inl (ap (list_any (is_by_cluster c.number)) front ∙ none)
+        | inr most ↦ inr (subst (λ l. capped (least_calls after.system l l c.number) ≤ disk.call) (sym front) (subst (λ s. capped (least_calls s (take c.cursor b.log) (take c.cursor b.log) c.number) ≤ disk.call) (sym system) most))
+      ];
+    }
+
+pub stands_longer : (b after : BusView) (c : ClusterView) (more : List Entry) → after.system ≡ b.system → after.script ≡ b.script → after.log ≡ b.log ++ more → c.cursor ≤ length b.log → list_any (is_by_cluster c.number) more ≡ false → Stands b c → Stands after c
+stands_longer b after c more system script longer within others (inl (unfailed, stood)) = inl (unfailed, stood_longer b after c more system longer within others stood)
+stands_longer b after c more system script longer within others (inr failed) = inr (failed_longer b after c more system script longer within others failed)
+
 -- a cluster stands before its next step still when others have added to the log
 pub before_longer : (b after : BusView) (c : ClusterView) (more : List Entry) → IsLegalBy BuiltMayFollow after.system after.log → after.system ≡ b.system → after.script ≡ b.script → after.log ≡ b.log ++ more → list_any (is_told_by c.number) more ≡ false
     → IsBeforeStep b c → IsBeforeStep after c
@@ -88,10 +109,9 @@ before_longer b after c more legal system script longer others before =
       has = subst (λ (s : System). (c.number).0 < s.clusters) (sym system) before.has;
       within = omega (arith, long, before.within);
       lives = ap (λ l. was_lost_in l c.number) front ∙ before.lives;
-      stands = stood_longer b after c more system longer before.within (none_sent c.number more others) before.stands;
+      stands = stands_longer b after c more system script longer before.within (none_sent c.number more others) before.stands;
       kept = ap (list_any (λ (e : Entry). is_own_loss c.number (what e))) longer ∙ list_any-append (λ (e : Entry). is_own_loss c.number (what e)) b.log more ∙ (λ i. before.kept i || own i);
       passed = (λ i. list_all (is_unpassed c.number (longer i) c.steps) (script i)) ∙ all_longer c.number b.log more c.steps b.script before.passed;
-      unfailed = before.unfailed;
     }
 
 -- ---- before a step
@@ -105,13 +125,18 @@ before_along b c sound along =
       has = subst (λ (s : System). (c.number).0 < s.clusters) along.system beside.has;
       within = beside.within;
       lives = beside.lives;
-      stands = inl (record { follows = subst (λ s. FollowsBuilt s (take c.cursor b.log) c) along.system beside.follows; sent_before = none_sent c.number (drop c.cursor b.log) beside.told_before });
+      stands = inl (beside.unfailed, inl (record { follows = subst (λ s. FollowsBuilt s (take c.cursor b.log) c) along.system beside.follows; sent_before = none_sent c.number (drop c.cursor b.log) beside.told_before }));
       kept = none_own b.system b.log c.cursor c.number sound.legal beside.lives beside.told_before;
       passed = along.passed;
-      unfailed = beside.unfailed;
     }
 
 -- ---- it was lost at a place
+
+-- so it stood where it was lost
+pub stood_as : (b : BusView) (c : ClusterView) → was_lost_in b.log c.number ≡ true → Stands b c → StoodAs b c
+stood_as b c lost (inl (unfailed, inl beside)) = inl (unfailed, inl beside)
+stood_as b c lost (inl (unfailed, inr between)) = inl (unfailed, inr (lost, between))
+stood_as b c lost (inr failed) = inr (lost, failed)
 
 -- a cluster that was lost at a place behind its cursor stops
 pub lost_gone : (b : BusView) (c : ClusterView) → IsSound b → IsBeforeStep b c → was_lost_in b.log c.number ≡ true → IsGone b c
@@ -125,14 +150,10 @@ lost_gone b c sound before lost = by_off (off_at b.log c.number) refl
         let low = not_before (its_loss c.number) b.log c.cursor before.within before.lives in
         record {
           lost = lost;
-          left = left_lost b c at loss before.system before.unfailed (omega (arith, first, low)) (by_way before.stands) (ends_there b.log c.number c at loss.entry before.kept loss.there) before.passed;
+          left = left_lost b c at loss before.system (omega (arith, first, low)) (stood_as b c lost before.stands) (ends_there b.log c.number c at loss.entry before.kept loss.there) before.passed;
         }
-      where
-        by_way : StoodBeside b c ⊎ StoodBetween b c → StoodBeside b c ⊎ ((was_lost_in b.log c.number ≡ true) × StoodBetween b c)
-        by_way (inl beside) = inl beside
-        by_way (inr between) = inr (lost, between)
 
--- ---- it is lost at its step
+-- ---- it is lost at its step, or by its disk
 
 -- what is sent changes neither the number of a cluster nor its steps nor its system
 abbrev IsSameStill : ClusterView → ClusterView → Type 0
@@ -158,22 +179,56 @@ pub same_sent : (c : ClusterView) (queue : List Post) → IsSameStill c (after_s
 same_sent c [] = (refl, refl, refl)
 same_sent c (head ∷ rest) = same_head c head.what
 
+-- by which cause
+cause_unfailed : (c : ClusterView) → c.failed ≡ None → own_cause c ≡ Step c.steps
+cause_unfailed c unfailed = ap (λ o. option_map_or Disk o (Step c.steps)) unfailed
+
+cause_failed : (c : ClusterView) (call : ℕ) → c.failed ≡ Some call → own_cause c ≡ Disk call
+cause_failed c call failed = ap (λ o. option_map_or Disk o (Step c.steps)) failed
+
+-- it ends a life by that
+ends_by_own : (c : ClusterView) → EndsBy (Some (own_cause c)) c
+ends_by_own c = by_failed c.failed refl
+  where
+    by_failed : (o : Option ℕ) → c.failed ≡ o → EndsBy (Some (own_cause c)) c
+    by_failed None unfailed = subst (λ cause. EndsBy (Some cause) c) (sym (cause_unfailed c unfailed)) (unfailed, refl)
+    by_failed (Some call) failed = subst (λ cause. EndsBy (Some cause) c) (sym (cause_failed c call failed)) failed
+
+-- the cluster is its author
+told_by_own : (k : ClusterNo) (c : ClusterView) → author Bus (Crash k (own_cause c)) ≡ Some k.0
+told_by_own k c = by_failed c.failed
+  where
+    by_failed : (o : Option ℕ) → author Bus (Crash k (option_map_or Disk o (Step c.steps))) ≡ Some k.0
+    by_failed None = refl
+    by_failed (Some call) = refl
+
+-- a word of the script names the call that failed
+pub failed_named : (b : BusView) (c : ClusterView) → HasFailed b.script c → IsNamed b c
+failed_named b c disk = record {
+  named = subst (λ cause. has_unused b.script c.number cause ≡ true) (sym (cause_failed c disk.call disk.failed)) disk.named;
+  fits = λ unfailed. absurd (none_some disk.call (sym unfailed ∙ disk.failed));
+}
+  where
+    none_some : (n : ℕ) → ◌≡◌ {A = Option ℕ} None (Some n) → ⊥
+    none_some n h = cc
+
 -- the bus lets it
-pub may_be_lost : (b : BusView) (c : ClusterView) → KeepsScript b → IsBeforeStep b c → IsNamed b c → MayBeLost b c.number (Step c.steps)
+pub may_be_lost : (b : BusView) (c : ClusterView) → KeepsScript b → IsBeforeStep b c → IsNamed b c → MayBeLost b c.number (own_cause c)
 may_be_lost b c keeps before named = by_way before.stands
   where
-    unused : list_any (is_word_for c.number (Step c.steps)) b.left ≡ true
-    unused = unused_as_named b c.number c.steps keeps before.kept ∙ named.named
+    unused : list_any (is_word_for c.number (own_cause c)) b.left ≡ true
+    unused = unused_as_named b c.number (own_cause c) keeps before.kept ∙ named.named
 
     enough : (n s : ℕ) (t : Bool) → capped (n + cond t 1 0) ≤ s → capped n ≤ s
     enough n s true h = omega (arith, h)
     enough n s false h = omega (arith, h)
 
-    by_way : StoodBeside b c ⊎ StoodBetween b c → MayBeLost b c.number (Step c.steps)
-    by_way (inl beside) =
+    at_step : c.failed ≡ None → StoodBeside b c ⊎ StoodBetween b c → MayBeLost b c.number (Step c.steps)
+    at_step unfailed (inl beside) =
         let counted = ((beside.follows).steps).counted before.lives in
-        may_before b c.number c.steps c.cursor before.has keeps unused beside.sent_before (enough (least_steps (take c.cursor b.log) (take c.cursor b.log) c.number) c.steps c.tried counted) named.fits
-    by_way (inr between) = may_sent b c.number c.steps c.cursor before.has keeps unused between.sent_before counted named.fits
+        may_before b c.number c.steps c.cursor before.has keeps (subst (λ cause. list_any (is_word_for c.number cause) b.left ≡ true) (cause_unfailed c unfailed) unused) beside.sent_before (enough (least_steps (take c.cursor b.log) (take c.cursor b.log) c.number) c.steps c.tried counted) (named.fits unfailed)
+    at_step unfailed (inr between) =
+        may_sent b c.number c.steps c.cursor before.has keeps (subst (λ cause. list_any (is_word_for c.number cause) b.left ≡ true) (cause_unfailed c unfailed) unused) between.sent_before counted (named.fits unfailed)
       where
         was : ClusterView
         was = (between.between).before
@@ -191,14 +246,22 @@ may_be_lost b c keeps before named = by_way before.stands
             subst (λ t. capped (least_steps (take c.cursor b.log) (take c.cursor b.log) was.number + cond t 1 0) ≤ was.steps) (between.between).tried all in
             subst (λ k. capped (least_steps (take c.cursor b.log) (take c.cursor b.log) k + 1) ≤ c.steps) number (subst (λ n. capped (least_steps (take c.cursor b.log) (take c.cursor b.log) was.number + 1) ≤ n) steps tried)
 
+    by_way : Stands b c → MayBeLost b c.number (own_cause c)
+    by_way (inl (unfailed, stood)) = subst (MayBeLost b c.number) (sym (cause_unfailed c unfailed)) (at_step unfailed stood)
+    by_way (inr failed) =
+        let disk = failed.disk in
+        let cause = cause_failed c disk.call disk.failed in
+        subst (MayBeLost b c.number) (sym cause)
+        (may_at_call b c.number disk.call c.cursor before.has keeps (subst (λ cause. list_any (is_word_for c.number cause) b.left ≡ true) cause unused) failed.sent_before failed.counted disk.fits)
+
 same_itself : (k : ClusterNo) → same_cluster k k ≡ true
 same_itself k = eq-eqb k.0 k.0 refl
 
 -- and then it is gone
-lost_at_step : (b : BusView) (c : ClusterView) (left : List ScriptWord) → IsBeforeStep b c → was_lost_in b.log c.number ≡ false → IsGone (with_loss b c.number (Step c.steps) left) c
-lost_at_step b c left before lives =
-    let after : BusView = with_loss b c.number (Step c.steps) left in
-    let loss : Entry = entry_of b.system b.log (record { by = Bus; what = Crash c.number (Step c.steps) }) in
+lost_by_own : (b : BusView) (c : ClusterView) (left : List ScriptWord) → IsBeforeStep b c → was_lost_in b.log c.number ≡ false → IsGone (with_loss b c.number (own_cause c) left) c
+lost_by_own b c left before lives =
+    let after : BusView = with_loss b c.number (own_cause c) left in
+    let loss : Entry = entry_of b.system b.log (record { by = Bus; what = Crash c.number (own_cause c) }) in
     let itself = same_itself c.number in
     let part : take (length b.log) after.log ≡ b.log = take-append-le (length b.log) b.log (loss ∷ []) (omega arith) ∙ take_all (length b.log) b.log (omega arith) in
     let long : length after.log ≡ length b.log + 1 = length-append b.log (loss ∷ []) in
@@ -213,36 +276,32 @@ lost_at_step b c left before lives =
     let lost : was_lost_in after.log c.number ≡ true = list_any-append (its_loss c.number) b.log (loss ∷ []) ∙ (λ i. lives i || (itself i || false)) in
     record {
       lost = lost;
-      left = left_lost after c (length b.log) its before.system before.unfailed before.within (by_way lost (stood_longer b after c (loss ∷ []) refl refl before.within refl before.stands))
-          (subst (λ t. EndsBy (cond t (Some (Step c.steps)) None) c) (sym itself) (before.unfailed, refl)) (all_longer c.number b.log (loss ∷ []) c.steps b.script before.passed);
+      left = left_lost after c (length b.log) its before.system before.within (stood_as after c lost (stands_longer b after c (loss ∷ []) refl refl refl before.within refl before.stands))
+          (subst (λ t. EndsBy (cond t (Some (own_cause c)) None) c) (sym itself) (ends_by_own c)) (all_longer c.number b.log (loss ∷ []) c.steps b.script before.passed);
     }
-  where
-    by_way : {S T : Type 0} → {L : Type 0} → L → S ⊎ T → S ⊎ (L × T)
-    by_way lost (inl beside) = inl beside
-    by_way lost (inr between) = inr (lost, between)
 
 -- what the bus answers
-pub lost_answer : (old new : BusView) (c : ClusterView) (at : ℕ) → IsSound old → IsSound new → IsBeforeStep old c → Loses old c.number (Step c.steps) (Ok at) new → IsStopped new c
+pub lost_answer : (old new : BusView) (c : ClusterView) (at : ℕ) → IsSound old → IsSound new → IsBeforeStep old c → Loses old c.number (own_cause c) (Ok at) new → IsStopped new c
 lost_answer old new c at sound sound_new before loses =
     let lives = not_off_not_lost old.system old.log c.number sound.legal loses.1 in
-    record { sound = sound_new; gone = subst (λ b. IsGone b c) (sym loses.3) (lost_at_step old c (without_first (is_word_for c.number (Step c.steps)) old.left) before lives) }
+    record { sound = sound_new; gone = subst (λ b. IsGone b c) (sym loses.3) (lost_by_own old c (without_first (is_word_for c.number (own_cause c)) old.left) before lives) }
 
 -- what it adds
-lost_adds_one : (b : BusView) (k : ClusterNo) (n : ℕ) (left : List ScriptWord) → Adds k b (with_loss b k (Step n) left)
-lost_adds_one b k n left = record {
+lost_adds_one : (b : BusView) (k : ClusterNo) (c : ClusterView) (left : List ScriptWord) → Adds k b (with_loss b k (own_cause c) left)
+lost_adds_one b k c left = record {
   system = refl;
   script = refl;
-  more = entry_of b.system b.log (record { by = Bus; what = Crash k (Step n) }) ∷ [];
+  more = entry_of b.system b.log (record { by = Bus; what = Crash k (own_cause c) }) ∷ [];
   log = refl;
-  may = All-cons (MayAdd author_of k.0) (entry_of b.system b.log (record { by = Bus; what = Crash k (Step n) })) [] (inr refl) (All-nil (MayAdd author_of k.0));
+  may = All-cons (MayAdd author_of k.0) (entry_of b.system b.log (record { by = Bus; what = Crash k (own_cause c) })) [] (inr (told_by_own k c)) (All-nil (MayAdd author_of k.0));
 }
 
-pub lost_adds : (old new : BusView) (k : ClusterNo) (n : ℕ) (r : Result ℕ Refused) → Loses old k (Step n) r new → Adds k old new
-lost_adds old new k n (Ok at) loses = subst (Adds k old) (sym loses.3) (lost_adds_one old k n (without_first (is_word_for k (Step n)) old.left))
-lost_adds old new k n (Err (Over at)) loses = subst (Adds k old) (sym loses.2) (adds_none k old)
-lost_adds old new k n (Err (Off at)) loses = subst (Adds k old) (sym loses.2) (adds_none k old)
-lost_adds old new k n (Err (Behind m)) loses = absurd loses
-lost_adds old new k n (Err NoMemory) loses = subst (Adds k old) (sym loses) (adds_none k old)
+pub lost_adds : (old new : BusView) (k : ClusterNo) (c : ClusterView) (r : Result ℕ Refused) → Loses old k (own_cause c) r new → Adds k old new
+lost_adds old new k c (Ok at) loses = subst (Adds k old) (sym loses.3) (lost_adds_one old k c (without_first (is_word_for k (own_cause c)) old.left))
+lost_adds old new k c (Err (Over at)) loses = subst (Adds k old) (sym loses.2) (adds_none k old)
+lost_adds old new k c (Err (Off at)) loses = subst (Adds k old) (sym loses.2) (adds_none k old)
+lost_adds old new k c (Err (Behind m)) loses = absurd loses
+lost_adds old new k c (Err NoMemory) loses = subst (Adds k old) (sym loses) (adds_none k old)
 
 -- ---- it stays gone
 
@@ -284,19 +343,16 @@ gone_longer b after c more legal system script longer gone =
       lost = lost;
       left = record {
         system = left.system ∙ sym system;
-        unfailed = left.unfailed;
         within = omega (arith, left.within, ends);
-        followed = by_way lost (stood_longer b after c more system longer (omega (arith, left.within, inside)) silent (stood left.followed));
+        followed = stood_as after c lost (stands_longer b after c more system script longer (omega (arith, left.within, inside)) silent (stands_of left.followed));
         to_the_end = λ lives. absurd (true≢false (sym lost ∙ lives));
         lost_by = subst (λ o. EndsBy o c) (sym cause) left.lost_by;
         passed = (λ i. list_all (is_unpassed c.number (longer i) c.steps) (script i)) ∙ all_longer c.number b.log more c.steps b.script left.passed;
+        uncalled = λ lives. absurd (true≢false (sym lost ∙ lives));
       };
     }
   where
-    stood : StoodBeside b c ⊎ ((was_lost_in b.log c.number ≡ true) × StoodBetween b c) → StoodBeside b c ⊎ StoodBetween b c
-    stood (inl beside) = inl beside
-    stood (inr between) = inr between.1
-
-    by_way : {S T : Type 0} → {L : Type 0} → L → S ⊎ T → S ⊎ (L × T)
-    by_way lost (inl beside) = inl beside
-    by_way lost (inr between) = inr (lost, between)
+    stands_of : StoodAs b c → Stands b c
+    stands_of (inl (unfailed, inl beside)) = inl (unfailed, inl beside)
+    stands_of (inl (unfailed, inr between)) = inl (unfailed, inr between.1)
+    stands_of (inr failed) = inr failed.1

@@ -50,7 +50,8 @@ use Rattle.cluster_core.proofs.Lightening.{held_apart}
 use Rattle.sys_calls.proofs.Counting.{last_sent}
 use Rattle.sys_calls.proofs.Weighing.{Leaves, emits_leaves, next_leaves, silently_leaves}
 use Rattle.bus_order.specs.View.{BusView}
-use Rattle.cluster_run.specs.Gone.{IsGone, StoodBeside, StoodBetween}
+use Rattle.cluster_run.specs.Disks.{HasFailed}
+use Rattle.cluster_run.specs.Gone.{IsGone, StoodAs, StoodBeside, StoodBetween}
 use Rattle.cluster_run.specs.Along.{AllAlong, IsMember, IsOwned, IsSound}
 use Rattle.cluster_run.specs.Progress.{Falls, IsOver, Remaining, kernel_load, left_after, log_load, remaining, total, unseen}
 use Rattle.cluster_run.proofs.Posting.{follows_some}
@@ -228,6 +229,10 @@ some_within b c sound system some =
     let within : load c ≤ most_load c.system = load_within c.system some.log c (some.open_log).0 some.follows (held_apart c (ap is_system system ∙ sound.valid) some) in
     subst (λ s. load c ≤ most_load s) system within
 
+-- one of whose disk a call failed has no process
+failed_within : (b : BusView) (c : ClusterView) → HasFailed b.script c → load c ≤ most_load b.system
+failed_within b c disk = let none : load c ≡ 0 = ap (sum_by (λ (e : Pid × Held). held_load e.1)) disk.none in omega (arith, none)
+
 -- one that is gone follows what it had taken in, or did before it sent its last post
 module _ (b : BusView) (c : ClusterView) (sound : IsSound b) (gone : IsGone b c) where
   open_there : IsOpen BuiltMayFollow b.system (take c.cursor b.log)
@@ -251,7 +256,7 @@ module _ (b : BusView) (c : ClusterView) (sound : IsSound b) (gone : IsGone b c)
   sent_load was (p ∷ queue) e legal head = ap load (ap (λ (v : ClusterView). record v { queue = queue; tried = false }) (same_after p.what was (legal.0).built))
 
   pub gone_within : load c ≤ most_load b.system
-  gone_within = by_way (gone.left).followed
+  gone_within = by_stood (gone.left).followed
     where
       by_way : StoodBeside b c ⊎ ((was_lost_in b.log c.number ≡ true) × StoodBetween b c) → load c ≤ most_load b.system
       by_way (inl beside) = follows_then c (gone.left).system beside.follows
@@ -262,10 +267,15 @@ module _ (b : BusView) (c : ClusterView) (sound : IsSound b) (gone : IsGone b c)
           let most = follows_then was system (stood.between).followed in
           omega (arith, same, most)
 
+      by_stood : StoodAs b c → load c ≤ most_load b.system
+      by_stood (inl (unfailed, stood)) = by_way stood
+      by_stood (inr (lost, failed)) = failed_within b c failed.disk
+
 member_within : (b : BusView) (n : ℕ) (c : ClusterView) → IsSound b → IsMember b n c → load c ≤ most_load b.system
 member_within b n c sound member = elim member.along [
   | inl along ↦ some_within b c sound along.system (follows_some b c sound along)
-  | inr gone ↦ gone_within b c sound gone
+  | inr (inl gone) ↦ gone_within b c sound gone
+  | inr (inr failed) ↦ failed_within b c failed.disk
 ]
 
 all_members : (b : BusView) (cs : List ClusterView) (P : ClusterView → Type 0) → AllAlong b cs → ((n : ℕ) (c : ClusterView) → IsMember b n c → P c) → All P cs

@@ -1,20 +1,23 @@
 -- How a cluster is left when its life has ended: by the end of the run, or by its loss.
 use Rattle.std.specs.Prelude.{◌≡◌, ◌+◌, ◌-◌, ◌≤◌, ◌<◌, ◌⊎◌, Bool, true, false, length, take, drop, slice_get, Some, None}
 use Rattle.std.specs.List.{list_any, list_all}
+use Rattle.std.specs.Option.{option_map_or}
 use Rattle.t32_base.specs.declared.process.ClusterNo.{ClusterNo}
 use Rattle.bus_msg.specs.declared.entry.What.{What}
 use Rattle.bus_msg.specs.declared.entry.What.TheVariants.{Crash}
+use Rattle.bus_msg.specs.declared.entry.Cause.{Cause}
 use Rattle.bus_msg.specs.declared.entry.Cause.TheVariants.{Place, Step, Disk}
 use Rattle.bus_msg.specs.declared.entry.Entry.{Entry}
 use Rattle.bus_msg.specs.Places.{same_cluster}
 use Rattle.bus_msg.specs.PlacedAfter.{what}
-use Rattle.cert_sched.specs.Losses.{is_by_cluster, was_lost_in}
-use Rattle.cluster_core.specs.View.{ClusterView}
+use Rattle.cert_sched.specs.Losses.{capped, is_by_cluster, least_calls, was_lost_in}
+use Rattle.cluster_core.specs.View.{ClusterView, disk_calls}
 use Rattle.cluster_core.specs.Follows.{FollowsBuilt, StandsBetween}
 use Rattle.bus_lock.specs.Lists.{is_author}
 use Rattle.bus_order.specs.Log.{author_of}
 use Rattle.bus_order.specs.Script.{is_unpassed}
 use Rattle.bus_order.specs.View.{BusView}
+use Rattle.cluster_run.specs.Disks.{HasFailed, is_uncalled}
 use Rattle.cluster_run.specs.Lived.{EndsBy, end_cause, end_of_life}
 
 -- ---- what a cluster tells
@@ -44,30 +47,47 @@ pub record StoodBetween (b : BusView) (c : ClusterView) : Type 0 where
   pub between : StandsBetween FollowsBuilt b.system (take c.cursor b.log) entry c
   pub sent_before : list_any (is_by_cluster c.number) (drop (c.cursor + 1) b.log) ≡ false
 
--- A cluster before its next kernel step: it follows the log, or has just sent the entry that it takes in next. It was not lost in what it has taken in, nor anywhere
--- at a step or a disk call, and it has passed no word for a step that gave no loss.
+-- a call of its disk failed; it sent nothing that stands later, and has sent nothing at all or counted at least the calls that the log up to its cursor shows
+pub record StoodFailed (b : BusView) (c : ClusterView) : Type 0 where
+  pub disk : HasFailed b.script c
+  pub sent_before : list_any (is_by_cluster c.number) (drop c.cursor b.log) ≡ false
+  pub counted : (list_any (is_by_cluster c.number) (take c.cursor b.log) ≡ false) ⊎ (capped (least_calls b.system (take c.cursor b.log) (take c.cursor b.log) c.number) ≤ disk.call)
+
+-- no call of its disk failed, and it follows the log, or has just sent the entry that it takes in next; or one failed
+abbrev pub Stands : BusView → ClusterView → Type 0
+Stands b c = ((c.failed ≡ None) × (StoodBeside b c ⊎ StoodBetween b c)) ⊎ StoodFailed b c
+
+-- A cluster before its next kernel step, or after the one in which its disk failed. It was not lost in what it has taken in, nor anywhere at a step or a disk call, and
+-- it has passed no word for a step that gave no loss.
 pub record IsBeforeStep (b : BusView) (c : ClusterView) : Type 0 where
   pub system : c.system ≡ b.system
   pub has : (c.number).0 < (b.system).clusters
   pub within : c.cursor ≤ length b.log
   pub lives : was_lost_in (take c.cursor b.log) c.number ≡ false
-  pub stands : StoodBeside b c ⊎ StoodBetween b c
+  pub stands : Stands b c
   pub kept : list_any (λ (e : Entry). is_own_loss c.number (what e)) b.log ≡ false
   pub passed : list_all (is_unpassed c.number b.log c.steps) b.script ≡ true
-  pub unfailed : c.failed ≡ None
+
+-- by what it is lost then, where a word of the script names that: by the call of its disk that failed, or else by its next step
+abbrev pub own_cause : ClusterView → Cause
+own_cause c = option_map_or Disk c.failed (Step c.steps)
 
 -- ---- how it was left
 
+-- how it stood: it followed the log, or was lost with an entry that it had sent and not taken in, or where its disk failed
+abbrev pub StoodAs : BusView → ClusterView → Type 0
+StoodAs b c = ((c.failed ≡ None) × (StoodBeside b c ⊎ ((was_lost_in b.log c.number ≡ true) × StoodBetween b c))) ⊎ ((was_lost_in b.log c.number ≡ true) × StoodFailed b c)
+
 -- How a cluster of the bus was left when its life had ended: it was lost, as the log tells, or it followed the log up to its last entry. It has passed no word
--- for a step that gave no loss.
+-- for a step or a disk call that gave no loss.
 pub record LeftAs (b : BusView) (c : ClusterView) : Type 0 where
   pub system : c.system ≡ b.system
-  pub unfailed : c.failed ≡ None
   pub within : c.cursor ≤ end_of_life b.log c.number 0
-  pub followed : StoodBeside b c ⊎ ((was_lost_in b.log c.number ≡ true) × StoodBetween b c)
+  pub followed : StoodAs b c
   pub to_the_end : was_lost_in b.log c.number ≡ false → c.cursor ≡ length b.log - 1
   pub lost_by : EndsBy (end_cause b.log c.number 0) c
   pub passed : list_all (is_unpassed c.number b.log c.steps) b.script ≡ true
+  pub uncalled : was_lost_in b.log c.number ≡ false → list_all (is_uncalled c.number (disk_calls c)) b.script ≡ true
 
 -- a cluster that was lost, and has stopped
 pub record IsGone (b : BusView) (c : ClusterView) : Type 0 where

@@ -18,6 +18,7 @@ use Rattle.cluster_run.specs.declared.turn.Tried.{Tried}
 use Rattle.cluster_run.specs.declared.turn.Tried.TheVariants.{On as GoesOn, Over as IsOverThere, Lost as IsLostThere}
 use Rattle.cluster_run.specs.Along.{IsBeside, IsOwned, IsPosting, IsShown, IsStopped, is_done_with, upto}
 use Rattle.cluster_run.specs.declared.offers.Offered.{Offered}
+use Rattle.cluster_run.specs.Disks.{IsDiskOf}
 use Rattle.cluster_run.specs.Offers.{Adds, IsLeft, IsTold, OfferIs, Visits}
 use Rattle.cluster_run.specs.Progress.{GetsOn, IsAtMost, IsOver, Rests as RestsThere, left_after, remaining_of}
 
@@ -107,6 +108,7 @@ pub record TurnsOwn (b after : BusView) (c new : ClusterView) : Type 0 where
 pub record IsSent (log : List Entry) (c : ClusterView) (post : Post) (after : BusView) : Type 0 where
   pub beside : IsBeside log c
   pub passed : list_all (is_unpassed c.number log c.steps) after.script ≡ true
+  pub disk : IsDiskOf after.script c
   pub seen : c.cursor ≡ length log
   pub goes_on : is_over c.system log ≡ false
   pub only : c.queue ≡ post ∷ []

@@ -5,7 +5,7 @@ ghost use Rattle.sys_text.specs.declared.system.System.{System as ASystem};
 ghost use Rattle.bus_lock.specs.Seats.{IsOf, seat_origin, seen, told, view_of};
 ghost use Rattle.bus_lock.specs.Views.{retold};
 ghost use Rattle.cluster_run.specs.Along.{IsSame, is_done_with};
-ghost use Rattle.cluster_run.specs.Seated.{IsSeatOf, Shows, made_of};
+ghost use Rattle.cluster_run.specs.Seated.{FindsDue, IsSeatOf, made_of};
 ghost use Rattle.cluster_run.specs.Threads.{HasEnded, OneEnded, Starts};
 
 use crate::locked::stop;
@@ -25,7 +25,7 @@ use t32_base::streams::NoMemory;
 
 /// Lets a cluster follow the log until its seat has seen that this is over, or that the cluster was lost, and answers the
 /// seat, and the cluster, which has taken in all entries but the last, or those before its loss at a place, or which stopped at
-/// the step before which it was lost. Where it meets want of
+/// the step before which it was lost, or where its disk failed. Where it meets want of
 /// memory it ends the run, and there is no cluster.
 pub fn follow<R: Wait, G: Gate>(
     rt: &R,
@@ -84,7 +84,7 @@ fn follow_on<R: Wait, G: Gate>(
     requires seat { IsSeatOf port.old.lock.now cluster.old.number port.old.seat }
     requires origin { seat_origin port.old.seat ≡ Some (made_of (arc_value port.old.system.now) port.old.script.now) }
     requires number { port.old.news.number ≡ cluster.old.number }
-    requires shows { Shows (made_of (arc_value port.old.system.now) port.old.script.now) port.old.seat port.old.news cluster.old }
+    requires due { FindsDue (made_of (arc_value port.old.system.now) port.old.script.now) port.old.seat port.old.news cluster.old }
     requires empty { cluster.old.queue ≡ [] }
     ensures seat { IsSeatOf port.old.lock.now cluster.old.number port.new.seat }
     ensures origin { seat_origin port.new.seat ≡ Some (made_of (arc_value port.old.system.now) port.old.script.now) }

@@ -84,8 +84,8 @@ pub trait Port {
         requires before { IsBeforeStep (bus self.now) cluster.now }
         ensures { result ≡ has_unused (bus self.now).script cluster.now.number (AtStep cluster.now.steps) };
 
-    /// Loses a cluster directly before its next kernel step, which a word of the script names. Nothing is added where its
-    /// loss stands in the log already. Either way it stays as it is.
+    /// Loses a cluster directly before its next kernel step, or by the call of its disk that failed, which a word of the script
+    /// names. Nothing is added where its loss stands in the log already. Either way it stays as it is.
     fn lose(&mut self, cluster: &Member) -> Result<(), NoMemory>
         requires sits { sits cluster.now.number self.old }
         requires sound { IsSound (bus self.old) }

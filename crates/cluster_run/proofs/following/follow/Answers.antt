@@ -5,12 +5,12 @@ use Rattle.bus_lock.specs.Seats.{seat_origin, seen}
 use Rattle.bus_order.specs.declared.shared.Origin.{Origin}
 use Rattle.cluster_run.specs.Seated.{made_of}
 use Rattle.cluster_run.specs.Along.{is_done_with}
-use Rattle.cluster_run.proofs.Seats.{ended_done, starts_shown}
+use Rattle.cluster_run.proofs.Seats.{ended_done, starts_due}
 use Rattle.cluster_run.proofs.following.follow.Goals as goal
 
-pub follow_on-requires-clause-shows : goal.follow_on-requires-clause-shows
-follow_on-requires-clause-shows g c =
-    starts_shown c.args.lock.now (made_of (arc_value c.args.system.now) c.args.script.now) c.args.seat c.args.cluster (record { number = c.number-number.result; from = 0; upto = 0; entries = c.new.result; is_over = false; off_at = None }) c.requires c.new.ensures.items refl refl refl refl
+pub follow_on-requires-clause-due : goal.follow_on-requires-clause-due
+follow_on-requires-clause-due g c =
+    starts_due c.args.lock.now (made_of (arc_value c.args.system.now) c.args.script.now) c.args.seat c.args.cluster (record { number = c.number-number.result; from = 0; upto = 0; entries = c.new.result; is_over = false; off_at = None }) c.requires c.new.ensures.items refl refl refl refl
 
 pub returns-in-Err-clause-done : goal.returns-in-Err-clause-done
 returns-in-Err-clause-done g c =

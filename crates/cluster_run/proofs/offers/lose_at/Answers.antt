@@ -1,8 +1,8 @@
 use Rattle.std.proofs.Common.{◌≡◌, ◌∙◌, ap, sym, subst, is_some, true, true≢false}
-use Rattle.bus_msg.specs.declared.entry.Cause.TheVariants.{Step}
 use Rattle.bus_order.specs.Script.{off_at}
 use Rattle.bus_order.specs.View.{BusView, Loses}
 use Rattle.script_laws.proofs.OffLosses.{lost_off}
+use Rattle.cluster_run.specs.Gone.{own_cause}
 use Rattle.cluster_run.proofs.Owning.{loses_own}
 use Rattle.cluster_run.proofs.StepLosses.{lost_answer, lost_gone}
 use Rattle.cluster_run.proofs.offers.lose_at.Goals as goal
@@ -25,13 +25,13 @@ pub returns-in-Ok-clause-stopped : goal.returns-in-Ok-clause-stopped
 returns-in-Ok-clause-stopped c =
     let b : BusView = c.args.bus.now in
     let v = c.args.cluster.now in
-    let loses = subst (λ r. Loses b v.number (Step v.steps) r c.lost_for.new.bus) c.in-Ok.is c.lost_for.ensures.loses in
+    let loses = subst (λ r. Loses b v.number (own_cause v) r c.lost_for.new.bus) c.in-Ok.is c.lost_for.ensures.loses in
     lost_answer b c.lost_for.new.bus v c.in-Ok.field-0 c.requires.sound c.lost_for.ensures.sound c.requires.before loses
 
 pub returns-in-Ok-clause-own : goal.returns-in-Ok-clause-own
 returns-in-Ok-clause-own c own lives =
     let b : BusView = c.args.bus.now in
     let v = c.args.cluster.now in
-    let loses = subst (λ r. Loses b v.number (Step v.steps) r c.lost_for.new.bus) c.in-Ok.is c.lost_for.ensures.loses in
+    let loses = subst (λ r. Loses b v.number (own_cause v) r c.lost_for.new.bus) c.in-Ok.is c.lost_for.ensures.loses in
     let stopped = lost_answer b c.lost_for.new.bus v c.in-Ok.field-0 c.requires.sound c.lost_for.ensures.sound c.requires.before loses in
-    loses_own b c.lost_for.new.bus v.number v.steps c.in-Ok.field-0 own c.lost_for.ensures.sound stopped.gone.lost c.lost_for.ensures.unused loses
+    loses_own b c.lost_for.new.bus v.number v c.in-Ok.field-0 own c.lost_for.ensures.sound stopped.gone.lost c.lost_for.ensures.unused loses

@@ -1,10 +1,13 @@
-use Rattle.std.proofs.Common.{◌≡◌, ◌∙◌, refl, sym, ap, arith, get_or, false, true≢false}
+use Rattle.std.proofs.Common.{◌≡◌, ◌⊎◌, ◌∙◌, refl, sym, ap, arith, get_or, false, inl, inr, true≢false}
+use Rattle.std.specs.Prelude.{⊤}
 use Rattle.bus_msg.specs.Places.{cluster_no}
 use Rattle.t32_base.specs.declared.process.ClusterNo.{ClusterNo}
 use Rattle.cert_sched.specs.Rules.{is_over}
 use Rattle.cert_sched.specs.Losses.{was_lost_in}
 use Rattle.bus_order.specs.View.{BusView}
-use Rattle.cluster_run.proofs.AtTheEnd.{stands_there, still_along}
+use Rattle.cluster_core.specs.View.{ClusterView}
+use Rattle.cluster_run.specs.Along.{IsAlong, IsDue, IsFailed}
+use Rattle.cluster_run.proofs.AtTheEnd.{stands_there, still_due}
 use Rattle.cluster_run.proofs.Prefixes.{either}
 use Rattle.cluster_run.proofs.Together.{all_after, one_member}
 use Rattle.cluster_run.specs.Progress.{remaining}
@@ -17,8 +20,8 @@ has_ended-requires-clause-has c =
     let number : c.number.result.0 ≡ c.args.number = ap (λ (k : ClusterNo). k.0) c.number.ensures ∙ first.number in
     omega (arith, number, c.requires.has, c.requires.along.each)
 
-pub take_turn-requires-clause-shown : goal.take_turn-requires-clause-shown
-take_turn-requires-clause-shown c =
+pub take_turn-requires-clause-due : goal.take_turn-requires-clause-due
+take_turn-requires-clause-due c =
     let b : BusView = c.args.bus.now in
     let member = one_member b c.args.clusters.now c.args.number c.index-clusters-number-2.result c.requires.along c.requires.has in
     let first = one_member b c.args.clusters.now c.args.number c.index-clusters-number.result c.requires.along c.requires.has in
@@ -26,7 +29,11 @@ take_turn-requires-clause-shown c =
     let v = get_or c.args.clusters.now c.args.number c.index-clusters-number-2.result in
     let same : c.number.result.0 ≡ v.number.0 = ap (λ (k : ClusterNo). k.0) c.number.ensures ∙ first.number ∙ sym member.number in
     let lives : was_lost_in b.log v.number ≡ false = ap (λ k. was_lost_in b.log (cluster_no k)) (sym same) ∙ parts.1 in
-    record { shows = tt; from_there = omega arith; sound = c.requires.owned.sound; along = still_along b v lives member.along }
+    due_here (still_due b v lives member.along)
+  where
+    due_here : {v : ClusterView} → IsAlong c.args.bus.now v ⊎ IsFailed c.args.bus.now v → IsDue ⊤ 0 c.args.bus.now v
+    due_here (inl along) = inl (record { shows = tt; from_there = omega arith; sound = c.requires.owned.sound; along = along })
+    due_here (inr failed) = inr (c.requires.owned.sound, failed)
 
 pub take_turn-requires-clause-empty : goal.take_turn-requires-clause-empty
 take_turn-requires-clause-empty c =

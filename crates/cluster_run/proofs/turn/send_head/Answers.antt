@@ -31,3 +31,6 @@ returns-clause-own g c =
     let number : c.tried.new.self.number ≡ c.args.cluster.now.number = ap (λ (v : ClusterView). v.number) c.tried.ensures.tried in
     let Own : ClusterNo → Tried → Type 0 = λ k tried. a ≡ true → GoesOwn b → TriesOwn k tried b after in
     where_each c.try_head.result (Own c.tried.new.self.number) (Own c.args.cluster.now.number) (λ tried holds. subst (λ k. Own k tried) number holds) c.try_head.ensures.own
+
+pub is_named-requires-clause-unfailed : goal.is_named-requires-clause-unfailed
+is_named-requires-clause-unfailed g c = ((c.requires.posting.shown).along).beside.unfailed

@@ -35,3 +35,8 @@ returns-clause-posting g c goes =
     let sent = c.requires.sent in
     sent_posting sent.0 c.args.cluster.now c.sent.new.self sent.1 (g.P.Port.bus c.args.port.now) sent.2 c.sent.ensures (g.P.Port.shows c.args.port.now) (g.P.Port.from c.args.port.now) c.take_next.new.cluster
     c.requires.shows c.requires.from c.requires.sound (c.is_named.ensures.unnamed c.if-is_named.false) c.in_ok-take_next.ensures
+
+pub is_named-requires-clause-unfailed : goal.is_named-requires-clause-unfailed
+is_named-requires-clause-unfailed g c =
+    let sent = c.requires.sent in
+    ap (λ (v : ClusterView). v.failed) (c.sent.ensures ∙ clears sent.0 c.args.cluster.now sent.1 (g.P.Port.bus c.args.port.now) sent.2) ∙ ((sent.2).beside).unfailed

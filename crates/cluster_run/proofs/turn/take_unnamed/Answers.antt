@@ -42,3 +42,6 @@ returns-clause-caught g c unnamed =
     let log = (g.P.Port.bus c.args.port.now).log in
     let end : c.upto-upto.result ≡ upto c.entries.cluster.number log = c.upto-upto.ensures ∙ ap (λ (k : ClusterNo). upto k log) (c.number.ensures ∙ sym c.entries.invariant.taken.same.number) in
     omega (arith, c.cursor.ensures, end, c.entries-test.false, c.entries.invariant.upto)
+
+pub is_named-requires-clause-unfailed : goal.is_named-requires-clause-unfailed
+is_named-requires-clause-unfailed g c = c.entries.invariant.taken.along.beside.unfailed
