@@ -11,7 +11,7 @@ use t32_base::lists::Text;
 use t32_base::streams::NoMemory;
 
 /// The command that the words are, where it is built: not `load` yet, and `sim` and `run` with at most one script
-/// word, which loses a cluster at a place of the log or before one of its kernel steps.
+/// word, which loses a cluster at a place of the log, before one of its kernel steps, or by a call of its page disk.
 pub fn built_command(alloc: Global, words: &[Text]) -> Result<Option<Command>, NoMemory>
     ensures command { IfOk result (λ c. c ≡ built_command_of words.now) }
     ensures ready { IfOk result (λ c. is_ready c ≡ true) }
@@ -61,6 +61,6 @@ fn is_built_word(word: &ScriptWord) -> bool
 {
     matches!(
         word,
-        ScriptWord::CrashAt { .. } | ScriptWord::CrashStep { .. }
+        ScriptWord::CrashAt { .. } | ScriptWord::CrashStep { .. } | ScriptWord::DiskAt { .. }
     )
 }
