@@ -17,8 +17,8 @@ const SECOND_FIRST: &str =
 const ROUND: &str =
     "tty 0 6\nd\nh\nl\n\ntty 1 6\na\ne\ni\n\ntty 2 6\nb\nf\nj\n\ntty 3 6\nc\ng\nk\n\npid 16 exit 0\npid 17 exit 0\npid 18 exit 0\npid 19 exit 0\n";
 
-// A system, what its report begins with, how many clusters it has, and at how many places or steps, more than its runs
-// have, each is lost.
+// A system, what its report begins with, how many clusters it has, and at how many places, steps or disk calls, more than its
+// runs have, each is lost.
 struct Case {
     text: &'static str,
     fronts: [&'static str; 2],
@@ -100,6 +100,20 @@ fn a_loss_before_each_step(rt: HostRuntime) -> Result<(), Fail> {
     assert_each(&rt, "step")
 }
 
+// The page servers are the first two clusters of both systems.
+#[test]
+fn a_loss_by_each_disk_call(rt: HostRuntime) -> Result<(), Fail> {
+    for case in &CASES {
+        for number in 0..16 {
+            let k = number % 2;
+            let n = number / 2;
+            let line = format!(in rt.alloc(); "sim disk:{k}@{n}")?;
+            assert_lost(&rt, line.as_bytes(), case)?;
+        }
+    }
+    Ok(())
+}
+
 #[test]
 fn losses_at_random_on_threads(rt: HostRuntime) -> Result<(), Fail> {
     let mut seed: u32 = 1;
@@ -108,8 +122,11 @@ fn losses_at_random_on_threads(rt: HostRuntime) -> Result<(), Fail> {
         let case = &CASES[round % 2];
         let k = (seed >> 16) % case.clusters;
         let n = (seed >> 8) % case.most;
-        let at = if seed & 128 == 0 { "bus" } else { "step" };
-        let line = format!(in rt.alloc(); "run crash:{k}@{at}:{n}")?;
+        let line = match (seed >> 6) & 3 {
+            0 => format!(in rt.alloc(); "run crash:{k}@bus:{n}")?,
+            1 => format!(in rt.alloc(); "run disk:{}@{}", k % 2, n % 6)?,
+            _ => format!(in rt.alloc(); "run crash:{k}@step:{n}")?,
+        };
         assert_lost(&rt, line.as_bytes(), case)?;
     }
     Ok(())

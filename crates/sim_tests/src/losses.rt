@@ -34,7 +34,9 @@ const HI_AT_1: &str = "crash 0 at 1\nbus 6 syncs 0 withheld 1\n";
 // The loss of a cluster in which no process has its home.
 const HI_BACKUP: &str = "crash 1 at 1\nbus 4 syncs 0 withheld 0\n";
 
-static LOSSES: [(&[u8], &str, Around, &str); 23] = [
+const HI_BACKUP_FIRST: &str = "crash 1 at 0\nbus 4 syncs 0 withheld 0\n";
+
+static LOSSES: [(&[u8], &str, Around, &str); 29] = [
     (b"sim", TWO, TWO_AROUND, TWO_NONE),
     (b"sim crash:0@bus:0", TWO, TWO_AROUND, TWO_AT_0),
     (b"sim crash:0@bus:1", TWO, TWO_AROUND, TWO_AT_1),
@@ -59,6 +61,13 @@ static LOSSES: [(&[u8], &str, Around, &str); 23] = [
     (b"run crash:0@step:3", HI, HI_AROUND, HI_AT_1),
     (b"sim crash:0@step:100", HI, HI_AROUND, HI_NONE),
     (b"run crash:0@step:100", HI, HI_AROUND, HI_NONE),
+    // Each page server puts the one page of the process at its start, so that no other call is made without a loss.
+    (b"sim disk:0@0", HI, HI_AROUND, HI_AT_0),
+    (b"run disk:0@0", HI, HI_AROUND, HI_AT_0),
+    (b"sim disk:1@0", HI, HI_AROUND, HI_BACKUP),
+    (b"sim disk:1@0 --pick 1", HI, HI_AROUND, HI_BACKUP_FIRST),
+    (b"sim disk:0@1", HI, HI_AROUND, HI_NONE),
+    (b"run disk:1@9999999999", HI, HI_AROUND, HI_NONE),
 ];
 
 #[test]
@@ -83,7 +92,7 @@ fn a_loss_stands_in_the_log(rt: HostRuntime) -> Result<(), Fail> {
 }
 
 // A cluster that the system lacks is usage once the text was read, and a script that is not built is usage before.
-static REFUSED: [(&[u8], &str, u8, &str); 8] = [
+static REFUSED: [(&[u8], &str, u8, &str); 9] = [
     (b"sim crash:2@bus:0", HI, 1, "t32: usage\n"),
     (b"run crash:2@bus:0", HI, 1, "t32: usage\n"),
     (b"sim crash:2@step:1", HI, 1, "t32: usage\n"),
@@ -91,7 +100,8 @@ static REFUSED: [(&[u8], &str, u8, &str); 8] = [
     (b"sim crash:2@bus:0", CUT, 2, "t32: system line 6 rule 10\n"),
     (b"sim crash:0@bus:0 crash:1@bus:1", CUT, 1, "t32: usage\n"),
     (b"sim crash:0@bus:1 return:0@bus:4", CUT, 1, "t32: usage\n"),
-    (b"sim disk:0@0", CUT, 1, "t32: usage\n"),
+    (b"sim disk:2@0", HI, 1, "t32: usage\n"),
+    (b"sim disk:0@0 disk:1@0", CUT, 1, "t32: usage\n"),
 ];
 
 #[test]
