@@ -47,7 +47,7 @@ fn a_long_input_is_refused(rt: HostRuntime) -> Result<(), Fail> {
 }
 
 // The words are read as `command_words` reads them; here are those that show it, with the status.
-static WORDS: [(&[u8], u8); 25] = [
+static WORDS: [(&[u8], u8); 26] = [
     (b"", 1),
     (b"help", 1),
     (b"Plain", 1),
@@ -70,7 +70,8 @@ static WORDS: [(&[u8], u8); 25] = [
     (b"sim crash:0@step:0", 0),
     (b"run crash:1@step:2", 0),
     (b"sim crash:0@bus:0 crash:1@bus:1", 1),
-    (b"sim disk:0@0", 1),
+    (b"sim disk:0@0", 0),
+    (b"sim disk:0", 1),
     (b"run return:0@bus:0", 1),
     (b"load 7", 1),
 ];

@@ -67,7 +67,7 @@ static LOSSES: [(&[u8], &str, Around, &str); 29] = [
     (b"sim disk:1@0", HI, HI_AROUND, HI_BACKUP),
     (b"sim disk:1@0 --pick 1", HI, HI_AROUND, HI_BACKUP_FIRST),
     (b"sim disk:0@1", HI, HI_AROUND, HI_NONE),
-    (b"run disk:1@9999999999", HI, HI_AROUND, HI_NONE),
+    (b"run disk:1@4294967295", HI, HI_AROUND, HI_NONE),
 ];
 
 #[test]
