@@ -22,7 +22,7 @@ use Rattle.cert_sched.proofs.MailLaws.{sent_no_signal}
 use Rattle.cert_sched.proofs.StepLaws.{Tells}
 use Rattle.backup_records.specs.Records.{are_rising, record_in, records_after}
 use Rattle.cluster_core.specs.View.{ClusterView, Held, Runs, Rolls, with_server, Waits, held_at, held_of}
-use Rattle.cluster_core.specs.Parts.{AllOwn, posts_of}
+use Rattle.cluster_core.specs.Parts.{AllOwn}
 use Rattle.cluster_core.specs.Recovered.{moved_by, CanWait}
 use Rattle.cluster_core.specs.Follows.{FollowsBuilt, IsOpen}
 use Rattle.cluster_core.specs.Calls.{Absorbs, IsReady, ReadyFor, absorbed, here_after}
@@ -50,33 +50,33 @@ use Rattle.cluster_core.proofs.Here.{is_among}
 -- ---- the whole
 
 -- a cluster that takes in an entry for which it is ready
-pub absorbs : (c : ClusterView) (e : Entry) (q : Option Post) (server : Option PagerState) → c.queue ≡ posts_of q → is_system c.system ≡ true → AllOwn c.cursor c.here → are_rising (moved_by c.places c.number (what e) (records_after (what e) c.records)) ≡ true
+pub absorbs : (c : ClusterView) (e : Entry) (server : Option PagerState) → is_system c.system ≡ true → AllOwn c.cursor c.here → are_rising (moved_by c.places c.number (what e) (records_after (what e) c.records)) ≡ true
     → Serves c.places e c.server server → Absorbs e c (with_server server (absorbed c e))
-absorbs c e q server queue_is valid own order serves log now later ready = by_loss (one_of c.system log e later)
+absorbs c e server valid own order serves log now later ready = by_loss (one_of c.system log e later)
   where
     serves_there : c.places ≡ placement c.system log → Serves (placement c.system log) e c.server server
     serves_there same = subst (λ before. Serves before e c.server server) same serves
 
     by_case : (tells : tells_or_closes (what e) ≡ true) → (n : Next c.system log e) → IsReady log e c → FollowsBuilt c.system (log ++ e ∷ []) (with_server server (absorbed c e))
     by_case tells n (inl f) =
-        subst (λ v. FollowsBuilt c.system (log ++ e ∷ []) (with_server server v)) (sym (told_taken c e tells)) (follows_foreign c log e n q server queue_is valid (differ_built c.system log valid n.legal) own f.0 f.1 (serves_there ((f.0).log).places))
+        subst (λ v. FollowsBuilt c.system (log ++ e ∷ []) (with_server server v)) (sym (told_taken c e tells)) (follows_foreign c log e n server valid (differ_built c.system log valid n.legal) own f.0 f.1 (serves_there ((f.0).log).places))
     by_case tells n (inr s) =
-        let l = left_of c log e (own_unlost c log e s.0) s.1 s.0 in
+        let l = left_of c log e s in
         subst (λ v. FollowsBuilt c.system (log ++ e ∷ []) (with_server server v)) (sym (told_taken c e tells))
-        (follows_own c log e n l server s.1 valid (differ_built c.system log valid n.legal) own (serves_there (ap (λ (d : ClusterView). d.places) l.same ∙ ((l.followed).log).places)))
+        (follows_own c log e n l server valid (differ_built c.system log valid n.legal) own (serves_there (ap (λ (d : ClusterView). d.places) l.same ∙ ((l.followed).log).places)))
 
     lost : (l : IsLoss (what e)) → IsReady log e c → FollowsBuilt c.system (log ++ e ∷ []) (with_server server (absorbed c e))
     lost l (inl f) =
         let moved : are_rising (filter (moves_here (placement c.system log) l.lost c.number) c.records) ≡ true =
         ap (λ places. are_rising (filter (moves_here places l.lost c.number) c.records)) (sym (((f.0).log).places)) ∙ sym (ap (λ w. are_rising (moved_by c.places c.number w (records_after w c.records))) l.same) ∙ order in
-        follows_lost c.system valid log e l.lost l.cause (loss_of c.system log e l now later) c.number (other_lost c e l f.2) c q server (serves_there ((f.0).log).places) refl refl queue_is own f.0 f.1 moved
-    lost l (inr s) = absurd (own_no_loss c log e l s.0)
+        follows_lost c.system valid log e l.lost l.cause (loss_of c.system log e l now later) c.number (other_lost c e l f.2) c server (serves_there ((f.0).log).places) refl refl own f.0 f.1 moved
+    lost l (inr s) = absurd (own_no_loss c log e l s)
 
     page : is_of_page (what e) ≡ true → IsReady log e c → FollowsBuilt c.system (log ++ e ∷ []) (with_server server (absorbed c e))
-    page of (inl f) = follows_page c.system valid log e of now later c q server (serves_there ((f.0).log).places) queue_is f.0 f.1
+    page of (inl f) = follows_page c.system valid log e of now later c server (serves_there ((f.0).log).places) f.0 f.1
     page of (inr s) =
-        let l = left_of c log e (own_unlost c log e s.0) s.1 s.0 in
-        follows_own_page c.system valid log e of now later c l server refl s.1 (serves_there (ap (λ (d : ClusterView). d.places) l.same ∙ ((l.followed).log).places))
+        let l = left_of c log e s in
+        follows_own_page c.system valid log e of now later c l server refl (serves_there (ap (λ (d : ClusterView). d.places) l.same ∙ ((l.followed).log).places))
 
     by_loss : OneOf (what e) → FollowsBuilt c.system (log ++ e ∷ []) (with_server server (absorbed c e))
     by_loss (inl tells) = by_case tells (next_of c.system log e tells now later) ready
@@ -115,7 +115,7 @@ may_wait c e valid r = by_loss (one_of c.system r.log e r.open_next)
         subst (λ w. CanWait (moved_by c.places c.number w (records_after w c.records)) (here_after w c.here)) (sym l.same)
         (subst (λ places. CanWait (filter (moves_here places l.lost c.number) c.records) c.here) (sym (((f.0).log).places))
         (can_wait c.system valid r.log e l.lost l.cause (loss_of c.system r.log e l r.open_log r.open_next) c.number (other_lost c e l f.2) c.records c.here (f.0).records ((f.0).processes).each_once))
-    lost l (inr s) = absurd (own_no_loss c r.log e l s.0)
+    lost l (inr s) = absurd (own_no_loss c r.log e l s)
 
     nobody : moved_by c.places c.number (what e) (records_after (what e) c.records) ≡ [] → CanWait (moved_by c.places c.number (what e) (records_after (what e) c.records)) (here_after (what e) c.here)
     nobody empty p x at = let no : None ≡ Some x = ap (λ recs. record_in recs p) (sym empty) ∙ at in cc
@@ -140,7 +140,7 @@ may_come c e valid r = by_loss (one_of c.system r.log e r.open_next)
     by_ready : (p : Pid) (i : ℕ) (bytes : List ℕ) → what e ≡ PageIs p i bytes → IsReady r.log e c → (h : Held) → held_at c p ≡ Some h → CanComeTo i bytes h
     by_ready p i bytes is (inl f) h there = came c.queue p i bytes is (home p h ((f.0).processes).each_once there) h (((f.0).processes).held p h there)
     by_ready p i bytes is (inr s) h there =
-        let l = left_of c r.log e (own_unlost c r.log e s.0) s.1 s.0 in
+        let l = left_of c r.log e s in
         let here : (l.before).here ≡ c.here = sym (ap (λ (d : ClusterView). d.here) l.same) in
         let number : (l.before).number ≡ c.number = sym (ap (λ (d : ClusterView). d.number) l.same) in
         let once = ap (λ hs. rising (pids_in hs)) (sym here) ∙ ((l.followed).processes).each_once ∙ ap (λ k. rising (home_pids c.system r.log k)) number in

@@ -31,6 +31,7 @@ use Rattle.cluster_core.specs.declared.worked.Worked.TheVariants.{Queued}
 use Rattle.cluster_core.specs.View.{ClusterView, Held, Runs, Rolls, Waits, next_count}
 use Rattle.cluster_core.specs.Holds.{IsHeldAs, KeepsIfThere}
 use Rattle.cluster_core.specs.Follows.{FollowsBuilt, IsOpen}
+use Rattle.cluster_core.specs.Queue.{One, is_lone}
 use Rattle.cluster_core.specs.Calls.{FollowsSome, GoesOn, WorkIs}
 use Rattle.cluster_core.specs.Serving.{CanAnswer}
 use Rattle.cluster_core.specs.Work.{AnswersNext, is_first_server, owes_answer}
@@ -108,6 +109,7 @@ module _ (c : ClusterView) (served : Option PagerState) (post : Post) (owed : ow
       own = answered_own;
       legal = (subst (λ (p : Post). UnlostMayFollow c.system log (entry_of c.system log p)) (sym a.post_is) (answer_may log go f), tt);
     };
+    queued = record { queued = One post; posts = refl; together = ap (λ (p : Post). is_lone p.what) a.post_is };
     steps = record { counted = λ kept. more_counted (least_steps log log c.number + cond c.tried 1 0) c.steps ((f.steps).counted kept) };
     pages = f.pages;
     records = f.records;

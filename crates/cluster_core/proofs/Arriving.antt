@@ -94,7 +94,7 @@ comes_here c e valid r = by_loss (kind_is (what e) (IsLegal-last BuiltMayFollow 
     by_case : Next c.system r.log e → IsReady r.log e c → ComesHere c.number e c.here
     by_case n (inl f) = comes_of c.system r.log e c.number c.here valid n ((f.0).processes).each_once
     by_case n (inr s) =
-        let l = left_of c r.log e (own_unlost c r.log e s.0) s.1 s.0 in
+        let l = left_of c r.log e s in
         let here_is : (l.before).here ≡ c.here = sym (ap (λ (d : ClusterView). d.here) l.same) in
         let number : (l.before).number ≡ c.number = sym (ap (λ (d : ClusterView). d.number) l.same) in
         comes_of c.system r.log e c.number c.here valid n (ap (λ hs. rising (pids_in hs)) (sym here_is) ∙ ((l.followed).processes).each_once ∙ ap (λ k. rising (home_pids c.system r.log k)) number)

@@ -41,6 +41,7 @@ use Rattle.cluster_core.proofs.Served.{accounts_begin}
 use Rattle.cluster_core.specs.Follows.{FollowsBuilt}
 use Rattle.cluster_core.specs.Holds.{IsHeldAs}
 use Rattle.cluster_core.specs.Parts.{AllOwn, IsHeldOwn, IsOwn}
+use Rattle.cluster_core.specs.Queue.{Nothing}
 use Rattle.cluster_core.specs.Residents.{pids_in}
 use Rattle.cluster_core.specs.View.{ClusterView, Held, Runs, held_at, held_of}
 use Rattle.cluster_core.proofs.Here.{is_among}
@@ -189,6 +190,7 @@ boot_follows system number here recs server failed valid is kept there begins so
   log = record { cursor = refl; places = placed_at_boot system };
   processes = record { held = held_as system number here is; each_once = once system number here valid is };
   queue = record { own = refl; legal = tt };
+  queued = record { queued = Nothing; posts = refl; together = tt };
   steps = record { counted = λ lost. omega arith };
   pages = λ p h at some. pages_at_boot system p;
   records = kept;

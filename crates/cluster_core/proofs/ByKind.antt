@@ -12,6 +12,7 @@ use Rattle.bus_msg.specs.declared.entry.Entry.{Entry}
 use Rattle.bus_msg.specs.PlacedAfter.{what}
 use Rattle.cert_sched.specs.Built.{is_built, is_unlost, tells_or_closes, TellingMayFollow, UnlostMayFollow}
 use Rattle.cert_sched.proofs.UnlostLaws.{telling_unlost}
+use Rattle.cluster_core.specs.Queue.{is_lone}
 
 pub by_kind : (P : What → Type 0) → ((at : ℕ) (letter : Letter) → P (Mail at letter)) → ((pid : Pid) (at : ℕ) (end : End) → P (Exit pid at end)) → ((rests : List (Pid × ℕ)) → P (Done rests)) → P Stop → (w : What) → tells_or_closes w ≡ true → P w
 by_kind P mail exit done stop (Mail at letter) built = mail at letter
@@ -85,6 +86,21 @@ unlost_is (Sync pid small read took) unlost = absurd (true≢false (sym unlost))
 unlost_is (Crash k cause) unlost = absurd (true≢false (sym unlost))
 unlost_is (Return k) unlost = absurd (true≢false (sym unlost))
 unlost_is (Rebackup to fresh recs) unlost = absurd (true≢false (sym unlost))
+
+-- what is sent alone tells, or is of a page
+pub lone_is : (w : What) → is_lone w ≡ true → (tells_or_closes w ≡ true) ⊎ (is_of_page w ≡ true)
+lone_is (Mail at letter) lone = inl refl
+lone_is (Exit pid at end) lone = inl refl
+lone_is (Fetch pid index) lone = inr refl
+lone_is (PageIs pid index bytes) lone = inr refl
+lone_is (Birth parent at child end) lone = absurd (true≢false (sym lone))
+lone_is (Page pid at index bytes) lone = absurd (true≢false (sym lone))
+lone_is (Sync pid small read took) lone = absurd (true≢false (sym lone))
+lone_is (Crash k cause) lone = absurd (true≢false (sym lone))
+lone_is (Return k) lone = absurd (true≢false (sym lone))
+lone_is (Rebackup to fresh recs) lone = absurd (true≢false (sym lone))
+lone_is (Done rests) lone = absurd (true≢false (sym lone))
+lone_is Stop lone = absurd (true≢false (sym lone))
 
 pub page_unlost : (w : What) → is_of_page w ≡ true → is_unlost w ≡ true
 page_unlost = by_page (λ w. is_unlost w ≡ true) (λ pid index. refl) (λ pid index bytes. refl)

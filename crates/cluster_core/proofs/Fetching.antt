@@ -20,6 +20,7 @@ use Rattle.cluster_core.specs.declared.worked.Worked.TheVariants.{Queued}
 use Rattle.cluster_core.specs.View.{ClusterView, Held, Runs, Rolls, Waits, asked_held, held_at, next_count, page_lacked}
 use Rattle.cluster_core.specs.Holds.{IsHeldAs, is_fetch_queued}
 use Rattle.cluster_core.specs.Follows.{FollowsBuilt, IsOpen}
+use Rattle.cluster_core.specs.Queue.{One}
 use Rattle.cluster_core.specs.Calls.{GoesOn, WorkIs}
 use Rattle.cluster_core.specs.Residents.{with_changed}
 use Rattle.cluster_core.specs.Work.{AsksNext, fetch_post, owes_answer}
@@ -110,6 +111,7 @@ module _ (c : ClusterView) (p : Pid) (index : ℕ) (waiting : WaitingState) (emp
         each_once = ap rising (pids_changed p asked c.here) ∙ (f.processes).each_once;
       };
       queue = record { own = fetch_own c.number p index; legal = (fetch_follows, tt) };
+      queued = record { queued = One (fetch_post c.number p index); posts = refl; together = refl };
       steps = record { counted = λ kept. more_counted (least_steps log log c.number + cond c.tried 1 0) c.steps ((f.steps).counted kept) };
       pages = pages_beside c log p asked f.pages (λ some. absurd (true≢false (sym some)));
       records = f.records;

@@ -45,8 +45,8 @@ use Rattle.recovery_laws.specs.Behind.{RollsBehind}
 use Rattle.recovery_laws.proofs.KeepingBehind.{behind_entry}
 use Rattle.cluster_core.specs.View.{ClusterView, Held, Runs, Rolls, Waits, held_of, next_count, with_server}
 use Rattle.cluster_core.specs.Residents.{pids_in}
-use Rattle.cluster_core.specs.Parts.{AllOwn, posts_of}
-use Rattle.cluster_core.specs.Queue.{IsQueueLegal, move_of}
+use Rattle.cluster_core.specs.Parts.{AllOwn}
+use Rattle.cluster_core.specs.Queue.{AreTogether, Queued, posts_of, IsQueueLegal, move_of}
 use Rattle.cluster_core.specs.Recovered.{left_by, moved_by, CanWait, with_all_waiting}
 use Rattle.cluster_core.specs.Holds.{IsHeldAs, is_fetch_queued, process_in}
 use Rattle.cluster_core.specs.Follows.{FollowsBuilt}
@@ -240,21 +240,21 @@ module _ (system : System) (valid : is_system system ≡ true) (log : List Entry
   moves_it_here recs p r m = ap (λ w. option_map_or (is_moved p places) (cluster_lost w) false) n.same ∙ found_passes (is_moved_by lost) p places.placed m.placed m.found m.leaves
 
   -- so it waits for all its pages, as the log with the loss says
-  waiting_held : (q : Option Post) (recs : List BackRec) (p : Pid) (r : BackRec) → Moves recs p r → move_of p (posts_of q) ≡ None → ((i : ℕ) → is_fetch_queued p (posts_of q) i ≡ false) → IsHeldAs system later (posts_of q) p (Waits (first_wait r))
+  waiting_held : (q : Queued) (recs : List BackRec) (p : Pid) (r : BackRec) → Moves recs p r → move_of p (posts_of q) ≡ None → ((i : ℕ) → is_fetch_queued p (posts_of q) i ≡ false) → IsHeldAs system later (posts_of q) p (Waits (first_wait r))
   waiting_held q recs p r m unmoved unasked = (
     unmoved,
     queued_alike system later p none_queued (is_fetch_queued p (posts_of q)) (first_wait r) (λ i. sym (unasked i)) (begins system log e p r valid n.more (unended_of recs p r m) (moves_it_here recs p r m) m.kept),
   )
 
   -- one that was here is held as before
-  held_still : (q : Option Post) (p : Pid) (h : Held) → IsQueueLegal UnlostMayFollow system log (posts_of q) → HomeHere places p k → IsHeldAs system log (posts_of q) p h → IsHeldAs system later (posts_of q) p h
-  held_still q p (Runs s) legal home held = state_same system log e none q p (s.small).steps legal ∙ held
-  held_still q p (Rolls s counts births) legal home held = (
+  held_still : (q : Queued) (p : Pid) (h : Held) → AreTogether q → HomeHere places p k → IsHeldAs system log (posts_of q) p h → IsHeldAs system later (posts_of q) p h
+  held_still q p (Runs s) together home held = state_same system log e none q p (s.small).steps together ∙ held
+  held_still q p (Rolls s counts births) together home held = (
     held.0,
     subst (λ w. RollsBehind system later p (all_delivered (state_of s) (letter_for p w)) counts births) n.same
         (behind_entry system log e p BuiltMayFollow built_is_plain (state_of s) counts births valid n.more (ap is_some home.found) (ap (deeds_in p) n.same) held.1),
   )
-  held_still q p (Waits waiting) legal home held = (
+  held_still q p (Waits waiting) together home held = (
     held.0,
     subst (λ w. WaitsAs system later p (is_fetch_queued p (posts_of q)) (record waiting { kept = record_after w waiting.kept })) n.same
         (other_entry system log e p (is_fetch_queued p (posts_of q)) waiting valid n.more (ap is_some home.found) (home_not_moved system log e p k (differ_built system log valid n.legal) home spared) (ap (deeds_in p) n.same)
@@ -302,9 +302,9 @@ module _ (system : System) (valid : is_system system ≡ true) (log : List Entry
 
   -- ---- the whole
 
-  pub follows_lost : (c : ClusterView) (q : Option Post) (server : Option PagerState) → Serves places e c.server server → c.system ≡ system → c.number ≡ k → c.queue ≡ posts_of q → AllOwn c.cursor c.here → FollowsBuilt system log c → is_by_cluster k e ≡ false
+  pub follows_lost : (c : ClusterView) (server : Option PagerState) → Serves places e c.server server → c.system ≡ system → c.number ≡ k → AllOwn c.cursor c.here → FollowsBuilt system log c → is_by_cluster k e ≡ false
       → are_rising (filter (moves_here places lost k) c.records) ≡ true → FollowsBuilt system later (with_server server (absorbed c e))
-  follows_lost c q server serves system_is number_is queue_is own f foreign order = subst (λ v. FollowsBuilt system later (with_server server v)) (sym whole) (record {
+  follows_lost c server serves system_is number_is own f foreign order = subst (λ v. FollowsBuilt system later (with_server server v)) (sym whole) (record {
     log = record {
       cursor = ap (λ m. m + 1) (f.log).cursor ∙ sym (length-append log (e ∷ []));
       places = sym there_after;
@@ -314,6 +314,7 @@ module _ (system : System) (valid : is_system system ≡ true) (log : List Entry
       own = (f.queue).own;
       legal = legal_still;
     };
+    queued = f.queued;
     steps = record { counted = λ kept. counted_foreign c log e (ap (λ k. is_by_cluster k e) number_is ∙ foreign) ((f.steps).counted (lost_before log e c.number kept)) };
     pages = pages;
     records = subst (λ k. KeepsRecords system later k (filter (stays places lost k) c.records)) (sym number_is) (loss_kept system log e lost k cause c.records valid (built_stands system later n.more) n.same apart keeps);
@@ -322,6 +323,12 @@ module _ (system : System) (valid : is_system system ≡ true) (log : List Entry
     disk = ((f.disk).0, ahead_after places e c.server server serves (f.disk).1);
   })
     where
+      q : Queued
+      q = (f.queued).queued
+
+      queue_is : c.queue ≡ posts_of q
+      queue_is = (f.queued).posts
+
       moved : List BackRec
       moved = filter (moves_here places lost k) c.records
 
@@ -338,7 +345,7 @@ module _ (system : System) (valid : is_system system ≡ true) (log : List Entry
       posts_legal = subst (IsQueueLegal UnlostMayFollow system log) queue_is (f.queue).legal
 
       legal_still : IsQueueLegal UnlostMayFollow system later c.queue
-      legal_still = subst (IsQueueLegal UnlostMayFollow system later) (sym queue_is) (queue_stays system valid log e lost cause n k apart q posts_own foreign posts_legal)
+      legal_still = subst (IsQueueLegal UnlostMayFollow system later) (sym queue_is) (queue_stays system valid log e lost cause n k apart q (f.queued).together posts_own foreign posts_legal)
 
       -- what the cluster is after it
       after : ClusterView
@@ -376,13 +383,13 @@ module _ (system : System) (valid : is_system system ≡ true) (log : List Entry
       held p h at = subst (λ ps. IsHeldAs system later ps p h) (sym queue_is) (by_either (found p h at))
         where
           by_either : (held_of c.here p ≡ Some h) ⊎ Recovery (λ r. Moves c.records r.pid r) p h → IsHeldAs system later (posts_of q) p h
-          by_either (inl there) = held_still q p h posts_legal (home_of p h there) (subst (λ ps. IsHeldAs system log ps p h) queue_is ((f.processes).held p h there))
+          by_either (inl there) = held_still q p h (f.queued).together (home_of p h there) (subst (λ ps. IsHeldAs system log ps p h) queue_is ((f.processes).held p h there))
           by_either (inr y) =
               let pids : (y.kept).pid ≡ p = pid_same (y.kept).pid p (eqb-true ((y.kept).pid).0 p.0 y.own) in
               let m : Moves c.records p y.kept = subst (λ p. Moves c.records p y.kept) pids y.has in
               let elsewhere = not_here c.records p y.kept m in
               subst (λ x. IsHeldAs system later (posts_of q) p x) (sym y.is)
-              (waiting_held q c.records p y.kept m (no_move_queued system valid log e lost cause n k apart q p posts_own posts_legal elsewhere) (λ i. no_fetch_queued system valid log e lost cause n k apart q p i posts_own posts_legal elsewhere))
+              (waiting_held q c.records p y.kept m (no_move_queued system valid log e lost cause n k apart q p (f.queued).together posts_own posts_legal elsewhere) (λ i. no_fetch_queued system valid log e lost cause n k apart q p i (f.queued).together posts_own posts_legal elsewhere))
 
       pages : (p : Pid) (h : Held) → held_of (with_all_waiting moved c.here) p ≡ Some h → is_some (process_in h) ≡ true → has_its_pages system later p ≡ true
       pages p h at runs = by_either (found p h at)

@@ -28,9 +28,8 @@ use Rattle.cert_sched.specs.Schedule.{items_of, placement}
 use Rattle.cert_sched.proofs.CoverLaws.{lives_on}
 use Rattle.cert_sched.proofs.LogLaws.{IsLegal-last, placement-snoc}
 use Rattle.cert_sched.proofs.UnendedLaws.{loss_keeps, unended_map}
-use Rattle.cluster_core.specs.Parts.{posts_of}
-use Rattle.cluster_core.specs.Queue.{IsQueueLegal, is_move_of, move_of}
-use Rattle.cluster_core.proofs.ByKind.{by_kind, by_page, is_of_page, may_told, told_may, unlost_is}
+use Rattle.cluster_core.specs.Queue.{is_lone, AreTogether, Queued, Nothing, One, posts_of, IsQueueLegal, is_move_of, move_of}
+use Rattle.cluster_core.proofs.ByKind.{by_kind, by_page, is_of_page, lone_is, may_told, told_may}
 use Rattle.cluster_core.proofs.Here.{pid_same}
 use Rattle.cluster_core.proofs.Homes.{differ_built}
 use Rattle.cluster_core.proofs.HomesMoved.{stays_home}
@@ -143,21 +142,21 @@ module _ (system : System) (valid : is_system system ≡ true) (log : List Entry
           ∙ (λ i. lives i && is_by (Cluster k) (home_stays u.pid home i)) ∙ eq-eqb k.0 k.0 refl
 
   -- so may one of a page
-  post_stays : (post : Post) → is_from k post.by ≡ true → is_by_cluster k e ≡ false → UnlostMayFollow system log (entry_of system log post) → UnlostMayFollow system later (entry_of system later post)
-  post_stays post own foreign may = by_what (unlost_is post.what may.built)
+  post_stays : (post : Post) → is_lone post.what ≡ true → is_from k post.by ≡ true → is_by_cluster k e ≡ false → UnlostMayFollow system log (entry_of system log post) → UnlostMayFollow system later (entry_of system later post)
+  post_stays post lone own foreign may = by_what (lone_is post.what lone)
     where
       by_what : (tells_or_closes post.what ≡ true) ⊎ (is_of_page post.what ≡ true) → UnlostMayFollow system later (entry_of system later post)
       by_what (inl tells) = may_told system later (entry_of system later post) (told_stays post own (told_may system log (entry_of system log post) may tells))
       by_what (inr of) = page_post_stays system valid log e k post (n.legal, n.before) (n.more, n.goes_on) foreign not_here_lost own of may
 
-  pub queue_stays : (q : Option Post) → list_all (λ (post : Post). is_from k post.by) (posts_of q) ≡ true → is_by_cluster k e ≡ false → IsQueueLegal UnlostMayFollow system log (posts_of q) → IsQueueLegal UnlostMayFollow system later (posts_of q)
-  queue_stays None own foreign legal = tt
-  queue_stays (Some post) own foreign legal = (post_stays post (and_parts (is_from k post.by) true own).0 foreign legal.0, tt)
+  pub queue_stays : (q : Queued) → AreTogether q → list_all (λ (post : Post). is_from k post.by) (posts_of q) ≡ true → is_by_cluster k e ≡ false → IsQueueLegal UnlostMayFollow system log (posts_of q) → IsQueueLegal UnlostMayFollow system later (posts_of q)
+  queue_stays Nothing together own foreign legal = tt
+  queue_stays (One post) together own foreign legal = (post_stays post together (and_parts (is_from k post.by) true own).0 foreign legal.0, tt)
 
   -- nothing is queued for a process that is at home elsewhere: no move of it,
-  pub no_move_queued : (q : Option Post) (p : Pid) → list_all (λ (post : Post). is_from k post.by) (posts_of q) ≡ true → IsQueueLegal UnlostMayFollow system log (posts_of q) → (home_at places p ≡ Some k → ⊥) → move_of p (posts_of q) ≡ None
-  no_move_queued None p own legal away = refl
-  no_move_queued (Some post) p own legal away = ap (λ b. option_map (λ (post : Post). post.what) (cond b (Some post) None)) (by_what (unlost_is post.what (legal.0).built))
+  pub no_move_queued : (q : Queued) (p : Pid) → AreTogether q → list_all (λ (post : Post). is_from k post.by) (posts_of q) ≡ true → IsQueueLegal UnlostMayFollow system log (posts_of q) → (home_at places p ≡ Some k → ⊥) → move_of p (posts_of q) ≡ None
+  no_move_queued Nothing p together own legal away = refl
+  no_move_queued (One post) p together own legal away = ap (λ b. option_map (λ (post : Post). post.what) (cond b (Some post) None)) (by_what (lone_is post.what together))
     where
       from : is_from k post.by ≡ true
       from = (and_parts (is_from k post.by) true own).0
@@ -183,10 +182,10 @@ module _ (system : System) (valid : is_system system ≡ true) (log : List Entry
       by_what (inr of) = page_moves_none p post of
 
   -- and no fetch of its pages
-  pub no_fetch_queued : (q : Option Post) (p : Pid) (i : ℕ) → list_all (λ (post : Post). is_from k post.by) (posts_of q) ≡ true → IsQueueLegal UnlostMayFollow system log (posts_of q) → (home_at places p ≡ Some k → ⊥) → is_fetch_queued p (posts_of q) i ≡ false
-  no_fetch_queued None p i own legal away = refl
-  no_fetch_queued (Some post) p i own legal away = ap (λ b. b || false) (by_fetch (is_fetch p i post.what) refl)
+  pub no_fetch_queued : (q : Queued) (p : Pid) (i : ℕ) → AreTogether q → list_all (λ (post : Post). is_from k post.by) (posts_of q) ≡ true → IsQueueLegal UnlostMayFollow system log (posts_of q) → (home_at places p ≡ Some k → ⊥) → is_fetch_queued p (posts_of q) i ≡ false
+  no_fetch_queued Nothing p i together own legal away = refl
+  no_fetch_queued (One post) p i together own legal away = ap (λ b. b || false) (by_fetch (is_fetch p i post.what) refl)
     where
       by_fetch : (b : Bool) → is_fetch p i post.what ≡ b → b ≡ false
       by_fetch false is = refl
-      by_fetch true is = absurd (away (sent_home post p (and_parts (is_from k post.by) true own).0 (fetched_home places post.by p i post.what (unlost_is post.what (legal.0).built) is ((legal.0).stands).by_right)))
+      by_fetch true is = absurd (away (sent_home post p (and_parts (is_from k post.by) true own).0 (fetched_home places post.by p i post.what (lone_is post.what together) is ((legal.0).stands).by_right)))

@@ -224,7 +224,7 @@ record Kept (c : ClusterView) (log : List Entry) : Type 0 where
 kept_of : (c : ClusterView) (log : List Entry) (e : Entry) → IsReady log e c → Kept c log
 kept_of c log e (inl f) = record { cursor = ((f.0).log).cursor; records = (f.0).records }
 kept_of c log e (inr s) =
-    let l = left_of c log e (own_unlost c log e s.0) s.1 s.0 in
+    let l = left_of c log e s in
     let number : (l.before).number ≡ c.number = sym (ap (λ (d : ClusterView). d.number) l.same) in
     record {
       cursor = ap (λ (d : ClusterView). d.cursor) l.same ∙ ((l.followed).log).cursor;

@@ -78,7 +78,7 @@ owns_waiting c e valid r order here own = by_loss (one_of c.system r.log e r.ope
     moved = moved_by c.places c.number (what e) (records_after (what e) c.records)
 
     lost : (l : IsLoss (what e)) → IsReady r.log e c → AllOwn (c.cursor + 1) (with_all_waiting moved here)
-    lost l (inr s) = absurd (own_no_loss c r.log e l s.0)
+    lost l (inr s) = absurd (own_no_loss c r.log e l s)
     lost l (inl f) = own_waiting (c.cursor + 1) moved here (all_recorded (λ (kept : BackRec). WaitsOwn (c.cursor + 1) kept.pid (first_wait kept)) moved order each) own
       where
         moved_is : moved ≡ filter (moves_here (placement c.system r.log) l.lost c.number) c.records

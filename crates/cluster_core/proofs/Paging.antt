@@ -33,13 +33,12 @@ use Rattle.recovery_laws.specs.Behind.{RollsBehind}
 use Rattle.recovery_laws.proofs.KeepingBehind.{behind_entry}
 use Rattle.cluster_core.specs.View.{page_held, ClusterView, Held, Runs, Rolls, Waits, next_count, with_server, held_of}
 use Rattle.cluster_core.specs.Residents.{pids_in}
-use Rattle.cluster_core.specs.Parts.{posts_of}
-use Rattle.cluster_core.specs.Queue.{IsQueueLegal, move_of, state_by, state_now}
+use Rattle.cluster_core.specs.Queue.{AreTogether, Queued, Nothing, One, posts_of, IsQueueLegal, move_of, state_by, state_now}
 use Rattle.cluster_core.specs.Recovered.{left_by, moved_by, with_all_waiting}
 use Rattle.cluster_core.specs.Holds.{IsHeldAs, is_fetch_queued, process_in}
 use Rattle.cluster_core.specs.Follows.{FollowsBuilt, IsOpen}
 use Rattle.cluster_core.specs.Calls.{absorbed, here_after, with_page_come}
-use Rattle.cluster_core.proofs.ByKind.{by_page, is_of_page, may_told, page_unlost, told_may, unlost_is}
+use Rattle.cluster_core.proofs.ByKind.{by_page, is_of_page, lone_is, may_told, page_unlost, told_may}
 use Rattle.cluster_core.proofs.Here.{is_among, pid_same}
 use Rattle.cluster_core.proofs.Homes.{HomeHere, differ_built, home_here, pids_home}
 use Rattle.cluster_core.proofs.Telling.{Telling, telling}
@@ -169,9 +168,9 @@ module _ (system : System) (valid : is_system system ≡ true) (log : List Entry
       u : Telling system log (entry_of system log post)
       u = telling system log (entry_of system log post) may (no_end k (placement system log) post.by post.what may.built own (may.stands).by_right)
 
-  queue_stays : (k : ClusterNo) (q : Option Post) → is_by_cluster k e ≡ false → list_all (λ (post : Post). is_from k post.by) (posts_of q) ≡ true → IsQueueLegal UnlostMayFollow system log (posts_of q) → IsQueueLegal UnlostMayFollow system later (posts_of q)
-  queue_stays k None foreign own legal = tt
-  queue_stays k (Some post) foreign own legal = (by_kind_of (unlost_is post.what (legal.0).built), tt)
+  queue_stays : (k : ClusterNo) (q : Queued) → AreTogether q → is_by_cluster k e ≡ false → list_all (λ (post : Post). is_from k post.by) (posts_of q) ≡ true → IsQueueLegal UnlostMayFollow system log (posts_of q) → IsQueueLegal UnlostMayFollow system later (posts_of q)
+  queue_stays k Nothing together foreign own legal = tt
+  queue_stays k (One post) together foreign own legal = (by_kind_of (lone_is post.what together), tt)
     where
       from : is_from k post.by ≡ true
       from = (and_parts (is_from k post.by) true own).0
@@ -275,9 +274,9 @@ module _ (system : System) (valid : is_system system ≡ true) (log : List Entry
           absurd (true≢false (sym (by_one k (Cluster (home.placed).home) (e.post).by (Some (home.placed).home) (eq-eqb ((home.placed).home).0 ((home.placed).home).0 refl) by home.home) ∙ foreign))
       by_pid pid index right false other = refl
 
-  alike_foreign : (k : ClusterNo) (q : Option Post) (p : Pid) → HomeHere (placement system log) p k → is_by_cluster k e ≡ false → IsQueueLegal UnlostMayFollow system log (posts_of q) → QueuesAlike (posts_of q) (posts_of q) p
-  alike_foreign k q p home foreign legal = record {
-    states = λ steps. state_same system log e none q p steps legal;
+  alike_foreign : (k : ClusterNo) (q : Queued) (p : Pid) → HomeHere (placement system log) p k → is_by_cluster k e ≡ false → AreTogether q → QueuesAlike (posts_of q) (posts_of q) p
+  alike_foreign k q p home foreign together = record {
+    states = λ steps. state_same system log e none q p steps together;
     unmoved = λ unmoved. unmoved;
     fetches = λ i. ap (λ b. b || is_fetch_queued p (posts_of q) i) (sym (foreign_fetch k p i home foreign));
   }
@@ -306,9 +305,9 @@ module _ (system : System) (valid : is_system system ≡ true) (log : List Entry
   home_of : (k : ClusterNo) (here : List (Pid × Held)) (p : Pid) (h : Held) → rising (pids_in here) ≡ rising (home_pids system log k) → held_of here p ≡ Some h → HomeHere (placement system log) p k
   home_of k here p h once there = home_here (placement system log) k (pids_in here) p differ once (is_among here p h there)
 
-  pub follows_page : (c : ClusterView) (q : Option Post) (server : Option PagerState) → Serves (placement system log) e c.server server → c.queue ≡ posts_of q → FollowsBuilt system log c → is_by_cluster c.number e ≡ false
+  pub follows_page : (c : ClusterView) (server : Option PagerState) → Serves (placement system log) e c.server server → FollowsBuilt system log c → is_by_cluster c.number e ≡ false
       → FollowsBuilt system later (with_server server (absorbed c e))
-  follows_page c q server serves queue_is f foreign = subst (λ v. FollowsBuilt system later (with_server server v)) (sym (page_taken c e of)) (record {
+  follows_page c server serves f foreign = subst (λ v. FollowsBuilt system later (with_server server v)) (sym (page_taken c e of)) (record {
     log = record {
       cursor = ap (λ m. m + 1) (f.log).cursor ∙ sym (length-append log (e ∷ []));
       places = places_after c.places (f.log).places;
@@ -318,6 +317,7 @@ module _ (system : System) (valid : is_system system ≡ true) (log : List Entry
       own = (f.queue).own;
       legal = legal_still;
     };
+    queued = f.queued;
     steps = record { counted = λ kept. counted_foreign c log e foreign ((f.steps).counted (lost_before log e c.number kept)) };
     pages = pages;
     records = records_stay c.number c.records f.records;
@@ -325,6 +325,12 @@ module _ (system : System) (valid : is_system system ≡ true) (log : List Entry
     disk = ((f.disk).0, ahead_after (placement system log) e c.server server serves (f.disk).1);
   })
     where
+      q : Queued
+      q = (f.queued).queued
+
+      queue_is : c.queue ≡ posts_of q
+      queue_is = (f.queued).posts
+
       once : rising (pids_in c.here) ≡ rising (home_pids system log c.number)
       once = (f.processes).each_once
 
@@ -335,7 +341,7 @@ module _ (system : System) (valid : is_system system ≡ true) (log : List Entry
       posts_legal = subst (IsQueueLegal UnlostMayFollow system log) queue_is (f.queue).legal
 
       legal_still : IsQueueLegal UnlostMayFollow system later c.queue
-      legal_still = subst (IsQueueLegal UnlostMayFollow system later) (sym queue_is) (queue_stays c.number q foreign posts_own posts_legal)
+      legal_still = subst (IsQueueLegal UnlostMayFollow system later) (sym queue_is) (queue_stays c.number q (f.queued).together foreign posts_own posts_legal)
 
       held : (p : Pid) (h : Held) → held_of (here_after (what e) c.here) p ≡ Some h → IsHeldAs system later c.queue p h
       held p h at =
@@ -343,15 +349,15 @@ module _ (system : System) (valid : is_system system ≡ true) (log : List Entry
           let home = home_of c.number c.here p before.was once before.there in
           let was : IsHeldAs system log (posts_of q) p before.was = subst (λ ps. IsHeldAs system log ps p before.was) queue_is ((f.processes).held p before.was before.there) in
           subst (λ ps. IsHeldAs system later ps p h) (sym queue_is)
-          (subst (λ x. IsHeldAs system later (posts_of q) p x) (sym before.same) (held_after (posts_of q) (posts_of q) p before.was (ap is_some home.found) (alike_foreign c.number q p home foreign posts_legal) was))
+          (subst (λ x. IsHeldAs system later (posts_of q) p x) (sym before.same) (held_after (posts_of q) (posts_of q) p before.was (ap is_some home.found) (alike_foreign c.number q p home foreign (f.queued).together) was))
 
       pages : (p : Pid) (h : Held) → held_of (here_after (what e) c.here) p ≡ Some h → is_some (process_in h) ≡ true → has_its_pages system later p ≡ true
       pages p h at runs =
           let before = was_paged (what e) c.here p h of at in
           has_after c.queue c.number p before.was (home_of c.number c.here p before.was once before.there) ((f.processes).held p before.was before.there) (f.pages p before.was before.there) (ap (λ x. is_some (process_in x)) (sym before.same) ∙ runs)
 
-  pub follows_own_page : (c : ClusterView) (l : Left c log e) (server : Option PagerState) → system ≡ c.system → c.queue ≡ [] → Serves (placement system log) e c.server server → FollowsBuilt system later (with_server server (absorbed c e))
-  follows_own_page c l server system_is empty serves = subst (λ v. FollowsBuilt system later (with_server server v)) (sym (page_taken c e of)) (record {
+  pub follows_own_page : (c : ClusterView) (l : Left c log e) (server : Option PagerState) → system ≡ c.system → Serves (placement system log) e c.server server → FollowsBuilt system later (with_server server (absorbed c e))
+  follows_own_page c l server system_is serves = subst (λ v. FollowsBuilt system later (with_server server v)) (sym (page_taken c e of)) (record {
     log = record {
       cursor = ap (λ m. m + 1) (ap (λ (d : ClusterView). d.cursor) l.same ∙ (f.log).cursor) ∙ sym (length-append log (e ∷ []));
       places = places_after c.places (ap (λ (d : ClusterView). d.places) l.same ∙ (f.log).places);
@@ -361,6 +367,7 @@ module _ (system : System) (valid : is_system system ≡ true) (log : List Entry
       own = ap (λ ps. list_all (λ (post : Post). is_from c.number post.by) ps) empty;
       legal = subst (IsQueueLegal UnlostMayFollow system later) (sym empty) tt;
     };
+    queued = record { queued = Nothing; posts = empty; together = tt };
     steps = record { counted = counted_left c log e l };
     pages = pages;
     records = records_stay c.number c.records (subst (λ recs. KeepsRecords system log c.number recs) (sym (ap (λ (d : ClusterView). d.records) l.same)) (subst (λ k. KeepsRecords system log k (l.before).records) number f.records));
@@ -371,6 +378,9 @@ module _ (system : System) (valid : is_system system ≡ true) (log : List Entry
     where
       f : FollowsBuilt system log l.before
       f = subst (λ s. FollowsBuilt s log l.before) (sym system_is) l.followed
+
+      empty : c.queue ≡ []
+      empty = ap (λ (d : ClusterView). d.queue) l.same
 
       number : (l.before).number ≡ c.number
       number = sym (ap (λ (d : ClusterView). d.number) l.same)

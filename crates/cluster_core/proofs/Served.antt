@@ -21,8 +21,7 @@ use Rattle.cert_sched.specs.Schedule.{placement}
 use Rattle.cert_sched.specs.Scripted.{is_server}
 use Rattle.cert_sched.proofs.UnlostLaws.{unlost_built}
 use Rattle.cluster_core.specs.Holds.{HoldsAccounts, KeepsIfThere}
-use Rattle.cluster_core.specs.Parts.{posts_of}
-use Rattle.cluster_core.specs.Queue.{IsQueueLegal, is_rebackup, with_queue}
+use Rattle.cluster_core.specs.Queue.{Queued, Nothing, One, posts_of, IsQueueLegal, is_rebackup, with_queue}
 use Rattle.cluster_core.specs.Serving.{BeginsToServe, IsAheadThere, Serves}
 use Rattle.cluster_core.specs.View.{ClusterView, failing_in}
 use Rattle.cluster_core.specs.Work.{AnswersNext}
@@ -66,14 +65,14 @@ least_more system log e k built =
 -- ---- a post more
 
 -- a post adds one call where it is an answer of the cluster
-abbrev owed : ClusterNo → Option Post → ℕ
-owed k None = 0
-owed k (Some post) = cond (is_page_is_entry post.what && is_from k post.by) 1 0
+abbrev owed : ClusterNo → Queued → ℕ
+owed k Nothing = 0
+owed k (One post) = cond (is_page_is_entry post.what && is_from k post.by) 1 0
 
 -- what stands in a log as it is queued
-abbrev IsPlain : Option Post → Type 0
-IsPlain None = ⊤
-IsPlain (Some post) = is_rebackup post.what ≡ false
+abbrev IsPlain : Queued → Type 0
+IsPlain Nothing = ⊤
+IsPlain (One post) = is_rebackup post.what ≡ false
 
 plain_kind : (w : What) → is_unlost w ≡ true → is_rebackup w ≡ false
 plain_kind w unlost = by_one (unlost_is w unlost)
@@ -82,14 +81,14 @@ plain_kind w unlost = by_one (unlost_is w unlost)
     by_one (inl tells) = by_kind (λ w. is_rebackup w ≡ false) (λ at letter. refl) (λ pid at end. refl) (λ rests. refl) refl w tells
     by_one (inr of) = by_page (λ w. is_rebackup w ≡ false) (λ pid index. refl) (λ pid index bytes. refl) w of
 
-plain_post : (system : System) (log : List Entry) (q : Option Post) → IsQueueLegal UnlostMayFollow system log (posts_of q) → IsPlain q
-plain_post system log None legal = tt
-plain_post system log (Some post) legal = plain_kind post.what (legal.0).built
+plain_post : (system : System) (log : List Entry) (q : Queued) → IsQueueLegal UnlostMayFollow system log (posts_of q) → IsPlain q
+plain_post system log Nothing legal = tt
+plain_post system log (One post) legal = plain_kind post.what (legal.0).built
 
 -- the least calls of a log with at most one post
-least_queued : (system : System) (log : List Entry) (q : Option Post) (k : ClusterNo) → IsPlain q → least_calls system log (with_queue system log (posts_of q)) k ≡ least_calls system log log k + owed k q
-least_queued system log None k plain = omega arith
-least_queued system log (Some post) k plain =
+least_queued : (system : System) (log : List Entry) (q : Queued) (k : ClusterNo) → IsPlain q → least_calls system log (with_queue system log (posts_of q)) k ≡ least_calls system log log k + owed k q
+least_queued system log Nothing k plain = omega arith
+least_queued system log (One post) k plain =
     let stands : with_queue system log (post ∷ []) ≡ log ++ entry_of system log post ∷ [] = ap (λ b. cond b log (log ++ entry_of system log post ∷ [])) plain in
     let same = ap (λ sent. least_calls system log sent k) stands in
     let answered = count_by-snoc (answers k) log (entry_of system log post) in
@@ -136,7 +135,7 @@ accounts_on system log e c d serves number least f = record {
     is_one server = ap (is_server system) (sym number) ∙ server
 
 -- so it is where the entry is no answer of its own, and at most one post is queued before and after
-pub accounts_next : (system : System) (log : List Entry) (e : Entry) (c d : ClusterView) (q : Option Post) → is_built (what e) ≡ true → answers c.number e ≡ false → Serves (placement system log) e c.server d.server → d.number ≡ c.number
+pub accounts_next : (system : System) (log : List Entry) (e : Entry) (c d : ClusterView) (q : Queued) → is_built (what e) ≡ true → answers c.number e ≡ false → Serves (placement system log) e c.server d.server → d.number ≡ c.number
     → c.queue ≡ posts_of q → d.queue ≡ posts_of q → IsQueueLegal UnlostMayFollow system log (posts_of q) → HoldsAccounts system log c → HoldsAccounts system (log ++ e ∷ []) d
 accounts_next system log e c d q built none serves number was now legal f = accounts_on system log e c d serves number least f
   where
@@ -162,7 +161,7 @@ accounts_sent system log e c d unlost serves number was now f = accounts_on syst
     least =
         ap (λ ps. least_calls system (log ++ e ∷ []) (with_queue system (log ++ e ∷ []) ps) c.number) now
         ∙ least_more system log e c.number (unlost_built (what e) unlost)
-        ∙ sym (ap (λ ps. least_calls system log (with_queue system log ps) c.number) was ∙ least_queued system log (Some e.post) c.number (plain_kind (what e) unlost))
+        ∙ sym (ap (λ ps. least_calls system log (with_queue system log ps) c.number) was ∙ least_queued system log (One e.post) c.number (plain_kind (what e) unlost))
 
 -- ---- where a post is queued
 

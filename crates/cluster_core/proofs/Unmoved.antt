@@ -17,9 +17,8 @@ use Rattle.cert_sched.specs.Built.{UnlostMayFollow, tells_or_closes}
 use Rattle.cert_sched.specs.Schedule.{done, items_of, plain_after}
 use Rattle.cert_sched.specs.Steps.{after_items, emission_at, process_of, silent_upto}
 use Rattle.cert_sched.proofs.LogLaws.{no_items}
-use Rattle.cluster_core.specs.Parts.{posts_of}
-use Rattle.cluster_core.specs.Queue.{IsQueueLegal, is_move_of, state_by, state_now, taken_by, tells_steps}
-use Rattle.cluster_core.proofs.ByKind.{by_kind, by_page, is_of_page, unlost_is}
+use Rattle.cluster_core.specs.Queue.{AreTogether, Queued, Nothing, One, posts_of, IsQueueLegal, is_move_of, state_by, state_now, taken_by, tells_steps}
+use Rattle.cluster_core.proofs.ByKind.{by_kind, by_page, is_of_page, lone_is}
 
 -- a post of a page moves no process
 pub page_moves_none : (p : Pid) (post : Post) → is_of_page post.what ≡ true → is_move_of p post ≡ false
@@ -47,9 +46,9 @@ module _ (system : System) (log : List Entry) (e : Entry) (none : (k : Kernel) �
       (λ at letter. ap (option_map (λ (r : Emission × ProcState). r.1)) (emission_same letter.from at)) (λ pid at end. ap (option_map (λ (r : Emission × ProcState). r.1)) (emission_same pid at)) (λ rests. refl) refl
 
   -- a process stands where it stood, beside at most one post
-  pub state_same : (q : Option Post) (p : Pid) (steps : ℕ) → IsQueueLegal UnlostMayFollow system log (posts_of q) → state_now system later (posts_of q) p steps ≡ state_now system log (posts_of q) p steps
-  state_same None p steps legal = silent_same p steps
-  state_same (Some post) p steps legal = by_what (unlost_is post.what (legal.0).built)
+  pub state_same : (q : Queued) (p : Pid) (steps : ℕ) → AreTogether q → state_now system later (posts_of q) p steps ≡ state_now system log (posts_of q) p steps
+  state_same Nothing p steps together = silent_same p steps
+  state_same (One post) p steps together = by_what (lone_is post.what together)
     where
       now_at : List Entry → Bool → Option ProcState
       now_at entries b = state_by system entries p steps (option_map (λ (post : Post). post.what) (cond b (Some post) None))

@@ -35,7 +35,7 @@ use Rattle.cluster_core.specs.View.{ClusterView, Held, Runs, Rolls, Waits, can_a
 use Rattle.cluster_core.specs.Residents.{pids_in, with_changed}
 use Rattle.cluster_core.specs.Parts.{IsOwn}
 use Rattle.cluster_core.proofs.Served.{accounts_queued}
-use Rattle.cluster_core.specs.Queue.{IsQueueLegal, move_of, taken_by, state_by, state_now}
+use Rattle.cluster_core.specs.Queue.{IsQueueLegal, One, is_lone, move_of, taken_by, state_by, state_now}
 use Rattle.cluster_core.specs.Holds.{HoldsPages, IsHeldAs, is_fetch_queued, process_in}
 use Rattle.cluster_core.specs.Follows.{FollowsBuilt, IsOpen}
 use Rattle.cluster_core.specs.Calls.{GoesOn, OwesNothing, WorkIs, is_at_rest, are_at_rest}
@@ -125,6 +125,7 @@ goes_on_rested c log now f = record {
   log = record { cursor = (f.log).cursor; places = (f.log).places };
   processes = record { held = (f.processes).held; each_once = (f.processes).each_once };
   queue = record { own = (f.queue).own; legal = (f.queue).legal };
+  queued = f.queued;
   steps = record { counted = λ kept. more_counted (least_steps log log c.number + cond c.tried 1 0) c.steps ((f.steps).counted kept) };
   pages = f.pages;
   records = f.records;
@@ -144,6 +145,7 @@ follows_tried c log f = record {
   log = record { cursor = (f.log).cursor; places = (f.log).places };
   processes = record { held = (f.processes).held; each_once = (f.processes).each_once };
   queue = record { own = (f.queue).own; legal = (f.queue).legal };
+  queued = f.queued;
   steps = record { counted = λ kept. more_tried (least_steps log log c.number) c.steps c.tried ((f.steps).counted kept) };
   pages = f.pages;
   records = f.records;
@@ -256,6 +258,7 @@ moved_goes_on c p was new valid empty there moves log go f = record {
     each_once = ap rising (pids_changed p new c.here) ∙ (f.processes).each_once;
   };
   queue = record { own = (f.queue).own; legal = (f.queue).legal };
+  queued = f.queued;
   steps = record { counted = λ kept. more_counted (least_steps log log c.number + cond c.tried 1 0) c.steps ((f.steps).counted kept) };
   pages = pages_beside c log p new f.pages (λ some. f.pages p was there (can_in was (moves_can 64 was new moves)));
   records = f.records;
@@ -272,6 +275,11 @@ posted_view c here post = record c { here = here; queue = post ∷ []; steps = n
 built_of : (pid : Pid) (at : ℕ) (e : Emission) → is_unlost (told_of pid at e) ≡ true
 built_of pid at (Sent letter) = refl
 built_of pid at (Ended end) = refl
+
+-- which is sent alone
+lone_of : (pid : Pid) (at : ℕ) (e : Emission) → is_lone (told_of pid at e) ≡ true
+lone_of pid at (Sent letter) = refl
+lone_of pid at (Ended end) = refl
 
 -- and no page
 no_page_of : (pid : Pid) (at : ℕ) (e : Emission) → is_page_is_entry (told_of pid at e) ≡ false
@@ -395,6 +403,7 @@ module _ (c : ClusterView) (p : Pid) (was : Held) (sending : Sending) (new : Hel
       own = ap (λ b. b && true) posted_own;
       legal = legal_post;
     };
+    queued = record { queued = One post; posts = refl; together = ap (λ (q : Post). is_lone q.what) post_is ∙ lone_of p at e };
     steps = record { counted = λ kept. more_counted (least_steps log log c.number + cond c.tried 1 0) c.steps ((f.steps).counted kept) };
     pages = pages_beside c log p (Runs s.now) f.pages (λ some. f.pages p was there (can_in was (sends_can 64 was sending new s)));
     records = f.records;

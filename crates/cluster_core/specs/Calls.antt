@@ -57,11 +57,11 @@ pub record FollowsSome (c : ClusterView) : Type 0 where
 abbrev pub GoesOn : ClusterView → ClusterView → Type 0
 GoesOn old new = (log : List Entry) → IsOpen BuiltMayFollow old.system log → FollowsBuilt old.system log old → FollowsBuilt old.system log new
 
--- the cluster follows the log, and the entry is not its own; or it has sent the entry, its last post, and follows it next
+-- the cluster follows the log, and the entry is not its own; or it has sent the entry, and follows it next
 abbrev pub IsReady : List Entry → Entry → ClusterView → Type 0
 IsReady log e c =
     (FollowsBuilt c.system log c × (is_by_cluster c.number e ≡ false) × (is_crash_of c.number (what e) ≡ false))
-    ⊎ (StandsBetween FollowsBuilt c.system log e c × (c.queue ≡ []))
+    ⊎ StandsBetween FollowsBuilt c.system log e c
 
 -- the entry is the next one of some log, for which the cluster is ready
 pub record ReadyFor (e : Entry) (c : ClusterView) : Type 0 where

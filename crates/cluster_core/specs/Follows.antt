@@ -7,6 +7,7 @@ use Rattle.cert_sched.specs.Rules.{is_over}
 use Rattle.cert_sched.specs.Built.{UnlostMayFollow}
 use Rattle.cluster_core.specs.View.{ClusterView, head_of, after_sent}
 use Rattle.cert_sched.specs.Appended.{entry_of}
+use Rattle.cluster_core.specs.Queue.{IsQueued}
 use Rattle.cluster_core.specs.Holds.{HoldsLog, HoldsProcesses, HoldsQueue, HoldsSteps, HoldsPages, HoldsMarks, HoldsRecords, HoldsAccounts, HasNotFailed}
 
 -- all that a cluster holds
@@ -25,6 +26,7 @@ pub record FollowsBuilt (system : System) (entries : List Entry) (c : ClusterVie
   pub log : HoldsLog system entries c
   pub processes : HoldsProcesses system entries c
   pub queue : HoldsQueue UnlostMayFollow system entries c
+  pub queued : IsQueued c.queue
   pub steps : HoldsSteps entries c
   pub pages : HoldsPages system entries c
   pub records : HoldsRecords system entries c

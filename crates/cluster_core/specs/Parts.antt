@@ -1,5 +1,5 @@
 -- The parts of a cluster as its code keeps them.
-use Rattle.std.specs.Prelude.{ℕ, ◌≡◌, ◌<◌, ◌≤◌, true, false, List, [], ◌∷◌, Option, Some, None, ⊤}
+use Rattle.std.specs.Prelude.{ℕ, ◌≡◌, ◌<◌, ◌≤◌, true, false, List, [], ◌∷◌, Some, ⊤}
 use Rattle.std.specs.List.{list_any, list_all}
 use Rattle.t32_base.specs.declared.process.Pid.{Pid}
 use Rattle.t32_base.specs.declared.process.ClusterNo.{ClusterNo}
@@ -13,10 +13,6 @@ use Rattle.cert_sched.specs.Built.{is_unlost}
 use Rattle.cert_sched.specs.Losses.{is_from}
 use Rattle.page_waits.specs.Waiting.{WaitingState, is_whole}
 use Rattle.cluster_core.specs.View.{Held, Runs, Rolls, Waits}
-
-abbrev pub posts_of : Option Post → List Post
-posts_of None = []
-posts_of (Some post) = post ∷ []
 
 -- a process that stands under its own pid; no signal waits for it, and no more letters came to it than the cluster took entries in
 pub record IsOwn (cursor : ℕ) (pid : Pid) (p : Process) : Type 0 where

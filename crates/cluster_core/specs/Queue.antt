@@ -1,11 +1,11 @@
 -- The posts that a cluster has still to send, as the entries that they are to become.
-use Rattle.std.specs.Prelude.{ℕ, Bool, true, false, if◌then◌else◌, List, [], ◌∷◌, ◌++◌, find, Option, Some, None, option_map, ⊤}
+use Rattle.std.specs.Prelude.{ℕ, ◌≡◌, Bool, true, false, if◌then◌else◌, List, [], ◌∷◌, ◌++◌, find, Option, Some, None, option_map, ⊤}
 use Rattle.std.specs.Option.{option_map_or}
 use Rattle.t32_base.specs.declared.process.Pid.{Pid}
 use Rattle.sys_text.specs.declared.system.System.{System}
 use Rattle.proc_state.specs.State.{ProcState}
 use Rattle.bus_msg.specs.declared.entry.What.{What}
-use Rattle.bus_msg.specs.declared.entry.What.TheVariants.{Mail, Birth, Exit, Sync, Rebackup}
+use Rattle.bus_msg.specs.declared.entry.What.TheVariants.{Mail, Birth, Exit, Sync, Fetch, PageIs, Rebackup}
 use Rattle.bus_msg.specs.declared.entry.Post.{Post}
 use Rattle.bus_msg.specs.declared.entry.Entry.{Entry}
 use Rattle.bus_msg.specs.Places.{same_pid}
@@ -26,6 +26,35 @@ with_queue system log (post ∷ rest) = if is_rebackup post.what then with_queue
 abbrev pub IsQueueLegal : (System → List Entry → Entry → Type 0) → System → List Entry → List Post → Type 0
 IsQueueLegal May system log [] = ⊤
 IsQueueLegal May system log (post ∷ rest) = May system log (entry_of system log post) × IsQueueLegal May system (log ++ entry_of system log post ∷ []) rest
+
+-- ---- what is queued together
+
+-- what a cluster has to send: nothing, or one post
+data pub Queued : Type 0 where
+  Nothing : Queued
+  One : (post : Post) → Queued
+
+abbrev pub posts_of : Queued → List Post
+posts_of Nothing = []
+posts_of (One post) = post ∷ []
+
+-- a letter, an exit, and a page that is asked for or comes are sent alone
+abbrev pub is_lone : What → Bool
+is_lone (Mail at letter) = true
+is_lone (Exit pid at end) = true
+is_lone (Fetch pid index) = true
+is_lone (PageIs pid index bytes) = true
+is_lone _ = false
+
+abbrev pub AreTogether : Queued → Type 0
+AreTogether Nothing = ⊤
+AreTogether (One post) = is_lone post.what ≡ true
+
+-- the posts of a queue are such as are queued together
+pub record IsQueued (queue : List Post) : Type 0 where
+  pub queued : Queued
+  pub posts : queue ≡ posts_of queued
+  pub together : AreTogether queued
 
 -- ---- a process that has moved ahead of the log
 

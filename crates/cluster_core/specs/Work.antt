@@ -1,5 +1,5 @@
 -- What a work of a cluster makes of its parts: of what is here, of what it keeps as a page server, and of the queue.
-use Rattle.std.specs.Prelude.{ℕ, ◌≡◌, ◌⊎◌, Bool, true, false, not, ◌&&◌, ◌||◌, nat_lt, List, Option, Some, None, is_some, is_none, option_and_then, Ok}
+use Rattle.std.specs.Prelude.{ℕ, ◌≡◌, ◌⊎◌, Bool, true, false, not, ◌&&◌, ◌||◌, nat_lt, List, [], ◌∷◌, Option, Some, None, is_some, is_none, option_and_then, Ok}
 use Rattle.std.specs.List.{list_any, list_all}
 use Rattle.std.specs.Option.{option_map_or}
 use Rattle.t32_base.specs.declared.process.Pid.{Pid}
@@ -76,22 +76,22 @@ any_waits here = list_any (λ (e : Pid × Held). is_waiting e.1) here
 -- ---- the work
 
 -- the answer that is owed is queued
-pub record QueuesAnswer (k : ClusterNo) (places : Places) (old : ResidentsView) (server : Option PagerState) (new : ResidentsView) (served : Option PagerState) (queue : Option Post) : Type 0 where
+pub record QueuesAnswer (k : ClusterNo) (places : Places) (old : ResidentsView) (server : Option PagerState) (new : ResidentsView) (served : Option PagerState) (queue : List Post) : Type 0 where
   pub post : Post
   pub owed : owes_answer places k server ≡ true
   pub answers : AnswersNext k server served post
   pub same : new ≡ old
-  pub queue_is : queue ≡ Some post
+  pub queue_is : queue ≡ post ∷ []
 
 -- nothing is owed, and a fetch is queued
-pub record QueuesFetch (k : ClusterNo) (places : Places) (old : ResidentsView) (server : Option PagerState) (new : ResidentsView) (served : Option PagerState) (queue : Option Post) : Type 0 where
+pub record QueuesFetch (k : ClusterNo) (places : Places) (old : ResidentsView) (server : Option PagerState) (new : ResidentsView) (served : Option PagerState) (queue : List Post) : Type 0 where
   pub pid : Pid
   pub index : ℕ
   pub unowed : owes_answer places k server ≡ false
   pub asks : AsksNext old.here new.here pid index
   pub last : new.last ≡ old.last
   pub kept : served ≡ server
-  pub queue_is : queue ≡ Some (fetch_post k pid index)
+  pub queue_is : queue ≡ fetch_post k pid index ∷ []
 
 -- nothing is owed and no page is to be asked for, and the page server stays
 pub record NoPages (k : ClusterNo) (places : Places) (old : ResidentsView) (server served : Option PagerState) : Type 0 where
@@ -100,14 +100,14 @@ pub record NoPages (k : ClusterNo) (places : Places) (old : ResidentsView) (serv
   pub kept : served ≡ server
 
 -- a turn of one that is here, and what it sent is queued; where none can move, whether a process waits for its pages
-abbrev pub RunsNext : ClusterNo → ResidentsView → Worked → ResidentsView → Option Post → Type 0
-RunsNext k old Moved new queue = TurnIs old (Ok QuantumMoved) new × (queue ≡ None)
-RunsNext k old Queued new queue = (sending : Sending) × TurnIs old (Ok (Sent sending)) new × (queue ≡ Some (post_told k sending.pid sending.at sending.emission))
-RunsNext k old IsWaiting new queue = TurnIs old (Ok Stuck) new × (any_waits old.here ≡ true) × (queue ≡ None)
-RunsNext k old Rests new queue = TurnIs old (Ok Stuck) new × (any_waits old.here ≡ false) × (queue ≡ None)
+abbrev pub RunsNext : ClusterNo → ResidentsView → Worked → ResidentsView → List Post → Type 0
+RunsNext k old Moved new queue = TurnIs old (Ok QuantumMoved) new × (queue ≡ [])
+RunsNext k old Queued new queue = (sending : Sending) × TurnIs old (Ok (Sent sending)) new × (queue ≡ post_told k sending.pid sending.at sending.emission ∷ [])
+RunsNext k old IsWaiting new queue = TurnIs old (Ok Stuck) new × (any_waits old.here ≡ true) × (queue ≡ [])
+RunsNext k old Rests new queue = TurnIs old (Ok Stuck) new × (any_waits old.here ≡ false) × (queue ≡ [])
 
 -- an answer that is owed comes first, then a page that is to be asked for, and then the turn of one that is here; what it sent is queued
-abbrev pub WorksOn : ClusterNo → Places → ResidentsView → Option PagerState → Worked → ResidentsView → Option PagerState → Option Post → Type 0
+abbrev pub WorksOn : ClusterNo → Places → ResidentsView → Option PagerState → Worked → ResidentsView → Option PagerState → List Post → Type 0
 WorksOn k places old server Queued new served queue =
     QueuesAnswer k places old server new served queue
     ⊎ QueuesFetch k places old server new served queue

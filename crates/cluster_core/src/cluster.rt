@@ -25,6 +25,7 @@ use channel_table::placement::Placement;
 use page_server::disk::PageDisk;
 use page_server::pager::Pager;
 use std::alloc::Global;
+use std::collections::VecDeque;
 use std::marker::Model;
 use std::sync::Arc;
 use sys_text::system::System;
@@ -33,7 +34,7 @@ use t32_base::process::{ClusterNo, Pid};
 use t32_base::streams::NoMemory;
 
 /// A cluster of a system: the placement, the processes at home there, the records of the processes whose backup
-/// is there, the accounts of pages and the fetches that wait where it is one of the two page servers, and the post
+/// is there, the accounts of pages and the fetches that wait where it is one of the two page servers, and the posts
 /// that it has to send.
 #[derive(Drop)]
 pub struct Cluster<D: PageDisk> {
@@ -45,7 +46,7 @@ pub struct Cluster<D: PageDisk> {
     here: Residents,
     records: Records,
     server: Option<Pager<D>>,
-    queue: Option<Post>,
+    queue: VecDeque<Post>,
     tried: bool,
     steps: u64,
     failed: Option<u64>,
@@ -55,7 +56,7 @@ impl<D: PageDisk> Model for Cluster<D> {
     ghost use Rattle.std.specs.Arc.{arc_value};
     ghost use Rattle.std.specs.Prelude.{[], false};
     ghost use Rattle.cluster_core.specs.View.{ClusterView};
-    ghost use Rattle.cluster_core.specs.Parts.{posts_of, IsSound};
+    ghost use Rattle.cluster_core.specs.Parts.{IsSound};
 
     ghost Value = { ClusterView };
 
@@ -67,13 +68,13 @@ impl<D: PageDisk> Model for Cluster<D> {
       here = (c.here).here;
       records = c.records;
       server = c.server;
-      queue = posts_of c.queue;
+      queue = (c.queue).items;
       tried = c.tried;
       steps = c.steps;
       failed = c.failed;
     } };
 
-    ghost invariant = { λ c. IsSound (arc_value c.system) c.number c.cursor (c.here).here (posts_of c.queue) };
+    ghost invariant = { λ c. IsSound (arc_value c.system) c.number c.cursor (c.here).here (c.queue).items };
 }
 
 impl<D: PageDisk + Drop> Cluster<D> {
@@ -106,7 +107,7 @@ impl<D: PageDisk + Drop> Cluster<D> {
             here: parts.here,
             records: parts.records,
             server: parts.server,
-            queue: None,
+            queue: VecDeque::new(alloc),
             tried: false,
             steps: 0,
             failed: parts.failed,
@@ -117,7 +118,7 @@ impl<D: PageDisk + Drop> Cluster<D> {
     pub fn head(&self) -> Option<&Post>
         ensures { option_copied result ≡ head_of self.now.queue }
     {
-        self.queue.as_ref()
+        self.queue.front()
     }
 
     /// How many entries of the log it has taken in. Takes no memory.
@@ -176,7 +177,7 @@ impl<D: PageDisk + Drop> Cluster<D> {
         requires tried { self.old.tried ≡ true }
         ensures { self.new ≡ after_sent self.old self.old.queue }
     {
-        self.queue = None;
+        self.queue.pop_front();
         self.tried = false;
     }
 

@@ -1,5 +1,5 @@
 //! The work of a cluster.
-ghost use Rattle.std.specs.Prelude.{◌≡◌, None, IfErr, IfOk, OnErr, if◌then◌else◌};
+ghost use Rattle.std.specs.Prelude.{◌≡◌, ◌<◌, [], IfErr, IfOk, OnErr, OnOk, if◌then◌else◌, deque_len, deque_capacity};
 ghost use Rattle.cluster_core.specs.Quantum.{post_told};
 ghost use Rattle.cluster_core.specs.Serving.{CanAnswer, HurtsServer};
 ghost use Rattle.cluster_core.specs.Work.{RunsNext, WorksOn, any_waits, fetch_post};
@@ -14,6 +14,7 @@ use channel_table::placement::Placement;
 use page_server::disk::PageDisk;
 use page_server::pager::Pager;
 use std::alloc::Global;
+use std::collections::VecDeque;
 use sys_calls::steps::Emission;
 use t32_base::process::{ClusterNo, Pid};
 use t32_base::streams::NoMemory;
@@ -28,24 +29,34 @@ pub fn work_on<D: PageDisk>(
     places: &Placement,
     here: &mut Residents,
     server: &mut Option<Pager<D>>,
-    queue: &mut Option<Post>,
+    queue: &mut VecDeque<Post>,
 ) -> Result<Worked, Hurt>
-    requires queue { queue.old ≡ None }
+    requires queue { queue.old.items ≡ [] }
     requires can { CanAnswer server.old }
-    ensures ok { IfOk result (λ worked. WorksOn number places.now here.old server.old worked here.new server.new queue.new) }
+    ensures ok { IfOk result (λ worked. WorksOn number places.now here.old server.old worked here.new server.new queue.new.items) }
     ensures here { OnErr result (here.new.here ≡ here.old.here) }
-    ensures queue { OnErr result (queue.new ≡ None) }
+    ensures queue { OnErr result (queue.new.items ≡ []) }
     ensures hurts { IfErr result (HurtsServer server.old) }
 {
+    make_room(queue)?;
     if let Some(post) = answer_next(alloc, number, places, server)? {
-        *queue = Some(post);
+        queue.push_back_reserved(post);
         return Ok(Worked::Queued);
     }
     if let Some((pid, index)) = here.ask() {
-        *queue = Some(fetch_of(number, pid, index));
+        queue.push_back_reserved(fetch_of(number, pid, index));
         return Ok(Worked::Queued);
     }
     Ok(run_next(alloc, number, here, queue)?)
+}
+
+// Room for one post more.
+fn make_room(queue: &mut VecDeque<Post>) -> Result<(), NoMemory>
+    ensures same { queue.new.items ≡ queue.old.items }
+    ensures room { OnOk result (deque_len queue.new < deque_capacity queue.new) }
+{
+    queue.reserve(1)?;
+    Ok(())
 }
 
 // The next process that can move runs for a quantum, and what it sends is queued.
@@ -53,17 +64,18 @@ fn run_next(
     alloc: Global,
     number: ClusterNo,
     here: &mut Residents,
-    queue: &mut Option<Post>,
+    queue: &mut VecDeque<Post>,
 ) -> Result<Worked, NoMemory>
-    requires { queue.old ≡ None }
-    ensures ok { IfOk result (λ worked. RunsNext number here.old worked here.new queue.new) }
+    requires empty { queue.old.items ≡ [] }
+    requires room { deque_len queue.old < deque_capacity queue.old }
+    ensures ok { IfOk result (λ worked. RunsNext number here.old worked here.new queue.new.items) }
     ensures here { OnErr result (here.new.here ≡ here.old.here) }
-    ensures queue { OnErr result (queue.new ≡ None) }
+    ensures queue { OnErr result (queue.new.items ≡ []) }
 {
     match here.take_turn(alloc)? {
         Quantum::Moved => Ok(Worked::Moved),
         Quantum::Sent(sending) => {
-            *queue = Some(post_of(number, sending));
+            queue.push_back_reserved(post_of(number, sending));
             Ok(Worked::Queued)
         }
         Quantum::Stuck => Ok(stuck(here)),

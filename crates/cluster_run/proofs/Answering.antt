@@ -18,7 +18,7 @@ use Rattle.cert_sched.specs.Rests.{IsRestOf}
 use Rattle.cert_sched.specs.Rules.{is_over}
 use Rattle.cert_sched.specs.Schedule.{placement}
 use Rattle.cert_sched.proofs.UnlostLaws.{may_unlost}
-use Rattle.cluster_core.specs.View.{ClusterView}
+use Rattle.cluster_core.specs.View.{ClusterView, head_of}
 use Rattle.cluster_core.specs.Follows.{FollowsBuilt, IsOpen}
 use Rattle.cluster_core.specs.Calls.{OwesNoAnswer, WaitsForPages}
 use Rattle.cluster_run.specs.Progress.{AwaitsPage, HasAnswered}
@@ -42,6 +42,7 @@ use Rattle.script_laws.proofs.OffLosses.{not_off_not_lost}
 use Rattle.cluster_run.specs.declared.offers.Offered.TheVariants.{Sent}
 use Rattle.cluster_run.specs.Along.{IsAlong, IsSound}
 use Rattle.cluster_run.specs.Offers.{Adds, GoesOnFor, IsToldBy, OfferAnswers, OfferIs, TellAnswers, TellIs}
+use Rattle.cluster_run.proofs.Heads.{head_first, tail_of}
 use Rattle.cluster_run.proofs.Offering.{adds_worded, along_worded}
 use Rattle.cluster_run.proofs.Owning.{adds_more}
 use Rattle.cluster_run.proofs.TakingIn.{seen_lives}
@@ -71,24 +72,24 @@ along_awaits b c sound along seen goes waits = in_its_log (λ system log. waitin
 pub along_answered : (b : BusView) (c : ClusterView) → IsSound b → IsAlong b c → c.cursor ≡ length b.log → is_over b.system b.log ≡ false → OwesNoAnswer c → HasAnswered b (c.number).0
 along_answered b c sound along seen goes owes = in_its_log (λ system log. first_of (servers_in (placement system log)) ≡ Some c.number → waiting_fetches system log ≡ []) b c sound along seen goes owes
 
--- so is the one post of a cluster
-pub own_of : (b : BusView) (c : ClusterView) (post : Post) (k : ClusterNo) → IsAlong b c → c.queue ≡ post ∷ [] → k ≡ c.number → post.by ≡ Cluster k
-own_of b c post k along only k_is =
-    let all = sym (ap (λ q. list_all (λ (p : Post). is_from c.number p.by) q) only) ∙ (((along.beside).follows).queue).own in
-    own_post c.number post.by (and_parts (is_from c.number post.by) true all).0 ∙ ap Cluster (sym k_is)
+-- so is the head of a cluster
+pub own_of : (b : BusView) (c : ClusterView) (post : Post) (k : ClusterNo) → IsAlong b c → head_of c.queue ≡ Some post → k ≡ c.number → post.by ≡ Cluster k
+own_of b c post k along head k_is =
+    let all = sym (ap (λ q. list_all (λ (p : Post). is_from c.number p.by) q) (head_first c.queue post head)) ∙ (((along.beside).follows).queue).own in
+    own_post c.number post.by (and_parts (is_from c.number post.by) (list_all (λ (p : Post). is_from c.number p.by) (tail_of c.queue)) all).0 ∙ ap Cluster (sym k_is)
 
-pub may_be_sent : (b : BusView) (c : ClusterView) (post : Post) (k : ClusterNo) (n : ℕ) → IsAlong b c → c.queue ≡ post ∷ [] → k ≡ c.number → n ≡ c.cursor → MayTransmit b k n post
-may_be_sent b c post k n along only k_is n_is =
+pub may_be_sent : (b : BusView) (c : ClusterView) (post : Post) (k : ClusterNo) (n : ℕ) → IsAlong b c → head_of c.queue ≡ Some post → k ≡ c.number → n ≡ c.cursor → MayTransmit b k n post
+may_be_sent b c post k n along head k_is n_is =
     let At : ClusterNo → Type 0 = λ k. MayTransmit b k n post in
     let From : ℕ → Type 0 = λ n. MayTransmit b c.number n post in
     subst At (sym k_is) (subst From (sym n_is) (record {
       seen = (along.beside).within;
       own =
-          let all = sym (ap (λ q. list_all (λ (p : Post). is_from c.number p.by) q) only) ∙ (((along.beside).follows).queue).own in
-          own_post c.number post.by (and_parts (is_from c.number post.by) true all).0;
+          let all = sym (ap (λ q. list_all (λ (p : Post). is_from c.number p.by) q) (head_first c.queue post head)) ∙ (((along.beside).follows).queue).own in
+          own_post c.number post.by (and_parts (is_from c.number post.by) (list_all (λ (p : Post). is_from c.number p.by) (tail_of c.queue)) all).0;
       may = λ goes_on seen.
           let follows = follows_all b c along seen in
-          let queue = subst (λ q. IsQueueLegal UnlostMayFollow c.system b.log q) only (follows.queue).legal in
+          let queue = subst (λ q. IsQueueLegal UnlostMayFollow c.system b.log q) (head_first c.queue post head) (follows.queue).legal in
           let may : UnlostMayFollow c.system b.log (entry_of c.system b.log post) = queue.0 in
           subst (λ s. BuiltMayFollow s b.log (entry_of s b.log post)) along.system (may_unlost c.system b.log (entry_of c.system b.log post) may);
     }))

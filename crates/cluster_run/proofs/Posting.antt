@@ -30,7 +30,7 @@ use Rattle.cluster_run.proofs.OwnLosses.{none_own, none_sent, passed_next}
 use Rattle.cluster_run.proofs.Prefixes.{legal_prefix}
 use Rattle.cluster_run.proofs.Offering.{along_tried}
 use Rattle.cluster_run.proofs.TakingIn.{upto_all}
-use Rattle.cluster_run.proofs.Sending.{clears, ready_sent, sent_along, sent_empty, sent_goes_on, sent_seen}
+use Rattle.cluster_run.proofs.Sending.{clears, ready_sent, sent_along, sent_goes_on, sent_seen}
 use Rattle.cluster_core.specs.Work.{fetch_post}
 use Rattle.cluster_core.specs.Quantum.{post_told}
 
@@ -40,7 +40,6 @@ tried_posting Shows from b c t is unnamed p = subst (IsPosting Shows from b) (sy
   shown = record { shows = (p.shown).shows; from_there = (p.shown).from_there; sound = (p.shown).sound; along = along_tried b c unnamed (p.shown).along };
   seen = p.seen;
   goes_on = p.goes_on;
-  few = p.few;
 })
 
 module _ (log : List Entry) (t left : ClusterView) (post : Post) (after : BusView) (s : IsSent log t post after) (left_is : left ≡ after_sent t t.queue) where
@@ -59,18 +58,16 @@ module _ (log : List Entry) (t left : ClusterView) (post : Post) (after : BusVie
         shown = record { shows = shows; from_there = omega (arith, seen, low, long, s.seen); sound = sound; along = sent_along log t post after s left new left_is next unnamed };
         seen = seen;
         goes_on = sent_goes_on log t post after s;
-        few = let none : length new.queue ≡ 0 = ap length (sent_empty log t post after s left new left_is next) in omega (arith, none);
       }
 
 -- it was behind, and has taken in what is new
-pub behind_posting : (Shows : Type 0) (from : ℕ) (after : BusView) (t new : ClusterView) → length t.queue ≤ 1 → GoesOnFor t.number after → HasTaken Shows from after t new → IsPosting Shows from after new
-behind_posting Shows from after t new few goes takes =
+pub behind_posting : (Shows : Type 0) (from : ℕ) (after : BusView) (t new : ClusterView) → GoesOnFor t.number after → HasTaken Shows from after t new → IsPosting Shows from after new
+behind_posting Shows from after t new goes takes =
     let taken = takes.taken in
     record {
       shown = takes.shown;
       seen = takes.caught ∙ ap (λ k. upto k after.log) (taken.same).number ∙ upto_all after t.number (takes.shown).sound goes.goes_on goes.lives;
       goes_on = goes.goes_on;
-      few = subst (λ q. length q ≤ 1) (sym taken.queue) few;
     }
 
 -- ---- it works
@@ -176,5 +173,4 @@ worked_posting Shows from b c new shown unnamed seen goes_on goes keeps is = rec
   shown = worked_shown Shows from b c new Queued shown unnamed goes keeps is;
   seen = keeps.cursor ∙ seen;
   goes_on = goes_on;
-  few = let one : length new.queue ≡ 1 = ap length (queued_one c new is).1 in omega (arith, one);
 }

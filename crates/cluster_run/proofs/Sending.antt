@@ -29,15 +29,16 @@ use Rattle.cluster_run.specs.Gone.{IsBeforeStep, is_told_by}
 use Rattle.cluster_run.specs.Along.{IsAlong, IsReadyAt, IsSound, IsUnnamed, TakesNext}
 use Rattle.cluster_run.specs.Progress.{left_after}
 use Rattle.cluster_run.specs.Turns.{IsSent}
+use Rattle.cluster_run.proofs.Heads.{head_first, tail_of}
 use Rattle.cluster_run.proofs.Prefixes.{drop_whole, get_last}
 use Rattle.cluster_run.proofs.OwnLosses.{none_own, passed_next}
 use Rattle.cluster_run.proofs.PostsLeft.{entry_leaves}
 use Rattle.cluster_run.proofs.Unlost.{closes_not, ends_closed, no_loss, same_after}
 use Rattle.cluster_run.proofs.TakingIn.{upto_all}
 
--- a cluster whose one post was sent
+-- a cluster whose head was sent
 abbrev pub cleared : ClusterView → ClusterView
-cleared c = record c { queue = []; tried = false }
+cleared c = record c { queue = tail_of c.queue; tried = false }
 
 module _ (log : List Entry) (c : ClusterView) (post : Post) (after : BusView) (s : IsSent log c post after) where
   abbrev next : Entry
@@ -46,16 +47,19 @@ module _ (log : List Entry) (c : ClusterView) (post : Post) (after : BusView) (s
   follows : FollowsBuilt c.system log c
   follows = subst (λ l. FollowsBuilt c.system l c) (take_all c.cursor log (omega (arith, s.seen))) (s.beside).follows
 
+  queue_is : c.queue ≡ post ∷ tail_of c.queue
+  queue_is = head_first c.queue post s.head
+
   may : UnlostMayFollow c.system log next
-  may = let queue = subst (λ q. IsQueueLegal UnlostMayFollow c.system log q) s.only (follows.queue).legal in queue.0
+  may = let queue = subst (λ q. IsQueueLegal UnlostMayFollow c.system log q) queue_is (follows.queue).legal in queue.0
 
   pub own : is_from c.number post.by ≡ true
   own =
-      let all = sym (ap (λ q. list_all (λ (p : Post). is_from c.number p.by) q) s.only) ∙ (follows.queue).own in
-      (and_parts (is_from c.number post.by) true all).0
+      let all = sym (ap (λ q. list_all (λ (p : Post). is_from c.number p.by) q) queue_is) ∙ (follows.queue).own in
+      (and_parts (is_from c.number post.by) (list_all (λ (p : Post). is_from c.number p.by) (tail_of c.queue)) all).0
 
   pub clears : after_sent c c.queue ≡ cleared c
-  clears = ap (after_sent c) s.only ∙ ap (λ (v : ClusterView). record v { queue = []; tried = false }) (same_after post.what c may.built)
+  clears = ap (after_sent c) queue_is ∙ ap (λ (v : ClusterView). record v { queue = tail_of c.queue; tried = false }) (same_after post.what c may.built)
 
   legal_next : IsLegalBy BuiltMayFollow c.system (log ++ next ∷ [])
   legal_next = IsLegal-snoc BuiltMayFollow c.system log next s.legal (may_unlost c.system log next may)
@@ -99,13 +103,13 @@ module _ (log : List Entry) (c : ClusterView) (post : Post) (after : BusView) (s
   stands_between = record {
     before = c;
     followed = follows;
-    head = ap (λ q. option_map (entry_of c.system log) (head_of q)) s.only;
+    head = ap (option_map (entry_of c.system log)) s.head;
     tried = s.tried;
     sent = sym clears;
   }
 
   between : IsReady log next (cleared c)
-  between = inr (stands_between, refl)
+  between = inr stands_between
 
   pub ready_sent : IsSound after → IsReadyAt after.log (after_sent c c.queue)
   ready_sent sound = subst (IsReadyAt after.log) (sym clears) (record {
@@ -135,9 +139,6 @@ module _ (log : List Entry) (c : ClusterView) (post : Post) (after : BusView) (s
 
     pub sent_seen : new.cursor ≡ length after.log
     sent_seen = ap (λ (v : ClusterView). v.cursor) taken ∙ sym long
-
-    pub sent_empty : new.queue ≡ []
-    sent_empty = ap (λ (v : ClusterView). v.queue) taken
 
     pub sent_system : new.system ≡ c.system
     sent_system = ap (λ (v : ClusterView). v.system) taken

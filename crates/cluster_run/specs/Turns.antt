@@ -68,7 +68,7 @@ pub record LosesOwn (k : ClusterNo) (b after : BusView) : Type 0 where
   pub lost : was_lost_in after.log k ≡ true
   pub fewer : length after.left < length b.left
 
--- the one post of a cluster was tried: it was sent, or the cluster had not seen all, or it was lost by a word
+-- the head of a cluster was tried: it was sent, or the cluster had not seen all, or it was lost by a word
 abbrev pub TriesOwn : ClusterNo → Tried → BusView → BusView → Type 0
 TriesOwn k GoesOn b after = SendsOwn k b after
 TriesOwn k IsOverThere b after = LosesOwn k b after
@@ -104,23 +104,23 @@ pub record TurnsOwn (b after : BusView) (c new : ClusterView) : Type 0 where
   pub lasts : IsOver after ⊎ IsAtMost (remaining_of b c) (remaining_of after new)
   pub gets_on : GetsOn b after (remaining_of b c) (remaining_of after new) (c.number).0 ((c.number).0 + 1)
 
--- a cluster that had seen all of a log that goes on sent its one post, and the bus has no entry behind it
+-- a cluster that had seen all of a log that goes on sent its head, and the bus has no entry behind it
 pub record IsSent (log : List Entry) (c : ClusterView) (post : Post) (after : BusView) : Type 0 where
   pub beside : IsBeside log c
   pub passed : list_all (is_unpassed c.number log c.steps) after.script ≡ true
   pub disk : IsDiskOf after.script c
   pub seen : c.cursor ≡ length log
   pub goes_on : is_over c.system log ≡ false
-  pub only : c.queue ≡ post ∷ []
+  pub head : head_of c.queue ≡ Some post
   pub tried : c.tried ≡ true
   pub legal : IsLegalBy BuiltMayFollow c.system log
   pub system : c.system ≡ after.system
   pub longer : after.log ≡ log ++ entry_of c.system log post ∷ []
 
--- the bus has the entry that the one post of a cluster became
+-- the bus has the entry that the head of a cluster became
 abbrev pub HasSent : BusView → ClusterView → Type 0
 HasSent after c = (log : List Entry) × (post : Post) × IsSent log c post after
 
--- the one post of a cluster was offered
+-- the head of a cluster was offered
 abbrev pub OffersHead : Bool → ClusterView → BusView → BusView → Offered → Type 0
-OffersHead alone c old new offered = (post : Post) × (c.queue ≡ post ∷ []) × Visits alone c.number old new (OfferIs c.number c.cursor post offered)
+OffersHead alone c old new offered = (post : Post) × (head_of c.queue ≡ Some post) × Visits alone c.number old new (OfferIs c.number c.cursor post offered)

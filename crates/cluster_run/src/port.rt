@@ -1,8 +1,9 @@
 //! What a turn of a cluster asks of its bus.
-ghost use Rattle.std.specs.Prelude.{◌≡◌, ◌≤◌, ◌<◌, ◌∷◌, [], ℕ, Bool, true, false, Some, IfOk, OnOk, slice_get};
+ghost use Rattle.std.specs.Prelude.{◌≡◌, ◌≤◌, ◌<◌, ℕ, Bool, true, false, Some, IfOk, OnOk, slice_get};
 ghost use Rattle.t32_base.specs.declared.process.ClusterNo.{ClusterNo as AClusterNo};
 ghost use Rattle.bus_order.specs.Log.{open_length};
 ghost use Rattle.bus_order.specs.View.{BusView};
+ghost use Rattle.cluster_core.specs.View.{head_of};
 ghost use Rattle.cert_sched.specs.Losses.{was_lost_in};
 ghost use Rattle.bus_msg.specs.declared.entry.Cause.TheVariants.{Step as AtStep};
 ghost use Rattle.bus_order.specs.Script.{has_unused};
@@ -101,7 +102,7 @@ pub trait Port {
         requires sits { sits cluster.now.number self.old }
         requires sound { IsSound (bus self.old) }
         requires along { IsAlong (bus self.old) cluster.now }
-        requires only { cluster.now.queue ≡ post.now ∷ [] }
+        requires head { head_of cluster.now.queue ≡ Some post.now }
         ensures root { root self.new ≡ root self.old }
         ensures sits { sits cluster.now.number self.new }
         ensures shows { OnOk result (shows self.new) }

@@ -7,19 +7,19 @@ use Rattle.cluster_run.proofs.Worded.{sound_again}
 use Rattle.cluster_run.proofs.offers.transmit_for.Goals as goal
 
 pub transmit-answer-requires : goal.transmit-answer-requires
-transmit-answer-requires c = may_be_sent c.args.bus.now c.args.cluster.now c.args.post.now c.number.result c.cursor.result c.requires.along c.requires.only c.number.ensures c.cursor.ensures
+transmit-answer-requires c = may_be_sent c.args.bus.now c.args.cluster.now c.args.post.now c.number.result c.cursor.result c.requires.along c.requires.head c.number.ensures c.cursor.ensures
 
 pub returns-clause-adds : goal.returns-clause-adds
 returns-clause-adds c =
     let old : BusView = c.args.bus.now in
     let new : BusView = c.transmit-answer.new.self in
-    subst (λ (k : ClusterNo). Adds k old new) c.number.ensures (adds_sent old new c.number.result c.cursor.result c.args.post.now c.transmit-answer.result (own_of c.args.bus.now c.args.cluster.now c.args.post.now c.number.result c.requires.along c.requires.only c.number.ensures) c.transmit-answer.ensures)
+    subst (λ (k : ClusterNo). Adds k old new) c.number.ensures (adds_sent old new c.number.result c.cursor.result c.args.post.now c.transmit-answer.result (own_of c.args.bus.now c.args.cluster.now c.args.post.now c.number.result c.requires.along c.requires.head c.number.ensures) c.transmit-answer.ensures)
 
 pub returns-clause-sound : goal.returns-clause-sound
 returns-clause-sound c =
     let old : BusView = c.args.bus.now in
     let new : BusView = c.transmit-answer.new.self in
-    let adds = adds_sent old new c.number.result c.cursor.result c.args.post.now c.transmit-answer.result (own_of c.args.bus.now c.args.cluster.now c.args.post.now c.number.result c.requires.along c.requires.only c.number.ensures) c.transmit-answer.ensures in
+    let adds = adds_sent old new c.number.result c.cursor.result c.args.post.now c.transmit-answer.result (own_of c.args.bus.now c.args.cluster.now c.args.post.now c.number.result c.requires.along c.requires.head c.number.ensures) c.transmit-answer.ensures in
     sound_again old new c.requires.sound adds.system adds.script c.length-sound.ensures.legal c.length-sound.ensures.scripted (omega (arith, c.length-sound.ensures.length, c.length-sound.type_inv))
 
 pub returns-clause-answers : goal.returns-clause-answers

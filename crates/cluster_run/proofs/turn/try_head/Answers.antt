@@ -99,7 +99,7 @@ returns-else-branch-2-clause-tries g c =
     let far : length b.log < length after.log = omega (arith, less, p.seen) in
     let same = c.in_ok-take_in-in-Behind.ensures.kept c.if-branch-2.false in
     let taken = c.in_ok-take_in-in-Behind.ensures.taken c.if-branch-2.false in (
-      behind_posting (g.P.Port.shows c.take_in.new.port) (g.P.Port.from c.take_in.new.port) (g.P.Port.bus c.take_in.new.port) t c.take_in.new.cluster p.few (subst (GoesOnFor t.number) (sym same) behind.1) taken,
+      behind_posting (g.P.Port.shows c.take_in.new.port) (g.P.Port.from c.take_in.new.port) (g.P.Port.bus c.take_in.new.port) t c.take_in.new.cluster (subst (GoesOnFor t.number) (sym same) behind.1) taken,
       subst (λ (x : BusView). length b.log < length x.log) (sym same) far,
     )
 

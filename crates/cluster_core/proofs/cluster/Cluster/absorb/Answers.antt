@@ -110,7 +110,7 @@ returns-clause-follows g c =
     subst (λ (v : ClusterView). are_rising (moved_by v.places v.number w (records_after w v.records)) ≡ true) c.self.view_is
     (subst (λ recs. are_rising (moved_by c.self.inside.places c.self.inside.number w recs) ≡ true) c.in_ok-note.ensures.ok c.in_ok-take_over.ensures.rising) in
     let serves : Serves old.places e old.server server = subst (λ (v : ClusterView). Serves v.places e v.server server) c.self.view_is c.in_ok-serve.ensures in
-    subst (Absorbs e old) (sym whole) (absorbs old e c.self.inside.queue server (ap (λ (v : ClusterView). v.queue) (sym c.self.view_is)) valid own order serves)
+    subst (Absorbs e old) (sym whole) (absorbs old e server valid own order serves)
 
 pub tell-requires-clause-number : goal.tell-requires-clause-number
 tell-requires-clause-number g c = omega (arith, c.self.invariant.has, (system_bounds (arc_value c.self.inside.system) c.self.invariant.valid).clusters)

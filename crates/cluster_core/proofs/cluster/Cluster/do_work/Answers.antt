@@ -5,15 +5,15 @@ use Rattle.sys_text.specs.Valid.{is_system}
 use Rattle.cert_sched.specs.Losses.{is_from}
 use Rattle.cluster_core.specs.View.{ClusterView}
 use Rattle.cluster_core.specs.Calls.{GoesOn, WorkIs}
-use Rattle.cluster_core.specs.Parts.{AllOwn, posts_of}
+use Rattle.cluster_core.specs.Parts.{AllOwn}
 use Rattle.cluster_core.specs.Serving.{CanAnswer}
 use Rattle.cluster_core.specs.Work.{WorksOn}
 use Rattle.cluster_core.proofs.Answering.{can_answer}
-use Rattle.cluster_core.proofs.Turning.{none_queued, worked_view, works}
+use Rattle.cluster_core.proofs.Turning.{worked_view, works}
 use Rattle.cluster_core.proofs.cluster.Cluster.do_work.Goals as goal
 
 pub work_on-requires-clause-queue : goal.work_on-requires-clause-queue
-work_on-requires-clause-queue g c = none_queued c.self.inside.queue (ap (λ (v : ClusterView). v.queue) c.self.view_is ∙ c.requires.empty)
+work_on-requires-clause-queue g c = ap (λ (v : ClusterView). v.queue) c.self.view_is ∙ c.requires.empty
 
 pub work_on-requires-clause-can : goal.work_on-requires-clause-can
 work_on-requires-clause-can g c =
@@ -26,10 +26,10 @@ returns-clause-follows g c =
     let own = subst (λ (v : ClusterView). AllOwn v.cursor v.here) c.self.view_is c.self.invariant.residents in
     let has = subst (λ (v : ClusterView). (v.number).0 < (v.system).clusters) c.self.view_is c.self.invariant.has in
     let valid = subst (λ (v : ClusterView). is_system v.system ≡ true) c.self.view_is c.self.invariant.valid in
-    let on = subst (λ (v : ClusterView). WorksOn v.number v.places c.self.inside.here v.server c.in_ok-worked.worked c.work_on.new.here c.work_on.new.server c.work_on.new.queue) c.self.view_is c.in_ok-worked.ensures.ok in
-    let done = works old c.requires.empty own valid has c.self.inside.here c.work_on.new.here c.work_on.new.server c.in_ok-worked.worked c.work_on.new.queue (ap (λ (v : ClusterView). v.here) c.self.view_is) on in
-    let whole : c.count_step.new.self ≡ worked_view old c.work_on.new.here.here c.work_on.new.server c.work_on.new.queue =
-    c.count_step.ensures ∙ ap (λ (v : ClusterView). worked_view v c.work_on.new.here.here c.work_on.new.server c.work_on.new.queue) c.self.view_is in
+    let on = subst (λ (v : ClusterView). WorksOn v.number v.places c.self.inside.here v.server c.in_ok-worked.worked c.work_on.new.here c.work_on.new.server c.work_on.new.queue.items) c.self.view_is c.in_ok-worked.ensures.ok in
+    let done = works old c.requires.empty own valid has c.self.inside.here c.work_on.new.here c.work_on.new.server c.in_ok-worked.worked c.work_on.new.queue.items (ap (λ (v : ClusterView). v.here) c.self.view_is) on in
+    let whole : c.count_step.new.self ≡ worked_view old c.work_on.new.here.here c.work_on.new.server c.work_on.new.queue.items =
+    c.count_step.ensures ∙ ap (λ (v : ClusterView). worked_view v c.work_on.new.here.here c.work_on.new.server c.work_on.new.queue.items) c.self.view_is in
     subst (GoesOn old) (sym whole) done.goes_on
 
 pub returns-clause-work : goal.returns-clause-work
@@ -38,10 +38,10 @@ returns-clause-work g c =
     let own = subst (λ (v : ClusterView). AllOwn v.cursor v.here) c.self.view_is c.self.invariant.residents in
     let has = subst (λ (v : ClusterView). (v.number).0 < (v.system).clusters) c.self.view_is c.self.invariant.has in
     let valid = subst (λ (v : ClusterView). is_system v.system ≡ true) c.self.view_is c.self.invariant.valid in
-    let on = subst (λ (v : ClusterView). WorksOn v.number v.places c.self.inside.here v.server c.in_ok-worked.worked c.work_on.new.here c.work_on.new.server c.work_on.new.queue) c.self.view_is c.in_ok-worked.ensures.ok in
-    let done = works old c.requires.empty own valid has c.self.inside.here c.work_on.new.here c.work_on.new.server c.in_ok-worked.worked c.work_on.new.queue (ap (λ (v : ClusterView). v.here) c.self.view_is) on in
-    let whole : c.count_step.new.self ≡ worked_view old c.work_on.new.here.here c.work_on.new.server c.work_on.new.queue =
-    c.count_step.ensures ∙ ap (λ (v : ClusterView). worked_view v c.work_on.new.here.here c.work_on.new.server c.work_on.new.queue) c.self.view_is in
+    let on = subst (λ (v : ClusterView). WorksOn v.number v.places c.self.inside.here v.server c.in_ok-worked.worked c.work_on.new.here c.work_on.new.server c.work_on.new.queue.items) c.self.view_is c.in_ok-worked.ensures.ok in
+    let done = works old c.requires.empty own valid has c.self.inside.here c.work_on.new.here c.work_on.new.server c.in_ok-worked.worked c.work_on.new.queue.items (ap (λ (v : ClusterView). v.here) c.self.view_is) on in
+    let whole : c.count_step.new.self ≡ worked_view old c.work_on.new.here.here c.work_on.new.server c.work_on.new.queue.items =
+    c.count_step.ensures ∙ ap (λ (v : ClusterView). worked_view v c.work_on.new.here.here c.work_on.new.server c.work_on.new.queue.items) c.self.view_is in
     subst (WorkIs old c.in_ok-worked.worked) (sym whole) done.work
 
 pub invariant_of-self-2 : goal.invariant_of-self-2
@@ -50,12 +50,12 @@ invariant_of-self-2 g c =
     let own = subst (λ (v : ClusterView). AllOwn v.cursor v.here) c.self.view_is c.self.invariant.residents in
     let has = subst (λ (v : ClusterView). (v.number).0 < (v.system).clusters) c.self.view_is c.self.invariant.has in
     let valid = subst (λ (v : ClusterView). is_system v.system ≡ true) c.self.view_is c.self.invariant.valid in
-    let on = subst (λ (v : ClusterView). WorksOn v.number v.places c.self.inside.here v.server c.in_ok-worked.worked c.work_on.new.here c.work_on.new.server c.work_on.new.queue) c.self.view_is c.in_ok-worked.ensures.ok in
-    let done = works old c.requires.empty own valid has c.self.inside.here c.work_on.new.here c.work_on.new.server c.in_ok-worked.worked c.work_on.new.queue (ap (λ (v : ClusterView). v.here) c.self.view_is) on in
+    let on = subst (λ (v : ClusterView). WorksOn v.number v.places c.self.inside.here v.server c.in_ok-worked.worked c.work_on.new.here c.work_on.new.server c.work_on.new.queue.items) c.self.view_is c.in_ok-worked.ensures.ok in
+    let done = works old c.requires.empty own valid has c.self.inside.here c.work_on.new.here c.work_on.new.server c.in_ok-worked.worked c.work_on.new.queue.items (ap (λ (v : ClusterView). v.here) c.self.view_is) on in
     record {
       valid = c.self.invariant.valid;
       has = c.self.invariant.has;
       residents = subst (λ (v : ClusterView). AllOwn v.cursor c.work_on.new.here.here) (sym c.self.view_is) done.residents;
-      own = subst (λ (v : ClusterView). list_all (λ (post : Post). is_from v.number post.by) (posts_of c.work_on.new.queue) ≡ true) (sym c.self.view_is) done.own;
+      own = subst (λ (v : ClusterView). list_all (λ (post : Post). is_from v.number post.by) c.work_on.new.queue.items ≡ true) (sym c.self.view_is) done.own;
       built = done.built;
     }
