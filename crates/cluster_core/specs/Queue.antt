@@ -30,7 +30,7 @@ IsQueueLegal May system log (post ∷ rest) = May system log (entry_of system lo
 -- ---- what is queued together
 
 -- what a cluster has to send: nothing, or one post
-data pub Queued : Type 0 where
+pub data Queued : Type 0 where
   Nothing : Queued
   One : (post : Post) → Queued
 
