@@ -209,11 +209,11 @@ accounts_answered system log c d post a number empty queue f = record {
     kept_before : KeepsAccounts system log a.was
     kept_before = subst (KeepsIfThere system log) a.old_is f.keeps
 
-    answer : ◌≡◌ {A = ℕ} (owed c.number (Some post)) 1
-    answer = ap (λ (p : Post). owed c.number (Some p)) a.post_is ∙ ap (λ (b : Bool). cond b 1 0) (eq-eqb (c.number).0 (c.number).0 refl)
+    answer : ◌≡◌ {A = ℕ} (owed c.number (One post)) 1
+    answer = ap (λ (p : Post). owed c.number (One p)) a.post_is ∙ ap (λ (b : Bool). cond b 1 0) (eq-eqb (c.number).0 (c.number).0 refl)
 
     least : least_calls system log (with_queue system log (post ∷ [])) c.number ≡ least_calls system log log c.number + 1
-    least = least_queued system log (Some post) c.number (ap (λ (p : Post). is_rebackup p.what) a.post_is) ∙ ap (λ n. least_calls system log log c.number + n) answer
+    least = least_queued system log (One post) c.number (ap (λ (p : Post). is_rebackup p.what) a.post_is) ∙ ap (λ n. least_calls system log log c.number + n) answer
 
 -- ---- the disk
 

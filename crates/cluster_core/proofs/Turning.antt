@@ -1,5 +1,5 @@
 -- What a work of its parts makes of a cluster.
-use Rattle.std.proofs.Common.{◌≡◌, ◌⊎◌, ℕ, ◌<◌, ◌&&◌, refl, sym, ◌∙◌, ap, subst, List, [], Option, Some, None, true, false, eq-eqb, inl, inr}
+use Rattle.std.proofs.Common.{◌≡◌, ◌⊎◌, ℕ, ◌<◌, ◌&&◌, refl, sym, ◌∙◌, ap, subst, List, [], ◌∷◌, Option, Some, None, true, false, eq-eqb, inl, inr}
 use Rattle.std.specs.List.{list_all}
 use Rattle.t32_base.specs.declared.process.Pid.{Pid}
 use Rattle.sys_calls.specs.declared.steps.Emission.{Emission}

@@ -1,8 +1,12 @@
 use Rattle.std.proofs.Common.{◌≡◌, ℕ, subst, sym, ap, ◌∙◌, List, [], Option, Some, None, refl}
 use Rattle.std.specs.Option.{IfSome}
+use Rattle.std.specs.List.{list_all}
 use Rattle.std.specs.Arc.{arc_value}
 use Rattle.t32_base.specs.declared.process.Pid.{Pid}
 use Rattle.sys_text.specs.declared.system.System.{System}
+use Rattle.bus_msg.specs.declared.entry.Post.{Post}
+use Rattle.cert_sched.specs.Built.{is_unlost}
+use Rattle.cert_sched.specs.Losses.{is_from}
 use Rattle.cert_sched.specs.Schedule.{places_at_boot}
 use Rattle.record_laws.specs.Kept.{KeepsRecords}
 use Rattle.cluster_core.specs.View.{ClusterView, Held}
@@ -29,8 +33,8 @@ returns-clause-follows g c unfailed ahead =
     let failed = c.in_ok-parts.parts.failed in
     let begins : BeginsToServe system server = subst (λ s. BeginsToServe s server) c.deref-2.ensures (c.in_ok-parts.ensures.server unfailed) in
     let sound = c.in_ok-parts.ensures.ahead unfailed ahead in
-    let old : ClusterView = record (boot_view system c.args.number here recs server failed) { system = arc_value c.in_ok-clone.field-0; places = c.in_ok-places.places } in
-    let same : old ≡ boot_view system c.args.number here recs server failed = λ i. record (boot_view system c.args.number here recs server failed) { system = shared i; places = places i } in
+    let old : ClusterView = record (boot_view system c.args.number here recs server failed) { system = arc_value c.in_ok-clone.field-0; places = c.in_ok-places.places; queue = c.new.result.items } in
+    let same : old ≡ boot_view system c.args.number here recs server failed = λ i. record (boot_view system c.args.number here recs server failed) { system = shared i; places = places i; queue = c.new.ensures.items i } in
     subst (FollowsBuilt system []) (sym same) (boot_follows system c.args.number here recs server failed c.requires.valid booted kept (c.in_ok-parts.ensures.there ∙ c.requires.disk) begins (unfailed, sound))
 
 pub invariant_of-result : goal.invariant_of-result
@@ -41,8 +45,8 @@ invariant_of-result g c =
       valid = rw shared c.requires.valid;
       has = rw shared c.requires.has;
       residents = by_failed c.in_ok-parts.parts.failed refl;
-      own = refl;
-      built = refl;
+      own = ap (list_all (λ (post : Post). is_from c.args.number post.by)) c.new.ensures.items;
+      built = ap (list_all (λ (post : Post). is_unlost post.what)) c.new.ensures.items;
     }
   where
     here : List (Pid × Held)
