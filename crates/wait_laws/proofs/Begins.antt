@@ -52,7 +52,7 @@ pub begins_so : (system : System) (log : List Entry) (e : Entry) (p : Pid) (kept
 begins_so system log e p kept valid legal unended moves is = record {
   kept = record_next system log e p kept valid legal (loss_cuts_none p (what e) (is_moved p (placement system log)) moves) unended is ∙ ap Some (loss_leaves (what e) (is_moved p (placement system log)) kept moves);
   moved = moved_with_state-snoc system log e p ∙ (λ i. cond (moves i) (has_state system log p) (moved_with_state system log p)) ∙ stated;
-  pages = many ∙ pages.same ∙ sym (page_count-snoc system log e p ((IsLegal-last Stands system log e legal).applies);
+  pages = many ∙ pages.same ∙ sym (page_count-snoc system log e p (IsLegal-last Stands system log e legal).applies);
   some = omega (arith, many, least);
   at_most = omega (arith, many, most);
   asked = λ i within. none_below i ∙ sym (ap (λ b. b || false) (none_since (is_fetch p i)));

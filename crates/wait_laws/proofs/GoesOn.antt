@@ -28,38 +28,32 @@ module _ (system : System) (log : List Entry) (p : Pid) (queued : ℕ → Bool) 
   there : LedThere system log p
   there = led_there Stands itself system log p valid legal unended
 
-  start : ProcState
-  start = (there.led).start
-
-  started : start_of system log p ≡ Some start
-  started = (there.led).started
-
   -- the pages are those of the memory with which it started
-  all_pages : AreAllPages start.memory w.come
+  all_pages : AreAllPages ((there.led).start).memory w.come
   all_pages = record {
     size =
-        start_sized system log p start there.now valid there.there started
+        start_sized system log p (there.led).start there.now valid there.there (there.led).started
         ∙ ap (λ n. 256 * n) (sym waits.pages);
     each = λ i within.
         as_kept system log p queued w waits whole i within
-        ∙ ap Some (kept_pages system log p start i valid legal waits.moved unended started (subst (λ n. i < n) waits.pages within));
+        ∙ ap Some (kept_pages system log p (there.led).start i valid legal waits.moved unended (there.led).started (subst (λ n. i < n) waits.pages within));
   }
 
   -- with that memory it rolls forward
-  rolls : RollsBehind system log p (with_saved start (w.kept).saved (w.kept).next) (w.kept).counts (w.kept).births
-  rolls = standing_from_start system log p start w.kept (record { bytes = start.memory; dirty = [] }) valid legal unended started waits.kept refl
+  rolls : RollsBehind system log p (with_saved (there.led).start (w.kept).saved (w.kept).next) (w.kept).counts (w.kept).births
+  rolls = standing_from_start system log p (there.led).start w.kept (record { bytes = ((there.led).start).memory; dirty = [] }) valid legal unended (there.led).started waits.kept refl
 
-  begins : BeginsFrom start w.kept
+  begins : BeginsFrom (there.led).start w.kept
   begins = record {
-    state = standing_stated system log p start w.kept legal unended started waits.kept;
-    rolls = standing_always system log p (with_saved start (w.kept).saved (w.kept).next) (w.kept).counts (w.kept).births valid legal unended rolls.rolls;
+    state = standing_stated system log p (there.led).start w.kept legal unended (there.led).started waits.kept;
+    rolls = standing_always system log p (with_saved (there.led).start (w.kept).saved (w.kept).next) (w.kept).counts (w.kept).births valid legal unended rolls.rolls;
   }
 
   pub can_go_on_so : CanGoOn w
-  can_go_on_so = can_from w start all_pages begins
+  can_go_on_so = can_from w (there.led).start all_pages begins
 
   pub goes_on_so : GoesOnAs system log p w
-  goes_on_so = record { rolling = begun start w.kept; is = rolls_from w start all_pages begins; behind = rolls }
+  goes_on_so = record { rolling = begun (there.led).start w.kept; is = rolls_from w (there.led).start all_pages begins; behind = rolls }
 
 -- in a log of the entries that are built so far
 pub can_go_on : (system : System) (log : List Entry) (p : Pid) (queued : ℕ → Bool) (w : WaitingState) → is_system system ≡ true → IsLegalBy BuiltMayFollow system log → IsUnended system log p → WaitsAs system log p queued w → is_whole w ≡ true → CanGoOn w

@@ -1,3 +1,4 @@
+use Rattle.cert_sched.specs.Built.{BuiltMayFollow}
 use Rattle.page_laws.proofs.StartPages.{start_stays, page_in_log, built_waits, waits_uncut}
 use Rattle.page_laws.proofs.start_pages.starts_stay.Goals as goal
 
