@@ -35,7 +35,7 @@ use Rattle.cert_sched.proofs.OpenLaws.{unended_open}
 use Rattle.cert_sched.proofs.ReplayLaws.{sharp_replays}
 use Rattle.cert_sched.proofs.RollLaws.{all_roll, rolls_steps}
 use Rattle.cert_sched.proofs.ThereLaws.{unended_there}
-use Rattle.cert_sched.specs.Deeds.{since}
+use Rattle.cert_sched.specs.Deeds.{is_cut, since}
 use Rattle.cert_sched.specs.Rolling.{refilled}
 use Rattle.cert_sched.specs.Steps.{start_steps, steps_since}
 use Rattle.record_laws.proofs.Counts.{count_below, next_fits}
@@ -95,6 +95,12 @@ with_backup_unended system log k p has = by_placed (unended_at (placement system
     by_placed None h = absurd (true≢false (sym h))
     by_placed (Some q) h = refl
 
+-- the kinds that start no process cut none
+none_cut : (p : Pid) (w : What) → starts_none w ≡ true → is_cut p w ≡ false
+none_cut p (Sync pid small read took) none = absurd (true≢false (sym none))
+none_cut p (Rebackup to fresh more) none = absurd (true≢false (sym none))
+none_cut p w none = refl
+
 module _ (system : System) (log : List Entry) (e : Entry) (k : ClusterNo) (recs : List BackRec) (valid : is_system system ≡ true) (legal : IsLegalBy Stands system (log ++ e ∷ [])) (keeps : KeepsRecords system log k recs) where
   -- each record was changed in its place, and no process moved or ended
   in_place : (w : What) → what e ≡ w → starts_none w ≡ true → ((p : Pid) → unended_at (placed_after (placement system log) w) p ≡ unended_at (placement system log) p)
@@ -109,7 +115,7 @@ module _ (system : System) (log : List Entry) (e : Entry) (k : ClusterNo) (recs 
           found p
           ∙ ap (option_map (record_after w)) (keeps p ∙ ap (λ b. cond b (backup_record system log p) None) has)
           ∙ ap (λ x. option_map (record_after x) (backup_record system log p)) (sym is)
-          ∙ sym (record_follows Stands itself system log e p valid legal (ap starts_none is ∙ none) (with_backup_unended system log k p has))
+          ∙ sym (record_follows Stands itself system log e p valid legal (ap (is_cut p) is ∙ none_cut p w none) (with_backup_unended system log k p has))
           ∙ ap (λ b. cond b (backup_record system (log ++ e ∷ []) p) None) (sym (placed ∙ has))
       by_backup false has =
           found p
@@ -133,7 +139,7 @@ module _ (system : System) (log : List Entry) (e : Entry) (k : ClusterNo) (recs 
           ∙ keeps p ∙ ap (λ b. cond b (backup_record system log p) None) has
           ∙ all_kept (backup_record system log p)
           ∙ ap (λ x. option_map (record_after x) (backup_record system log p)) (sym is)
-          ∙ sym (record_follows Stands itself system log e p valid legal (ap starts_none is) (with_backup_unended system log k p has))
+          ∙ sym (record_follows Stands itself system log e p valid legal (ap (is_cut p) is) (with_backup_unended system log k p has))
           ∙ ap (λ b. cond b (backup_record system (log ++ e ∷ []) p) None) (sym (same ∙ has))
         where
           all_kept : (o : Option BackRec) → o ≡ option_map (record_after (Exit q at end)) o

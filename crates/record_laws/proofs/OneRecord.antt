@@ -35,14 +35,13 @@ use Rattle.cert_sched.specs.Legal.{IsLegalBy, Stands}
 use Rattle.cert_sched.specs.Simulation.{IsUnended}
 use Rattle.cert_sched.proofs.LogLaws.{IsLegal-before, IsLegal-last}
 use Rattle.cert_sched.proofs.RecordLaws.{backup_record-other, backup_record-goes_on}
-use Rattle.cert_sched.proofs.StepLaws.{is_sent, sent_from}
+use Rattle.cert_sched.proofs.StepLaws.{is_sent, sent_from, no_birth}
 use Rattle.cert_sched.proofs.EndsLaws.{process_after-ends}
 use Rattle.cert_sched.proofs.CameLaws.{IsStandingRule}
 use Rattle.cert_sched.proofs.RollLaws.{Rolls, all_roll}
 use Rattle.cert_sched.proofs.OpenLaws.{unended_open}
 use Rattle.cert_sched.proofs.ThereLaws.{unended_there}
 use Rattle.backup_records.specs.Records.{record_after, saved_by_receiver, counted_by_sender, is_receiver, with_saved, with_counted}
-use Rattle.record_laws.specs.Kept.{starts_none}
 
 -- ---- the end that a letter leaves from
 
@@ -180,22 +179,22 @@ module _ (May : System → List Entry → Entry → Type 0) (standing : IsStandi
   others_after w is cut birth deeds letters =
       backup_record-other system log e p (ap (is_cut p) is ∙ cut) (ap (is_birth_of p) is ∙ birth) (ap (deeds_in p) is ∙ deeds) (ap (letter_for p) is ∙ letters)
 
-  by_kind : (now : ProcState) → Stands system log e → Rolls system log p now → (w : What) → what e ≡ w → starts_none w ≡ true → backup_record system (log ++ e ∷ []) p ≡ option_map (record_after w) (backup_record system log p)
+  by_kind : (now : ProcState) → Stands system log e → Rolls system log p now → (w : What) → what e ≡ w → is_cut p w ≡ false → backup_record system (log ++ e ∷ []) p ≡ option_map (record_after w) (backup_record system log p)
   by_kind now stands rolls (Mail at letter) is none = after_letter at letter now is stands rolls
-  by_kind now stands rolls (Birth parent at child end) is none = absurd (true≢false (sym none))
+  by_kind now stands rolls (Birth parent at child end) is none = absurd (no_birth system log e parent at child end is stands.applies)
   by_kind now stands rolls (Exit q at end) is none = after_exit_of q at end is ∙ kept_by (record_after (Exit q at end)) (λ r. refl) (backup_record system log p)
   by_kind now stands rolls (Page pid at index bytes) is none = others_after (Page pid at index bytes) is refl refl refl refl ∙ kept_by (record_after (Page pid at index bytes)) (λ r. refl) (backup_record system log p)
-  by_kind now stands rolls (Sync pid small read took) is none = absurd (true≢false (sym none))
+  by_kind now stands rolls (Sync pid small read took) is none = others_after (Sync pid small read took) is none refl refl refl ∙ kept_by (record_after (Sync pid small read took)) (λ r. refl) (backup_record system log p)
   by_kind now stands rolls (Fetch pid index) is none = others_after (Fetch pid index) is refl refl refl refl ∙ kept_by (record_after (Fetch pid index)) (λ r. refl) (backup_record system log p)
   by_kind now stands rolls (PageIs pid index bytes) is none = others_after (PageIs pid index bytes) is refl refl refl refl ∙ kept_by (record_after (PageIs pid index bytes)) (λ r. refl) (backup_record system log p)
   by_kind now stands rolls (Crash k cause) is none = others_after (Crash k cause) is refl refl refl refl ∙ kept_by (record_after (Crash k cause)) (λ r. refl) (backup_record system log p)
   by_kind now stands rolls (Return k) is none = others_after (Return k) is refl refl refl refl ∙ kept_by (record_after (Return k)) (λ r. refl) (backup_record system log p)
-  by_kind now stands rolls (Rebackup to fresh recs) is none = absurd (true≢false (sym none))
+  by_kind now stands rolls (Rebackup to fresh recs) is none = others_after (Rebackup to fresh recs) is none refl refl refl ∙ kept_by (record_after (Rebackup to fresh recs)) (λ r. refl) (backup_record system log p)
   by_kind now stands rolls (Done rests) is none = others_after (Done rests) is refl refl refl refl ∙ kept_by (record_after (Done rests)) (λ r. refl) (backup_record system log p)
   by_kind now stands rolls Stop is none = others_after Stop is refl refl refl refl ∙ kept_by (record_after Stop) (λ r. refl) (backup_record system log p)
 
--- an entry that starts no process makes of the record of one that has not ended what `record_after` makes of it
-pub record_follows : (May : System → List Entry → Entry → Type 0) → IsStandingRule May → (system : System) (log : List Entry) (e : Entry) (p : Pid) → is_system system ≡ true → IsLegalBy May system (log ++ e ∷ []) → starts_none (what e) ≡ true → IsUnended system log p
+-- an entry that does not cut a process makes of its record, where it has not ended, what `record_after` makes of it
+pub record_follows : (May : System → List Entry → Entry → Type 0) → IsStandingRule May → (system : System) (log : List Entry) (e : Entry) (p : Pid) → is_system system ≡ true → IsLegalBy May system (log ++ e ∷ []) → is_cut p (what e) ≡ false → IsUnended system log p
     → backup_record system (log ++ e ∷ []) p ≡ option_map (record_after (what e)) (backup_record system log p)
 record_follows May standing system log e p valid legal none unended = by_process (process_after system log p) refl (unended_there May standing system log p valid before unended)
   where
