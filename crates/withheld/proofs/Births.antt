@@ -18,7 +18,7 @@ use Rattle.cert_sched.specs.Kinds.{KindHolds, next_child_at}
 use Rattle.cert_sched.specs.Legal.{Stands}
 use Rattle.cert_sched.proofs.FreshLaws.{BornRightly, Numbered, born_rightly, child_new, only_one}
 use Rattle.cert_sched.proofs.PidLaws.{placed_pids}
-use Rattle.withheld.specs.Walks.{BearsNext}
+use Rattle.withheld.specs.Walks.{BearsNext, IsNextChild}
 
 -- a pid that none of them has is not found
 none_found : (p : Pid) (qs : List Placed) → list_any (λ m. eqb m p.0) (placed_pids qs) ≡ false → find (λ (q : Placed). same_pid q.pid p) qs ≡ None
@@ -52,7 +52,7 @@ pub bears_next : (system : System) (log : List Entry) (e : Entry) → Numbered (
 bears_next system log e numbered stands = bears_by system log e (what e) numbered stands.kind stands.by_right
 
 -- so its home has a serial left, as a pid has 32 bits
-pub can_be_born : (places : Places) (parent child : Pid) → child.0 < 2 ^ 32 → (placed_at places child ≡ None) × IfSome (placed_at places parent) (λ (q : Placed). next_child_at places q ≡ child) → CanBeBorn places parent child
+pub can_be_born : (places : Places) (parent child : Pid) → child.0 < 2 ^ 32 → IsNextChild places parent child → CanBeBorn places parent child
 can_be_born places parent child fits next = (next.0, by_parent (placed_at places parent) next.1)
   where
     by_parent : (o : Option Placed) → IfSome o (λ (q : Placed). next_child_at places q ≡ child) → IfSome o (λ (q : Placed). next_serial_in places q.home < 2 ^ 32 - 1)

@@ -23,7 +23,6 @@ unfolding backup_record
 withheld_of system log p valid legal unended = by_process (process_after system log p) refl (unended_there Stands itself system log p valid legal unended)
   where
     by_process : (o : Option ProcState) → process_after system log p ≡ o → is_some o ≡ true → option_map_or withheld_in (backup_record system log p) 0 ≡ count_since log p
-    unfolding backup_record
     by_process None there some = absurd (true≢false (sym some))
     by_process (Some now) there some =
         ap (λ (o : Option ProcState). option_map_or withheld_in (option_map (record_from system log p) o) 0)

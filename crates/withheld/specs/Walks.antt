@@ -16,9 +16,13 @@ use Rattle.cert_sched.specs.Kinds.{next_child_at}
 use Rattle.withheld.specs.declared.walk.Walk.{Walk}
 use Rattle.withheld.specs.Counts.{NotesCounts, count_of, count_since, withheld_at}
 
--- the child, where it tells of one, is not placed yet and has the next pid of its parent's home
+-- the child is not placed yet, and has the next pid of its parent's home
+abbrev pub IsNextChild : Places → Pid → Pid → Type 0
+IsNextChild places parent child = (placed_at places child ≡ None) × IfSome (placed_at places parent) (λ (q : Placed). next_child_at places q ≡ child)
+
+-- where the entry tells of a birth, the child is such a one
 abbrev pub BearsNext : Places → What → Type 0
-BearsNext places (Birth parent at child end) = (placed_at places child ≡ None) × IfSome (placed_at places parent) (λ (q : Placed). next_child_at places q ≡ child)
+BearsNext places (Birth parent at child end) = IsNextChild places parent child
 BearsNext places _ = Unit {0}
 
 -- the walk has gone over these entries

@@ -4,10 +4,10 @@ ghost use Rattle.std.specs.Prelude.{◌≡◌, ◌+◌, ◌-◌, ◌^◌, ◌<�
 ghost use Rattle.std.specs.Option.{option_map_or};
 ghost use Rattle.t32_base.specs.declared.process.Pid.{Pid};
 ghost use Rattle.sys_text.specs.Valid.{is_system};
-ghost use Rattle.bus_msg.specs.Places.{is_moved_by};
-ghost use Rattle.bus_msg.specs.PlacedAfter.{placed_after, what};
+ghost use Rattle.bus_msg.specs.Places.{is_moved_by, placed_at};
+ghost use Rattle.bus_msg.specs.PlacedAfter.{placed_after, what, with_birth};
 ghost use Rattle.withheld.specs.Counts.{count_if_moved, count_of, moved_count, withheld_at};
-ghost use Rattle.withheld.specs.Walks.{BearsNext, HasWalked, WalksOver};
+ghost use Rattle.withheld.specs.Walks.{BearsNext, HasWalked, IsNextChild, WalksOver};
 
 use crate::counts::{Counts, count_of, note};
 use bus_msg::entry::{Entry, What};
@@ -67,15 +67,20 @@ fn place(places: &mut Placement, entry: &Entry) -> Result<(), NoMemory>
     ensures { OnOk result (places.new ≡ placed_after places.old (what entry.now)) }
 {
     match &entry.post.what {
-        What::Birth { parent, child, .. } => {
-            let number = child.0;
-            places.add_birth(*parent, Pid(number))
-        }
+        What::Birth { parent, child, .. } => place_child(places, *parent, child.0),
         _ => {
             places.note(entry);
             Ok(())
         }
     }
+}
+
+// The placement takes in a child. As its pid has 32 bits, the serials of its home are not used up.
+fn place_child(places: &mut Placement, parent: Pid, child: u32) -> Result<(), NoMemory>
+    requires next { IsNextChild places.old parent (record { 0 = child }) }
+    ensures { OnOk result (places.new ≡ with_birth places.old (record { 0 = child }) (placed_at places.old parent)) }
+{
+    places.add_birth(parent, Pid(child))
 }
 
 // The sum with what an entry adds to it: nothing but by a loss.
