@@ -15,7 +15,7 @@ use Rattle.cert_sched.proofs.FreshLaws.{numbered}
 use Rattle.cert_sched.proofs.LogLaws.{IsLegal-last, placement-snoc}
 use Rattle.record_laws.proofs.Standing.{itself}
 use Rattle.withheld.specs.declared.walk.Walk.{Walk}
-use Rattle.withheld.specs.Counts.{count_after, count_of, count_since, withheld_at}
+use Rattle.withheld.specs.Counts.{count_after, count_since, withheld_at}
 use Rattle.withheld.specs.Walks.{BearsNext, HasWalked, WalksOver}
 use Rattle.withheld.proofs.Births.{bears_next}
 use Rattle.withheld.proofs.Since.{count_more, count_within}

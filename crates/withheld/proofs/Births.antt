@@ -1,5 +1,5 @@
 -- A child that is born has the next pid of its parent's home, which no process has yet.
-use Rattle.std.proofs.Common.{◌≡◌, ◌+◌, ◌*◌, ◌-◌, ◌<◌, ◌^◌, refl, sym, ◌∙◌, ap, subst, arith, List, [], ◌∷◌, Bool, true, false, cond, ◌||◌, eqb, Option, Some, None, true≢false}
+use Rattle.std.proofs.Common.{◌≡◌, ◌+◌, ◌*◌, ◌-◌, ◌<◌, ◌^◌, refl, sym, ap, subst, arith, List, [], ◌∷◌, Bool, true, false, cond, ◌||◌, eqb, Option, Some, None, true≢false}
 use Rattle.std.specs.Prelude.{find}
 use Rattle.std.specs.List.{list_any}
 use Rattle.std.specs.Option.{IfSome}
@@ -33,9 +33,10 @@ none_found p (q ∷ qs) none = by_pid (same_pid q.pid p) none (none_found p qs)
 bears_by : (system : System) (log : List Entry) (e : Entry) (w : What) → Numbered (placement system log) → KindHolds system log e w → is_by_right (placement system log) (e.post).by w ≡ true → BearsNext (placement system log) w
 bears_by system log e (Birth parent at child end) numbered kind right =
     let places : Places = placement system log in
-    let born : BornRightly places parent child = born_rightly places (e.post).by parent child right kind.child_is in
-    (none_found child places.placed (child_new places parent child numbered born),
-    subst (λ (o : Option Placed). IfSome o (λ (q : Placed). next_child_at places q ≡ child)) (sym (only_one parent places.placed born.at numbered.two born.found)) born.child_is)
+    let born : BornRightly places parent child = born_rightly places (e.post).by parent child right kind.child_is in (
+      none_found child places.placed (child_new places parent child numbered born),
+      subst (λ (o : Option Placed). IfSome o (λ (q : Placed). next_child_at places q ≡ child)) (sym (only_one parent places.placed born.at numbered.two born.found)) born.child_is,
+    )
 bears_by system log e (Mail at letter) numbered kind right = tt
 bears_by system log e (Exit q at end) numbered kind right = tt
 bears_by system log e (Page q at index bytes) numbered kind right = tt

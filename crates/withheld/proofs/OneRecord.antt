@@ -1,5 +1,5 @@
 -- What is to be withheld of a process by its record is what is counted of it.
-use Rattle.std.proofs.Common.{◌≡◌, refl, sym, ◌∙◌, ap, List, true, Option, Some, None, is_some, true≢false}
+use Rattle.std.proofs.Common.{◌≡◌, refl, sym, ap, List, true, Option, Some, None, is_some, true≢false}
 use Rattle.std.specs.Prelude.{option_map}
 use Rattle.std.specs.Option.{option_map_or}
 use Rattle.t32_base.specs.declared.process.Pid.{Pid}

@@ -1,6 +1,5 @@
 -- A walk over a log that keeps the placement, the counts and what is withheld.
-use Rattle.std.specs.Prelude.{◌≡◌, ℕ, ◌+◌, List, None}
-use Rattle.std.specs.BTreeMap.{BTreeMap}
+use Rattle.std.specs.Prelude.{◌≡◌, ◌+◌, List, None}
 use Rattle.std.specs.Option.{IfSome}
 use Rattle.t32_base.specs.declared.process.Pid.{Pid}
 use Rattle.sys_text.specs.declared.system.System.{System}

@@ -1,10 +1,10 @@
 //! How many emissions were to be withheld in a run, read from its log.
 #![tactic(auto)]
 
-pub mod counts;
+mod counts;
 #[cfg(test)]
 mod tests;
-pub mod walk;
+mod walk;
 
 ghost use Rattle.std.specs.Prelude.{◌≡◌, true, false, Ok, is_some, IfOk};
 ghost use Rattle.sys_text.specs.Valid.{is_system};
@@ -21,8 +21,9 @@ use sys_text::system::System;
 use t32_base::streams::NoMemory;
 
 /// How many emissions of a run were to be withheld: at each loss of a cluster, the letters and births of the processes that
-/// it moves, each since it last synchronised, got a new backup after it had run, or was born. Walks the log once, and at
-/// each loss the processes. Where no cluster was lost it takes no memory. After want of memory nothing is said.
+/// it moves, of each those since it last synchronised, got a new backup after it had run, or was born. Where no cluster
+/// was lost it takes no memory. Else it walks the log once, and at each loss the processes. A sum past 64 bits is refused
+/// like want of memory, after which nothing is said.
 pub fn withheld(alloc: Global, system: &System, log: &[Entry]) -> Result<u64, NoMemory>
     requires valid { is_system system.now ≡ true }
     requires legal { IsLegalBy Stands system.now log.now }

@@ -119,7 +119,13 @@ fn count_if_moved(counts: &Counts, k: ClusterNo, placed: Option<Placed>) -> u64
     ensures { result ≡ option_map_or (count_if_moved (count_of counts.now) k) placed 0 }
 {
     match placed {
-        Some(placed) => { if is_moved_by(k, &placed) { count_of(counts, placed.pid) } else { 0 } }
+        Some(placed) => {
+            if is_moved_by(k, &placed) {
+                count_of(counts, placed.pid)
+            } else {
+                0
+            }
+        }
         None => 0,
     }
 }
