@@ -89,7 +89,12 @@ impl Records {
             }
             // The parent's record gets the child, and the child a record of its own.
             What::Birth { .. } => Ok(()),
-            What::Sync { pid, small, read, .. } => {
+            What::Sync {
+                pid,
+                small,
+                read,
+                ..
+            } => {
                 self.cut(*pid, small.get(), read.as_slice());
                 Ok(())
             }
