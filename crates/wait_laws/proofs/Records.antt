@@ -18,24 +18,24 @@ use Rattle.cert_sched.specs.Legal.{IsLegalBy, Stands}
 use Rattle.cert_sched.specs.Simulation.{IsUnended}
 use Rattle.cert_sched.proofs.LogLaws.{IsLegal-last}
 use Rattle.backup_records.specs.Records.{record_after}
-use Rattle.record_laws.specs.Kept.{starts_none}
+use Rattle.record_laws.specs.Kept.{is_noted}
 use Rattle.record_laws.proofs.OneRecord.{record_follows}
 use Rattle.record_laws.proofs.Standing.{built_stands, itself}
 
-built_starts_none : (w : What) → is_built w ≡ true → starts_none w ≡ true
-built_starts_none (Birth parent at child end) built = absurd (true≢false (sym built))
-built_starts_none (Sync pid small read took) built = absurd (true≢false (sym built))
-built_starts_none (Rebackup to fresh recs) built = absurd (true≢false (sym built))
-built_starts_none w built = refl
+built_noted : (w : What) → is_built w ≡ true → is_noted w ≡ true
+built_noted (Birth parent at child end) built = absurd (true≢false (sym built))
+built_noted (Rebackup to fresh recs) built = absurd (true≢false (sym built))
+built_noted w built = refl
 
 -- the record follows such an entry
 pub record_next : (system : System) (log : List Entry) (e : Entry) (p : Pid) (kept : BackRec) → is_system system ≡ true → IsLegalBy BuiltMayFollow system (log ++ e ∷ []) → IsUnended system log p → backup_record system log p ≡ Some kept
     → backup_record system (log ++ e ∷ []) p ≡ Some (record_after (what e) kept)
 record_next system log e p kept valid legal unended is =
-    record_follows Stands itself system log e p valid (built_stands system (log ++ e ∷ []) legal) (built_starts_none (what e) (IsLegal-last BuiltMayFollow system log e legal).built) unended
+    record_follows Stands itself system log e p valid (built_stands system (log ++ e ∷ []) legal) (built_noted (what e) (IsLegal-last BuiltMayFollow system log e legal).built) unended
     ∙ ap (option_map (record_after (what e))) is
 
 -- one that moves a process is a loss, and leaves its record
 pub loss_leaves : (w : What) (moved : ClusterNo → Bool) (kept : BackRec) → option_map_or moved (cluster_lost w) false ≡ true → record_after w kept ≡ kept
 loss_leaves (Mail at letter) moved kept moves = absurd (true≢false (sym moves))
+loss_leaves (Sync pid small read took) moved kept moves = absurd (true≢false (sym moves))
 loss_leaves w moved kept moves = refl
