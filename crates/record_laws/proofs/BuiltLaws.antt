@@ -42,4 +42,4 @@ built_count system log e at letter kept valid legal is unended kept_is =
 pub built_can_note : (system : System) (log : List Entry) (e : Entry) (k : ClusterNo) (recs : List BackRec) → is_system system ≡ true → IsLegalBy BuiltMayFollow system (log ++ e ∷ []) → length log < 2 ^ 64 - 1 → KeepsRecords system log k recs
     → CanNote (what e) recs
 built_can_note system log e k recs valid legal room keeps =
-    note_by system log e k recs room keeps (λ at letter kept is unended kept_is. built_count system log e at letter kept valid (built_stands system (log ++ e ∷ []) legal) is unended kept_is)
+    note_by system log e k recs valid (built_stands system (log ++ e ∷ []) legal) room keeps (λ at letter kept is unended kept_is. built_count system log e at letter kept valid (built_stands system (log ++ e ∷ []) legal) is unended kept_is)

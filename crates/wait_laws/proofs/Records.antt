@@ -17,13 +17,13 @@ use Rattle.cert_sched.specs.Deeds.{is_cut}
 use Rattle.cert_sched.specs.Legal.{IsLegalBy, Stands}
 use Rattle.cert_sched.specs.Simulation.{IsUnended}
 use Rattle.backup_records.specs.Records.{record_after}
-use Rattle.record_laws.proofs.OneRecord.{record_follows}
+use Rattle.record_laws.proofs.OneRecord.{record_follows, uncut_unrenewed}
 use Rattle.record_laws.proofs.Standing.{itself}
 
 -- the record follows an entry that does not cut its process
 pub record_next : (system : System) (log : List Entry) (e : Entry) (p : Pid) (kept : BackRec) → is_system system ≡ true → IsLegalBy Stands system (log ++ e ∷ []) → is_cut p (what e) ≡ false → IsUnended system log p → backup_record system log p ≡ Some kept
     → backup_record system (log ++ e ∷ []) p ≡ Some (record_after (what e) kept)
-record_next system log e p kept valid legal no_cut unended is = record_follows Stands itself system log e p valid legal no_cut unended ∙ ap (option_map (record_after (what e))) is
+record_next system log e p kept valid legal no_cut unended is = record_follows Stands itself system log e p valid legal (uncut_unrenewed p (what e) no_cut) unended ∙ ap (option_map (record_after (what e))) is
 
 -- one that moves a process is a loss, and leaves its record
 pub loss_leaves : (w : What) (moved : ClusterNo → Bool) (kept : BackRec) → option_map_or moved (cluster_lost w) false ≡ true → record_after w kept ≡ kept
