@@ -16,7 +16,7 @@ use Rattle.cluster_core.proofs.Noting.{can_note_next, noted_next}
 use Rattle.cluster_core.proofs.Owning.{has_room}
 use Rattle.cluster_core.proofs.Absorbed.{absorbs, may_come, may_wait, own_either, ready_built, ready_no_birth, ready_own}
 use Rattle.cluster_core.proofs.OwningWaits.{owns_waiting}
-use Rattle.cluster_core.proofs.cluster.Cluster.absorb.Goals as goal
+use Rattle.cluster_core.proofs.cluster.Cluster.take_in.Goals as goal
 
 pub tell-requires-clause-room : goal.tell-requires-clause-room
 tell-requires-clause-room g c =
@@ -120,9 +120,6 @@ tell-requires-clause-comes g c =
     let old : ClusterView = c.args.self.now in
     let valid : is_system old.system ≡ true = subst (λ (v : ClusterView). is_system v.system ≡ true) c.self.view_is c.self.invariant.valid in
     subst (λ (v : ClusterView). ComesHere v.number c.args.entry.now v.here) (sym c.self.view_is) (comes_here old c.args.entry.now valid c.requires.ready)
-
-pub serve-requires : goal.serve-requires
-serve-requires g c = ready_built c.args.self.now c.args.entry.now c.requires.ready
 
 pub returns-clause-disk : goal.returns-clause-disk
 returns-clause-disk g c =
