@@ -72,16 +72,18 @@ CanCut p read recs = (r : BackRec) → record_in recs p ≡ Some r → AreFronts
 -- what an entry makes of the record of a process that goes on
 abbrev pub record_after : What → BackRec → BackRec
 record_after (Mail at letter) r = counted_by_sender letter (saved_by_receiver letter r)
+record_after (Sync pid small read took) r = cut_of_synced pid small read r
 record_after w r = r
 
--- What an entry makes of the records: a letter is saved and counted, and the record of a process that ended is there no more. The kinds that change
--- records and that no cluster sends yet leave them as they are: births, synchronisations, new backups and losses.
+-- What an entry makes of the records: a letter is saved and counted, a synchronisation cuts the record of its process, and the record of a process
+-- that ended is there no more. The other kinds that change records leave them as they are here: births and new backups, which no cluster sends yet, and
+-- losses, at which records leave.
 abbrev pub records_after : What → List BackRec → List BackRec
 records_after (Mail at letter) recs = map (record_after (Mail at letter)) recs
 records_after (Exit pid at end) recs = filter (λ (r : BackRec). not (same_pid r.pid pid)) recs
 records_after (Birth parent at child end) recs = recs
 records_after (Page pid at index bytes) recs = recs
-records_after (Sync pid small read took) recs = recs
+records_after (Sync pid small read took) recs = map (record_after (Sync pid small read took)) recs
 records_after (Fetch pid index) recs = recs
 records_after (PageIs pid index bytes) recs = recs
 records_after (Crash k cause) recs = recs
@@ -100,7 +102,8 @@ CanSave letter recs = (p : Pid) (r : BackRec) → is_receiver p letter.to ≡ tr
 abbrev pub CanCount : Letter → List BackRec → Type 0
 CanCount letter recs = (r : BackRec) → record_in recs letter.from ≡ Some r → (letter.out < 32) × (count_for r.counts letter < 2 ^ 32 - 1)
 
--- both, where an entry tells of a letter
+-- Of a letter both. Of a synchronisation: its process read the letters of its record from the fronts of its ends.
 abbrev pub CanNote : What → List BackRec → Type 0
 CanNote (Mail at letter) recs = CanSave letter recs × CanCount letter recs
+CanNote (Sync pid small read took) recs = CanCut pid read recs
 CanNote w recs = Unit {0}

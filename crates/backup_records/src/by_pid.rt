@@ -47,13 +47,13 @@ pub fn count_at(records: &mut BTreeMap<u32, Record>, pid: u32, letter: &Letter)
     }
 }
 
-/// The record of a process is cut, if it is there. Takes no memory.
-pub fn cut_at(records: &mut BTreeMap<u32, Record>, pid: u32, state: Small, read: &[u64])
+/// The record of a process is cut, if it is there. The state is copied only then. Takes no memory.
+pub fn cut_at(records: &mut BTreeMap<u32, Record>, pid: u32, state: &Small, read: &[u64])
     requires { (r : BackRec) → get nat_cmp records.old pid ≡ Some r → AreFronts read.now r.saved × AreOnEnds read.now r.saved }
-    ensures { records.new.entries ≡ changed_at pid (with_cut state read.now) records.old.entries }
+    ensures { records.new.entries ≡ changed_at pid (with_cut state.now read.now) records.old.entries }
 {
     if let Some(record) = records.get_mut(&pid) {
-        record.cut(state, read);
+        record.cut(state.copy(), read);
     }
 }
 

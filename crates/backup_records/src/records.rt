@@ -74,8 +74,8 @@ impl Records {
     }
 
     /// What an entry changes: a letter is saved by the record of its receiver and counted by that of its
-    /// sender, and the record of a process that ended goes. A cluster calls it for each entry that goes to it.
-    /// After want of memory the records are as they were.
+    /// sender, the record of a process that synchronised is cut, and that of one that ended goes. A cluster calls
+    /// it for each entry that goes to it. After want of memory the records are as they were.
     pub fn note(&mut self, what: &What) -> Result<(), NoMemory>
         requires { CanNote what.now self.old }
         ensures ok { OnOk result (self.new ≡ records_after what.now self.old) }
@@ -89,8 +89,15 @@ impl Records {
             }
             // The parent's record gets the child, and the child a record of its own.
             What::Birth { .. } => Ok(()),
-            // The record is cut: it gets the state, and what was read and what was counted goes.
-            What::Sync { .. } => Ok(()),
+            What::Sync {
+                pid,
+                small,
+                read,
+                ..
+            } => {
+                self.cut(*pid, small.get(), read.as_slice());
+                Ok(())
+            }
             // Records come, and one that has run is cut.
             What::Rebackup { .. } => Ok(()),
             // The records of processes that move here leave by `take_moved`.
@@ -107,9 +114,9 @@ impl Records {
     /// The record of a process is cut, if it is here: the process has synchronised with this state, and had read
     /// the letters with these numbers. They are dropped, the others stay in order, and nothing was sent and no
     /// child born since. Takes no memory.
-    pub fn cut(&mut self, pid: Pid, state: Small, read: &[u64])
+    pub fn cut(&mut self, pid: Pid, state: &Small, read: &[u64])
         requires { CanCut pid read.now self.old }
-        ensures { self.new ≡ map (cut_of_synced pid state read.now) self.old }
+        ensures { self.new ≡ map (cut_of_synced pid state.now read.now) self.old }
     {
         cut_at(&mut self.by_pid, pid.0, state, read);
     }

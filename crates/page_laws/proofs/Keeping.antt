@@ -5,7 +5,6 @@ use Rattle.std.specs.List.{list_all, range_with_len}
 use Rattle.t32_base.specs.declared.process.Pid.{Pid}
 use Rattle.sys_text.specs.declared.system.System.{System}
 use Rattle.bus_msg.specs.declared.entry.What.{What}
-use Rattle.bus_msg.specs.declared.entry.What.TheVariants.{Mail, Birth, Exit, Page, Sync, Fetch, PageIs, Crash, Return, Rebackup, Done, Stop}
 use Rattle.bus_msg.specs.declared.entry.Entry.{Entry}
 use Rattle.bus_msg.specs.PlacedAfter.{what}
 use Rattle.cert_sched.specs.Parts.{first_of}
@@ -20,6 +19,7 @@ use Rattle.cert_sched.specs.Built.{is_built}
 use Rattle.cert_sched.specs.Legal.{Stands}
 use Rattle.cert_sched.proofs.ListLaws.{list_all-weaker}
 use Rattle.cert_sched.proofs.LogLaws.{account_after-snoc}
+use Rattle.cert_sched.proofs.BuiltCuts.{built_cuts_none}
 use Rattle.page_laws.specs.Next.{next_told, moves_next, ends_wait_next}
 use Rattle.page_laws.specs.Waited.{is_wait_for}
 use Rattle.page_laws.proofs.OneEntry.{any_since-goes_on, any_since-kept, moved-goes_on, waiting-snoc, goes_on, added, wait_is}
@@ -67,20 +67,6 @@ fetch_kept system log e p i stands other stays holds = record {
 
 -- ---- what may be answered
 
-no_cut : (p : Pid) (w : What) → is_built w ≡ true → is_cut p w ≡ false
-no_cut p (Mail at letter) built = refl
-no_cut p (Birth parent at child end) built = refl
-no_cut p (Exit pid at end) built = refl
-no_cut p (Page pid at index bytes) built = refl
-no_cut p (Sync pid small read took) built = absurd (true≢false (sym built))
-no_cut p (Fetch pid index) built = refl
-no_cut p (PageIs pid index bytes) built = refl
-no_cut p (Crash k cause) built = refl
-no_cut p (Return k) built = refl
-no_cut p (Rebackup to fresh recs) built = absurd (true≢false (sym built))
-no_cut p (Done rests) built = refl
-no_cut p Stop built = refl
-
 -- what was kept at the last cut is kept still, where there is no exit of the process and no cut
 pub kept_still : (system : System) (log : List Entry) (e : Entry) (p : Pid) → is_exit_of p (what e) ≡ false → is_cut p (what e) ≡ false → (account_after system (log ++ e ∷ []) p).kept ≡ (account_after system log p).kept
 kept_still system log e p no_exit no_cut =
@@ -105,11 +91,15 @@ first_kept p i t (f ∷ fs) more goes first =
     some_true true h = refl
     some_true false h = cc
 
-pub page_is_kept : (system : System) (log : List Entry) (e : Entry) (p : Pid) (i : ℕ) (bytes : List ℕ) → is_built (what e) ≡ true → ends_wait_next system log e p i ≡ false → PageIsHolds system log p i bytes → PageIsHolds system (log ++ e ∷ []) p i bytes
-page_is_kept system log e p i bytes built goes holds =
+pub answer_kept : (system : System) (log : List Entry) (e : Entry) (p : Pid) (i : ℕ) (bytes : List ℕ) → is_cut p (what e) ≡ false → ends_wait_next system log e p i ≡ false → PageIsHolds system log p i bytes → PageIsHolds system (log ++ e ∷ []) p i bytes
+answer_kept system log e p i bytes no_cut goes holds =
     let on = wait_goes_on system log e p i goes in
     record {
       asked = ap (λ fs. option_map (is_wait_for p i) (first_of fs)) (waiting-snoc system log e)
           ∙ first_kept p i (goes_on (next_told system log e)) (waiting_fetches system log) (added (fetched (what e))) (ap not goes) holds.asked;
-      page = ap (λ pages. page_in pages i) (kept_still system log e p on.no_exit (no_cut p (what e) built)) ∙ holds.page;
+      page = ap (λ pages. page_in pages i) (kept_still system log e p on.no_exit no_cut) ∙ holds.page;
     }
+
+-- While no kind that is built is a cut: so it is after an entry of such a kind.
+pub page_is_kept : (system : System) (log : List Entry) (e : Entry) (p : Pid) (i : ℕ) (bytes : List ℕ) → is_built (what e) ≡ true → ends_wait_next system log e p i ≡ false → PageIsHolds system log p i bytes → PageIsHolds system (log ++ e ∷ []) p i bytes
+page_is_kept system log e p i bytes built = answer_kept system log e p i bytes (built_cuts_none p (what e) built)

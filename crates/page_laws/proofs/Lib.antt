@@ -6,7 +6,6 @@ pub mod SizesStay
 pub mod Keeping
 pub mod Waiting
 pub mod Leaving
-pub mod StayingUnended
 pub mod StartPages
 pub mod NothingLeft
 mod WorkedLeft

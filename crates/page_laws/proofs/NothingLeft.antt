@@ -24,7 +24,7 @@ use Rattle.page_laws.specs.Next.{moves_next, ends_wait_next}
 use Rattle.page_laws.specs.Waited.{is_wait_for, is_waited}
 use Rattle.page_laws.specs.Left.{is_unasked, unasked_of, unasked, left_of_pages}
 use Rattle.page_laws.proofs.OneEntry.{any_since-snoc, is_waited-snoc}
-use Rattle.page_laws.proofs.StayingUnended.{unended_before}
+use Rattle.cert_sched.proofs.StayingUnended.{unended_before}
 use Rattle.page_laws.proofs.Leaving.{one_if, unended_there}
 
 -- ---- what was fetched came or is waited for

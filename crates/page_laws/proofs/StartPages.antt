@@ -1,8 +1,10 @@
 -- The pages that come are those with which the process starts again.
 use Rattle.std.proofs.Common.{option_map, ◌≡◌, ℕ, zero, suc, ◌+◌, ◌*◌, ◌/◌, ◌<◌, add-zero, refl, sym, ◌∙◌, ap, subst, arith, List, [], ◌∷◌, ◌++◌, append_assoc, append-nil, length, take, drop, drop-drop, Bool, true, false, cond, not, ◌&&◌, ◌||◌, Option, Some, None, is_some, true≢false, eq-eqb}
+use Rattle.std.specs.List.{list_any}
 use Rattle.std.specs.Option.{option_map_or}
 use Rattle.std.specs.Ordering.{nat_cmp, is_eq}
 use Rattle.std.specs.FinMap.{find as find_in}
+use Rattle.std.proofs.lemmas.Bool.{and_parts}
 use Rattle.std.proofs.lemmas.Bool.Decides.{nat_tests}
 use Rattle.t32_base.specs.declared.process.Pid.{Pid}
 use Rattle.sys_text.specs.declared.system.System.{System}
@@ -18,29 +20,31 @@ use Rattle.bus_msg.specs.PlacedAfter.{what}
 use Rattle.cert_sched.specs.Schedule.{process_after, placement}
 use Rattle.cert_sched.specs.Told.{told}
 use Rattle.cert_sched.specs.Parts.{first_of}
-use Rattle.cert_sched.specs.Deeds.{starts, start_of, is_cut, is_birth_of}
+use Rattle.cert_sched.specs.Deeds.{start_of, is_cut, is_birth_of, is_first}
 use Rattle.cert_sched.specs.Record.{has_state}
 use Rattle.cert_sched.specs.Account.{account_after, all_pages, pages_from, page_in, is_exit_of}
-use Rattle.cert_sched.specs.Moved.{waiting_fetches, moved_with_state, is_fetch}
+use Rattle.cert_sched.specs.Moved.{any_since_moved, waiting_fetches, moved_with_state, is_fetch}
 use Rattle.cert_sched.specs.Steps.{page_count}
 use Rattle.cert_sched.specs.Kinds.{PageIsHolds}
-use Rattle.cert_sched.specs.Built.{is_built, BuiltMayFollow}
+use Rattle.cert_sched.specs.Rules.{holds_of, awaits_pages, has_its_pages}
+use Rattle.cert_sched.specs.Built.{BuiltMayFollow, KeepsWaits}
 use Rattle.cert_sched.specs.Legal.{IsLegalBy, IsLegalFrom, Stands}
 use Rattle.cert_sched.specs.Simulation.{IsUnended}
 use Rattle.cert_sched.proofs.LogLaws.{placement-snoc}
 use Rattle.cert_sched.proofs.RecordLaws.{has_state-snoc, start_of-snoc}
 use Rattle.cert_sched.proofs.Induction.{legal_induction}
 use Rattle.cert_sched.proofs.CameLaws.{IsStandingRule, is_birth, not_birth}
+use Rattle.cert_sched.proofs.StayingUnended.{unended_stays}
+use Rattle.cert_sched.proofs.BuiltCuts.{bears_none, cut_is_of}
 use Rattle.cert_sched.proofs.OpenLaws.{unended_open}
 use Rattle.cert_sched.proofs.PageLaws.{all_kept_pages}
 use Rattle.page_laws.specs.Next.{moves_next, ends_wait_next}
 use Rattle.page_laws.specs.Waited.{is_wait_for, is_waited}
-use Rattle.page_laws.proofs.OneEntry.{moved_with_state-snoc, is_waited-snoc}
-use Rattle.page_laws.proofs.Keeping.{wait_goes_on}
+use Rattle.page_laws.proofs.OneEntry.{any_since-snoc, moved_with_state-snoc, is_waited-snoc}
+use Rattle.page_laws.proofs.Keeping.{wait_goes_on, pages_kept}
 use Rattle.page_laws.proofs.Waiting.{first_waited, waited_lacks, came_waited, page_is_holds, fetch_is}
 use Rattle.page_laws.proofs.Leaving.{asker_is_there}
 use Rattle.page_laws.proofs.SizesStay.{start_sized}
-use Rattle.page_laws.proofs.StayingUnended.{unended_stays}
 
 -- ---- the pages of a memory
 
@@ -158,32 +162,25 @@ next_page system log e p i bytes start valid legal stands is started =
     some_same bytes (page_at start.memory i)
     (sym (page_is_holds system log e p i bytes stands is).page ∙ kept_pages system log p start i valid legal lacks.moved (waited_unended system log p i legal waited) started lacks.within)
 
--- ---- in a log of the kinds that are built
+-- ---- in a log
 
-no_start : (p : Pid) (e : Entry) → is_built (what e) ≡ true → starts p e ≡ false
-no_start p e built = by_what (what e) built
+-- an entry that is neither its cut nor its birth starts a process neither again nor anew
+pub start_stays : (system : System) (log : List Entry) (e : Entry) (p : Pid) → is_cut p (what e) ≡ false → is_birth_of p (what e) ≡ false → start_of system (log ++ e ∷ []) p ≡ start_of system log p
+start_stays system log e p no_cut no_birth =
+    start_of-snoc system log e p ∙ (λ i. cond (no_cut i || no_birth i) (process_after system (log ++ e ∷ []) p) (start_of system log p))
+
+-- nor do several
+starts_stay : (system : System) (p : Pid) (log rest : List Entry) → IsLegalFrom Stands system log rest → list_any (λ (f : Entry). is_cut p (what f)) rest ≡ false → start_of system (log ++ rest) p ≡ start_of system log p
+starts_stay system p log [] legal none = ap (λ l. start_of system l p) (append-nil log)
+starts_stay system p log (e ∷ rest) legal none =
+    let parts = none_of_two (is_cut p (what e)) (list_any (λ (f : Entry). is_cut p (what f)) rest) none in
+    ap (λ l. start_of system l p) (sym (append_assoc log (e ∷ []) rest))
+    ∙ starts_stay system p (log ++ e ∷ []) rest legal.1 parts.1
+    ∙ start_stays system log e p parts.0 (bears_none p (what e) (not_birth system log e (legal.0).applies (what e) refl))
   where
-    by_what : (w : What) → is_built w ≡ true → (is_cut p w || is_birth_of p w) ≡ false
-    by_what (Mail at letter) h = refl
-    by_what (Birth parent at child end) h = absurd (true≢false (sym h))
-    by_what (Exit q at end) h = refl
-    by_what (Page q at index bytes) h = refl
-    by_what (Sync q small read took) h = absurd (true≢false (sym h))
-    by_what (Fetch q index) h = refl
-    by_what (PageIs q index bytes) h = refl
-    by_what (Crash k cause) h = refl
-    by_what (Return k) h = refl
-    by_what (Rebackup to fresh recs) h = absurd (true≢false (sym h))
-    by_what (Done rests) h = refl
-    by_what Stop h = refl
-
--- no process starts again or anew by such an entry
-pub start_stays : (system : System) (log : List Entry) (e : Entry) (p : Pid) → is_built (what e) ≡ true → start_of system (log ++ e ∷ []) p ≡ start_of system log p
-start_stays system log e p built = start_of-snoc system log e p ∙ ap (λ b. cond b (process_after system (log ++ e ∷ []) p) (start_of system log p)) (no_start p e built)
-
-start_at_boot : (system : System) (log : List Entry) (p : Pid) → IsLegalBy BuiltMayFollow system log → start_of system log p ≡ start_of system [] p
-start_at_boot system log p legal =
-    legal_induction BuiltMayFollow system (λ log. start_of system log p ≡ start_of system [] p) refl (λ log e same may. start_stays system log e p may.built ∙ same) log legal
+    none_of_two : (x y : Bool) → (x || y) ≡ false → (x ≡ false) × (y ≡ false)
+    none_of_two true y h = absurd (true≢false h)
+    none_of_two false y h = (refl, h)
 
 -- what a log is legal by, its front is, and so is the next entry
 front : (May : System → List Entry → Entry → Type 0) (system : System) (log more rest : List Entry) (e : Entry) → IsLegalFrom May system log (more ++ e ∷ rest) → IsLegalFrom May system log more × May system (log ++ more) e
@@ -192,21 +189,81 @@ front May system log (f ∷ more) rest e h =
     let r = front May system (log ++ f ∷ []) more rest e h.1 in
     ((h.0, r.0), rw (← append_assoc log (f ∷ []) more) r.1)
 
-legal_front : (system : System) (before after : List Entry) (e : Entry) → IsLegalBy BuiltMayFollow system (before ++ e ∷ after) → IsLegalBy BuiltMayFollow system before × BuiltMayFollow system before e
+-- what stands in a log after its front
+rest_of : (system : System) (log more rest : List Entry) → IsLegalFrom Stands system log (more ++ rest) → IsLegalFrom Stands system (log ++ more) rest
+rest_of system log [] rest h = rw (append-nil log) h
+rest_of system log (f ∷ more) rest h = rw (← append_assoc log (f ∷ []) more) (rest_of system (log ++ f ∷ []) more rest h.1)
+
+record Parted (system : System) (before after : List Entry) (e : Entry) : Type 0 where
+  pub legal : IsLegalBy Stands system before
+  pub stands : Stands system before e
+  pub rest : IsLegalFrom Stands system (before ++ e ∷ []) after
+
+parted : (system : System) (before after : List Entry) (e : Entry) → IsLegalBy Stands system (before ++ e ∷ after) → Parted system before after e
 unfolding IsLegalBy
-legal_front system before after e legal = front BuiltMayFollow system [] before after e legal
+parted system before after e legal =
+    let f = front Stands system [] before after e legal in
+    record { legal = f.0; stands = f.1; rest = (rest_of system [] before (e ∷ after) legal).1 }
 
-stands_from : (system : System) (log rest : List Entry) → IsLegalFrom BuiltMayFollow system log rest → IsLegalFrom Stands system log rest
-stands_from system log [] legal = tt
-stands_from system log (e ∷ rest) legal = ((legal.0).stands, stands_from system (log ++ e ∷ []) rest legal.1)
+-- each page that came is that of the start, where the process was not cut since
+pub page_in_log : (system : System) (before after : List Entry) (e : Entry) (p : Pid) (i : ℕ) (bytes : List ℕ) (start : ProcState) → is_system system ≡ true → IsLegalBy Stands system (before ++ e ∷ after) → what e ≡ PageIs p i bytes
+    → list_any (λ (f : Entry). is_cut p (what f)) after ≡ false → start_of system (before ++ e ∷ after) p ≡ Some start → bytes ≡ page_at start.memory i
+page_in_log system before after e p i bytes start valid legal is none started =
+    let parts = parted system before after e legal in
+    next_page system before e p i bytes start valid parts.legal parts.stands is
+    (sym (start_stays system before e p (ap (is_cut p) is) (ap (is_birth_of p) is))
+    ∙ sym (starts_stay system p (before ++ e ∷ []) after parts.rest none)
+    ∙ ap (λ l. start_of system l p) (append_assoc before (e ∷ []) after) ∙ started)
 
-pub built_stands : (system : System) (log : List Entry) → IsLegalBy BuiltMayFollow system log → IsLegalBy Stands system log
-unfolding IsLegalBy
-built_stands system log legal = stands_from system [] log legal
+-- ---- no cut while it waits
 
--- each page that came is that of the start
-pub page_in_log : (system : System) (before after : List Entry) (e : Entry) (p : Pid) (i : ℕ) (bytes : List ℕ) (start : ProcState) → is_system system ≡ true → IsLegalBy BuiltMayFollow system (before ++ e ∷ after) → what e ≡ PageIs p i bytes → start_of system (before ++ e ∷ after) p ≡ Some start → bytes ≡ page_at start.memory i
-page_in_log system before after e p i bytes start valid legal is started =
-    let parts = legal_front system before after e legal in
-    next_page system before e p i bytes start valid (built_stands system before parts.0) (parts.1).stands is
-    (start_at_boot system before p parts.0 ∙ sym (start_at_boot system (before ++ e ∷ after) p legal) ∙ started)
+-- by this rule an entry stands, and keeps the waits for pages
+abbrev pub IsWaitingRule : (System → List Entry → Entry → Type 0) → Type 0
+IsWaitingRule May = (system : System) (log : List Entry) (e : Entry) → May system log e → Stands system log e × KeepsWaits system log e
+
+pub built_waits : IsWaitingRule BuiltMayFollow
+built_waits system log e may = (may.stands, may.pages)
+
+-- a cut waits for the pages of its process
+cut_awaits : (p : Pid) (w : What) → is_cut p w ≡ true → awaits_pages w ≡ true
+cut_awaits p (Mail at letter) cut = refl
+cut_awaits p (Birth parent at child end) cut = refl
+cut_awaits p (Exit q at end) cut = refl
+cut_awaits p (Page q at index bytes) cut = refl
+cut_awaits p (Sync q small read took) cut = refl
+cut_awaits p (Fetch q index) cut = absurd (true≢false (sym cut))
+cut_awaits p (PageIs q index bytes) cut = absurd (true≢false (sym cut))
+cut_awaits p (Crash k cause) cut = absurd (true≢false (sym cut))
+cut_awaits p (Return k) cut = absurd (true≢false (sym cut))
+cut_awaits p (Rebackup to fresh recs) cut = (and_parts fresh (is_first p recs) cut).0
+cut_awaits p (Done rests) cut = absurd (true≢false (sym cut))
+cut_awaits p Stop cut = absurd (true≢false (sym cut))
+
+-- who is cut has its pages
+pub cut_has_pages : (system : System) (log : List Entry) (e : Entry) (p : Pid) → KeepsWaits system log e → is_cut p (what e) ≡ true → has_its_pages system log p ≡ true
+cut_has_pages system log e p keeps cut = sym (λ i. holds_of (cut_awaits p (what e) cut i) (cut_is_of p (what e) cut i) (has_its_pages system log)) ∙ keeps
+
+-- so who has not got its pages was not cut since a crash moved it
+pub waits_uncut : (May : System → List Entry → Entry → Type 0) → IsWaitingRule May → (system : System) (log : List Entry) (p : Pid) → IsLegalBy May system log → has_its_pages system log p ≡ false → any_since_moved system log p (is_cut p) ≡ false
+unfolding told
+waits_uncut May waiting system log p legal = legal_induction May system (λ log. has_its_pages system log p ≡ false → any_since_moved system log p (is_cut p) ≡ false) (λ lacks. refl) more log legal
+  where
+    more : (log : List Entry) (e : Entry) → (has_its_pages system log p ≡ false → any_since_moved system log p (is_cut p) ≡ false) → May system log e → has_its_pages system (log ++ e ∷ []) p ≡ false → any_since_moved system (log ++ e ∷ []) p (is_cut p) ≡ false
+    more log e before may lacks = any_since-snoc system log e p (is_cut p) ∙ by_move (moves_next system log e p) refl
+      where
+        w : Stands system log e × KeepsWaits system log e
+        w = waiting system log e may
+
+        lacked : moves_next system log e p ≡ false → (b : Bool) → has_its_pages system log p ≡ b → b ≡ false
+        lacked stays true has = absurd (true≢false (sym (pages_kept system log e p w.0 stays has) ∙ lacks))
+        lacked stays false has = refl
+
+        uncut : has_its_pages system log p ≡ false → (b : Bool) → is_cut p (what e) ≡ b → b ≡ false
+        uncut lacking true cut = absurd (true≢false (sym (cut_has_pages system log e p w.1 cut) ∙ lacking))
+        uncut lacking false cut = refl
+
+        by_move : (b : Bool) → moves_next system log e p ≡ b → cond b false (any_since_moved system log p (is_cut p) || is_cut p (what e)) ≡ false
+        by_move true moves = refl
+        by_move false stays =
+            let lacking : has_its_pages system log p ≡ false = lacked stays (has_its_pages system log p) refl in
+            λ i. before lacking i || uncut lacking (is_cut p (what e)) refl i

@@ -4,11 +4,11 @@ ghost use Rattle.t32_base.specs.declared.process.Pid.{Pid};
 ghost use Rattle.sys_text.specs.declared.system.System.{System};
 ghost use Rattle.bus_msg.specs.declared.entry.Entry.{Entry};
 ghost use Rattle.bus_msg.specs.PlacedAfter.{what};
+ghost use Rattle.cert_sched.specs.Deeds.{is_cut};
 ghost use Rattle.cert_sched.specs.Moved.{is_fetch};
 ghost use Rattle.cert_sched.specs.Steps.{page_count};
 ghost use Rattle.cert_sched.specs.Rules.{has_its_pages};
 ghost use Rattle.cert_sched.specs.Kinds.{FetchHolds, PageIsHolds};
-ghost use Rattle.cert_sched.specs.Built.{is_built};
 ghost use Rattle.cert_sched.specs.Legal.{Stands};
 ghost use Rattle.page_laws.specs.Next.{moves_next, ends_wait_next};
 
@@ -26,8 +26,8 @@ pub fn fetch_stays()
     ensures { (system : System) (log : List Entry) (e : Entry) (p : Pid) (i : ℕ) → Stands system log e → is_fetch p i (what e) ≡ false → moves_next system log e p ≡ false → FetchHolds system log p i → FetchHolds system (log ++ e ∷ []) p i }
 {}
 
-/// A law and no code: an answer that may be sent may still be sent after an entry of the kinds that are built so far
-/// that does not end the wait for it.
+/// A law and no code: an answer that may be sent may still be sent after an entry that does not cut its process and
+/// does not end the wait for it.
 pub fn page_is_stays()
-    ensures { (system : System) (log : List Entry) (e : Entry) (p : Pid) (i : ℕ) (bytes : List ℕ) → is_built (what e) ≡ true → ends_wait_next system log e p i ≡ false → PageIsHolds system log p i bytes → PageIsHolds system (log ++ e ∷ []) p i bytes }
+    ensures { (system : System) (log : List Entry) (e : Entry) (p : Pid) (i : ℕ) (bytes : List ℕ) → is_cut p (what e) ≡ false → ends_wait_next system log e p i ≡ false → PageIsHolds system log p i bytes → PageIsHolds system (log ++ e ∷ []) p i bytes }
 {}

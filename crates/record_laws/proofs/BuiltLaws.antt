@@ -7,20 +7,19 @@ use Rattle.sys_text.specs.declared.system.System.{System}
 use Rattle.sys_text.specs.Valid.{is_system}
 use Rattle.write_count.specs.Counting.{count_for}
 use Rattle.proc_state.specs.State.{ProcState}
-use Rattle.bus_msg.specs.declared.entry.What.{What}
-use Rattle.bus_msg.specs.declared.entry.What.TheVariants.{Mail, Birth, Exit, Page, Sync, Fetch, PageIs, Crash, Return, Rebackup, Done, Stop}
+use Rattle.bus_msg.specs.declared.entry.What.TheVariants.{Mail}
 use Rattle.bus_msg.specs.declared.entry.Entry.{Entry}
 use Rattle.bus_msg.specs.PlacedAfter.{what}
 use Rattle.cert_sched.specs.Schedule.{process_after}
 use Rattle.cert_sched.specs.Record.{backup_record}
 use Rattle.cert_sched.specs.Legal.{IsLegalBy, Stands}
-use Rattle.cert_sched.specs.Built.{BuiltMayFollow, is_unlost}
+use Rattle.cert_sched.specs.Built.{BuiltMayFollow}
 use Rattle.cert_sched.specs.Simulation.{IsUnended}
 use Rattle.cert_sched.proofs.LogLaws.{IsLegal-last}
 use Rattle.cert_sched.proofs.SpentLaws.{few_steps_after}
 use Rattle.cert_sched.proofs.ThereLaws.{unended_there}
 use Rattle.backup_records.specs.Records.{CanNote}
-use Rattle.record_laws.specs.Kept.{KeepsRecords, changes_in_place}
+use Rattle.record_laws.specs.Kept.{KeepsRecords}
 use Rattle.record_laws.proofs.KeptLaws.{counted_below, note_by, still_unended}
 use Rattle.record_laws.proofs.OneRecord.{letter_out}
 use Rattle.record_laws.proofs.Standing.{built_stands, itself}
@@ -43,19 +42,4 @@ built_count system log e at letter kept valid legal is unended kept_is =
 pub built_can_note : (system : System) (log : List Entry) (e : Entry) (k : ClusterNo) (recs : List BackRec) → is_system system ≡ true → IsLegalBy BuiltMayFollow system (log ++ e ∷ []) → length log < 2 ^ 64 - 1 → KeepsRecords system log k recs
     → CanNote (what e) recs
 built_can_note system log e k recs valid legal room keeps =
-    note_by system log e k recs room keeps (λ at letter kept is unended kept_is. built_count system log e at letter kept valid (built_stands system (log ++ e ∷ []) legal) is unended kept_is)
-
--- the kinds that stand in a log without a loss change records in their place
-pub unlost_in_place : (w : What) → is_unlost w ≡ true → changes_in_place w ≡ true
-unlost_in_place (Mail at letter) unlost = refl
-unlost_in_place (Birth parent at child end) unlost = absurd (true≢false (sym unlost))
-unlost_in_place (Exit q at end) unlost = refl
-unlost_in_place (Page pid at index bytes) unlost = absurd (true≢false (sym unlost))
-unlost_in_place (Sync pid small read took) unlost = absurd (true≢false (sym unlost))
-unlost_in_place (Fetch pid index) unlost = refl
-unlost_in_place (PageIs pid index bytes) unlost = refl
-unlost_in_place (Crash k cause) unlost = absurd (true≢false (sym unlost))
-unlost_in_place (Return k) unlost = absurd (true≢false (sym unlost))
-unlost_in_place (Rebackup to fresh more) unlost = absurd (true≢false (sym unlost))
-unlost_in_place (Done rests) unlost = refl
-unlost_in_place Stop unlost = refl
+    note_by system log e k recs valid (built_stands system (log ++ e ∷ []) legal) room keeps (λ at letter kept is unended kept_is. built_count system log e at letter kept valid (built_stands system (log ++ e ∷ []) legal) is unended kept_is)

@@ -1,5 +1,5 @@
 -- The records of a cluster beside a log that gets one entry more.
-use Rattle.std.proofs.Common.{◌≡◌, ℕ, ◌-◌, ◌<◌, ◌≤◌, ◌^◌, refl, sym, ◌∙◌, ap, arith, List, [], ◌∷◌, ◌++◌, length, Bool, true, false, cond, not, ◌&&◌, eqb, eqb-true, eq-eqb, Option, Some, None, is_some, true≢false}
+use Rattle.std.proofs.Common.{◌≡◌, ℕ, ◌-◌, ◌<◌, ◌≤◌, ◌^◌, refl, sym, ◌∙◌, ap, arith, subst, List, [], ◌∷◌, ◌++◌, length, Bool, true, false, cond, not, ◌&&◌, eqb, eqb-true, eq-eqb, Option, Some, None, is_some, true≢false}
 use Rattle.std.specs.Prelude.{filter, nat_le, option_map}
 use Rattle.std.specs.Option.{option_map_or}
 use Rattle.t32_base.specs.declared.process.Pid.{Pid}
@@ -7,6 +7,7 @@ use Rattle.t32_base.specs.declared.process.ClusterNo.{ClusterNo}
 use Rattle.t32_base.specs.declared.process.End.{End}
 use Rattle.t32_base.specs.declared.letter.Letter.{Letter}
 use Rattle.t32_base.specs.declared.letter.BackRec.{BackRec}
+use Rattle.t32_base.specs.Small.{SmallState}
 use Rattle.sys_text.specs.declared.system.System.{System}
 use Rattle.std.proofs.lemmas.Bool.{and_parts}
 use Rattle.std.proofs.lemmas.Bool.Decides.{nat_tests}
@@ -19,27 +20,32 @@ use Rattle.bus_msg.specs.declared.entry.What.TheVariants.{Mail, Birth, Exit, Pag
 use Rattle.bus_msg.specs.declared.entry.Entry.{Entry}
 use Rattle.bus_msg.specs.declared.placed.Placed.{Placed}
 use Rattle.bus_msg.specs.Places.{same_pid, is_cluster, unended_at}
-use Rattle.bus_msg.specs.PlacedAfter.{what, placed_after}
+use Rattle.bus_msg.specs.PlacedAfter.{what, placed_after, after_sync}
 use Rattle.cert_sched.specs.Schedule.{placement, process_after}
 use Rattle.cert_sched.specs.Record.{backup_record}
+use Rattle.cert_sched.specs.Kinds.{KindHolds, SyncHolds}
 use Rattle.cert_sched.specs.Legal.{IsLegal, IsLegalBy, MayFollow, Stands}
 use Rattle.cert_sched.specs.Simulation.{IsUnended}
 use Rattle.cert_sched.proofs.LogLaws.{placement-snoc}
 use Rattle.cert_sched.proofs.ExitLaws.{exited, unended_exit}
-use Rattle.backup_records.specs.Records.{CanNote, record_in, record_after, records_after, saved_by_receiver, counted_by_sender}
+use Rattle.backup_queue.specs.Fronts.{AreFronts, AreOnEnds}
+use Rattle.backup_records.specs.Records.{CanCut, CanNote, cut_of_synced, record_in, record_after, records_after, saved_by_receiver, counted_by_sender, with_cut}
 use Rattle.backup_records.proofs.RecordLaws.{record_mapped, saved_pid, counted_pid}
-use Rattle.record_laws.specs.Kept.{KeepsRecords, has_backup_in, starts_none, changes_in_place}
-use Rattle.cert_sched.proofs.LogLaws.{IsLegal-last}
+use Rattle.record_laws.specs.Kept.{KeepsRecords, has_backup_in, is_noted, is_renewed, changes_in_place}
+use Rattle.cert_sched.proofs.LogLaws.{IsLegal-before, IsLegal-last}
 use Rattle.cert_sched.proofs.LimitLaws.{all_limited}
 use Rattle.cert_sched.proofs.OpenLaws.{unended_open}
 use Rattle.cert_sched.proofs.ReplayLaws.{sharp_replays}
 use Rattle.cert_sched.proofs.RollLaws.{all_roll, rolls_steps}
+use Rattle.cert_sched.proofs.StepLaws.{no_signal_taken}
 use Rattle.cert_sched.proofs.ThereLaws.{unended_there}
-use Rattle.cert_sched.specs.Deeds.{since}
+use Rattle.cert_sched.proofs.UnendedLaws.{sync_keeps, unended_map}
+use Rattle.cert_sched.specs.Deeds.{saved_letters, since}
 use Rattle.cert_sched.specs.Rolling.{refilled}
-use Rattle.cert_sched.specs.Steps.{start_steps, steps_since}
-use Rattle.record_laws.proofs.Counts.{count_below, next_fits}
-use Rattle.record_laws.proofs.OneRecord.{letter_out, record_follows}
+use Rattle.cert_sched.specs.Steps.{saved_of, start_steps, steps_since}
+use Rattle.read_laws.proofs.SyncReads.{sync_ends, sync_fronts}
+use Rattle.record_laws.proofs.Counts.{count_below, next_fits, starts_from}
+use Rattle.record_laws.proofs.OneRecord.{letter_out, noted_unrenewed, record_follows}
 use Rattle.record_laws.proofs.Standing.{itself, legal_stands}
 
 -- ---- what is found
@@ -53,6 +59,13 @@ all_same recs p = by_found (record_in recs p)
 
 letter_pid : (letter : Letter) (r : BackRec) → (counted_by_sender letter (saved_by_receiver letter r)).pid ≡ r.pid
 letter_pid letter r = counted_pid letter (saved_by_receiver letter r) ∙ saved_pid letter r
+
+cut_pid : (q : Pid) (small : SmallState) (read : List ℕ) (r : BackRec) → (cut_of_synced q small read r).pid ≡ r.pid
+cut_pid q small read r = by_test (same_pid q r.pid)
+  where
+    by_test : (b : Bool) → (cond b (with_cut small read r) r).pid ≡ r.pid
+    by_test true = refl
+    by_test false = refl
 
 pid_same : (p q : Pid) → eqb p.0 q.0 ≡ true → p ≡ q
 pid_same p q same = λ i. record { 0 = eqb-true p.0 q.0 same i }
@@ -96,20 +109,23 @@ with_backup_unended system log k p has = by_placed (unended_at (placement system
     by_placed (Some q) h = refl
 
 module _ (system : System) (log : List Entry) (e : Entry) (k : ClusterNo) (recs : List BackRec) (valid : is_system system ≡ true) (legal : IsLegalBy Stands system (log ++ e ∷ [])) (keeps : KeepsRecords system log k recs) where
-  -- each record was changed in its place, and no process moved or ended
-  in_place : (w : What) → what e ≡ w → starts_none w ≡ true → ((p : Pid) → unended_at (placed_after (placement system log) w) p ≡ unended_at (placement system log) p)
+  abbrev backed : Option Placed → Bool
+  backed o = option_map_or (λ (q : Placed). is_cluster q.backup k) o false
+
+  -- each record was changed in its place, and no process ended or has another backup
+  in_place : (w : What) → what e ≡ w → is_noted w ≡ true → ((p : Pid) → backed (unended_at (placed_after (placement system log) w) p) ≡ backed (unended_at (placement system log) p))
       → ((p : Pid) → record_in (records_after w recs) p ≡ option_map (record_after w) (record_in recs p)) → KeepsRecords system (log ++ e ∷ []) k (records_after w recs)
   in_place w is none same found p = by_backup (has_backup_in system log k p) refl
     where
       placed : has_backup_in system (log ++ e ∷ []) k p ≡ has_backup_in system log k p
-      placed = ap (λ o. option_map_or (λ (q : Placed). is_cluster q.backup k) o false) (ap (λ places. unended_at places p) (placement-snoc system log e ∙ ap (placed_after (placement system log)) is) ∙ same p)
+      placed = ap (λ places. backed (unended_at places p)) (placement-snoc system log e ∙ ap (placed_after (placement system log)) is) ∙ same p
 
       by_backup : (b : Bool) → has_backup_in system log k p ≡ b → record_in (records_after w recs) p ≡ cond (has_backup_in system (log ++ e ∷ []) k p) (backup_record system (log ++ e ∷ []) p) None
       by_backup true has =
           found p
           ∙ ap (option_map (record_after w)) (keeps p ∙ ap (λ b. cond b (backup_record system log p) None) has)
           ∙ ap (λ x. option_map (record_after x) (backup_record system log p)) (sym is)
-          ∙ sym (record_follows Stands itself system log e p valid legal (ap starts_none is ∙ none) (with_backup_unended system log k p has))
+          ∙ sym (record_follows Stands itself system log e p valid legal (ap (is_renewed p) is ∙ noted_unrenewed p w none) (with_backup_unended system log k p has))
           ∙ ap (λ b. cond b (backup_record system (log ++ e ∷ []) p) None) (sym (placed ∙ has))
       by_backup false has =
           found p
@@ -123,9 +139,6 @@ module _ (system : System) (log : List Entry) (e : Entry) (k : ClusterNo) (recs 
       places_are : placement system (log ++ e ∷ []) ≡ placed_after (placement system log) (Exit q at end)
       places_are = placement-snoc system log e ∙ ap (placed_after (placement system log)) is
 
-      backed : Option Placed → Bool
-      backed o = option_map_or (λ (q : Placed). is_cluster q.backup k) o false
-
       by_backup : (b : Bool) → has_backup_in system log k p ≡ b → eqb p.0 q.0 ≡ false → has_backup_in system (log ++ e ∷ []) k p ≡ has_backup_in system log k p
           → record_in (records_after (Exit q at end) recs) p ≡ cond (has_backup_in system (log ++ e ∷ []) k p) (backup_record system (log ++ e ∷ []) p) None
       by_backup true has apart same =
@@ -133,7 +146,7 @@ module _ (system : System) (log : List Entry) (e : Entry) (k : ClusterNo) (recs 
           ∙ keeps p ∙ ap (λ b. cond b (backup_record system log p) None) has
           ∙ all_kept (backup_record system log p)
           ∙ ap (λ x. option_map (record_after x) (backup_record system log p)) (sym is)
-          ∙ sym (record_follows Stands itself system log e p valid legal (ap starts_none is) (with_backup_unended system log k p has))
+          ∙ sym (record_follows Stands itself system log e p valid legal (ap (is_renewed p) is) (with_backup_unended system log k p has))
           ∙ ap (λ b. cond b (backup_record system (log ++ e ∷ []) p) None) (sym (same ∙ has))
         where
           all_kept : (o : Option BackRec) → o ≡ option_map (record_after (Exit q at end)) o
@@ -154,12 +167,24 @@ module _ (system : System) (log : List Entry) (e : Entry) (k : ClusterNo) (recs 
           ap (λ places. unended_at places p) places_are ∙ unended_exit q p (placement system log).placed (λ same. true≢false (sym (eq-eqb p.0 q.0 same) ∙ apart)) in
           by_backup (has_backup_in system log k p) refl apart (ap backed stays)
 
+  -- a process that synchronised keeps its backup
+  synced_backed : (q : Pid) (small : SmallState) (read : List ℕ) (took : Option ℕ) (p : Pid) → backed (unended_at (placed_after (placement system log) (Sync q small read took)) p) ≡ backed (unended_at (placement system log) p)
+  synced_backed q small read took p = ap backed (unended_map (after_sync q) (sync_keeps q) (placement system log) (placed_after (placement system log) (Sync q small read took)) refl p) ∙ by_placed (unended_at (placement system log) p)
+    where
+      by_test : (r : Placed) (b : Bool) → is_cluster (cond b (record r { synced = true }) r).backup k ≡ is_cluster r.backup k
+      by_test r true = refl
+      by_test r false = refl
+
+      by_placed : (o : Option Placed) → backed (option_map (after_sync q) o) ≡ backed o
+      by_placed None = refl
+      by_placed (Some r) = by_test r (same_pid r.pid q)
+
   by_kind : (w : What) → what e ≡ w → changes_in_place w ≡ true → KeepsRecords system (log ++ e ∷ []) k (records_after w recs)
   by_kind (Mail at letter) is h = in_place (Mail at letter) is refl (λ p. refl) (λ p. record_mapped (record_after (Mail at letter)) (letter_pid letter) recs p)
   by_kind (Birth parent at child end) is h = absurd (true≢false (sym h))
   by_kind (Exit q at end) is h = after_end q at end is
   by_kind (Page pid at index bytes) is h = in_place (Page pid at index bytes) is refl (λ p. refl) (λ p. all_same recs p)
-  by_kind (Sync pid small read took) is h = absurd (true≢false (sym h))
+  by_kind (Sync q small read took) is h = in_place (Sync q small read took) is refl (synced_backed q small read took) (λ p. record_mapped (record_after (Sync q small read took)) (cut_pid q small read) recs p)
   by_kind (Fetch pid index) is h = in_place (Fetch pid index) is refl (λ p. refl) (λ p. all_same recs p)
   by_kind (PageIs pid index bytes) is h = in_place (PageIs pid index bytes) is refl (λ p. refl) (λ p. all_same recs p)
   by_kind (Crash k cause) is h = absurd (true≢false (sym h))
@@ -241,11 +266,17 @@ found_in system log k recs p r keeps there = by_backup (has_backup_in system log
     by_backup true has is = record { unended = with_backup_unended system log k p has; is = is }
     by_backup false has is = cc
 
--- An entry may be noted where its letter, if it is one, may be counted.
-pub note_by : (system : System) (log : List Entry) (e : Entry) (k : ClusterNo) (recs : List BackRec) → length log < 2 ^ 64 - 1 → KeepsRecords system log k recs
+-- a record that was found saves the letters of the log
+saved_found : (system : System) (log : List Entry) (p : Pid) (r : BackRec) → backup_record system log p ≡ Some r → saved_of system log p ≡ r.saved
+saved_found system log p r is =
+    let from = starts_from system log p r is in
+    ap (λ (o : Option ProcState). option_map_or (saved_letters log p) o []) from.started ∙ ap (λ (r : BackRec). r.saved) from.is
+
+-- An entry that stands may be noted where its letter, if it is one, may be counted.
+pub note_by : (system : System) (log : List Entry) (e : Entry) (k : ClusterNo) (recs : List BackRec) → is_system system ≡ true → IsLegalBy Stands system (log ++ e ∷ []) → length log < 2 ^ 64 - 1 → KeepsRecords system log k recs
     → ((at : ℕ) (letter : Letter) (kept : BackRec) → what e ≡ Mail at letter → IsUnended system log letter.from → backup_record system log letter.from ≡ Some kept → (letter.out < 32) × (count_for kept.counts letter < 2 ^ 32 - 1))
     → CanNote (what e) recs
-note_by system log e k recs room keeps can = by_what (what e) refl
+note_by system log e k recs valid legal room keeps can = by_what (what e) refl
   where
     letter_fits : (at : ℕ) (letter : Letter) → what e ≡ Mail at letter → CanNote (Mail at letter) recs
     letter_fits at letter is = (
@@ -258,12 +289,26 @@ note_by system log e k recs room keeps can = by_what (what e) refl
           can at letter r is found.unended found.is,
     )
 
+    stands : Stands system log e
+    stands = IsLegal-last Stands system log e legal
+
+    cut_fits : (p : Pid) (small : SmallState) (read : List ℕ) → what e ≡ Sync p small read None → CanCut p read recs
+    cut_fits p small read is r there =
+        let found = found_in system log k recs p r keeps there in
+        let saved : saved_of system log p ≡ r.saved = saved_found system log p r found.is in
+        let before : IsLegalBy Stands system log = IsLegal-before Stands system log e legal in
+        let holds : SyncHolds system log p small read None = subst (KindHolds system log e) is stands.kind in (
+          subst (AreFronts read) saved (sync_fronts system log p small read valid before holds found.unended),
+          subst (AreOnEnds read) saved (sync_ends system log p small read valid before holds found.unended),
+        )
+
     by_what : (w : What) → what e ≡ w → CanNote w recs
     by_what (Mail at letter) is = letter_fits at letter is
     by_what (Birth parent at child end) is = tt
     by_what (Exit q at end) is = tt
     by_what (Page pid at index bytes) is = tt
-    by_what (Sync pid small read took) is = tt
+    by_what (Sync q small read None) is = cut_fits q small read is
+    by_what (Sync q small read (Some g)) is = absurd (no_signal_taken system log e q small read g is stands.applies)
     by_what (Fetch pid index) is = tt
     by_what (PageIs pid index bytes) is = tt
     by_what (Crash k cause) is = tt
@@ -274,4 +319,5 @@ note_by system log e k recs room keeps can = by_what (what e) refl
 
 -- each entry of a legal log may be noted
 pub can_note : (system : System) (log : List Entry) (e : Entry) (k : ClusterNo) (recs : List BackRec) → is_system system ≡ true → IsLegal system (log ++ e ∷ []) → length log < 2 ^ 64 - 1 → KeepsRecords system log k recs → CanNote (what e) recs
-can_note system log e k recs valid legal room keeps = note_by system log e k recs room keeps (λ at letter kept is unended kept_is. can_count system log e at letter kept valid legal is unended kept_is)
+can_note system log e k recs valid legal room keeps =
+    note_by system log e k recs valid (legal_stands MayFollow (λ system log e may. may.stands) system (log ++ e ∷ []) legal) room keeps (λ at letter kept is unended kept_is. can_count system log e at letter kept valid legal is unended kept_is)

@@ -23,7 +23,7 @@ use Rattle.cert_sched.proofs.FreshLaws.{only_one}
 use Rattle.cert_sched.proofs.RollLaws.{all_roll, two_apart}
 use Rattle.crash_notice.specs.Splitting.{is_moved_here, stays}
 use Rattle.backup_records.specs.Records.{record_in, record_after}
-use Rattle.record_laws.specs.Kept.{KeepsRecords, has_backup_in, starts_none}
+use Rattle.record_laws.specs.Kept.{KeepsRecords, has_backup_in, is_renewed}
 use Rattle.record_laws.proofs.KeptLaws.{with_backup_unended}
 use Rattle.record_laws.proofs.OneRecord.{record_follows}
 use Rattle.record_laws.proofs.Standing.{itself}
@@ -127,7 +127,7 @@ loss_kept system log e lost here cause recs valid legal is apart keeps p = by_pl
         let has : has_backup_in system log here p ≡ true = ap backed there ∙ backup in
         same_record (backup_record system log p)
         ∙ ap (λ w. option_map (record_after w) (backup_record system log p)) (sym is)
-        ∙ sym (record_follows Stands itself system log e p valid legal (ap starts_none is) (with_backup_unended system log here p has))
+        ∙ sym (record_follows Stands itself system log e p valid legal (ap (is_renewed p) is) (with_backup_unended system log here p has))
         ∙ ap (λ b. cond b (backup_record system (log ++ e ∷ []) p) None) (sym (ap (λ c. is_cluster (cond c None q.backup) here) (not_lost q.backup lost here apart backup) ∙ backup))
     by_case q false false there backup = ap (λ b. cond b (backup_record system (log ++ e ∷ []) p) None) (sym (lost_or_not q (is_cluster q.backup lost) backup))
 

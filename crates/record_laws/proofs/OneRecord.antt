@@ -1,6 +1,7 @@
 -- What one more entry makes of the record of a process.
-use Rattle.std.proofs.Common.{◌≡◌, ℕ, zero, suc, ◌+◌, ◌-◌, ◌<◌, refl, sym, ◌∙◌, ap, subst, List, [], ◌∷◌, ◌++◌, length, append-nil, add-zero, Bool, true, false, cond, Option, Some, None, is_some, true≢false}
+use Rattle.std.proofs.Common.{◌≡◌, ℕ, zero, suc, ◌+◌, ◌-◌, ◌<◌, refl, sym, ◌∙◌, ap, subst, List, [], ◌∷◌, ◌++◌, length, append-nil, add-zero, Bool, true, false, cond, eq-eqb, Option, Some, None, is_some, true≢false}
 use Rattle.std.specs.Prelude.{option_map, option_and_then}
+use Rattle.std.specs.Option.{option_map_or}
 use Rattle.std.proofs.lemmas.Grind.{flat_map-append}
 use Rattle.t32_base.specs.declared.process.Pid.{Pid}
 use Rattle.t32_base.specs.declared.process.End.{End}
@@ -9,16 +10,17 @@ use Rattle.t32_base.specs.declared.letter.Arrived.{Arrived}
 use Rattle.t32_base.specs.declared.letter.To.{To}
 use Rattle.t32_base.specs.declared.letter.To.TheVariants.{Proc, Tty}
 use Rattle.t32_base.specs.declared.letter.BackRec.{BackRec}
+use Rattle.t32_base.specs.Small.{SmallState}
 use Rattle.sys_text.specs.declared.system.System.{System}
 use Rattle.sys_text.specs.Valid.{is_system}
-use Rattle.write_count.specs.Counting.{counts_of, raised}
+use Rattle.write_count.specs.Counting.{counts_of, no_counts, raised}
 use Rattle.write_count.proofs.CountLaws.{counts_of-append}
 use Rattle.proc_state.specs.State.{ProcState}
 use Rattle.sys_calls.specs.declared.steps.Emission.TheVariants.{Mail as Sent, Exit as Ended}
 use Rattle.sys_calls.specs.Next.{silently}
 use Rattle.sys_calls.proofs.Counting.{last_sent}
 use Rattle.sys_calls.proofs.Leaving.{silent_ends, letter_leaves}
-use Rattle.plain_kernel.specs.Kernel.{process_at}
+use Rattle.plain_kernel.specs.Kernel.{Kernel, process_at}
 use Rattle.plain_kernel.proofs.Laws.{last_silent, no_silent}
 use Rattle.bus_msg.specs.declared.entry.What.{What}
 use Rattle.bus_msg.specs.declared.entry.What.TheVariants.{Mail, Birth, Exit, Page, Sync, Fetch, PageIs, Crash, Return, Rebackup, Done, Stop}
@@ -27,22 +29,25 @@ use Rattle.bus_msg.specs.Places.{same_pid}
 use Rattle.bus_msg.specs.PlacedAfter.{what}
 use Rattle.roll_forward.specs.Deeds.{Deed, Sends, letter_in, child_in, letters_in, births_in}
 use Rattle.cert_sched.specs.Parts.{after_last}
-use Rattle.cert_sched.specs.Schedule.{done, process_after}
+use Rattle.cert_sched.specs.Schedule.{done, items_of, process_after, run_upto}
 use Rattle.cert_sched.specs.Deeds.{starts, is_cut, is_birth_of, start_of, since, deeds_in, letter_for, to_process, letters_to, numbered, arrived_count, saved_letters}
 use Rattle.cert_sched.specs.Record.{has_state, backup_record, record_with, record_from}
-use Rattle.cert_sched.specs.Kinds.{KindHolds}
+use Rattle.cert_sched.specs.Kinds.{KindHolds, SyncHolds}
 use Rattle.cert_sched.specs.Legal.{IsLegalBy, Stands}
 use Rattle.cert_sched.specs.Simulation.{IsUnended}
 use Rattle.cert_sched.proofs.LogLaws.{IsLegal-before, IsLegal-last}
-use Rattle.cert_sched.proofs.RecordLaws.{backup_record-other, backup_record-goes_on}
-use Rattle.cert_sched.proofs.StepLaws.{is_sent, sent_from}
+use Rattle.cert_sched.proofs.RecordLaws.{arrived_count-other, backup_record-cut, backup_record-other, backup_record-goes_on}
+use Rattle.cert_sched.proofs.StepLaws.{is_sent, no_birth, no_signal_taken, process_after-silent, sent_from}
 use Rattle.cert_sched.proofs.EndsLaws.{process_after-ends}
-use Rattle.cert_sched.proofs.CameLaws.{IsStandingRule}
+use Rattle.cert_sched.proofs.CameLaws.{IsStandingRule, same_of}
 use Rattle.cert_sched.proofs.RollLaws.{Rolls, all_roll}
 use Rattle.cert_sched.proofs.OpenLaws.{unended_open}
 use Rattle.cert_sched.proofs.ThereLaws.{unended_there}
-use Rattle.backup_records.specs.Records.{record_after, saved_by_receiver, counted_by_sender, is_receiver, with_saved, with_counted}
-use Rattle.record_laws.specs.Kept.{starts_none}
+use Rattle.read_laws.proofs.SyncReads.{sync_left, synced}
+use Rattle.backup_queue.specs.Queue.{unread}
+use Rattle.backup_records.specs.Records.{record_after, saved_by_receiver, counted_by_sender, is_receiver, with_cut, with_saved, with_counted}
+use Rattle.record_laws.specs.Kept.{is_noted, is_renewed}
+use Rattle.record_laws.proofs.Standing.{legal_stands}
 
 -- ---- the end that a letter leaves from
 
@@ -121,7 +126,17 @@ record_told at letter p stated saved next deeds start out =
 
 -- ---- one more entry
 
-module _ (May : System → List Entry → Entry → Type 0) (standing : IsStandingRule May) (system : System) (log : List Entry) (e : Entry) (p : Pid) where
+-- an entry that does not cut the process is no such new backup,
+pub uncut_unrenewed : (p : Pid) (w : What) → is_cut p w ≡ false → is_renewed p w ≡ false
+uncut_unrenewed p (Rebackup to fresh recs) none = none
+uncut_unrenewed p w none = refl
+
+-- nor is one of the kinds that are noted
+pub noted_unrenewed : (p : Pid) (w : What) → is_noted w ≡ true → is_renewed p w ≡ false
+noted_unrenewed p (Rebackup to fresh recs) noted = absurd (true≢false (sym noted))
+noted_unrenewed p w noted = refl
+
+module _ (system : System) (log : List Entry) (e : Entry) (p : Pid) (valid : is_system system ≡ true) (legal : IsLegalBy Stands system log) (unended : IsUnended system log p) where
   started_record : (start : ProcState) → start_of system log p ≡ Some start → backup_record system log p ≡ Some (record_from system log p start)
   unfolding backup_record
   started_record start started = ap (option_map (record_from system log p)) started
@@ -180,22 +195,67 @@ module _ (May : System → List Entry → Entry → Type 0) (standing : IsStandi
   others_after w is cut birth deeds letters =
       backup_record-other system log e p (ap (is_cut p) is ∙ cut) (ap (is_birth_of p) is ∙ birth) (ap (deeds_in p) is ∙ deeds) (ap (letter_for p) is ∙ letters)
 
-  by_kind : (now : ProcState) → Stands system log e → Rolls system log p now → (w : What) → what e ≡ w → starts_none w ≡ true → backup_record system (log ++ e ∷ []) p ≡ option_map (record_after w) (backup_record system log p)
+  -- ---- a synchronisation
+
+  -- that of the process cuts its record
+  after_own : (small : SmallState) (read : List ℕ) (now : ProcState) → what e ≡ Sync p small read None → Stands system log e → Rolls system log p now
+      → backup_record system (log ++ e ∷ []) p ≡ option_map (record_after (Sync p small read None)) (backup_record system log p)
+  after_own small read now is stands rolls =
+      let start = rolls.start in
+      let holds : SyncHolds system log p small read None = subst (KindHolds system log e) is stands.kind in
+      let s = synced system log p small read valid legal holds unended in
+      let own : same_pid p p ≡ true = eq-eqb p.0 p.0 refl in
+      let items : (k : Kernel) → items_of k (what e) ≡ run_upto k p small.steps = λ k. ap (items_of k) is ∙ append-nil (run_upto k p small.steps) in
+      let came : arrived_count (log ++ e ∷ []) p ≡ arrived_count log p =
+      arrived_count-other log e p (ap (is_birth_of p) is) ∙ ap (λ w. arrived_count log p + length (letter_for p w)) is ∙ add-zero (arrived_count log p) in
+      let saved : unread read (saved_letters log p start) ≡ s.at.mail =
+      ap (λ (o : Option ProcState). unread read (option_map_or (saved_letters log p) o [])) (sym rolls.started) ∙ sync_left system log p small read valid legal holds unended in
+      backup_record-cut system log e p (ap (is_cut p) is ∙ own)
+      ∙ ap (option_map (λ (s : ProcState). record_with p true s.mail (arrived_count (log ++ e ∷ []) p) [] s)) (process_after-silent system log e p small.steps s.at s.reached items)
+      ∙ (λ i. Some (record { pid = p; state = Some (s.state i); saved = sym saved i; next = came i; counts = no_counts; births = [] }))
+      ∙ ap (λ b. Some (cond b (with_cut small read (record_from system log p start)) (record_from system log p start))) (sym own)
+      ∙ ap (option_map (record_after (Sync p small read None))) (sym (started_record start rolls.started))
+
+  -- that of another leaves it
+  after_other : (q : Pid) (small : SmallState) (read : List ℕ) (now : ProcState) → what e ≡ Sync q small read None → same_pid q p ≡ false → Rolls system log p now
+      → backup_record system (log ++ e ∷ []) p ≡ option_map (record_after (Sync q small read None)) (backup_record system log p)
+  after_other q small read now is apart rolls =
+      let start = rolls.start in
+      backup_record-other system log e p (ap (is_cut p) is ∙ apart) (ap (is_birth_of p) is) (ap (deeds_in p) is) (ap (letter_for p) is)
+      ∙ started_record start rolls.started
+      ∙ ap (λ b. Some (cond b (with_cut small read (record_from system log p start)) (record_from system log p start))) (sym apart)
+      ∙ ap (option_map (record_after (Sync q small read None))) (sym (started_record start rolls.started))
+
+  after_sync : (q : Pid) (small : SmallState) (read : List ℕ) (now : ProcState) → what e ≡ Sync q small read None → Stands system log e → Rolls system log p now
+      → backup_record system (log ++ e ∷ []) p ≡ option_map (record_after (Sync q small read None)) (backup_record system log p)
+  after_sync q small read now is stands rolls = by_pid (same_pid q p) refl
+    where
+      by_pid : (b : Bool) → same_pid q p ≡ b → backup_record system (log ++ e ∷ []) p ≡ option_map (record_after (Sync q small read None)) (backup_record system log p)
+      by_pid true same =
+          let pids : q ≡ p = same_of q p same in
+          subst (λ (r : Pid). backup_record system (log ++ e ∷ []) p ≡ option_map (record_after (Sync r small read None)) (backup_record system log p)) (sym pids)
+          (after_own small read now (is ∙ ap (λ (r : Pid). Sync r small read None) pids) stands rolls)
+      by_pid false apart = after_other q small read now is apart rolls
+
+  -- ---- each kind
+
+  by_kind : (now : ProcState) → Stands system log e → Rolls system log p now → (w : What) → what e ≡ w → is_renewed p w ≡ false → backup_record system (log ++ e ∷ []) p ≡ option_map (record_after w) (backup_record system log p)
   by_kind now stands rolls (Mail at letter) is none = after_letter at letter now is stands rolls
-  by_kind now stands rolls (Birth parent at child end) is none = absurd (true≢false (sym none))
+  by_kind now stands rolls (Birth parent at child end) is none = absurd (no_birth system log e parent at child end is stands.applies)
   by_kind now stands rolls (Exit q at end) is none = after_exit_of q at end is ∙ kept_by (record_after (Exit q at end)) (λ r. refl) (backup_record system log p)
   by_kind now stands rolls (Page pid at index bytes) is none = others_after (Page pid at index bytes) is refl refl refl refl ∙ kept_by (record_after (Page pid at index bytes)) (λ r. refl) (backup_record system log p)
-  by_kind now stands rolls (Sync pid small read took) is none = absurd (true≢false (sym none))
+  by_kind now stands rolls (Sync q small read (Some g)) is none = absurd (no_signal_taken system log e q small read g is stands.applies)
+  by_kind now stands rolls (Sync q small read None) is none = after_sync q small read now is stands rolls
   by_kind now stands rolls (Fetch pid index) is none = others_after (Fetch pid index) is refl refl refl refl ∙ kept_by (record_after (Fetch pid index)) (λ r. refl) (backup_record system log p)
   by_kind now stands rolls (PageIs pid index bytes) is none = others_after (PageIs pid index bytes) is refl refl refl refl ∙ kept_by (record_after (PageIs pid index bytes)) (λ r. refl) (backup_record system log p)
   by_kind now stands rolls (Crash k cause) is none = others_after (Crash k cause) is refl refl refl refl ∙ kept_by (record_after (Crash k cause)) (λ r. refl) (backup_record system log p)
   by_kind now stands rolls (Return k) is none = others_after (Return k) is refl refl refl refl ∙ kept_by (record_after (Return k)) (λ r. refl) (backup_record system log p)
-  by_kind now stands rolls (Rebackup to fresh recs) is none = absurd (true≢false (sym none))
+  by_kind now stands rolls (Rebackup to fresh recs) is none = others_after (Rebackup to fresh recs) is none refl refl refl ∙ kept_by (record_after (Rebackup to fresh recs)) (λ r. refl) (backup_record system log p)
   by_kind now stands rolls (Done rests) is none = others_after (Done rests) is refl refl refl refl ∙ kept_by (record_after (Done rests)) (λ r. refl) (backup_record system log p)
   by_kind now stands rolls Stop is none = others_after Stop is refl refl refl refl ∙ kept_by (record_after Stop) (λ r. refl) (backup_record system log p)
 
--- an entry that starts no process makes of the record of one that has not ended what `record_after` makes of it
-pub record_follows : (May : System → List Entry → Entry → Type 0) → IsStandingRule May → (system : System) (log : List Entry) (e : Entry) (p : Pid) → is_system system ≡ true → IsLegalBy May system (log ++ e ∷ []) → starts_none (what e) ≡ true → IsUnended system log p
+-- an entry that is no new backup for a process after it has run makes of its record, where it has not ended, what `record_after` makes of it
+pub record_follows : (May : System → List Entry → Entry → Type 0) → IsStandingRule May → (system : System) (log : List Entry) (e : Entry) (p : Pid) → is_system system ≡ true → IsLegalBy May system (log ++ e ∷ []) → is_renewed p (what e) ≡ false → IsUnended system log p
     → backup_record system (log ++ e ∷ []) p ≡ option_map (record_after (what e)) (backup_record system log p)
 record_follows May standing system log e p valid legal none unended = by_process (process_after system log p) refl (unended_there May standing system log p valid before unended)
   where
@@ -205,5 +265,5 @@ record_follows May standing system log e p valid legal none unended = by_process
     by_process : (o : Option ProcState) → process_after system log p ≡ o → is_some o ≡ true → backup_record system (log ++ e ∷ []) p ≡ option_map (record_after (what e)) (backup_record system log p)
     by_process None there some = absurd (true≢false (sym some))
     by_process (Some now) there some =
-        by_kind May standing system log e p now (standing system log e (IsLegal-last May system log e legal))
+        by_kind system log e p valid (legal_stands May standing system log before) unended now (standing system log e (IsLegal-last May system log e legal))
         ((all_roll May standing system log valid before).rolls p now there (unended_open May standing system log p valid before unended now there)) (what e) refl none

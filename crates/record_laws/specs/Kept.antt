@@ -9,10 +9,11 @@ use Rattle.write_count.specs.Counting.{no_counts}
 use Rattle.proc_state.specs.State.{ProcState}
 use Rattle.plain_kernel.specs.Kernel.{boot}
 use Rattle.bus_msg.specs.declared.entry.What.{What}
-use Rattle.bus_msg.specs.declared.entry.What.TheVariants.{Birth, Sync, Crash, Rebackup}
+use Rattle.bus_msg.specs.declared.entry.What.TheVariants.{Birth, Crash, Rebackup}
 use Rattle.bus_msg.specs.declared.entry.Entry.{Entry}
 use Rattle.bus_msg.specs.declared.placed.Placed.{Placed}
 use Rattle.bus_msg.specs.Places.{is_cluster, unended_at}
+use Rattle.cert_sched.specs.Deeds.{is_cut}
 use Rattle.cert_sched.specs.Schedule.{placement}
 use Rattle.cert_sched.specs.Record.{backup_record}
 use Rattle.backup_records.specs.Records.{record_in}
@@ -37,14 +38,18 @@ boot_records_of system k processes = map record_at_boot (filter (λ (e : Pid × 
 abbrev pub records_at_boot : System → ClusterNo → List BackRec
 records_at_boot system k = boot_records_of system k (boot system).processes
 
--- the kinds that start no process, again or anew: all but births, synchronisations and new backups
-abbrev pub starts_none : What → Bool
-starts_none (Birth parent at child end) = false
-starts_none (Sync pid small read took) = false
-starts_none (Rebackup to fresh recs) = false
-starts_none w = true
+-- the kinds whose change of the record of a process that goes on is what `record_after` makes of it: all but births and new backups
+abbrev pub is_noted : What → Bool
+is_noted (Birth parent at child end) = false
+is_noted (Rebackup to fresh recs) = false
+is_noted w = true
 
 -- and no loss, at which records leave
 abbrev pub changes_in_place : What → Bool
 changes_in_place (Crash k cause) = false
-changes_in_place w = starts_none w
+changes_in_place w = is_noted w
+
+-- a new backup for the process, after it has run
+abbrev pub is_renewed : Pid → What → Bool
+is_renewed p (Rebackup to fresh recs) = is_cut p (Rebackup to fresh recs)
+is_renewed p w = false

@@ -21,7 +21,7 @@ ghost use Rattle.cert_sched.specs.Built.{BuiltMayFollow};
 ghost use Rattle.cert_sched.specs.Record.{backup_record};
 ghost use Rattle.cert_sched.specs.Simulation.{IsUnended};
 ghost use Rattle.backup_records.specs.Records.{CanNote, record_after, record_in, records_after};
-ghost use Rattle.record_laws.specs.Kept.{KeepsRecords, changes_in_place, starts_none};
+ghost use Rattle.record_laws.specs.Kept.{KeepsRecords, changes_in_place, is_renewed};
 
 /// A law and no code: in a legal log each entry stands, and so it does in one of the entries that are built so far.
 pub fn legal_logs_stand()
@@ -29,14 +29,14 @@ pub fn legal_logs_stand()
     ensures built { (system : System) (log : List Entry) → IsLegalBy BuiltMayFollow system log → IsLegalBy Stands system log }
 {}
 
-/// A law and no code: an entry that starts no process makes of the record of one that has not ended what
-/// `record_after` makes of it.
+/// A law and no code: an entry that is no new backup for a process after it has run makes of its record, where it has
+/// not ended, what `record_after` makes of it.
 pub fn records_follow()
-    ensures { (system : System) (log : List Entry) (e : Entry) (p : Pid) → is_system system ≡ true → IsLegalBy Stands system (log ++ e ∷ []) → starts_none (what e) ≡ true → IsUnended system log p → backup_record system (log ++ e ∷ []) p ≡ option_map (record_after (what e)) (backup_record system log p) }
+    ensures { (system : System) (log : List Entry) (e : Entry) (p : Pid) → is_system system ≡ true → IsLegalBy Stands system (log ++ e ∷ []) → is_renewed p (what e) ≡ false → IsUnended system log p → backup_record system (log ++ e ∷ []) p ≡ option_map (record_after (what e)) (backup_record system log p) }
 {}
 
 /// A law and no code: where the records of a cluster are those of the log, what an entry makes of them are those
-/// of the log with it, if it starts no process and is no loss.
+/// of the log with it, if it is no birth, no new backup and no loss.
 pub fn records_are_kept()
     ensures { (system : System) (log : List Entry) (e : Entry) (k : ClusterNo) (recs : List BackRec) → is_system system ≡ true → IsLegalBy Stands system (log ++ e ∷ []) → changes_in_place (what e) ≡ true → KeepsRecords system log k recs → KeepsRecords system (log ++ e ∷ []) k (records_after (what e) recs) }
 {}

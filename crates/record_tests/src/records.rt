@@ -1,8 +1,9 @@
 //! The records of a few processes, with what entries make of them.
-ghost use Rattle.std.specs.Prelude.{◌≡◌, ◌<◌, ◌^◌, ◌-◌, [], ◌∷◌, IfOk, IsTrue, true};
+ghost use Rattle.std.specs.Prelude.{◌≡◌, ◌<◌, ◌^◌, ◌-◌, List, [], ◌∷◌, IfOk, IsTrue, true};
 ghost use Rattle.write_count.specs.Counting.{count_for};
 ghost use Rattle.backup_queue.specs.Fronts.{AreFronts, AreOnEnds};
-ghost use Rattle.backup_records.specs.Records.{CanCount, CanCut, CanSave};
+ghost use Rattle.backup_records.specs.Records.{CanCount, CanCut, CanNote, CanSave};
+ghost use Rattle.t32_base.specs.declared.letter.BackRec.{BackRec};
 ghost use Rattle.t32_base.specs.declared.letter.To.TheVariants.{Proc};
 ghost use Rattle.t32_base.specs.declared.letter.Body.TheVariants.{EndOf};
 
@@ -10,6 +11,7 @@ use backup_queue::record::Record;
 use backup_records::records::Records;
 use bus_msg::entry::What;
 use bus_msg::placed::Placed;
+use bus_msg::shared::Shared;
 use channel_table::placement::Placement;
 use proc_state::process::Process;
 use std::alloc::Global;
@@ -324,6 +326,42 @@ fn state_told(records: &Records) -> Option<(u32, u64, u32)> {
 fn a_cut_gives_the_record_its_state(rt: HostRuntime) -> Result<(), Fail> {
     let alloc = rt.alloc();
     let mut kept = one_kept(alloc)?;
-    kept.cut(Pid(16), fresh_state(alloc)?, &[0]);
+    kept.cut(Pid(16), &fresh_state(alloc)?, &[0]);
     same("the record", &state_told(&kept), &Some((1000, 2, 0)))
+}
+
+// The synchronisation of the process 16, which has read the letter 0.
+fn first_read(alloc: Global) -> Result<What, NoMemory>
+    ensures { IfOk result (λ what. (recs : List BackRec) → CanCut (record { 0 = 16 }) (0 ∷ []) recs → CanNote what recs) }
+{
+    let mut read = List::new(alloc);
+    read.push(0)?;
+    Ok(What::Sync {
+        pid: Pid(16),
+        small: Shared::new(alloc, fresh_state(alloc)?)?,
+        read,
+        took: None,
+    })
+}
+
+// What is told of the record after it, and the number of the first letter that is still saved.
+type Cut = (Option<(u32, u64, u32)>, Option<u64>);
+
+fn cut_by_entry(alloc: Global) -> Result<Cut, Fail> {
+    let what = first_read(alloc)?;
+    let mut kept = one_kept(alloc)?;
+    kept.note(&what)?;
+    let told = state_told(&kept);
+    let before = placed(alloc)?;
+    let moved = kept.take_moved(alloc, ClusterNo(0), ClusterNo(1), &before)?;
+    Ok((told, saved_last(moved).map(|letter| letter.number)))
+}
+
+#[test]
+fn a_synchronisation_that_is_noted_cuts_the_record(rt: HostRuntime) -> Result<(), Fail> {
+    same(
+        "the record and the letter that is left",
+        &cut_by_entry(rt.alloc())?,
+        &(Some((1000, 2, 0)), Some(1)),
+    )
 }

@@ -1,5 +1,5 @@
 -- The laws of a process that rolls forward, by the rules under which they are promised.
-use Rattle.std.proofs.Common.{◌≡◌, ℕ, arith, ◌<◌, ◌≤◌, ◌^◌, sym, subst, List, [], ◌∷◌, ◌++◌, true, false, Some}
+use Rattle.std.proofs.Common.{◌≡◌, ℕ, arith, ◌<◌, ◌≤◌, ◌^◌, sym, ◌∙◌, subst, List, [], ◌∷◌, ◌++◌, true, false, Some}
 use Rattle.std.specs.Prelude.{fold}
 use Rattle.t32_base.specs.declared.process.Pid.{Pid}
 use Rattle.t32_base.specs.declared.process.Counts.{Counts}
@@ -18,7 +18,7 @@ use Rattle.roll_forward.specs.Rolling.{CanRoll, RollingState, started}
 use Rattle.roll_forward.specs.Advancing.{Advances, Going, rolled_on}
 use Rattle.roll_forward.specs.declared.rolled.Rolled.{Rolled}
 use Rattle.cert_sched.specs.Schedule.{process_after}
-use Rattle.cert_sched.specs.Deeds.{is_cut, is_birth_of, start_of, deeds_in, letter_for}
+use Rattle.cert_sched.specs.Deeds.{is_cut, start_of, deeds_in, letter_for}
 use Rattle.cert_sched.specs.Steps.{silent_upto}
 use Rattle.cert_sched.specs.Record.{backup_record}
 use Rattle.cert_sched.specs.Rules.{is_over}
@@ -31,15 +31,16 @@ use Rattle.cert_sched.proofs.MailLaws.{built_is_plain}
 use Rattle.cert_sched.proofs.CameLaws.{IsStandingRule}
 use Rattle.cert_sched.proofs.OpenLaws.{unended_open}
 use Rattle.recovery_laws.specs.Behind.{EndsExactly, RollsBehind, RunsAhead}
-use Rattle.recovery_laws.proofs.Entries.{fold_delivered, rolls_entry_unended, rolls_entry_plain, rolls_letter, rolls_quiet}
+use Rattle.recovery_laws.proofs.Entries.{fold_delivered, rolls_entry_standing, rolls_letter, rolls_quiet}
 use Rattle.recovery_laws.proofs.Reaching.{led_there, led_unended}
 use Rattle.recovery_laws.proofs.Stepping.{rolls_on, went_on, behind_on, rolls_advanced}
 use Rattle.recovery_laws.proofs.RunningOut.{runs_ahead, can_roll}
 use Rattle.recovery_laws.proofs.NotEnded.{rolls_not_ended, rolls_not_blocked}
-use Rattle.recovery_laws.proofs.KeepingBehind.{behind_from_record, behind_entry}
-use Rattle.recovery_laws.proofs.FromBoot.{stated_at_boot, behind_from_boot}
+use Rattle.recovery_laws.proofs.KeepingBehind.{behind_from_record, behind_standing}
+use Rattle.recovery_laws.proofs.FromBoot.{start_at_boot}
+use Rattle.recovery_laws.proofs.FromStart.{stated_at_start, behind_from_start}
 use Rattle.recovery_laws.proofs.Exact.{exact_unended}
-use Rattle.recovery_laws.proofs.CaughtUp.{caught_up, caught_up_after, caught_up_from, ends_exactly, silent_here}
+use Rattle.recovery_laws.proofs.CaughtUp.{standing_caught_up, caught_up_after, caught_up_from, ends_exactly, silent_here}
 
 -- each entry stands by the rule of the entries that stand, and by that of those that are built so far
 pub itself : IsStandingRule Stands
@@ -54,38 +55,40 @@ begins_behind system log p start kept small ram valid legal unended =
     let l = led_there Stands itself system log p valid legal unended in
     behind_from_record system log p l.now start kept small ram l.led
 
+-- its record has the state of its start, and with the memory of its start it rolls forward
+pub standing_stated : (system : System) (log : List Entry) (p : Pid) (start : ProcState) (kept : BackRec) → IsLegalBy Stands system log → IsUnended system log p → start_of system log p ≡ Some start → backup_record system log p ≡ Some kept
+    → kept.state ≡ Some start.small
+standing_stated = stated_at_start Stands itself
+
+pub standing_from_start : (system : System) (log : List Entry) (p : Pid) (start : ProcState) (kept : BackRec) (ram : Memory) → is_system system ≡ true → IsLegalBy Stands system log → IsUnended system log p → start_of system log p ≡ Some start
+    → backup_record system log p ≡ Some kept → ram.bytes ≡ start.memory → RollsBehind system log p (started start.small ram kept.saved kept.next) kept.counts kept.births
+standing_from_start = behind_from_start Stands itself
+
+-- While no kind that is built is a cut: that of boot.
 pub built_stated : (system : System) (log : List Entry) (p : Pid) (start : ProcState) (kept : BackRec) → IsLegalBy BuiltMayFollow system log → IsUnended system log p → process_after system [] p ≡ Some start → backup_record system log p ≡ Some kept
     → kept.state ≡ Some start.small
-built_stated = stated_at_boot BuiltMayFollow built_is_plain
-
-pub built_from_boot : (system : System) (log : List Entry) (p : Pid) (start : ProcState) (kept : BackRec) (ram : Memory) → is_system system ≡ true → IsLegalBy BuiltMayFollow system log → IsUnended system log p → process_after system [] p ≡ Some start
-    → backup_record system log p ≡ Some kept → ram.bytes ≡ start.memory → RollsBehind system log p (started start.small ram kept.saved kept.next) kept.counts kept.births
-built_from_boot = behind_from_boot BuiltMayFollow built_is_plain
+built_stated system log p start kept legal unended there =
+    stated_at_start BuiltMayFollow built_stands system log p start kept legal unended (start_at_boot BuiltMayFollow built_is_plain system log p legal ∙ there)
 
 -- ---- entries
 
-pub standing_entry : (system : System) (log : List Entry) (e : Entry) (p : Pid) (s : ProcState) (counts : Counts) (births : List Pid) → is_system system ≡ true → IsLegalBy Stands system (log ++ e ∷ []) → IsUnended system log p → is_cut p (what e) ≡ false
-    → is_birth_of p (what e) ≡ false → deeds_in p (what e) ≡ [] → RollsAs system log p s counts births → RollsAs system (log ++ e ∷ []) p (fold delivered s (letter_for p (what e))) counts births
-standing_entry system log e p s counts births valid legal unended no_cut no_birth none rolls =
-    subst (λ t. RollsAs system (log ++ e ∷ []) p t counts births) (sym (fold_delivered s (letter_for p (what e)))) (rolls_entry_unended system log e p Stands itself s counts births valid legal unended no_cut no_birth none rolls)
-
-pub built_entry : (system : System) (log : List Entry) (e : Entry) (p : Pid) (s : ProcState) (counts : Counts) (births : List Pid) → IsLegalBy BuiltMayFollow system (log ++ e ∷ []) → deeds_in p (what e) ≡ []
+pub standing_entry : (system : System) (log : List Entry) (e : Entry) (p : Pid) (s : ProcState) (counts : Counts) (births : List Pid) → is_system system ≡ true → IsLegalBy Stands system (log ++ e ∷ []) → is_cut p (what e) ≡ false → deeds_in p (what e) ≡ []
     → RollsAs system log p s counts births → RollsAs system (log ++ e ∷ []) p (fold delivered s (letter_for p (what e))) counts births
-built_entry system log e p s counts births legal none rolls =
-    subst (λ t. RollsAs system (log ++ e ∷ []) p t counts births) (sym (fold_delivered s (letter_for p (what e)))) (rolls_entry_plain system log e p BuiltMayFollow built_is_plain s counts births legal none rolls)
+standing_entry system log e p s counts births valid legal no_cut none rolls =
+    subst (λ t. RollsAs system (log ++ e ∷ []) p t counts births) (sym (fold_delivered s (letter_for p (what e)))) (rolls_entry_standing system log e p Stands itself s counts births valid legal no_cut none rolls)
 
-pub built_letter : (system : System) (log : List Entry) (e : Entry) (p : Pid) (s : ProcState) (counts : Counts) (births : List Pid) (letter : Letter) → IsLegalBy BuiltMayFollow system (log ++ e ∷ []) → deeds_in p (what e) ≡ [] → letter_for p (what e) ≡ letter ∷ []
-    → RollsAs system log p s counts births → RollsAs system (log ++ e ∷ []) p (delivered s letter) counts births
-built_letter system log e p = rolls_letter system log e p BuiltMayFollow built_is_plain
+pub standing_letter : (system : System) (log : List Entry) (e : Entry) (p : Pid) (s : ProcState) (counts : Counts) (births : List Pid) (letter : Letter) → is_system system ≡ true → IsLegalBy Stands system (log ++ e ∷ []) → is_cut p (what e) ≡ false
+    → deeds_in p (what e) ≡ [] → letter_for p (what e) ≡ letter ∷ [] → RollsAs system log p s counts births → RollsAs system (log ++ e ∷ []) p (delivered s letter) counts births
+standing_letter system log e p = rolls_letter system log e p Stands itself
 
-pub built_quiet : (system : System) (log : List Entry) (e : Entry) (p : Pid) (s : ProcState) (counts : Counts) (births : List Pid) → IsLegalBy BuiltMayFollow system (log ++ e ∷ []) → deeds_in p (what e) ≡ [] → letter_for p (what e) ≡ []
-    → RollsAs system log p s counts births → RollsAs system (log ++ e ∷ []) p s counts births
-built_quiet system log e p = rolls_quiet system log e p BuiltMayFollow built_is_plain
+pub standing_quiet : (system : System) (log : List Entry) (e : Entry) (p : Pid) (s : ProcState) (counts : Counts) (births : List Pid) → is_system system ≡ true → IsLegalBy Stands system (log ++ e ∷ []) → is_cut p (what e) ≡ false → deeds_in p (what e) ≡ []
+    → letter_for p (what e) ≡ [] → RollsAs system log p s counts births → RollsAs system (log ++ e ∷ []) p s counts births
+standing_quiet system log e p = rolls_quiet system log e p Stands itself
 
-pub built_behind : (system : System) (log : List Entry) (e : Entry) (p : Pid) (s : ProcState) (counts : Counts) (births : List Pid) → is_system system ≡ true → IsLegalBy BuiltMayFollow system (log ++ e ∷ []) → IsUnended system log p → deeds_in p (what e) ≡ []
-    → RollsBehind system log p s counts births → RollsBehind system (log ++ e ∷ []) p (fold delivered s (letter_for p (what e))) counts births
-built_behind system log e p s counts births valid legal unended none rolls =
-    subst (λ t. RollsBehind system (log ++ e ∷ []) p t counts births) (sym (fold_delivered s (letter_for p (what e)))) (behind_entry system log e p BuiltMayFollow built_is_plain s counts births valid legal unended none rolls)
+pub entry_behind : (system : System) (log : List Entry) (e : Entry) (p : Pid) (s : ProcState) (counts : Counts) (births : List Pid) → is_system system ≡ true → IsLegalBy Stands system (log ++ e ∷ []) → IsUnended system log p → is_cut p (what e) ≡ false
+    → deeds_in p (what e) ≡ [] → RollsBehind system log p s counts births → RollsBehind system (log ++ e ∷ []) p (fold delivered s (letter_for p (what e))) counts births
+entry_behind system log e p s counts births valid legal unended no_cut none rolls =
+    subst (λ t. RollsBehind system (log ++ e ∷ []) p t counts births) (sym (fold_delivered s (letter_for p (what e)))) (behind_standing system log e p Stands itself s counts births valid legal unended no_cut none rolls)
 
 -- ---- steps
 
@@ -147,22 +150,31 @@ standing_moves system log p s counts births valid legal unended =
 
 -- ---- the end of the way
 
-pub built_exact : (system : System) (log : List Entry) (p : Pid) (now : ProcState) → is_system system ≡ true → IsLegalBy BuiltMayFollow system log → is_over system log ≡ false → IsUnended system log p → process_after system log p ≡ Some now → EndsExactly system log p now
-built_exact system log p now valid legal goes_on unended there =
-    ends_exactly system log p now (unended_open BuiltMayFollow built_stands system log p valid legal unended now there) (exact_unended BuiltMayFollow built_is_plain system log p now valid legal goes_on unended there)
+pub standing_exact : (system : System) (log : List Entry) (p : Pid) (now : ProcState) → is_system system ≡ true → IsLegalBy Stands system log → is_over system log ≡ false → IsUnended system log p → process_after system log p ≡ Some now → EndsExactly system log p now
+standing_exact system log p now valid legal goes_on unended there =
+    ends_exactly system log p now (unended_open Stands itself system log p valid legal unended now there) (exact_unended Stands itself system log p now valid legal goes_on unended there)
 
+pub standing_there : (system : System) (log : List Entry) (p : Pid) (s : ProcState) (counts : Counts) (births : List Pid) → is_system system ≡ true → IsLegalBy Stands system log → is_over system log ≡ false → IsUnended system log p
+    → RollsBehind system log p s counts births → nothing_left counts births ≡ true → process_after system log p ≡ Some s
+standing_there = standing_caught_up Stands itself
+
+pub standing_silent : (system : System) (log : List Entry) (p : Pid) (s : ProcState) (counts : Counts) (births : List Pid) → is_system system ≡ true → IsLegalBy Stands system log → is_over system log ≡ false → IsUnended system log p
+    → RollsBehind system log p s counts births → nothing_left counts births ≡ true → silent_upto system log p (s.small).steps ≡ Some s
+standing_silent system log p s counts births valid legal goes_on unended rolls none = silent_here system log p s (standing_there system log p s counts births valid legal goes_on unended rolls none)
+
+pub standing_after : (system : System) (log : List Entry) (p : Pid) (ahead : ℕ) (g h : Going) → is_system system ≡ true → IsLegalBy Stands system log → is_over system log ≡ false → IsUnended system log p
+    → RollsBehind system log p g.state g.counts g.births → RunsOut g.state g.counts g.births ahead → rolled_on ahead g ≡ Some h → process_after system log p ≡ Some h.state
+standing_after = caught_up_after Stands itself
+
+pub standing_from : (system : System) (log : List Entry) (p : Pid) (ahead : ℕ) (g h : Going) → is_system system ≡ true → IsLegalBy Stands system log → is_over system log ≡ false → IsUnended system log p
+    → RollsAs system log p g.state g.counts g.births → nothing_left g.counts g.births ≡ false → RunsOut g.state g.counts g.births ahead → rolled_on ahead g ≡ Some h → process_after system log p ≡ Some h.state
+standing_from = caught_up_from Stands itself
+
+-- in a log of the entries that are built so far
 pub built_caught_up : (system : System) (log : List Entry) (p : Pid) (s : ProcState) (counts : Counts) (births : List Pid) → is_system system ≡ true → IsLegalBy BuiltMayFollow system log → is_over system log ≡ false → IsUnended system log p
     → RollsBehind system log p s counts births → nothing_left counts births ≡ true → process_after system log p ≡ Some s
-built_caught_up = caught_up BuiltMayFollow built_is_plain
+built_caught_up = standing_caught_up BuiltMayFollow built_stands
 
 pub built_silent : (system : System) (log : List Entry) (p : Pid) (s : ProcState) (counts : Counts) (births : List Pid) → is_system system ≡ true → IsLegalBy BuiltMayFollow system log → is_over system log ≡ false → IsUnended system log p
     → RollsBehind system log p s counts births → nothing_left counts births ≡ true → silent_upto system log p (s.small).steps ≡ Some s
 built_silent system log p s counts births valid legal goes_on unended rolls none = silent_here system log p s (built_caught_up system log p s counts births valid legal goes_on unended rolls none)
-
-pub built_after : (system : System) (log : List Entry) (p : Pid) (ahead : ℕ) (g h : Going) → is_system system ≡ true → IsLegalBy BuiltMayFollow system log → is_over system log ≡ false → IsUnended system log p
-    → RollsBehind system log p g.state g.counts g.births → RunsOut g.state g.counts g.births ahead → rolled_on ahead g ≡ Some h → process_after system log p ≡ Some h.state
-built_after = caught_up_after BuiltMayFollow built_is_plain
-
-pub built_from : (system : System) (log : List Entry) (p : Pid) (ahead : ℕ) (g h : Going) → is_system system ≡ true → IsLegalBy BuiltMayFollow system log → is_over system log ≡ false → IsUnended system log p
-    → RollsAs system log p g.state g.counts g.births → nothing_left g.counts g.births ≡ false → RunsOut g.state g.counts g.births ahead → rolled_on ahead g ≡ Some h → process_after system log p ≡ Some h.state
-built_from = caught_up_from BuiltMayFollow built_is_plain

@@ -20,6 +20,7 @@ use Rattle.cert_sched.specs.Rolling.{refilled, RollsAs}
 use Rattle.cert_sched.specs.Legal.{IsLegalBy}
 use Rattle.cert_sched.specs.Simulation.{IsUnended}
 use Rattle.cert_sched.proofs.MailLaws.{IsPlainRule}
+use Rattle.cert_sched.proofs.CameLaws.{IsStandingRule}
 use Rattle.cert_sched.proofs.ReplayLaws.{Replays, Sharp, sharp_replays, replays_counts, replays_computes}
 use Rattle.cert_sched.proofs.RunsOutLaws.{AllFine, replays_fine, sharp_runs_out, start_ends}
 use Rattle.cert_sched.proofs.OpenLaws.{unended_open}
@@ -76,17 +77,22 @@ caught_up_exact system log p now s counts births there goes_on x rolls none =
         let count = done_is system log p now there in
         no_steps k silent (omega (arith, steps, behind, count))
 
--- In a legal log of letters, exits and losses that is not over, a process that rolls forward, is not beyond where it was and has nothing left is the process in the kernel.
-pub caught_up : (May : System → List Entry → Entry → Type 0) → IsPlainRule May → (system : System) (log : List Entry) (p : Pid) (s : ProcState) (counts : Counts) (births : List Pid) → is_system system ≡ true → IsLegalBy May system log
+-- In a legal log that is not over, a process that rolls forward, is not beyond where it was and has nothing left is the process in the kernel.
+pub standing_caught_up : (May : System → List Entry → Entry → Type 0) → IsStandingRule May → (system : System) (log : List Entry) (p : Pid) (s : ProcState) (counts : Counts) (births : List Pid) → is_system system ≡ true → IsLegalBy May system log
     → is_over system log ≡ false → IsUnended system log p → RollsBehind system log p s counts births → nothing_left counts births ≡ true → process_after system log p ≡ Some s
-caught_up May plain system log p s counts births valid legal goes_on unended rolls none =
-    by_process (process_after system log p) refl (unended_there May (λ system log e may. (plain system log e may).0) system log p valid legal unended)
+standing_caught_up May standing system log p s counts births valid legal goes_on unended rolls none =
+    by_process (process_after system log p) refl (unended_there May standing system log p valid legal unended)
   where
     by_process : (o : Option ProcState) → process_after system log p ≡ o → is_some o ≡ true → process_after system log p ≡ Some s
     by_process None is there = absurd (true≢false (sym there))
     by_process (Some now) is there =
-        is ∙ ap Some (caught_up_exact system log p now s counts births is (unended_open May (λ system log e may. (plain system log e may).0) system log p valid legal unended now is)
-        (exact_unended May plain system log p now valid legal goes_on unended is) rolls none)
+        is ∙ ap Some (caught_up_exact system log p now s counts births is (unended_open May standing system log p valid legal unended now is)
+        (exact_unended May standing system log p now valid legal goes_on unended is) rolls none)
+
+-- so by a rule of some kinds
+pub caught_up : (May : System → List Entry → Entry → Type 0) → IsPlainRule May → (system : System) (log : List Entry) (p : Pid) (s : ProcState) (counts : Counts) (births : List Pid) → is_system system ≡ true → IsLegalBy May system log
+    → is_over system log ≡ false → IsUnended system log p → RollsBehind system log p s counts births → nothing_left counts births ≡ true → process_after system log p ≡ Some s
+caught_up May plain = standing_caught_up May (λ system log e may. (plain system log e may).0)
 
 -- it stands in the log where its own steps are
 pub silent_here : (system : System) (log : List Entry) (p : Pid) (s : ProcState) → process_after system log p ≡ Some s → silent_upto system log p (s.small).steps ≡ Some s
@@ -101,21 +107,21 @@ none_ahead zero ahead h sum runs = runs
 none_ahead (suc left) ahead h sum runs = absurd (omega (arith, sum))
 
 -- after all the steps ahead it has caught up: where it was not beyond before, or where something was left
-pub caught_up_after : (May : System → List Entry → Entry → Type 0) → IsPlainRule May → (system : System) (log : List Entry) (p : Pid) (ahead : ℕ) (g h : Going) → is_system system ≡ true → IsLegalBy May system log
+pub caught_up_after : (May : System → List Entry → Entry → Type 0) → IsStandingRule May → (system : System) (log : List Entry) (p : Pid) (ahead : ℕ) (g h : Going) → is_system system ≡ true → IsLegalBy May system log
     → is_over system log ≡ false → IsUnended system log p → RollsBehind system log p g.state g.counts g.births → RunsOut g.state g.counts g.births ahead → rolled_on ahead g ≡ Some h → process_after system log p ≡ Some h.state
-caught_up_after May plain system log p ahead g h valid legal goes_on unended rolls runs is =
-    let l = led_there May (λ system log e may. (plain system log e may).0) system log p valid legal unended in
+caught_up_after May standing system log p ahead g h valid legal goes_on unended rolls runs is =
+    let l = led_there May standing system log p valid legal unended in
     let behind = behind_on system log p l.now l.led ahead ahead g h rolls runs (omega arith) is in
     let w = went_on system log p l.now l.led ahead ahead g h rolls.rolls runs (omega arith) is in
-    caught_up May plain system log p h.state h.counts h.births valid legal goes_on unended behind (none_ahead w.left ahead h w.sum w.runs_out)
+    standing_caught_up May standing system log p h.state h.counts h.births valid legal goes_on unended behind (none_ahead w.left ahead h w.sum w.runs_out)
 
-pub caught_up_from : (May : System → List Entry → Entry → Type 0) → IsPlainRule May → (system : System) (log : List Entry) (p : Pid) (ahead : ℕ) (g h : Going) → is_system system ≡ true → IsLegalBy May system log
+pub caught_up_from : (May : System → List Entry → Entry → Type 0) → IsStandingRule May → (system : System) (log : List Entry) (p : Pid) (ahead : ℕ) (g h : Going) → is_system system ≡ true → IsLegalBy May system log
     → is_over system log ≡ false → IsUnended system log p → RollsAs system log p g.state g.counts g.births → nothing_left g.counts g.births ≡ false → RunsOut g.state g.counts g.births ahead → rolled_on ahead g ≡ Some h
     → process_after system log p ≡ Some h.state
-caught_up_from May plain system log p ahead g h valid legal goes_on unended rolls left runs is =
-    let l = led_there May (λ system log e may. (plain system log e may).0) system log p valid legal unended in
+caught_up_from May standing system log p ahead g h valid legal goes_on unended rolls left runs is =
+    let l = led_there May standing system log p valid legal unended in
     let w = went_on system log p l.now l.led ahead ahead g h rolls runs (omega arith) is in
-    caught_up May plain system log p h.state h.counts h.births valid legal goes_on unended (record { rolls = w.rolls; behind = w.behind (some ahead runs) }) (none_ahead w.left ahead h w.sum w.runs_out)
+    standing_caught_up May standing system log p h.state h.counts h.births valid legal goes_on unended (record { rolls = w.rolls; behind = w.behind (some ahead runs) }) (none_ahead w.left ahead h w.sum w.runs_out)
   where
     some : (ahead : ℕ) → RunsOut g.state g.counts g.births ahead → 0 < ahead
     some zero runs = absurd (true≢false (sym runs ∙ left))

@@ -1,9 +1,8 @@
 -- A process that rolls forward, where the log has an entry more: the letters of the entry arrive, and what is left stays.
-use Rattle.std.proofs.Common.{◌≡◌, ◌+◌, refl, sym, ◌∙◌, ap, subst, arith, List, [], ◌∷◌, ◌++◌, length, length-append, append-nil, true, false, cond, ◌||◌, Option, Some, None, is_some, true≢false}
+use Rattle.std.proofs.Common.{◌≡◌, ◌+◌, refl, sym, ◌∙◌, ap, subst, arith, List, [], ◌∷◌, ◌++◌, length, length-append, append-nil, Bool, true, false, cond, ◌||◌, Option, Some, None, is_some, true≢false}
 use Rattle.std.specs.Prelude.{fold}
 use Rattle.std.proofs.lemmas.Grind.{flat_map-append}
 use Rattle.t32_base.specs.declared.process.Pid.{Pid}
-use Rattle.t32_base.specs.declared.process.ClusterNo.{ClusterNo}
 use Rattle.t32_base.specs.declared.process.Counts.{Counts}
 use Rattle.t32_base.specs.declared.letter.Letter.{Letter}
 use Rattle.sys_text.specs.declared.system.System.{System}
@@ -13,23 +12,26 @@ use Rattle.sys_calls.proofs.RunLemma.{all_delivered}
 use Rattle.plain_kernel.proofs.Entries.{some_same}
 use Rattle.bus_msg.specs.declared.entry.What.{What}
 use Rattle.bus_msg.specs.declared.entry.What.TheVariants.{Mail, Birth, Exit, Page, Sync, Fetch, PageIs, Crash, Return, Rebackup, Done, Stop}
-use Rattle.bus_msg.specs.declared.entry.Cause.{Cause}
 use Rattle.bus_msg.specs.declared.entry.Entry.{Entry}
+use Rattle.bus_msg.specs.Places.{unended_at}
 use Rattle.bus_msg.specs.PlacedAfter.{what}
 use Rattle.cert_sched.specs.Parts.{after_last}
-use Rattle.cert_sched.specs.Schedule.{plain_after, process_after}
+use Rattle.cert_sched.specs.Schedule.{plain_after, process_after, placement}
+use Rattle.cert_sched.specs.Account.{is_exit_of}
 use Rattle.cert_sched.specs.Deeds.{starts, is_cut, is_birth_of, start_of, since, deeds_in, letter_for, letters_to, arrived_count}
 use Rattle.cert_sched.specs.Rolling.{refilled, RollsAs}
-use Rattle.cert_sched.specs.Legal.{IsLegalBy}
+use Rattle.cert_sched.specs.Legal.{IsLegalBy, Stands}
 use Rattle.cert_sched.specs.Simulation.{IsUnended}
 use Rattle.cert_sched.proofs.ListLaws.{after_last-snoc}
-use Rattle.cert_sched.proofs.LogLaws.{IsLegal-before, IsLegal-last}
+use Rattle.cert_sched.proofs.LogLaws.{placement-snoc, IsLegal-before, IsLegal-last, IsLegal-snoc}
 use Rattle.cert_sched.proofs.RecordLaws.{start_of-snoc, since-snoc, arrived_count-other}
 use Rattle.cert_sched.proofs.Induction.{legal_induction}
-use Rattle.cert_sched.proofs.MailLaws.{IsPlainRule, is_plain, boot_arrived}
+use Rattle.cert_sched.proofs.MailLaws.{is_plain, boot_arrived}
 use Rattle.cert_sched.proofs.ReplayLaws.{Replays, replays_all_delivered}
-use Rattle.cert_sched.proofs.CameLaws.{IsStandingRule}
-use Rattle.cert_sched.proofs.RollLaws.{all_roll, refilled_more}
+use Rattle.cert_sched.proofs.CameLaws.{IsStandingRule, is_birth, not_birth}
+use Rattle.cert_sched.proofs.StayingUnended.{unended_stays}
+use Rattle.cert_sched.proofs.BuiltCuts.{bears_none, cut_unended}
+use Rattle.cert_sched.proofs.RollLaws.{Rolls, all_roll, refilled_more}
 use Rattle.cert_sched.proofs.OpenLaws.{unended_open}
 use Rattle.cert_sched.proofs.ThereLaws.{unended_there}
 use Rattle.recovery_laws.proofs.Replaying.{rolling_of, rolls_as}
@@ -45,6 +47,10 @@ fold_delivered s (letter ∷ letters) = fold_delivered (delivered s letter) lett
 abbrev pub CountsLetters : System → List Entry → Pid → Type 0
 CountsLetters system log p = (start : ProcState) → start_of system log p ≡ Some start → arrived_count log p ≡ start.next + length (letters_to p (after_last (starts p) log))
 
+-- a process that rolls forward counts them so
+pub rolls_count : (system : System) (log : List Entry) (p : Pid) (now : ProcState) → Rolls system log p now → CountsLetters system log p
+rolls_count system log p now r start started = subst (λ (s : ProcState). arrived_count log p ≡ s.next + length (letters_to p (after_last (starts p) log))) (some_same r.start start (sym r.started ∙ started)) r.arrived
+
 -- a process that has not ended counts them so, by any rule by which an entry stands
 pub unended_counts : (May : System → List Entry → Entry → Type 0) → IsStandingRule May → (system : System) (log : List Entry) (p : Pid) → is_system system ≡ true → IsLegalBy May system log → IsUnended system log p → CountsLetters system log p
 unended_counts May standing system log p valid legal unended start started =
@@ -52,13 +58,11 @@ unended_counts May standing system log p valid legal unended start started =
   where
     by_process : (o : Option ProcState) → process_after system log p ≡ o → is_some o ≡ true → arrived_count log p ≡ start.next + length (letters_to p (after_last (starts p) log))
     by_process None is there = absurd (true≢false (sym there))
-    by_process (Some now) is there =
-        let r = (all_roll May standing system log valid legal).rolls p now is (unended_open May standing system log p valid legal unended now is) in
-        subst (λ (s : ProcState). arrived_count log p ≡ s.next + length (letters_to p (after_last (starts p) log))) (some_same r.start start (sym r.started ∙ started)) r.arrived
+    by_process (Some now) is there = rolls_count system log p now ((all_roll May standing system log valid legal).rolls p now is (unended_open May standing system log p valid legal unended now is)) start started
 
 -- ---- entries that start no process
 
--- an entry of such a kind is no cut and no birth
+-- While no kind that is built is a cut: an entry of such a kind is no cut and no birth.
 pub plain_starts_none : (p : Pid) (w : What) → is_plain w ≡ true → (is_cut p w ≡ false) × (is_birth_of p w ≡ false)
 plain_starts_none p (Mail at letter) plain = (refl, refl)
 plain_starts_none p (Birth parent at child end) plain = absurd (true≢false (sym plain))
@@ -95,15 +99,38 @@ module _ (system : System) (log : List Entry) (e : Entry) (p : Pid) where
       ap length (letters_more quiet) ∙ length-append (letters_to p (after_last (starts p) log)) (letter_for p (what e)) in
       omega (arith, before, count, more)
 
+none_legal : (May : System → List Entry → Entry → Type 0) (system : System) → IsLegalBy May system []
+unfolding IsLegalBy
+none_legal May system = tt
+
+-- a cut is no exit
+cut_no_exit : (p : Pid) (w : What) → is_cut p w ≡ true → is_exit_of p w ≡ false
+cut_no_exit p (Exit q at end) cut = absurd (true≢false (sym cut))
+cut_no_exit p w cut = refl
+
 counts_at_boot : (system : System) (p : Pid) → CountsLetters system [] p
 unfolding plain_after
 counts_at_boot system p start started = let none : start.next ≡ 0 = boot_arrived system p start started in omega (arith, none)
 
--- in a legal log of letters, exits, losses and the end each process counts them so
-pub plain_counts : (May : System → List Entry → Entry → Type 0) → IsPlainRule May → (system : System) (log : List Entry) (p : Pid) → IsLegalBy May system log → CountsLetters system log p
-plain_counts May plain system log p legal =
-    legal_induction May system (λ log. CountsLetters system log p) (counts_at_boot system p)
-    (λ log e counts may. let none = plain_starts_none p (what e) (plain system log e may).1 in counts_more system log e p none.0 none.1 counts) log legal
+-- in a legal log each process counts them so
+pub all_count : (May : System → List Entry → Entry → Type 0) → IsStandingRule May → (system : System) (log : List Entry) (p : Pid) → is_system system ≡ true → IsLegalBy May system log → CountsLetters system log p
+all_count May standing system log p valid legal =
+    (legal_induction May system (λ log. IsLegalBy Stands system log × CountsLetters system log p) (none_legal Stands system, counts_at_boot system p)
+    (λ log e both may. (IsLegal-snoc Stands system log e both.0 (standing system log e may), more log e both.0 (standing system log e may) both.1)) log legal).1
+  where
+    more : (log : List Entry) (e : Entry) → IsLegalBy Stands system log → Stands system log e → CountsLetters system log p → CountsLetters system (log ++ e ∷ []) p
+    more log e legal stands counts = by_cut (is_cut p (what e)) refl
+      where
+        no_birth : is_birth (what e) ≡ false
+        no_birth = not_birth system log e stands.applies (what e) refl
+
+        by_cut : (b : Bool) → is_cut p (what e) ≡ b → CountsLetters system (log ++ e ∷ []) p
+        by_cut true cut =
+            let unended : IsUnended system (log ++ e ∷ []) p =
+            ap (λ places. is_some (unended_at places p)) (placement-snoc system log e)
+            ∙ unended_stays (what e) no_birth (placement system log) p (cut_no_exit p (what e) cut) (cut_unended (placement system log) (e.post).by p (what e) stands.by_right cut) in
+            unended_counts Stands (λ system log e stands. stands) system (log ++ e ∷ []) p valid (IsLegal-snoc Stands system log e legal stands) unended
+        by_cut false no_cut = counts_more system log e p no_cut (bears_none p (what e) no_birth) counts
 
 -- ---- one entry more
 
@@ -132,31 +159,21 @@ module _ (system : System) (log : List Entry) (e : Entry) (p : Pid) where
         births_left = r.births_left;
       })
 
-  -- by any rule by which an entry stands, where the process has not ended
-  pub rolls_entry_unended : (May : System → List Entry → Entry → Type 0) → IsStandingRule May → (s : ProcState) (counts : Counts) (births : List Pid) → is_system system ≡ true → IsLegalBy May system (log ++ e ∷ []) → IsUnended system log p
-      → is_cut p (what e) ≡ false → is_birth_of p (what e) ≡ false → deeds_in p (what e) ≡ [] → RollsAs system log p s counts births → RollsAs system (log ++ e ∷ []) p (all_delivered s (letter_for p (what e))) counts births
-  rolls_entry_unended May standing s counts births valid legal unended no_cut no_birth none rolls =
-      rolls_entry s counts births (unended_counts May standing system log p valid (IsLegal-before May system log e legal) unended) no_cut no_birth none rolls
-
-  -- in a log of letters, exits, losses and the end
-  pub rolls_entry_plain : (May : System → List Entry → Entry → Type 0) → IsPlainRule May → (s : ProcState) (counts : Counts) (births : List Pid) → IsLegalBy May system (log ++ e ∷ []) → deeds_in p (what e) ≡ []
-      → RollsAs system log p s counts births → RollsAs system (log ++ e ∷ []) p (all_delivered s (letter_for p (what e))) counts births
-  rolls_entry_plain May plain s counts births legal none rolls =
-      let starts_none = plain_starts_none p (what e) (plain system log e (IsLegal-last May system log e legal)).1 in
-      rolls_entry s counts births (plain_counts May plain system log p (IsLegal-before May system log e legal)) starts_none.0 starts_none.1 none rolls
+  -- by any rule by which an entry stands, an entry that does not cut it
+  pub rolls_entry_standing : (May : System → List Entry → Entry → Type 0) → IsStandingRule May → (s : ProcState) (counts : Counts) (births : List Pid) → is_system system ≡ true → IsLegalBy May system (log ++ e ∷ []) → is_cut p (what e) ≡ false
+      → deeds_in p (what e) ≡ [] → RollsAs system log p s counts births → RollsAs system (log ++ e ∷ []) p (all_delivered s (letter_for p (what e))) counts births
+  rolls_entry_standing May standing s counts births valid legal no_cut none rolls =
+      let stands = standing system log e (IsLegal-last May system log e legal) in
+      rolls_entry s counts births (all_count May standing system log p valid (IsLegal-before May system log e legal)) no_cut (bears_none p (what e) (not_birth system log e stands.applies (what e) refl)) none rolls
 
   -- a letter to it arrives, sent by another
-  pub rolls_letter : (May : System → List Entry → Entry → Type 0) → IsPlainRule May → (s : ProcState) (counts : Counts) (births : List Pid) (letter : Letter) → IsLegalBy May system (log ++ e ∷ []) → deeds_in p (what e) ≡ [] → letter_for p (what e) ≡ letter ∷ []
-      → RollsAs system log p s counts births → RollsAs system (log ++ e ∷ []) p (delivered s letter) counts births
-  rolls_letter May plain s counts births letter legal none one rolls =
-      subst (λ ls. RollsAs system (log ++ e ∷ []) p (all_delivered s ls) counts births) one (rolls_entry_plain May plain s counts births legal none rolls)
+  pub rolls_letter : (May : System → List Entry → Entry → Type 0) → IsStandingRule May → (s : ProcState) (counts : Counts) (births : List Pid) (letter : Letter) → is_system system ≡ true → IsLegalBy May system (log ++ e ∷ []) → is_cut p (what e) ≡ false
+      → deeds_in p (what e) ≡ [] → letter_for p (what e) ≡ letter ∷ [] → RollsAs system log p s counts births → RollsAs system (log ++ e ∷ []) p (delivered s letter) counts births
+  rolls_letter May standing s counts births letter valid legal no_cut none one rolls =
+      subst (λ ls. RollsAs system (log ++ e ∷ []) p (all_delivered s ls) counts births) one (rolls_entry_standing May standing s counts births valid legal no_cut none rolls)
 
   -- an entry that brings it no letter, a loss among them, leaves it
-  pub rolls_quiet : (May : System → List Entry → Entry → Type 0) → IsPlainRule May → (s : ProcState) (counts : Counts) (births : List Pid) → IsLegalBy May system (log ++ e ∷ []) → deeds_in p (what e) ≡ [] → letter_for p (what e) ≡ []
-      → RollsAs system log p s counts births → RollsAs system (log ++ e ∷ []) p s counts births
-  rolls_quiet May plain s counts births legal none no_letter rolls =
-      subst (λ ls. RollsAs system (log ++ e ∷ []) p (all_delivered s ls) counts births) no_letter (rolls_entry_plain May plain s counts births legal none rolls)
-
-  pub rolls_loss : (May : System → List Entry → Entry → Type 0) → IsPlainRule May → (s : ProcState) (counts : Counts) (births : List Pid) (k : ClusterNo) (cause : Cause) → IsLegalBy May system (log ++ e ∷ []) → what e ≡ Crash k cause
-      → RollsAs system log p s counts births → RollsAs system (log ++ e ∷ []) p s counts births
-  rolls_loss May plain s counts births k cause legal is rolls = rolls_quiet May plain s counts births legal (ap (deeds_in p) is) (ap (letter_for p) is) rolls
+  pub rolls_quiet : (May : System → List Entry → Entry → Type 0) → IsStandingRule May → (s : ProcState) (counts : Counts) (births : List Pid) → is_system system ≡ true → IsLegalBy May system (log ++ e ∷ []) → is_cut p (what e) ≡ false
+      → deeds_in p (what e) ≡ [] → letter_for p (what e) ≡ [] → RollsAs system log p s counts births → RollsAs system (log ++ e ∷ []) p s counts births
+  rolls_quiet May standing s counts births valid legal no_cut none no_letter rolls =
+      subst (λ ls. RollsAs system (log ++ e ∷ []) p (all_delivered s ls) counts births) no_letter (rolls_entry_standing May standing s counts births valid legal no_cut none rolls)

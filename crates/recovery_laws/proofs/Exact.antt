@@ -1,8 +1,7 @@
--- In a log of letters, exits and losses the last step of a process in the kernel is its last deed: no silent step lies behind it.
-use Rattle.std.proofs.Common.{◌≡◌, ℕ, zero, suc, ◌+◌, ◌-◌, refl, sym, ◌∙◌, ap, subst, List, [], ◌∷◌, ◌++◌, append-nil, Bool, true, false, cond, eq-eqb, Option, Some, None, true≢false}
+-- In a log that is not over the last step of a process in the kernel is its last deed since it started, or it is at its start: no silent step lies behind.
+use Rattle.std.proofs.Common.{◌≡◌, ℕ, zero, suc, ◌+◌, ◌-◌, refl, sym, ◌∙◌, ap, subst, arith, List, [], ◌∷◌, ◌++◌, append-nil, Bool, true, false, cond, ◌||◌, eq-eqb, Option, Some, None, is_some, true≢false}
 use Rattle.std.specs.Prelude.{option_and_then, option_map}
 use Rattle.t32_base.specs.declared.process.Pid.{Pid}
-use Rattle.t32_base.specs.declared.process.ClusterNo.{ClusterNo}
 use Rattle.t32_base.specs.declared.process.End.{End}
 use Rattle.t32_base.specs.declared.letter.Letter.{Letter}
 use Rattle.sys_text.specs.declared.system.System.{System}
@@ -15,29 +14,30 @@ use Rattle.plain_kernel.specs.Kernel.{Kernel, process_at}
 use Rattle.plain_kernel.proofs.Entries.{some_same}
 use Rattle.bus_msg.specs.declared.entry.What.{What}
 use Rattle.bus_msg.specs.declared.entry.What.TheVariants.{Mail, Birth, Exit, Page, Sync, Fetch, PageIs, Crash, Return, Rebackup, Done, Stop}
-use Rattle.bus_msg.specs.declared.entry.Cause.{Cause}
 use Rattle.bus_msg.specs.declared.entry.Entry.{Entry}
 use Rattle.bus_msg.specs.Places.{same_pid}
 use Rattle.bus_msg.specs.PlacedAfter.{what}
 use Rattle.roll_forward.specs.Deeds.{Deed, Sends}
-use Rattle.cert_sched.specs.Schedule.{done, items_of, plain_after, process_after, placement}
-use Rattle.cert_sched.specs.Deeds.{start_of, since, deeds_in, letter_for}
-use Rattle.cert_sched.specs.Kinds.{KindHolds}
+use Rattle.cert_sched.specs.Schedule.{done, items_of, run_upto, steps_in, plain_after, process_after, placement}
+use Rattle.cert_sched.specs.Deeds.{starts, is_cut, is_birth_of, start_of, since, deeds_in, letter_for}
+use Rattle.cert_sched.specs.Steps.{silent_upto, after_items}
+use Rattle.cert_sched.specs.Kinds.{KindHolds, after_take}
 use Rattle.cert_sched.specs.Rules.{is_over, ends_run}
 use Rattle.cert_sched.specs.Rolling.{refilled}
-use Rattle.cert_sched.specs.Legal.{IsLegalBy}
+use Rattle.cert_sched.specs.Legal.{IsLegalBy, Stands}
 use Rattle.cert_sched.specs.Simulation.{IsUnended}
-use Rattle.cert_sched.proofs.LogLaws.{IsLegal-snoc, process_after-quiet}
-use Rattle.cert_sched.proofs.RecordLaws.{since-snoc}
+use Rattle.cert_sched.proofs.LogLaws.{process_after-quiet}
+use Rattle.cert_sched.proofs.RecordLaws.{start_of-snoc, since-snoc}
 use Rattle.cert_sched.proofs.Induction.{legal_induction, is_over-snoc}
-use Rattle.cert_sched.proofs.StepLaws.{is_sent, sent_from}
-use Rattle.cert_sched.proofs.MailLaws.{IsPlainRule, is_plain, sender_goes_on, received, received-ended, process_after-sender, process_after-receiver, lost, boot_arrived}
+use Rattle.cert_sched.proofs.StepLaws.{is_sent, sent_from, no_birth, no_signal_taken, process_after-beside}
+use Rattle.cert_sched.proofs.MailLaws.{sender_goes_on, received, received-ended, process_after-sender, process_after-receiver, boot_arrived}
 use Rattle.cert_sched.proofs.EndedLaws.{letter_told}
-use Rattle.cert_sched.proofs.ReplayLaws.{Sharp, sharp_replays, sharp_on, sharp_last, sharp_all_delivered}
-use Rattle.cert_sched.proofs.CameLaws.{received-all, same_of, apart_from}
+use Rattle.cert_sched.proofs.ReplayLaws.{Replays, Sharp, sharp_replays, sharp_on, sharp_last, sharp_all_delivered}
+use Rattle.cert_sched.proofs.CameLaws.{IsStandingRule, received-all, same_of, apart_from, not_birth}
+use Rattle.cert_sched.proofs.BuiltCuts.{bears_none}
 use Rattle.cert_sched.proofs.OpenLaws.{unended_open}
-use Rattle.cert_sched.proofs.RollLaws.{refilled_more}
-use Rattle.recovery_laws.proofs.Entries.{CountsLetters, plain_counts, plain_starts_none, quiet_of, same_start}
+use Rattle.cert_sched.proofs.RollLaws.{Rolls, AllRoll, all_at_boot, all_more, rolls_steps, refilled_more}
+use Rattle.recovery_laws.proofs.Entries.{CountsLetters, rolls_count, quiet_of, same_start}
 
 -- ---- what an entry makes of a process
 
@@ -138,11 +138,11 @@ module _ (system : System) (log : List Entry) (e : Entry) where
           subst (Here (Exit q at end)) pid sent
       by_pid false apart = other apart
 
-  -- an entry without an item, of a kind that brings no letter and tells of no deed
-  quiet_did : (w : What) (p : Pid) → ((k : Kernel) → items_of k (what e) ≡ []) → deeds_in p w ≡ [] → letter_for p w ≡ [] → Here w p
-  quiet_did w p none no_deed no_letter now there goes_on = record {
+  -- an entry that leaves the process where it was, and is of a kind that brings no letter and tells of no deed
+  left_did : (w : What) (p : Pid) → process_after system (log ++ e ∷ []) p ≡ process_after system log p → deeds_in p w ≡ [] → letter_for p w ≡ [] → Here w p
+  left_did w p same no_deed no_letter now there goes_on = record {
     was = now;
-    there = sym (process_after-quiet system log e none p) ∙ there;
+    there = sym same ∙ there;
     open_still = goes_on;
     made = 0;
     to = now;
@@ -150,19 +150,41 @@ module _ (system : System) (log : List Entry) (e : Entry) where
     arrives = sym (ap (all_delivered now) no_letter);
   }
 
-  did : (w : What) → what e ≡ w → is_plain w ≡ true → KindHolds system log e w → ends_run (placement system log) w ≡ false → (p : Pid) → Here w p
-  did (Mail at letter) is plain kind goes_on p = mail_did at letter is kind p
-  did (Birth parent at child end) is plain kind goes_on p = absurd (true≢false (sym plain))
-  did (Exit q at end) is plain kind goes_on p = exit_did q at end is kind p
-  did (Page q at index bytes) is plain kind goes_on p = absurd (true≢false (sym plain))
-  did (Sync q small read took) is plain kind goes_on p = absurd (true≢false (sym plain))
-  did (Fetch q index) is plain kind goes_on p = quiet_did (Fetch q index) p (λ k. ap (items_of k) is) refl refl
-  did (PageIs q index bytes) is plain kind goes_on p = quiet_did (PageIs q index bytes) p (λ k. ap (items_of k) is) refl refl
-  did (Crash k cause) is plain kind goes_on p = quiet_did (Crash k cause) p (λ n. ap (items_of n) is) refl refl
-  did (Return k) is plain kind goes_on p = absurd (true≢false (sym plain))
-  did (Rebackup to fresh recs) is plain kind goes_on p = absurd (true≢false (sym plain))
-  did (Done rests) is plain kind goes_on p = absurd (true≢false goes_on)
-  did Stop is plain kind goes_on p = absurd (true≢false goes_on)
+  -- one without an item
+  quiet_did : (w : What) (p : Pid) → what e ≡ w → ((k : Kernel) → items_of k w ≡ []) → deeds_in p w ≡ [] → letter_for p w ≡ [] → Here w p
+  quiet_did w p is none = left_did w p (process_after-quiet system log e (λ k. ap (items_of k) is ∙ none k) p)
+
+  -- one whose items are the silent steps of another
+  beside_did : (w : What) (q : Pid) (at : ℕ) (p : Pid) → what e ≡ w → ((k : Kernel) → items_of k w ≡ run_upto k q at) → is_some (silent_upto system log q at) ≡ true → same_pid q p ≡ false → deeds_in p w ≡ [] → letter_for p w ≡ [] → Here w p
+  beside_did w q at p is items there apart = by_silent (silent_upto system log q at) refl there
+    where
+      by_silent : (o : Option ProcState) → silent_upto system log q at ≡ o → is_some o ≡ true → deeds_in p w ≡ [] → letter_for p w ≡ [] → Here w p
+      by_silent None silent some = absurd (true≢false (sym some))
+      by_silent (Some t) silent some = left_did w p (process_after-beside system log e q at t p silent (λ k. ap (items_of k) is ∙ items k) (apart_from q p apart))
+
+  mapped_some : {A : Type 0} (f : ProcState → A) (o : Option ProcState) (x : A) → option_map f o ≡ Some x → is_some o ≡ true
+  mapped_some f None x is = cc
+  mapped_some f (Some s) x is = refl
+
+  -- an entry that does not cut the process
+  did : (w : What) → what e ≡ w → Stands system log e → KindHolds system log e w → ends_run (placement system log) w ≡ false → (p : Pid) → is_cut p w ≡ false → Here w p
+  did (Mail at letter) is stands kind goes_on p no_cut = mail_did at letter is kind p
+  did (Birth parent at child end) is stands kind goes_on p no_cut = absurd (no_birth system log e parent at child end is stands.applies)
+  did (Exit q at end) is stands kind goes_on p no_cut = exit_did q at end is kind p
+  did (Page q at index bytes) is stands kind goes_on p no_cut = quiet_did (Page q at index bytes) p is (λ k. refl) refl refl
+  did (Sync q small read None) is stands kind goes_on p no_cut =
+      beside_did (Sync q small read None) q small.steps p is (λ k. append-nil (run_upto k q small.steps)) (mapped_some (λ s. (after_take None s).small) (silent_upto system log q small.steps) small kind.state) no_cut refl refl
+  did (Sync q small read (Some g)) is stands kind goes_on p no_cut = absurd (no_signal_taken system log e q small read g is stands.applies)
+  did (Fetch q index) is stands kind goes_on p no_cut = quiet_did (Fetch q index) p is (λ k. refl) refl refl
+  did (PageIs q index bytes) is stands kind goes_on p no_cut = quiet_did (PageIs q index bytes) p is (λ k. refl) refl refl
+  did (Crash k cause) is stands kind goes_on p no_cut = quiet_did (Crash k cause) p is (λ n. refl) refl refl
+  did (Return k) is stands kind goes_on p no_cut = quiet_did (Return k) p is (λ n. refl) refl refl
+  did (Rebackup to true []) is stands kind goes_on p no_cut = absurd kind
+  did (Rebackup to true (r ∷ rs)) is stands kind goes_on p no_cut =
+      beside_did (Rebackup to true (r ∷ rs)) r.pid (steps_in r.state) p is (λ k. refl) (ap (λ w. is_some (after_items system log w)) (sym is) ∙ kind.silent) no_cut refl refl
+  did (Rebackup to false recs) is stands kind goes_on p no_cut = quiet_did (Rebackup to false recs) p is (λ k. refl) refl refl
+  did (Done rests) is stands kind goes_on p no_cut = absurd (true≢false goes_on)
+  did Stop is stands kind goes_on p no_cut = absurd (true≢false goes_on)
 
 -- ---- the invariant
 
@@ -185,14 +207,14 @@ joined n zero s t u ds es first rest =
 joined n (suc m) s t u ds [] first rest = absurd rest.0
 joined n (suc m) s t u ds (d ∷ es) first rest = record { made = n + suc m; sharp = sharp_on n (suc m) s t u ds d es (sharp_replays n s t ds first) rest }
 
-exact_more : (system : System) (log : List Entry) (e : Entry) (p : Pid) (now : ProcState) → is_plain (what e) ≡ true → CountsLetters system log p → (d : Did system log (what e) p now) → IsExact system log p d.was → IsExact system (log ++ e ∷ []) p now
-exact_more system log e p now plain letters d x =
-    let none = plain_starts_none p (what e) plain in
-    let quiet = quiet_of system log e p none.0 none.1 in
+exact_more : (system : System) (log : List Entry) (e : Entry) (p : Pid) (now : ProcState) → is_cut p (what e) ≡ false → is_birth_of p (what e) ≡ false → CountsLetters system log p → (d : Did system log (what e) p now) → IsExact system log p d.was
+    → IsExact system (log ++ e ∷ []) p now
+exact_more system log e p now no_cut no_birth letters d x =
+    let quiet = quiet_of system log e p no_cut no_birth in
     let came = letter_for p (what e) in
     let both = joined x.made d.made (refilled log p x.start) d.was d.to (since log p) (deeds_in p (what e)) x.sharp d.sharp in
     let deeds : since log p ++ deeds_in p (what e) ≡ since (log ++ e ∷ []) p = sym (since-snoc log e p ∙ ap (λ b. cond b [] (since log p ++ deeds_in p (what e))) quiet) in
-    let more : all_delivered (refilled log p x.start) came ≡ refilled (log ++ e ∷ []) p x.start = refilled_more system log e p x.start quiet none.1 (letters x.start x.started) in
+    let more : all_delivered (refilled log p x.start) came ≡ refilled (log ++ e ∷ []) p x.start = refilled_more system log e p x.start quiet no_birth (letters x.start x.started) in
     record {
       start = x.start;
       started = same_start system log e p quiet ∙ x.started;
@@ -204,13 +226,30 @@ exact_more system log e p now plain letters d x =
           (sharp_all_delivered both.made (refilled log p x.start) d.to (since log p ++ deeds_in p (what e)) came both.sharp)));
     }
 
+-- Where an entry starts it, it is at its start, and has done nothing since.
+exact_started : (system : System) (log : List Entry) (e : Entry) (p : Pid) (now : ProcState) → process_after system (log ++ e ∷ []) p ≡ Some now → starts p e ≡ true → Rolls system (log ++ e ∷ []) p now → IsExact system (log ++ e ∷ []) p now
+exact_started system log e p now there starting r = by_made r.made none r.replays
+  where
+    same : now ≡ r.start
+    same = some_same now r.start (sym there ∙ sym (start_of-snoc system log e p ∙ ap (λ b. cond b (process_after system (log ++ e ∷ []) p) (start_of system log p)) starting) ∙ r.started)
+
+    none : r.made ≡ 0
+    none =
+        let steps = rolls_steps system (log ++ e ∷ []) p now r in
+        let same_steps : (now.small).steps ≡ ((r.start).small).steps = ap (λ (s : ProcState). (s.small).steps) same in
+        omega (arith, steps, same_steps)
+
+    by_made : (n : ℕ) → n ≡ 0 → Replays n (refilled (log ++ e ∷ []) p r.start) (since (log ++ e ∷ []) p) now → IsExact system (log ++ e ∷ []) p now
+    by_made zero is replays = record { start = r.start; started = r.started; made = 0; sharp = replays }
+    by_made (suc n) is replays = absurd (omega (arith, is))
+
 -- ---- the whole
 
 AllExact : System → List Entry → Type 0
 AllExact system log = is_over system log ≡ false → (p : Pid) (now : ProcState) → process_after system log p ≡ Some now → has_ended (now.small).status ≡ false → IsExact system log p now
 
-record Both (May : System → List Entry → Entry → Type 0) (system : System) (log : List Entry) : Type 0 where
-  pub legal : IsLegalBy May system log
+record Both (system : System) (log : List Entry) : Type 0 where
+  pub all : AllRoll system log
   pub exact : AllExact system log
 
 exact_at_boot : (system : System) → AllExact system []
@@ -219,29 +258,28 @@ exact_at_boot system goes_on p now there open_still =
     let arrived : now.next ≡ 0 = boot_arrived system p now there in
     record { start = now; started = there; made = 0; sharp = (refl, λ i. record now { mail = sym (append-nil now.mail) i; next = arrived i }) }
 
-none_legal : (May : System → List Entry → Entry → Type 0) (system : System) → IsLegalBy May system []
-unfolding IsLegalBy
-none_legal May system = tt
-
-both_more : (May : System → List Entry → Entry → Type 0) → IsPlainRule May → (system : System) (log : List Entry) (e : Entry) → Both May system log → May system log e → Both May system (log ++ e ∷ [])
+both_more : (system : System) (log : List Entry) (e : Entry) → Both system log → Stands system log e → Both system (log ++ e ∷ [])
 unfolding AllExact
-both_more May plain system log e both may =
-    let h = plain system log e may in
-    record {
-      legal = IsLegal-snoc May system log e both.legal may;
-      exact = λ goes_on p now there open_still.
-          let d = did system log e (what e) refl h.1 (h.0).kind (sym (is_over-snoc system log e) ∙ goes_on) p now there open_still in
-          exact_more system log e p now h.1 (plain_counts May plain system log p both.legal) d (both.exact ((h.0).placed).2 p d.was d.there d.open_still);
-    }
+both_more system log e both stands = record { all = all; exact = λ goes_on p now there open_still. by_cut p now there open_still goes_on (is_cut p (what e)) refl }
+  where
+    all : AllRoll system (log ++ e ∷ [])
+    all = all_more system log e both.all stands
 
--- In a legal log of letters, exits and losses that is not over, each process that has not ended is just where its last deed led it.
-pub exact_open : (May : System → List Entry → Entry → Type 0) → IsPlainRule May → (system : System) (log : List Entry) (p : Pid) (now : ProcState) → IsLegalBy May system log → is_over system log ≡ false
+    by_cut : (p : Pid) (now : ProcState) → process_after system (log ++ e ∷ []) p ≡ Some now → has_ended (now.small).status ≡ false → is_over system (log ++ e ∷ []) ≡ false → (b : Bool) → is_cut p (what e) ≡ b → IsExact system (log ++ e ∷ []) p now
+    by_cut p now there open_still goes_on true cut = exact_started system log e p now there (ap (λ b. b || is_birth_of p (what e)) cut) (all.rolls p now there open_still)
+    by_cut p now there open_still goes_on false no_cut =
+        let d = did system log e (what e) refl stands stands.kind (sym (is_over-snoc system log e) ∙ goes_on) p no_cut now there open_still in
+        exact_more system log e p now no_cut (bears_none p (what e) (not_birth system log e stands.applies (what e) refl))
+        (rolls_count system log p d.was (both.all.rolls p d.was d.there d.open_still)) d (both.exact (stands.placed).2 p d.was d.there d.open_still)
+
+-- In a legal log that is not over, each process that has not ended is just where its last deed led it, or at its start.
+pub exact_open : (May : System → List Entry → Entry → Type 0) → IsStandingRule May → (system : System) (log : List Entry) (p : Pid) (now : ProcState) → is_system system ≡ true → IsLegalBy May system log → is_over system log ≡ false
     → process_after system log p ≡ Some now → has_ended (now.small).status ≡ false → IsExact system log p now
 unfolding AllExact
-exact_open May plain system log p now legal goes_on there open_still =
-    (legal_induction May system (Both May system) (record { legal = none_legal May system; exact = exact_at_boot system }) (λ log e both may. both_more May plain system log e both may) log legal).exact goes_on p now there open_still
+exact_open May standing system log p now valid legal goes_on there open_still =
+    (legal_induction May system (Both system) (record { all = all_at_boot system valid; exact = exact_at_boot system }) (λ log e both may. both_more system log e both (standing system log e may)) log legal).exact goes_on p now there open_still
 
-pub exact_unended : (May : System → List Entry → Entry → Type 0) → IsPlainRule May → (system : System) (log : List Entry) (p : Pid) (now : ProcState) → is_system system ≡ true → IsLegalBy May system log → is_over system log ≡ false
+pub exact_unended : (May : System → List Entry → Entry → Type 0) → IsStandingRule May → (system : System) (log : List Entry) (p : Pid) (now : ProcState) → is_system system ≡ true → IsLegalBy May system log → is_over system log ≡ false
     → IsUnended system log p → process_after system log p ≡ Some now → IsExact system log p now
-exact_unended May plain system log p now valid legal goes_on unended there =
-    exact_open May plain system log p now legal goes_on there (unended_open May (λ system log e may. (plain system log e may).0) system log p valid legal unended now there)
+exact_unended May standing system log p now valid legal goes_on unended there =
+    exact_open May standing system log p now valid legal goes_on there (unended_open May standing system log p valid legal unended now there)

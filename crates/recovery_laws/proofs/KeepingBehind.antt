@@ -1,6 +1,5 @@
 -- A process that rolls forward and is not beyond where it was: so it begins, and so an entry more leaves it.
-use Rattle.std.proofs.Common.{◌≡◌, ◌≤◌, refl, sym, ◌∙◌, ap, subst, arith, List, [], ◌∷◌, ◌++◌, Bool, true, false, cond, eq-eqb, Option, Some, None, is_some, true≢false}
-use Rattle.std.specs.Prelude.{option_map}
+use Rattle.std.proofs.Common.{◌≡◌, ◌≤◌, refl, sym, ◌∙◌, ap, subst, arith, List, [], ◌∷◌, ◌++◌, true, false, Option, Some, None, is_some, true≢false}
 use Rattle.t32_base.specs.declared.process.Pid.{Pid}
 use Rattle.t32_base.specs.declared.process.Counts.{Counts}
 use Rattle.t32_base.specs.declared.letter.BackRec.{BackRec}
@@ -9,34 +8,29 @@ use Rattle.sys_text.specs.declared.system.System.{System}
 use Rattle.sys_text.specs.Valid.{is_system}
 use Rattle.rv_mem.specs.Memory.{Memory}
 use Rattle.proc_state.specs.State.{ProcState}
-use Rattle.sys_calls.specs.declared.steps.Emission.TheVariants.{Exit as Ended}
 use Rattle.sys_calls.proofs.RunLemma.{all_delivered}
 use Rattle.plain_kernel.proofs.Entries.{some_same}
-use Rattle.bus_msg.specs.declared.entry.What.{What}
-use Rattle.bus_msg.specs.declared.entry.What.TheVariants.{Mail, Birth, Exit, Page, Sync, Fetch, PageIs, Crash, Return, Rebackup, Done, Stop}
 use Rattle.bus_msg.specs.declared.entry.Entry.{Entry}
-use Rattle.bus_msg.specs.declared.placed.Placed.{Placed}
-use Rattle.bus_msg.specs.Places.{same_pid, unended_at}
-use Rattle.bus_msg.specs.PlacedAfter.{what, placed_after, after_loss}
-use Rattle.roll_forward.specs.Deeds.{Deed, Sends}
+use Rattle.bus_msg.specs.Places.{unended_at}
+use Rattle.bus_msg.specs.PlacedAfter.{what}
 use Rattle.roll_forward.specs.Rolling.{started}
 use Rattle.cert_sched.specs.Schedule.{process_after, done_after, placement}
 use Rattle.cert_sched.specs.Deeds.{is_cut, is_birth_of, start_of, deeds_in, letter_for}
 use Rattle.cert_sched.specs.Record.{backup_record}
-use Rattle.cert_sched.specs.Legal.{IsLegalBy}
+use Rattle.cert_sched.specs.Legal.{IsLegalBy, Stands}
 use Rattle.cert_sched.specs.Simulation.{IsUnended}
 use Rattle.cert_sched.proofs.LogLaws.{placement-snoc, IsLegal-before, IsLegal-last}
-use Rattle.cert_sched.proofs.ExitLaws.{unended_exit}
-use Rattle.cert_sched.proofs.UnendedLaws.{unended_map, loss_keeps}
-use Rattle.cert_sched.proofs.MailLaws.{IsPlainRule, is_plain}
+use Rattle.cert_sched.proofs.MailLaws.{IsPlainRule}
 use Rattle.cert_sched.proofs.ReplayLaws.{replays_counts, all_delivered-is}
-use Rattle.cert_sched.proofs.CameLaws.{IsStandingRule, Came, went_on, was_cut, was_born, came}
+use Rattle.cert_sched.proofs.CameLaws.{IsStandingRule, Came, went_on, was_cut, was_born, came, not_birth}
+use Rattle.cert_sched.proofs.StayingUnended.{no_deed_no_exit, unended_stays}
+use Rattle.cert_sched.proofs.BuiltCuts.{bears_none}
 use Rattle.cert_sched.proofs.RollLaws.{all_roll, two_apart}
 use Rattle.cert_sched.proofs.OpenLaws.{unended_open}
 use Rattle.cert_sched.proofs.ThereLaws.{unended_there}
 use Rattle.recovery_laws.specs.Behind.{RollsBehind}
 use Rattle.recovery_laws.proofs.Beginning.{rolls_from_record, state_of_record}
-use Rattle.recovery_laws.proofs.Entries.{plain_starts_none, rolls_entry_plain}
+use Rattle.recovery_laws.proofs.Entries.{plain_starts_none, rolls_entry_standing}
 use Rattle.recovery_laws.proofs.Reaching.{Led, done_is, start_behind}
 
 -- ---- the begin
@@ -78,41 +72,23 @@ module _ (system : System) (log : List Entry) (e : Entry) (p : Pid) where
           came_from now is (came system log e (standing system log e (IsLegal-last May system log e legal)) two p now is (unended_open May standing system (log ++ e ∷ []) p valid legal unended now is))
 
   -- an entry that tells of none of its deeds does not end it
-  pub unended_stays : is_plain (what e) ≡ true → deeds_in p (what e) ≡ [] → IsUnended system log p → IsUnended system (log ++ e ∷ []) p
-  unended_stays plain none unended = ap (λ places. is_some (unended_at places p)) (placement-snoc system log e) ∙ by_what (what e) plain none
-    where
-      apart : (q : Pid) (d : Deed) (b : Bool) → cond b (d ∷ []) [] ≡ [] → b ≡ false
-      apart q d true h = cc
-      apart q d false h = refl
+  pub still_unended : Stands system log e → deeds_in p (what e) ≡ [] → IsUnended system log p → IsUnended system (log ++ e ∷ []) p
+  still_unended stands none unended =
+      ap (λ places. is_some (unended_at places p)) (placement-snoc system log e)
+      ∙ unended_stays (what e) (not_birth system log e stands.applies (what e) refl) (placement system log) p (no_deed_no_exit p (what e) none) unended
 
-      some_after : (f : Placed → Placed) (o : Option Placed) → is_some o ≡ true → is_some (option_map f o) ≡ true
-      some_after f None there = there
-      some_after f (Some q) there = refl
+  -- such an entry, where it does not cut it, brings it its letters, and leaves what is left and that it is not beyond
+  pub behind_standing : (May : System → List Entry → Entry → Type 0) → IsStandingRule May → (s : ProcState) (counts : Counts) (births : List Pid) → is_system system ≡ true → IsLegalBy May system (log ++ e ∷ []) → IsUnended system log p
+      → is_cut p (what e) ≡ false → deeds_in p (what e) ≡ [] → RollsBehind system log p s counts births → RollsBehind system (log ++ e ∷ []) p (all_delivered s (letter_for p (what e))) counts births
+  behind_standing May standing s counts births valid legal unended no_cut none rolls =
+      let stands = standing system log e (IsLegal-last May system log e legal) in
+      let kept = steps_kept May standing valid legal (still_unended stands none unended) no_cut (bears_none p (what e) (not_birth system log e stands.applies (what e) refl)) in
+      let same : ((all_delivered s (letter_for p (what e))).small).steps ≡ (s.small).steps = ap (λ (x : ProcState). (x.small).steps) (all_delivered-is s (letter_for p (what e))) in
+      let behind = rolls.behind in
+      record { rolls = rolls_entry_standing system log e p May standing s counts births valid legal no_cut none rolls.rolls; behind = omega (arith, kept, same, behind) }
 
-      by_what : (w : What) → is_plain w ≡ true → deeds_in p w ≡ [] → is_some (unended_at (placed_after (placement system log) w) p) ≡ true
-      by_what (Mail at letter) plain none = unended
-      by_what (Birth parent at child end) plain none = absurd (true≢false (sym plain))
-      by_what (Exit q at end) plain none =
-          let other : same_pid q p ≡ false = apart q (Sends (Ended end)) (same_pid q p) none in
-          ap is_some (unended_exit q p (placement system log).placed (λ same. true≢false (sym (eq-eqb q.0 p.0 (sym same)) ∙ other))) ∙ unended
-      by_what (Page q at index bytes) plain none = absurd (true≢false (sym plain))
-      by_what (Sync q small read took) plain none = absurd (true≢false (sym plain))
-      by_what (Fetch q index) plain none = unended
-      by_what (PageIs q index bytes) plain none = unended
-      by_what (Crash k cause) plain none =
-          ap is_some (unended_map (after_loss k) (loss_keeps k) (placement system log) (placed_after (placement system log) (Crash k cause)) refl p) ∙ some_after (after_loss k) (unended_at (placement system log) p) unended
-      by_what (Return k) plain none = absurd (true≢false (sym plain))
-      by_what (Rebackup to fresh recs) plain none = absurd (true≢false (sym plain))
-      by_what (Done rests) plain none = unended
-      by_what Stop plain none = unended
-
-  -- in a log of letters, exits, losses and the end, such an entry brings it its letters, and leaves what is left and that it is not beyond
+  -- While no kind that is built is a cut: so does each such entry.
   pub behind_entry : (May : System → List Entry → Entry → Type 0) → IsPlainRule May → (s : ProcState) (counts : Counts) (births : List Pid) → is_system system ≡ true → IsLegalBy May system (log ++ e ∷ []) → IsUnended system log p
       → deeds_in p (what e) ≡ [] → RollsBehind system log p s counts births → RollsBehind system (log ++ e ∷ []) p (all_delivered s (letter_for p (what e))) counts births
   behind_entry May plain s counts births valid legal unended none rolls =
-      let is_so = (plain system log e (IsLegal-last May system log e legal)).1 in
-      let starts_none = plain_starts_none p (what e) is_so in
-      let kept = steps_kept May (λ system log e may. (plain system log e may).0) valid legal (unended_stays is_so none unended) starts_none.0 starts_none.1 in
-      let same : ((all_delivered s (letter_for p (what e))).small).steps ≡ (s.small).steps = ap (λ (x : ProcState). (x.small).steps) (all_delivered-is s (letter_for p (what e))) in
-      let behind = rolls.behind in
-      record { rolls = rolls_entry_plain system log e p May plain s counts births legal none rolls.rolls; behind = omega (arith, kept, same, behind) }
+      behind_standing May (λ system log e may. (plain system log e may).0) s counts births valid legal unended (plain_starts_none p (what e) (plain system log e (IsLegal-last May system log e legal)).1).0 none rolls

@@ -8,6 +8,7 @@ pub mod NotEnded
 pub mod Others
 pub mod KeepingBehind
 pub mod FromBoot
+pub mod FromStart
 pub mod Exact
 pub mod CaughtUp
 pub mod ByRule

@@ -1,4 +1,4 @@
--- An entry that another than the home of a process sends tells of none of its deeds; and what a process that rolls forward has of its own.
+-- An entry that another than the home of a process sends tells of none of its deeds and does not cut it; and what a process that rolls forward has of its own.
 use Rattle.std.proofs.Common.{◌≡◌, refl, sym, ◌∙◌, ap, List, [], ◌∷◌, Bool, true, false, cond, Some, true≢false}
 use Rattle.std.specs.Prelude.{option_map}
 use Rattle.std.proofs.lemmas.Bool.{and_parts}
@@ -18,13 +18,14 @@ use Rattle.bus_msg.specs.PlacedAfter.{what}
 use Rattle.roll_forward.specs.Deeds.{Deed, Sends, Bears}
 use Rattle.cert_sched.specs.Parts.{upto_last}
 use Rattle.cert_sched.specs.Schedule.{placement}
-use Rattle.cert_sched.specs.Deeds.{starts, deeds_in, arrived_count}
+use Rattle.cert_sched.specs.Deeds.{starts, is_cut, deeds_in, arrived_count}
 use Rattle.cert_sched.specs.Losses.{is_from}
 use Rattle.cert_sched.specs.Rules.{is_by, is_living, is_by_home, is_by_right}
 use Rattle.cert_sched.specs.Rolling.{refilled, RollsAs}
 use Rattle.cert_sched.specs.Legal.{Stands}
 use Rattle.cert_sched.proofs.StepLaws.{process_after-own}
 use Rattle.cert_sched.proofs.CameLaws.{same_of}
+use Rattle.cert_sched.proofs.BuiltCuts.{cut_by_home}
 use Rattle.cert_sched.proofs.ReplayLaws.{replays_counts}
 use Rattle.recovery_laws.proofs.Replaying.{rolling_of}
 
@@ -65,6 +66,14 @@ others_by places by p q Stop right there other = refl
 
 pub others_tell_none : (system : System) (log : List Entry) (e : Entry) (p : Pid) (q : Placed) → Stands system log e → unended_at (placement system log) p ≡ Some q → is_from q.home (e.post).by ≡ false → deeds_in p (what e) ≡ []
 others_tell_none system log e p q stands = others_by (placement system log) (e.post).by p q (what e) stands.by_right
+
+-- nor does such an entry cut it
+pub others_cut_none : (system : System) (log : List Entry) (e : Entry) (p : Pid) (q : Placed) → Stands system log e → unended_at (placement system log) p ≡ Some q → is_from q.home (e.post).by ≡ false → is_cut p (what e) ≡ false
+others_cut_none system log e p q stands there other = by_cut (is_cut p (what e)) refl
+  where
+    by_cut : (b : Bool) → is_cut p (what e) ≡ b → b ≡ false
+    by_cut true cut = absurd (true≢false (sym (by_home (placement system log) (e.post).by p q there (cut_by_home (placement system log) (e.post).by p (what e) stands.by_right cut)) ∙ other))
+    by_cut false cut = refl
 
 -- ---- its own
 

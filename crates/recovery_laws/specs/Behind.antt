@@ -28,7 +28,7 @@ pub record RunsAhead (system : System) (log : List Entry) (p : Pid) (s : ProcSta
   pub runs_out : RunsOut s counts births ahead
   pub within : ahead ≤ done_after system log p - (s.small).steps
 
--- The process is just where its last deed led it: the steps after which what it did since it started has run out lead there.
+-- The process is just where its last deed since it started led it, or at its start where it has done none: the steps after which what it did since has run out lead there.
 pub record EndsExactly (system : System) (log : List Entry) (p : Pid) (now : ProcState) : Type 0 where
   pub start : ProcState
   pub started : start_of system log p ≡ Some start

@@ -21,13 +21,12 @@ ghost use Rattle.roll_forward.specs.Rolling.{CanRoll, RollingState, started};
 ghost use Rattle.roll_forward.specs.Advancing.{Advances, Going, rolled_on};
 ghost use Rattle.roll_forward.specs.declared.rolled.Rolled.{Rolled};
 ghost use Rattle.cert_sched.specs.Schedule.{placement, process_after};
-ghost use Rattle.cert_sched.specs.Deeds.{is_cut, is_birth_of, start_of, since, deeds_in, letter_for, arrived_count};
+ghost use Rattle.cert_sched.specs.Deeds.{is_cut, start_of, since, deeds_in, letter_for, arrived_count};
 ghost use Rattle.cert_sched.specs.Steps.{silent_upto};
 ghost use Rattle.cert_sched.specs.Losses.{is_from};
 ghost use Rattle.cert_sched.specs.Record.{backup_record};
 ghost use Rattle.cert_sched.specs.Rules.{is_over};
 ghost use Rattle.cert_sched.specs.Legal.{IsLegalBy, Stands};
-ghost use Rattle.cert_sched.specs.Built.{BuiltMayFollow};
 ghost use Rattle.cert_sched.specs.Simulation.{IsUnended};
 ghost use Rattle.cert_sched.specs.Rolling.{refilled, RollsAs};
 ghost use Rattle.recovery_laws.specs.Behind.{EndsExactly, RollsBehind, RunsAhead};
@@ -40,25 +39,25 @@ pub fn rolling_begins()
     ensures recorded { (system : System) (log : List Entry) (p : Pid) (start : ProcState) (kept : BackRec) (small : SmallState) (ram : Memory) → start_of system log p ≡ Some start → backup_record system log p ≡ Some kept → kept.state ≡ Some small → ram.bytes ≡ start.memory → RollsAs system log p (started small ram kept.saved kept.next) kept.counts kept.births }
     // Where it has not ended it is not beyond where it was.
     ensures behind { (system : System) (log : List Entry) (p : Pid) (start : ProcState) (kept : BackRec) (small : SmallState) (ram : Memory) → is_system system ≡ true → IsLegalBy Stands system log → IsUnended system log p → start_of system log p ≡ Some start → backup_record system log p ≡ Some kept → kept.state ≡ Some small → ram.bytes ≡ start.memory → RollsBehind system log p (started small ram kept.saved kept.next) kept.counts kept.births }
-    // While the entries are of the kinds that are built so far it starts from boot: its record has the state that it had there, and with the memory that it had there it rolls forward.
-    ensures stated { (system : System) (log : List Entry) (p : Pid) (start : ProcState) (kept : BackRec) → IsLegalBy BuiltMayFollow system log → IsUnended system log p → process_after system [] p ≡ Some start → backup_record system log p ≡ Some kept → kept.state ≡ Some start.small }
-    ensures from_boot { (system : System) (log : List Entry) (p : Pid) (start : ProcState) (kept : BackRec) (ram : Memory) → is_system system ≡ true → IsLegalBy BuiltMayFollow system log → IsUnended system log p → process_after system [] p ≡ Some start → backup_record system log p ≡ Some kept → ram.bytes ≡ start.memory → RollsBehind system log p (started start.small ram kept.saved kept.next) kept.counts kept.births }
+    // Its record has the state of its start, and with the memory of its start it rolls forward.
+    ensures stated { (system : System) (log : List Entry) (p : Pid) (start : ProcState) (kept : BackRec) → IsLegalBy Stands system log → IsUnended system log p → start_of system log p ≡ Some start → backup_record system log p ≡ Some kept → kept.state ≡ Some start.small }
+    ensures from_start { (system : System) (log : List Entry) (p : Pid) (start : ProcState) (kept : BackRec) (ram : Memory) → is_system system ≡ true → IsLegalBy Stands system log → IsUnended system log p → start_of system log p ≡ Some start → backup_record system log p ≡ Some kept → ram.bytes ≡ start.memory → RollsBehind system log p (started start.small ram kept.saved kept.next) kept.counts kept.births }
 {}
 
 /// A law and no code: what the log brings to a process that rolls forward.
 pub fn entries_reach_it()
     // An entry that another than its home sends tells of none of its deeds.
     ensures others { (system : System) (log : List Entry) (e : Entry) (p : Pid) (q : Placed) → Stands system log e → unended_at (placement system log) p ≡ Some q → is_from q.home e.post.by ≡ false → deeds_in p (what e) ≡ [] }
-    // An entry that tells of none of its deeds, and starts it neither again nor anew, brings it its letters and leaves what is left.
-    ensures standing { (system : System) (log : List Entry) (e : Entry) (p : Pid) (s : ProcState) (counts : Counts) (births : List Pid) → is_system system ≡ true → IsLegalBy Stands system (log ++ e ∷ []) → IsUnended system log p → is_cut p (what e) ≡ false → is_birth_of p (what e) ≡ false → deeds_in p (what e) ≡ [] → RollsAs system log p s counts births → RollsAs system (log ++ e ∷ []) p (fold delivered s (letter_for p (what e))) counts births }
-    // So does each entry of a kind that is built so far,
-    ensures built { (system : System) (log : List Entry) (e : Entry) (p : Pid) (s : ProcState) (counts : Counts) (births : List Pid) → IsLegalBy BuiltMayFollow system (log ++ e ∷ []) → deeds_in p (what e) ≡ [] → RollsAs system log p s counts births → RollsAs system (log ++ e ∷ []) p (fold delivered s (letter_for p (what e))) counts births }
+    // Nor does such an entry cut it.
+    ensures uncut { (system : System) (log : List Entry) (e : Entry) (p : Pid) (q : Placed) → Stands system log e → unended_at (placement system log) p ≡ Some q → is_from q.home e.post.by ≡ false → is_cut p (what e) ≡ false }
+    // An entry that tells of none of its deeds, and is no cut of it, brings it its letters and leaves what is left:
+    ensures standing { (system : System) (log : List Entry) (e : Entry) (p : Pid) (s : ProcState) (counts : Counts) (births : List Pid) → is_system system ≡ true → IsLegalBy Stands system (log ++ e ∷ []) → is_cut p (what e) ≡ false → deeds_in p (what e) ≡ [] → RollsAs system log p s counts births → RollsAs system (log ++ e ∷ []) p (fold delivered s (letter_for p (what e))) counts births }
     // a letter to it,
-    ensures letter { (system : System) (log : List Entry) (e : Entry) (p : Pid) (s : ProcState) (counts : Counts) (births : List Pid) (letter : Letter) → IsLegalBy BuiltMayFollow system (log ++ e ∷ []) → deeds_in p (what e) ≡ [] → letter_for p (what e) ≡ letter ∷ [] → RollsAs system log p s counts births → RollsAs system (log ++ e ∷ []) p (delivered s letter) counts births }
+    ensures letter { (system : System) (log : List Entry) (e : Entry) (p : Pid) (s : ProcState) (counts : Counts) (births : List Pid) (letter : Letter) → is_system system ≡ true → IsLegalBy Stands system (log ++ e ∷ []) → is_cut p (what e) ≡ false → deeds_in p (what e) ≡ [] → letter_for p (what e) ≡ letter ∷ [] → RollsAs system log p s counts births → RollsAs system (log ++ e ∷ []) p (delivered s letter) counts births }
     // and one that brings it none, as a loss.
-    ensures quiet { (system : System) (log : List Entry) (e : Entry) (p : Pid) (s : ProcState) (counts : Counts) (births : List Pid) → IsLegalBy BuiltMayFollow system (log ++ e ∷ []) → deeds_in p (what e) ≡ [] → letter_for p (what e) ≡ [] → RollsAs system log p s counts births → RollsAs system (log ++ e ∷ []) p s counts births }
+    ensures quiet { (system : System) (log : List Entry) (e : Entry) (p : Pid) (s : ProcState) (counts : Counts) (births : List Pid) → is_system system ≡ true → IsLegalBy Stands system (log ++ e ∷ []) → is_cut p (what e) ≡ false → deeds_in p (what e) ≡ [] → letter_for p (what e) ≡ [] → RollsAs system log p s counts births → RollsAs system (log ++ e ∷ []) p s counts births }
     // Where it was not beyond where it was, it is not after the entry.
-    ensures behind { (system : System) (log : List Entry) (e : Entry) (p : Pid) (s : ProcState) (counts : Counts) (births : List Pid) → is_system system ≡ true → IsLegalBy BuiltMayFollow system (log ++ e ∷ []) → IsUnended system log p → deeds_in p (what e) ≡ [] → RollsBehind system log p s counts births → RollsBehind system (log ++ e ∷ []) p (fold delivered s (letter_for p (what e))) counts births }
+    ensures behind { (system : System) (log : List Entry) (e : Entry) (p : Pid) (s : ProcState) (counts : Counts) (births : List Pid) → is_system system ≡ true → IsLegalBy Stands system (log ++ e ∷ []) → IsUnended system log p → is_cut p (what e) ≡ false → deeds_in p (what e) ≡ [] → RollsBehind system log p s counts births → RollsBehind system (log ++ e ∷ []) p (fold delivered s (letter_for p (what e))) counts births }
 {}
 
 /// A law and no code: the steps of a process that rolls forward.
@@ -97,18 +96,18 @@ pub fn rolling_keeps_its_numbers()
     ensures pid { (system : System) (log : List Entry) (p : Pid) (s : ProcState) (counts : Counts) (births : List Pid) → RollsAs system log p s counts births → s.small.pid ≡ p }
 {}
 
-/// A law and no code: while the entries are of the kinds that are built so far, the last step of a process in the
-/// kernel without failures is its last deed.
+/// A law and no code: in a log that is not over, the last step of a process in the kernel without failures is its
+/// last deed since it started, or it is at its start, as right after a cut.
 pub fn last_steps_are_deeds()
-    ensures { (system : System) (log : List Entry) (p : Pid) (now : ProcState) → is_system system ≡ true → IsLegalBy BuiltMayFollow system log → is_over system log ≡ false → IsUnended system log p → process_after system log p ≡ Some now → EndsExactly system log p now }
+    ensures { (system : System) (log : List Entry) (p : Pid) (now : ProcState) → is_system system ≡ true → IsLegalBy Stands system log → is_over system log ≡ false → IsUnended system log p → process_after system log p ≡ Some now → EndsExactly system log p now }
 {}
 
 /// A law and no code: so a process that rolls forward catches up with the process in that kernel.
 pub fn rolling_catches_up()
     // Where it is not beyond where it was and has nothing left it is that process, and stands in the log at its own steps.
-    ensures there { (system : System) (log : List Entry) (p : Pid) (s : ProcState) (counts : Counts) (births : List Pid) → is_system system ≡ true → IsLegalBy BuiltMayFollow system log → is_over system log ≡ false → IsUnended system log p → RollsBehind system log p s counts births → nothing_left counts births ≡ true → process_after system log p ≡ Some s }
-    ensures silent { (system : System) (log : List Entry) (p : Pid) (s : ProcState) (counts : Counts) (births : List Pid) → is_system system ≡ true → IsLegalBy BuiltMayFollow system log → is_over system log ≡ false → IsUnended system log p → RollsBehind system log p s counts births → nothing_left counts births ≡ true → silent_upto system log p s.small.steps ≡ Some s }
+    ensures there { (system : System) (log : List Entry) (p : Pid) (s : ProcState) (counts : Counts) (births : List Pid) → is_system system ≡ true → IsLegalBy Stands system log → is_over system log ≡ false → IsUnended system log p → RollsBehind system log p s counts births → nothing_left counts births ≡ true → process_after system log p ≡ Some s }
+    ensures silent { (system : System) (log : List Entry) (p : Pid) (s : ProcState) (counts : Counts) (births : List Pid) → is_system system ≡ true → IsLegalBy Stands system log → is_over system log ≡ false → IsUnended system log p → RollsBehind system log p s counts births → nothing_left counts births ≡ true → silent_upto system log p s.small.steps ≡ Some s }
     // So it is after all the steps ahead, where it was not beyond before them, or where something was left.
-    ensures after { (system : System) (log : List Entry) (p : Pid) (ahead : ℕ) (g h : Going) → is_system system ≡ true → IsLegalBy BuiltMayFollow system log → is_over system log ≡ false → IsUnended system log p → RollsBehind system log p g.state g.counts g.births → RunsOut g.state g.counts g.births ahead → rolled_on ahead g ≡ Some h → process_after system log p ≡ Some h.state }
-    ensures from_left { (system : System) (log : List Entry) (p : Pid) (ahead : ℕ) (g h : Going) → is_system system ≡ true → IsLegalBy BuiltMayFollow system log → is_over system log ≡ false → IsUnended system log p → RollsAs system log p g.state g.counts g.births → nothing_left g.counts g.births ≡ false → RunsOut g.state g.counts g.births ahead → rolled_on ahead g ≡ Some h → process_after system log p ≡ Some h.state }
+    ensures after { (system : System) (log : List Entry) (p : Pid) (ahead : ℕ) (g h : Going) → is_system system ≡ true → IsLegalBy Stands system log → is_over system log ≡ false → IsUnended system log p → RollsBehind system log p g.state g.counts g.births → RunsOut g.state g.counts g.births ahead → rolled_on ahead g ≡ Some h → process_after system log p ≡ Some h.state }
+    ensures from_left { (system : System) (log : List Entry) (p : Pid) (ahead : ℕ) (g h : Going) → is_system system ≡ true → IsLegalBy Stands system log → is_over system log ≡ false → IsUnended system log p → RollsAs system log p g.state g.counts g.births → nothing_left g.counts g.births ≡ false → RunsOut g.state g.counts g.births ahead → rolled_on ahead g ≡ Some h → process_after system log p ≡ Some h.state }
 {}

@@ -5,7 +5,6 @@ pub mod Standing
 pub mod CutEntry
 pub mod CutMarks
 pub mod PagedAccounts
-pub mod MailNumbers
 pub mod SilentSizes
 pub mod SavedNumbers
 pub mod MarksLead

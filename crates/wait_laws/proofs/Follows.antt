@@ -5,12 +5,10 @@ use Rattle.t32_base.specs.declared.process.Pid.{Pid}
 use Rattle.sys_text.specs.declared.system.System.{System}
 use Rattle.sys_text.specs.Valid.{is_system}
 use Rattle.bus_msg.specs.declared.entry.What.{What}
-use Rattle.bus_msg.specs.declared.entry.What.TheVariants.{Exit, PageIs}
+use Rattle.bus_msg.specs.declared.entry.What.TheVariants.{PageIs}
 use Rattle.bus_msg.specs.declared.entry.Entry.{Entry}
 use Rattle.bus_msg.specs.Places.{same_pid}
 use Rattle.bus_msg.specs.PlacedAfter.{what}
-use Rattle.roll_forward.specs.Deeds.{Sends}
-use Rattle.sys_calls.specs.declared.steps.Emission.TheVariants.{Exit as Ended}
 use Rattle.cert_sched.specs.Account.{account_after, page_in, is_exit_of}
 use Rattle.cert_sched.specs.Built.{BuiltMayFollow}
 use Rattle.cert_sched.specs.Deeds.{deeds_in, is_cut}
@@ -19,8 +17,8 @@ use Rattle.cert_sched.specs.Moved.{any_since_moved, is_fetch, is_page_is}
 use Rattle.cert_sched.specs.Simulation.{IsUnended}
 use Rattle.cert_sched.specs.Told.{cluster_lost}
 use Rattle.cert_sched.proofs.LogLaws.{IsLegal-before, IsLegal-last}
-use Rattle.cert_sched.proofs.MailLaws.{built_is_plain}
-use Rattle.recovery_laws.proofs.Entries.{plain_starts_none}
+use Rattle.cert_sched.proofs.StayingUnended.{no_deed_no_exit}
+use Rattle.cert_sched.proofs.BuiltCuts.{built_cuts_none}
 use Rattle.record_laws.proofs.Standing.{built_stands}
 use Rattle.backup_records.specs.Records.{record_after}
 use Rattle.page_laws.specs.Next.{moves_next}
@@ -49,36 +47,27 @@ and_false : (b : Bool) → (b && false) ≡ false
 and_false true = refl
 and_false false = refl
 
--- an entry that tells of no deed of the process is not its exit
-no_exit : (p : Pid) (w : What) → deeds_in p w ≡ [] → is_exit_of p w ≡ false
-no_exit p (Exit q at end) none = by_test (same_pid q p) none
-  where
-    by_test : (b : Bool) → cond b (Sends (Ended end) ∷ []) [] ≡ [] → b ≡ false
-    by_test true e = cc
-    by_test false e = refl
-no_exit p w none = refl
-
-module _ (system : System) (log : List Entry) (e : Entry) (p : Pid) (queued : ℕ → Bool) (w : WaitingState) (valid : is_system system ≡ true) (legal : IsLegalBy BuiltMayFollow system (log ++ e ∷ [])) where
+module _ (system : System) (log : List Entry) (e : Entry) (p : Pid) (queued : ℕ → Bool) (w : WaitingState) (valid : is_system system ≡ true) (legal : IsLegalBy Stands system (log ++ e ∷ [])) where
   stands : Stands system log e
-  stands = (IsLegal-last BuiltMayFollow system log e legal).stands
+  stands = IsLegal-last Stands system log e legal
 
   -- what was kept of it at its last cut is kept still
-  still : is_exit_of p (what e) ≡ false → (account_after system (log ++ e ∷ []) p).kept ≡ (account_after system log p).kept
-  still exit = kept_still system log e p exit (plain_starts_none p (what e) (built_is_plain system log e (IsLegal-last BuiltMayFollow system log e legal)).1).0
+  still : is_exit_of p (what e) ≡ false → is_cut p (what e) ≡ false → (account_after system (log ++ e ∷ []) p).kept ≡ (account_after system log p).kept
+  still = kept_still system log e p
 
   -- a page that the entry does not bring is there or not, as before
-  come_same : (i : ℕ) → moves_next system log e p ≡ false → is_exit_of p (what e) ≡ false → is_page_is p i (what e) ≡ false → page_come system (log ++ e ∷ []) p i ≡ page_come system log p i
-  come_same i stays exit none =
+  come_same : (i : ℕ) → moves_next system log e p ≡ false → is_exit_of p (what e) ≡ false → is_cut p (what e) ≡ false → is_page_is p i (what e) ≡ false → page_come system (log ++ e ∷ []) p i ≡ page_come system log p i
+  come_same i stays exit no_cut none =
       let seen : any_since_moved system (log ++ e ∷ []) p (is_page_is p i) ≡ any_since_moved system log p (is_page_is p i) =
       any_since-goes_on system log e p (is_page_is p i) stays ∙ ap (λ b. any_since_moved system log p (is_page_is p i) || b) none ∙ or_nothing (any_since_moved system log p (is_page_is p i)) in
-      let kept = still exit in
+      let kept = still exit no_cut in
       λ k. cond (seen k) (page_in (kept k) i) None
 
-  -- an entry that is no page of it
-  pub other_entry : IsUnended system log p → moves_next system log e p ≡ false → deeds_in p (what e) ≡ [] → ((i : ℕ) → is_page_is p i (what e) ≡ false) → WaitsAs system log p (λ i. is_fetch p i (what e) || queued i) w
+  -- an entry that is no page of it, and does not cut it
+  pub other_so : IsUnended system log p → moves_next system log e p ≡ false → is_cut p (what e) ≡ false → deeds_in p (what e) ≡ [] → ((i : ℕ) → is_page_is p i (what e) ≡ false) → WaitsAs system log p (λ i. is_fetch p i (what e) || queued i) w
       → WaitsAs system (log ++ e ∷ []) p queued (record w { kept = record_after (what e) w.kept })
-  other_entry unended stays none no_page waits = record {
-    kept = record_next system log e p w.kept valid legal unended waits.kept;
+  other_so unended stays no_cut none no_page waits = record {
+    kept = record_next system log e p w.kept valid legal no_cut unended waits.kept;
     moved = moved-goes_on system log e p stays ∙ waits.moved;
     pages = waits.pages ∙ sym (page_count-snoc system log e p stands.applies);
     some = waits.some;
@@ -86,21 +75,24 @@ module _ (system : System) (log : List Entry) (e : Entry) (p : Pid) (queued : �
     asked = λ i within.
         waits.asked i within ∙ or_of_three (any_since_moved system log p (is_fetch p i)) (is_fetch p i (what e)) (queued i)
         ∙ ap (λ b. b || queued i) (sym (any_since-goes_on system log e p (is_fetch p i) stays));
-    come = λ i within. waits.come i within ∙ ap Some (sym (come_same i stays (no_exit p (what e) none) (no_page i)));
+    come = λ i within. waits.come i within ∙ ap Some (sym (come_same i stays (no_deed_no_exit p (what e) none) no_cut (no_page i)));
   }
 
   module _ (i : ℕ) (bytes : List ℕ) (is : what e ≡ PageIs p i bytes) (waits : WaitsAs system log p queued w) where
     -- a page of it comes that it has
-    pub page_within : i < length w.come
-    page_within =
+    pub within_so : i < length w.come
+    within_so =
         subst (λ n. i < n) (sym waits.pages)
-        (waited_lacks system log p i (built_stands system log (IsLegal-before BuiltMayFollow system log e legal)) (came_waited system log e p i bytes stands is)).within
+        (waited_lacks system log p i (IsLegal-before Stands system log e legal) (came_waited system log e p i bytes stands is)).within
 
     stays : moves_next system log e p ≡ false
     stays = moves_none system log e (ap cluster_lost is) p
 
     exit : is_exit_of p (what e) ≡ false
     exit = ap (is_exit_of p) is
+
+    no_cut : is_cut p (what e) ≡ false
+    no_cut = ap (is_cut p) is
 
     -- that page is there from now on
     this_came : page_come system (log ++ e ∷ []) p i ≡ Some bytes
@@ -109,7 +101,7 @@ module _ (system : System) (log : List Entry) (e : Entry) (p : Pid) (queued : �
         let seen : any_since_moved system (log ++ e ∷ []) p (is_page_is p i) ≡ true =
         any_since-goes_on system log e p (is_page_is p i) stays ∙ ap (λ b. any_since_moved system log p (is_page_is p i) || b) here ∙ or_true (any_since_moved system log p (is_page_is p i)) in
         ap (λ b. cond b (page_in (account_after system (log ++ e ∷ []) p).kept i) None) seen
-        ∙ ap (λ pages. page_in pages i) (still exit)
+        ∙ ap (λ pages. page_in pages i) (still exit no_cut)
         ∙ (page_is_holds system log e p i bytes stands is).page
 
     -- no other page is
@@ -122,16 +114,16 @@ module _ (system : System) (log : List Entry) (e : Entry) (p : Pid) (queued : �
         by_test : (b : Bool) → eqb i j ≡ b → slice_get (set w.come i (Some bytes)) j ≡ Some (page_come system (log ++ e ∷ []) p j)
         by_test true same =
             subst (λ j. slice_get (set w.come i (Some bytes)) j ≡ Some (page_come system (log ++ e ∷ []) p j)) (eqb-true i j same)
-            (written_there w.come i (Some bytes) page_within ∙ ap Some (sym this_came))
+            (written_there w.come i (Some bytes) within_so ∙ ap Some (sym this_came))
         by_test false apart =
             others_same w.come i j (Some bytes) (λ same. true≢false (sym (eq-eqb i j (sym same)) ∙ apart))
-            ∙ waits.come j within ∙ ap Some (sym (come_same j stays exit (other_page j apart)))
+            ∙ waits.come j within ∙ ap Some (sym (come_same j stays exit no_cut (other_page j apart)))
 
-    pub page_entry : IsUnended system log p → WaitsAs system (log ++ e ∷ []) p queued (with_page i bytes w)
-    page_entry unended =
+    pub page_so : IsUnended system log p → WaitsAs system (log ++ e ∷ []) p queued (with_page i bytes w)
+    page_so unended =
         let many : length (set w.come i (Some bytes)) ≡ length w.come = length-set w.come i (Some bytes) in
         record {
-          kept = record_next system log e p w.kept valid legal unended waits.kept ∙ ap (λ (x : What). Some (record_after x w.kept)) is;
+          kept = record_next system log e p w.kept valid legal no_cut unended waits.kept ∙ ap (λ (x : What). Some (record_after x w.kept)) is;
           moved = moved-goes_on system log e p stays ∙ waits.moved;
           pages = many ∙ waits.pages ∙ sym (page_count-snoc system log e p stands.applies);
           some = subst (λ n. 1 ≤ n) (sym many) waits.some;
@@ -141,3 +133,20 @@ module _ (system : System) (log : List Entry) (e : Entry) (p : Pid) (queued : �
               ∙ ap (λ b. b || queued j) (sym (any_since-goes_on system log e p (is_fetch p j) stays ∙ ap (λ b. any_since_moved system log p (is_fetch p j) || b) (ap (is_fetch p j) is) ∙ or_nothing (any_since_moved system log p (is_fetch p j))));
           come = λ j within. come_next j (subst (λ n. j < n) many within);
         }
+
+-- ---- in a log of the entries that are built so far
+
+-- While no kind that is built is a cut: an entry that is no page of it.
+pub other_entry : (system : System) (log : List Entry) (e : Entry) (p : Pid) (queued : ℕ → Bool) (w : WaitingState) → is_system system ≡ true → IsLegalBy BuiltMayFollow system (log ++ e ∷ []) → IsUnended system log p → moves_next system log e p ≡ false
+    → deeds_in p (what e) ≡ [] → ((i : ℕ) → is_page_is p i (what e) ≡ false) → WaitsAs system log p (λ i. is_fetch p i (what e) || queued i) w → WaitsAs system (log ++ e ∷ []) p queued (record w { kept = record_after (what e) w.kept })
+other_entry system log e p queued w valid legal unended stays =
+    other_so system log e p queued w valid (built_stands system (log ++ e ∷ []) legal) unended stays (built_cuts_none p (what e) (IsLegal-last BuiltMayFollow system log e legal).built)
+
+-- a page of it
+pub page_within : (system : System) (log : List Entry) (e : Entry) (p : Pid) (queued : ℕ → Bool) (w : WaitingState) → is_system system ≡ true → IsLegalBy BuiltMayFollow system (log ++ e ∷ []) → (i : ℕ) (bytes : List ℕ) → what e ≡ PageIs p i bytes
+    → WaitsAs system log p queued w → i < length w.come
+page_within system log e p queued w valid legal = within_so system log e p queued w valid (built_stands system (log ++ e ∷ []) legal)
+
+pub page_entry : (system : System) (log : List Entry) (e : Entry) (p : Pid) (queued : ℕ → Bool) (w : WaitingState) → is_system system ≡ true → IsLegalBy BuiltMayFollow system (log ++ e ∷ []) → (i : ℕ) (bytes : List ℕ) → what e ≡ PageIs p i bytes
+    → WaitsAs system log p queued w → IsUnended system log p → WaitsAs system (log ++ e ∷ []) p queued (with_page i bytes w)
+page_entry system log e p queued w valid legal = page_so system log e p queued w valid (built_stands system (log ++ e ∷ []) legal)

@@ -7,12 +7,13 @@ use Rattle.proc_state.specs.State.{ProcState}
 use Rattle.roll_forward.specs.Rolling.{with_saved}
 use Rattle.recovery.specs.Begun.{begun, BeginsFrom}
 use Rattle.bus_msg.specs.declared.entry.Entry.{Entry}
+use Rattle.cert_sched.specs.Deeds.{start_of}
 use Rattle.cert_sched.specs.Built.{BuiltMayFollow}
 use Rattle.cert_sched.specs.Legal.{IsLegalBy, Stands}
 use Rattle.cert_sched.specs.Simulation.{IsUnended}
 use Rattle.recovery_laws.specs.Behind.{RollsBehind}
-use Rattle.recovery_laws.proofs.ByRule.{built_from_boot, built_stated, itself, standing_always}
-use Rattle.recovery_laws.proofs.Reaching.{led_there}
+use Rattle.recovery_laws.proofs.ByRule.{itself, standing_always, standing_from_start, standing_stated}
+use Rattle.recovery_laws.proofs.Reaching.{LedThere, led_there}
 use Rattle.record_laws.proofs.Standing.{built_stands}
 use Rattle.page_laws.proofs.SizesStay.{start_sized}
 use Rattle.page_laws.proofs.StartPages.{kept_pages}
@@ -20,40 +21,44 @@ use Rattle.page_waits.specs.Pages.{AreAllPages}
 use Rattle.page_waits.specs.Waiting.{CanGoOn, WaitingState, is_whole}
 use Rattle.page_waits.proofs.Started.{can_from, rolls_from}
 use Rattle.wait_laws.specs.Waits.{GoesOnAs, WaitsAs}
-use Rattle.wait_laws.proofs.BootPages.{StartsSo, starts_so}
 use Rattle.wait_laws.proofs.PagesCame.{as_kept}
 
-module _ (system : System) (log : List Entry) (p : Pid) (queued : ℕ → Bool) (w : WaitingState) (valid : is_system system ≡ true) (legal : IsLegalBy BuiltMayFollow system log) (unended : IsUnended system log p) (waits : WaitsAs system log p queued w)
+module _ (system : System) (log : List Entry) (p : Pid) (queued : ℕ → Bool) (w : WaitingState) (valid : is_system system ≡ true) (legal : IsLegalBy Stands system log) (unended : IsUnended system log p) (waits : WaitsAs system log p queued w)
     (whole : is_whole w ≡ true) where
-  legal_still : IsLegalBy Stands system log
-  legal_still = built_stands system log legal
-
-  starts : StartsSo system log p
-  starts = starts_so system log p valid legal unended
+  there : LedThere system log p
+  there = led_there Stands itself system log p valid legal unended
 
   -- the pages are those of the memory with which it started
-  all_pages : AreAllPages (starts.start).memory w.come
+  all_pages : AreAllPages ((there.led).start).memory w.come
   all_pages = record {
     size =
-        (let there = led_there Stands itself system log p valid legal_still unended in start_sized system log p starts.start there.now valid there.there starts.started)
+        start_sized system log p (there.led).start there.now valid there.there (there.led).started
         ∙ ap (λ n. 256 * n) (sym waits.pages);
     each = λ i within.
         as_kept system log p queued w waits whole i within
-        ∙ ap Some (kept_pages system log p starts.start i valid legal_still waits.moved unended starts.started (subst (λ n. i < n) waits.pages within));
+        ∙ ap Some (kept_pages system log p (there.led).start i valid legal waits.moved unended (there.led).started (subst (λ n. i < n) waits.pages within));
   }
 
   -- with that memory it rolls forward
-  rolls : RollsBehind system log p (with_saved starts.start (w.kept).saved (w.kept).next) (w.kept).counts (w.kept).births
-  rolls = built_from_boot system log p starts.start w.kept (record { bytes = (starts.start).memory; dirty = [] }) valid legal unended starts.first waits.kept refl
+  rolls : RollsBehind system log p (with_saved (there.led).start (w.kept).saved (w.kept).next) (w.kept).counts (w.kept).births
+  rolls = standing_from_start system log p (there.led).start w.kept (record { bytes = ((there.led).start).memory; dirty = [] }) valid legal unended (there.led).started waits.kept refl
 
-  begins : BeginsFrom starts.start w.kept
+  begins : BeginsFrom (there.led).start w.kept
   begins = record {
-    state = built_stated system log p starts.start w.kept legal unended starts.first waits.kept;
-    rolls = standing_always system log p (with_saved starts.start (w.kept).saved (w.kept).next) (w.kept).counts (w.kept).births valid legal_still unended rolls.rolls;
+    state = standing_stated system log p (there.led).start w.kept legal unended (there.led).started waits.kept;
+    rolls = standing_always system log p (with_saved (there.led).start (w.kept).saved (w.kept).next) (w.kept).counts (w.kept).births valid legal unended rolls.rolls;
   }
 
-  pub can_go_on : CanGoOn w
-  can_go_on = can_from w starts.start all_pages begins
+  pub can_go_on_so : CanGoOn w
+  can_go_on_so = can_from w (there.led).start all_pages begins
 
-  pub goes_on : GoesOnAs system log p w
-  goes_on = record { rolling = begun starts.start w.kept; is = rolls_from w starts.start all_pages begins; behind = rolls }
+  pub goes_on_so : GoesOnAs system log p w
+  goes_on_so = record { rolling = begun (there.led).start w.kept; is = rolls_from w (there.led).start all_pages begins; behind = rolls }
+
+-- in a log of the entries that are built so far
+pub can_go_on : (system : System) (log : List Entry) (p : Pid) (queued : ℕ → Bool) (w : WaitingState) → is_system system ≡ true → IsLegalBy BuiltMayFollow system log → IsUnended system log p → WaitsAs system log p queued w → is_whole w ≡ true → CanGoOn w
+can_go_on system log p queued w valid legal = can_go_on_so system log p queued w valid (built_stands system log legal)
+
+pub goes_on : (system : System) (log : List Entry) (p : Pid) (queued : ℕ → Bool) (w : WaitingState) → is_system system ≡ true → IsLegalBy BuiltMayFollow system log → IsUnended system log p → WaitsAs system log p queued w → is_whole w ≡ true
+    → GoesOnAs system log p w
+goes_on system log p queued w valid legal = goes_on_so system log p queued w valid (built_stands system log legal)

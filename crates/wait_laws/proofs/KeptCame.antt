@@ -26,7 +26,7 @@ use Rattle.cert_sched.proofs.Induction.{legal_induction}
 use Rattle.cert_sched.proofs.CameLaws.{not_birth}
 use Rattle.page_laws.specs.Next.{next_told, moves_next}
 use Rattle.page_laws.proofs.OneEntry.{any_since-snoc}
-use Rattle.page_laws.proofs.StayingUnended.{unended_before}
+use Rattle.cert_sched.proofs.StayingUnended.{unended_before}
 use Rattle.page_laws.proofs.Waiting.{page_came, page_is_holds}
 
 -- an account has the page i

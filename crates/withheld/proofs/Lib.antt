@@ -1,10 +1,8 @@
-mod Tallies
 mod DeedTotals
-mod MovedLetters
-mod Settled
+mod Since
 mod OneRecord
 mod Sums
-mod Bound
+mod Births
 mod Beginnings
 mod NoLoss
 mod WorkedLog

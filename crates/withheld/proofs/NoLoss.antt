@@ -11,7 +11,7 @@ use Rattle.bus_msg.specs.PlacedAfter.{placed_after, what}
 use Rattle.cert_sched.specs.Schedule.{places_at_boot}
 use Rattle.cert_sched.specs.Told.{Told, cluster_lost, told, told_from}
 use Rattle.cert_sched.specs.Counted.{counted, counted_at}
-use Rattle.withheld.specs.Letters.{has_loss}
+use Rattle.withheld.specs.Losses.{has_loss}
 
 module _ (system : System) where
   abbrev added : Told → ℕ

@@ -1,2 +1,4 @@
-pub mod Letters
+pub mod Losses
+pub mod Counts
+pub mod Walks
 pub mod Worked

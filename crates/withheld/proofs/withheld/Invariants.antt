@@ -1,10 +1,6 @@
-use Rattle.std.proofs.Common.{◌≡◌, take}
-use Rattle.cert_sched.specs.Schedule.{placement}
-use Rattle.cert_sched.specs.Counted.{counted}
+use Rattle.std.proofs.Common.{take}
+use Rattle.withheld.specs.Walks.{HasWalked}
 use Rattle.withheld.proofs.withheld.Given as goal
 
-abbrev pub invariant-loop-place : goal.invariant-loop-place
-invariant-loop-place l = record {
-  places : l.places ≡ placement l.system (take l.place l.log);
-  total : l.total ≡ counted l.system (take l.place l.log);
-}
+abbrev pub invariant-loop-entry : goal.invariant-loop-entry
+invariant-loop-entry l = HasWalked l.system (take l.entry-index l.log) l.walk

@@ -1,5 +1,5 @@
 use Rattle.recovery_laws.proofs.Beginning.{rolls_from_start, rolls_from_record}
-use Rattle.recovery_laws.proofs.ByRule.{begins_behind, built_stated, built_from_boot}
+use Rattle.recovery_laws.proofs.ByRule.{begins_behind, standing_stated, standing_from_start}
 use Rattle.recovery_laws.proofs.rolling_on.rolling_begins.Goals as goal
 
 pub returns-clause-start : goal.returns-clause-start
@@ -12,7 +12,7 @@ pub returns-clause-behind : goal.returns-clause-behind
 returns-clause-behind c = begins_behind
 
 pub returns-clause-stated : goal.returns-clause-stated
-returns-clause-stated c = built_stated
+returns-clause-stated c = standing_stated
 
-pub returns-clause-from_boot : goal.returns-clause-from_boot
-returns-clause-from_boot c = built_from_boot
+pub returns-clause-from_start : goal.returns-clause-from_start
+returns-clause-from_start c = standing_from_start

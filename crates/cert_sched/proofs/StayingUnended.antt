@@ -1,5 +1,5 @@
 -- Which processes have not ended after one more entry that is no birth.
-use Rattle.std.proofs.Common.{◌≡◌, refl, sym, ◌∙◌, ap, map, Bool, true, false, not, ◌&&◌, Option, Some, None, is_some, true≢false}
+use Rattle.std.proofs.Common.{◌≡◌, refl, sym, ◌∙◌, ap, [], ◌∷◌, map, Bool, true, false, cond, not, ◌&&◌, Option, Some, None, is_some, true≢false}
 use Rattle.std.specs.Prelude.{find, option_map}
 use Rattle.t32_base.specs.declared.process.Pid.{Pid}
 use Rattle.bus_msg.specs.declared.entry.What.{What}
@@ -7,10 +7,22 @@ use Rattle.bus_msg.specs.declared.entry.What.TheVariants.{Mail, Birth, Exit, Pag
 use Rattle.bus_msg.specs.declared.placed.Placed.{Placed}
 use Rattle.bus_msg.specs.Places.{Places, same_pid, unended_at}
 use Rattle.bus_msg.specs.PlacedAfter.{placed_after, after_exit, after_sync, after_loss, after_rebackup}
+use Rattle.sys_calls.specs.declared.steps.Emission.TheVariants.{Exit as Ended}
+use Rattle.roll_forward.specs.Deeds.{Sends}
 use Rattle.cert_sched.specs.Account.{is_exit_of}
+use Rattle.cert_sched.specs.Deeds.{deeds_in}
 use Rattle.cert_sched.proofs.ExitLaws.{exited, unended_exit}
 use Rattle.cert_sched.proofs.UnendedLaws.{Keeps, unended_map, sync_keeps, backup_keeps, loss_keeps}
 use Rattle.cert_sched.proofs.CameLaws.{is_birth, apart_from, same_of}
+
+-- an entry that tells of no deed of a process is not its exit
+pub no_deed_no_exit : (p : Pid) (w : What) → deeds_in p w ≡ [] → is_exit_of p w ≡ false
+no_deed_no_exit p (Exit q at end) none = by_test (same_pid q p) none
+  where
+    by_test : (b : Bool) → cond b (Sends (Ended end) ∷ []) [] ≡ [] → b ≡ false
+    by_test true e = cc
+    by_test false e = refl
+no_deed_no_exit p w none = refl
 
 some_still : (f : Placed → Placed) (o : Option Placed) → is_some (option_map f o) ≡ is_some o
 some_still f None = refl

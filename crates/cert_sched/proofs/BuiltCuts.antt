@@ -1,0 +1,99 @@
+-- Which entries cut a process: none of the kinds that are built so far, and of the others one that its home sends while it has not ended.
+use Rattle.std.proofs.Common.{◌≡◌, refl, sym, ◌∙◌, ap, List, [], ◌∷◌, Bool, true, false, ◌&&◌, Option, Some, None, is_some, true≢false}
+use Rattle.std.specs.Prelude.{option_map}
+use Rattle.std.proofs.lemmas.Bool.{and_parts}
+use Rattle.t32_base.specs.declared.process.Pid.{Pid}
+use Rattle.t32_base.specs.declared.letter.BackRec.{BackRec}
+use Rattle.bus_msg.specs.declared.entry.What.{What}
+use Rattle.bus_msg.specs.declared.entry.What.TheVariants.{Mail, Birth, Exit, Page, Sync, Fetch, PageIs, Crash, Return, Rebackup, Done, Stop}
+use Rattle.bus_msg.specs.declared.entry.By.{By}
+use Rattle.bus_msg.specs.declared.entry.By.TheVariants.{Cluster, Bus}
+use Rattle.bus_msg.specs.declared.placed.Placed.{Placed}
+use Rattle.bus_msg.specs.Places.{Places, same_pid, unended_at}
+use Rattle.cert_sched.specs.Deeds.{is_cut, is_birth_of, is_first}
+use Rattle.cert_sched.specs.Steps.{process_of}
+use Rattle.cert_sched.specs.Rules.{is_by, is_living, is_by_home, is_by_right}
+use Rattle.cert_sched.specs.Built.{is_built}
+use Rattle.cert_sched.proofs.CameLaws.{is_birth, same_of}
+
+-- While no kind that is built is a cut: an entry of such a kind cuts no process.
+pub built_cuts_none : (p : Pid) (w : What) → is_built w ≡ true → is_cut p w ≡ false
+built_cuts_none p (Mail at letter) built = refl
+built_cuts_none p (Birth parent at child end) built = refl
+built_cuts_none p (Exit pid at end) built = refl
+built_cuts_none p (Page pid at index bytes) built = refl
+built_cuts_none p (Sync pid small read took) built = absurd (true≢false (sym built))
+built_cuts_none p (Fetch pid index) built = refl
+built_cuts_none p (PageIs pid index bytes) built = refl
+built_cuts_none p (Crash k cause) built = refl
+built_cuts_none p (Return k) built = refl
+built_cuts_none p (Rebackup to fresh recs) built = absurd (true≢false (sym built))
+built_cuts_none p (Done rests) built = refl
+built_cuts_none p Stop built = refl
+
+-- an entry that tells of no birth is the birth of no process
+pub bears_none : (p : Pid) (w : What) → is_birth w ≡ false → is_birth_of p w ≡ false
+bears_none p (Mail at letter) other = refl
+bears_none p (Birth parent at child end) other = absurd (true≢false other)
+bears_none p (Exit pid at end) other = refl
+bears_none p (Page pid at index bytes) other = refl
+bears_none p (Sync pid small read took) other = refl
+bears_none p (Fetch pid index) other = refl
+bears_none p (PageIs pid index bytes) other = refl
+bears_none p (Crash k cause) other = refl
+bears_none p (Return k) other = refl
+bears_none p (Rebackup to fresh recs) other = refl
+bears_none p (Done rests) other = refl
+bears_none p Stop other = refl
+
+-- ---- who cuts a process
+
+-- what cuts a process is an entry of that process
+pub cut_is_of : (p : Pid) (w : What) → is_cut p w ≡ true → process_of w ≡ Some p
+cut_is_of p (Mail at letter) cut = absurd (true≢false (sym cut))
+cut_is_of p (Birth parent at child end) cut = absurd (true≢false (sym cut))
+cut_is_of p (Exit pid at end) cut = absurd (true≢false (sym cut))
+cut_is_of p (Page pid at index bytes) cut = absurd (true≢false (sym cut))
+cut_is_of p (Sync pid small read took) cut = ap Some (same_of pid p cut)
+cut_is_of p (Fetch pid index) cut = absurd (true≢false (sym cut))
+cut_is_of p (PageIs pid index bytes) cut = absurd (true≢false (sym cut))
+cut_is_of p (Crash k cause) cut = absurd (true≢false (sym cut))
+cut_is_of p (Return k) cut = absurd (true≢false (sym cut))
+cut_is_of p (Rebackup to fresh recs) cut = by_first recs (and_parts fresh (is_first p recs) cut).1
+  where
+    by_first : (recs : List BackRec) → is_first p recs ≡ true → process_of (Rebackup to fresh recs) ≡ Some p
+    by_first [] first = absurd (true≢false (sym first))
+    by_first (r ∷ rs) first = ap Some (same_of r.pid p first)
+cut_is_of p (Done rests) cut = absurd (true≢false (sym cut))
+cut_is_of p Stop cut = absurd (true≢false (sym cut))
+
+-- it comes by right from the home of its process
+pub cut_by_home : (places : Places) (by : By) (p : Pid) (w : What) → is_by_right places by w ≡ true → is_cut p w ≡ true → is_by_home places by (Some p) ≡ true
+cut_by_home places by p (Mail at letter) right cut = absurd (true≢false (sym cut))
+cut_by_home places by p (Birth parent at child end) right cut = absurd (true≢false (sym cut))
+cut_by_home places by p (Exit pid at end) right cut = absurd (true≢false (sym cut))
+cut_by_home places by p (Page pid at index bytes) right cut = absurd (true≢false (sym cut))
+cut_by_home places by p (Sync pid small read took) right cut = ap (is_by_home places by) (sym (cut_is_of p (Sync pid small read took) cut)) ∙ right
+cut_by_home places by p (Fetch pid index) right cut = absurd (true≢false (sym cut))
+cut_by_home places by p (PageIs pid index bytes) right cut = absurd (true≢false (sym cut))
+cut_by_home places by p (Crash k cause) right cut = absurd (true≢false (sym cut))
+cut_by_home places by p (Return k) right cut = absurd (true≢false (sym cut))
+cut_by_home places by p (Rebackup to fresh recs) right cut = ap (is_by_home places by) (sym (cut_is_of p (Rebackup to fresh recs) cut)) ∙ right
+cut_by_home places by p (Done rests) right cut = absurd (true≢false (sym cut))
+cut_by_home places by p Stop right cut = absurd (true≢false (sym cut))
+
+-- who sends as the home of a process has it among those that have not ended
+pub by_home_there : (places : Places) (by : By) (p : Pid) → is_by_home places by (Some p) ≡ true → is_some (unended_at places p) ≡ true
+by_home_there places by p right = by_placed (unended_at places p) (and_parts (is_living places by) (is_by by (option_map (λ (q : Placed). q.home) (unended_at places p))) right).1
+  where
+    by_none : (by : By) → is_by by None ≡ true → ⊥
+    by_none (Cluster k) h = true≢false (sym h)
+    by_none Bus h = true≢false (sym h)
+
+    by_placed : (o : Option Placed) → is_by by (option_map (λ (q : Placed). q.home) o) ≡ true → is_some o ≡ true
+    by_placed None h = absurd (by_none by h)
+    by_placed (Some q) h = refl
+
+-- so a process that is cut has not ended
+pub cut_unended : (places : Places) (by : By) (p : Pid) (w : What) → is_by_right places by w ≡ true → is_cut p w ≡ true → is_some (unended_at places p) ≡ true
+cut_unended places by p w right cut = by_home_there places by p (cut_by_home places by p w right cut)

@@ -1,0 +1,70 @@
+-- In a log in which each entry stands, a process that has not ended has read its saved letters from the fronts of its ends.
+use Rattle.std.proofs.Common.{◌≡◌, ℕ, ◌-◌, sym, ◌∙◌, ap, subst, List, [], true, false, Option, Some}
+use Rattle.std.specs.Prelude.{option_and_then}
+use Rattle.std.specs.List.{AllPairs}
+use Rattle.std.specs.Option.{option_map_or}
+use Rattle.std.proofs.lemmas.Bool.{and_parts}
+use Rattle.t32_base.specs.declared.process.Pid.{Pid}
+use Rattle.sys_text.specs.declared.system.System.{System}
+use Rattle.sys_text.specs.Valid.{is_system}
+use Rattle.proc_state.specs.Queues.{DiffersFrom}
+use Rattle.proc_state.specs.State.{ProcState, has_ended}
+use Rattle.plain_kernel.specs.Kernel.{process_at}
+use Rattle.bus_msg.specs.declared.entry.Entry.{Entry}
+use Rattle.cert_sched.specs.Parts.{upto_last}
+use Rattle.cert_sched.specs.Schedule.{done, process_after}
+use Rattle.cert_sched.specs.Deeds.{starts, arrived_count, saved_letters, since}
+use Rattle.cert_sched.specs.Rolling.{refilled}
+use Rattle.cert_sched.specs.Steps.{saved_of, silent_upto}
+use Rattle.cert_sched.specs.Legal.{IsLegalBy, Stands}
+use Rattle.cert_sched.proofs.CameLaws.{IsStandingRule}
+use Rattle.cert_sched.proofs.EndsLaws.{process_after-ends}
+use Rattle.cert_sched.proofs.MailLaws.{silent_upto-ends}
+use Rattle.cert_sched.proofs.ReplayLaws.{replays_silently}
+use Rattle.cert_sched.proofs.RollLaws.{Rolls, all_roll}
+use Rattle.cert_sched.proofs.StepLaws.{silent_from}
+use Rattle.read_laws.specs.Numbered.{are_below, are_in_order, are_numbered}
+use Rattle.read_laws.specs.ReadsFrom.{ReadsFrom}
+use Rattle.read_laws.proofs.SavedNumbers.{saved_numbered, order_differ}
+use Rattle.read_laws.proofs.ReplayReads.{HasRead, none_read, reads_from, replay_read}
+
+pub itself : IsStandingRule Stands
+itself system log e stands = stands
+
+module _ (system : System) (log : List Entry) (p : Pid) (now : ProcState) (rolls : Rolls system log p now) where
+  saved_is : saved_of system log p ≡ saved_letters log p rolls.start
+  saved_is = ap (λ (o : Option ProcState). option_map_or (saved_letters log p) o []) rolls.started
+
+  rolled_numbered : are_numbered (arrived_count log p) (saved_of system log p) ≡ true
+  rolled_numbered = (λ i. are_numbered (rolls.arrived i) (saved_is i)) ∙ saved_numbered system log p rolls.start rolls.started
+
+  differ : AllPairs DiffersFrom (saved_of system log p)
+  differ = order_differ (saved_of system log p) (and_parts (are_in_order (saved_of system log p)) (are_below (arrived_count log p) (saved_of system log p)) rolled_numbered).0
+
+  rolled_read : HasRead (saved_of system log p) now.mail
+  rolled_read =
+      let started : HasRead (saved_of system log p) (refilled log p rolls.start).mail = subst (HasRead (saved_of system log p)) saved_is (none_read (saved_of system log p)) in
+      replay_read (saved_of system log p) differ rolls.made (refilled log p rolls.start) now (since log p) rolls.replays
+      (process_after-ends system (upto_last (starts p) log) p rolls.start rolls.started) started
+
+rolls_there : (system : System) (log : List Entry) (p : Pid) (s : ProcState) → is_system system ≡ true → IsLegalBy Stands system log → process_after system log p ≡ Some s → has_ended (s.small).status ≡ false → Rolls system log p s
+rolls_there system log p s valid legal there goes_on = (all_roll Stands itself system log valid legal).rolls p s there goes_on
+
+pub all_saved_numbered : (system : System) (log : List Entry) (p : Pid) (s : ProcState) → is_system system ≡ true → IsLegalBy Stands system log → process_after system log p ≡ Some s → has_ended (s.small).status ≡ false
+    → are_numbered (arrived_count log p) (saved_of system log p) ≡ true
+all_saved_numbered system log p s valid legal there goes_on = rolled_numbered system log p s (rolls_there system log p s valid legal there goes_on)
+
+pub process_reads : (system : System) (log : List Entry) (p : Pid) (s : ProcState) → is_system system ≡ true → IsLegalBy Stands system log → process_after system log p ≡ Some s → has_ended (s.small).status ≡ false
+    → ReadsFrom (saved_of system log p) s.mail
+process_reads system log p s valid legal there goes_on = reads_from (saved_of system log p) s.mail (rolled_read system log p s (rolls_there system log p s valid legal there goes_on))
+
+pub silent_reads : (system : System) (log : List Entry) (p : Pid) (n : ℕ) (s : ProcState) → is_system system ≡ true → IsLegalBy Stands system log → silent_upto system log p n ≡ Some s → has_ended (s.small).status ≡ false
+    → ReadsFrom (saved_of system log p) s.mail
+silent_reads system log p n s valid legal silent goes_on =
+    let f = silent_from system log p n s silent in
+    let there : process_after system log p ≡ Some f.was = ap (option_and_then (λ k. process_at k p)) f.before ∙ f.there in
+    let went_on : has_ended (f.was.small).status ≡ false = sym (silent_upto-ends system log p n f.was s there silent) ∙ goes_on in
+    let rolls = rolls_there system log p f.was valid legal there went_on in
+    reads_from (saved_of system log p) s.mail
+    (replay_read (saved_of system log p) (differ system log p f.was rolls) (n - done f.kernel p) f.was s [] (replays_silently (n - done f.kernel p) f.was s f.silent)
+    (process_after-ends system log p f.was there) (rolled_read system log p f.was rolls))
