@@ -1,5 +1,5 @@
 -- Which entries cut a process: none of the kinds that are built so far, and of the others one that its home sends while it has not ended.
-use Rattle.std.proofs.Common.{◌≡◌, refl, sym, ◌∙◌, ap, List, [], ◌∷◌, Bool, true, false, ◌&&◌, Option, Some, None, is_some, true≢false}
+use Rattle.std.proofs.Common.{◌≡◌, refl, sym, ◌∙◌, ap, List, [], ◌∷◌, true, false, Option, Some, None, is_some, true≢false}
 use Rattle.std.specs.Prelude.{option_map}
 use Rattle.std.proofs.lemmas.Bool.{and_parts}
 use Rattle.t32_base.specs.declared.process.Pid.{Pid}
@@ -9,7 +9,7 @@ use Rattle.bus_msg.specs.declared.entry.What.TheVariants.{Mail, Birth, Exit, Pag
 use Rattle.bus_msg.specs.declared.entry.By.{By}
 use Rattle.bus_msg.specs.declared.entry.By.TheVariants.{Cluster, Bus}
 use Rattle.bus_msg.specs.declared.placed.Placed.{Placed}
-use Rattle.bus_msg.specs.Places.{Places, same_pid, unended_at}
+use Rattle.bus_msg.specs.Places.{Places, unended_at}
 use Rattle.cert_sched.specs.Deeds.{is_cut, is_birth_of, is_first}
 use Rattle.cert_sched.specs.Steps.{process_of}
 use Rattle.cert_sched.specs.Rules.{is_by, is_living, is_by_home, is_by_right}

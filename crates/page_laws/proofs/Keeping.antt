@@ -4,7 +4,6 @@ use Rattle.std.specs.Prelude.{filter, option_map}
 use Rattle.std.specs.List.{list_all, range_with_len}
 use Rattle.t32_base.specs.declared.process.Pid.{Pid}
 use Rattle.sys_text.specs.declared.system.System.{System}
-use Rattle.bus_msg.specs.declared.entry.What.{What}
 use Rattle.bus_msg.specs.declared.entry.Entry.{Entry}
 use Rattle.bus_msg.specs.PlacedAfter.{what}
 use Rattle.cert_sched.specs.Parts.{first_of}
