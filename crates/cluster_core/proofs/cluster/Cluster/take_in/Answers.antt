@@ -109,7 +109,7 @@ returns-clause-follows g c =
     let order : are_rising (moved_by old.places old.number w (records_after w old.records)) ≡ true =
     subst (λ (v : ClusterView). are_rising (moved_by v.places v.number w (records_after w v.records)) ≡ true) c.self.view_is
     (subst (λ recs. are_rising (moved_by c.self.inside.places c.self.inside.number w recs) ≡ true) c.in_ok-note.ensures.ok c.in_ok-take_over.ensures.rising) in
-    let serves : Serves old.places e old.server server = subst (λ (v : ClusterView). Serves v.places e v.server server) c.self.view_is c.in_ok-serve.ensures in
+    let serves : Serves old.places e old.server server = subst (λ (v : ClusterView). Serves v.places e v.server server) c.self.view_is c.in_ok-serve.ensures.ok in
     subst (Absorbs e old) (sym whole) (absorbs old e server valid own order serves)
 
 pub tell-requires-clause-number : goal.tell-requires-clause-number
@@ -124,5 +124,5 @@ tell-requires-clause-comes g c =
 pub returns-clause-disk : goal.returns-clause-disk
 returns-clause-disk g c =
     let old : ClusterView = c.args.self.now in
-    let serves : Serves old.places c.args.entry.now old.server c.serve.new.server = subst (λ (v : ClusterView). Serves v.places c.args.entry.now v.server c.serve.new.server) c.self.view_is c.in_ok-serve.ensures in
+    let serves : Serves old.places c.args.entry.now old.server c.serve.new.server = subst (λ (v : ClusterView). Serves v.places c.args.entry.now v.server c.serve.new.server) c.self.view_is c.in_ok-serve.ensures.ok in
     ap (λ (v : ClusterView). failing_in v.server) c.count_step.ensures ∙ failing_after old.places c.args.entry.now old.server c.serve.new.server serves
