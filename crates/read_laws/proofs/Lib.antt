@@ -5,3 +5,4 @@ pub mod StepReads
 pub mod ReplayReads
 pub mod LogReads
 pub mod SyncReads
+mod WorkedReads
