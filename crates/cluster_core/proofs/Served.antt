@@ -1,15 +1,17 @@
 -- What a cluster keeps as a page server stays what the log says: after an entry, and where a post is queued.
 use Rattle.std.proofs.Common.{◌≡◌, ℕ, ◌+◌, ◌≤◌, refl, sym, ◌∙◌, ap, subst, arith, List, [], ◌∷◌, ◌++◌, Bool, true, false, cond, ◌&&◌, eq-eqb, Option, Some, None, is_some, inl, inr, true≢false}
-use Rattle.std.specs.Prelude.{◌⊎◌, ⊤}
+use Rattle.std.specs.Prelude.{◌⊎◌, Ok, ⊤}
 use Rattle.std.specs.Option.{IfSome, option_map_or}
 use Rattle.page_server.specs.Account.{PagerState}
 use Rattle.page_server.specs.Disk.{Counts}
 use Rattle.page_accounts.specs.Booting.{IsAhead}
+use Rattle.page_accounts.specs.Noting.{CountsAfterNote}
 use Rattle.page_accounts.specs.Keeps.{KeepsAccounts}
 use Rattle.sys_text.specs.declared.system.System.{System}
 use Rattle.t32_base.specs.Streams.{one_more}
 use Rattle.t32_base.specs.declared.process.ClusterNo.{ClusterNo}
 use Rattle.bus_msg.specs.declared.entry.What.{What}
+use Rattle.bus_msg.specs.declared.entry.What.TheVariants.{Mail, Birth, Exit, Page, Sync, Fetch, PageIs, Crash, Return, Rebackup, Done, Stop}
 use Rattle.bus_msg.specs.declared.entry.Post.{Post}
 use Rattle.bus_msg.specs.declared.entry.Entry.{Entry}
 use Rattle.bus_msg.specs.Places.{Places}
@@ -110,21 +112,36 @@ still_there before e (Some old) (Some new) serves there = refl
 abbrev calls_of : Option PagerState → ℕ
 calls_of o = option_map_or (λ (s : PagerState). (s.counts).calls) o 0
 
-same_calls : (before : Places) (e : Entry) (old new : Option PagerState) → Serves before e old new → calls_of new ≡ calls_of old
-same_calls before e None new serves = ap calls_of serves
-same_calls before e (Some old) None serves = absurd serves
-same_calls before e (Some old) (Some new) serves = ap (λ (c : Counts). c.calls) serves.counts
+-- an entry that brings no page calls no disk
+no_call : (w : What) (old new : Counts) → is_page_entry w ≡ false → CountsAfterNote w old new (Ok tt) → new ≡ old
+no_call (Mail at letter) old new none after = after
+no_call (Birth parent at child end) old new none after = after
+no_call (Exit pid at end) old new none after = after
+no_call (Page pid at index bytes) old new none after = absurd (true≢false none)
+no_call (Sync pid small read took) old new none after = after
+no_call (Fetch pid index) old new none after = after
+no_call (PageIs pid index bytes) old new none after = after
+no_call (Crash k cause) old new none after = after
+no_call (Return k) old new none after = after
+no_call (Rebackup to fresh recs) old new none after = after
+no_call (Done rests) old new none after = after
+no_call Stop old new none after = after
 
--- A cluster that takes in an entry, where the least calls stay with what was queued before and what is queued after.
-accounts_on : (system : System) (log : List Entry) (e : Entry) (c d : ClusterView) → Serves (placement system log) e c.server d.server → d.number ≡ c.number
+same_calls : (before : Places) (e : Entry) (old new : Option PagerState) → is_page_entry (what e) ≡ false → Serves before e old new → calls_of new ≡ calls_of old
+same_calls before e None new none serves = ap calls_of serves
+same_calls before e (Some old) None none serves = absurd serves
+same_calls before e (Some old) (Some new) none serves = ap (λ (c : Counts). c.calls) (no_call (what e) old.counts new.counts none serves.counts)
+
+-- A cluster that takes in an entry that brings no page, where the least calls stay with what was queued before and what is queued after.
+accounts_on : (system : System) (log : List Entry) (e : Entry) (c d : ClusterView) → is_page_entry (what e) ≡ false → Serves (placement system log) e c.server d.server → d.number ≡ c.number
     → least_calls system (log ++ e ∷ []) (with_queue system (log ++ e ∷ []) d.queue) c.number ≡ least_calls system log (with_queue system log c.queue) c.number → HoldsAccounts system log c → HoldsAccounts system (log ++ e ∷ []) d
-accounts_on system log e c d serves number least f = record {
+accounts_on system log e c d none serves number least f = record {
   keeps = keeps_on system log e c.server d.server serves f.keeps;
   there = λ kept server. still_there (placement system log) e c.server d.server serves (f.there (before kept) (is_one server));
   calls = λ kept server.
       let was : capped (least_calls system log (with_queue system log c.queue) c.number) ≤ calls_of c.server = f.calls (before kept) (is_one server) in
       let same : least_calls system (log ++ e ∷ []) (with_queue system (log ++ e ∷ []) d.queue) d.number ≡ least_calls system log (with_queue system log c.queue) c.number = ap (least_calls system (log ++ e ∷ []) (with_queue system (log ++ e ∷ []) d.queue)) number ∙ least in
-      let calls = same_calls (placement system log) e c.server d.server serves in
+      let calls = same_calls (placement system log) e c.server d.server none serves in
       omega (arith, was, same, calls);
 }
   where
@@ -137,7 +154,7 @@ accounts_on system log e c d serves number least f = record {
 -- so it is where the entry is no answer of its own, and at most one post is queued before and after
 pub accounts_next : (system : System) (log : List Entry) (e : Entry) (c d : ClusterView) (q : Queued) → is_built (what e) ≡ true → answers c.number e ≡ false → Serves (placement system log) e c.server d.server → d.number ≡ c.number
     → c.queue ≡ posts_of q → d.queue ≡ posts_of q → IsQueueLegal UnlostMayFollow system log (posts_of q) → HoldsAccounts system log c → HoldsAccounts system (log ++ e ∷ []) d
-accounts_next system log e c d q built none serves number was now legal f = accounts_on system log e c d serves number least f
+accounts_next system log e c d q built none serves number was now legal f = accounts_on system log e c d (no_page (what e) built) serves number least f
   where
     plain : IsPlain q
     plain = plain_post system log q legal
@@ -155,7 +172,7 @@ accounts_next system log e c d q built none serves number was now legal f = acco
 -- and where it was the only post of the cluster
 pub accounts_sent : (system : System) (log : List Entry) (e : Entry) (c d : ClusterView) → is_unlost (what e) ≡ true → Serves (placement system log) e c.server d.server → d.number ≡ c.number → c.queue ≡ e.post ∷ [] → d.queue ≡ []
     → HoldsAccounts system log c → HoldsAccounts system (log ++ e ∷ []) d
-accounts_sent system log e c d unlost serves number was now f = accounts_on system log e c d serves number least f
+accounts_sent system log e c d unlost serves number was now f = accounts_on system log e c d (no_page (what e) (unlost_built (what e) unlost)) serves number least f
   where
     least : least_calls system (log ++ e ∷ []) (with_queue system (log ++ e ∷ []) d.queue) c.number ≡ least_calls system log (with_queue system log c.queue) c.number
     least =
@@ -217,17 +234,32 @@ accounts_answered system log c d post a number empty queue f = record {
 
 -- ---- the disk
 
--- an entry that is taken in calls no disk
+-- by the calls of an entry that was noted those that fail are still to come, and are the same
+after_note : (w : What) (old new : Counts) → CountsAfterNote w old new (Ok tt) → (IsAhead old → IsAhead new) × (new.failing ≡ old.failing)
+after_note (Mail at letter) old new after = (subst IsAhead (sym after), ap (λ (c : Counts). c.failing) after)
+after_note (Birth parent at child end) old new after = (subst IsAhead (sym after), ap (λ (c : Counts). c.failing) after)
+after_note (Exit pid at end) old new after = (subst IsAhead (sym after), ap (λ (c : Counts). c.failing) after)
+after_note (Page pid at index bytes) old new after = (ahead_passed old new after, after.failing)
+after_note (Sync pid small read took) old new after = (subst IsAhead (sym after), ap (λ (c : Counts). c.failing) after)
+after_note (Fetch pid index) old new after = (subst IsAhead (sym after), ap (λ (c : Counts). c.failing) after)
+after_note (PageIs pid index bytes) old new after = (subst IsAhead (sym after), ap (λ (c : Counts). c.failing) after)
+after_note (Crash k cause) old new after = (subst IsAhead (sym after), ap (λ (c : Counts). c.failing) after)
+after_note (Return k) old new after = (subst IsAhead (sym after), ap (λ (c : Counts). c.failing) after)
+after_note (Rebackup to fresh recs) old new after = (subst IsAhead (sym after), ap (λ (c : Counts). c.failing) after)
+after_note (Done rests) old new after = (subst IsAhead (sym after), ap (λ (c : Counts). c.failing) after)
+after_note Stop old new after = (subst IsAhead (sym after), ap (λ (c : Counts). c.failing) after)
+
+-- an entry that was taken in leaves the calls that fail to come
 pub ahead_after : (before : Places) (e : Entry) (old new : Option PagerState) → Serves before e old new → IsAheadThere old → IsAheadThere new
 ahead_after before e None new serves ahead = subst IsAheadThere (sym serves) tt
 ahead_after before e (Some old) None serves ahead = absurd serves
-ahead_after before e (Some old) (Some new) serves ahead = subst IsAhead (sym serves.counts) ahead
+ahead_after before e (Some old) (Some new) serves ahead = (after_note (what e) old.counts new.counts serves.counts).0 ahead
 
 -- and leaves which calls fail
 pub failing_after : (before : Places) (e : Entry) (old new : Option PagerState) → Serves before e old new → failing_in new ≡ failing_in old
 failing_after before e None new serves = ap failing_in serves
 failing_after before e (Some old) None serves = absurd serves
-failing_after before e (Some old) (Some new) serves = ap (λ (c : Counts). Some c.failing) serves.counts
+failing_after before e (Some old) (Some new) serves = ap Some (after_note (what e) old.counts new.counts serves.counts).1
 
 -- the call of an answer did not fail
 pub ahead_answered : (k : ClusterNo) (old new : Option PagerState) (post : Post) → AnswersNext k old new post → IsAheadThere old → IsAheadThere new

@@ -16,7 +16,7 @@ use Rattle.bus_msg.specs.Places.{same_pid, servers_in}
 use Rattle.bus_msg.specs.PlacedAfter.{what, placed_after}
 use Rattle.cert_sched.specs.Built.{BuiltMayFollow}
 use Rattle.cert_sched.specs.Deeds.{is_end_of}
-use Rattle.cert_sched.specs.Losses.{is_by_cluster, is_crash_of}
+use Rattle.cert_sched.specs.Losses.{is_by_cluster, is_crash_of, is_page_entry}
 use Rattle.cert_sched.specs.Moved.{waiting_fetches}
 use Rattle.cert_sched.specs.Parts.{first_of}
 use Rattle.cert_sched.specs.Rests.{is_idle, IsRestOf}
@@ -183,15 +183,25 @@ WorkIs old Queued new =
 WorkIs old IsWaiting new = OwesNothing old × (is_resting old ≡ false) × WaitsForPages old × OwesNoAnswer old × (new ≡ counted_once old)
 WorkIs old Rests new = OwesNothing old × (is_resting old ≡ true) × OwesNoAnswer old × (new ≡ counted_once old)
 
--- a work in which a call of the disk failed: it is the next one, and no process is there any more
+-- a call of the disk failed in it: it is the next one, and no process is there any more
 pub record FailsBy (call : ℕ) (old new : ClusterView) : Type 0 where
   pub disk : FailsNext old.server call
   pub rest : new ≡ failed_at call (with_server new.server old)
 
--- What a work makes of a cluster that it does not do. After want of memory nothing is said.
+-- What a work makes of a cluster that does not do it. After want of memory nothing is said.
 abbrev pub HurtIs : ClusterView → Hurt → ClusterView → Type 0
 HurtIs old (Disk fault) new = FailsBy fault.call old new
 HurtIs old NoMemory new = ⊤
+
+-- What an entry makes of a cluster that does not take it in: the entry brings a page.
+abbrev pub HurtBy : Entry → ClusterView → Hurt → ClusterView → Type 0
+HurtBy e old (Disk fault) new = (is_page_entry (what e) ≡ true) × FailsBy fault.call old new
+HurtBy e old NoMemory new = ⊤
+
+-- before the call that failed is noted, what is kept as a page server has changed alone
+abbrev pub StopsBy : Entry → ClusterView → Hurt → ClusterView → Type 0
+StopsBy e old (Disk fault) new = (is_page_entry (what e) ≡ true) × FailsNext old.server fault.call × (new ≡ with_server new.server old)
+StopsBy e old NoMemory new = ⊤
 
 -- a work changes neither the system nor the number, the cursor or the placement, and is one kernel step
 pub record KeepsPlace (old new : ClusterView) : Type 0 where

@@ -8,7 +8,7 @@ ghost use Rattle.page_accounts.specs.Booting.{IsAhead};
 ghost use Rattle.cluster_core.specs.Serving.{HurtsServer, IsFailing};
 ghost use Rattle.cluster_core.specs.View.{head_of, after_sent, counted_once, disk_calls, failed_at, failing_in, tried_once, with_server};
 ghost use Rattle.cluster_core.specs.Follows.{FollowsBuilt};
-ghost use Rattle.cluster_core.specs.Calls.{Absorbs, absorbed, FollowsSome, GoesOn, HurtIs, is_resting, IsFirst, KeepsPlace, ReadyFor, RestsIn, rests_of, WorkIs};
+ghost use Rattle.cluster_core.specs.Calls.{Absorbs, absorbed, FollowsSome, GoesOn, HurtBy, HurtIs, is_resting, IsFirst, KeepsPlace, ReadyFor, RestsIn, rests_of, StopsBy, WorkIs};
 
 use crate::absorb::{note, tell};
 use crate::booting::parts_at_boot;
@@ -185,17 +185,35 @@ impl<D: PageDisk + Drop> Cluster<D> {
     /// process that ended is let go; the record of the receiver saves the letter, that of the sender counts it,
     /// and the record of a process that ended goes. A page server notes what is asked for and what came. A page comes to the
     /// process here that waits for it, which goes on from its record once all have come. At the loss of another cluster the
-    /// processes that this moves here wait for their pages, and their records are kept no more. After want of memory nothing
-    /// is said of the cluster but that it can be dropped.
-    pub fn absorb(&mut self, entry: &Entry) -> Result<(), NoMemory>
+    /// processes that this moves here wait for their pages, and their records are kept no more. A call of its disk that fails
+    /// leaves a cluster that has failed, in which there is no process. After want of memory nothing is said of the cluster but
+    /// that it can be dropped.
+    pub fn absorb(&mut self, entry: &Entry) -> Result<(), Hurt>
         requires room { self.old.cursor < 2 ^ 64 - 1 }
         requires ready { ReadyFor entry.now self.old }
         ensures absorbed { OnOk result (self.new ≡ with_server self.new.server (absorbed self.old entry.now)) }
         ensures follows { OnOk result (Absorbs entry.now self.old self.new) }
         ensures disk { OnOk result (failing_in self.new.server ≡ failing_in self.old.server) }
+        ensures hurts { IfErr result (λ hurt. HurtBy entry.now self.old hurt self.new) }
     {
-        note(self.number, &mut self.records, entry)?;
+        let taken = self.take_in(entry);
+        if let Err(Hurt::Disk(fault)) = taken {
+            self.fail(fault.call);
+        }
+        taken
+    }
+
+    // The same, but that a call of the disk that fails is not noted.
+    fn take_in(&mut self, entry: &Entry) -> Result<(), Hurt>
+        requires room { self.old.cursor < 2 ^ 64 - 1 }
+        requires ready { ReadyFor entry.now self.old }
+        ensures absorbed { OnOk result (self.new ≡ with_server self.new.server (absorbed self.old entry.now)) }
+        ensures follows { OnOk result (Absorbs entry.now self.old self.new) }
+        ensures disk { OnOk result (failing_in self.new.server ≡ failing_in self.old.server) }
+        ensures hurts { IfErr result (λ hurt. StopsBy entry.now self.old hurt self.new) }
+    {
         serve(&mut self.server, &self.places, entry)?;
+        note(self.number, &mut self.records, entry)?;
         tell(self.alloc, self.number, &mut self.here, entry)?;
         self.cursor += 1;
         take_over(

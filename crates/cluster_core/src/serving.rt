@@ -4,10 +4,8 @@ ghost use Rattle.sys_text.specs.declared.system.System.{System};
 ghost use Rattle.sys_text.specs.Valid.{is_system};
 ghost use Rattle.plain_kernel.specs.Maps.{linked_processes};
 ghost use Rattle.plain_kernel.specs.Maps.{processes_of as states_of};
-ghost use Rattle.bus_msg.specs.PlacedAfter.{what};
-ghost use Rattle.cert_sched.specs.Built.{is_built};
 ghost use Rattle.page_accounts.specs.Booting.{IsAhead};
-ghost use Rattle.cluster_core.specs.Serving.{BeginsToServe, CanAnswer, HurtsServer, IsAheadThere, IsFailing, Serves, answer_post};
+ghost use Rattle.cluster_core.specs.Serving.{BeginsToServe, CanAnswer, HurtsNoting, HurtsServer, IsAheadThere, IsFailing, Serves, answer_post};
 ghost use Rattle.cluster_core.specs.View.{failing_in};
 ghost use Rattle.cluster_core.specs.Work.{AnswersNext, is_first_server, owes_answer};
 
@@ -106,22 +104,22 @@ fn post_of(alloc: Global, number: ClusterNo, answer: Answer) -> Result<Post, NoM
     })
 }
 
-/// Takes in an entry of a kind that is built, of which none makes a call of the disk; the placement is the one before
-/// it. After want of memory nothing is said but that the value can be dropped.
+/// Takes in an entry; the placement is the one before it. A page is one call of the disk, and no other entry is any: where
+/// that call fails the error has its number. After an error nothing is said but that the value can be dropped.
 pub fn serve<D: PageDisk>(
     server: &mut Option<Pager<D>>,
     before: &Placement,
     entry: &Entry,
-) -> Result<(), NoMemory>
-    requires { is_built (what entry.now) ≡ true }
-    ensures { OnOk result (Serves before.now entry.now server.old server.new) }
+) -> Result<(), Hurt>
+    ensures ok { OnOk result (Serves before.now entry.now server.old server.new) }
+    ensures hurts { IfErr result (HurtsNoting entry.now server.old) }
 {
     let Some(pager) = server else {
         return Ok(());
     };
     match note(pager, before, entry) {
         Ok(()) => Ok(()),
-        Err(DiskRefused::NoMemory) => Err(NoMemory),
-        Err(DiskRefused::Fault(_)) => unreachable!(),
+        Err(DiskRefused::Fault(fault)) => Err(Hurt::Disk(fault)),
+        Err(DiskRefused::NoMemory) => Err(Hurt::NoMemory),
     }
 }

@@ -16,7 +16,7 @@ use Rattle.cluster_core.proofs.Noting.{can_note_next, noted_next}
 use Rattle.cluster_core.proofs.Owning.{has_room}
 use Rattle.cluster_core.proofs.Absorbed.{absorbs, may_come, may_wait, own_either, ready_built, ready_no_birth, ready_own}
 use Rattle.cluster_core.proofs.OwningWaits.{owns_waiting}
-use Rattle.cluster_core.proofs.cluster.Cluster.absorb.Goals as goal
+use Rattle.cluster_core.proofs.cluster.Cluster.take_in.Goals as goal
 
 pub tell-requires-clause-room : goal.tell-requires-clause-room
 tell-requires-clause-room g c =
@@ -109,7 +109,7 @@ returns-clause-follows g c =
     let order : are_rising (moved_by old.places old.number w (records_after w old.records)) ≡ true =
     subst (λ (v : ClusterView). are_rising (moved_by v.places v.number w (records_after w v.records)) ≡ true) c.self.view_is
     (subst (λ recs. are_rising (moved_by c.self.inside.places c.self.inside.number w recs) ≡ true) c.in_ok-note.ensures.ok c.in_ok-take_over.ensures.rising) in
-    let serves : Serves old.places e old.server server = subst (λ (v : ClusterView). Serves v.places e v.server server) c.self.view_is c.in_ok-serve.ensures in
+    let serves : Serves old.places e old.server server = subst (λ (v : ClusterView). Serves v.places e v.server server) c.self.view_is c.in_ok-serve.ensures.ok in
     subst (Absorbs e old) (sym whole) (absorbs old e server valid own order serves)
 
 pub tell-requires-clause-number : goal.tell-requires-clause-number
@@ -121,11 +121,8 @@ tell-requires-clause-comes g c =
     let valid : is_system old.system ≡ true = subst (λ (v : ClusterView). is_system v.system ≡ true) c.self.view_is c.self.invariant.valid in
     subst (λ (v : ClusterView). ComesHere v.number c.args.entry.now v.here) (sym c.self.view_is) (comes_here old c.args.entry.now valid c.requires.ready)
 
-pub serve-requires : goal.serve-requires
-serve-requires g c = ready_built c.args.self.now c.args.entry.now c.requires.ready
-
 pub returns-clause-disk : goal.returns-clause-disk
 returns-clause-disk g c =
     let old : ClusterView = c.args.self.now in
-    let serves : Serves old.places c.args.entry.now old.server c.serve.new.server = subst (λ (v : ClusterView). Serves v.places c.args.entry.now v.server c.serve.new.server) c.self.view_is c.in_ok-serve.ensures in
+    let serves : Serves old.places c.args.entry.now old.server c.serve.new.server = subst (λ (v : ClusterView). Serves v.places c.args.entry.now v.server c.serve.new.server) c.self.view_is c.in_ok-serve.ensures.ok in
     ap (λ (v : ClusterView). failing_in v.server) c.count_step.ensures ∙ failing_after old.places c.args.entry.now old.server c.serve.new.server serves
