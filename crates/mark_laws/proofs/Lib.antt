@@ -1,0 +1,3 @@
+pub mod EntryMarks
+pub mod LetterMarks
+pub mod BootMarks
