@@ -1,23 +1,20 @@
 -- A root at its start has the marks of the empty log: it has read nothing, and its account has its whole memory.
-use Rattle.std.proofs.Common.{◌≡◌, ℕ, zero, suc, ◌+◌, refl, sym, ◌∙◌, ap, arith, List, [], ◌∷◌, ◌++◌, append-nil, append_assoc, length, map, Bool, true, false, cond, not, ◌||◌, eqb, eq-eqb, slice_get, Option, Some, true≢false}
-use Rattle.std.specs.Prelude.{filter, replicate, nat_lt, option_and_then}
-use Rattle.std.specs.List.{list_any}
+use Rattle.std.proofs.Common.{◌≡◌, ℕ, zero, suc, refl, sym, ◌∙◌, ap, List, [], ◌∷◌, append-nil, Bool, true, false, cond, ◌||◌, eqb, eq-eqb, slice_get, Option, Some, true≢false}
+use Rattle.std.specs.Prelude.{replicate, nat_lt}
 use Rattle.std.specs.Option.{option_map_or}
 use Rattle.t32_base.specs.declared.process.Pid.{Pid}
 use Rattle.t32_base.specs.declared.letter.Arrived.{Arrived}
-use Rattle.t32_base.specs.Account.{Account, page_in, no_pages}
+use Rattle.t32_base.specs.Account.{page_in, no_pages}
 use Rattle.sys_text.specs.declared.system.System.{System}
 use Rattle.sys_text.specs.Valid.{is_system}
 use Rattle.proc_state.specs.declared.process.Process.{Process}
 use Rattle.proc_state.specs.State.{ProcState, state_of}
-use Rattle.plain_kernel.specs.Kernel.{boot, process_at}
 use Rattle.cert_sched.specs.Parts.{rising}
 use Rattle.cert_sched.specs.Schedule.{plain_after, process_after}
 use Rattle.cert_sched.specs.Told.{told}
 use Rattle.cert_sched.specs.Deeds.{saved_letters}
 use Rattle.cert_sched.specs.Account.{account_after, all_pages, image_pages}
-use Rattle.cert_sched.specs.Moved.{any_since_moved, is_page_at}
-use Rattle.cert_sched.specs.Steps.{numbers_read, saved_of, start_steps}
+use Rattle.cert_sched.specs.Steps.{numbers_read, saved_of}
 use Rattle.cert_sched.proofs.ReadLaws.{is_in}
 use Rattle.page_laws.proofs.SizesStay.{process_sized}
 use Rattle.sync_laws.specs.Marked.{IsMarked, arrived_below, is_dirty}

@@ -16,13 +16,12 @@ use Rattle.proc_state.specs.State.{ProcState}
 use Rattle.bus_msg.specs.declared.entry.What.{What}
 use Rattle.bus_msg.specs.declared.entry.What.TheVariants.{Page}
 use Rattle.bus_msg.specs.declared.entry.Entry.{Entry}
-use Rattle.bus_msg.specs.Places.{Places, same_pid}
 use Rattle.bus_msg.specs.PlacedAfter.{what}
 use Rattle.cert_sched.specs.Parts.{after_last}
 use Rattle.cert_sched.specs.Schedule.{placement, process_after}
 use Rattle.cert_sched.specs.Told.{cluster_lost, is_moved}
 use Rattle.cert_sched.specs.Deeds.{starts, is_cut, is_birth_of, letter_for, letters_to, numbered, arrived_count, saved_letters}
-use Rattle.cert_sched.specs.Account.{account_after, is_exit_of, page_put}
+use Rattle.cert_sched.specs.Account.{account_after, page_put}
 use Rattle.cert_sched.specs.Moved.{any_since_moved, is_page_at}
 use Rattle.cert_sched.specs.Steps.{numbers_read, saved_of, start_steps}
 use Rattle.cert_sched.specs.Legal.{IsLegalBy, Stands}
@@ -33,9 +32,9 @@ use Rattle.cert_sched.proofs.RollLaws.{Rolls, all_roll}
 use Rattle.cert_sched.proofs.ThereLaws.{unended_there}
 use Rattle.page_laws.proofs.OneEntry.{any_since-goes_on, or_nothing}
 use Rattle.read_laws.proofs.LogReads.{itself}
-use Rattle.sync_laws.specs.Marked.{IsMarked, arrived_below, is_dirty}
+use Rattle.sync_laws.specs.Marked.{IsMarked, arrived_below}
 use Rattle.sync_laws.proofs.Beside.{start_stays}
-use Rattle.sync_laws.proofs.PageEntry.{account_told, account_next}
+use Rattle.sync_laws.proofs.PageEntry.{account_next}
 use Rattle.mark_laws.specs.Beside.{LeavesMarks, is_some_page}
 
 -- ---- an entry that is no page of the process

@@ -1,3 +1,6 @@
 pub mod EntryMarks
 pub mod LetterMarks
 pub mod BootMarks
+pub mod TakenLetter
+pub mod TakenNumbers
+pub mod StepMarks

@@ -4,3 +4,4 @@
 pub mod boot;
 pub mod entries;
 pub mod letters;
+pub mod steps;
