@@ -3,4 +3,5 @@ pub mod LetterMarks
 pub mod BootMarks
 pub mod TakenLetter
 pub mod TakenNumbers
+pub mod SentPages
 pub mod StepMarks

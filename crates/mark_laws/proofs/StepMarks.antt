@@ -1,5 +1,5 @@
 -- A process that runs with its marks runs with them after a silent step.
-use Rattle.std.proofs.Common.{◌≡◌, ℕ, zero, suc, ◌+◌, ◌-◌, ◌<◌, refl, sym, ◌∙◌, ap, subst, arith, List, [], ◌∷◌, length, Bool, true, false, ◌||◌, ◌&&◌, eqb, ltb, slice_get, Option, Some, None, true≢false}
+use Rattle.std.proofs.Common.{◌≡◌, ℕ, zero, suc, ◌+◌, ◌-◌, ◌<◌, refl, sym, ◌∙◌, ap, subst, arith, List, [], ◌∷◌, length, Bool, true, false, ◌&&◌, eqb, ltb, slice_get, Option, Some, None}
 use Rattle.std.specs.Prelude.{option_and_then}
 use Rattle.std.specs.List.{list_any}
 use Rattle.std.specs.Option.{option_map_or}
@@ -42,33 +42,14 @@ use Rattle.sync_laws.proofs.SavedNumbers.{saved_arrived}
 use Rattle.sync_laws.proofs.Standing.{reached_later}
 use Rattle.mark_laws.specs.Sent.{SentUpto, is_later_page}
 use Rattle.mark_laws.specs.Stepped.{StepsSilently}
+use Rattle.mark_laws.proofs.SentPages.{none_passes, sent_later}
 use Rattle.mark_laws.proofs.TakenLetter.{TakesOut, silent_takes_out, length-step_marks}
 use Rattle.mark_laws.proofs.TakenNumbers.{filter_in_order, has_filter, one_more_read, taken_was_there, rising_last}
 
 -- ---- pages that were sent
 
--- none passes a test that only those pass that pass another, which none passes
-none_passes : {X : Type 0} (t u : X → Bool) (xs : List X) → ((x : X) → t x ≡ true → u x ≡ true) → list_any u xs ≡ false → list_any t xs ≡ false
-none_passes t u [] leads none = refl
-none_passes t u (x ∷ xs) leads none = by_tests (t x) refl (u x) refl none (none_passes t u xs leads)
-  where
-    by_tests : (b : Bool) → t x ≡ b → (c : Bool) → u x ≡ c → (c || list_any u xs) ≡ false → (list_any u xs ≡ false → list_any t xs ≡ false) → (b || list_any t xs) ≡ false
-    by_tests true is true other none more = absurd (true≢false none)
-    by_tests true is false other none more = absurd (true≢false (sym (leads x is) ∙ other))
-    by_tests false is true other none more = absurd (true≢false none)
-    by_tests false is false other none more = more none
-
-less_one_more : (m n : ℕ) → ltb (n + 1) m ≡ true → ltb n m ≡ true
-less_one_more m n less = grind (arith, nat_tests)
-
 less_at : (m n : ℕ) → eqb m (n + 1) ≡ true → ltb n m ≡ true
 less_at m n is = grind (arith, nat_tests)
-
-later_still : (p : Pid) (n : ℕ) (w : What) → is_later_page p (n + 1) w ≡ true → is_later_page p n w ≡ true
-later_still p n (Page pid at index bytes) is =
-    let parts = and_parts (same_pid pid p) (ltb (n + 1) at) is in
-    ap (λ b. b && ltb n at) parts.0 ∙ less_one_more at n parts.1
-later_still p n _ is = is
 
 at_later : (p : Pid) (i n : ℕ) (w : What) → is_page_at p i (n + 1) w ≡ true → is_later_page p n w ≡ true
 at_later p i n (Page pid at index bytes) is =
@@ -79,10 +60,8 @@ at_later p i n _ is = is
 
 pub step_sent : (system : System) (log : List Entry) (p : Pid) (old new : Process) → SentUpto system log p (old.small).steps → StepsSilently old new → SentUpto system log p (new.small).steps
 step_sent system log p old new upto step =
-    let n : ℕ = (old.small).steps in
-    let count : (new.small).steps ≡ n + 1 = (silent_counts (state_of old) (state_of new) step.makes).steps in
-    ap (λ m. any_since_moved system log p (is_later_page p m)) count
-    ∙ none_passes (λ (t : Told). is_later_page p (n + 1) (what t.entry)) (λ (t : Told). is_later_page p n (what t.entry)) (since_moved system log p) (λ t. later_still p n (what t.entry)) upto
+    let count = (silent_counts (state_of old) (state_of new) step.makes).steps in
+    sent_later system log p (old.small).steps (new.small).steps (omega (arith, count)) upto
 
 -- ---- a page that is marked or not
 

@@ -4,4 +4,5 @@
 pub mod boot;
 pub mod entries;
 pub mod letters;
+pub mod sent;
 pub mod steps;
