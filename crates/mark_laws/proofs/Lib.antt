@@ -5,3 +5,4 @@ pub mod TakenLetter
 pub mod TakenNumbers
 pub mod SentPages
 pub mod StepMarks
+mod WorkedMarks

@@ -139,7 +139,7 @@ module _ (system : System) (log : List Entry) (p : Pid) (old new : Process) (run
   read_now None same = marks_reads system log p old runs ∙ ap (numbers_read (saved_of system log p)) (sym same)
   read_now (Some a) taken =
       let there = has_filter a.number (is_unread (numbers_read (saved_of system log p) (old.mail).letters)) (saved_of system log p)
-          (ap (λ mail. list_any (λ (b : Arrived). eqb b.number a.number) mail) (sym reads.left) ∙ taken_was_there (old.mail).letters (new.mail).letters a taken) in
+      (ap (λ mail. list_any (λ (b : Arrived). eqb b.number a.number) mail) (sym reads.left) ∙ taken_was_there (old.mail).letters (new.mail).letters a taken) in
       rising_last old.read a.number
       ∙ ap (put_rising a.number) (marks_reads system log p old runs)
       ∙ sym (one_more_read (saved_of system log p) (old.mail).letters (new.mail).letters a came.rises in_order there taken)
