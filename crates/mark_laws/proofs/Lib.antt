@@ -1,0 +1,8 @@
+pub mod EntryMarks
+pub mod LetterMarks
+pub mod BootMarks
+pub mod TakenLetter
+pub mod TakenNumbers
+pub mod SentPages
+pub mod StepMarks
+mod WorkedMarks

@@ -1,0 +1,194 @@
+-- A process that runs with its marks runs with them after a silent step.
+use Rattle.std.proofs.Common.{◌≡◌, ℕ, zero, suc, ◌+◌, ◌-◌, ◌<◌, refl, sym, ◌∙◌, ap, subst, arith, List, [], ◌∷◌, length, Bool, true, false, ◌&&◌, eqb, ltb, slice_get, Option, Some, None}
+use Rattle.std.specs.Prelude.{option_and_then}
+use Rattle.std.specs.List.{list_any}
+use Rattle.std.specs.Option.{option_map_or}
+use Rattle.std.proofs.lemmas.Bool.{and_parts}
+use Rattle.std.proofs.lemmas.Bool.Decides.{nat_tests}
+use Rattle.t32_base.specs.declared.process.Pid.{Pid}
+use Rattle.t32_base.specs.declared.letter.Arrived.{Arrived}
+use Rattle.sys_text.specs.declared.system.System.{System}
+use Rattle.rv_mem.specs.Memory.{page_at}
+use Rattle.proc_state.specs.declared.process.Process.{Process}
+use Rattle.proc_state.specs.State.{ProcState, state_of, has_ended}
+use Rattle.sys_calls.specs.Next.{next_step, letter_taken, silent_of, silently}
+use Rattle.sys_calls.specs.Steps.{read_after}
+use Rattle.sys_calls.proofs.Counting.{CountsOne, silent_counts, silent_goes_on}
+use Rattle.bus_msg.specs.declared.entry.What.{What}
+use Rattle.bus_msg.specs.declared.entry.What.TheVariants.{Page}
+use Rattle.bus_msg.specs.declared.entry.Entry.{Entry}
+use Rattle.bus_msg.specs.Places.{same_pid}
+use Rattle.bus_msg.specs.PlacedAfter.{what}
+use Rattle.backup_queue.specs.Queue.{is_unread}
+use Rattle.cert_sched.specs.Parts.{put_rising, rising}
+use Rattle.cert_sched.specs.Schedule.{done_after, process_after}
+use Rattle.cert_sched.specs.Told.{Told}
+use Rattle.cert_sched.specs.Deeds.{arrived_count, saved_letters}
+use Rattle.cert_sched.specs.Account.{account_after, page_in}
+use Rattle.cert_sched.specs.Moved.{any_since_moved, is_page_at, since_moved}
+use Rattle.cert_sched.specs.Steps.{numbers_read, saved_of, silent_upto}
+use Rattle.cert_sched.specs.Legal.{Stands}
+use Rattle.cert_sched.proofs.MailLaws.{silent_upto-ends}
+use Rattle.cert_sched.proofs.RollLaws.{all_roll, rolls_next}
+use Rattle.roll_forward.proofs.RollLaws.{silent_clean}
+use Rattle.page_laws.proofs.StepSizes.{SameSize, Keeps, next_keeps}
+use Rattle.read_laws.specs.Numbered.{are_below, are_in_order}
+use Rattle.read_laws.specs.ReadsFrom.{ReadsFrom}
+use Rattle.read_laws.proofs.LogReads.{itself, all_saved_numbered, silent_reads}
+use Rattle.sync_laws.specs.Marked.{IsMarked, arrived_below, is_dirty}
+use Rattle.sync_laws.specs.Running.{RunsMarked}
+use Rattle.sync_laws.proofs.MarksLead.{was_there, marks_count, marks_reads}
+use Rattle.sync_laws.proofs.SavedNumbers.{saved_arrived}
+use Rattle.sync_laws.proofs.Standing.{reached_later}
+use Rattle.mark_laws.specs.Sent.{SentUpto, is_later_page}
+use Rattle.mark_laws.specs.Stepped.{StepsSilently}
+use Rattle.mark_laws.proofs.SentPages.{none_passes, sent_later}
+use Rattle.mark_laws.proofs.TakenLetter.{TakesOut, silent_takes_out, length-step_marks}
+use Rattle.mark_laws.proofs.TakenNumbers.{filter_in_order, has_filter, one_more_read, taken_was_there, rising_last}
+
+-- ---- pages that were sent
+
+less_at : (m n : ℕ) → eqb m (n + 1) ≡ true → ltb n m ≡ true
+less_at m n is = grind (arith, nat_tests)
+
+at_later : (p : Pid) (i n : ℕ) (w : What) → is_page_at p i (n + 1) w ≡ true → is_later_page p n w ≡ true
+at_later p i n (Page pid at index bytes) is =
+    let parts = and_parts (same_pid pid p && eqb index i) (eqb at (n + 1)) is in
+    let first = and_parts (same_pid pid p) (eqb index i) parts.0 in
+    ap (λ b. b && ltb n at) first.0 ∙ less_at at n parts.1
+at_later p i n _ is = is
+
+pub step_sent : (system : System) (log : List Entry) (p : Pid) (old new : Process) → SentUpto system log p (old.small).steps → StepsSilently old new → SentUpto system log p (new.small).steps
+step_sent system log p old new upto step =
+    let count = (silent_counts (state_of old) (state_of new) step.makes).steps in
+    sent_later system log p (old.small).steps (new.small).steps (omega (arith, count)) upto
+
+-- ---- a page that is marked or not
+
+none_within : (marks : List Bool) (i : ℕ) → i < length marks → slice_get marks i ≡ None → ⊥
+none_within [] i within none = absurd (omega arith)
+none_within (m ∷ marks) zero within none = cc
+none_within (m ∷ marks) (suc i) within none = none_within marks i (omega (arith, within)) none
+
+-- a page that has no mark among so many has one that is not set
+unset : (marks : List Bool) (i : ℕ) → i < length marks → option_map_or (λ (b : Bool). b) (slice_get marks i) false ≡ false → slice_get marks i ≡ Some false
+unset marks i within unmarked = by_mark (slice_get marks i) refl unmarked
+  where
+    by_mark : (o : Option Bool) → slice_get marks i ≡ o → option_map_or (λ (b : Bool). b) o false ≡ false → o ≡ Some false
+    by_mark None there is = absurd (none_within marks i within there)
+    by_mark (Some b) there is = ap Some is
+
+-- ---- the step
+
+module _ (system : System) (log : List Entry) (p : Pid) (old new : Process) (runs : RunsMarked system log p old) (step : StepsSilently old new) where
+  counts : CountsOne (state_of old) (state_of new)
+  counts = silent_counts (state_of old) (state_of new) step.makes
+
+  sizes : SameSize (state_of old) (state_of new)
+  sizes = subst (Keeps (state_of old)) step.makes (next_keeps (state_of old))
+
+  as_many : length (new.ram).dirty ≡ length (old.ram).dirty
+  as_many = ap length step.marks ∙ length-step_marks (state_of old) (old.ram).dirty
+
+  reached : silent_upto system log p (new.small).steps ≡ Some (state_of new)
+  unfolding silent_upto silently
+  reached =
+      let low = reached_later system log p (state_of old) runs.reached in
+      let one = counts.steps in
+      let made : (new.small).steps - done_after system log p ≡ suc ((old.small).steps - done_after system log p) = omega (arith, low, one) in
+      ap (λ n. option_and_then (silently n) (process_after system log p)) made ∙ by_process (process_after system log p) runs.reached
+    where
+      n : ℕ
+      n = (old.small).steps - done_after system log p
+
+      by_process : (o : Option ProcState) → option_and_then (silently n) o ≡ Some (state_of old) → option_and_then (silently (suc n)) o ≡ Some (state_of new)
+      by_process None is = cc
+      by_process (Some w) is = ap (λ o. option_and_then (λ q. silent_of (next_step q)) o) is ∙ ap silent_of step.makes
+
+  -- ---- the letters
+
+  -- where the process was after the log
+  record Came : Type 0 where
+    pub rises : are_in_order (saved_of system log p) ≡ true
+    pub all : arrived_below (old.mail).next (saved_of system log p) ≡ saved_of system log p
+
+  came : Came
+  came =
+      let w = was_there system log p old runs in
+      let goes_on : has_ended ((w.was).small).status ≡ false = sym (silent_upto-ends system log p (old.small).steps w.was (state_of old) w.there runs.reached) ∙ runs.runs in
+      let rolls = (all_roll Stands itself system log runs.valid runs.legal).rolls p w.was w.there goes_on in
+      let is : saved_of system log p ≡ saved_letters log p rolls.start = ap (λ (o : Option ProcState). option_map_or (saved_letters log p) o []) rolls.started in
+      let numbered = all_saved_numbered system log p w.was runs.valid runs.legal w.there goes_on in
+      record {
+        rises = (and_parts (are_in_order (saved_of system log p)) (are_below (arrived_count log p) (saved_of system log p)) numbered).0;
+        all =
+            ap (arrived_below (old.mail).next) is
+            ∙ saved_arrived system log p rolls.start (old.mail).next rolls.started (w.next ∙ rolls_next system log p w.was rolls ∙ rolls.arrived)
+            ∙ sym is;
+      }
+
+  reads : ReadsFrom (saved_of system log p) (old.mail).letters
+  reads = silent_reads system log p (old.small).steps (state_of old) runs.valid runs.legal runs.reached runs.runs
+
+  in_order : are_in_order (old.mail).letters ≡ true
+  in_order =
+      ap are_in_order reads.left
+      ∙ filter_in_order (is_unread (numbers_read (saved_of system log p) (old.mail).letters)) (saved_of system log p) came.rises
+
+  read_now : (taken : Option Arrived) → TakesOut taken (old.mail).letters (new.mail).letters → rising (read_after old.read taken) ≡ numbers_read (saved_of system log p) (new.mail).letters
+  read_now None same = marks_reads system log p old runs ∙ ap (numbers_read (saved_of system log p)) (sym same)
+  read_now (Some a) taken =
+      let there = has_filter a.number (is_unread (numbers_read (saved_of system log p) (old.mail).letters)) (saved_of system log p)
+      (ap (λ mail. list_any (λ (b : Arrived). eqb b.number a.number) mail) (sym reads.left) ∙ taken_was_there (old.mail).letters (new.mail).letters a taken) in
+      rising_last old.read a.number
+      ∙ ap (put_rising a.number) (marks_reads system log p old runs)
+      ∙ sym (one_more_read (saved_of system log p) (old.mail).letters (new.mail).letters a came.rises in_order there taken)
+
+  all_came : arrived_below (new.mail).next (saved_of system log p) ≡ saved_of system log p
+  all_came = ap (λ n. arrived_below n (saved_of system log p)) counts.next ∙ came.all
+
+  -- ---- the pages
+
+  clean_now : (i : ℕ) → i < (new.small).pages → is_dirty new i ≡ false → page_in (account_after system log p).now i ≡ Some (page_at (new.ram).bytes i)
+  clean_now i within unmarked =
+      let count : i < length (new.ram).dirty = subst (λ n. i < n) (sizes.pages ∙ sym (marks_count system log p old runs) ∙ sym as_many) within in
+      let kept = silent_clean old new step.makes step.marks i (unset (new.ram).dirty i count unmarked) in
+      (runs.marked).clean i (subst (λ n. i < n) sizes.pages within) (ap (λ o. option_map_or (λ (b : Bool). b) o false) kept.0) ∙ ap Some (sym kept.1)
+
+  -- ---- the marks
+
+  module _ (upto : SentUpto system log p (old.small).steps) where
+    unsent_now : (i : ℕ) → any_since_moved system log p (is_page_at p i (new.small).steps) ≡ false
+    unsent_now i =
+        let n : ℕ = (old.small).steps in
+        ap (λ m. any_since_moved system log p (is_page_at p i m)) counts.steps
+        ∙ none_passes (λ (t : Told). is_page_at p i (n + 1) (what t.entry)) (λ (t : Told). is_later_page p n (what t.entry)) (since_moved system log p) (λ t. at_later p i n (what t.entry)) upto
+
+    marked_now : IsMarked system log p new
+    marked_now = record {
+      since_start = (step.took).since ∙ (runs.marked).since_start;
+      read = ap rising (step.took).read ∙ read_now (letter_taken (state_of old)) (silent_takes_out (state_of old) (state_of new) step.makes)
+          ∙ sym (ap (λ letters. numbers_read letters (new.mail).letters) all_came);
+      clean = clean_now;
+      unsent = λ i within is. unsent_now i;
+    }
+
+    runs_now : RunsMarked system log p new
+    runs_now =
+        let size = sizes.bytes in
+        let marks = as_many in
+        let before = runs.sized in
+        record {
+          valid = runs.valid;
+          legal = runs.legal;
+          reached = reached;
+          runs = silent_goes_on (state_of old) (state_of new) step.makes;
+          sized = omega (arith, size, marks, before);
+          marked = marked_now;
+        }
+
+pub step_marked : (system : System) (log : List Entry) (p : Pid) (old new : Process) → RunsMarked system log p old → SentUpto system log p (old.small).steps → StepsSilently old new → IsMarked system log p new
+step_marked system log p old new runs upto step = marked_now system log p old new runs step upto
+
+pub step_runs : (system : System) (log : List Entry) (p : Pid) (old new : Process) → RunsMarked system log p old → SentUpto system log p (old.small).steps → StepsSilently old new → RunsMarked system log p new
+step_runs system log p old new runs upto step = runs_now system log p old new runs step upto

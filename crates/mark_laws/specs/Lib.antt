@@ -1,0 +1,4 @@
+pub mod Beside
+pub mod Received
+pub mod Sent
+pub mod Stepped
