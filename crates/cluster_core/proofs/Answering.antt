@@ -112,6 +112,7 @@ module _ (c : ClusterView) (served : Option PagerState) (post : Post) (owed : ow
     queued = record { queued = One post; posts = refl; together = ap (λ (p : Post). is_lone p.what) a.post_is };
     steps = record { counted = λ kept. more_counted (least_steps log log c.number + cond c.tried 1 0) c.steps ((f.steps).counted kept) };
     pages = f.pages;
+    marks = answered_marks valid empty log go f;
     records = f.records;
     accounts = accounts_answered c.system log c (answered_view c served post) post a refl empty refl f.accounts;
     disk = ((f.disk).0, ahead_answered c.number c.server served post a (f.disk).1);

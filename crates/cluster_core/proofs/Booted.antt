@@ -193,6 +193,7 @@ boot_follows system number here recs server failed valid is kept there begins so
   queued = record { queued = Nothing; posts = refl; together = tt };
   steps = record { counted = λ lost. omega arith };
   pages = λ p h at some. pages_at_boot system p;
+  marks = marks_at_boot system number here is valid;
   records = kept;
   accounts = accounts_begin system (boot_view system number here recs server failed) refl there begins;
   disk = sound;

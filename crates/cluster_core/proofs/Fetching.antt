@@ -114,6 +114,7 @@ module _ (c : ClusterView) (p : Pid) (index : ℕ) (waiting : WaitingState) (emp
       queued = record { queued = One (fetch_post c.number p index); posts = refl; together = refl };
       steps = record { counted = λ kept. more_counted (least_steps log log c.number + cond c.tried 1 0) c.steps ((f.steps).counted kept) };
       pages = pages_beside c log p asked f.pages (λ some. absurd (true≢false (sym some)));
+      marks = marks_beside c log p asked (fetch_post c.number p index ∷ []) f tt (others_marked valid log go f);
       records = f.records;
       accounts = accounts_queued c.system log c (record c { here = with_changed p asked c.here; queue = fetch_post c.number p index ∷ []; steps = next_count c.steps }) (fetch_post c.number p index) refl refl empty refl refl f.accounts;
       disk = f.disk;

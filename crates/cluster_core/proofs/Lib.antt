@@ -45,3 +45,6 @@ pub mod Arriving
 mod Noting
 mod FirstRecords
 pub mod ByKind
+pub mod Posted
+pub mod Marking
+pub mod Stubs

@@ -35,7 +35,8 @@ use Rattle.cluster_core.proofs.Homes.{differ_built}
 use Rattle.cluster_core.proofs.HomesMoved.{stays_home}
 use Rattle.cluster_core.proofs.Telling.{Telling, telling}
 use Rattle.cluster_core.proofs.Unmoved.{emission_same, page_moves_none}
-use Rattle.cluster_core.proofs.Following.{by_home_of, moves_it, no_end, post_may}
+use Rattle.cluster_core.proofs.Following.{by_home_of, post_may}
+use Rattle.cluster_core.proofs.Posted.{moves_it, no_end}
 use Rattle.cert_sched.specs.Moved.{is_fetch}
 use Rattle.cluster_core.specs.Holds.{is_fetch_queued}
 use Rattle.cluster_core.proofs.PagePosts.{page_post_stays}

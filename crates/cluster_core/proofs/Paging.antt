@@ -43,7 +43,8 @@ use Rattle.cluster_core.proofs.Here.{is_among, pid_same}
 use Rattle.cluster_core.proofs.Homes.{HomeHere, differ_built, home_here, pids_home}
 use Rattle.cluster_core.proofs.Telling.{Telling, telling}
 use Rattle.cluster_core.proofs.Counted.{lost_before}
-use Rattle.cluster_core.proofs.Following.{counted_foreign, no_end, post_may, Left, by_home_of, by_one, counted_left, letter_pids, page_queued}
+use Rattle.cluster_core.proofs.Posted.{no_end}
+use Rattle.cluster_core.proofs.Following.{counted_foreign, post_may, Left, by_home_of, by_one, counted_left, letter_pids, page_queued}
 use Rattle.cluster_core.proofs.Served.{accounts_next, foreign_no_answer, accounts_sent, ahead_after}
 use Rattle.cluster_core.specs.Serving.{IsAheadThere, Serves}
 use Rattle.page_server.specs.Account.{PagerState}

@@ -128,6 +128,7 @@ goes_on_rested c log now f = record {
   queued = f.queued;
   steps = record { counted = λ kept. more_counted (least_steps log log c.number + cond c.tried 1 0) c.steps ((f.steps).counted kept) };
   pages = f.pages;
+  marks = f.marks;
   records = f.records;
   accounts = record { keeps = (f.accounts).keeps; there = (f.accounts).there; calls = (f.accounts).calls };
   disk = f.disk;
@@ -148,6 +149,7 @@ follows_tried c log f = record {
   queued = f.queued;
   steps = record { counted = λ kept. more_tried (least_steps log log c.number) c.steps c.tried ((f.steps).counted kept) };
   pages = f.pages;
+  marks = f.marks;
   records = f.records;
   accounts = record { keeps = (f.accounts).keeps; there = (f.accounts).there; calls = (f.accounts).calls };
   disk = f.disk;
@@ -261,6 +263,7 @@ moved_goes_on c p was new valid empty there moves log go f = record {
   queued = f.queued;
   steps = record { counted = λ kept. more_counted (least_steps log log c.number + cond c.tried 1 0) c.steps ((f.steps).counted kept) };
   pages = pages_beside c log p new f.pages (λ some. f.pages p was there (can_in was (moves_can 64 was new moves)));
+  marks = marks_beside c log p new c.queue f (subst (λ ps. MarkedIfThere CarriesMarks c.system (with_queue c.system log ps) p (unended_process new)) (sym empty) (moved_marked c p was empty there valid log go f new moves)) (λ q h other held m. m);
   records = f.records;
   accounts = record { keeps = (f.accounts).keeps; there = (f.accounts).there; calls = (f.accounts).calls };
   disk = f.disk;
@@ -406,6 +409,7 @@ module _ (c : ClusterView) (p : Pid) (was : Held) (sending : Sending) (new : Hel
     queued = record { queued = One post; posts = refl; together = ap (λ (q : Post). is_lone q.what) post_is ∙ lone_of p at e };
     steps = record { counted = λ kept. more_counted (least_steps log log c.number + cond c.tried 1 0) c.steps ((f.steps).counted kept) };
     pages = pages_beside c log p (Runs s.now) f.pages (λ some. f.pages p was there (can_in was (sends_can 64 was sending new s)));
+    marks = marks_beside c log p (Runs s.now) (post ∷ []) f (sent_marked valid has log go f) (others_marked valid has log go f);
     records = f.records;
     accounts = accounts_queued c.system log c (posted_view c (with_changed p (Runs s.now) c.here) post) post refl refl empty refl no_page f.accounts;
     disk = f.disk;

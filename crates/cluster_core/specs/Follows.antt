@@ -8,7 +8,7 @@ use Rattle.cert_sched.specs.Built.{UnlostMayFollow}
 use Rattle.cluster_core.specs.View.{ClusterView, head_of, after_sent}
 use Rattle.cert_sched.specs.Appended.{entry_of}
 use Rattle.cluster_core.specs.Queue.{IsQueued}
-use Rattle.cluster_core.specs.Holds.{HoldsLog, HoldsProcesses, HoldsQueue, HoldsSteps, HoldsPages, HoldsMarks, HoldsRecords, HoldsAccounts, HasNotFailed}
+use Rattle.cluster_core.specs.Holds.{HoldsLog, HoldsProcesses, HoldsQueue, HoldsSteps, HoldsPages, HoldsMarks, IsMarked, CarriesMarks, HoldsRecords, HoldsAccounts, HasNotFailed}
 
 -- all that a cluster holds
 pub record Follows (system : System) (entries : List Entry) (c : ClusterView) : Type 0 where
@@ -17,7 +17,7 @@ pub record Follows (system : System) (entries : List Entry) (c : ClusterView) : 
   pub queue : HoldsQueue MayFollow system entries c
   pub steps : HoldsSteps entries c
   pub pages : HoldsPages system entries c
-  pub marks : HoldsMarks system entries c
+  pub marks : HoldsMarks IsMarked system entries c
   pub records : HoldsRecords system entries c
   pub accounts : HoldsAccounts system entries c
 
@@ -29,6 +29,7 @@ pub record FollowsBuilt (system : System) (entries : List Entry) (c : ClusterVie
   pub queued : IsQueued c.queue
   pub steps : HoldsSteps entries c
   pub pages : HoldsPages system entries c
+  pub marks : HoldsMarks CarriesMarks system entries c
   pub records : HoldsRecords system entries c
   pub accounts : HoldsAccounts system entries c
   pub disk : HasNotFailed c
