@@ -5,7 +5,7 @@ use Rattle.std.proofs.lemmas.Bool.{and_parts}
 use Rattle.t32_base.specs.declared.process.Pid.{Pid}
 use Rattle.sys_text.specs.declared.system.System.{System}
 use Rattle.sys_text.specs.Valid.{is_system}
-use Rattle.proc_state.specs.State.{ProcState, has_ended}
+use Rattle.proc_state.specs.State.{ProcState}
 use Rattle.bus_msg.specs.declared.entry.Entry.{Entry}
 use Rattle.cert_sched.specs.Schedule.{process_after}
 use Rattle.cert_sched.specs.Deeds.{arrived_count, saved_letters}

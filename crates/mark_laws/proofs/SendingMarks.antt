@@ -1,5 +1,5 @@
 -- A process that is marked is so after a step that sends something.
-use Rattle.std.proofs.Common.{◌≡◌, ℕ, ◌<◌, ◌≤◌, sym, ◌∙◌, ap, subst, arith, List, Bool, false, slice_get, Some}
+use Rattle.std.proofs.Common.{◌≡◌, ◌<◌, sym, ◌∙◌, ap, subst, arith, List, Bool, false, slice_get, Some}
 use Rattle.std.specs.Option.{option_map_or}
 use Rattle.t32_base.specs.declared.process.Pid.{Pid}
 use Rattle.sys_text.specs.declared.system.System.{System}
@@ -12,10 +12,9 @@ use Rattle.sys_calls.specs.Next.{next_step}
 use Rattle.sys_calls.proofs.Counting.{emits_counts}
 use Rattle.bus_msg.specs.declared.entry.Entry.{Entry}
 use Rattle.cert_sched.specs.Parts.{rising}
-use Rattle.cert_sched.specs.Account.{account_after, page_in}
 use Rattle.cert_sched.specs.Steps.{numbers_read, saved_of}
 use Rattle.page_laws.proofs.StepSizes.{SameSize, Keeps, next_keeps}
-use Rattle.sync_laws.specs.Marked.{IsMarked, arrived_below, is_dirty}
+use Rattle.sync_laws.specs.Marked.{IsMarked, arrived_below}
 use Rattle.mark_laws.specs.Sent.{SentUpto}
 use Rattle.mark_laws.proofs.SentPages.{never_at, sent_later}
 

@@ -1,10 +1,9 @@
 -- A process that runs with its marks runs with them after a silent step.
-use Rattle.std.proofs.Common.{◌≡◌, ℕ, zero, suc, ◌+◌, ◌-◌, ◌<◌, refl, sym, ◌∙◌, ap, subst, arith, List, [], ◌∷◌, length, Bool, true, false, ◌&&◌, eqb, ltb, slice_get, Option, Some, None}
+use Rattle.std.proofs.Common.{◌≡◌, ℕ, zero, suc, ◌-◌, ◌<◌, refl, sym, ◌∙◌, ap, subst, arith, List, [], ◌∷◌, length, Bool, true, false, eqb, slice_get, Option, Some, None}
 use Rattle.std.specs.Prelude.{option_and_then}
 use Rattle.std.specs.List.{list_any}
 use Rattle.std.specs.Option.{option_map_or}
 use Rattle.std.proofs.lemmas.Bool.{and_parts}
-use Rattle.std.proofs.lemmas.Bool.Decides.{nat_tests}
 use Rattle.t32_base.specs.declared.process.Pid.{Pid}
 use Rattle.t32_base.specs.declared.letter.Arrived.{Arrived}
 use Rattle.sys_text.specs.declared.system.System.{System}
@@ -14,18 +13,13 @@ use Rattle.proc_state.specs.State.{ProcState, state_of, has_ended}
 use Rattle.sys_calls.specs.Next.{next_step, letter_taken, silent_of, silently}
 use Rattle.sys_calls.specs.Steps.{read_after}
 use Rattle.sys_calls.proofs.Counting.{CountsOne, silent_counts, silent_goes_on}
-use Rattle.bus_msg.specs.declared.entry.What.{What}
-use Rattle.bus_msg.specs.declared.entry.What.TheVariants.{Page}
 use Rattle.bus_msg.specs.declared.entry.Entry.{Entry}
-use Rattle.bus_msg.specs.Places.{same_pid}
-use Rattle.bus_msg.specs.PlacedAfter.{what}
 use Rattle.backup_queue.specs.Queue.{is_unread}
 use Rattle.cert_sched.specs.Parts.{put_rising, rising}
 use Rattle.cert_sched.specs.Schedule.{done_after, process_after}
-use Rattle.cert_sched.specs.Told.{Told}
 use Rattle.cert_sched.specs.Deeds.{arrived_count, saved_letters}
 use Rattle.cert_sched.specs.Account.{account_after, page_in}
-use Rattle.cert_sched.specs.Moved.{any_since_moved, is_page_at, since_moved}
+use Rattle.cert_sched.specs.Moved.{any_since_moved, is_page_at}
 use Rattle.cert_sched.specs.Steps.{numbers_read, saved_of, silent_upto}
 use Rattle.cert_sched.specs.Legal.{Stands}
 use Rattle.cert_sched.proofs.MailLaws.{silent_upto-ends}
@@ -40,7 +34,7 @@ use Rattle.sync_laws.specs.Running.{RunsMarked}
 use Rattle.sync_laws.proofs.MarksLead.{was_there, marks_count, marks_reads}
 use Rattle.sync_laws.proofs.SavedNumbers.{saved_arrived}
 use Rattle.sync_laws.proofs.Standing.{reached_later}
-use Rattle.mark_laws.specs.Sent.{SentUpto, is_later_page}
+use Rattle.mark_laws.specs.Sent.{SentUpto}
 use Rattle.mark_laws.specs.Stepped.{StepsSilently}
 use Rattle.mark_laws.proofs.SentPages.{never_at, sent_later}
 use Rattle.mark_laws.proofs.TakenLetter.{TakesOut, silent_takes_out, length-step_marks}
