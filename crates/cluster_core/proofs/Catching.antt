@@ -6,7 +6,7 @@ use Rattle.sys_text.specs.Valid.{is_system}
 use Rattle.proc_state.specs.declared.process.Process.{Process}
 use Rattle.proc_state.specs.State.{ProcState, state_of}
 use Rattle.bus_msg.specs.declared.entry.Entry.{Entry}
-use Rattle.roll_forward.specs.Advancing.{Going, rolled_on}
+use Rattle.roll_forward.specs.Advancing.{Going, going, rolled_on}
 use Rattle.roll_forward.specs.RunsOut.{RunsOut, nothing_left}
 use Rattle.cert_sched.specs.Built.{BuiltMayFollow}
 use Rattle.cert_sched.specs.Legal.{IsLegalBy, Stands}
@@ -21,7 +21,7 @@ use Rattle.recovery_laws.proofs.Reaching.{led_unended}
 use Rattle.recovery_laws.proofs.Stepping.{went_on}
 use Rattle.recovery_laws.proofs.CaughtUp.{caught_up}
 use Rattle.cluster_core.specs.View.{Held, Runs, Rolls, Waits}
-use Rattle.cluster_core.specs.Quantum.{RollsTo, going}
+use Rattle.cluster_core.specs.Quantum.{RollsTo}
 use Rattle.cluster_core.specs.Follows.{IsOpen}
 use Rattle.cluster_core.specs.Holds.{IsHeldAs}
 use Rattle.cluster_core.proofs.Telling.{at_once}

@@ -22,11 +22,12 @@ use Rattle.cert_sched.proofs.PidLaws.{apart_fewer}
 use Rattle.cert_sched.proofs.RisingLaws.{NoTwo, either_not, rising-any, rising-apart}
 use Rattle.cert_sched.proofs.RollLaws.{all_roll, two_apart}
 use Rattle.cluster_core.specs.declared.worked.Worked.TheVariants.{Moved, Queued}
+use Rattle.roll_forward.specs.Advancing.{going}
 use Rattle.roll_forward.proofs.RolledLaws.{rolled_keeps}
 use Rattle.cluster_core.specs.View.{ClusterView, Held, Runs, Rolls, Waits, asked_held, held_load, held_of, load}
 use Rattle.cluster_core.specs.Follows.{FollowsBuilt}
 use Rattle.cluster_core.specs.Calls.{FollowsSome, QueuesFetch, QueuesOne, WorkIs}
-use Rattle.cluster_core.specs.Quantum.{RollsTo, RunsTo, going}
+use Rattle.cluster_core.specs.Quantum.{RollsTo, RunsTo}
 use Rattle.cluster_core.specs.Residents.{pids_in, with_changed}
 
 -- ---- no pid stands twice

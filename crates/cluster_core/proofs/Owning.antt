@@ -19,8 +19,8 @@ use Rattle.cluster_core.specs.Residents.{with_changed, are_stuck, is_stuck, HasR
 use Rattle.cluster_core.specs.Parts.{IsHeldOwn, IsOwn, AllOwn, WaitsOwn}
 use Rattle.cluster_core.specs.Calls.{are_at_rest, here_after, is_at_rest, with_page_come}
 use Rattle.cluster_core.specs.declared.quantum.Sending.{Sending}
-use Rattle.cluster_core.specs.Quantum.{Moves, RollsTo, RunsTo, Sends, going}
-use Rattle.roll_forward.specs.Advancing.{rolled_on}
+use Rattle.cluster_core.specs.Quantum.{Moves, RollsTo, RunsTo, Sends}
+use Rattle.roll_forward.specs.Advancing.{going, rolled_on}
 use Rattle.roll_forward.proofs.RolledLaws.{rolled_keeps}
 use Rattle.cert_sched.specs.Built.{tells_or_closes}
 use Rattle.cluster_core.proofs.Here.{pid_same}

@@ -11,7 +11,7 @@ use Rattle.sys_calls.specs.declared.steps.Emission.TheVariants.{Mail as SentMail
 use Rattle.sys_calls.specs.Calls.{Emits}
 use Rattle.sys_calls.specs.Next.{next_step, has_step, silently}
 use Rattle.roll_forward.specs.RunsOut.{RunsOut}
-use Rattle.roll_forward.specs.Advancing.{Going, rolled_on}
+use Rattle.roll_forward.specs.Advancing.{going, rolled_on}
 use Rattle.bus_msg.specs.declared.entry.What.{What}
 use Rattle.bus_msg.specs.declared.entry.What.TheVariants.{Mail, Exit}
 use Rattle.bus_msg.specs.declared.entry.By.TheVariants.{Cluster}
@@ -22,10 +22,6 @@ use Rattle.cluster_core.specs.declared.quantum.Quantum.TheVariants.{Moved, Sent,
 use Rattle.cluster_core.specs.View.{Held, Runs, Rolls, Waits, can_act}
 
 -- ---- what is withheld
-
--- such a process, with the marks of its pages and what it has read and not withheld yet
-abbrev pub going : Process → Counts → List Pid → Going
-going p counts births = record { state = state_of p; marks = (p.ram).dirty; read = p.read; counts = counts; births = births }
 
 -- n steps of roll-forward, after which so many more are to come until nothing is left to withhold
 pub record RollsOn (n ahead : ℕ) (p : Process) (counts : Counts) (births : List Pid) (q : Process) (left : Counts) (unborn : List Pid) : Type 0 where

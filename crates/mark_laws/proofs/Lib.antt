@@ -5,4 +5,8 @@ pub mod TakenLetter
 pub mod TakenNumbers
 pub mod SentPages
 pub mod StepMarks
+pub mod SendingMarks
+pub mod SavedCame
+pub mod RolledReads
+pub mod RolledMarks
 mod WorkedMarks

@@ -1,5 +1,5 @@
 -- The pages of a process that were sent: none from a later step, as long as none is sent from one.
-use Rattle.std.proofs.Common.{◌≡◌, ℕ, ◌≤◌, refl, sym, ◌∙◌, ap, arith, List, [], ◌∷◌, ◌++◌, Bool, true, false, cond, ◌||◌, ◌&&◌, ltb, true≢false}
+use Rattle.std.proofs.Common.{◌≡◌, ℕ, ◌≤◌, ◌<◌, refl, sym, ◌∙◌, ap, arith, List, [], ◌∷◌, ◌++◌, Bool, true, false, cond, ◌||◌, ◌&&◌, eqb, ltb, true≢false}
 use Rattle.std.specs.List.{list_any}
 use Rattle.std.proofs.lemmas.Bool.{and_parts}
 use Rattle.std.proofs.lemmas.Bool.Decides.{nat_tests}
@@ -11,7 +11,7 @@ use Rattle.bus_msg.specs.declared.entry.Entry.{Entry}
 use Rattle.bus_msg.specs.Places.{same_pid}
 use Rattle.bus_msg.specs.PlacedAfter.{what}
 use Rattle.cert_sched.specs.Told.{Told, told}
-use Rattle.cert_sched.specs.Moved.{any_since_moved, since_moved}
+use Rattle.cert_sched.specs.Moved.{any_since_moved, is_page_at, since_moved}
 use Rattle.page_laws.specs.Next.{moves_next}
 use Rattle.page_laws.proofs.OneEntry.{any_since-snoc, or_nothing}
 use Rattle.mark_laws.specs.Sent.{SentUpto, is_later_page}
@@ -36,7 +36,22 @@ later_still p n m (Page pid at index bytes) low is =
     ap (λ b. b && ltb n at) parts.0 ∙ less_from m n at low parts.1
 later_still p n m _ low is = is
 
+less_at : (n m at : ℕ) → n < m → eqb at m ≡ true → ltb n at ≡ true
+less_at n m at low is = grind (arith, nat_tests)
+
+at_later : (p : Pid) (i n m : ℕ) (w : What) → n < m → is_page_at p i m w ≡ true → is_later_page p n w ≡ true
+at_later p i n m (Page pid at index bytes) low is =
+    let parts = and_parts (same_pid pid p && eqb index i) (eqb at m) is in
+    let first = and_parts (same_pid pid p) (eqb index i) parts.0 in
+    ap (λ b. b && ltb n at) first.0 ∙ less_at n m at low parts.1
+at_later p i n m _ low is = is
+
 module _ (system : System) (log : List Entry) (p : Pid) where
+  -- no page was sent at a later step count
+  pub never_at : (n m i : ℕ) → n < m → SentUpto system log p n → any_since_moved system log p (is_page_at p i m) ≡ false
+  never_at n m i low upto =
+      none_passes (λ (t : Told). is_page_at p i m (what t.entry)) (λ (t : Told). is_later_page p n (what t.entry)) (since_moved system log p) (λ t. at_later p i n m (what t.entry) low) upto
+
   pub sent_later : (n m : ℕ) → n ≤ m → SentUpto system log p n → SentUpto system log p m
   sent_later n m low upto =
       none_passes (λ (t : Told). is_later_page p m (what t.entry)) (λ (t : Told). is_later_page p n (what t.entry)) (since_moved system log p) (λ t. later_still p n m (what t.entry) low) upto

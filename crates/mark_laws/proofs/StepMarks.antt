@@ -1,10 +1,9 @@
 -- A process that runs with its marks runs with them after a silent step.
-use Rattle.std.proofs.Common.{◌≡◌, ℕ, zero, suc, ◌+◌, ◌-◌, ◌<◌, refl, sym, ◌∙◌, ap, subst, arith, List, [], ◌∷◌, length, Bool, true, false, ◌&&◌, eqb, ltb, slice_get, Option, Some, None}
+use Rattle.std.proofs.Common.{◌≡◌, ℕ, zero, suc, ◌-◌, ◌<◌, refl, sym, ◌∙◌, ap, subst, arith, List, [], ◌∷◌, length, Bool, true, false, eqb, slice_get, Option, Some, None}
 use Rattle.std.specs.Prelude.{option_and_then}
 use Rattle.std.specs.List.{list_any}
 use Rattle.std.specs.Option.{option_map_or}
 use Rattle.std.proofs.lemmas.Bool.{and_parts}
-use Rattle.std.proofs.lemmas.Bool.Decides.{nat_tests}
 use Rattle.t32_base.specs.declared.process.Pid.{Pid}
 use Rattle.t32_base.specs.declared.letter.Arrived.{Arrived}
 use Rattle.sys_text.specs.declared.system.System.{System}
@@ -14,18 +13,13 @@ use Rattle.proc_state.specs.State.{ProcState, state_of, has_ended}
 use Rattle.sys_calls.specs.Next.{next_step, letter_taken, silent_of, silently}
 use Rattle.sys_calls.specs.Steps.{read_after}
 use Rattle.sys_calls.proofs.Counting.{CountsOne, silent_counts, silent_goes_on}
-use Rattle.bus_msg.specs.declared.entry.What.{What}
-use Rattle.bus_msg.specs.declared.entry.What.TheVariants.{Page}
 use Rattle.bus_msg.specs.declared.entry.Entry.{Entry}
-use Rattle.bus_msg.specs.Places.{same_pid}
-use Rattle.bus_msg.specs.PlacedAfter.{what}
 use Rattle.backup_queue.specs.Queue.{is_unread}
 use Rattle.cert_sched.specs.Parts.{put_rising, rising}
 use Rattle.cert_sched.specs.Schedule.{done_after, process_after}
-use Rattle.cert_sched.specs.Told.{Told}
 use Rattle.cert_sched.specs.Deeds.{arrived_count, saved_letters}
 use Rattle.cert_sched.specs.Account.{account_after, page_in}
-use Rattle.cert_sched.specs.Moved.{any_since_moved, is_page_at, since_moved}
+use Rattle.cert_sched.specs.Moved.{any_since_moved, is_page_at}
 use Rattle.cert_sched.specs.Steps.{numbers_read, saved_of, silent_upto}
 use Rattle.cert_sched.specs.Legal.{Stands}
 use Rattle.cert_sched.proofs.MailLaws.{silent_upto-ends}
@@ -40,23 +34,13 @@ use Rattle.sync_laws.specs.Running.{RunsMarked}
 use Rattle.sync_laws.proofs.MarksLead.{was_there, marks_count, marks_reads}
 use Rattle.sync_laws.proofs.SavedNumbers.{saved_arrived}
 use Rattle.sync_laws.proofs.Standing.{reached_later}
-use Rattle.mark_laws.specs.Sent.{SentUpto, is_later_page}
+use Rattle.mark_laws.specs.Sent.{SentUpto}
 use Rattle.mark_laws.specs.Stepped.{StepsSilently}
-use Rattle.mark_laws.proofs.SentPages.{none_passes, sent_later}
+use Rattle.mark_laws.proofs.SentPages.{never_at, sent_later}
 use Rattle.mark_laws.proofs.TakenLetter.{TakesOut, silent_takes_out, length-step_marks}
 use Rattle.mark_laws.proofs.TakenNumbers.{filter_in_order, has_filter, one_more_read, taken_was_there, rising_last}
 
 -- ---- pages that were sent
-
-less_at : (m n : ℕ) → eqb m (n + 1) ≡ true → ltb n m ≡ true
-less_at m n is = grind (arith, nat_tests)
-
-at_later : (p : Pid) (i n : ℕ) (w : What) → is_page_at p i (n + 1) w ≡ true → is_later_page p n w ≡ true
-at_later p i n (Page pid at index bytes) is =
-    let parts = and_parts (same_pid pid p && eqb index i) (eqb at (n + 1)) is in
-    let first = and_parts (same_pid pid p) (eqb index i) parts.0 in
-    ap (λ b. b && ltb n at) first.0 ∙ less_at at n parts.1
-at_later p i n _ is = is
 
 pub step_sent : (system : System) (log : List Entry) (p : Pid) (old new : Process) → SentUpto system log p (old.small).steps → StepsSilently old new → SentUpto system log p (new.small).steps
 step_sent system log p old new upto step =
@@ -71,7 +55,7 @@ none_within (m ∷ marks) zero within none = cc
 none_within (m ∷ marks) (suc i) within none = none_within marks i (omega (arith, within)) none
 
 -- a page that has no mark among so many has one that is not set
-unset : (marks : List Bool) (i : ℕ) → i < length marks → option_map_or (λ (b : Bool). b) (slice_get marks i) false ≡ false → slice_get marks i ≡ Some false
+pub unset : (marks : List Bool) (i : ℕ) → i < length marks → option_map_or (λ (b : Bool). b) (slice_get marks i) false ≡ false → slice_get marks i ≡ Some false
 unset marks i within unmarked = by_mark (slice_get marks i) refl unmarked
   where
     by_mark : (o : Option Bool) → slice_get marks i ≡ o → option_map_or (λ (b : Bool). b) o false ≡ false → o ≡ Some false
@@ -160,9 +144,8 @@ module _ (system : System) (log : List Entry) (p : Pid) (old new : Process) (run
   module _ (upto : SentUpto system log p (old.small).steps) where
     unsent_now : (i : ℕ) → any_since_moved system log p (is_page_at p i (new.small).steps) ≡ false
     unsent_now i =
-        let n : ℕ = (old.small).steps in
-        ap (λ m. any_since_moved system log p (is_page_at p i m)) counts.steps
-        ∙ none_passes (λ (t : Told). is_page_at p i (n + 1) (what t.entry)) (λ (t : Told). is_later_page p n (what t.entry)) (since_moved system log p) (λ t. at_later p i n (what t.entry)) upto
+        let count = counts.steps in
+        never_at system log p (old.small).steps (new.small).steps i (omega (arith, count)) upto
 
     marked_now : IsMarked system log p new
     marked_now = record {

@@ -1,4 +1,5 @@
 pub mod Beside
 pub mod Received
+pub mod Rolled
 pub mod Sent
 pub mod Stepped

@@ -2,7 +2,9 @@
 #![tactic(auto)]
 
 pub mod boot;
+pub mod emitted;
 pub mod entries;
 pub mod letters;
+pub mod rolled;
 pub mod sent;
 pub mod steps;

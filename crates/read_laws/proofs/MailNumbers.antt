@@ -65,7 +65,7 @@ without_all test wanted (a ∷ letters) all = by_test (wanted a) (and_parts (tes
     by_test true parts more = parts.1
     by_test false parts more = and_from (test a) (list_all test (without_first wanted letters)) parts.0 (more parts.1)
 
-without_in_order : (wanted : Arrived → Bool) (letters : List Arrived) → are_in_order letters ≡ true → are_in_order (without_first wanted letters) ≡ true
+pub without_in_order : (wanted : Arrived → Bool) (letters : List Arrived) → are_in_order letters ≡ true → are_in_order (without_first wanted letters) ≡ true
 without_in_order wanted [] rises = refl
 without_in_order wanted (a ∷ letters) rises = by_test (wanted a) (and_parts (are_above a.number letters) (are_in_order letters) rises) (without_in_order wanted letters)
   where
