@@ -13,10 +13,10 @@ use Rattle.sys_text.specs.Boot.{roots_of, with_pids}
 use Rattle.sys_text.proofs.Bounds.{root_tests, system_bounds, tests}
 use Rattle.proc_state.specs.declared.process.Process.{Process}
 use Rattle.proc_state.specs.Mail.{is_signal}
-use Rattle.proc_state.specs.State.{ProcState, state_of}
+use Rattle.proc_state.specs.State.{IsFresh, ProcState, state_of}
 use Rattle.plain_kernel.specs.Kernel.{Kernel, boot, pid_cmp, process_at}
 use Rattle.plain_kernel.specs.Maps.{booted_ttys, linked_processes}
-use Rattle.plain_kernel.proofs.Entries.{lookup_state}
+use Rattle.plain_kernel.proofs.Entries.{found_fresh, lookup_state}
 use Rattle.plain_kernel.proofs.AtBoot.{boot-each}
 use Rattle.plain_kernel.proofs.Roots.{booted}
 use Rattle.bus_msg.specs.declared.placed.Placed.{Placed}
@@ -53,10 +53,11 @@ use Rattle.cluster_core.proofs.Telling.{at_once}
 pub boot_has : (system : System) → (boot system).processes ≡ linked_processes system
 boot_has system = ap (λ (k : Kernel). k.processes) (sym (booted system (linked_processes system) (booted_ttys system.roots) refl refl))
 
--- what is here at boot is a process of the kernel, which runs
+-- what is here at boot is a process of the kernel at its start, which runs
 pub record IsBooted (system : System) (p : Pid) (h : Held) : Type 0 where
   pub process : Process
   pub at : process_at (boot system) p ≡ Some (state_of process)
+  pub fresh : IsFresh process
   pub is : h ≡ Runs process
 
 pub here_booted : (system : System) (number : ClusterNo) (here : List (Pid × Held)) → AreBooted system number here → (p : Pid) (h : Held) → held_of here p ≡ Some h → IsBooted system p h
@@ -65,8 +66,18 @@ here_booted system number here is p h there =
     record {
       process = one.process;
       at = ap (finmap.find pid_cmp p) (boot_has system ∙ sym is.states) ∙ lookup_state p.0 is.all ∙ ap (option_map state_of) one.found;
+      fresh = found_fresh is.all p.0 one.process is.fresh one.found;
       is = one.is;
     }
+
+-- a process that runs here at boot has made no step and read nothing, and no page of it is marked
+pub booted_fresh : (system : System) (number : ClusterNo) (here : List (Pid × Held)) → AreBooted system number here → (p : Pid) (process : Process) → held_of here p ≡ Some (Runs process) → IsFresh process
+booted_fresh system number here is p process there =
+    let one = here_booted system number here is p (Runs process) there in
+    subst IsFresh (same one.process one.is) one.fresh
+  where
+    same : (q : Process) → Runs process ≡ Runs q → q ≡ process
+    same q e = cc
 
 -- no steps lead to a process of the kernel at boot
 steps_now : (system : System) (p : Pid) (s : ProcState) → process_at (boot system) p ≡ Some s → silent_upto system [] p (s.small).steps ≡ Some s

@@ -8,7 +8,7 @@ use Rattle.t32_base.specs.declared.letter.BackRec.{BackRec}
 use Rattle.sys_text.specs.declared.system.System.{System}
 use Rattle.proc_state.specs.declared.process.Process.{Process}
 use Rattle.proc_state.specs.State.{state_of}
-use Rattle.plain_kernel.specs.Maps.{at_key, linked_processes, pid_of}
+use Rattle.plain_kernel.specs.Maps.{AreFresh, at_key, linked_processes, pid_of}
 use Rattle.plain_kernel.specs.Maps.{processes_of as states_of}
 use Rattle.bus_msg.specs.declared.placed.Placed.{Placed}
 use Rattle.bus_msg.specs.Places.{Places, is_cluster, unended_at}
@@ -24,10 +24,11 @@ belongs_to k n = n % 16 == k.0
 abbrev pub running_at : ℕ × Process → Pid × Held
 running_at e = (pid_of e.0, Runs e.1)
 
--- the processes of a kernel at its start, linked by the channels, of which those of one cluster are here
+-- the processes of a kernel at its start, linked by the channels, of which those of one cluster are here; each has read nothing, and no page of it is marked
 pub record AreBooted (system : System) (number : ClusterNo) (here : List (Pid × Held)) : Type 0 where
   pub all : List (ℕ × Process)
   pub states : states_of all ≡ linked_processes system
+  pub fresh : AreFresh all
   pub own : here ≡ map running_at (filter (λ (e : ℕ × Process). belongs_to number e.0) all)
 
 -- they are the records of those processes that have not ended and whose backup is in the cluster

@@ -1,9 +1,11 @@
 -- A value that is changed in its place in an ordered map, seen as a finite map.
-use Rattle.std.proofs.Common.{◌≡◌, ℕ, ◌+◌, ◌≤◌, Bool, true, false, cond, List, [], ◌∷◌, map, refl, sym, ap, ◌∙◌, arith, Option, Some, None, IsSome, is_some, unwrap_or, option_map}
+use Rattle.std.proofs.Common.{◌≡◌, ℕ, ◌+◌, ◌≤◌, Bool, true, false, cond, List, [], ◌∷◌, map, refl, sym, ap, subst, ◌∙◌, arith, Option, Some, None, IsSome, is_some, unwrap_or, option_map}
 use Rattle.std.specs.List.{sum_by, AllByRecursion}
 use Rattle.std.specs.List.Sorted.{IsStrictlySortedBy}
 use Rattle.std.proofs.lemmas.List.Sums.{sum_by-cons}
 use Rattle.std.proofs.lemmas.Map.Entries.{sum_by-set_value}
+use Rattle.std.proofs.lemmas.Map.Views.{IfSome-lookup_from_All}
+use Rattle.std.specs.Option.{IfSome}
 use Rattle.std.proofs.lemmas.Bool.Decides.{nat_tests}
 use Rattle.std.proofs.lemmas.Bool.{false≢true}
 use Rattle.std.specs.Ordering.{nat_cmp, is_eq}
@@ -15,9 +17,9 @@ use Rattle.std.specs.FinMap as finmap
 use Rattle.std.proofs.lemmas.Cmp.{nat_cmp_total}
 use Rattle.std.specs.Cmp.{tied_itself}
 use Rattle.proc_state.specs.declared.process.Process.{Process}
-use Rattle.proc_state.specs.State.{state_of}
+use Rattle.proc_state.specs.State.{IsFresh, state_of}
 use Rattle.plain_kernel.specs.Kernel.{pid_cmp}
-use Rattle.plain_kernel.specs.Maps.{at_key, pid_of, processes_of, load, total_load, Changes, SameBut}
+use Rattle.plain_kernel.specs.Maps.{at_key, pid_of, processes_of, load, total_load, AreFresh, Changes, SameBut}
 
 pub some_same : {X : Type 0} → (x y : X) → Some x ≡ Some y → x ≡ y
 some_same x y e = ap (λ o. unwrap_or o x) e
@@ -136,6 +138,12 @@ one_of_sum f test (e ∷ es) v h = by_test (test e.0) h (λ later. one_of_sum f 
     by_test : (b : Bool) → cond b (Some e.1) (lookup test es) ≡ Some v → (lookup test es ≡ Some v → f v ≤ sum_by f (values_of es)) → f v ≤ sum_by f (values_of (e ∷ es))
     by_test true h ih = let same : e.1 ≡ v = some_same e.1 v h in omega (arith, sum_by-cons f e.1 (values_of es), ap f same)
     by_test false h ih = omega (arith, sum_by-cons f e.1 (values_of es), ih h)
+
+-- ---- a process that is found
+
+-- one of processes at their start is at its start
+pub found_fresh : (es : List (ℕ × Process)) (pid : ℕ) (p : Process) → AreFresh es → lookup (at_key pid) es ≡ Some p → IsFresh p
+found_fresh es pid p fresh found = subst (λ (o : Option Process). IfSome o IsFresh) found (IfSome-lookup_from_All IsFresh (at_key pid) es fresh)
 
 -- ---- what follows from a change
 

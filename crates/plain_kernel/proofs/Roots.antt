@@ -1,5 +1,5 @@
 -- The start of a kernel, root by root.
-use Rattle.std.proofs.Common.{◌≡◌, ℕ, ◌+◌, ◌*◌, ◌<◌, ◌≤◌, Bool, true, eqb, List, [], ◌∷◌, ◌++◌, length, take, map, fold, get_or, refl, sym, ap, ◌∙◌, arith, Some, append_assoc, append-nil}
+use Rattle.std.proofs.Common.{◌≡◌, ℕ, ◌+◌, ◌*◌, ◌<◌, ◌≤◌, Bool, true, eqb, List, [], ◌∷◌, ◌++◌, length, take, map, fold, get_or, refl, sym, ap, subst, ◌∙◌, arith, Some, append_assoc, append-nil}
 use Rattle.std.specs.Prelude.{slice_get}
 use Rattle.std.specs.List.{count_by}
 use Rattle.std.specs.BTreeMap.{insert_entry}
@@ -13,17 +13,18 @@ use Rattle.std.proofs.lemmas.Cmp.{nat_cmp_total}
 use Rattle.std.proofs.lemmas.List.{take_more}
 use Rattle.std.proofs.lemmas.List.Sums.{fold-append}
 use Rattle.std.proofs.lemmas.Map.Entries.{sum_by-insert_entry}
+use Rattle.std.proofs.lemmas.Map.Views.{All-values-insert_entry}
 use Rattle.std.proofs.lemmas.Option.{slice_get-get_or}
 use Rattle.t32_base.specs.declared.process.Pid.{Pid}
 use Rattle.proc_state.specs.declared.process.Process.{Process}
-use Rattle.proc_state.specs.State.{ProcState, state_of}
+use Rattle.proc_state.specs.State.{ProcState, IsFresh, state_of}
 use Rattle.sys_text.specs.declared.system.System.{System}
 use Rattle.sys_text.specs.declared.system.Root.{Root}
 use Rattle.sys_text.specs.Valid.{is_system}
 use Rattle.sys_text.specs.Boot.{pid_of as pid_in, with_pids, roots_of}
 use Rattle.sys_text.proofs.Bounds.{root_bounds, root_image, system_bounds}
 use Rattle.plain_kernel.specs.Kernel.{Kernel, pid_cmp, boot, boot_roots, with_chan, with_root, empty, root_process}
-use Rattle.plain_kernel.specs.Maps.{pid_of, processes_of, load, total_load, booted_processes, booted_ttys, linked_processes, CanBoot}
+use Rattle.plain_kernel.specs.Maps.{pid_of, processes_of, load, total_load, booted_processes, booted_ttys, linked_processes, AreFresh, CanBoot}
 
 -- ---- an entry that is inserted is put
 
@@ -78,6 +79,10 @@ ttys_more roots n d root es fs within is before insert =
 pub load_more : (es fs : List (ℕ × Process)) (k : ℕ) (v : Process) (bound : ℕ) → IsStrictlySortedBy nat_cmp (map (λ (e : ℕ × Process). e.0) es) → fs ≡ insert_entry nat_cmp es k v → load v ≤ bound → total_load fs ≤ total_load es + bound
 load_more es fs k v bound ordered insert within =
     omega (arith, ap total_load insert, sum_by-insert_entry load nat_cmp_total es k v ordered, within)
+
+-- each is at its start
+pub fresh_more : (es fs : List (ℕ × Process)) (k : ℕ) (v : Process) → fs ≡ insert_entry nat_cmp es k v → AreFresh es → IsFresh v → AreFresh fs
+fresh_more es fs k v insert fresh one = subst AreFresh (sym insert) (All-values-insert_entry nat_cmp k v IsFresh es fresh one)
 
 -- ---- a root of a valid system
 

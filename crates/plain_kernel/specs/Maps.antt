@@ -1,5 +1,5 @@
 -- The maps that hold a kernel, and what of it is still to come.
-use Rattle.std.specs.Prelude.{ℕ, ◌≡◌, ◌+◌, ◌*◌, ◌^◌, ◌≤◌, ◌<◌, Bool, true, false, ◌||◌, if◌then◌else◌, List, [], fold, find, length, map, slice_get, option_map, Option, Some, None, Result, Ok, Err}
+use Rattle.std.specs.Prelude.{ℕ, ◌≡◌, ◌+◌, ◌*◌, ◌^◌, ◌≤◌, ◌<◌, Bool, true, false, ◌||◌, if◌then◌else◌, List, [], fold, find, length, map, slice_get, option_map, Option, Some, None, Result, Ok, Err, All}
 use Rattle.std.specs.Ordering.{nat_cmp, is_eq, is_gt}
 use Rattle.std.specs.List.Sorted.{IsStrictlySortedBy}
 use Rattle.std.specs.List.{list_any, sum_by}
@@ -7,7 +7,7 @@ use Rattle.std.specs.Map.{values_of, lookup, set_value}
 use Rattle.t32_base.specs.declared.process.Pid.{Pid}
 use Rattle.proc_state.specs.declared.process.Process.{Process}
 use Rattle.t32_base.specs.declared.letter.Letter.{Letter}
-use Rattle.proc_state.specs.State.{ProcState, delivered, has_ended, state_of}
+use Rattle.proc_state.specs.State.{ProcState, IsFresh, delivered, has_ended, state_of}
 use Rattle.t32_base.specs.declared.streams.NoMemory.{NoMemory}
 use Rattle.sys_calls.specs.declared.steps.Step.{Step}
 use Rattle.sys_calls.specs.declared.steps.Step.TheVariants.{Silent, Blocked, Forks, Emit, Over}
@@ -38,6 +38,10 @@ processes_of es = map (λ (e : ℕ × Process). (pid_of e.0, state_of e.1)) es
 abbrev pub kernel_of : List (ℕ × Process) → List (ℕ × List ℕ) → Kernel
 kernel_of processes ttys = record { processes = processes_of processes; ttys = ttys }
 
+-- each of them is at its start
+abbrev pub AreFresh : List (ℕ × Process) → Type 0
+AreFresh es = All IsFresh (values_of es)
+
 -- a step uses up two, and the letter that it sends adds one
 abbrev pub load : Process → ℕ
 load p = 2 * weight p.small + (p.mail).next
@@ -64,10 +68,11 @@ abbrev pub GoesTo : Option ℕ → List (ℕ × Process) → List (ℕ × Proces
 GoesTo None old new = new ≡ old
 GoesTo (Some to) old new = SameBut (at_key to) old new
 
--- one more end of the process with a pid was linked, which leaves as much to come
+-- one more end of the process with a pid was linked, which leaves as much to come, and each at its start that is there
 pub record Links (old new : List (ℕ × Process)) (pid : ℕ) (peer : Pid) (far : ℕ) : Type 0 where
   pub states : processes_of new ≡ with_end_linked (processes_of old) (pid_of pid) peer far
   pub load : total_load new ≡ total_load old
+  pub fresh : AreFresh old → AreFresh new
 
 -- it made so many silent steps
 pub record RunsAt (old new : List (ℕ × Process)) (pid n : ℕ) : Type 0 where

@@ -3,9 +3,9 @@ ghost use Rattle.std.specs.Prelude.{◌≡◌, ◌≤◌, ◌<◌, ◌^◌, ◌*
 ghost use Rattle.sys_text.specs.Valid.{is_system};
 ghost use Rattle.sys_text.specs.Boot.{bytes_of_words, pid_of as pid_in, roots_of};
 ghost use Rattle.plain_kernel.specs.Kernel.{root_process};
-ghost use Rattle.plain_kernel.specs.Maps.{booted_processes, booted_ttys, linked_processes, load, total_load, CanBoot, IsImageOf};
+ghost use Rattle.plain_kernel.specs.Maps.{booted_processes, booted_ttys, linked_processes, load, total_load, AreFresh, CanBoot, IsImageOf};
 ghost use Rattle.plain_kernel.specs.Maps.{processes_of as states_of};
-ghost use Rattle.proc_state.specs.State.{state_of};
+ghost use Rattle.proc_state.specs.State.{state_of, IsFresh};
 
 use crate::linking::link_roots;
 use byteorder::{ByteOrder, LittleEndian};
@@ -17,10 +17,11 @@ use t32_base::lists::Bytes;
 use t32_base::process::Pid;
 use t32_base::streams::NoMemory;
 
-/// The roots of a system by pid, linked by its channels.
+/// The roots of a system by pid, each at its start, linked by its channels.
 pub fn processes_of(alloc: Global, system: &System) -> Result<BTreeMap<u32, Process>, NoMemory>
     requires { is_system system.now ≡ true }
     ensures states { IfOk result (λ processes. states_of processes.entries ≡ linked_processes system.now) }
+    ensures fresh { IfOk result (λ processes. AreFresh processes.entries) }
     ensures room { IfOk result (λ processes. total_load processes.entries < 2 ^ 64) }
 {
     let mut processes = roots_by_pid(alloc, system)?;
@@ -35,6 +36,7 @@ pub fn processes_of(alloc: Global, system: &System) -> Result<BTreeMap<u32, Proc
 fn roots_by_pid(alloc: Global, system: &System) -> Result<BTreeMap<u32, Process>, NoMemory>
     requires { is_system system.now ≡ true }
     ensures states { IfOk result (λ processes. states_of processes.entries ≡ booted_processes system.now (roots_of system.now)) }
+    ensures fresh { IfOk result (λ processes. AreFresh processes.entries) }
     ensures room { IfOk result (λ processes. total_load processes.entries < 2 ^ 64) }
 {
     let mut processes = BTreeMap::new(alloc);
@@ -73,6 +75,7 @@ pub fn pid_after(earlier: &[Root], root: Root) -> Pid
 pub fn root_of(alloc: Global, system: &System, pid: Pid, root: Root) -> Result<Process, NoMemory>
     requires { CanBoot system.now root }
     ensures state { IfOk result (λ p. state_of p ≡ root_process system.now pid root) }
+    ensures fresh { IfOk result IsFresh }
     ensures load { IfOk result (λ p. load p ≡ 2 * (root.limit + 34)) }
 {
     let image = image_of(system, root);

@@ -2,7 +2,7 @@
 ghost use Rattle.std.specs.Prelude.{◌≡◌, ◌≤◌, length, true};
 ghost use Rattle.sys_text.specs.Valid.{is_system};
 ghost use Rattle.plain_kernel.specs.Kernel.{free_end_at as free_end_in, root_pid as pid_in, with_chan};
-ghost use Rattle.plain_kernel.specs.Maps.{pid_of, total_load, Links};
+ghost use Rattle.plain_kernel.specs.Maps.{pid_of, total_load, AreFresh, Links};
 ghost use Rattle.plain_kernel.specs.Maps.{processes_of as states_of};
 
 use crate::booting::pid_after;
@@ -18,6 +18,7 @@ pub fn link_roots(processes: &mut BTreeMap<u32, Process>, system: &System, chan:
     requires second { (1 ≤ chan.1) × (chan.1 ≤ length system.now.roots) }
     ensures states { states_of processes.new.entries ≡ with_chan system.now (states_of processes.old.entries) chan }
     ensures load { total_load processes.new.entries ≡ total_load processes.old.entries }
+    ensures fresh { AreFresh processes.old.entries → AreFresh processes.new.entries }
 {
     let one = root_pid(system, chan.0);
     let other = root_pid(system, chan.1);

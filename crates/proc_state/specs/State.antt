@@ -56,6 +56,15 @@ linked_to p peer far = with_small p (record (p.small) { ends = slice_set (p.smal
 
 -- ---- a root at its start
 
+-- it has made no step, was sent nothing and read nothing, counts its steps from the first, and no page is marked
+pub record IsFresh (p : Process) : Type 0 where
+  pub steps : (p.small).steps ≡ 0
+  pub letters : (p.mail).letters ≡ []
+  pub next : (p.mail).next ≡ 0
+  pub unread : p.read ≡ []
+  pub synced : p.since ≡ 0
+  pub clean : (p.ram).dirty ≡ replicate (p.small).pages false
+
 -- all 0 but x2, which is the address after the memory; the next instruction is the memory's first
 abbrev pub first_registers : ℕ → Registers
 first_registers pages = record { x = slice_set (replicate 32 0) 2 (0x10000 + 256 * pages); pc = 0x10000 }

@@ -23,7 +23,7 @@ pub struct Process {
 impl Process {
     ghost use Rattle.t32_base.specs.Small.{steps_left};
     ghost use Rattle.proc_state.specs.Ends.{free_end};
-    ghost use Rattle.proc_state.specs.State.{state_of, root_state, delivered, linked_to, SameRest};
+    ghost use Rattle.proc_state.specs.State.{state_of, root_state, delivered, linked_to, IsFresh, SameRest};
 
     /// A root at its start. Its memory has `pages` pages of 256 bytes and begins with the image, which
     /// fits it; the rest is zero, and no page is dirty. It may execute `limit` instructions and fork
@@ -41,9 +41,7 @@ impl Process {
         requires high { pages ≤ 256 }
         requires fits { length image.now ≤ 256 * pages }
         ensures state { IfOk result (λ p. state_of p ≡ root_state pid pages image.now limit births tty) }
-        ensures unread { IfOk result (λ p. p.read ≡ []) }
-        ensures synced { IfOk result (λ p. p.since ≡ 0) }
-        ensures clean { IfOk result (λ p. p.ram.dirty ≡ replicate pages false) }
+        ensures fresh { IfOk result IsFresh }
     {
         let ram = match Ram::filled(alloc, pages, image) {
             Ok(ram) => ram,

@@ -8,7 +8,7 @@ returns-in-Some c =
     let arrived = ap (λ (s : ProcState). s.next) c.link.ensures.linked in
     linked_there _ _ c.args.pid c.args.peer c.args.far c.in-Some.process.now c.link.new.self
     (record { found = sym c.in-Some.ensures.value; entries = (c.get_mut.follows.holds c.link.new.self).0; ordered = c.get_mut.ensures.ordered })
-    c.link.ensures.linked (omega (arith, arrived, c.link.ensures.load))
+    c.link.ensures.linked c.link.ensures.rest (omega (arith, arrived, c.link.ensures.load))
 
 pub returns-in-None : goal.returns-in-None
 returns-in-None c = linked_nowhere _ _ c.args.pid c.args.peer c.args.far (sym c.in-None.ensures.value) (ap (λ m. m.entries) c.get_mut.follows.holds-at-none)
