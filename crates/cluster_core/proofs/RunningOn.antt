@@ -2,7 +2,6 @@
 use Rattle.std.proofs.Common.{◌≡◌, ℕ, ◌+◌, List, [], length, Some, refl, ap, ◌∙◌, sym}
 use Rattle.t32_base.specs.declared.process.Pid.{Pid}
 use Rattle.t32_base.specs.declared.process.Counts.{Counts}
-use Rattle.rv_mem.proofs.PageLaws.{same_keeps}
 use Rattle.proc_state.specs.declared.process.Process.{Process}
 use Rattle.proc_state.specs.Mail.{MailState}
 use Rattle.proc_state.specs.State.{state_of}
