@@ -124,7 +124,7 @@ rolled_leaves n (Waits waiting) between rolls = absurd rolls
 
 -- and so do silent ones
 silent_leaves : (m : ℕ) (between now : Held) → RunsTo m between now → held_load now + m ≤ held_load between
-silent_leaves m (Runs p) (Runs q) runs = silently_leaves m (state_of p) (state_of q) runs
+silent_leaves m (Runs p) (Runs q) runs = silently_leaves m (state_of p) (state_of q) runs.silent
 silent_leaves m (Runs p) (Rolls q left unborn) runs = absurd runs
 silent_leaves m (Runs p) (Waits waiting) runs = absurd runs
 silent_leaves m (Rolls p counts births) now runs = omega (arith, runs.0, ap held_load runs.1)
@@ -143,7 +143,7 @@ sent_lightens old new valid f one =
     let s = one.sends in
     let same : weight (s.now).small ≡ weight (one.now).small = ap held_load (sym s.new_is) in
     let less : held_load (Runs one.now) + 1 ≤ held_load one.was =
-    omega (arith, same, rolled_leaves s.rolled one.was (Runs s.between) s.rolls, silently_leaves s.silent (state_of s.between) s.before s.runs, emits_leaves s.before (state_of s.now) one.emission s.sends) in
+    omega (arith, same, rolled_leaves s.rolled one.was (Runs s.between) s.rolls, silently_leaves s.silent (state_of s.between) (state_of s.before) (s.runs).silent, emits_leaves (state_of s.before) (state_of s.now) one.emission s.sends) in
     subst (λ (c : ClusterView). load c + 1 ≤ load old) (sym one.rest) (one_lighter one.pid one.was (Runs one.now) 1 old.here (held_apart old valid f) one.there less)
 
 -- a page that is asked for is no step

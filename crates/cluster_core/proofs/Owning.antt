@@ -134,7 +134,7 @@ own_between cursor pid n (Rolls p counts births) (Waits kept) own rolls = absurd
 own_between cursor pid n (Waits kept) between own rolls = absurd rolls
 
 own_after_silent : (cursor : ℕ) (pid : Pid) (m : ℕ) (between now : Held) → IsHeldOwn cursor pid between → RunsTo m between now → IsHeldOwn cursor pid now
-own_after_silent cursor pid m (Runs p) (Runs q) own runs = own_moved cursor pid p q m own runs
+own_after_silent cursor pid m (Runs p) (Runs q) own runs = own_moved cursor pid p q m own runs.silent
 own_after_silent cursor pid m (Runs p) (Rolls q left unborn) own runs = absurd runs
 own_after_silent cursor pid m (Runs p) (Waits kept) own runs = absurd runs
 own_after_silent cursor pid m (Rolls p counts births) now own runs = subst (IsHeldOwn cursor pid) (sym runs.1) own
@@ -150,11 +150,11 @@ own_before_sent cursor pid was sending new own s = own_between cursor pid s.roll
 pub own_sent : (cursor : ℕ) (pid : Pid) (was : Held) (sending : Sending) (new : Held) → IsHeldOwn cursor pid was → (s : Sends 64 was sending new) → IsOwn cursor pid s.now
 own_sent cursor pid was sending new own s =
     let mine = own_before_sent cursor pid was sending new own s in
-    let counts = silently_counts s.silent (state_of s.between) s.before s.runs in
-    let last = emits_counts s.before (state_of s.now) sending.emission s.sends in
+    let counts = silently_counts s.silent (state_of s.between) (state_of s.before) (s.runs).silent in
+    let last = emits_counts (state_of s.before) (state_of s.now) sending.emission s.sends in
     record {
       pid_is = last.pid ∙ counts.pid ∙ mine.pid_is;
-      quiet = emits_quiet s.before (state_of s.now) sending.emission s.sends (silently_quiet s.silent (state_of s.between) s.before s.runs mine.quiet);
+      quiet = emits_quiet (state_of s.before) (state_of s.now) sending.emission s.sends (silently_quiet s.silent (state_of s.between) (state_of s.before) (s.runs).silent mine.quiet);
       arrived = subst (λ n. n ≤ cursor) (sym (last.next ∙ counts.next)) mine.arrived;
     }
 

@@ -14,7 +14,7 @@ use Rattle.cluster_core.specs.declared.quantum.Quantum.{Quantum}
 use Rattle.cluster_core.specs.declared.quantum.Quantum.TheVariants.{Moved, Sent, Stuck}
 use Rattle.cluster_core.specs.declared.quantum.Sending.{Sending}
 use Rattle.cluster_core.specs.View.{Held, Runs, Rolls, Waits, can_act}
-use Rattle.cluster_core.specs.Quantum.{Moves, MovesOrTells, RollsTo, RunsAndSends, RunsQuantum, RunsRest, RunsTo, Sends}
+use Rattle.cluster_core.specs.Quantum.{Moves, MovesOrTells, RollsTo, RunsOn, RunsQuantum, RunsRest, RunsTo, Sends}
 
 -- ---- silent steps
 
@@ -49,14 +49,12 @@ pub some_has : (n : ℕ) (s t : ProcState) → 1 ≤ n → silently n s ≡ Some
 some_has zero s t some silent = absurd (omega (arith, some))
 some_has (suc n) s t some silent = silent_has n s t silent
 
-pub sends_has : (most : ℕ) (s t : ProcState) (e : Emission) → RunsAndSends most s e t → has_step (next_step s) ≡ true
-sends_has most s t e runs = by_steps runs.steps runs.silent
-  where
-    by_steps : (n : ℕ) → silently n s ≡ Some runs.before → has_step (next_step s) ≡ true
-    by_steps zero silent =
-        let same : s ≡ runs.before = none_silent s runs.before silent in
-        ap (λ (q : ProcState). has_step (next_step q)) same ∙ ap has_step runs.sends
-    by_steps (suc n) silent = silent_has n s runs.before silent
+-- so has one that sends something after silent steps
+pub sends_has : (n : ℕ) (s before t : ProcState) (e : Emission) → silently n s ≡ Some before → next_step before ≡ Emits e t → has_step (next_step s) ≡ true
+sends_has zero s before t e silent sends =
+    let same : s ≡ before = none_silent s before silent in
+    ap (λ (q : ProcState). has_step (next_step q)) same ∙ ap has_step sends
+sends_has (suc n) s before t e silent sends = silent_has n s before silent
 
 -- ---- of one that runs
 
@@ -66,7 +64,7 @@ pub record MovedAlone (most : ℕ) (p : Process) (new : Held) : Type 0 where
   pub steps : ℕ
   pub some : 1 ≤ steps
   pub few : steps ≤ most
-  pub silent : silently steps (state_of p) ≡ Some (state_of now)
+  pub silent : RunsOn steps p now
   pub is : new ≡ Runs now
 
 pub moved_alone : (most : ℕ) (p : Process) (new : Held) → Moves most (Runs p) new → MovedAlone most p new
@@ -80,7 +78,7 @@ moved_alone most p new m = by_parts m.between new m.rolls m.runs
           steps = m.silent;
           some = omega (arith, m.some, none);
           few = omega (arith, m.few, none);
-          silent = ap (λ (x : Process). silently m.silent (state_of x)) (sym rolls.1) ∙ runs;
+          silent = subst (λ (x : Process). RunsOn m.silent x r) rolls.1 runs;
           is = refl;
         }
     by_parts (Runs q) (Rolls r left unborn) rolls runs = absurd runs
@@ -88,41 +86,18 @@ moved_alone most p new m = by_parts m.between new m.rolls m.runs
     by_parts (Rolls q left unborn) h rolls runs = absurd rolls
     by_parts (Waits waiting) h rolls runs = absurd rolls
 
--- its last step sent something, and it runs
-pub record SentAlone (most : ℕ) (p : Process) (sending : Sending) (new : Held) : Type 0 where
-  pub now : Process
-  pub runs : RunsAndSends most (state_of p) sending.emission (state_of now)
-  pub pid_is : sending.pid ≡ (now.small).pid
-  pub at_is : sending.at ≡ (now.small).steps
-  pub is : new ≡ Runs now
-
-pub sent_alone : (most : ℕ) (p : Process) (sending : Sending) (new : Held) → Sends most (Runs p) sending new → SentAlone most p sending new
-sent_alone most p sending new s =
-    let rolls = s.rolls in
-    let none : s.rolled ≡ 0 = rolls.0 in
-    record {
-      now = s.now;
-      runs = record {
-        steps = s.silent;
-        before = s.before;
-        few = omega (arith, s.few, none);
-        silent = ap (λ (x : Process). silently s.silent (state_of x)) (sym rolls.1) ∙ s.runs;
-        sends = s.sends;
-      };
-      pid_is = s.pid_is;
-      at_is = s.at_is;
-      is = s.new_is;
-    }
-
 -- ---- who moved or sent something could move
 
 pub moves_can : (most : ℕ) (old new : Held) → Moves most old new → can_act old ≡ true
-moves_can most (Runs p) new m = let a = moved_alone most p new m in some_has a.steps (state_of p) (state_of a.now) a.some a.silent
+moves_can most (Runs p) new m = let a = moved_alone most p new m in some_has a.steps (state_of p) (state_of a.now) a.some (a.silent).silent
 moves_can most (Rolls p counts births) new m = refl
 moves_can most (Waits waiting) new m = absurd m.rolls
 
 pub sends_can : (most : ℕ) (old : Held) (sending : Sending) (new : Held) → Sends most old sending new → can_act old ≡ true
-sends_can most (Runs p) sending new s = let a = sent_alone most p sending new s in sends_has most (state_of p) (state_of a.now) sending.emission a.runs
+sends_can most (Runs p) sending new s =
+    let rolls = s.rolls in
+    let alone : RunsOn s.silent p s.before = subst (λ (x : Process). RunsOn s.silent x s.before) rolls.1 s.runs in
+    sends_has s.silent (state_of p) (state_of s.before) (state_of s.now) sending.emission alone.silent s.sends
 sends_can most (Rolls p counts births) sending new s = refl
 sends_can most (Waits waiting) sending new s = absurd s.rolls
 
@@ -142,7 +117,7 @@ unmoved p q none same =
     }
 
 -- it made so many steps, and cannot go on
-pub none_left : (before m made : ℕ) (old mid new : Process) → made ≡ before + m → silently m (state_of old) ≡ Some (state_of mid) → made ≤ 64 → (m ≡ 0 → mid ≡ old) → has_step (next_step (state_of mid)) ≡ false → new ≡ mid
+pub none_left : (before m made : ℕ) (old mid new : Process) → made ≡ before + m → RunsOn m old mid → made ≤ 64 → (m ≡ 0 → mid ≡ old) → has_step (next_step (state_of mid)) ≡ false → new ≡ mid
     → RunsRest 64 before old (Ok (cond (eqb made 0) Stuck Moved)) new
 none_left before m zero old mid new count silent few stood none same =
     let no_more : m ≡ 0 = omega (arith, count) in
@@ -151,15 +126,15 @@ none_left before m zero old mid new count silent few stood none same =
 none_left before m (suc n) old mid new count silent few stood none same =
     let some : 1 ≤ before + m = omega (arith, count) in
     let enough : before + m ≤ 64 = omega (arith, count, few) in
-    let moved : RunsRest 64 before old (Ok Moved) new = record { steps = m; some = some; few = enough; silent = silent ∙ ap (λ (p : Process). Some (state_of p)) (sym same) } in
+    let moved : RunsRest 64 before old (Ok Moved) new = record { steps = m; some = some; few = enough; silent = subst (RunsOn m old) (sym same) silent } in
     subst (λ b. RunsRest 64 before old (Ok (cond b Stuck Moved)) new) (sym (ne_eqb (suc n) 0 (λ h. omega (arith, h)))) moved
 
-pub refused_then : (before m made : ℕ) (old mid new : Process) (r : Result Quantum NoMemory) → made ≡ before + m → silently m (state_of old) ≡ Some (state_of mid) → made ≤ 64 → (m ≡ 0 → mid ≡ old) → new ≡ mid → MovesOrTells made r
+pub refused_then : (before m made : ℕ) (old mid new : Process) (r : Result Quantum NoMemory) → made ≡ before + m → RunsOn m old mid → made ≤ 64 → (m ≡ 0 → mid ≡ old) → new ≡ mid → MovesOrTells made r
     → RunsRest 64 before old r new
 refused_then before m made old mid new (Ok q) count silent few stood same tells =
     let some : 1 ≤ before + m = omega (arith, count, tells.0) in
     let enough : before + m ≤ 64 = omega (arith, count, few) in
-    subst (λ q. RunsRest 64 before old (Ok q) new) (sym tells.1) (record { steps = m; some = some; few = enough; silent = silent ∙ ap (λ (p : Process). Some (state_of p)) (sym same) })
+    subst (λ q. RunsRest 64 before old (Ok q) new) (sym tells.1) (record { steps = m; some = some; few = enough; silent = subst (RunsOn m old) (sym same) silent })
 refused_then before m made old mid new (Err fault) count silent few stood same tells =
     let unstarted : before ≡ 0 = omega (arith, count, tells) in
     let no_more : m ≡ 0 = omega (arith, count, tells) in
@@ -181,6 +156,7 @@ whole n old p q (Ok (Sent sending)) rolls unmoved rest =
       rolls = rolls;
       runs = rest.silent;
       sends = rest.sends;
+      touches = rest.touches;
       new_is = refl;
       pid_is = rest.pid_is;
       at_is = rest.at_is;

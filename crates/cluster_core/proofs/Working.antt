@@ -246,7 +246,7 @@ module _ (c : ClusterView) (p : Pid) (was : Held) (empty : c.queue ≡ []) (ther
   held_moved new m = by_parts m.between new (held_between m.rolled m.between m.rolls) m.runs
     where
       by_parts : (between new : Held) → IsHeldAs c.system log [] p between → RunsTo m.silent between new → IsHeldAs c.system log [] p new
-      by_parts (Runs q) (Runs r) held runs = ahead_moved c.system log p (state_of q) (state_of r) m.silent held runs
+      by_parts (Runs q) (Runs r) held runs = ahead_moved c.system log p (state_of q) (state_of r) m.silent held runs.silent
       by_parts (Runs q) (Rolls r left unborn) held runs = absurd runs
       by_parts (Runs q) (Waits waiting) held runs = absurd runs
       by_parts (Rolls q left unborn) new held runs = subst (λ (x : Held). IsHeldAs c.system log [] p x) (sym runs.1) held
@@ -351,20 +351,20 @@ module _ (c : ClusterView) (p : Pid) (was : Held) (sending : Sending) (new : Hel
   e = sending.emission
 
   before_own : ((s.before).small).pid ≡ p
-  before_own = (silently_counts s.silent (state_of s.between) s.before s.runs).pid ∙ own.pid_is
+  before_own = (silently_counts s.silent (state_of s.between) (state_of s.before) (s.runs).silent).pid ∙ own.pid_is
 
   now_own : ((s.now).small).pid ≡ p
-  now_own = (emits_counts s.before (state_of s.now) e s.sends).pid ∙ before_own
+  now_own = (emits_counts (state_of s.before) (state_of s.now) e s.sends).pid ∙ before_own
 
   tells : Tells p at e (told_of p at e)
-  tells = tells_of s.before (state_of s.now) p at e s.sends before_own
+  tells = tells_of (state_of s.before) (state_of s.now) p at e s.sends before_own
 
   posted_own : is_from c.number post.by ≡ true
   posted_own = ap (λ (p : Post). is_from c.number p.by) post_is ∙ eq-eqb (c.number).0 (c.number).0 refl
 
   module _ (valid : is_system c.system ≡ true) (has : (c.number).0 < (c.system).clusters) (log : List Entry) (go : IsOpen BuiltMayFollow c.system log) (f : FollowsBuilt c.system log c) where
     emission_is : emission_at c.system log p at ≡ Some (e, state_of s.now)
-    emission_is = ahead_sent c.system log p (state_of s.between) s.before (state_of s.now) s.silent e (held_between c p was empty there valid log go f s.rolled (Runs s.between) s.rolls) s.runs s.sends
+    emission_is = ahead_sent c.system log p (state_of s.between) (state_of s.before) (state_of s.now) s.silent e (held_between c p was empty there valid log go f s.rolled (Runs s.between) s.rolls) (s.runs).silent s.sends
 
     may_follow : UnlostMayFollow c.system log (entry_of c.system log (post_told c.number p at e))
     may_follow = record {

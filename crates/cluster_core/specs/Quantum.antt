@@ -4,8 +4,9 @@ use Rattle.t32_base.specs.declared.streams.NoMemory.{NoMemory}
 use Rattle.t32_base.specs.declared.process.Pid.{Pid}
 use Rattle.t32_base.specs.declared.process.ClusterNo.{ClusterNo}
 use Rattle.t32_base.specs.declared.process.Counts.{Counts}
+use Rattle.rv_mem.specs.Clean.{KeepsClean}
 use Rattle.proc_state.specs.declared.process.Process.{Process}
-use Rattle.proc_state.specs.State.{ProcState, state_of}
+use Rattle.proc_state.specs.State.{state_of}
 use Rattle.sys_calls.specs.declared.steps.Emission.{Emission}
 use Rattle.sys_calls.specs.declared.steps.Emission.TheVariants.{Mail as SentMail, Exit as SentExit}
 use Rattle.sys_calls.specs.Calls.{Emits}
@@ -27,6 +28,7 @@ use Rattle.cluster_core.specs.View.{Held, Runs, Rolls, Waits, can_act}
 pub record RollsOn (n ahead : ℕ) (p : Process) (counts : Counts) (births : List Pid) (q : Process) (left : Counts) (unborn : List Pid) : Type 0 where
   pub runs_out : RunsOut (state_of p) counts births (n + ahead)
   pub rolled : rolled_on n (going p counts births) ≡ Some (going q left unborn)
+  pub clean : KeepsClean p.ram q.ram
   pub since : q.since ≡ p.since
 
 -- One that runs withholds nothing. One that rolls forward makes n steps, after which it still rolls forward where something is left to withhold, and runs where nothing is.
@@ -41,9 +43,16 @@ RollsTo n (Waits waiting) new = ⊥
 
 -- ---- the quantum
 
+-- n silent steps of a process, with the marks of its pages and what it has read, whatever is left to withhold; its pages that have no mark after them stay
+pub record RunsOn (n : ℕ) (p q : Process) : Type 0 where
+  pub silent : silently n (state_of p) ≡ Some (state_of q)
+  pub ran : (counts : Counts) (births : List Pid) → rolled_on n (going p counts births) ≡ Some (going q counts births)
+  pub clean : KeepsClean p.ram q.ram
+  pub since : q.since ≡ p.since
+
 -- m silent steps of one that runs; one that still rolls forward makes none
 abbrev pub RunsTo : ℕ → Held → Held → Type 0
-RunsTo m (Runs p) (Runs q) = silently m (state_of p) ≡ Some (state_of q)
+RunsTo m (Runs p) (Runs q) = RunsOn m p q
 RunsTo m (Runs p) (Rolls q left unborn) = ⊥
 RunsTo m (Runs p) (Waits waiting) = ⊥
 RunsTo m (Rolls p counts births) new = (m ≡ 0) × (new ≡ Rolls p counts births)
@@ -59,25 +68,18 @@ pub record Moves (most : ℕ) (old new : Held) : Type 0 where
   pub rolls : RollsTo rolled old between
   pub runs : RunsTo silent between new
 
--- silent steps, and then one that sends something
-pub record RunsAndSends (most : ℕ) (old : ProcState) (e : Emission) (new : ProcState) : Type 0 where
-  pub steps : ℕ
-  pub before : ProcState
-  pub few : steps < most
-  pub silent : silently steps old ≡ Some before
-  pub sends : next_step before ≡ Emits e new
-
--- steps that are withheld, and then silent ones and one that sends something
+-- steps that are withheld, and then silent ones and one that sends something, which touches the state alone
 pub record Sends (most : ℕ) (old : Held) (sending : Sending) (new : Held) : Type 0 where
   pub rolled : ℕ
   pub silent : ℕ
   pub between : Process
-  pub before : ProcState
+  pub before : Process
   pub now : Process
   pub few : rolled + silent < most
   pub rolls : RollsTo rolled old (Runs between)
-  pub runs : silently silent (state_of between) ≡ Some before
-  pub sends : next_step before ≡ Emits sending.emission (state_of now)
+  pub runs : RunsOn silent between before
+  pub sends : next_step (state_of before) ≡ Emits sending.emission (state_of now)
+  pub touches : now ≡ record before { small = now.small }
   pub new_is : new ≡ Runs now
   pub pid_is : sending.pid ≡ (now.small).pid
   pub at_is : sending.at ≡ (now.small).steps
@@ -95,14 +97,15 @@ pub record RestMoves (most made : ℕ) (old new : Process) : Type 0 where
   pub steps : ℕ
   pub some : 1 ≤ made + steps
   pub few : made + steps ≤ most
-  pub silent : silently steps (state_of old) ≡ Some (state_of new)
+  pub silent : RunsOn steps old new
 
 pub record RestSends (most made : ℕ) (old : Process) (sending : Sending) (new : Process) : Type 0 where
   pub steps : ℕ
-  pub before : ProcState
+  pub before : Process
   pub few : made + steps < most
-  pub silent : silently steps (state_of old) ≡ Some before
-  pub sends : next_step before ≡ Emits sending.emission (state_of new)
+  pub silent : RunsOn steps old before
+  pub sends : next_step (state_of before) ≡ Emits sending.emission (state_of new)
+  pub touches : new ≡ record before { small = new.small }
   pub pid_is : sending.pid ≡ (new.small).pid
   pub at_is : sending.at ≡ (new.small).steps
 

@@ -1,12 +1,11 @@
-use Rattle.std.proofs.Common.{◌-◌, ◌≡◌, ◌≤◌, Some}
-use Rattle.proc_state.specs.State.{state_of}
-use Rattle.sys_calls.specs.Next.{silently}
+use Rattle.std.proofs.Common.{◌-◌, ◌≡◌, ◌≤◌}
+use Rattle.cluster_core.specs.Quantum.{RunsOn}
 use Rattle.cluster_core.proofs.quantum.run_rest.Given as goal
 
 abbrev pub invariant-steps : goal.invariant-steps
 invariant-steps l = record {
   from : l.before ≤ l.made;
-  silent : silently (l.made - l.before) (state_of l.fn.p) ≡ Some (state_of l.p);
+  runs : RunsOn (l.made - l.before) l.fn.p l.p;
   few : l.made ≤ 64;
   unmoved : l.made - l.before ≡ 0 → l.p ≡ l.fn.p;
 }
