@@ -28,7 +28,7 @@ use Rattle.page_accounts.specs.Keeps.{KeepsAccounts}
 use Rattle.page_accounts.proofs.WaitLaws.{earliest_is_kept}
 use Rattle.record_laws.proofs.Standing.{built_stands}
 use Rattle.cluster_core.specs.declared.worked.Worked.TheVariants.{Queued}
-use Rattle.cluster_core.specs.View.{ClusterView, Held, Runs, Rolls, Waits, next_count}
+use Rattle.cluster_core.specs.View.{ClusterView, Held, Runs, Rolls, Waits, next_count, held_at}
 use Rattle.cluster_core.specs.Holds.{IsHeldAs, KeepsIfThere}
 use Rattle.cluster_core.specs.Follows.{FollowsBuilt, IsOpen}
 use Rattle.cluster_core.specs.Queue.{One, is_lone}
@@ -37,7 +37,7 @@ use Rattle.cluster_core.specs.Serving.{CanAnswer}
 use Rattle.cluster_core.specs.Work.{AnswersNext, is_first_server, owes_answer}
 use Rattle.cluster_core.proofs.FirstServer.{first_by}
 use Rattle.cluster_core.proofs.Served.{accounts_answered, ahead_answered}
-use Rattle.cluster_core.proofs.Working.{more_counted}
+use Rattle.cluster_core.proofs.Working.{more_counted, marks_queued}
 
 -- ---- the answer
 
@@ -96,23 +96,32 @@ module _ (c : ClusterView) (served : Option PagerState) (post : Post) (owed : ow
   pub answered_built : (is_unlost post.what && true) ≡ true
   answered_built = ap (λ (p : Post). is_unlost p.what && true) a.post_is
 
-  pub answered_goes_on : c.queue ≡ [] → GoesOn c (answered_view c served post)
-  answered_goes_on empty log go f = record {
+  -- each process is held as before, with the answer queued
+  held_then : (log : List Entry) → c.queue ≡ [] → FollowsBuilt c.system log c → (q : Pid) (h : Held) → held_at c q ≡ Some h → IsHeldAs c.system log (post ∷ []) q h
+  held_then log empty f q h there =
+      let old : IsHeldAs c.system log [] q h = subst (λ queue. IsHeldAs c.system log queue q h) empty ((f.processes).held q h there) in
+      subst (λ (p : Post). IsHeldAs c.system log (p ∷ []) q h) (sym a.post_is) (held_answered c.system log c.number a.pid a.index a.bytes q h old)
+
+  may_then : (log : List Entry) → IsOpen BuiltMayFollow c.system log → FollowsBuilt c.system log c → UnlostMayFollow c.system log (entry_of c.system log post)
+  may_then log go f = subst (λ (p : Post). UnlostMayFollow c.system log (entry_of c.system log p)) (sym a.post_is) (answer_may log go f)
+
+  pub answered_goes_on : is_system c.system ≡ true → c.queue ≡ [] → GoesOn c (answered_view c served post)
+  answered_goes_on valid empty log go f = record {
     log = record { cursor = (f.log).cursor; places = (f.log).places };
     processes = record {
-      held = λ q h there.
-          let old : IsHeldAs c.system log [] q h = subst (λ queue. IsHeldAs c.system log queue q h) empty ((f.processes).held q h there) in
-          subst (λ (p : Post). IsHeldAs c.system log (p ∷ []) q h) (sym a.post_is) (held_answered c.system log c.number a.pid a.index a.bytes q h old);
+      held = held_then log empty f;
       each_once = (f.processes).each_once;
     };
     queue = record {
       own = answered_own;
-      legal = (subst (λ (p : Post). UnlostMayFollow c.system log (entry_of c.system log p)) (sym a.post_is) (answer_may log go f), tt);
+      legal = (may_then log go f, tt);
     };
     queued = record { queued = One post; posts = refl; together = ap (λ (p : Post). is_lone p.what) a.post_is };
     steps = record { counted = λ kept. more_counted (least_steps log log c.number + cond c.tried 1 0) c.steps ((f.steps).counted kept) };
     pages = f.pages;
-    marks = answered_marks valid empty log go f;
+    marks = λ q h there.
+        marks_queued c log post valid empty go f (ap (λ (p : Post). is_lone p.what) a.post_is) (ap (λ (p : Post). is_from c.number p.by) a.post_is ∙ eq-eqb (c.number).0 (c.number).0 refl) (may_then log go f) q h there (held_then log empty f q h there)
+        (f.marks q h there);
     records = f.records;
     accounts = accounts_answered c.system log c (answered_view c served post) post a refl empty refl f.accounts;
     disk = ((f.disk).0, ahead_answered c.number c.server served post a (f.disk).1);

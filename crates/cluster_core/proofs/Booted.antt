@@ -13,7 +13,7 @@ use Rattle.sys_text.specs.Boot.{roots_of, with_pids}
 use Rattle.sys_text.proofs.Bounds.{root_tests, system_bounds, tests}
 use Rattle.proc_state.specs.declared.process.Process.{Process}
 use Rattle.proc_state.specs.Mail.{is_signal}
-use Rattle.proc_state.specs.State.{IsFresh, ProcState, state_of}
+use Rattle.proc_state.specs.State.{IsFresh, ProcState, state_of, has_ended}
 use Rattle.plain_kernel.specs.Kernel.{Kernel, boot, pid_cmp, process_at}
 use Rattle.plain_kernel.specs.Maps.{booted_ttys, linked_processes}
 use Rattle.plain_kernel.proofs.Entries.{found_fresh, lookup_state}
@@ -25,7 +25,7 @@ use Rattle.cert_sched.specs.Parts.{rising}
 use Rattle.cert_sched.specs.Rests.{home_pids}
 use Rattle.cert_sched.specs.Rules.{has_its_pages}
 use Rattle.cert_sched.specs.Told.{told}
-use Rattle.cert_sched.specs.Schedule.{next_pid, placed_root, places_at_boot, placement, plain_after}
+use Rattle.cert_sched.specs.Schedule.{next_pid, placed_root, places_at_boot, placement, plain_after, process_after}
 use Rattle.cert_sched.specs.Steps.{silent_upto}
 use Rattle.cert_sched.proofs.BootPids.{boot_apart, boot_numbers, root_pids, state_pids}
 use Rattle.cert_sched.proofs.MailLaws.{boot_arrived}
@@ -39,7 +39,7 @@ use Rattle.cert_sched.specs.Scripted.{is_server}
 use Rattle.cluster_core.specs.Serving.{BeginsToServe, IsAheadThere}
 use Rattle.cluster_core.proofs.Served.{accounts_begin}
 use Rattle.cluster_core.specs.Follows.{FollowsBuilt}
-use Rattle.cluster_core.specs.Holds.{IsHeldAs}
+use Rattle.cluster_core.specs.Holds.{IsHeldAs, CarriesMarks, MarkedIfThere, unended_process}
 use Rattle.cluster_core.specs.Parts.{AllOwn, IsHeldOwn, IsOwn}
 use Rattle.cluster_core.specs.Queue.{Nothing}
 use Rattle.cluster_core.specs.Residents.{pids_in}
@@ -47,6 +47,9 @@ use Rattle.cluster_core.specs.View.{ClusterView, Held, Runs, held_at, held_of}
 use Rattle.cluster_core.proofs.Here.{is_among}
 use Rattle.cluster_core.proofs.Passing.{passing_apart, pids_pass, process_is}
 use Rattle.cluster_core.proofs.Telling.{at_once}
+use Rattle.mark_laws.proofs.BootMarks.{boot_marks}
+use Rattle.mark_laws.proofs.SentPages.{sent_none}
+use Rattle.std.proofs.lemmas.List.{length-replicate}
 
 -- ---- the kernel at boot
 
@@ -193,6 +196,24 @@ held_as system number here is p h at =
 pages_at_boot : (system : System) (p : Pid) → has_its_pages system [] p ≡ true
 unfolding told
 pages_at_boot system p = refl
+
+in_kernel : (system : System) (p : Pid) (s : ProcState) → process_at (boot system) p ≡ Some s → process_after system [] p ≡ Some s
+unfolding plain_after
+in_kernel system p s there = there
+
+-- each process has the marks of its start
+marks_at_boot : (system : System) (number : ClusterNo) (here : List (Pid × Held)) → AreBooted system number here → is_system system ≡ true → (p : Pid) (h : Held) → held_of here p ≡ Some h → MarkedIfThere CarriesMarks system [] p (unended_process h)
+marks_at_boot system number here is valid p h at =
+    let one = here_booted system number here is p h at in
+    subst (λ (h : Held). MarkedIfThere CarriesMarks system [] p (unended_process h)) (sym one.is) (by_status one.process one.at one.fresh (has_ended ((one.process).small).status))
+  where
+    by_status : (s : Process) → process_at (boot system) p ≡ Some (state_of s) → IsFresh s → (b : Bool) → MarkedIfThere CarriesMarks system [] p (cond b None (Some s))
+    by_status s there fresh true = tt
+    by_status s there fresh false = record {
+      marked = boot_marks system p s (s.small).pages valid (in_kernel system p (state_of s) there) fresh.unread (fresh.synced ∙ sym fresh.steps) fresh.clean;
+      pages = sym (ap length fresh.clean ∙ length-replicate (s.small).pages false);
+      sent = sent_none system p (s.small).steps;
+    }
 
 -- a cluster at boot follows the empty log, where no call of its disk failed
 pub boot_follows : (system : System) (number : ClusterNo) (here : List (Pid × Held)) (recs : List BackRec) (server : Option PagerState) (failed : Option ℕ) → is_system system ≡ true → AreBooted system number here → KeepsRecords system [] number recs

@@ -48,4 +48,5 @@ mod FirstRecords
 pub mod ByKind
 pub mod Posted
 pub mod Marking
+pub mod RunMarks
 pub mod Stubs

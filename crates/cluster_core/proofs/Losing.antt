@@ -19,10 +19,10 @@ use Rattle.bus_msg.specs.declared.entry.Post.{Post}
 use Rattle.bus_msg.specs.declared.entry.Entry.{Entry}
 use Rattle.bus_msg.specs.declared.placed.Placed.{Placed}
 use Rattle.bus_msg.specs.Places.{Places, is_at_home, is_cluster, placed_at, same_cluster, same_pid, unended_at, is_moved_by}
-use Rattle.bus_msg.specs.PlacedAfter.{what, placed_after}
+use Rattle.bus_msg.specs.PlacedAfter.{what, placed_after, after_loss}
 use Rattle.crash_notice.specs.Splitting.{is_moved_here, moves_here, stays}
 use Rattle.cert_sched.specs.Built.{BuiltMayFollow, UnlostMayFollow}
-use Rattle.cert_sched.specs.Deeds.{deeds_in, letter_for, start_of}
+use Rattle.cert_sched.specs.Deeds.{deeds_in, letter_for, start_of, is_birth_of, is_cut}
 use Rattle.cert_sched.specs.Losses.{is_by_cluster, is_from, is_crash_of}
 use Rattle.cert_sched.specs.Parts.{rising}
 use Rattle.cert_sched.specs.Record.{backup_record, record_from}
@@ -46,9 +46,9 @@ use Rattle.recovery_laws.proofs.KeepingBehind.{behind_entry}
 use Rattle.cluster_core.specs.View.{ClusterView, Held, Runs, Rolls, Waits, held_of, next_count, with_server}
 use Rattle.cluster_core.specs.Residents.{pids_in}
 use Rattle.cluster_core.specs.Parts.{AllOwn}
-use Rattle.cluster_core.specs.Queue.{AreTogether, Queued, posts_of, IsQueueLegal, move_of}
+use Rattle.cluster_core.specs.Queue.{AreTogether, Queued, posts_of, IsQueueLegal, move_of, with_queue}
 use Rattle.cluster_core.specs.Recovered.{left_by, moved_by, CanWait, with_all_waiting}
-use Rattle.cluster_core.specs.Holds.{IsHeldAs, is_fetch_queued, process_in}
+use Rattle.cluster_core.specs.Holds.{IsHeldAs, is_fetch_queued, process_in, CarriesMarks, MarkedIfThere, unended_process}
 use Rattle.cluster_core.specs.Follows.{FollowsBuilt}
 use Rattle.cluster_core.specs.Calls.{absorbed, here_after}
 use Rattle.cluster_core.proofs.Here.{is_among, pid_same}
@@ -63,7 +63,7 @@ use Rattle.cluster_core.proofs.Served.{accounts_next, foreign_no_answer, ahead_a
 use Rattle.cluster_core.specs.Serving.{Serves}
 use Rattle.page_server.specs.Account.{PagerState}
 use Rattle.wait_laws.proofs.BootPages.{HasPages, has_pages, starts_so}
-use Rattle.cluster_core.proofs.LostQueue.{NextLoss, no_fetch_queued, no_move_queued, not_here_lost, places_after, queue_stays}
+use Rattle.cluster_core.proofs.LostQueue.{NextLoss, no_fetch_queued, no_move_queued, not_here_lost, places_after, queue_stays, found_after}
 use Rattle.cert_sched.specs.Legal.{Stands}
 use Rattle.wait_laws.specs.Waits.{WaitsAs, first_wait, none_queued}
 use Rattle.wait_laws.proofs.Begins.{begins}
@@ -74,6 +74,9 @@ use Rattle.page_laws.specs.Next.{moves_next}
 use Rattle.wait_laws.proofs.Follows.{other_entry}
 use Rattle.cluster_core.proofs.HasPages.{pages_after}
 use Rattle.cluster_core.proofs.Waiting.{queued_alike}
+use Rattle.cert_sched.specs.Account.{is_exit_of}
+use Rattle.mark_laws.specs.Beside.{is_some_page}
+use Rattle.cluster_core.proofs.Marking.{Leaves, marked_after, queue_tells}
 
 -- ---- lists
 
@@ -317,6 +320,7 @@ module _ (system : System) (valid : is_system system ≡ true) (log : List Entry
     queued = f.queued;
     steps = record { counted = λ kept. counted_foreign c log e (ap (λ k. is_by_cluster k e) number_is ∙ foreign) ((f.steps).counted (lost_before log e c.number kept)) };
     pages = pages;
+    marks = marks;
     records = subst (λ k. KeepsRecords system later k (filter (stays places lost k) c.records)) (sym number_is) (loss_kept system log e lost k cause c.records valid (built_stands system later n.more) n.same apart keeps);
     accounts =
         accounts_next system log e c (with_server server after) q (IsLegal-last BuiltMayFollow system log e n.more).built (foreign_no_answer c.number e (ap (λ k. is_by_cluster k e) number_is ∙ foreign)) serves refl queue_is queue_is posts_legal f.accounts;
@@ -390,6 +394,25 @@ module _ (system : System) (valid : is_system system ≡ true) (log : List Entry
               let elsewhere = not_here c.records p y.kept m in
               subst (λ x. IsHeldAs system later (posts_of q) p x) (sym y.is)
               (waiting_held q c.records p y.kept m (no_move_queued system valid log e lost cause n k apart q p (f.queued).together posts_own posts_legal elsewhere) (λ i. no_fetch_queued system valid log e lost cause n k apart q p i (f.queued).together posts_own posts_legal elsewhere))
+
+      -- who was here has its marks still
+      marks_still : (p : Pid) (h : Held) → held_of c.here p ≡ Some h → IsHeldAs system later (posts_of q) p h → MarkedIfThere CarriesMarks system (with_queue system later (posts_of q)) p (unended_process h)
+      marks_still p h there now =
+          let home = home_of p h there in
+          let stays = home_not_moved system log e p k (differ_built system log valid n.legal) home spared in
+          let leaves : Leaves system log p (what e) = (ap (is_cut p) n.same, ap (is_birth_of p) n.same, ap (is_some_page p) n.same, stays) in
+          marked_after system log e p q h h valid (built_stands system later n.more) (ap is_some home.found)
+          (ap is_some (found_after system valid log e lost cause n k apart p ∙ ap (option_map (after_loss lost)) home.found)) (f.queued).together
+          (queue_tells system log k q posts_own posts_legal) (queue_tells system later k q posts_own (queue_stays system valid log e lost cause n k apart q (f.queued).together posts_own foreign posts_legal))
+          (subst (λ ps. IsHeldAs system log ps p h) queue_is ((f.processes).held p h there)) now leaves (ap (is_exit_of p) n.same) (λ m. m)
+          (subst (λ ps. MarkedIfThere CarriesMarks system (with_queue system log ps) p (unended_process h)) queue_is (f.marks p h there))
+
+      marks : (p : Pid) (h : Held) → held_of (with_all_waiting moved c.here) p ≡ Some h → MarkedIfThere CarriesMarks system (with_queue system later c.queue) p (unended_process h)
+      marks p h at = subst (λ ps. MarkedIfThere CarriesMarks system (with_queue system later ps) p (unended_process h)) (sym queue_is) (by_either (found p h at))
+        where
+          by_either : (held_of c.here p ≡ Some h) ⊎ Recovery (λ r. Moves c.records r.pid r) p h → MarkedIfThere CarriesMarks system (with_queue system later (posts_of q)) p (unended_process h)
+          by_either (inl there) = marks_still p h there (held_still q p h (f.queued).together (home_of p h there) (subst (λ ps. IsHeldAs system log ps p h) queue_is ((f.processes).held p h there)))
+          by_either (inr y) = subst (λ x. MarkedIfThere CarriesMarks system (with_queue system later (posts_of q)) p (unended_process x)) (sym y.is) tt
 
       pages : (p : Pid) (h : Held) → held_of (with_all_waiting moved c.here) p ≡ Some h → is_some (process_in h) ≡ true → has_its_pages system later p ≡ true
       pages p h at runs = by_either (found p h at)

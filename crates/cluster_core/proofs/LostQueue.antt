@@ -77,7 +77,7 @@ module _ (system : System) (valid : is_system system ≡ true) (log : List Entry
   pub places_after : placement system later ≡ placed_after places (Crash lost cause)
   places_after = placement-snoc system log e ∙ ap (placed_after places) n.same
 
-  found_after : (p : Pid) → unended_at (placement system later) p ≡ option_map (after_loss lost) (unended_at places p)
+  pub found_after : (p : Pid) → unended_at (placement system later) p ≡ option_map (after_loss lost) (unended_at places p)
   found_after p = ap (λ places. unended_at places p) places_after ∙ unended_map (after_loss lost) (loss_keeps lost) places (placed_after places (Crash lost cause)) refl p
 
   turned : same_cluster k lost ≡ false

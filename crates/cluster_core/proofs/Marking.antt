@@ -34,7 +34,10 @@ use Rattle.cert_sched.specs.Steps.{after_items, emission_at, process_of}
 use Rattle.cert_sched.specs.Told.{cluster_lost, is_moved}
 use Rattle.cert_sched.proofs.EndedLaws.{exit_told}
 use Rattle.cert_sched.proofs.LogLaws.{IsLegal-before}
+use Rattle.cert_sched.proofs.OpenLaws.{unended_open}
+use Rattle.cert_sched.proofs.RollLaws.{all_roll, rolls_next}
 use Rattle.cert_sched.proofs.StepLaws.{Tells}
+use Rattle.read_laws.proofs.LogReads.{itself}
 use Rattle.page_laws.proofs.OneEntry.{any_since-goes_on}
 use Rattle.mark_laws.specs.Beside.{LeavesMarks, is_some_page}
 use Rattle.mark_laws.specs.Sent.{SentUpto, is_later_page}
@@ -49,7 +52,7 @@ use Rattle.cluster_core.proofs.Here.{arrival_at}
 use Rattle.cluster_core.proofs.Posted.{moves_it, no_end}
 use Rattle.cluster_core.proofs.Telling.{Telling, telling}
 use Rattle.cluster_core.proofs.Unmoved.{page_moves_none}
-use Rattle.cluster_core.proofs.Stubs.{process_next, rolling_next, silent_next}
+use Rattle.cluster_core.proofs.Stubs.{rolling_next, silent_next}
 
 -- ---- what leaves the marks of a process
 
@@ -71,7 +74,7 @@ lone_leaves system log p w lone = by_one (lone_is w lone)
     by_one (inr of) = page_leaves system log p w of
 
 pub leaves_marks : (system : System) (log : List Entry) (e : Entry) (p : Pid) → Leaves system log p (what e) → is_exit_of p (what e) ≡ false → LeavesMarks system log e p
-leaves_marks system log e p leaves no_exit = record { no_cut = leaves.0; no_birth = leaves.1.0; no_exit = no_exit; no_page = leaves.1.1.0; stays = leaves.1.1.1 }
+leaves_marks system log e p leaves no_exit = record { no_cut = leaves.0; no_birth = leaves.1; no_exit = no_exit; no_page = leaves.2; stays = leaves.3 }
 
 -- ---- one more entry
 
@@ -95,17 +98,17 @@ module _ (system : System) (log : List Entry) (e : Entry) (p : Pid) (leaves : Le
     carried_on : CarriesMarks system log p s → CarriesMarks system (log ++ e ∷ []) p s
     carried_on m = record {
       marked = marks_kept system log e p s valid legal unended leaves low m.marked;
-      sized = m.sized;
+      pages = m.pages;
       sent = sent_on system log p e (s.small).steps (not_later p (s.small).steps (what e) leaves.no_page) m.sent;
     }
 
     carried_before : CarriesMarks system (log ++ e ∷ []) p s → CarriesMarks system log p s
-    carried_before m = record { marked = marks_before system log e p s valid legal unended leaves low m.marked; sized = m.sized; sent = sent_before (s.small).steps m.sent }
+    carried_before m = record { marked = marks_before system log e p s valid legal unended leaves low m.marked; pages = m.pages; sent = sent_before (s.small).steps m.sent }
 
 -- ---- a letter that arrives
 
 carried_letter : (system : System) (log : List Entry) (p : Pid) (s : Process) (letter : Letter) → CarriesMarks system log p s → CarriesMarks system log p (arrived s letter)
-carried_letter system log p s letter m = record { marked = letter_kept system log p s letter m.marked; sized = m.sized; sent = m.sent }
+carried_letter system log p s letter m = record { marked = letter_kept system log p s letter m.marked; pages = m.pages; sent = m.sent }
 
 -- what an entry brings a process that is held leaves its marks
 pub arrival_marked : (system : System) (log : List Entry) (w : What) (p : Pid) (h : Held) → tells_or_closes w ≡ true → MarkedIfThere CarriesMarks system log p (unended_process h) → MarkedIfThere CarriesMarks system log p (unended_process (arrival_at w p h))
@@ -180,6 +183,9 @@ moving_tells p post w lone moves = by_one (lone_is post.what lone)
     by_one (inr of) = let none : None ≡ Some w = sym (ap (λ b. option_map (λ (post : Post). post.what) (cond b (Some post) None)) (page_moves_none p post of)) ∙ moves in cc
 
 module _ (system : System) (log : List Entry) (p : Pid) (valid : is_system system ≡ true) (legal : IsLegalBy Stands system log) (unended : IsUnended system log p) where
+  process_next : (s : ProcState) → process_after system log p ≡ Some s → s.next ≡ arrived_count log p
+  process_next s there = rolls_next system log p s ((all_roll Stands itself system log valid legal).rolls p s there (unended_open Stands itself system log p valid legal unended s there))
+
   -- what a process sends ahead of the log leaves the number of the next letter
   sent_next : (at : ℕ) (m : Emission) (t : ProcState) → emission_at system log p at ≡ Some (m, t) → t.next ≡ arrived_count log p
   unfolding emission_at
@@ -187,7 +193,7 @@ module _ (system : System) (log : List Entry) (p : Pid) (valid : is_system syste
     where
       by_process : (o : Option ProcState) → process_after system log p ≡ o → option_and_then (last_emission (at - done_after system log p)) o ≡ Some (m, t) → t.next ≡ arrived_count log p
       by_process None there is = cc
-      by_process (Some w) there is = (last_counts (at - done_after system log p) w m t is).next ∙ process_next system log p w valid legal unended there
+      by_process (Some w) there is = (last_counts (at - done_after system log p) w m t is).next ∙ process_next w there
 
   -- a process that has sent a post
   moved_next : (q : Queued) (w : What) (s : ProcState) → AreTogether q → TellsAs system log q → move_of p (posts_of q) ≡ Some w → option_map (taken_by w) (after_items system log w) ≡ Some s → s.next ≡ arrived_count log p

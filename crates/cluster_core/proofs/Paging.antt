@@ -33,9 +33,9 @@ use Rattle.recovery_laws.specs.Behind.{RollsBehind}
 use Rattle.recovery_laws.proofs.KeepingBehind.{behind_entry}
 use Rattle.cluster_core.specs.View.{page_held, ClusterView, Held, Runs, Rolls, Waits, next_count, with_server, held_of}
 use Rattle.cluster_core.specs.Residents.{pids_in}
-use Rattle.cluster_core.specs.Queue.{AreTogether, Queued, Nothing, One, posts_of, IsQueueLegal, move_of, state_by, state_now}
+use Rattle.cluster_core.specs.Queue.{AreTogether, Queued, Nothing, One, posts_of, IsQueueLegal, move_of, state_by, state_now, with_queue}
 use Rattle.cluster_core.specs.Recovered.{left_by, moved_by, with_all_waiting}
-use Rattle.cluster_core.specs.Holds.{IsHeldAs, is_fetch_queued, process_in}
+use Rattle.cluster_core.specs.Holds.{IsHeldAs, is_fetch_queued, process_in, CarriesMarks, MarkedIfThere, unended_process}
 use Rattle.cluster_core.specs.Follows.{FollowsBuilt, IsOpen}
 use Rattle.cluster_core.specs.Calls.{absorbed, here_after, with_page_come}
 use Rattle.cluster_core.proofs.ByKind.{by_page, is_of_page, lone_is, may_told, page_unlost, told_may}
@@ -44,14 +44,14 @@ use Rattle.cluster_core.proofs.Homes.{HomeHere, differ_built, home_here, pids_ho
 use Rattle.cluster_core.proofs.Telling.{Telling, telling}
 use Rattle.cluster_core.proofs.Counted.{lost_before}
 use Rattle.cluster_core.proofs.Posted.{no_end}
-use Rattle.cluster_core.proofs.Following.{counted_foreign, post_may, Left, by_home_of, by_one, counted_left, letter_pids, page_queued}
+use Rattle.cluster_core.proofs.Following.{counted_foreign, post_may, Left, by_home_of, by_one, counted_left, letter_pids, page_queued, left_lone, marked_own}
 use Rattle.cluster_core.proofs.Served.{accounts_next, foreign_no_answer, accounts_sent, ahead_after}
 use Rattle.cluster_core.specs.Serving.{IsAheadThere, Serves}
 use Rattle.page_server.specs.Account.{PagerState}
 use Rattle.cluster_core.proofs.Unmoved.{emission_same, state_same, silent_same}
 use Rattle.cert_sched.specs.Simulation.{IsUnended}
 use Rattle.page_waits.specs.Waiting.{WaitingState}
-use Rattle.cluster_core.proofs.Waiting.{has_come, queued_alike, waits_page, waits_come}
+use Rattle.cluster_core.proofs.Waiting.{has_come, queued_alike, waits_page, waits_come, come_marked}
 use Rattle.cert_sched.specs.Moved.{is_fetch, is_page_is}
 use Rattle.channel_table.specs.Changes.{pids_differ}
 use Rattle.cluster_core.proofs.HasPages.{pages_after, waits_after}
@@ -63,6 +63,8 @@ use Rattle.bus_msg.specs.declared.entry.By.TheVariants.{Cluster}
 use Rattle.bus_msg.specs.declared.placed.Placed.{Placed}
 use Rattle.proc_state.specs.declared.process.Process.{Process}
 use Rattle.t32_base.specs.declared.process.Counts.{Counts}
+use Rattle.cert_sched.specs.Account.{is_exit_of}
+use Rattle.cluster_core.proofs.Marking.{marked_after, page_leaves, queue_tells}
 
 -- ---- what is here then
 
@@ -262,6 +264,20 @@ module _ (system : System) (valid : is_system system ≡ true) (log : List Entry
       by_was (Rolls s counts births) held pages runs = stays (pages (same (Rolls s counts births) (rolls_same s counts births) runs))
       by_was (Waits waiting) held pages runs = come waiting held (what e) of refl runs
 
+  -- who runs or rolls forward then has its marks
+  paged_marked : (before : List Post) (p : Pid) (was : Held) → IsUnended system log p → IsHeldAs system log before p was → MarkedIfThere CarriesMarks system later p (unended_process was) → MarkedIfThere CarriesMarks system later p (unended_process (page_at (what e) p was))
+  paged_marked before p was unended held m =
+      by_page (λ w. what e ≡ w → MarkedIfThere CarriesMarks system later p (unended_process (page_at w p was))) (λ pid index is. m) (λ pid index bytes is. by_pid pid index bytes is (same_pid pid p) refl) (what e) of refl
+    where
+      come : (index : ℕ) (bytes : List ℕ) → what e ≡ PageIs p index bytes → (h : Held) → IsHeldAs system log before p h → MarkedIfThere CarriesMarks system later p (unended_process h) → MarkedIfThere CarriesMarks system later p (unended_process (page_held index bytes h))
+      come index bytes is (Runs s) held m = m
+      come index bytes is (Rolls s counts births) held m = m
+      come index bytes is (Waits waiting) held m = come_marked system log e before p index bytes waiting valid next.0 unended (unended_later p unended) is held.1
+
+      by_pid : (pid : Pid) (index : ℕ) (bytes : List ℕ) → what e ≡ PageIs pid index bytes → (b : Bool) → same_pid pid p ≡ b → MarkedIfThere CarriesMarks system later p (unended_process (cond b (page_held index bytes was) was))
+      by_pid pid index bytes is true own = come index bytes (is ∙ ap (λ q. PageIs q index bytes) (pid_same pid p (eqb-true pid.0 p.0 own))) was held m
+      by_pid pid index bytes is false other = m
+
   -- ---- the queues
 
   -- an entry of another cluster asks for no page of a process that is at home here
@@ -321,6 +337,7 @@ module _ (system : System) (valid : is_system system ≡ true) (log : List Entry
     queued = f.queued;
     steps = record { counted = λ kept. counted_foreign c log e foreign ((f.steps).counted (lost_before log e c.number kept)) };
     pages = pages;
+    marks = marks;
     records = records_stay c.number c.records f.records;
     accounts = accounts_next system log e c (with_server server (paged c e)) q (IsLegal-last BuiltMayFollow system log e next.0).built (foreign_no_answer c.number e foreign) serves refl queue_is queue_is posts_legal f.accounts;
     disk = ((f.disk).0, ahead_after (placement system log) e c.server server serves (f.disk).1);
@@ -352,6 +369,22 @@ module _ (system : System) (valid : is_system system ≡ true) (log : List Entry
           subst (λ ps. IsHeldAs system later ps p h) (sym queue_is)
           (subst (λ x. IsHeldAs system later (posts_of q) p x) (sym before.same) (held_after (posts_of q) (posts_of q) p before.was (ap is_some home.found) (alike_foreign c.number q p home foreign (f.queued).together) was))
 
+      marks : (p : Pid) (h : Held) → held_of (here_after (what e) c.here) p ≡ Some h → MarkedIfThere CarriesMarks system (with_queue system later c.queue) p (unended_process h)
+      marks p h at =
+          let before = was_paged (what e) c.here p h of at in
+          let home = home_of c.number c.here p before.was once before.there in
+          let unended = ap is_some home.found in
+          let was : IsHeldAs system log (posts_of q) p before.was = subst (λ ps. IsHeldAs system log ps p before.was) queue_is ((f.processes).held p before.was before.there) in
+          let comes = λ m. subst (λ x. MarkedIfThere CarriesMarks system later p (unended_process x)) (sym before.same) (paged_marked (posts_of q) p before.was unended was m) in
+          subst (λ ps. MarkedIfThere CarriesMarks system (with_queue system later ps) p (unended_process h)) (sym queue_is)
+          (marked_after system log e p q before.was h valid (built_stands system later next.0) unended (unended_later p unended) (f.queued).together
+          (queue_tells system log c.number q posts_own posts_legal) (queue_tells system later c.number q posts_own (queue_stays c.number q (f.queued).together foreign posts_own posts_legal))
+          was (subst (λ ps. IsHeldAs system later ps p h) queue_is (held p h at)) (page_leaves system log p (what e) of) no_exit comes
+          (subst (λ ps. MarkedIfThere CarriesMarks system (with_queue system log ps) p (unended_process before.was)) queue_is (f.marks p before.was before.there)))
+        where
+          no_exit : is_exit_of p (what e) ≡ false
+          no_exit = by_page (λ w. is_exit_of p w ≡ false) (λ pid index. refl) (λ pid index bytes. refl) (what e) of
+
       pages : (p : Pid) (h : Held) → held_of (here_after (what e) c.here) p ≡ Some h → is_some (process_in h) ≡ true → has_its_pages system later p ≡ true
       pages p h at runs =
           let before = was_paged (what e) c.here p h of at in
@@ -371,6 +404,7 @@ module _ (system : System) (valid : is_system system ≡ true) (log : List Entry
     queued = record { queued = Nothing; posts = empty; together = tt };
     steps = record { counted = counted_left c log e l };
     pages = pages;
+    marks = λ p h at. subst (λ ps. MarkedIfThere CarriesMarks system (with_queue system later ps) p (unended_process h)) (sym empty) (marks p h at);
     records = records_stay c.number c.records (subst (λ recs. KeepsRecords system log c.number recs) (sym (ap (λ (d : ClusterView). d.records) l.same)) (subst (λ k. KeepsRecords system log k (l.before).records) number f.records));
     accounts =
         accounts_sent system log e l.before (with_server server (paged c e)) (page_unlost (what e) of) (subst (λ old. Serves (placement system log) e old server) (ap (λ (d : ClusterView). d.server) l.same) serves) (sym number) l.posts empty f.accounts;
@@ -400,6 +434,14 @@ module _ (system : System) (valid : is_system system ≡ true) (log : List Entry
           let before = was_paged (what e) c.here p h of at in
           let home = home_of c.number c.here p before.was once before.there in
           subst (λ x. IsHeldAs system later [] p x) (sym before.same) (held_after (e.post ∷ []) [] p before.was (ap is_some home.found) (alike_own p) (was_held p before.was before.there))
+
+      marks : (p : Pid) (h : Held) → held_of (here_after (what e) c.here) p ≡ Some h → MarkedIfThere CarriesMarks system later p (unended_process h)
+      marks p h at =
+          let before = was_paged (what e) c.here p h of at in
+          let home = home_of c.number c.here p before.was once before.there in
+          let was : MarkedIfThere CarriesMarks system later p (unended_process before.was) =
+          subst (λ s. MarkedIfThere CarriesMarks s later p (unended_process before.was)) (sym system_is) (marked_own c log e l (left_lone c log e l) p before.was before.there) in
+          subst (λ x. MarkedIfThere CarriesMarks system later p (unended_process x)) (sym before.same) (paged_marked (e.post ∷ []) p before.was (ap is_some home.found) (was_held p before.was before.there) was)
 
       pages : (p : Pid) (h : Held) → held_of (here_after (what e) c.here) p ≡ Some h → is_some (process_in h) ≡ true → has_its_pages system later p ≡ true
       pages p h at runs =

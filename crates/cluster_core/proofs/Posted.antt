@@ -1,5 +1,5 @@
 -- A post of a cluster, and the process that it tells of.
-use Rattle.std.proofs.Common.{◌≡◌, sym, ◌∙◌, ap, List, [], ◌∷◌, Bool, true, false, cond, eqb-true, Option, Some, None, true≢false}
+use Rattle.std.proofs.Common.{◌≡◌, sym, ◌∙◌, ap, List, [], ◌∷◌, Bool, true, false, cond, eqb-true, Option, Some, None, true≢false, refl}
 use Rattle.std.specs.Prelude.{find, option_map}
 use Rattle.std.specs.Option.{option_map_or}
 use Rattle.t32_base.specs.declared.process.Pid.{Pid}

@@ -59,7 +59,7 @@ module _ (c : ClusterView) (empty : c.queue ≡ []) (own : AllOwn c.cursor c.her
   -- an answer is queued
   answered : (served : Option PagerState) (post : Post) → owes_answer c.places c.number c.server ≡ true → AnswersNext c.number c.server served post → Works c Queued c.here served (post ∷ [])
   answered served post owed answers = record {
-    goes_on = answered_goes_on c served post owed answers empty;
+    goes_on = answered_goes_on c served post owed answers valid empty;
     work = answered_work c served post owed answers;
     residents = own;
     own = answered_own c served post owed answers;

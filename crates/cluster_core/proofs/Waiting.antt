@@ -1,5 +1,5 @@
 -- A process that waits here for its pages, and what an entry makes of it.
-use Rattle.std.proofs.Common.{◌≡◌, ℕ, refl, sym, ◌∙◌, ap, subst, List, [], ◌∷◌, ◌++◌, Bool, true, false, cond, ◌||◌, Some, None, true≢false, ◌⊎◌}
+use Rattle.std.proofs.Common.{◌≡◌, ℕ, refl, sym, ◌∙◌, ap, subst, List, [], ◌∷◌, ◌++◌, Bool, true, false, cond, ◌||◌, Some, None, true≢false, ◌⊎◌, Option}
 use Rattle.std.specs.Prelude.{◌≢◌, is_some}
 use Rattle.t32_base.specs.declared.process.Pid.{Pid}
 use Rattle.t32_base.specs.declared.letter.BackRec.{BackRec}
@@ -34,7 +34,7 @@ use Rattle.page_waits.specs.Waiting.{WaitingState, is_whole, rolling_of, with_pa
 use Rattle.wait_laws.specs.Waits.{WaitsAs}
 use Rattle.cluster_core.specs.View.{Waits, Rolls, Runs, page_held, rolling_held}
 use Rattle.cluster_core.specs.Queue.{move_of, state_by}
-use Rattle.cluster_core.specs.Holds.{IsHeldAs, is_fetch_queued, process_in}
+use Rattle.cluster_core.specs.Holds.{IsHeldAs, is_fetch_queued, process_in, CarriesMarks, MarkedIfThere, unended_process}
 use Rattle.cluster_core.proofs.ByKind.{by_kind, by_page, is_of_page}
 use Rattle.cluster_core.proofs.Here.{arrival_at}
 use Rattle.cluster_core.specs.Resident.{CanComeTo}
@@ -46,7 +46,8 @@ use Rattle.recovery_laws.proofs.ByRule.{built_silent}
 use Rattle.cert_sched.specs.Rules.{has_its_pages}
 use Rattle.roll_forward.specs.RunsOut.{nothing_left}
 use Rattle.std.specs.Option.{option_map_or}
-use Rattle.proc_state.specs.State.{state_of}
+use Rattle.proc_state.specs.State.{state_of, has_ended}
+use Rattle.cluster_core.proofs.Stubs.{begun_marked}
 
 -- ---- what is queued of it
 
@@ -165,6 +166,37 @@ has_come system log e queue p i bytes waiting valid legal unended is waits = by_
     by_whole : (b : Bool) → is_whole now ≡ b → is_some (process_in (cond b (option_map_or rolling_held (rolling_of now) (Waits now)) (Waits now))) ≡ true → has_its_pages system (log ++ e ∷ []) p ≡ true
     by_whole true whole goes = has_all system (log ++ e ∷ []) p (is_fetch_queued p queue) now (page_entry system log e p (is_fetch_queued p queue) waiting valid legal i bytes is waits unended) whole
     by_whole false lacks goes = absurd (true≢false (sym goes))
+
+-- and begins with the marks of its start
+pub come_marked : (system : System) (log : List Entry) (e : Entry) (queue : List Post) (p : Pid) (i : ℕ) (bytes : List ℕ) (waiting : WaitingState) → is_system system ≡ true → IsLegalBy BuiltMayFollow system (log ++ e ∷ []) → IsUnended system log p
+    → IsUnended system (log ++ e ∷ []) p → what e ≡ PageIs p i bytes → WaitsAs system log p (is_fetch_queued p queue) waiting → MarkedIfThere CarriesMarks system (log ++ e ∷ []) p (unended_process (page_held i bytes (Waits waiting)))
+come_marked system log e queue p i bytes waiting valid legal unended after is waits = by_whole (is_whole now) refl
+  where
+    later : List Entry
+    later = log ++ e ∷ []
+
+    now : WaitingState
+    now = with_page i bytes waiting
+
+    still : WaitsAs system later p (is_fetch_queued p queue) now
+    still = page_entry system log e p (is_fetch_queued p queue) waiting valid legal i bytes is waits unended
+
+    by_status : (r : RollingState) → rolling_of now ≡ Some r → is_whole now ≡ true → (b : Bool) → MarkedIfThere CarriesMarks system later p (cond b None (Some r.process))
+    by_status r goes whole true = tt
+    by_status r goes whole false = begun_marked system later p (is_fetch_queued p queue) now r valid legal after still whole goes
+
+    by_left : (r : RollingState) (b : Bool) → MarkedIfThere CarriesMarks system later p (cond (has_ended ((r.process).small).status) None (Some r.process))
+        → MarkedIfThere CarriesMarks system later p (unended_process (cond b (Runs r.process) (Rolls r.process r.counts r.births)))
+    by_left r true m = m
+    by_left r false m = m
+
+    by_rolling : (o : Option RollingState) → rolling_of now ≡ o → is_whole now ≡ true → MarkedIfThere CarriesMarks system later p (unended_process (option_map_or rolling_held o (Waits now)))
+    by_rolling None goes whole = tt
+    by_rolling (Some r) goes whole = by_left r (nothing_left r.counts r.births) (by_status r goes whole (has_ended ((r.process).small).status))
+
+    by_whole : (b : Bool) → is_whole now ≡ b → MarkedIfThere CarriesMarks system later p (unended_process (cond b (option_map_or rolling_held (rolling_of now) (Waits now)) (Waits now)))
+    by_whole true whole = by_rolling (rolling_of now) refl whole
+    by_whole false lacks = tt
 
 -- such a page is one of its pages, and where it is the last that lacked the process can go on
 pub may_come_to : (system : System) (log : List Entry) (e : Entry) (queue : List Post) (p : Pid) (i : ℕ) (bytes : List ℕ) (waiting : WaitingState) → is_system system ≡ true → IsLegalBy BuiltMayFollow system (log ++ e ∷ []) → IsUnended system log p

@@ -24,7 +24,7 @@ use Rattle.cert_sched.specs.Schedule.{placement, process_after, done_after}
 use Rattle.cert_sched.specs.Steps.{silent_upto, emission_at, after_items}
 use Rattle.cert_sched.specs.Rules.{has_its_pages, is_by, is_living, is_by_home, is_by_right, home_at}
 use Rattle.cert_sched.specs.Kinds.{KindHolds}
-use Rattle.cert_sched.specs.Legal.{IsLegalBy}
+use Rattle.cert_sched.specs.Legal.{IsLegalBy, Stands}
 use Rattle.cert_sched.specs.Built.{is_unlost, BuiltMayFollow, KeepsWaits, UnlostMayFollow}
 use Rattle.cert_sched.specs.Losses.{least_steps, capped, is_from, is_page_is_entry}
 use Rattle.cert_sched.specs.Appended.{entry_of}
@@ -35,8 +35,8 @@ use Rattle.cluster_core.specs.View.{ClusterView, Held, Runs, Rolls, Waits, can_a
 use Rattle.cluster_core.specs.Residents.{pids_in, with_changed}
 use Rattle.cluster_core.specs.Parts.{IsOwn}
 use Rattle.cluster_core.proofs.Served.{accounts_queued}
-use Rattle.cluster_core.specs.Queue.{IsQueueLegal, One, is_lone, move_of, taken_by, state_by, state_now}
-use Rattle.cluster_core.specs.Holds.{HoldsPages, IsHeldAs, is_fetch_queued, process_in}
+use Rattle.cluster_core.specs.Queue.{IsQueueLegal, One, is_lone, move_of, taken_by, state_by, state_now, with_queue}
+use Rattle.cluster_core.specs.Holds.{CarriesMarks, HoldsPages, IsHeldAs, MarkedIfThere, is_fetch_queued, process_in, unended_process}
 use Rattle.cluster_core.specs.Follows.{FollowsBuilt, IsOpen}
 use Rattle.cluster_core.specs.Calls.{GoesOn, OwesNothing, WorkIs, is_at_rest, are_at_rest}
 use Rattle.cluster_core.specs.declared.quantum.Sending.{Sending}
@@ -46,6 +46,9 @@ use Rattle.cluster_core.proofs.Telling.{done_is}
 use Rattle.cluster_core.proofs.Quanta.{moves_can, sends_can}
 use Rattle.cluster_core.proofs.Catching.{rolled_held}
 use Rattle.cluster_core.proofs.Waiting.{queued_alike}
+use Rattle.cluster_core.proofs.Marking.{marked_queued, queue_tells}
+use Rattle.cluster_core.proofs.RunMarks.{marked_ran, marked_rolled, marked_runs, marked_sends}
+use Rattle.record_laws.proofs.Standing.{built_stands}
 use Rattle.cluster_core.proofs.Homes.{HomeHere, differ_built, home_here, home_lives}
 use Rattle.cluster_core.proofs.Following.{no_child}
 
@@ -230,6 +233,31 @@ pages_beside c log p now pages mine q h at = by_pid (same_pid q p) refl
     by_pid true own some = ap (has_its_pages c.system log) (pid_same q p (eqb-true q.0 p.0 own)) ∙ mine (ap (λ x. is_some (process_in x)) (sym (w.is.0 own)) ∙ some)
     by_pid false other some = pages q w.was w.there (ap (λ x. is_some (process_in x)) (sym (w.is.1 other)) ∙ some)
 
+-- the others are marked as before
+pub marks_beside : (c : ClusterView) (log : List Entry) (p : Pid) (now : Held) (queue : List Post) → FollowsBuilt c.system log c → MarkedIfThere CarriesMarks c.system (with_queue c.system log queue) p (unended_process now)
+    → ((q : Pid) (h : Held) → same_pid q p ≡ false → held_at c q ≡ Some h → MarkedIfThere CarriesMarks c.system (with_queue c.system log c.queue) q (unended_process h) → MarkedIfThere CarriesMarks c.system (with_queue c.system log queue) q (unended_process h))
+    → (q : Pid) (h : Held) → held_of (with_changed p now c.here) q ≡ Some h → MarkedIfThere CarriesMarks c.system (with_queue c.system log queue) q (unended_process h)
+marks_beside c log p now queue f mine others q h at = by_pid (same_pid q p) refl
+  where
+    w : FoundChanged p now c.here q h
+    w = found_changed p now c.here q h at
+
+    by_pid : (b : Bool) → same_pid q p ≡ b → MarkedIfThere CarriesMarks c.system (with_queue c.system log queue) q (unended_process h)
+    by_pid true own =
+        let At : Pid → Type 0 = λ r. MarkedIfThere CarriesMarks c.system (with_queue c.system log queue) r (unended_process now) in
+        subst (λ (x : Held). MarkedIfThere CarriesMarks c.system (with_queue c.system log queue) q (unended_process x)) (sym (w.is.0 own)) (subst At (sym (pid_same q p (eqb-true q.0 p.0 own))) mine)
+    by_pid false other =
+        subst (λ (x : Held). MarkedIfThere CarriesMarks c.system (with_queue c.system log queue) q (unended_process x)) (sym (w.is.1 other)) (others q w.was other w.there (f.marks q w.was w.there))
+
+-- with a post that is queued where nothing was a process has the marks that it had
+pub marks_queued : (c : ClusterView) (log : List Entry) (post : Post) → is_system c.system ≡ true → c.queue ≡ [] → IsOpen BuiltMayFollow c.system log → FollowsBuilt c.system log c → is_lone post.what ≡ true → is_from c.number post.by ≡ true
+    → UnlostMayFollow c.system log (entry_of c.system log post) → (q : Pid) (h : Held) → held_at c q ≡ Some h → IsHeldAs c.system log (post ∷ []) q h → MarkedIfThere CarriesMarks c.system (with_queue c.system log c.queue) q (unended_process h)
+    → MarkedIfThere CarriesMarks c.system (with_queue c.system log (post ∷ [])) q (unended_process h)
+marks_queued c log post valid empty go f lone own may q h there held m =
+    let home = home_here (placement c.system log) c.number (pids_in c.here) q (differ_built c.system log valid go.0) (f.processes).each_once (is_among c.here q h there) in
+    marked_queued c.system log q valid (built_stands c.system log go.0) (ap is_some home.found) (One post) h lone (queue_tells c.system log c.number (One post) (ap (λ b. b && true) own) (may, tt)) held
+    (subst (λ ps. MarkedIfThere CarriesMarks c.system (with_queue c.system log ps) q (unended_process h)) empty m)
+
 -- a process of a cluster that follows a log, with its cluster
 module _ (c : ClusterView) (p : Pid) (was : Held) (empty : c.queue ≡ []) (there : held_at c p ≡ Some was) (valid : is_system c.system ≡ true) (log : List Entry) (now : IsOpen BuiltMayFollow c.system log) (f : FollowsBuilt c.system log c) where
   pub home_of_it : HomeHere (placement c.system log) p c.number
@@ -251,6 +279,21 @@ module _ (c : ClusterView) (p : Pid) (was : Held) (empty : c.queue ≡ []) (ther
       by_parts (Runs q) (Waits waiting) held runs = absurd runs
       by_parts (Rolls q left unborn) new held runs = subst (λ (x : Held). IsHeldAs c.system log [] p x) (sym runs.1) held
       by_parts (Waits waiting) new held runs = absurd runs
+
+  -- its marks, where nothing is queued
+  marked_now : MarkedIfThere CarriesMarks c.system log p (unended_process was)
+  marked_now = subst (λ ps. MarkedIfThere CarriesMarks c.system (with_queue c.system log ps) p (unended_process was)) empty (f.marks p was there)
+
+  legal_now : IsLegalBy Stands c.system log
+  legal_now = built_stands c.system log now.0
+
+  pub marked_between : (n : ℕ) (between : Held) → RollsTo n was between → MarkedIfThere CarriesMarks c.system log p (unended_process between)
+  marked_between n between rolls =
+      marked_rolled c.system log p valid legal_now (ap is_some home_of_it.found) n was between (subst (λ ps. IsHeldAs c.system log ps p was) empty ((f.processes).held p was there)) rolls marked_now
+
+  pub moved_marked : (new : Held) → Moves 64 was new → MarkedIfThere CarriesMarks c.system log p (unended_process new)
+  moved_marked new m =
+      marked_runs c.system log p valid legal_now (ap is_some home_of_it.found) m.silent m.between new (held_between m.rolled m.between m.rolls) m.runs (marked_between m.rolled m.between m.rolls)
 
 pub moved_goes_on : (c : ClusterView) (p : Pid) (was new : Held) → is_system c.system ≡ true → c.queue ≡ [] → held_at c p ≡ Some was → Moves 64 was new → GoesOn c (moved_view c (with_changed p new c.here))
 moved_goes_on c p was new valid empty there moves log go f = record {
@@ -380,6 +423,15 @@ module _ (c : ClusterView) (p : Pid) (was : Held) (sending : Sending) (new : Hel
       pages = waits_of_post c.system log p at c.number e tells (f.pages p was there (can_in was (sends_can 64 was sending new s)));
     }
 
+    -- it is marked as the log says, and also with the post in it
+    sent_alone : MarkedIfThere CarriesMarks c.system log p (unended_process (Runs s.now))
+    sent_alone =
+        let home = home_of_it c p was empty there valid log go f in
+        let legal = built_stands c.system log go.0 in
+        marked_sends c.system log p valid legal (ap is_some home.found) s.before s.now e s.sends s.touches
+        (marked_ran c.system log p valid legal (ap is_some home.found) s.silent s.between s.before (held_between c p was empty there valid log go f s.rolled (Runs s.between) s.rolls) s.runs
+        (marked_between c p was empty there valid log go f s.rolled (Runs s.between) s.rolls))
+
     -- the others are held as before, since the post moves none of them
     others : (q : Pid) (h : Held) → same_pid q p ≡ false → IsHeldAs c.system log c.queue q h → IsHeldAs c.system log (post ∷ []) q h
     others q (Runs r) other as_before =
@@ -391,22 +443,39 @@ module _ (c : ClusterView) (p : Pid) (was : Held) (sending : Sending) (new : Hel
       queued_alike c.system log q (is_fetch_queued q c.queue) (is_fetch_queued q (post ∷ [])) waiting (λ i. ap (λ ps. is_fetch_queued q ps i) empty ∙ sym (ap (λ (x : Post). is_fetch_queued q (x ∷ []) i) post_is ∙ fetches_none p q at c.number e i)) as_before.1,
     )
 
+    may_post : UnlostMayFollow c.system log (entry_of c.system log post)
+    may_post = subst (λ (q : Post). UnlostMayFollow c.system log (entry_of c.system log q)) (sym post_is) may_follow
+
+    lone_post : is_lone post.what ≡ true
+    lone_post = ap (λ (q : Post). is_lone q.what) post_is ∙ lone_of p at e
+
+    held_sent : IsHeldAs c.system log (post ∷ []) p (Runs s.now)
+    held_sent =
+        ap (λ (q : Post). state_now c.system log (q ∷ []) p at) post_is ∙ ap (state_by c.system log p at) (moves_of p at c.number e tells)
+        ∙ items_of_post c.system log p at e (state_of s.now) tells emission_is
+
+    sent_marked : MarkedIfThere CarriesMarks c.system (with_queue c.system log (post ∷ [])) p (unended_process (Runs s.now))
+    sent_marked =
+        let home = home_of_it c p was empty there valid log go f in
+        marked_queued c.system log p valid (built_stands c.system log go.0) (ap is_some home.found) (One post) (Runs s.now) lone_post
+        (queue_tells c.system log c.number (One post) (ap (λ b. b && true) posted_own) (may_post, tt)) held_sent sent_alone
+
+    others_marked : (q : Pid) (h : Held) → same_pid q p ≡ false → held_at c q ≡ Some h → MarkedIfThere CarriesMarks c.system (with_queue c.system log c.queue) q (unended_process h)
+        → MarkedIfThere CarriesMarks c.system (with_queue c.system log (post ∷ [])) q (unended_process h)
+    others_marked q h other at_it = marks_queued c log post valid empty go f lone_post posted_own may_post q h at_it (others q h other ((f.processes).held q h at_it))
+
   pub posted_goes_on : is_system c.system ≡ true → (c.number).0 < (c.system).clusters → GoesOn c (posted_view c (with_changed p (Runs s.now) c.here) post)
   posted_goes_on valid has log go f = record {
     log = record { cursor = (f.log).cursor; places = (f.log).places };
     processes = record {
-      held =
-          let mine : IsHeldAs c.system log (post ∷ []) p (Runs s.now) =
-          ap (λ (q : Post). state_now c.system log (q ∷ []) p at) post_is ∙ ap (state_by c.system log p at) (moves_of p at c.number e tells)
-          ∙ items_of_post c.system log p at e (state_of s.now) tells (emission_is valid has log go f) in
-          held_beside c log p (Runs s.now) (post ∷ []) f mine (others valid has log go f);
+      held = held_beside c log p (Runs s.now) (post ∷ []) f (held_sent valid has log go f) (others valid has log go f);
       each_once = ap rising (pids_changed p (Runs s.now) c.here) ∙ (f.processes).each_once;
     };
     queue = record {
       own = ap (λ b. b && true) posted_own;
       legal = legal_post;
     };
-    queued = record { queued = One post; posts = refl; together = ap (λ (q : Post). is_lone q.what) post_is ∙ lone_of p at e };
+    queued = record { queued = One post; posts = refl; together = lone_post valid has log go f };
     steps = record { counted = λ kept. more_counted (least_steps log log c.number + cond c.tried 1 0) c.steps ((f.steps).counted kept) };
     pages = pages_beside c log p (Runs s.now) f.pages (λ some. f.pages p was there (can_in was (sends_can 64 was sending new s)));
     marks = marks_beside c log p (Runs s.now) (post ∷ []) f (sent_marked valid has log go f) (others_marked valid has log go f);
@@ -416,7 +485,7 @@ module _ (c : ClusterView) (p : Pid) (was : Held) (sending : Sending) (new : Hel
   }
     where
       legal_post : IsQueueLegal UnlostMayFollow c.system log (post ∷ [])
-      legal_post = (subst (λ (q : Post). UnlostMayFollow c.system log (entry_of c.system log q)) (sym post_is) (may_follow valid has log go f), tt)
+      legal_post = (may_post valid has log go f, tt)
 
       no_page : is_page_is_entry post.what ≡ false
       no_page = ap (λ (q : Post). is_page_is_entry q.what) post_is ∙ no_page_of p at e
