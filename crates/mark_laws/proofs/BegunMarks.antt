@@ -1,13 +1,11 @@
 -- A process that begins again, right after a page of it came, begins with the marks that the log says.
-use Rattle.std.proofs.Common.{◌≡◌, ℕ, ◌*◌, ◌<◌, refl, sym, ◌∙◌, ap, subst, arith, List, [], ◌∷◌, ◌++◌, length, Bool, true, false, cond, Option, Some, None, is_some, true≢false}
+use Rattle.std.proofs.Common.{◌≡◌, ℕ, ◌<◌, refl, sym, ◌∙◌, ap, subst, arith, List, [], ◌∷◌, ◌++◌, true, false, Option, Some, None, is_some, true≢false}
 use Rattle.std.specs.Option.{option_map_or}
 use Rattle.t32_base.specs.declared.process.Pid.{Pid}
-use Rattle.t32_base.specs.declared.letter.Arrived.{Arrived}
 use Rattle.t32_base.specs.declared.letter.BackRec.{BackRec}
 use Rattle.sys_text.specs.declared.system.System.{System}
 use Rattle.sys_text.specs.Valid.{is_system}
 use Rattle.rv_mem.specs.Memory.{page_at}
-use Rattle.proc_state.specs.declared.process.Process.{Process}
 use Rattle.proc_state.specs.State.{ProcState}
 use Rattle.recovery.specs.Begun.{begun}
 use Rattle.bus_msg.specs.declared.entry.What.TheVariants.{PageIs}
@@ -34,7 +32,7 @@ use Rattle.page_laws.proofs.SizesStay.{process_sized, start_sized}
 use Rattle.page_laws.proofs.StartPages.{IsWaitingRule, kept_pages}
 use Rattle.page_laws.proofs.Waiting.{came_waited, waited_has_not, waited_lacks}
 use Rattle.read_laws.proofs.LogReads.{itself, saved_from}
-use Rattle.sync_laws.specs.Marked.{IsMarked, arrived_below, is_dirty}
+use Rattle.sync_laws.specs.Marked.{IsMarked, arrived_below}
 use Rattle.sync_laws.proofs.PageEntry.{account_next}
 use Rattle.mark_laws.specs.Sent.{SentUpto, is_later_page}
 use Rattle.mark_laws.proofs.AwaitedPages.{lacks_kept, lacks_sent}
