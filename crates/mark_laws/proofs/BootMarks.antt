@@ -22,7 +22,7 @@ use Rattle.sync_laws.proofs.WholePages.{page_found}
 
 -- ---- of the letters of the mailbox none was read
 
-none_read : (next : ℕ) (mail letters : List Arrived) → ((a : Arrived) → is_in letters a ≡ true → is_in mail a ≡ true) → numbers_read (arrived_below next letters) mail ≡ []
+pub none_read : (next : ℕ) (mail letters : List Arrived) → ((a : Arrived) → is_in letters a ≡ true → is_in mail a ≡ true) → numbers_read (arrived_below next letters) mail ≡ []
 none_read next mail [] there = refl
 none_read next mail (a ∷ letters) there =
     by_test (nat_lt a.number next) (there a (ap (λ b. b || is_in letters a) (eq-eqb a.number a.number refl))) (none_read next mail letters (λ b here. there b (ap (λ x. eqb a.number b.number || x) here ∙ or_true (eqb a.number b.number))))
@@ -37,7 +37,7 @@ none_read next mail (a ∷ letters) there =
 
 -- ---- no page is marked
 
-no_mark : (n i : ℕ) → option_map_or (λ (b : Bool). b) (slice_get (replicate n false) i) false ≡ false
+pub no_mark : (n i : ℕ) → option_map_or (λ (b : Bool). b) (slice_get (replicate n false) i) false ≡ false
 no_mark zero i = refl
 no_mark (suc n) zero = refl
 no_mark (suc n) (suc i) = no_mark n i

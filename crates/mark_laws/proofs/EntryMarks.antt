@@ -39,7 +39,7 @@ use Rattle.mark_laws.specs.Beside.{LeavesMarks, is_some_page}
 
 -- ---- an entry that is no page of the process
 
-no_put : (p : Pid) (w : What) (pages : List (ℕ × List ℕ)) → is_some_page p w ≡ false → page_put p w pages ≡ pages
+pub no_put : (p : Pid) (w : What) (pages : List (ℕ × List ℕ)) → is_some_page p w ≡ false → page_put p w pages ≡ pages
 no_put p (Page pid at index bytes) pages none = ap (λ b. cond b (put nat_cmp index bytes pages) pages) none
 no_put p _ pages none = refl
 

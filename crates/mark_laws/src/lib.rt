@@ -1,6 +1,7 @@
 //! The marks of a process, by which it knows what to synchronise, go with the log: laws and no code.
 #![tactic(auto)]
 
+pub mod begun;
 pub mod boot;
 pub mod emitted;
 pub mod entries;

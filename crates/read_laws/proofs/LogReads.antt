@@ -13,7 +13,7 @@ use Rattle.plain_kernel.specs.Kernel.{process_at}
 use Rattle.bus_msg.specs.declared.entry.Entry.{Entry}
 use Rattle.cert_sched.specs.Parts.{upto_last}
 use Rattle.cert_sched.specs.Schedule.{done, process_after}
-use Rattle.cert_sched.specs.Deeds.{starts, arrived_count, saved_letters, since}
+use Rattle.cert_sched.specs.Deeds.{starts, arrived_count, saved_letters, since, start_of}
 use Rattle.cert_sched.specs.Rolling.{refilled}
 use Rattle.cert_sched.specs.Steps.{saved_of, silent_upto}
 use Rattle.cert_sched.specs.Legal.{IsLegalBy, Stands}
@@ -31,14 +31,18 @@ use Rattle.read_laws.proofs.ReplayReads.{HasRead, none_read, reads_from, replay_
 pub itself : IsStandingRule Stands
 itself system log e stands = stands
 
+-- the saved letters are those of its start
+pub saved_from : (system : System) (log : List Entry) (p : Pid) (start : ProcState) → start_of system log p ≡ Some start → saved_of system log p ≡ saved_letters log p start
+saved_from system log p start started = ap (λ (o : Option ProcState). option_map_or (saved_letters log p) o []) started
+
 module _ (system : System) (log : List Entry) (p : Pid) (now : ProcState) (rolls : Rolls system log p now) where
   saved_is : saved_of system log p ≡ saved_letters log p rolls.start
-  saved_is = ap (λ (o : Option ProcState). option_map_or (saved_letters log p) o []) rolls.started
+  saved_is = saved_from system log p rolls.start rolls.started
 
   rolled_numbered : are_numbered (arrived_count log p) (saved_of system log p) ≡ true
   rolled_numbered = (λ i. are_numbered (rolls.arrived i) (saved_is i)) ∙ saved_numbered system log p rolls.start rolls.started
 
-  differ : AllPairs DiffersFrom (saved_of system log p)
+  pub differ : AllPairs DiffersFrom (saved_of system log p)
   differ = order_differ (saved_of system log p) (and_parts (are_in_order (saved_of system log p)) (are_below (arrived_count log p) (saved_of system log p)) rolled_numbered).0
 
   rolled_read : HasRead (saved_of system log p) now.mail
@@ -47,7 +51,7 @@ module _ (system : System) (log : List Entry) (p : Pid) (now : ProcState) (rolls
       replay_read (saved_of system log p) differ rolls.made (refilled log p rolls.start) now (since log p) rolls.replays
       (process_after-ends system (upto_last (starts p) log) p rolls.start rolls.started) started
 
-rolls_there : (system : System) (log : List Entry) (p : Pid) (s : ProcState) → is_system system ≡ true → IsLegalBy Stands system log → process_after system log p ≡ Some s → has_ended (s.small).status ≡ false → Rolls system log p s
+pub rolls_there : (system : System) (log : List Entry) (p : Pid) (s : ProcState) → is_system system ≡ true → IsLegalBy Stands system log → process_after system log p ≡ Some s → has_ended (s.small).status ≡ false → Rolls system log p s
 rolls_there system log p s valid legal there goes_on = (all_roll Stands itself system log valid legal).rolls p s there goes_on
 
 pub all_saved_numbered : (system : System) (log : List Entry) (p : Pid) (s : ProcState) → is_system system ≡ true → IsLegalBy Stands system log → process_after system log p ≡ Some s → has_ended (s.small).status ≡ false

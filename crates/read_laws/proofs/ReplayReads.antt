@@ -40,7 +40,7 @@ reads_from saved mail h =
 
 module _ (saved : List Arrived) (differ : AllPairs DiffersFrom saved) where
   -- a step that takes a letter reads one more
-  took_read : (before after : List Arrived) → Took 32 before after → HasRead saved before → HasRead saved after
+  pub took_read : (before after : List Arrived) → Took 32 before after → HasRead saved before → HasRead saved after
   took_read before after (none same) h = subst (HasRead saved) (sym same) h
   took_read before after (first end letter found within left) h =
       let is : find (is_on end) (unread h.read saved) ≡ Some letter = ap (find (is_on end)) (sym h.left) ∙ found in

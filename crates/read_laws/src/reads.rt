@@ -1,6 +1,7 @@
 //! Which of its saved letters a process has read.
 ghost use Rattle.std.specs.Prelude.{ℕ, ◌≡◌, true, false, List, Some, None};
 ghost use Rattle.t32_base.specs.declared.process.Pid.{Pid};
+ghost use Rattle.t32_base.specs.declared.process.Counts.{Counts};
 ghost use Rattle.t32_base.specs.declared.letter.Arrived.{Arrived};
 ghost use Rattle.t32_base.specs.Small.{SmallState};
 ghost use Rattle.sys_text.specs.declared.system.System.{System};
@@ -11,6 +12,8 @@ ghost use Rattle.backup_queue.specs.Fronts.{AreFronts, AreOnEnds};
 ghost use Rattle.backup_queue.specs.Queue.{unread};
 ghost use Rattle.cert_sched.specs.Parts.{rising};
 ghost use Rattle.cert_sched.specs.Schedule.{process_after};
+ghost use Rattle.cert_sched.specs.Deeds.{arrived_count};
+ghost use Rattle.cert_sched.specs.Rolling.{RollsAs};
 ghost use Rattle.cert_sched.specs.Steps.{numbers_read, saved_of, silent_upto};
 ghost use Rattle.cert_sched.specs.Kinds.{SyncHolds};
 ghost use Rattle.cert_sched.specs.Legal.{IsLegalBy, Stands};
@@ -23,6 +26,16 @@ pub fn reads_are_from_fronts()
     ensures now { (system : System) (log : List Entry) (p : Pid) (s : ProcState) → is_system system ≡ true → IsLegalBy Stands system log → process_after system log p ≡ Some s → has_ended (s.small).status ≡ false → ReadsFrom (saved_of system log p) s.mail }
     // and after silent steps from there.
     ensures silent { (system : System) (log : List Entry) (p : Pid) (n : ℕ) (s : ProcState) → is_system system ≡ true → IsLegalBy Stands system log → silent_upto system log p n ≡ Some s → has_ended (s.small).status ≡ false → ReadsFrom (saved_of system log p) s.mail }
+{}
+
+/// A law and no code: so has one that rolls forward, which has done again a part of what it did since it started.
+pub fn rolling_reads_from_fronts()
+    ensures { (system : System) (log : List Entry) (p : Pid) (s : ProcState) (counts : Counts) (births : List Pid) → is_system system ≡ true → IsLegalBy Stands system log → IsUnended system log p → RollsAs system log p s counts births → ReadsFrom (saved_of system log p) s.mail }
+{}
+
+/// A law and no code: as many letters have arrived in a process that runs as came to it.
+pub fn all_letters_arrived()
+    ensures { (system : System) (log : List Entry) (p : Pid) (n : ℕ) (s : ProcState) → is_system system ≡ true → IsLegalBy Stands system log → silent_upto system log p n ≡ Some s → has_ended (s.small).status ≡ false → s.next ≡ arrived_count log p }
 {}
 
 /// A law and no code: the numbers of the letters that were read may be told in any order.

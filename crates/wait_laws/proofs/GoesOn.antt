@@ -51,7 +51,14 @@ module _ (system : System) (log : List Entry) (p : Pid) (queued : ℕ → Bool) 
   can_go_on_so = can_from w (there.led).start all_pages begins
 
   pub goes_on_so : GoesOnAs system log p w
-  goes_on_so = record { rolling = begun (there.led).start w.kept; is = rolls_from w (there.led).start all_pages begins; behind = rolls }
+  goes_on_so = record {
+    rolling = begun (there.led).start w.kept;
+    is = rolls_from w (there.led).start all_pages begins;
+    behind = rolls;
+    start = (there.led).start;
+    started = (there.led).started;
+    begins = refl;
+  }
 
 -- in a log of the entries that are built so far
 pub can_go_on : (system : System) (log : List Entry) (p : Pid) (queued : ℕ → Bool) (w : WaitingState) → is_system system ≡ true → IsLegalBy BuiltMayFollow system log → IsUnended system log p → WaitsAs system log p queued w → is_whole w ≡ true → CanGoOn w

@@ -3,9 +3,11 @@ use Rattle.std.specs.Prelude.{ℕ, ◌≡◌, ◌≤◌, ◌<◌, Bool, true, fa
 use Rattle.t32_base.specs.declared.process.Pid.{Pid}
 use Rattle.t32_base.specs.declared.letter.BackRec.{BackRec}
 use Rattle.sys_text.specs.declared.system.System.{System}
-use Rattle.proc_state.specs.State.{state_of}
+use Rattle.proc_state.specs.State.{ProcState, state_of}
+use Rattle.recovery.specs.Begun.{begun}
 use Rattle.bus_msg.specs.declared.entry.Entry.{Entry}
 use Rattle.roll_forward.specs.Rolling.{RollingState}
+use Rattle.cert_sched.specs.Deeds.{start_of}
 use Rattle.cert_sched.specs.Account.{account_after, page_in}
 use Rattle.cert_sched.specs.Moved.{moved_with_state, any_since_moved, is_fetch, is_page_is}
 use Rattle.cert_sched.specs.Record.{backup_record}
@@ -36,8 +38,11 @@ none_queued i = false
 abbrev pub first_wait : BackRec → WaitingState
 first_wait r = record { kept = r; asked = 0; come = replicate (pages_of r) None }
 
--- it goes on from there, as the log says
+-- It begins again from its start and its record, and goes on from there as the log says.
 pub record GoesOnAs (system : System) (log : List Entry) (p : Pid) (w : WaitingState) : Type 0 where
   pub rolling : RollingState
   pub is : rolling_of w ≡ Some rolling
   pub behind : RollsBehind system log p (state_of rolling.process) rolling.counts rolling.births
+  pub start : ProcState
+  pub started : start_of system log p ≡ Some start
+  pub begins : rolling ≡ begun start w.kept

@@ -1,0 +1,27 @@
+-- A process whose last page has come begins marked.
+use Rattle.std.proofs.Common.{◌≡◌, ℕ, sym, subst, Bool, true, List, [], ◌∷◌, ◌++◌}
+use Rattle.t32_base.specs.declared.process.Pid.{Pid}
+use Rattle.sys_text.specs.declared.system.System.{System}
+use Rattle.sys_text.specs.Valid.{is_system}
+use Rattle.roll_forward.specs.Rolling.{RollingState}
+use Rattle.bus_msg.specs.declared.entry.What.TheVariants.{PageIs}
+use Rattle.bus_msg.specs.declared.entry.Entry.{Entry}
+use Rattle.bus_msg.specs.PlacedAfter.{what}
+use Rattle.cert_sched.specs.Built.{BuiltMayFollow}
+use Rattle.cert_sched.specs.Legal.{IsLegalBy}
+use Rattle.cert_sched.specs.Simulation.{IsUnended}
+use Rattle.page_laws.proofs.StartPages.{built_waits}
+use Rattle.sync_laws.specs.Marked.{IsMarked}
+use Rattle.mark_laws.specs.Sent.{SentUpto}
+use Rattle.mark_laws.proofs.BegunMarks.{begun_marked, begun_sent}
+use Rattle.page_waits.specs.Waiting.{WaitingState}
+use Rattle.wait_laws.specs.Waits.{GoesOnAs, WaitsAs}
+
+pub goes_on_marked : (system : System) (log : List Entry) (e : Entry) (p : Pid) (i : ℕ) (bytes : List ℕ) (queued : ℕ → Bool) (w : WaitingState) → is_system system ≡ true → IsLegalBy BuiltMayFollow system (log ++ e ∷ [])
+    → IsUnended system (log ++ e ∷ []) p → what e ≡ PageIs p i bytes → WaitsAs system (log ++ e ∷ []) p queued w → (goes : GoesOnAs system (log ++ e ∷ []) p w) → IsMarked system (log ++ e ∷ []) p (goes.rolling).process
+goes_on_marked system log e p i bytes queued w valid legal unended is waits goes =
+    subst (λ (r : RollingState). IsMarked system (log ++ e ∷ []) p r.process) (sym goes.begins)
+    (begun_marked BuiltMayFollow built_waits system log e p i bytes goes.start w.kept valid legal unended is goes.started waits.kept)
+
+pub goes_on_unsent : (system : System) (log : List Entry) (e : Entry) (p : Pid) (i : ℕ) (bytes : List ℕ) (n : ℕ) → IsLegalBy BuiltMayFollow system (log ++ e ∷ []) → what e ≡ PageIs p i bytes → SentUpto system (log ++ e ∷ []) p n
+goes_on_unsent = begun_sent BuiltMayFollow built_waits
