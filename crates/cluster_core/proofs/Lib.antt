@@ -49,4 +49,4 @@ pub mod ByKind
 pub mod Posted
 pub mod Marking
 pub mod RunMarks
-pub mod Stubs
+pub mod MarksBegin

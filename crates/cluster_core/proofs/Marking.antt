@@ -52,7 +52,8 @@ use Rattle.cluster_core.proofs.Here.{arrival_at}
 use Rattle.cluster_core.proofs.Posted.{moves_it, no_end}
 use Rattle.cluster_core.proofs.Telling.{Telling, telling}
 use Rattle.cluster_core.proofs.Unmoved.{page_moves_none}
-use Rattle.cluster_core.proofs.Stubs.{rolling_next, silent_next}
+use Rattle.read_laws.proofs.RollingReads.{silent_next}
+use Rattle.recovery_laws.proofs.Others.{rolls_next as rolling_next}
 
 -- ---- what leaves the marks of a process
 
@@ -162,7 +163,7 @@ unended_is h s = by_process (process_in h) refl
     by_process (Some t) there is = by_status t (has_ended (t.small).status) there refl is
 
 -- a post that is queued and tells of steps tells what the log says
-pub TellsAs : System → List Entry → Queued → Type 0
+abbrev pub TellsAs : System → List Entry → Queued → Type 0
 TellsAs system log Nothing = ⊤
 TellsAs system log (One post) = tells_or_closes post.what ≡ true → Telling system log (entry_of system log post)
 
@@ -222,7 +223,7 @@ module _ (system : System) (log : List Entry) (p : Pid) (valid : is_system syste
           ∙ by_move t (move_of p (posts_of q)) refl (ap (λ (s : Process). has_ended (s.small).status) same ∙ u.runs) held
       by_held (Rolls t counts births) held u =
           let same : t ≡ s = let is = u.process in cc in
-          ap (λ (s : Process). (s.mail).next) (sym same) ∙ rolling_next system log p (state_of t) counts births valid legal unended (held.1).rolls
+          ap (λ (s : Process). (s.mail).next) (sym same) ∙ rolling_next system log p (state_of t) counts births (held.1).rolls
       by_held (Waits waiting) held u = let is = u.process in cc
 
   -- ---- the post that is queued
@@ -274,7 +275,7 @@ module _ (system : System) (log : List Entry) (p : Pid) (valid : is_system syste
   -- with what is queued it has the marks that it has without, and the other way
   pub marked_queued : (q : Queued) (h : Held) → AreTogether q → TellsAs system log q → IsHeldAs system log (posts_of q) p h → MarkedIfThere CarriesMarks system log p (unended_process h)
       → MarkedIfThere CarriesMarks system (with_queue system log (posts_of q)) p (unended_process h)
-  marked_queued Nothing h together tells held m = m
+  marked_queued Nothing h together tells held = λ m. m
   marked_queued (One post) h together tells held = subst (λ l. MarkedIfThere CarriesMarks system log p (unended_process h) → MarkedIfThere CarriesMarks system l p (unended_process h)) (sym (with_one system log post together)) (by_process (unended_process h) refl)
     where
       by_process : (o : Option Process) → unended_process h ≡ o → MarkedIfThere CarriesMarks system log p o → MarkedIfThere CarriesMarks system (log ++ entry_of system log post ∷ []) p o
@@ -283,7 +284,7 @@ module _ (system : System) (log : List Entry) (p : Pid) (valid : is_system syste
 
   pub marked_unqueued : (q : Queued) (h : Held) → AreTogether q → TellsAs system log q → IsHeldAs system log (posts_of q) p h → MarkedIfThere CarriesMarks system (with_queue system log (posts_of q)) p (unended_process h)
       → MarkedIfThere CarriesMarks system log p (unended_process h)
-  marked_unqueued Nothing h together tells held m = m
+  marked_unqueued Nothing h together tells held = λ m. m
   marked_unqueued (One post) h together tells held =
       subst (λ l. MarkedIfThere CarriesMarks system l p (unended_process h) → MarkedIfThere CarriesMarks system log p (unended_process h)) (sym (with_one system log post together)) (by_process (unended_process h) refl)
     where

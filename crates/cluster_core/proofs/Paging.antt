@@ -375,7 +375,8 @@ module _ (system : System) (valid : is_system system ≡ true) (log : List Entry
           let home = home_of c.number c.here p before.was once before.there in
           let unended = ap is_some home.found in
           let was : IsHeldAs system log (posts_of q) p before.was = subst (λ ps. IsHeldAs system log ps p before.was) queue_is ((f.processes).held p before.was before.there) in
-          let comes = λ m. subst (λ x. MarkedIfThere CarriesMarks system later p (unended_process x)) (sym before.same) (paged_marked (posts_of q) p before.was unended was m) in
+          let comes : MarkedIfThere CarriesMarks system later p (unended_process before.was) → MarkedIfThere CarriesMarks system later p (unended_process h) =
+          λ m. subst (λ x. MarkedIfThere CarriesMarks system later p (unended_process x)) (sym before.same) (paged_marked (posts_of q) p before.was unended was m) in
           subst (λ ps. MarkedIfThere CarriesMarks system (with_queue system later ps) p (unended_process h)) (sym queue_is)
           (marked_after system log e p q before.was h valid (built_stands system later next.0) unended (unended_later p unended) (f.queued).together
           (queue_tells system log c.number q posts_own posts_legal) (queue_tells system later c.number q posts_own (queue_stays c.number q (f.queued).together foreign posts_own posts_legal))

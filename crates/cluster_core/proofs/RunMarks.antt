@@ -27,17 +27,18 @@ use Rattle.mark_laws.proofs.SendingMarks.{sending_marked, sending_sent}
 use Rattle.cluster_core.specs.Holds.{CarriesMarks, IsHeldAs, MarkedIfThere, unended_process}
 use Rattle.cluster_core.specs.Quantum.{RollsTo, RunsOn, RunsTo}
 use Rattle.cluster_core.specs.View.{Held, Runs, Rolls, Waits}
-use Rattle.cluster_core.proofs.Stubs.{rolling_next, rolling_reads, silent_next}
+use Rattle.read_laws.proofs.RollingReads.{rolling_reads, silent_next}
+use Rattle.recovery_laws.proofs.Others.{rolls_next}
 
 -- one that has ended makes no step
 stays_ended : (n : ℕ) (g h : Going) → rolled_on n g ≡ Some h → has_ended ((g.state).small).status ≡ true → has_ended ((h.state).small).status ≡ true
 unfolding rolled_on
 stays_ended zero g h rolled ended = let same : g ≡ h = cc in ap (λ (k : Going). has_ended ((k.state).small).status) (sym same) ∙ ended
-stays_ended (suc n) g h rolled ended = by_case (rolled_on n g) refl rolled
+stays_ended (suc n) g h rolled ended = by_case (rolled_on n g) refl rolled (λ k is. stays_ended n g k is ended)
   where
-    by_case : (o : Option Going) → rolled_on n g ≡ o → option_and_then (λ k. gone_on k (next_step k.state)) o ≡ Some h → has_ended ((h.state).small).status ≡ true
-    by_case None is last = cc
-    by_case (Some k) is last = let none : None ≡ Some h = sym (ap (gone_on k) (ended_is_over k.state (stays_ended n g k is ended))) ∙ last in cc
+    by_case : (o : Option Going) → rolled_on n g ≡ o → option_and_then (λ k. gone_on k (next_step k.state)) o ≡ Some h → ((k : Going) → rolled_on n g ≡ Some k → has_ended ((k.state).small).status ≡ true) → has_ended ((h.state).small).status ≡ true
+    by_case None is last before = cc
+    by_case (Some k) is last before = let none : None ≡ Some h = sym (ap (gone_on k) (ended_is_over k.state (before k is))) ∙ last in cc
 
 -- a process, if it has not ended
 abbrev unended_one : Process → Option Process
@@ -79,12 +80,12 @@ module _ (system : System) (log : List Entry) (p : Pid) (valid : is_system syste
   marked_rolled n (Runs s) (Waits waiting) held rolls m = absurd rolls
   marked_rolled n (Rolls s counts births) (Rolls q left unborn) held rolls m =
       let on = rolls.2 in
-      let as = (held.1).rolls in
-      marked_over n s q counts left births unborn on.rolled on.since (λ runs. (rolling_reads system log p (state_of s) counts births valid legal unended as, rolling_next system log p (state_of s) counts births valid legal unended as)) m
+      let same = (held.1).rolls in
+      marked_over n s q counts left births unborn on.rolled on.since (λ runs. (rolling_reads system log p (state_of s) counts births valid legal unended same, rolls_next system log p (state_of s) counts births same)) m
   marked_rolled n (Rolls s counts births) (Runs q) held rolls m =
       let on = rolls.2 in
-      let as = (held.1).rolls in
-      marked_over n s q counts rolls.0 births rolls.1 on.rolled on.since (λ runs. (rolling_reads system log p (state_of s) counts births valid legal unended as, rolling_next system log p (state_of s) counts births valid legal unended as)) m
+      let same = (held.1).rolls in
+      marked_over n s q counts rolls.0 births rolls.1 on.rolled on.since (λ runs. (rolling_reads system log p (state_of s) counts births valid legal unended same, rolls_next system log p (state_of s) counts births same)) m
   marked_rolled n (Rolls s counts births) (Waits waiting) held rolls m = absurd rolls
   marked_rolled n (Waits waiting) between held rolls m = absurd rolls
 

@@ -7,7 +7,6 @@ use Rattle.t32_base.specs.Small.{SmallState}
 use Rattle.t32_base.specs.declared.process.Counts.{Counts}
 use Rattle.t32_base.specs.declared.letter.Letter.{Letter}
 use Rattle.t32_base.specs.declared.streams.NoMemory.{NoMemory}
-use Rattle.rv_mem.specs.Clean.{KeepsClean}
 use Rattle.proc_state.specs.declared.process.Process.{Process}
 use Rattle.proc_state.specs.State.{ProcState, state_of, delivered, SameRest}
 use Rattle.sys_calls.specs.declared.steps.Emission.TheVariants.{Mail as Sent, Exit as Ended}
@@ -102,7 +101,6 @@ pub record Rolled (made : ℕ) (old new : RollingState) : Type 0 where
   pub few : made ≤ 64
   pub forks : 0 < min 64 old.ahead → made ≡ 0 → next_step (state_of old.process) ≡ Forks
   pub rolled : rolled_on made (going_of old) ≡ Some (going_of new)
-  pub clean : KeepsClean (old.process).ram (new.process).ram
   pub ahead : new.ahead + made ≡ old.ahead
   pub since : (new.process).since ≡ (old.process).since
 
@@ -117,7 +115,7 @@ module _ (made : ℕ) (old new : RollingState) (stands : StandsSo (Some (IsRolli
   rolls_on : RollsOn made new.ahead old.process old.counts old.births new.process new.counts new.births
   rolls_on =
       let count : old.ahead ≡ made + new.ahead = omega (arith, r.ahead) in
-      record { runs_out = subst (λ n. RunsOut (state_of old.process) old.counts old.births n) count stands.1; rolled = r.rolled; clean = r.clean; since = r.since }
+      record { runs_out = subst (λ n. RunsOut (state_of old.process) old.counts old.births n) count stands.1; rolled = r.rolled; since = r.since }
 
   -- nothing is left to withhold, and it runs
   pub caught_up : new.ahead ≡ 0 → HasRolled made (held_standing (Some (IsRolling old))) (held_standing (Some (IsRunning new.process)))

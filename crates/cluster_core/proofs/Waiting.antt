@@ -47,7 +47,7 @@ use Rattle.cert_sched.specs.Rules.{has_its_pages}
 use Rattle.roll_forward.specs.RunsOut.{nothing_left}
 use Rattle.std.specs.Option.{option_map_or}
 use Rattle.proc_state.specs.State.{state_of, has_ended}
-use Rattle.cluster_core.proofs.Stubs.{begun_marked}
+use Rattle.cluster_core.proofs.MarksBegin.{goes_on_carries}
 
 -- ---- what is queued of it
 
@@ -181,21 +181,21 @@ come_marked system log e queue p i bytes waiting valid legal unended after is wa
     still : WaitsAs system later p (is_fetch_queued p queue) now
     still = page_entry system log e p (is_fetch_queued p queue) waiting valid legal i bytes is waits unended
 
-    by_status : (r : RollingState) → rolling_of now ≡ Some r → is_whole now ≡ true → (b : Bool) → MarkedIfThere CarriesMarks system later p (cond b None (Some r.process))
-    by_status r goes whole true = tt
-    by_status r goes whole false = begun_marked system later p (is_fetch_queued p queue) now r valid legal after still whole goes
+    by_status : (r : RollingState) → CarriesMarks system later p r.process → (b : Bool) → MarkedIfThere CarriesMarks system later p (cond b None (Some r.process))
+    by_status r carries true = tt
+    by_status r carries false = carries
 
     by_left : (r : RollingState) (b : Bool) → MarkedIfThere CarriesMarks system later p (cond (has_ended ((r.process).small).status) None (Some r.process))
         → MarkedIfThere CarriesMarks system later p (unended_process (cond b (Runs r.process) (Rolls r.process r.counts r.births)))
     by_left r true m = m
     by_left r false m = m
 
-    by_rolling : (o : Option RollingState) → rolling_of now ≡ o → is_whole now ≡ true → MarkedIfThere CarriesMarks system later p (unended_process (option_map_or rolling_held o (Waits now)))
-    by_rolling None goes whole = tt
-    by_rolling (Some r) goes whole = by_left r (nothing_left r.counts r.births) (by_status r goes whole (has_ended ((r.process).small).status))
-
     by_whole : (b : Bool) → is_whole now ≡ b → MarkedIfThere CarriesMarks system later p (unended_process (cond b (option_map_or rolling_held (rolling_of now) (Waits now)) (Waits now)))
-    by_whole true whole = by_rolling (rolling_of now) refl whole
+    by_whole true whole =
+        let goes = goes_on system later p (is_fetch_queued p queue) now valid legal after still whole in
+        let carries = goes_on_carries system log e p i bytes (is_fetch_queued p queue) now valid legal after is still goes in
+        subst (λ o. MarkedIfThere CarriesMarks system later p (unended_process (option_map_or rolling_held o (Waits now)))) (sym goes.is)
+        (by_left goes.rolling (nothing_left (goes.rolling).counts (goes.rolling).births) (by_status goes.rolling carries (has_ended (((goes.rolling).process).small).status)))
     by_whole false lacks = tt
 
 -- such a page is one of its pages, and where it is the last that lacked the process can go on

@@ -4,7 +4,6 @@ use Rattle.t32_base.specs.declared.streams.NoMemory.{NoMemory}
 use Rattle.t32_base.specs.declared.process.Pid.{Pid}
 use Rattle.t32_base.specs.declared.process.ClusterNo.{ClusterNo}
 use Rattle.t32_base.specs.declared.process.Counts.{Counts}
-use Rattle.rv_mem.specs.Clean.{KeepsClean}
 use Rattle.proc_state.specs.declared.process.Process.{Process}
 use Rattle.proc_state.specs.State.{state_of}
 use Rattle.sys_calls.specs.declared.steps.Emission.{Emission}
@@ -28,7 +27,6 @@ use Rattle.cluster_core.specs.View.{Held, Runs, Rolls, Waits, can_act}
 pub record RollsOn (n ahead : ℕ) (p : Process) (counts : Counts) (births : List Pid) (q : Process) (left : Counts) (unborn : List Pid) : Type 0 where
   pub runs_out : RunsOut (state_of p) counts births (n + ahead)
   pub rolled : rolled_on n (going p counts births) ≡ Some (going q left unborn)
-  pub clean : KeepsClean p.ram q.ram
   pub since : q.since ≡ p.since
 
 -- One that runs withholds nothing. One that rolls forward makes n steps, after which it still rolls forward where something is left to withhold, and runs where nothing is.
@@ -43,11 +41,10 @@ RollsTo n (Waits waiting) new = ⊥
 
 -- ---- the quantum
 
--- n silent steps of a process, with the marks of its pages and what it has read, whatever is left to withhold; its pages that have no mark after them stay
+-- n silent steps of a process, with the marks of its pages and what it has read, whatever is left to withhold
 pub record RunsOn (n : ℕ) (p q : Process) : Type 0 where
   pub silent : silently n (state_of p) ≡ Some (state_of q)
   pub ran : (counts : Counts) (births : List Pid) → rolled_on n (going p counts births) ≡ Some (going q counts births)
-  pub clean : KeepsClean p.ram q.ram
   pub since : q.since ≡ p.since
 
 -- m silent steps of one that runs; one that still rolls forward makes none

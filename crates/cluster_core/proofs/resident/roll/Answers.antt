@@ -11,7 +11,7 @@ returns-else-caught_up-clause-stands c =
     let old : RollingState = c.in-Some-Rolls.rolling in
     let run = c.in_ok-made-in-Some-Rolls.ensures in
     let whole : c.args.standing.now ≡ Some (IsRolling old) = c.in-Some-Rolls.is ∙ ap Some c.in-Some-Rolls.field-0-is in
-    let rolled : Rolled c.in_ok-made-in-Some-Rolls.made old c.run.new.self = record { few = run.most; forks = run.some; rolled = run.rolled; clean = run.clean; ahead = run.ahead; since = run.since } in
+    let rolled : Rolled c.in_ok-made-in-Some-Rolls.made old c.run.new.self = record { few = run.most; forks = run.some; rolled = run.rolled; ahead = run.ahead; since = run.since } in
     stands_still c.in_ok-made-in-Some-Rolls.made old c.run.new.self (subst StandsSo whole c.requires) rolled (left_if c.run.new.self.ahead c.if-caught_up.ensures.1)
 
 pub returns-else-caught_up-clause-ok : goal.returns-else-caught_up-clause-ok
@@ -19,6 +19,6 @@ returns-else-caught_up-clause-ok c =
     let old : RollingState = c.in-Some-Rolls.rolling in
     let run = c.in_ok-made-in-Some-Rolls.ensures in
     let whole : c.args.standing.now ≡ Some (IsRolling old) = c.in-Some-Rolls.is ∙ ap Some c.in-Some-Rolls.field-0-is in
-    let rolled : Rolled c.in_ok-made-in-Some-Rolls.made old c.run.new.self = record { few = run.most; forks = run.some; rolled = run.rolled; clean = run.clean; ahead = run.ahead; since = run.since } in
+    let rolled : Rolled c.in_ok-made-in-Some-Rolls.made old c.run.new.self = record { few = run.most; forks = run.some; rolled = run.rolled; ahead = run.ahead; since = run.since } in
     subst (λ (o : Option Standing). HasRolled c.in_ok-made-in-Some-Rolls.made (held_standing o) (held_standing (Some (IsRolling c.run.new.self)))) (sym whole)
     (still_rolls c.in_ok-made-in-Some-Rolls.made old c.run.new.self (subst StandsSo whole c.requires) rolled (left_if c.run.new.self.ahead c.if-caught_up.ensures.1))
