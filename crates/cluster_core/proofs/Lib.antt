@@ -23,6 +23,7 @@ mod Losing
 mod OwningWaits
 mod Unmoved
 mod Waiting
+pub mod MarksBegin
 mod Paging
 pub mod Served
 pub mod Counted
