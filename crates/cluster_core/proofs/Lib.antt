@@ -24,6 +24,7 @@ mod Losing
 mod OwningWaits
 mod Unmoved
 mod Waiting
+pub mod MarksBegin
 mod Paging
 pub mod Served
 pub mod Counted
@@ -49,4 +50,3 @@ pub mod ByKind
 pub mod Posted
 pub mod Marking
 pub mod RunMarks
-pub mod MarksBegin
