@@ -10,6 +10,7 @@ pub mod Coming
 mod BeginWaits
 pub mod Homes
 mod NotMoved
+mod SyncedHomes
 mod HasPages
 mod PagePosts
 mod MovedRecords
@@ -24,6 +25,7 @@ mod OwningWaits
 mod Unmoved
 mod Waiting
 mod Paging
+mod Synchronising
 pub mod Served
 pub mod Counted
 pub mod Passing
