@@ -91,8 +91,8 @@ lives_after : (places : Places) (off : Option ℕ) (k : ClusterNo) (e : Entry) (
 lives_after places off k e (Mail at letter) is built before = before
 lives_after places off k e (Birth parent at child end) is built before = absurd (true≢false (sym built))
 lives_after places off k e (Exit pid at end) is built before = before
-lives_after places off k e (Page pid at index bytes) is built before = absurd (true≢false (sym built))
-lives_after places off k e (Sync pid small read took) is built before = absurd (true≢false (sym built))
+lives_after places off k e (Page pid at index bytes) is built before = before
+lives_after places off k e (Sync pid small read took) is built before = before
 lives_after places off k e (Fetch pid index) is built before = before
 lives_after places off k e (PageIs pid index bytes) is built before = before
 lives_after places off k e (Crash j cause) is built before = crash_lives places j k cause ∙ by_test (same_cluster j k) refl

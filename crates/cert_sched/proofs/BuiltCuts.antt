@@ -1,4 +1,4 @@
--- Which entries cut a process: none of the kinds that are built so far, and of the others one that its home sends while it has not ended.
+-- Which entries cut a process: one that its home sends while it has not ended.
 use Rattle.std.proofs.Common.{◌≡◌, refl, sym, ◌∙◌, ap, List, [], ◌∷◌, true, false, Option, Some, None, is_some, true≢false}
 use Rattle.std.specs.Prelude.{option_map}
 use Rattle.std.proofs.lemmas.Bool.{and_parts}
@@ -13,23 +13,7 @@ use Rattle.bus_msg.specs.Places.{Places, unended_at}
 use Rattle.cert_sched.specs.Deeds.{is_cut, is_birth_of, is_first}
 use Rattle.cert_sched.specs.Steps.{process_of}
 use Rattle.cert_sched.specs.Rules.{is_by, is_living, is_by_home, is_by_right}
-use Rattle.cert_sched.specs.Built.{is_built}
 use Rattle.cert_sched.proofs.CameLaws.{is_birth, same_of}
-
--- While no kind that is built is a cut: an entry of such a kind cuts no process.
-pub built_cuts_none : (p : Pid) (w : What) → is_built w ≡ true → is_cut p w ≡ false
-built_cuts_none p (Mail at letter) built = refl
-built_cuts_none p (Birth parent at child end) built = refl
-built_cuts_none p (Exit pid at end) built = refl
-built_cuts_none p (Page pid at index bytes) built = refl
-built_cuts_none p (Sync pid small read took) built = absurd (true≢false (sym built))
-built_cuts_none p (Fetch pid index) built = refl
-built_cuts_none p (PageIs pid index bytes) built = refl
-built_cuts_none p (Crash k cause) built = refl
-built_cuts_none p (Return k) built = refl
-built_cuts_none p (Rebackup to fresh recs) built = absurd (true≢false (sym built))
-built_cuts_none p (Done rests) built = refl
-built_cuts_none p Stop built = refl
 
 -- an entry that tells of no birth is the birth of no process
 pub bears_none : (p : Pid) (w : What) → is_birth w ≡ false → is_birth_of p w ≡ false

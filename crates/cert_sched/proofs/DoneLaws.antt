@@ -148,5 +148,6 @@ done_may_follow system log rests valid legal goes_on rest =
         };
       };
       built = refl;
+      new_page = refl;
       pages = refl;
     }

@@ -48,8 +48,8 @@ served_more : (places : Places) (w : What) → is_built w ≡ true → Served pl
 served_more places (Mail at letter) built all = all
 served_more places (Birth parent at child end) built all = absurd (true≢false (sym built))
 served_more places (Exit pid at end) built all = all
-served_more places (Page pid at index bytes) built all = absurd (true≢false (sym built))
-served_more places (Sync pid small read took) built all = absurd (true≢false (sym built))
+served_more places (Page pid at index bytes) built all = all
+served_more places (Sync pid small read took) built all = all
 served_more places (Fetch pid index) built all = all
 served_more places (PageIs pid index bytes) built all = all
 served_more places (Crash k cause) built all = changed lost_cluster (λ c h. refl) places.clusters k.0 all

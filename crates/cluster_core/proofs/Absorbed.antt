@@ -26,10 +26,11 @@ use Rattle.cluster_core.specs.Parts.{AllOwn}
 use Rattle.cluster_core.specs.Recovered.{moved_by, CanWait}
 use Rattle.cluster_core.specs.Follows.{FollowsBuilt, IsOpen}
 use Rattle.cluster_core.specs.Calls.{Absorbs, IsReady, ReadyFor, absorbed, here_after}
-use Rattle.cluster_core.proofs.ByKind.{IsLoss, OneOf, by_kind, by_page, is_of_page, kind_is}
+use Rattle.cluster_core.proofs.ByKind.{IsLoss, OneOf, by_kind, by_page, by_sync, is_of_page, is_of_sync, kind_is}
 use Rattle.cluster_core.proofs.Homes.{differ_built, home_here}
 use Rattle.cluster_core.proofs.Losing.{follows_lost, can_wait}
 use Rattle.cluster_core.proofs.Paging.{follows_page, follows_own_page}
+use Rattle.cluster_core.proofs.Synchronising.{follows_sync, sync_not_alone}
 use Rattle.cluster_core.specs.Serving.{Serves}
 use Rattle.page_server.specs.Account.{PagerState}
 use Rattle.cluster_core.proofs.Turning.{built_no_birth}
@@ -78,10 +79,15 @@ absorbs c e server valid own order serves log now later ready = by_loss (one_of 
         let l = left_of c log e s in
         follows_own_page c.system valid log e of now later c l server refl (serves_there (ap (λ (d : ClusterView). d.places) l.same ∙ ((l.followed).log).places))
 
+    sync : is_of_sync (what e) ≡ true → IsReady log e c → FollowsBuilt c.system (log ++ e ∷ []) (with_server server (absorbed c e))
+    sync of (inl f) = follows_sync c.system valid log e of now later c server own (serves_there ((f.0).log).places) f.0 f.1
+    sync of (inr s) = absurd (sync_not_alone (what e) of (left_of c log e s).lone)
+
     by_loss : OneOf (what e) → FollowsBuilt c.system (log ++ e ∷ []) (with_server server (absorbed c e))
     by_loss (inl tells) = by_case tells (next_of c.system log e tells now later) ready
     by_loss (inr (inl of)) = page of ready
-    by_loss (inr (inr l)) = lost l ready
+    by_loss (inr (inr (inl l))) = lost l ready
+    by_loss (inr (inr (inr of))) = sync of ready
 
 -- ---- what it brings
 
@@ -98,7 +104,8 @@ ready_quiet system log e now later = by_loss (one_of system log e later)
         let n = next_of system log e tells now later in
         by_emission n (n.told).emission (n.told).tells (sent_no_signal system log (n.told).pid (n.told).at (n.told).emission (n.told).after (n.told).is)
     by_loss (inr (inl of)) = by_page brings_none (λ pid index. tt) (λ pid index bytes. tt) (what e) of
-    by_loss (inr (inr l)) = subst brings_none (sym l.same) tt
+    by_loss (inr (inr (inl l))) = subst brings_none (sym l.same) tt
+    by_loss (inr (inr (inr of))) = by_sync brings_none (λ pid at index bytes. tt) (λ pid small read. tt) (what e) of
 
 -- the processes that a loss moves here can wait for their pages, and none of them is here yet
 pub may_wait : (c : ClusterView) (e : Entry) → is_system c.system ≡ true → ReadyFor e c → CanWait (moved_by c.places c.number (what e) (records_after (what e) c.records)) (here_after (what e) c.here)
@@ -123,7 +130,8 @@ may_wait c e valid r = by_loss (one_of c.system r.log e r.open_next)
     by_loss : OneOf (what e) → CanWait (moved_by c.places c.number (what e) (records_after (what e) c.records)) (here_after (what e) c.here)
     by_loss (inl tells) = nobody (none (what e) tells)
     by_loss (inr (inl of)) = nobody (none_by_page (what e) of)
-    by_loss (inr (inr l)) = lost l r.ready
+    by_loss (inr (inr (inl l))) = lost l r.ready
+    by_loss (inr (inr (inr of))) = nobody (by_sync (λ w. moved_by c.places c.number w (records_after w c.records) ≡ []) (λ pid at index bytes. refl) (λ pid small read. refl) (what e) of)
 
 -- a page that comes may come to its process
 pub may_come : (c : ClusterView) (e : Entry) → is_system c.system ≡ true → ReadyFor e c → CanCome (what e) c.here
@@ -152,7 +160,8 @@ may_come c e valid r = by_loss (one_of c.system r.log e r.open_next)
     by_loss : OneOf (what e) → CanCome (what e) c.here
     by_loss (inl tells) = by_kind (λ w. CanCome w c.here) (λ at letter. tt) (λ pid at end. tt) (λ rests. tt) tt (what e) tells
     by_loss (inr (inl of)) = page (what e) of refl
-    by_loss (inr (inr l)) = subst (λ w. CanCome w c.here) (sym l.same) tt
+    by_loss (inr (inr (inl l))) = subst (λ w. CanCome w c.here) (sym l.same) tt
+    by_loss (inr (inr (inr of))) = by_sync (λ w. CanCome w c.here) (λ pid at index bytes. tt) (λ pid small read. tt) (what e) of
 
 -- ---- that it is no birth, and what it makes of those that are here
 
@@ -162,7 +171,8 @@ ready_no_birth c e r = by_loss (one_of c.system r.log e r.open_next)
     by_loss : OneOf (what e) → is_birth (what e) ≡ false
     by_loss (inl tells) = built_no_birth (what e) tells
     by_loss (inr (inl of)) = by_page (λ w. is_birth w ≡ false) (λ pid index. refl) (λ pid index bytes. refl) (what e) of
-    by_loss (inr (inr l)) = ap is_birth l.same
+    by_loss (inr (inr (inl l))) = ap is_birth l.same
+    by_loss (inr (inr (inr of))) = by_sync (λ w. is_birth w ≡ false) (λ pid at index bytes. refl) (λ pid small read. refl) (what e) of
 
 pub ready_own : (c : ClusterView) (e : Entry) → ReadyFor e c → AllOwn c.cursor c.here → AllOwn (c.cursor + 1) (here_after (what e) c.here)
 ready_own c e r own = by_loss (one_of c.system r.log e r.open_next)
@@ -173,7 +183,8 @@ ready_own c e r own = by_loss (one_of c.system r.log e r.open_next)
     by_loss : OneOf (what e) → AllOwn (c.cursor + 1) (here_after (what e) c.here)
     by_loss (inl tells) = own_after c.cursor (what e) c.here tells (ready_quiet c.system r.log e r.open_log r.open_next) own
     by_loss (inr (inl of)) = by_page (λ w. AllOwn (c.cursor + 1) (here_after w c.here)) (λ pid index. later) (λ pid index bytes. own_page (c.cursor + 1) pid index bytes c.here later) (what e) of
-    by_loss (inr (inr l)) = subst (λ w. AllOwn (c.cursor + 1) (here_after w c.here)) (sym l.same) later
+    by_loss (inr (inr (inl l))) = subst (λ w. AllOwn (c.cursor + 1) (here_after w c.here)) (sym l.same) later
+    by_loss (inr (inr (inr of))) = by_sync (λ w. AllOwn (c.cursor + 1) (here_after w c.here)) (λ pid at index bytes. later) (λ pid small read. later) (what e) of
 
 -- what is here as it was, or nothing, is its own
 pub own_either : (cursor : ℕ) (was now : List (Pid × Held)) → AllOwn cursor was → (now ≡ was) ⊎ (now ≡ []) → AllOwn cursor now

@@ -86,6 +86,7 @@ module _ (c : ClusterView) (served : Option PagerState) (post : Post) (owed : ow
       kind = page_holds c.system log a.was a.pid a.index a.bytes (subst (KeepsIfThere c.system log) a.old_is (f.accounts).keeps) a.waits a.page;
     };
     built = refl;
+    new_page = refl;
     pages = refl;
   }
 

@@ -31,7 +31,7 @@ use Rattle.cluster_core.specs.View.{ClusterView, Held, arrived_held, held_of}
 use Rattle.cluster_core.proofs.Following.{Next, left_of, next_of, own_unlost}
 use Rattle.cluster_core.proofs.Here.{is_among, pid_same, same_itself}
 use Rattle.cluster_core.proofs.Homes.{HomeHere, differ_built, home_here, home_lives}
-use Rattle.cluster_core.proofs.ByKind.{OneOf, by_kind, by_page, kind_is}
+use Rattle.cluster_core.proofs.ByKind.{OneOf, by_kind, by_page, by_sync, kind_is}
 
 -- ---- a letter that goes elsewhere
 
@@ -102,4 +102,5 @@ comes_here c e valid r = by_loss (kind_is (what e) (IsLegal-last BuiltMayFollow 
     by_loss : OneOf (what e) → ComesHere c.number e c.here
     by_loss (inl tells) = by_case (next_of c.system r.log e tells r.open_log r.open_next) r.ready
     by_loss (inr (inl page)) = λ p h there is. absurd (true≢false (sym is ∙ by_page (λ w. is_letter_for p w ≡ false) (λ pid index. refl) (λ pid index bytes. refl) (what e) page))
-    by_loss (inr (inr loss)) = λ p h there is. absurd (true≢false (sym is ∙ ap (is_letter_for p) loss.same))
+    by_loss (inr (inr (inl loss))) = λ p h there is. absurd (true≢false (sym is ∙ ap (is_letter_for p) loss.same))
+    by_loss (inr (inr (inr of))) = λ p h there is. absurd (true≢false (sym is ∙ by_sync (λ w. is_letter_for p w ≡ false) (λ pid at index bytes. refl) (λ pid small read. refl) (what e) of))

@@ -9,13 +9,14 @@ use Rattle.sys_text.specs.declared.system.Root.{Root}
 use Rattle.sys_text.specs.Valid.{is_system, is_root}
 use Rattle.sys_text.specs.Boot.{pid_of, with_pids, roots_of}
 use Rattle.sys_text.proofs.Bounds.{first_of_two, second_of_two, root_fits, root_tests, system_bounds, tests}
-use Rattle.bus_msg.specs.declared.entry.What.TheVariants.{Crash, Exit}
+use Rattle.bus_msg.specs.declared.entry.What.TheVariants.{Crash, Exit, Sync}
 use Rattle.bus_msg.specs.declared.entry.Cause.{Cause}
 use Rattle.bus_msg.specs.declared.entry.Entry.{Entry}
 use Rattle.bus_msg.specs.declared.placed.Placed.{Placed}
 use Rattle.bus_msg.specs.Places.{Places, same_pid, same_cluster, is_cluster, lives_in, unended_at}
-use Rattle.bus_msg.specs.PlacedAfter.{what, placed_after, after_loss, moved_to}
+use Rattle.bus_msg.specs.PlacedAfter.{what, placed_after, after_loss, after_sync, moved_to}
 use Rattle.t32_base.specs.declared.process.End.{End}
+use Rattle.t32_base.specs.Small.{SmallState}
 use Rattle.cert_sched.specs.Built.{BuiltMayFollow, tells_or_closes}
 use Rattle.cert_sched.specs.Schedule.{placement, placed_root}
 use Rattle.cert_sched.specs.Legal.{IsLegalBy}
@@ -25,7 +26,8 @@ use Rattle.cert_sched.proofs.FamilyLaws.{exit_there, exit_elsewhere}
 use Rattle.cert_sched.proofs.UnendedLaws.{unended_map, unended_open_at, loss_keeps}
 use Rattle.cert_sched.proofs.CoverLaws.{lives_on}
 use Rattle.cert_sched.proofs.LiveLaws.{boot_lives}
-use Rattle.cluster_core.proofs.ByKind.{OneOf, by_kind, by_page, kind_is}
+use Rattle.cluster_core.proofs.ByKind.{OneOf, by_kind, by_page, by_sync, kind_is}
+use Rattle.cluster_core.proofs.SyncedHomes.{backup_kept, synced_found}
 
 abbrev pub BackupsLive : Places → Type 0
 BackupsLive places = (p : Pid) (q : Placed) (b : ClusterNo) → unended_at places p ≡ Some q → q.backup ≡ Some b → lives_in places b ≡ true
@@ -90,6 +92,15 @@ exit_live places r at end live p q b found backup = by_pid (same_pid p r) refl
     by_pid true same = let none : None ≡ Some q = sym (exit_there places r p at end same) ∙ found in cc
     by_pid false apart = live p q b (sym (exit_elsewhere places r p at end apart) ∙ found) backup
 
+cut_live : (places : Places) (r : Pid) (small : SmallState) (read : List ℕ) → BackupsLive places → BackupsLive (placed_after places (Sync r small read None))
+cut_live places r small read live p q b found backup = by_found (unended_at places p) refl (sym (synced_found places r p small read None) ∙ found)
+  where
+    by_found : (o : Option Placed) → unended_at places p ≡ o → option_map (after_sync r) o ≡ Some q → lives_in places b ≡ true
+    by_found None there e = cc
+    by_found (Some s) there e =
+        let same : after_sync r s ≡ q = ap (λ (o : Option Placed). unwrap_or o q) e in
+        live p s b there (sym (backup_kept r s) ∙ ap (λ (x : Placed). x.backup) same ∙ backup)
+
 next_live : (system : System) (log : List Entry) (e : Entry) → BackupsLive (placement system log) → BuiltMayFollow system log e → BackupsLive (placement system (log ++ e ∷ []))
 next_live system log e live may = subst BackupsLive (sym (placement-snoc system log e)) (by_loss (kind_is (what e) may.built))
   where
@@ -99,7 +110,8 @@ next_live system log e live may = subst BackupsLive (sym (placement-snoc system 
     by_loss : OneOf (what e) → BackupsLive (placed_after places (what e))
     by_loss (inl tells) = by_kind (λ w. BackupsLive (placed_after places w)) (λ at letter. live) (λ pid at end. exit_live places pid at end live) (λ rests. live) live (what e) tells
     by_loss (inr (inl page)) = by_page (λ w. BackupsLive (placed_after places w)) (λ pid index. live) (λ pid index bytes. live) (what e) page
-    by_loss (inr (inr loss)) = subst (λ w. BackupsLive (placed_after places w)) (sym loss.same) (loss_live places loss.lost loss.cause live)
+    by_loss (inr (inr (inl loss))) = subst (λ w. BackupsLive (placed_after places w)) (sym loss.same) (loss_live places loss.lost loss.cause live)
+    by_loss (inr (inr (inr of))) = by_sync (λ w. BackupsLive (placed_after places w)) (λ pid at index bytes. live) (λ pid small read. cut_live places pid small read live) (what e) of
 
 -- ---- the whole
 

@@ -1,8 +1,9 @@
--- The kinds of entries that are built: those that tell of steps or close the log, those of pages, and losses. What holds of each of some kinds holds of every entry of them.
-use Rattle.std.proofs.Common.{◌≡◌, ◌⊎◌, ℕ, refl, sym, List, Bool, true, false, true≢false, inl, inr}
+-- The kinds of entries that are built: those that tell of steps or close the log, those of pages, losses, and those by which a process synchronises. What holds of each of some kinds holds of every entry of them.
+use Rattle.std.proofs.Common.{◌≡◌, ◌⊎◌, ℕ, refl, sym, List, Bool, true, false, Some, None, true≢false, inl, inr}
 use Rattle.t32_base.specs.declared.process.Pid.{Pid}
 use Rattle.t32_base.specs.declared.process.End.{End}
 use Rattle.t32_base.specs.declared.letter.Letter.{Letter}
+use Rattle.t32_base.specs.Small.{SmallState}
 use Rattle.bus_msg.specs.declared.entry.What.{What}
 use Rattle.bus_msg.specs.declared.entry.What.TheVariants.{Mail, Birth, Exit, Page, Sync, Fetch, PageIs, Crash, Return, Rebackup, Done, Stop}
 use Rattle.t32_base.specs.declared.process.ClusterNo.{ClusterNo}
@@ -11,7 +12,7 @@ use Rattle.sys_text.specs.declared.system.System.{System}
 use Rattle.bus_msg.specs.declared.entry.Entry.{Entry}
 use Rattle.bus_msg.specs.PlacedAfter.{what}
 use Rattle.cert_sched.specs.Built.{is_built, is_unlost, tells_or_closes, TellingMayFollow, UnlostMayFollow}
-use Rattle.cert_sched.proofs.UnlostLaws.{telling_unlost}
+use Rattle.cert_sched.proofs.UnlostLaws.{telling_sends_no_page, telling_unlost}
 use Rattle.cluster_core.specs.Queue.{is_lone}
 
 pub by_kind : (P : What → Type 0) → ((at : ℕ) (letter : Letter) → P (Mail at letter)) → ((pid : Pid) (at : ℕ) (end : End) → P (Exit pid at end)) → ((rests : List (Pid × ℕ)) → P (Done rests)) → P Stop → (w : What) → tells_or_closes w ≡ true → P w
@@ -48,44 +49,51 @@ by_page P fetch page (Rebackup to fresh recs) of = absurd (true≢false (sym of)
 by_page P fetch page (Done rests) of = absurd (true≢false (sym of))
 by_page P fetch page Stop of = absurd (true≢false (sym of))
 
+-- a process synchronises: by a changed page, or by the cut, without a signal
+abbrev pub is_of_sync : What → Bool
+is_of_sync (Page pid at index bytes) = true
+is_of_sync (Sync pid small read None) = true
+is_of_sync _ = false
+
+pub by_sync : (P : What → Type 0) → ((pid : Pid) (at index : ℕ) (bytes : List ℕ) → P (Page pid at index bytes)) → ((pid : Pid) (small : SmallState) (read : List ℕ) → P (Sync pid small read None)) → (w : What) → is_of_sync w ≡ true → P w
+by_sync P page cut (Page pid at index bytes) of = page pid at index bytes
+by_sync P page cut (Sync pid small read None) of = cut pid small read
+by_sync P page cut (Sync pid small read (Some g)) of = absurd (true≢false (sym of))
+by_sync P page cut (Mail at letter) of = absurd (true≢false (sym of))
+by_sync P page cut (Birth parent at child end) of = absurd (true≢false (sym of))
+by_sync P page cut (Exit pid at end) of = absurd (true≢false (sym of))
+by_sync P page cut (Fetch pid index) of = absurd (true≢false (sym of))
+by_sync P page cut (PageIs pid index bytes) of = absurd (true≢false (sym of))
+by_sync P page cut (Crash k cause) of = absurd (true≢false (sym of))
+by_sync P page cut (Return k) of = absurd (true≢false (sym of))
+by_sync P page cut (Rebackup to fresh recs) of = absurd (true≢false (sym of))
+by_sync P page cut (Done rests) of = absurd (true≢false (sym of))
+by_sync P page cut Stop of = absurd (true≢false (sym of))
+
 -- the loss of a cluster
 pub record IsLoss (w : What) : Type 0 where
   pub lost : ClusterNo
   pub cause : Cause
   pub same : w ≡ Crash lost cause
 
--- an entry that is built tells or closes, is of a page, or is a loss
+-- an entry that is built tells or closes, is of a page, is a loss, or is one by which a process synchronises
 abbrev pub OneOf : What → Type 0
-OneOf w = (tells_or_closes w ≡ true) ⊎ (is_of_page w ≡ true) ⊎ IsLoss w
+OneOf w = (tells_or_closes w ≡ true) ⊎ (is_of_page w ≡ true) ⊎ IsLoss w ⊎ (is_of_sync w ≡ true)
 
 pub kind_is : (w : What) → is_built w ≡ true → OneOf w
 kind_is (Mail at letter) built = inl refl
 kind_is (Exit pid at end) built = inl refl
 kind_is (Fetch pid index) built = inr (inl refl)
 kind_is (PageIs pid index bytes) built = inr (inl refl)
-kind_is (Crash k cause) built = inr (inr (record { lost = k; cause = cause; same = refl }))
+kind_is (Crash k cause) built = inr (inr (inl (record { lost = k; cause = cause; same = refl })))
 kind_is (Done rests) built = inl refl
 kind_is Stop built = inl refl
 kind_is (Birth parent at child end) built = absurd (true≢false (sym built))
-kind_is (Page pid at index bytes) built = absurd (true≢false (sym built))
-kind_is (Sync pid small read took) built = absurd (true≢false (sym built))
+kind_is (Page pid at index bytes) built = inr (inr (inr refl))
+kind_is (Sync pid small read None) built = inr (inr (inr refl))
+kind_is (Sync pid small read (Some g)) built = absurd (true≢false (sym built))
 kind_is (Return k) built = absurd (true≢false (sym built))
 kind_is (Rebackup to fresh recs) built = absurd (true≢false (sym built))
-
--- what a cluster sends tells or closes, or is of a page
-pub unlost_is : (w : What) → is_unlost w ≡ true → (tells_or_closes w ≡ true) ⊎ (is_of_page w ≡ true)
-unlost_is (Mail at letter) unlost = inl refl
-unlost_is (Exit pid at end) unlost = inl refl
-unlost_is (Fetch pid index) unlost = inr refl
-unlost_is (PageIs pid index bytes) unlost = inr refl
-unlost_is (Done rests) unlost = inl refl
-unlost_is Stop unlost = inl refl
-unlost_is (Birth parent at child end) unlost = absurd (true≢false (sym unlost))
-unlost_is (Page pid at index bytes) unlost = absurd (true≢false (sym unlost))
-unlost_is (Sync pid small read took) unlost = absurd (true≢false (sym unlost))
-unlost_is (Crash k cause) unlost = absurd (true≢false (sym unlost))
-unlost_is (Return k) unlost = absurd (true≢false (sym unlost))
-unlost_is (Rebackup to fresh recs) unlost = absurd (true≢false (sym unlost))
 
 -- what is sent alone tells, or is of a page
 pub lone_is : (w : What) → is_lone w ≡ true → (tells_or_closes w ≡ true) ⊎ (is_of_page w ≡ true)
@@ -113,4 +121,4 @@ pub told_may : (system : System) (log : List Entry) (e : Entry) → UnlostMayFol
 told_may system log e may tells = record { stands = may.stands; built = tells; pages = may.pages }
 
 pub may_told : (system : System) (log : List Entry) (e : Entry) → TellingMayFollow system log e → UnlostMayFollow system log e
-may_told system log e may = record { stands = may.stands; built = telling_unlost (what e) may.built; pages = may.pages }
+may_told system log e may = record { stands = may.stands; built = telling_unlost (what e) may.built; new_page = telling_sends_no_page system log (what e) may.built; pages = may.pages }

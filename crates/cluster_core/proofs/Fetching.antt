@@ -100,6 +100,7 @@ module _ (c : ClusterView) (p : Pid) (index : ℕ) (waiting : WaitingState) (emp
         kind = next_fetch c.system log p waiting waits index next;
       };
       built = refl;
+      new_page = refl;
       pages = refl;
     }
 

@@ -68,8 +68,8 @@ never_before : (w : What) (places : Places) (k : ClusterNo) → is_built w ≡ t
 never_before (Mail at letter) places k built never = record { before = never; no_loss = refl }
 never_before (Birth parent at child end) places k built never = absurd (true≢false (sym built))
 never_before (Exit pid at end) places k built never = record { before = never; no_loss = refl }
-never_before (Page pid at index bytes) places k built never = absurd (true≢false (sym built))
-never_before (Sync pid small read took) places k built never = absurd (true≢false (sym built))
+never_before (Page pid at index bytes) places k built never = record { before = never; no_loss = refl }
+never_before (Sync pid small read took) places k built never = record { before = never; no_loss = refl }
 never_before (Fetch pid index) places k built never = record { before = never; no_loss = refl }
 never_before (PageIs pid index bytes) places k built never = record { before = never; no_loss = refl }
 never_before (Crash j cause) places k built never = by_number (eqb j.0 k.0) refl

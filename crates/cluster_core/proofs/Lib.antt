@@ -11,6 +11,7 @@ pub mod Coming
 mod BeginWaits
 pub mod Homes
 mod NotMoved
+mod SyncedHomes
 mod HasPages
 mod PagePosts
 mod MovedRecords
@@ -26,6 +27,7 @@ mod Unmoved
 mod Waiting
 pub mod MarksBegin
 mod Paging
+mod Synchronising
 pub mod Served
 pub mod Counted
 pub mod Passing

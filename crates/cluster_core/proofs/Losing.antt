@@ -22,7 +22,7 @@ use Rattle.bus_msg.specs.Places.{Places, is_at_home, is_cluster, placed_at, same
 use Rattle.bus_msg.specs.PlacedAfter.{what, placed_after, after_loss}
 use Rattle.crash_notice.specs.Splitting.{is_moved_here, moves_here, stays}
 use Rattle.cert_sched.specs.Built.{BuiltMayFollow, UnlostMayFollow}
-use Rattle.cert_sched.specs.Deeds.{deeds_in, letter_for, start_of, is_birth_of, is_cut}
+use Rattle.cert_sched.specs.Deeds.{deeds_in, is_birth_of, is_cut, letter_for, start_of}
 use Rattle.cert_sched.specs.Losses.{is_by_cluster, is_from, is_crash_of}
 use Rattle.cert_sched.specs.Parts.{rising}
 use Rattle.cert_sched.specs.Record.{backup_record, record_from}
@@ -32,7 +32,6 @@ use Rattle.cert_sched.specs.Schedule.{items_of, placement}
 use Rattle.cert_sched.specs.Simulation.{IsUnended}
 use Rattle.cert_sched.proofs.FreshLaws.{only_one}
 use Rattle.cert_sched.proofs.LogLaws.{IsLegal-last}
-use Rattle.cert_sched.proofs.MailLaws.{built_is_plain}
 use Rattle.cert_sched.proofs.PidLaws.{apart_fewer, placed_pids}
 use Rattle.cert_sched.proofs.RisingLaws.{NoTwo, put_all}
 use Rattle.cert_sched.proofs.RollLaws.{all_roll, two_apart}
@@ -42,7 +41,8 @@ use Rattle.record_laws.proofs.LossLaws.{loss_kept}
 use Rattle.record_laws.proofs.Standing.{built_stands}
 use Rattle.recovery.specs.Begun.{number_of}
 use Rattle.recovery_laws.specs.Behind.{RollsBehind}
-use Rattle.recovery_laws.proofs.KeepingBehind.{behind_entry}
+use Rattle.recovery_laws.proofs.KeepingBehind.{behind_standing}
+use Rattle.recovery_laws.proofs.ByRule.{built_stands as standing}
 use Rattle.cluster_core.specs.View.{ClusterView, Held, Runs, Rolls, Waits, held_of, next_count, with_server}
 use Rattle.cluster_core.specs.Residents.{pids_in}
 use Rattle.cluster_core.specs.Parts.{AllOwn}
@@ -255,12 +255,12 @@ module _ (system : System) (valid : is_system system ≡ true) (log : List Entry
   held_still q p (Rolls s counts births) together home held = (
     held.0,
     subst (λ w. RollsBehind system later p (all_delivered (state_of s) (letter_for p w)) counts births) n.same
-        (behind_entry system log e p BuiltMayFollow built_is_plain (state_of s) counts births valid n.more (ap is_some home.found) (ap (deeds_in p) n.same) held.1),
+        (behind_standing system log e p BuiltMayFollow standing (state_of s) counts births valid n.more (ap is_some home.found) (ap (is_cut p) n.same) (ap (deeds_in p) n.same) held.1),
   )
   held_still q p (Waits waiting) together home held = (
     held.0,
     subst (λ w. WaitsAs system later p (is_fetch_queued p (posts_of q)) (record waiting { kept = record_after w waiting.kept })) n.same
-        (other_entry system log e p (is_fetch_queued p (posts_of q)) waiting valid n.more (ap is_some home.found) (home_not_moved system log e p k (differ_built system log valid n.legal) home spared) (ap (deeds_in p) n.same)
+        (other_entry system log e p (is_fetch_queued p (posts_of q)) waiting valid n.more (ap is_some home.found) (home_not_moved system log e p k (differ_built system log valid n.legal) home spared) (ap (is_cut p) n.same) (ap (deeds_in p) n.same)
         (λ i. ap (is_page_is p i) n.same) (subst (λ w. WaitsAs system log p (λ i. is_fetch p i w || is_fetch_queued p (posts_of q) i) waiting) (sym n.same) held.1)),
   )
 
@@ -323,7 +323,7 @@ module _ (system : System) (valid : is_system system ≡ true) (log : List Entry
     marks = marks;
     records = subst (λ k. KeepsRecords system later k (filter (stays places lost k) c.records)) (sym number_is) (loss_kept system log e lost k cause c.records valid (built_stands system later n.more) n.same apart keeps);
     accounts =
-        accounts_next system log e c (with_server server after) q (IsLegal-last BuiltMayFollow system log e n.more).built (foreign_no_answer c.number e (ap (λ k. is_by_cluster k e) number_is ∙ foreign)) serves refl queue_is queue_is posts_legal f.accounts;
+        accounts_next system log e c (with_server server after) q (foreign_no_answer c.number e (ap (λ k. is_by_cluster k e) number_is ∙ foreign)) serves refl queue_is queue_is posts_legal f.accounts;
     disk = ((f.disk).0, ahead_after places e c.server server serves (f.disk).1);
   })
     where

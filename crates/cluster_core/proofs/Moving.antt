@@ -6,36 +6,23 @@ use Rattle.t32_base.specs.declared.process.Pid.{Pid}
 use Rattle.t32_base.specs.declared.letter.BackRec.{BackRec}
 use Rattle.sys_text.specs.declared.system.System.{System}
 use Rattle.sys_text.specs.Valid.{is_system}
-use Rattle.proc_state.specs.Mail.{is_signal}
-use Rattle.proc_state.specs.State.{ProcState}
-use Rattle.plain_kernel.specs.Kernel.{boot, process_at}
-use Rattle.plain_kernel.proofs.AtBoot.{boot-each}
 use Rattle.bus_msg.specs.declared.entry.Entry.{Entry}
 use Rattle.cert_sched.specs.Built.{BuiltMayFollow}
-use Rattle.cert_sched.specs.Deeds.{letters_to, numbered, starts}
+use Rattle.cert_sched.specs.Deeds.{starts}
 use Rattle.cert_sched.specs.Legal.{IsLegalBy}
-use Rattle.cert_sched.specs.Parts.{after_last}
+use Rattle.cert_sched.specs.Parts.{upto_last}
 use Rattle.cert_sched.specs.Record.{backup_record, record_from}
-use Rattle.cert_sched.specs.Schedule.{plain_after, process_after}
 use Rattle.cert_sched.specs.Simulation.{IsUnended}
 use Rattle.cert_sched.proofs.RunsOutLaws.{record_of}
 use Rattle.cert_sched.proofs.StepLaws.{process_after-own}
 use Rattle.record_laws.proofs.Counts.{next_fits}
-use Rattle.recovery_laws.proofs.ByRule.{built_stated}
+use Rattle.record_laws.proofs.Standing.{built_stands}
+use Rattle.recovery_laws.proofs.ByRule.{standing_stated}
 use Rattle.page_waits.specs.Waiting.{page_count}
 use Rattle.wait_laws.specs.Waits.{first_wait}
 use Rattle.wait_laws.proofs.BootPages.{StartsSo, has_pages, starts_so}
 use Rattle.cluster_core.specs.Parts.{WaitsOwn}
-use Rattle.cluster_core.proofs.QuietSaved.{numbered_part_quiet}
-
--- before the first entry the process is that of boot
-at_first : (system : System) (p : Pid) → process_after system [] p ≡ process_at (boot system) p
-unfolding plain_after
-at_first system p = refl
-
--- no letter waits for a process at boot
-none_at_boot : (system : System) (p : Pid) (s : ProcState) → process_at (boot system) p ≡ Some s → s.mail ≡ []
-none_at_boot system = boot-each (λ p s. s.mail ≡ []) system (λ p r. refl) (λ p s peer far none. none)
+use Rattle.cluster_core.proofs.QuietSaved.{saved_quiet}
 
 -- where there is a page, not all have come at first
 none_come : (n : ℕ) → 1 ≤ n → list_all (is_some {T = List ℕ}) (replicate n None) ≡ false
@@ -49,17 +36,14 @@ module _ (system : System) (valid : is_system system ≡ true) (log : List Entry
   record_is : record_from system log p s.start ≡ r
   record_is = record_of system log p s.start r s.started kept
 
-  saved_is : r.saved ≡ numbered (s.start).next (letters_to p (after_last (starts p) log))
-  saved_is = sym (ap (λ (r : BackRec). r.saved) record_is) ∙ ap (λ ms. ms ++ numbered (s.start).next (letters_to p (after_last (starts p) log))) (none_at_boot system p s.start (sym (at_first system p) ∙ s.first))
-
   -- it waits under its own pid and lacks a page: no signal was saved for it, and no more letters came to it than the log has entries
   pub waits_own : WaitsOwn (length log) p (first_wait r)
   waits_own = record {
     pid_is = sym (ap (λ (r : BackRec). r.pid) record_is);
     small = (s.start).small;
-    state_is = built_stated system log p s.start r legal unended s.first kept;
-    small_is = process_after-own system [] p s.start s.first;
-    quiet = ap (list_any is_signal) saved_is ∙ numbered_part_quiet system log p (starts p) (s.start).next legal;
+    state_is = standing_stated system log p s.start r (built_stands system log legal) unended s.started kept;
+    small_is = process_after-own system (upto_last (starts p) log) p s.start s.started;
+    quiet = saved_quiet system log p r valid legal unended kept;
     arrived = next_fits system log p r kept;
     lacks = none_come (page_count r) (has_pages system log p r valid legal unended kept).some;
   }

@@ -8,15 +8,16 @@ use Rattle.t32_base.specs.declared.process.Pid.{Pid}
 use Rattle.t32_base.specs.declared.process.ClusterNo.{ClusterNo}
 use Rattle.t32_base.specs.declared.process.End.{End}
 use Rattle.t32_base.specs.declared.letter.Letter.{Letter}
+use Rattle.t32_base.specs.Small.{SmallState}
 use Rattle.sys_text.specs.declared.system.System.{System}
 use Rattle.sys_text.specs.Valid.{is_system}
 use Rattle.bus_msg.specs.declared.entry.What.{What}
-use Rattle.bus_msg.specs.declared.entry.What.TheVariants.{Mail, Exit, Fetch, PageIs, Crash, Done, Stop}
+use Rattle.bus_msg.specs.declared.entry.What.TheVariants.{Mail, Exit, Page, Sync, Fetch, PageIs, Crash, Done, Stop}
 use Rattle.bus_msg.specs.declared.entry.Cause.{Cause}
 use Rattle.bus_msg.specs.declared.entry.Entry.{Entry}
 use Rattle.bus_msg.specs.declared.placed.Placed.{Placed}
 use Rattle.bus_msg.specs.Places.{Places, is_cluster, is_moved_by, same_cluster, same_pid, unended_at}
-use Rattle.bus_msg.specs.PlacedAfter.{after_loss, moved_to, placed_after, what}
+use Rattle.bus_msg.specs.PlacedAfter.{after_loss, after_sync, moved_to, placed_after, what}
 use Rattle.channel_table.specs.Changes.{pids_differ}
 use Rattle.cert_sched.specs.Built.{BuiltMayFollow, is_built}
 use Rattle.cert_sched.specs.Legal.{IsLegalBy}
@@ -34,8 +35,9 @@ use Rattle.cert_sched.proofs.RisingLaws.{either_not}
 use Rattle.cert_sched.proofs.UnendedLaws.{loss_keeps, unended_map}
 use Rattle.page_laws.specs.Next.{moves_next}
 use Rattle.page_laws.proofs.OneEntry.{moved-goes_on, moves_none, turned}
-use Rattle.cluster_core.proofs.ByKind.{OneOf, by_kind, by_page, kind_is}
+use Rattle.cluster_core.proofs.ByKind.{OneOf, by_kind, by_page, by_sync, kind_is}
 use Rattle.cluster_core.proofs.Homes.{HomeHere, differ_built}
+use Rattle.cluster_core.proofs.SyncedHomes.{backup_kept, synced_found}
 
 -- ---- one process
 
@@ -85,13 +87,15 @@ home_not_moved system log e p k differ here away = by_loss (cluster_lost (what e
 -- ---- each kind that is built
 
 pub by_built : (P : What → Type 0) → ((at : ℕ) (letter : Letter) → P (Mail at letter)) → ((pid : Pid) (at : ℕ) (end : End) → P (Exit pid at end)) → ((pid : Pid) (index : ℕ) → P (Fetch pid index))
-    → ((pid : Pid) (index : ℕ) (bytes : List ℕ) → P (PageIs pid index bytes)) → ((lost : ClusterNo) (cause : Cause) → P (Crash lost cause)) → ((rests : List (Pid × ℕ)) → P (Done rests)) → P Stop → (w : What) → is_built w ≡ true → P w
-by_built P mail exit fetch page crash done stop w built = by_one (kind_is w built)
+    → ((pid : Pid) (index : ℕ) (bytes : List ℕ) → P (PageIs pid index bytes)) → ((lost : ClusterNo) (cause : Cause) → P (Crash lost cause)) → ((pid : Pid) (at index : ℕ) (bytes : List ℕ) → P (Page pid at index bytes))
+    → ((pid : Pid) (small : SmallState) (read : List ℕ) → P (Sync pid small read None)) → ((rests : List (Pid × ℕ)) → P (Done rests)) → P Stop → (w : What) → is_built w ≡ true → P w
+by_built P mail exit fetch page crash changed cut done stop w built = by_one (kind_is w built)
   where
     by_one : OneOf w → P w
     by_one (inl tells) = by_kind P mail exit done stop w tells
     by_one (inr (inl of)) = by_page P fetch page w of
-    by_one (inr (inr loss)) = subst P (sym loss.same) (crash loss.lost loss.cause)
+    by_one (inr (inr (inl loss))) = subst P (sym loss.same) (crash loss.lost loss.cause)
+    by_one (inr (inr (inr of))) = by_sync P changed cut w of
 
 -- ---- a process that was moved with a state
 
@@ -146,6 +150,15 @@ module _ (system : System) (valid : is_system system ≡ true) (log : List Entry
         by_pid true same = let none : None ≡ Some q = sym (exit_there places r p at end same) ∙ found in cc
         by_pid false apart = by_other (Exit r at end) is refl (sym (exit_elsewhere places r p at end apart) ∙ found)
 
+    by_cut : (r : Pid) (small : SmallState) (read : List ℕ) → what e ≡ Sync r small read None → unended_at (placed_after places (Sync r small read None)) p ≡ Some q → q.backup ≡ None
+    by_cut r small read is found = by_found (unended_at places p) refl (sym (synced_found places r p small read None) ∙ found)
+      where
+        by_found : (o : Option Placed) → unended_at places p ≡ o → option_map (after_sync r) o ≡ Some q → q.backup ≡ None
+        by_found None there same = cc
+        by_found (Some s) there same =
+            let one : after_sync r s ≡ q = cc in
+            ap (λ (x : Placed). x.backup) (sym one) ∙ backup_kept r s ∙ both.none p s (was_moved (moves_none system log e (ap cluster_lost is) p)) there
+
     by_loss : (lost : ClusterNo) (cause : Cause) → what e ≡ Crash lost cause → unended_at (placed_after places (Crash lost cause)) p ≡ Some q → q.backup ≡ None
     by_loss lost cause is found = by_found (unended_at places p) refl (sym (unended_map (after_loss lost) (loss_keeps lost) places (placed_after places (Crash lost cause)) refl p) ∙ found)
       where
@@ -164,7 +177,7 @@ module _ (system : System) (valid : is_system system ≡ true) (log : List Entry
     next_none found =
         by_built (λ w. what e ≡ w → unended_at (placed_after places w) p ≡ Some q → q.backup ≡ None)
         (λ at letter is. by_other (Mail at letter) is refl) (λ r at end is. by_exit r at end is) (λ r index is. by_other (Fetch r index) is refl) (λ r index bytes is. by_other (PageIs r index bytes) is refl)
-        (λ lost cause is. by_loss lost cause is) (λ rests is. by_other (Done rests) is refl) (λ is. by_other Stop is refl)
+        (λ lost cause is. by_loss lost cause is) (λ r at index bytes is. by_other (Page r at index bytes) is refl) (λ r small read is. by_cut r small read is) (λ rests is. by_other (Done rests) is refl) (λ is. by_other Stop is refl)
         (what e) may.built refl (sym (ap (λ places. unended_at places p) (placement-snoc system log e)) ∙ found)
 
 none_legal : (system : System) → IsLegalBy BuiltMayFollow system []

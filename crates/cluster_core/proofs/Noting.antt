@@ -11,22 +11,23 @@ use Rattle.std.proofs.lemmas.Bool.Decides.{nat_tests}
 use Rattle.t32_base.specs.declared.process.Pid.{Pid}
 use Rattle.t32_base.specs.declared.process.ClusterNo.{ClusterNo}
 use Rattle.t32_base.specs.declared.process.End.{End}
+use Rattle.t32_base.specs.Small.{SmallState}
 use Rattle.t32_base.specs.declared.letter.Letter.{Letter}
 use Rattle.t32_base.specs.declared.letter.BackRec.{BackRec}
 use Rattle.t32_base.specs.declared.letter.To.{To}
 use Rattle.t32_base.specs.declared.letter.To.TheVariants.{Proc, Tty}
 use Rattle.sys_text.specs.declared.system.System.{System}
 use Rattle.sys_text.specs.Valid.{is_system}
-use Rattle.bus_msg.specs.declared.entry.What.TheVariants.{Mail, Exit}
+use Rattle.bus_msg.specs.declared.entry.What.TheVariants.{Mail, Exit, Sync}
 use Rattle.bus_msg.specs.declared.entry.Entry.{Entry}
 use Rattle.bus_msg.specs.declared.placed.Placed.{Placed}
-use Rattle.bus_msg.specs.Places.{Places, ClusterPlace, lives_in, same_pid, same_cluster, is_cluster, unended_at, all_clusters, cluster_no}
+use Rattle.bus_msg.specs.Places.{Places, ClusterPlace, lives_in, same_pid, same_cluster, is_cluster, unended_at, all_clusters, cluster_no, servers_in}
 use Rattle.bus_msg.specs.PlacedAfter.{what}
 use Rattle.bus_msg.specs.Route.{backup_of, home_of, bits_of, letter_dests, route, to_list, to_all}
 use Rattle.cert_sched.specs.Built.{BuiltMayFollow, tells_or_closes}
 use Rattle.cert_sched.specs.Schedule.{placement}
 use Rattle.cert_sched.specs.Record.{backup_record}
-use Rattle.backup_records.specs.Records.{CanNote, record_in, record_after, records_after, is_receiver, with_saved, with_counted}
+use Rattle.backup_records.specs.Records.{CanNote, record_in, record_after, records_after, is_receiver, with_saved, with_counted, with_cut}
 use Rattle.record_laws.specs.Kept.{KeepsRecords, has_backup_in}
 use Rattle.record_laws.proofs.BuiltLaws.{built_can_note}
 use Rattle.cert_sched.proofs.LogLaws.{IsLegal-last}
@@ -34,7 +35,7 @@ use Rattle.cluster_core.specs.View.{ClusterView}
 use Rattle.cluster_core.specs.Calls.{IsReady, ReadyFor}
 use Rattle.cluster_core.specs.Absorbing.{IsNotedHere, goes_to}
 use Rattle.cluster_core.proofs.Here.{pid_same, same_itself}
-use Rattle.cluster_core.proofs.ByKind.{OneOf, by_kind, by_page, kind_is}
+use Rattle.cluster_core.proofs.ByKind.{OneOf, by_kind, by_page, by_sync, kind_is}
 use Rattle.cluster_core.proofs.Following.{left_of, own_unlost}
 use Rattle.cluster_core.proofs.BackupsLive.{BackupsLive, backups_live}
 
@@ -205,6 +206,25 @@ exit_left system log k recs pid at end live keeps elsewhere = by_first recs refl
         let lives = backup_lives system log k r.pid live (backed system log k recs keeps r.pid there) in
         absurd (true≢false (sym (named_goes places k (all_clusters places) lives (all_named places k lives)) ∙ elsewhere))
 
+-- a cut goes to the backup of its process
+cut_left : (system : System) (log : List Entry) (k : ClusterNo) (recs : List BackRec) (pid : Pid) (small : SmallState) (read : List ℕ) → BackupsLive (placement system log) → KeepsRecords system log k recs
+    → goes_to (route (placement system log) (Sync pid small read None)) k ≡ false → map (record_after (Sync pid small read None)) recs ≡ recs
+cut_left system log k recs pid small read live keeps elsewhere = all_left (has_backup_in system log k) (record_after (Sync pid small read None)) recs (backed system log k recs keeps) one
+  where
+    places : Places
+    places = placement system log
+
+    one : (r : BackRec) → has_backup_in system log k r.pid ≡ true → record_after (Sync pid small read None) r ≡ r
+    one r here = by_pid (same_pid pid r.pid) refl
+      where
+        by_pid : (b : Bool) → same_pid pid r.pid ≡ b → cond b (with_cut small read r) r ≡ r
+        by_pid true is =
+            let same : r.pid ≡ pid = sym (pid_same pid r.pid (eqb-true pid.0 (r.pid).0 is)) in
+            let named : list_any (λ j. same_cluster j k) (backup_of places pid) ≡ true = ap (λ p. list_any (λ j. same_cluster j k) (backup_of places p)) (sym same) ∙ backup_named places k r.pid here in
+            absurd (true≢false (sym (named_goes places k (backup_of places pid ++ servers_in places) (backup_lives system log k r.pid live here)
+            (list_any-append (λ j. same_cluster j k) (backup_of places pid) (servers_in places) ∙ or_first _ (list_any (λ j. same_cluster j k) (servers_in places)) named)) ∙ elsewhere))
+        by_pid false is = refl
+
 -- where an entry does not go to a cluster, it leaves the records there as they are
 pub noted_here : (system : System) (log : List Entry) (e : Entry) (k : ClusterNo) (recs : List BackRec) → e.dests ≡ route (placement system log) (what e) → tells_or_closes (what e) ≡ true → BackupsLive (placement system log)
     → KeepsRecords system log k recs → IsNotedHere k e recs
@@ -247,4 +267,8 @@ noted_next c e valid r elsewhere = by_loss (kind_is (what e) may.built)
     by_loss : OneOf (what e) → records_after (what e) c.records ≡ c.records
     by_loss (inl tells) = noted_here c.system r.log e c.number c.records (((may.stands).placed).1) tells (backups_live c.system r.log valid (r.open_log).0) (kept_of c r.log e r.ready).records elsewhere
     by_loss (inr (inl page)) = by_page (λ w. records_after w c.records ≡ c.records) (λ pid index. refl) (λ pid index bytes. refl) (what e) page
-    by_loss (inr (inr loss)) = ap (λ w. records_after w c.records) loss.same
+    by_loss (inr (inr (inl loss))) = ap (λ w. records_after w c.records) loss.same
+    by_loss (inr (inr (inr of))) =
+        by_sync (λ w. goes_to (route (placement c.system r.log) w) c.number ≡ false → records_after w c.records ≡ c.records) (λ pid at index bytes away. refl)
+        (λ pid small read away. cut_left c.system r.log c.number c.records pid small read (backups_live c.system r.log valid (r.open_log).0) (kept_of c r.log e r.ready).records away) (what e) of
+        (ap (λ dests. goes_to dests c.number) (sym (((may.stands).placed).1)) ∙ elsewhere)

@@ -24,7 +24,7 @@ use Rattle.cluster_core.specs.Parts.{AllOwn, IsHeldOwn, WaitsOwn}
 use Rattle.cluster_core.specs.Recovered.{moved_by, with_all_waiting, with_waiting}
 use Rattle.cluster_core.specs.Follows.{FollowsBuilt, IsOpen, StandsBetween}
 use Rattle.cluster_core.specs.Calls.{IsReady, ReadyFor}
-use Rattle.cluster_core.proofs.ByKind.{IsLoss, OneOf, by_kind, by_page, is_of_page, kind_is}
+use Rattle.cluster_core.proofs.ByKind.{IsLoss, OneOf, by_kind, by_page, by_sync, is_of_page, kind_is}
 use Rattle.cluster_core.proofs.Following.{own_unlost}
 use Rattle.cluster_core.proofs.LostQueue.{NextLoss}
 use Rattle.cluster_core.proofs.Losing.{Moves, moving}
@@ -33,7 +33,7 @@ use Rattle.cluster_core.proofs.Moving.{waits_own}
 
 -- ---- the next entry
 
--- it tells of steps, is of a page, or is a loss
+-- it tells of steps, is of a page, is a loss, or is one by which a process synchronises
 pub one_of : (system : System) (log : List Entry) (e : Entry) → IsOpen BuiltMayFollow system (log ++ e ∷ []) → OneOf (what e)
 one_of system log e later = kind_is (what e) (IsLegal-last BuiltMayFollow system log e later.0).built
 
@@ -107,4 +107,5 @@ owns_waiting c e valid r order here own = by_loss (one_of c.system r.log e r.ope
     by_loss : OneOf (what e) → AllOwn (c.cursor + 1) (with_all_waiting moved here)
     by_loss (inl tells) = nobody (none (what e) tells)
     by_loss (inr (inl of)) = nobody (none_by_page (what e) of)
-    by_loss (inr (inr l)) = lost l r.ready
+    by_loss (inr (inr (inl l))) = lost l r.ready
+    by_loss (inr (inr (inr of))) = nobody (by_sync (λ w. moved_by c.places c.number w (records_after w c.records) ≡ []) (λ pid at index bytes. refl) (λ pid small read. refl) (what e) of)

@@ -21,12 +21,13 @@ use Rattle.channel_table.specs.Changes.{pids_differ}
 use Rattle.cert_sched.specs.Account.{is_exit_of}
 use Rattle.cert_sched.specs.Appended.{entry_of}
 use Rattle.cert_sched.specs.Built.{BuiltMayFollow, UnlostMayFollow}
+use Rattle.cert_sched.specs.Deeds.{is_cut}
 use Rattle.cert_sched.specs.Kinds.{FetchHolds, KindHolds, PageIsHolds}
 use Rattle.cert_sched.specs.Legal.{IsLegalBy, Stands}
 use Rattle.cert_sched.specs.Losses.{is_by_cluster, is_crash_of, is_from}
 use Rattle.cert_sched.specs.Moved.{is_fetch, is_page_is, waiting_fetches}
 use Rattle.cert_sched.specs.Parts.{first_of}
-use Rattle.cert_sched.specs.Rules.{awaits_pages, has_its_pages, holds_of, home_at, is_by, is_by_home, is_by_right}
+use Rattle.cert_sched.specs.Rules.{awaits_pages, has_its_pages, holds_of, home_at, is_by, is_by_home, is_by_right, is_new_page}
 use Rattle.cert_sched.specs.Schedule.{items_of, placement, plain_after}
 use Rattle.cert_sched.specs.Steps.{process_of}
 use Rattle.cert_sched.proofs.FamilyLaws.{exit_elsewhere}
@@ -37,9 +38,9 @@ use Rattle.cert_sched.proofs.UnendedLaws.{loss_keeps, unended_map}
 use Rattle.record_laws.proofs.Standing.{built_stands}
 use Rattle.page_laws.specs.Next.{ends_wait_next, moves_next}
 use Rattle.page_laws.specs.Waited.{is_waited}
-use Rattle.page_laws.proofs.Keeping.{fetch_kept, page_is_kept}
+use Rattle.page_laws.proofs.Keeping.{answer_kept, fetch_kept}
 use Rattle.page_laws.proofs.OneEntry.{turned}
-use Rattle.page_laws.proofs.StartPages.{waited_unended}
+use Rattle.page_laws.proofs.StartPages.{cut_has_pages, waited_unended}
 use Rattle.page_laws.proofs.Waiting.{first_waited, waited_has_not, waited_lacks}
 use Rattle.cluster_core.specs.Follows.{IsOpen}
 use Rattle.cluster_core.proofs.ByKind.{by_page, is_of_page}
@@ -47,6 +48,7 @@ use Rattle.cluster_core.proofs.HasPages.{home_of_sender}
 use Rattle.cluster_core.proofs.Homes.{HomeHere, differ_built, home_lives}
 use Rattle.cluster_core.proofs.HomesMoved.{stays_home}
 use Rattle.cluster_core.proofs.NotMoved.{by_built, home_not_moved, moved_not_moved}
+use Rattle.cluster_core.proofs.SyncedHomes.{home_synced}
 
 -- ---- who sends
 
@@ -154,40 +156,48 @@ module _ (system : System) (valid : is_system system ≡ true) (log : List Entry
         found = unended_map (after_loss lost) (loss_keeps lost) places (placed_after places (Crash lost cause)) refl p ∙ ap (option_map (after_loss lost)) here.found;
         home = ap (λ h. same_cluster h k) (stays_home lost here.placed (ap (λ n. eqb n lost.0) (eqb-true ((here.placed).home).0 k.0 here.home) ∙ turned k.0 lost.0 ∙ away)) ∙ here.home;
       })
-      (λ rests right away. here) (λ right away. here) (what e) may_e.built (may_e.stands).by_right away)
+      (λ r at index bytes right away. here) (λ r small read right away. home_synced places r p k small read None here) (λ rests right away. here) (λ right away. here) (what e) may_e.built (may_e.stands).by_right away)
 
   -- it asks for no page of such a process
   no_fetch : (p : Pid) (i : ℕ) → HomeHere places p k → is_fetch p i (what e) ≡ false
   no_fetch p i here =
       by_built (λ w. is_by_right places (e.post).by w ≡ true → is_fetch p i w ≡ false)
-      (λ at letter right. refl) (λ r at end right. refl) (λ r index right. ap (λ b. b && eqb index i) (not_its p r here right (same_pid r p) refl)) (λ r index bytes right. refl) (λ lost cause right. refl) (λ rests right. refl) (λ right. refl)
-      (what e) may_e.built (may_e.stands).by_right
+      (λ at letter right. refl) (λ r at end right. refl) (λ r index right. ap (λ b. b && eqb index i) (not_its p r here right (same_pid r p) refl)) (λ r index bytes right. refl) (λ lost cause right. refl)
+      (λ r at index bytes right. refl) (λ r small read right. refl) (λ rests right. refl) (λ right. refl) (what e) may_e.built (may_e.stands).by_right
 
   -- the first page server stays
   server_after : (by : By) → is_from k by ≡ true → is_by by (first_of (servers_in places)) ≡ true → is_by by (first_of (servers_in (placement system later))) ≡ true
   server_after by from is =
       ap (λ places. is_by by (first_of (servers_in places))) (placement-snoc system log e)
       ∙ by_built (λ w. is_crash_of k w ≡ false → is_by by (first_of (servers_in (placed_after places w))) ≡ true)
-      (λ at letter away. is) (λ r at end away. is) (λ r index away. is) (λ r index bytes away. is) (λ lost cause away. server_after_loss places k lost cause by from away is) (λ rests away. is) (λ away. is) (what e) may_e.built away
+      (λ at letter away. is) (λ r at end away. is) (λ r index away. is) (λ r index bytes away. is) (λ lost cause away. server_after_loss places k lost cause by from away is) (λ r at index bytes away. is) (λ r small read away. is) (λ rests away. is) (λ away. is) (what e) may_e.built away
 
   -- where that is this cluster, it is no answer
   no_answer : (by : By) (p : Pid) (i : ℕ) → is_from k by ≡ true → is_by by (first_of (servers_in places)) ≡ true → is_page_is p i (what e) ≡ false
   no_answer by p i from is =
       by_built (λ w. is_by_right places (e.post).by w ≡ true → is_page_is p i w ≡ false)
       (λ at letter right. refl) (λ r at end right. refl) (λ r index right. refl) (λ r index bytes right. absurd (true≢false (sym (same_sender k by (e.post).by (first_of (servers_in places)) is right from) ∙ foreign)))
-      (λ lost cause right. refl) (λ rests right. refl) (λ right. refl) (what e) may_e.built (may_e.stands).by_right
+      (λ lost cause right. refl) (λ r at index bytes right. refl) (λ r small read right. refl) (λ rests right. refl) (λ right. refl) (what e) may_e.built (may_e.stands).by_right
 
   -- it is no exit of a process that lacks a page
   no_exit : (p : Pid) → has_its_pages system log p ≡ false → is_exit_of p (what e) ≡ false
   no_exit p lacks =
       by_built (λ w. holds_of (awaits_pages w) (process_of w) (has_its_pages system log) ≡ true → is_exit_of p w ≡ false)
-      (λ at letter has. refl) (λ r at end has. by_pid r has (same_pid r p) refl) (λ r index has. refl) (λ r index bytes has. refl) (λ lost cause has. refl) (λ rests has. refl) (λ has. refl) (what e) may_e.built may_e.pages
+      (λ at letter has. refl) (λ r at end has. by_pid r has (same_pid r p) refl) (λ r index has. refl) (λ r index bytes has. refl) (λ lost cause has. refl) (λ r at index bytes has. refl) (λ r small read has. refl) (λ rests has. refl) (λ has. refl) (what e) may_e.built may_e.pages
     where
       by_pid : (r : Pid) → has_its_pages system log r ≡ true → (b : Bool) → same_pid r p ≡ b → b ≡ false
       by_pid r has true same =
           let one : r ≡ p = λ i. record { 0 = eqb-true r.0 p.0 same i } in
           absurd (true≢false (sym has ∙ ap (has_its_pages system log) one ∙ lacks))
       by_pid r has false same = refl
+
+  -- it cuts no process that lacks a page
+  no_cut : (p : Pid) → has_its_pages system log p ≡ false → is_cut p (what e) ≡ false
+  no_cut p lacks = by_cut (is_cut p (what e)) refl
+    where
+      by_cut : (b : Bool) → is_cut p (what e) ≡ b → b ≡ false
+      by_cut true cut = absurd (true≢false (sym (cut_has_pages system log e p may_e.pages cut) ∙ lacks))
+      by_cut false cut = refl
 
   -- a wait goes on for which this cluster has the answer
   wait_stays : (by : By) (p : Pid) (i : ℕ) → is_from k by ≡ true → is_by by (first_of (servers_in places)) ≡ true → is_waited system log p i ≡ true → ends_wait_next system log e p i ≡ false
@@ -212,6 +222,7 @@ module _ (system : System) (valid : is_system system ≡ true) (log : List Entry
         kind = subst (KindHolds system later (entry_of system later post)) (sym is) (fetch_kept system log e p i may_e.stands (no_fetch p i here) (home_not_moved system log e p k differ here away) holds);
       };
       built = may.built;
+      new_page = ap (is_new_page system later) is;
       pages = ap (λ w. holds_of (awaits_pages w) (process_of w) (has_its_pages system later)) is;
     }
       where
@@ -231,9 +242,10 @@ module _ (system : System) (valid : is_system system ≡ true) (log : List Entry
         by_right = ap (is_by_right (placement system later) post.by) is ∙ server_after post.by from server;
         applies = applies_later (λ kernel. ap (items_of kernel) is);
         kind = subst (KindHolds system later (entry_of system later post)) (sym is)
-            (page_is_kept system log e p i bytes may_e.built (wait_stays post.by p i from server (first_waited p i (waiting_fetches system log) holds.asked)) holds);
+            (answer_kept system log e p i bytes (no_cut p (waited_has_not system log p i (built_stands system log now.0) waited)) (wait_stays post.by p i from server waited) holds);
       };
       built = may.built;
+      new_page = ap (is_new_page system later) is;
       pages = ap (λ w. holds_of (awaits_pages w) (process_of w) (has_its_pages system later)) is;
     }
       where
@@ -242,6 +254,9 @@ module _ (system : System) (valid : is_system system ≡ true) (log : List Entry
 
         holds : PageIsHolds system log p i bytes
         holds = subst (KindHolds system log (entry_of system log post)) is (may.stands).kind
+
+        waited : is_waited system log p i ≡ true
+        waited = first_waited p i (waiting_fetches system log) holds.asked
 
 -- a queued fetch or answer of a cluster may follow after an entry of another
 pub page_post_stays : (system : System) → is_system system ≡ true → (log : List Entry) (e : Entry) (k : ClusterNo) (post : Post) → IsOpen BuiltMayFollow system log → IsOpen BuiltMayFollow system (log ++ e ∷ []) → is_by_cluster k e ≡ false

@@ -17,20 +17,20 @@ use Rattle.bus_msg.specs.Places.{Places, unended_at, same_pid}
 use Rattle.bus_msg.specs.PlacedAfter.{what, placed_after}
 use Rattle.cert_sched.specs.Appended.{entry_of}
 use Rattle.cert_sched.specs.Built.{tells_or_closes, BuiltMayFollow, TellingMayFollow, UnlostMayFollow}
-use Rattle.cert_sched.specs.Deeds.{deeds_in, letter_for}
+use Rattle.cert_sched.specs.Deeds.{deeds_in, is_cut, letter_for}
 use Rattle.cert_sched.specs.Losses.{is_by_cluster, is_from, is_crash_of}
 use Rattle.cert_sched.specs.Parts.{rising}
 use Rattle.cert_sched.specs.Rests.{home_pids}
 use Rattle.cert_sched.specs.Rules.{is_by_home, has_its_pages, home_at, is_by, is_by_right}
 use Rattle.cert_sched.specs.Schedule.{items_of, placement}
 use Rattle.cert_sched.proofs.LogLaws.{IsLegal-last, placement-snoc}
-use Rattle.cert_sched.proofs.MailLaws.{built_is_plain}
 use Rattle.backup_records.specs.Records.{records_after}
 use Rattle.record_laws.specs.Kept.{KeepsRecords, changes_in_place}
 use Rattle.record_laws.proofs.KeptLaws.{records_kept}
 use Rattle.record_laws.proofs.Standing.{built_stands}
 use Rattle.recovery_laws.specs.Behind.{RollsBehind}
-use Rattle.recovery_laws.proofs.KeepingBehind.{behind_entry}
+use Rattle.recovery_laws.proofs.KeepingBehind.{behind_standing}
+use Rattle.recovery_laws.proofs.ByRule.{built_stands as standing}
 use Rattle.cluster_core.specs.View.{page_held, ClusterView, Held, Runs, Rolls, Waits, next_count, with_server, held_of}
 use Rattle.cluster_core.specs.Residents.{pids_in}
 use Rattle.cluster_core.specs.Queue.{AreTogether, Queued, Nothing, One, posts_of, IsQueueLegal, move_of, state_by, state_now, with_queue}
@@ -44,7 +44,7 @@ use Rattle.cluster_core.proofs.Homes.{HomeHere, differ_built, home_here, pids_ho
 use Rattle.cluster_core.proofs.Telling.{Telling, telling}
 use Rattle.cluster_core.proofs.Counted.{lost_before}
 use Rattle.cluster_core.proofs.Posted.{no_end}
-use Rattle.cluster_core.proofs.Following.{counted_foreign, post_may, Left, by_home_of, by_one, counted_left, letter_pids, page_queued, left_lone, marked_own}
+use Rattle.cluster_core.proofs.Following.{counted_foreign, post_may, Left, by_home_of, by_one, counted_left, letter_pids, page_queued, marked_own}
 use Rattle.cluster_core.proofs.Served.{accounts_next, foreign_no_answer, accounts_sent, ahead_after}
 use Rattle.cluster_core.specs.Serving.{IsAheadThere, Serves}
 use Rattle.page_server.specs.Account.{PagerState}
@@ -199,7 +199,8 @@ module _ (system : System) (valid : is_system system ≡ true) (log : List Entry
   rolls_still before after p s counts births unended alike held = (alike.unmoved held.0, subst (λ t. RollsBehind system later p t counts births) no_letter behind)
     where
       behind : RollsBehind system later p (all_delivered (state_of s) (letter_for p (what e))) counts births
-      behind = behind_entry system log e p BuiltMayFollow built_is_plain (state_of s) counts births valid next.0 unended (by_page (λ w. deeds_in p w ≡ []) (λ pid index. refl) (λ pid index bytes. refl) (what e) of) held.1
+      behind =
+          behind_standing system log e p BuiltMayFollow standing (state_of s) counts births valid next.0 unended (by_page (λ w. is_cut p w ≡ false) (λ pid index. refl) (λ pid index bytes. refl) (what e) of) (by_page (λ w. deeds_in p w ≡ []) (λ pid index. refl) (λ pid index bytes. refl) (what e) of) held.1
 
       no_letter : all_delivered (state_of s) (letter_for p (what e)) ≡ state_of s
       no_letter = by_page (λ w. all_delivered (state_of s) (letter_for p w) ≡ state_of s) (λ pid index. refl) (λ pid index bytes. refl) (what e) of
@@ -339,7 +340,7 @@ module _ (system : System) (valid : is_system system ≡ true) (log : List Entry
     pages = pages;
     marks = marks;
     records = records_stay c.number c.records f.records;
-    accounts = accounts_next system log e c (with_server server (paged c e)) q (IsLegal-last BuiltMayFollow system log e next.0).built (foreign_no_answer c.number e foreign) serves refl queue_is queue_is posts_legal f.accounts;
+    accounts = accounts_next system log e c (with_server server (paged c e)) q (foreign_no_answer c.number e foreign) serves refl queue_is queue_is posts_legal f.accounts;
     disk = ((f.disk).0, ahead_after (placement system log) e c.server server serves (f.disk).1);
   })
     where
@@ -441,7 +442,7 @@ module _ (system : System) (valid : is_system system ≡ true) (log : List Entry
           let before = was_paged (what e) c.here p h of at in
           let home = home_of c.number c.here p before.was once before.there in
           let was : MarkedIfThere CarriesMarks system later p (unended_process before.was) =
-          subst (λ s. MarkedIfThere CarriesMarks s later p (unended_process before.was)) (sym system_is) (marked_own c log e l (left_lone c log e l) p before.was before.there) in
+          subst (λ s. MarkedIfThere CarriesMarks s later p (unended_process before.was)) (sym system_is) (marked_own c log e l l.lone p before.was before.there) in
           subst (λ x. MarkedIfThere CarriesMarks system later p (unended_process x)) (sym before.same) (paged_marked (e.post ∷ []) p before.was (ap is_some home.found) (was_held p before.was before.there) was)
 
       pages : (p : Pid) (h : Held) → held_of (here_after (what e) c.here) p ≡ Some h → is_some (process_in h) ≡ true → has_its_pages system later p ≡ true

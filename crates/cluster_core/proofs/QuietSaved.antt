@@ -1,83 +1,118 @@
 -- No letter that a record saved is a signal, while the entries are of the kinds that are built.
-use Rattle.std.proofs.Common.{◌≡◌, ◌⊎◌, ℕ, ◌+◌, refl, sym, subst, List, [], ◌∷◌, ◌++◌, Bool, true, false, cond, ◌||◌, inl, inr}
-use Rattle.std.specs.List.{list_any, AllByRecursion}
+use Rattle.std.proofs.Common.{◌≡◌, ℕ, refl, sym, ◌∙◌, ap, List, [], ◌∷◌, ◌++◌, Bool, true, false, cond, ◌||◌, Option, Some, None, is_some}
+use Rattle.std.specs.Prelude.{filter, option_map}
+use Rattle.std.specs.List.{list_any}
+use Rattle.std.proofs.lemmas.List.Folds.{list_any-append}
 use Rattle.t32_base.specs.declared.process.Pid.{Pid}
+use Rattle.t32_base.specs.declared.letter.Arrived.{Arrived}
+use Rattle.t32_base.specs.declared.letter.BackRec.{BackRec}
 use Rattle.t32_base.specs.declared.letter.Letter.{Letter}
-use Rattle.t32_base.specs.declared.letter.To.{To}
-use Rattle.t32_base.specs.declared.letter.To.TheVariants.{Proc, Tty}
 use Rattle.sys_text.specs.declared.system.System.{System}
+use Rattle.sys_text.specs.Valid.{is_system}
 use Rattle.proc_state.specs.Mail.{carries_signal, is_signal}
+use Rattle.proc_state.specs.State.{ProcState}
 use Rattle.sys_calls.specs.declared.steps.Emission.TheVariants.{Mail as Sent}
+use Rattle.plain_kernel.specs.Kernel.{boot, process_at}
+use Rattle.bus_msg.specs.declared.entry.What.{What}
 use Rattle.bus_msg.specs.declared.entry.Entry.{Entry}
-use Rattle.bus_msg.specs.Places.{same_pid}
+use Rattle.bus_msg.specs.Places.{same_pid, unended_at}
 use Rattle.bus_msg.specs.PlacedAfter.{what}
-use Rattle.cert_sched.specs.Built.{BuiltMayFollow, tells_or_closes}
-use Rattle.cert_sched.specs.Deeds.{letter_for, letters_to, numbered, to_process}
+use Rattle.backup_queue.specs.Queue.{is_unread}
+use Rattle.backup_records.specs.Records.{counted_by_sender, is_receiver, record_after, saved_by_receiver, with_counted, with_cut, with_saved}
+use Rattle.cert_sched.specs.Built.{BuiltMayFollow, is_built}
 use Rattle.cert_sched.specs.Kinds.{KindHolds}
 use Rattle.cert_sched.specs.Legal.{IsLegalBy}
-use Rattle.cert_sched.specs.Parts.{after_last}
+use Rattle.cert_sched.specs.Record.{backup_record}
+use Rattle.cert_sched.specs.Schedule.{placement}
+use Rattle.cert_sched.specs.Simulation.{IsUnended}
+use Rattle.cert_sched.proofs.CameLaws.{not_birth}
 use Rattle.cert_sched.proofs.Induction.{legal_induction}
+use Rattle.cert_sched.proofs.LogLaws.{IsLegal-snoc, placement-snoc}
 use Rattle.cert_sched.proofs.MailLaws.{sent_no_signal}
+use Rattle.cert_sched.proofs.RisingLaws.{either_not}
+use Rattle.cert_sched.proofs.StayingUnended.{unended_before}
 use Rattle.cert_sched.proofs.StepLaws.{is_sent}
-use Rattle.cluster_core.proofs.ByKind.{OneOf, by_kind, by_page, kind_is}
+use Rattle.record_laws.specs.Kept.{is_renewed, record_at_boot}
+use Rattle.record_laws.proofs.BootLaws.{boot_record}
+use Rattle.record_laws.proofs.OneRecord.{record_follows}
+use Rattle.recovery_laws.proofs.ByRule.{built_stands}
+use Rattle.cluster_core.proofs.NotMoved.{by_built}
 
--- no letter of these is a signal
-abbrev pub AllQuiet : List Letter → Type 0
-AllQuiet letters = AllByRecursion (λ (l : Letter). carries_signal l.body ≡ false) letters
-
--- no letter of these entries to the process is one
-abbrev pub QuietFor : Pid → List Entry → Type 0
-QuietFor p log = AllByRecursion (λ (e : Entry). AllQuiet (letter_for p (what e))) log
-
-quiet_to : (p : Pid) (letter : Letter) (to : To) → carries_signal letter.body ≡ false → AllQuiet (to_process p letter to)
-quiet_to p letter (Proc q end) quiet = by_pid (same_pid q p)
+-- where none passes a test, none of some of them does
+none_left : (t u : Arrived → Bool) (xs : List Arrived) → list_any t xs ≡ false → list_any t (filter u xs) ≡ false
+none_left t u [] none = refl
+none_left t u (x ∷ xs) none = by_test (u x) (either_not (t x) (list_any t xs) none) (none_left t u xs)
   where
-    by_pid : (b : Bool) → AllQuiet (cond b (letter ∷ []) [])
-    by_pid true = (quiet, tt)
-    by_pid false = tt
-quiet_to p letter (Tty t) quiet = tt
+    by_test : (b : Bool) → (t x ≡ false) × (list_any t xs ≡ false) → (list_any t xs ≡ false → list_any t (filter u xs) ≡ false) → list_any t (cond b (x ∷ filter u xs) (filter u xs)) ≡ false
+    by_test true parts more = λ i. parts.0 i || more parts.1 i
+    by_test false parts more = more parts.1
 
--- an entry that may follow brings no signal
-entry_quiet : (system : System) (log : List Entry) (e : Entry) (p : Pid) → BuiltMayFollow system log e → AllQuiet (letter_for p (what e))
-entry_quiet system log e p may = by_loss (kind_is (what e) may.built)
+-- a letter that carries no signal leaves a record without one
+letter_saves_none : (letter : Letter) (r : BackRec) → carries_signal letter.body ≡ false → list_any is_signal r.saved ≡ false → list_any is_signal (counted_by_sender letter (saved_by_receiver letter r)).saved ≡ false
+letter_saves_none letter r quiet none = ap (list_any is_signal) (counted (saved_by_receiver letter r)) ∙ by_receiver (is_receiver r.pid letter.to)
   where
-    by_loss : OneOf (what e) → AllQuiet (letter_for p (what e))
-    by_loss (inl tells) =
-        by_kind (λ w. KindHolds system log e w → AllQuiet (letter_for p w))
-        (λ at letter kind. let sent = is_sent system log letter.from at (Sent letter) kind in quiet_to p letter letter.to (sent_no_signal system log letter.from at (Sent letter) sent.after sent.is))
-        (λ pid at end kind. tt) (λ rests kind. tt) (λ kind. tt) (what e) tells (may.stands).kind
-    by_loss (inr (inl page)) = by_page (λ w. AllQuiet (letter_for p w)) (λ pid index. tt) (λ pid index bytes. tt) (what e) page
-    by_loss (inr (inr loss)) = subst (λ w. AllQuiet (letter_for p w)) (sym loss.same) tt
+    counted : (s : BackRec) → (counted_by_sender letter s).saved ≡ s.saved
+    counted s = by_sender (same_pid letter.from s.pid)
+      where
+        by_sender : (b : Bool) → (cond b (with_counted letter s) s).saved ≡ s.saved
+        by_sender true = refl
+        by_sender false = refl
 
-all_last : {X : Type 0} (P : X → Type 0) (xs : List X) (x : X) → AllByRecursion P xs → P x → AllByRecursion P (xs ++ x ∷ [])
-all_last P [] x all last = (last, tt)
-all_last P (y ∷ xs) x all last = (all.0, all_last P xs x all.1 last)
+    by_receiver : (b : Bool) → list_any is_signal (cond b (with_saved letter r) r).saved ≡ false
+    by_receiver true = list_any-append is_signal r.saved (record { number = r.next; letter = letter } ∷ []) ∙ (λ i. none i || (quiet i || false))
+    by_receiver false = none
 
--- so it is in each log of the kinds that are built
-pub log_quiet : (system : System) (log : List Entry) (p : Pid) → IsLegalBy BuiltMayFollow system log → QuietFor p log
-log_quiet system log p legal = legal_induction BuiltMayFollow system (λ log. QuietFor p log) tt (λ log e before may. all_last (λ (e : Entry). AllQuiet (letter_for p (what e))) log e before (entry_quiet system log e p may)) log legal
+-- so does a cut
+cut_saves_none : (read : List ℕ) (r cut : BackRec) → cut.saved ≡ filter (is_unread read) r.saved → list_any is_signal r.saved ≡ false → (b : Bool) → list_any is_signal (cond b cut r).saved ≡ false
+cut_saves_none read r cut saved none true = ap (list_any is_signal) saved ∙ none_left is_signal (is_unread read) r.saved none
+cut_saves_none read r cut saved none false = none
 
-after_quiet : {X : Type 0} (P : X → Type 0) (t : X → Bool) (xs : List X) → AllByRecursion P xs → AllByRecursion P (after_last t xs)
-after_quiet P t [] all = tt
-after_quiet P t (x ∷ xs) all = by_tests (list_any t xs) (t x) (after_quiet P t xs all.1)
+-- an entry that may follow saves no signal
+entry_saves_none : (system : System) (log : List Entry) (e : Entry) (r : BackRec) → BuiltMayFollow system log e → list_any is_signal r.saved ≡ false → list_any is_signal (record_after (what e) r).saved ≡ false
+entry_saves_none system log e r may none =
+    by_built (λ w. KindHolds system log e w → list_any is_signal (record_after w r).saved ≡ false)
+    (λ at letter kind. let sent = is_sent system log letter.from at (Sent letter) kind in letter_saves_none letter r (sent_no_signal system log letter.from at (Sent letter) sent.after sent.is) none)
+    (λ pid at end kind. none) (λ pid index kind. none) (λ pid index bytes kind. none) (λ lost cause kind. none) (λ pid at index bytes kind. none)
+    (λ pid small read kind. cut_saves_none read r (with_cut small read r) refl none (same_pid pid r.pid)) (λ rests kind. none) (λ kind. none) (what e) may.built (may.stands).kind
+
+-- ---- the record of a process
+
+-- an entry of a kind that is built is no new backup
+built_unrenewed : (p : Pid) (w : What) → is_built w ≡ true → is_renewed p w ≡ false
+built_unrenewed p =
+    by_built (λ w. is_renewed p w ≡ false) (λ at letter. refl) (λ pid at end. refl) (λ pid index. refl) (λ pid index bytes. refl) (λ lost cause. refl) (λ pid at index bytes. refl) (λ pid small read. refl) (λ rests. refl) refl
+
+-- a log of the kinds that are built, and a process of which no signal is saved
+record SavesNone (system : System) (p : Pid) (log : List Entry) : Type 0 where
+  pub legal : IsLegalBy BuiltMayFollow system log
+  pub none : IsUnended system log p → (r : BackRec) → backup_record system log p ≡ Some r → list_any is_signal r.saved ≡ false
+
+nothing_legal : (system : System) → IsLegalBy BuiltMayFollow system []
+unfolding IsLegalBy
+nothing_legal system = tt
+
+at_boot : (system : System) (p : Pid) → is_system system ≡ true → SavesNone system p []
+at_boot system p valid = record { legal = nothing_legal system; none = λ unended r is. by_process r (process_at (boot system) p) (sym (boot_record system p valid) ∙ is) }
   where
-    by_tests : (a b : Bool) → AllByRecursion P (after_last t xs) → AllByRecursion P (cond a (after_last t xs) (cond b xs (x ∷ xs)))
-    by_tests true b more = more
-    by_tests false true more = all.1
-    by_tests false false more = all
+    by_process : (r : BackRec) (o : Option ProcState) → option_map (λ (s : ProcState). record_at_boot (p, s)) o ≡ Some r → list_any is_signal r.saved ≡ false
+    by_process r None is = cc
+    by_process r (Some s) is = let same : record_at_boot (p, s) ≡ r = cc in ap (λ (x : BackRec). list_any is_signal x.saved) (sym same)
 
-both_quiet : (xs ys : List Letter) → AllQuiet xs → AllQuiet ys → AllQuiet (xs ++ ys)
-both_quiet [] ys first then = then
-both_quiet (x ∷ xs) ys first then = (first.0, both_quiet xs ys first.1 then)
+one_more : (system : System) (p : Pid) → is_system system ≡ true → (log : List Entry) (e : Entry) → SavesNone system p log → BuiltMayFollow system log e → SavesNone system p (log ++ e ∷ [])
+one_more system p valid log e before may = record {
+  legal = legal;
+  none = λ unended r is.
+      let was = unended_before (what e) (not_birth system log e (may.stands).applies (what e) refl) (placement system log) p (sym (ap (λ places. is_some (unended_at places p)) (placement-snoc system log e)) ∙ unended) in
+      by_record was.1 r (backup_record system log p) refl (sym (record_follows BuiltMayFollow built_stands system log e p valid legal (built_unrenewed p (what e) may.built) was.1) ∙ is);
+}
+  where
+    legal : IsLegalBy BuiltMayFollow system (log ++ e ∷ [])
+    legal = IsLegal-snoc BuiltMayFollow system log e before.legal may
 
-letters_quiet : (p : Pid) (log : List Entry) → QuietFor p log → AllQuiet (letters_to p log)
-letters_quiet p [] quiet = tt
-letters_quiet p (e ∷ log) quiet = both_quiet (letter_for p (what e)) (letters_to p log) quiet.0 (letters_quiet p log quiet.1)
+    by_record : IsUnended system log p → (r : BackRec) (o : Option BackRec) → backup_record system log p ≡ o → option_map (record_after (what e)) o ≡ Some r → list_any is_signal r.saved ≡ false
+    by_record unended r None at is = cc
+    by_record unended r (Some s) at is = let same : record_after (what e) s ≡ r = cc in ap (λ (x : BackRec). list_any is_signal x.saved) (sym same) ∙ entry_saves_none system log e s may (before.none unended s at)
 
-numbered_quiet : (n : ℕ) (letters : List Letter) → AllQuiet letters → list_any is_signal (numbered n letters) ≡ false
-numbered_quiet n [] quiet = refl
-numbered_quiet n (l ∷ letters) quiet = λ i. quiet.0 i || numbered_quiet (n + 1) letters quiet.1 i
-
--- the letters of a part of it, numbered, are none
-pub numbered_part_quiet : (system : System) (log : List Entry) (p : Pid) (t : Entry → Bool) (n : ℕ) → IsLegalBy BuiltMayFollow system log → list_any is_signal (numbered n (letters_to p (after_last t log))) ≡ false
-numbered_part_quiet system log p t n legal = numbered_quiet n (letters_to p (after_last t log)) (letters_quiet p (after_last t log) (after_quiet (λ (e : Entry). AllQuiet (letter_for p (what e))) t log (log_quiet system log p legal)))
+-- the record of a process that has not ended saves no signal
+pub saved_quiet : (system : System) (log : List Entry) (p : Pid) (r : BackRec) → is_system system ≡ true → IsLegalBy BuiltMayFollow system log → IsUnended system log p → backup_record system log p ≡ Some r → list_any is_signal r.saved ≡ false
+saved_quiet system log p r valid legal unended = (legal_induction BuiltMayFollow system (SavesNone system p) (at_boot system p valid) (λ log e before may. one_more system p valid log e before may) log legal).none unended r

@@ -1,6 +1,6 @@
 -- What a cluster keeps as a page server stays what the log says: after an entry, and where a post is queued.
 use Rattle.std.proofs.Common.{◌≡◌, ℕ, ◌+◌, ◌≤◌, refl, sym, ◌∙◌, ap, subst, arith, List, [], ◌∷◌, ◌++◌, Bool, true, false, cond, ◌&&◌, eq-eqb, Option, Some, None, is_some, inl, inr, true≢false}
-use Rattle.std.specs.Prelude.{◌⊎◌, Ok, ⊤}
+use Rattle.std.specs.Prelude.{Ok, ⊤}
 use Rattle.std.specs.Option.{IfSome, option_map_or}
 use Rattle.page_server.specs.Account.{PagerState}
 use Rattle.page_server.specs.Disk.{Counts}
@@ -17,7 +17,7 @@ use Rattle.bus_msg.specs.declared.entry.Entry.{Entry}
 use Rattle.bus_msg.specs.Places.{Places}
 use Rattle.bus_msg.specs.PlacedAfter.{what}
 use Rattle.cert_sched.specs.Appended.{entry_of}
-use Rattle.cert_sched.specs.Built.{UnlostMayFollow, is_built, is_unlost, tells_or_closes}
+use Rattle.cert_sched.specs.Built.{UnlostMayFollow, is_unlost}
 use Rattle.cert_sched.specs.Losses.{capped, is_by_cluster, is_from, is_page_entry, is_page_is_entry, least_calls, was_lost_in}
 use Rattle.cert_sched.specs.Schedule.{placement}
 use Rattle.cert_sched.specs.Scripted.{is_server}
@@ -28,7 +28,7 @@ use Rattle.cluster_core.specs.Serving.{BeginsToServe, IsAheadThere, Serves}
 use Rattle.cluster_core.specs.View.{ClusterView, failing_in}
 use Rattle.cluster_core.specs.Work.{AnswersNext}
 use Rattle.page_accounts.proofs.Counts.{ahead_passed}
-use Rattle.cluster_core.proofs.ByKind.{OneOf, by_kind, by_page, is_of_page, kind_is, unlost_is}
+use Rattle.cluster_core.proofs.ByKind.{OneOf, by_kind, by_page, by_sync, kind_is}
 use Rattle.cluster_core.proofs.Counted.{count_by-snoc, lost_before}
 
 -- ---- what a cluster has answered
@@ -47,22 +47,16 @@ foreign_no_answer k e foreign = ap (λ b. is_page_is_entry (what e) && b) foreig
 
 -- ---- an entry more
 
--- an entry of a kind that is built brings no page
-pub no_page : (w : What) → is_built w ≡ true → is_page_entry w ≡ false
-no_page w built = by_one (kind_is w built)
-  where
-    by_one : OneOf w → is_page_entry w ≡ false
-    by_one (inl tells) = by_kind (λ w. is_page_entry w ≡ false) (λ at letter. refl) (λ pid at end. refl) (λ rests. refl) refl w tells
-    by_one (inr (inl of)) = by_page (λ w. is_page_entry w ≡ false) (λ pid index. refl) (λ pid index bytes. refl) w of
-    by_one (inr (inr loss)) = ap is_page_entry loss.same
+-- one where an entry brings a page
+abbrev brought : Entry → ℕ
+brought e = cond (is_page_entry (what e)) 1 0
 
--- so the least calls rise by it where it is an answer, and only there
-least_more : (system : System) (log : List Entry) (e : Entry) (k : ClusterNo) → is_built (what e) ≡ true → least_calls system (log ++ e ∷ []) (log ++ e ∷ []) k ≡ least_calls system log log k + cond (answers k e) 1 0
-least_more system log e k built =
+-- the least calls rise by it where it brings a page, and where it is an answer
+least_more : (system : System) (log : List Entry) (e : Entry) (k : ClusterNo) → least_calls system (log ++ e ∷ []) (log ++ e ∷ []) k ≡ least_calls system log log k + cond (answers k e) 1 0 + brought e
+least_more system log e k =
     let pages = count_by-snoc (λ (e : Entry). is_page_entry (what e)) log e in
-    let none : ◌≡◌ {A = ℕ} (cond (is_page_entry (what e)) 1 0) 0 = ap (λ (b : Bool). cond b 1 0) (no_page (what e) built) in
     let answered = count_by-snoc (answers k) log e in
-    omega (arith, pages, none, answered)
+    omega (arith, pages, answered)
 
 -- ---- a post more
 
@@ -77,11 +71,13 @@ IsPlain Nothing = ⊤
 IsPlain (One post) = is_rebackup post.what ≡ false
 
 plain_kind : (w : What) → is_unlost w ≡ true → is_rebackup w ≡ false
-plain_kind w unlost = by_one (unlost_is w unlost)
+plain_kind w unlost = by_one (kind_is w (unlost_built w unlost))
   where
-    by_one : (tells_or_closes w ≡ true) ⊎ (is_of_page w ≡ true) → is_rebackup w ≡ false
+    by_one : OneOf w → is_rebackup w ≡ false
     by_one (inl tells) = by_kind (λ w. is_rebackup w ≡ false) (λ at letter. refl) (λ pid at end. refl) (λ rests. refl) refl w tells
-    by_one (inr of) = by_page (λ w. is_rebackup w ≡ false) (λ pid index. refl) (λ pid index bytes. refl) w of
+    by_one (inr (inl of)) = by_page (λ w. is_rebackup w ≡ false) (λ pid index. refl) (λ pid index bytes. refl) w of
+    by_one (inr (inr (inl loss))) = ap is_rebackup loss.same
+    by_one (inr (inr (inr of))) = by_sync (λ w. is_rebackup w ≡ false) (λ pid at index bytes. refl) (λ pid small read. refl) w of
 
 plain_post : (system : System) (log : List Entry) (q : Queued) → IsQueueLegal UnlostMayFollow system log (posts_of q) → IsPlain q
 plain_post system log Nothing legal = tt
@@ -112,37 +108,41 @@ still_there before e (Some old) (Some new) serves there = refl
 abbrev calls_of : Option PagerState → ℕ
 calls_of o = option_map_or (λ (s : PagerState). (s.counts).calls) o 0
 
--- an entry that brings no page calls no disk
-no_call : (w : What) (old new : Counts) → is_page_entry w ≡ false → CountsAfterNote w old new (Ok tt) → new ≡ old
-no_call (Mail at letter) old new none after = after
-no_call (Birth parent at child end) old new none after = after
-no_call (Exit pid at end) old new none after = after
-no_call (Page pid at index bytes) old new none after = absurd (true≢false none)
-no_call (Sync pid small read took) old new none after = after
-no_call (Fetch pid index) old new none after = after
-no_call (PageIs pid index bytes) old new none after = after
-no_call (Crash k cause) old new none after = after
-no_call (Return k) old new none after = after
-no_call (Rebackup to fresh recs) old new none after = after
-no_call (Done rests) old new none after = after
-no_call Stop old new none after = after
+-- an entry that brings a page calls the disk once, and no other does
+note_calls : (w : What) (old new : Counts) → CountsAfterNote w old new (Ok tt) → new.calls ≡ cond (is_page_entry w) (one_more old.calls) old.calls
+note_calls (Mail at letter) old new after = ap (λ (c : Counts). c.calls) after
+note_calls (Birth parent at child end) old new after = ap (λ (c : Counts). c.calls) after
+note_calls (Exit pid at end) old new after = ap (λ (c : Counts). c.calls) after
+note_calls (Page pid at index bytes) old new after = after.calls
+note_calls (Sync pid small read took) old new after = ap (λ (c : Counts). c.calls) after
+note_calls (Fetch pid index) old new after = ap (λ (c : Counts). c.calls) after
+note_calls (PageIs pid index bytes) old new after = ap (λ (c : Counts). c.calls) after
+note_calls (Crash k cause) old new after = ap (λ (c : Counts). c.calls) after
+note_calls (Return k) old new after = ap (λ (c : Counts). c.calls) after
+note_calls (Rebackup to fresh recs) old new after = ap (λ (c : Counts). c.calls) after
+note_calls (Done rests) old new after = ap (λ (c : Counts). c.calls) after
+note_calls Stop old new after = ap (λ (c : Counts). c.calls) after
 
-same_calls : (before : Places) (e : Entry) (old new : Option PagerState) → is_page_entry (what e) ≡ false → Serves before e old new → calls_of new ≡ calls_of old
-same_calls before e None new none serves = ap calls_of serves
-same_calls before e (Some old) None none serves = absurd serves
-same_calls before e (Some old) (Some new) none serves = ap (λ (c : Counts). c.calls) (no_call (what e) old.counts new.counts none serves.counts)
+-- so a least number of them rises with them
+least_called : (n before after : ℕ) (b : Bool) → after ≡ cond b (one_more before) before → capped n ≤ before → capped (n + cond b 1 0) ≤ after
+least_called n before after true is least = omega (arith, is, least)
+least_called n before after false is least = omega (arith, is, least)
 
--- A cluster that takes in an entry that brings no page, where the least calls stay with what was queued before and what is queued after.
-accounts_on : (system : System) (log : List Entry) (e : Entry) (c d : ClusterView) → is_page_entry (what e) ≡ false → Serves (placement system log) e c.server d.server → d.number ≡ c.number
-    → least_calls system (log ++ e ∷ []) (with_queue system (log ++ e ∷ []) d.queue) c.number ≡ least_calls system log (with_queue system log c.queue) c.number → HoldsAccounts system log c → HoldsAccounts system (log ++ e ∷ []) d
-accounts_on system log e c d none serves number least f = record {
+served_calls : (before : Places) (e : Entry) (old new : Option PagerState) (n : ℕ) → is_some old ≡ true → Serves before e old new → capped n ≤ calls_of old → capped (n + brought e) ≤ calls_of new
+served_calls before e None new n there serves least = absurd (true≢false (sym there))
+served_calls before e (Some old) None n there serves least = absurd serves
+served_calls before e (Some old) (Some new) n there serves least = least_called n (old.counts).calls (new.counts).calls (is_page_entry (what e)) (note_calls (what e) old.counts new.counts serves.counts) least
+
+-- A cluster that takes in an entry, where but for a page that it brings the least calls stay with what was queued before and what is queued after.
+accounts_on : (system : System) (log : List Entry) (e : Entry) (c d : ClusterView) → Serves (placement system log) e c.server d.server → d.number ≡ c.number
+    → least_calls system (log ++ e ∷ []) (with_queue system (log ++ e ∷ []) d.queue) c.number ≡ least_calls system log (with_queue system log c.queue) c.number + brought e → HoldsAccounts system log c → HoldsAccounts system (log ++ e ∷ []) d
+accounts_on system log e c d serves number least f = record {
   keeps = keeps_on system log e c.server d.server serves f.keeps;
   there = λ kept server. still_there (placement system log) e c.server d.server serves (f.there (before kept) (is_one server));
   calls = λ kept server.
       let was : capped (least_calls system log (with_queue system log c.queue) c.number) ≤ calls_of c.server = f.calls (before kept) (is_one server) in
-      let same : least_calls system (log ++ e ∷ []) (with_queue system (log ++ e ∷ []) d.queue) d.number ≡ least_calls system log (with_queue system log c.queue) c.number = ap (least_calls system (log ++ e ∷ []) (with_queue system (log ++ e ∷ []) d.queue)) number ∙ least in
-      let calls = same_calls (placement system log) e c.server d.server none serves in
-      omega (arith, was, same, calls);
+      let same : least_calls system (log ++ e ∷ []) (with_queue system (log ++ e ∷ []) d.queue) d.number ≡ least_calls system log (with_queue system log c.queue) c.number + brought e = ap (least_calls system (log ++ e ∷ []) (with_queue system (log ++ e ∷ []) d.queue)) number ∙ least in
+      subst (λ n. capped n ≤ calls_of d.server) (sym same) (served_calls (placement system log) e c.server d.server (least_calls system log (with_queue system log c.queue) c.number) (f.there (before kept) (is_one server)) serves was);
 }
   where
     before : was_lost_in (log ++ e ∷ []) d.number ≡ false → was_lost_in log c.number ≡ false
@@ -152,33 +152,35 @@ accounts_on system log e c d none serves number least f = record {
     is_one server = ap (is_server system) (sym number) ∙ server
 
 -- so it is where the entry is no answer of its own, and at most one post is queued before and after
-pub accounts_next : (system : System) (log : List Entry) (e : Entry) (c d : ClusterView) (q : Queued) → is_built (what e) ≡ true → answers c.number e ≡ false → Serves (placement system log) e c.server d.server → d.number ≡ c.number
+pub accounts_next : (system : System) (log : List Entry) (e : Entry) (c d : ClusterView) (q : Queued) → answers c.number e ≡ false → Serves (placement system log) e c.server d.server → d.number ≡ c.number
     → c.queue ≡ posts_of q → d.queue ≡ posts_of q → IsQueueLegal UnlostMayFollow system log (posts_of q) → HoldsAccounts system log c → HoldsAccounts system (log ++ e ∷ []) d
-accounts_next system log e c d q built none serves number was now legal f = accounts_on system log e c d (no_page (what e) built) serves number least f
+accounts_next system log e c d q none serves number was now legal f = accounts_on system log e c d serves number least f
   where
     plain : IsPlain q
     plain = plain_post system log q legal
 
-    least : least_calls system (log ++ e ∷ []) (with_queue system (log ++ e ∷ []) d.queue) c.number ≡ least_calls system log (with_queue system log c.queue) c.number
+    least : least_calls system (log ++ e ∷ []) (with_queue system (log ++ e ∷ []) d.queue) c.number ≡ least_calls system log (with_queue system log c.queue) c.number + brought e
     least =
-        ap (λ ps. least_calls system (log ++ e ∷ []) (with_queue system (log ++ e ∷ []) ps) c.number) now
-        ∙ least_queued system (log ++ e ∷ []) q c.number plain
-        ∙ ap (λ n. n + owed c.number q) (least_more system log e c.number built ∙ ap (λ b. least_calls system log log c.number + cond b 1 0) none ∙ nothing (least_calls system log log c.number))
-        ∙ sym (ap (λ ps. least_calls system log (with_queue system log ps) c.number) was ∙ least_queued system log q c.number plain)
-      where
-        nothing : (n : ℕ) → n + 0 ≡ n
-        nothing n = omega arith
+        let now_is = ap (λ ps. least_calls system (log ++ e ∷ []) (with_queue system (log ++ e ∷ []) ps) c.number) now in
+        let now_least = least_queued system (log ++ e ∷ []) q c.number plain in
+        let more = least_more system log e c.number in
+        let nothing : ◌≡◌ {A = ℕ} (cond (answers c.number e) 1 0) 0 = ap (λ (b : Bool). cond b 1 0) none in
+        let was_is = ap (λ ps. least_calls system log (with_queue system log ps) c.number) was in
+        let was_least = least_queued system log q c.number plain in
+        omega (arith, now_is, now_least, more, nothing, was_is, was_least)
 
 -- and where it was the only post of the cluster
 pub accounts_sent : (system : System) (log : List Entry) (e : Entry) (c d : ClusterView) → is_unlost (what e) ≡ true → Serves (placement system log) e c.server d.server → d.number ≡ c.number → c.queue ≡ e.post ∷ [] → d.queue ≡ []
     → HoldsAccounts system log c → HoldsAccounts system (log ++ e ∷ []) d
-accounts_sent system log e c d unlost serves number was now f = accounts_on system log e c d (no_page (what e) (unlost_built (what e) unlost)) serves number least f
+accounts_sent system log e c d unlost serves number was now f = accounts_on system log e c d serves number least f
   where
-    least : least_calls system (log ++ e ∷ []) (with_queue system (log ++ e ∷ []) d.queue) c.number ≡ least_calls system log (with_queue system log c.queue) c.number
+    least : least_calls system (log ++ e ∷ []) (with_queue system (log ++ e ∷ []) d.queue) c.number ≡ least_calls system log (with_queue system log c.queue) c.number + brought e
     least =
-        ap (λ ps. least_calls system (log ++ e ∷ []) (with_queue system (log ++ e ∷ []) ps) c.number) now
-        ∙ least_more system log e c.number (unlost_built (what e) unlost)
-        ∙ sym (ap (λ ps. least_calls system log (with_queue system log ps) c.number) was ∙ least_queued system log (One e.post) c.number (plain_kind (what e) unlost))
+        let now_is = ap (λ ps. least_calls system (log ++ e ∷ []) (with_queue system (log ++ e ∷ []) ps) c.number) now in
+        let more = least_more system log e c.number in
+        let was_is = ap (λ ps. least_calls system log (with_queue system log ps) c.number) was in
+        let was_least = least_queued system log (One e.post) c.number (plain_kind (what e) unlost) in
+        omega (arith, now_is, more, was_is, was_least)
 
 -- ---- where a post is queued
 

@@ -17,7 +17,7 @@ use Rattle.bus_msg.specs.Places.{same_pid}
 use Rattle.bus_msg.specs.PlacedAfter.{what}
 use Rattle.roll_forward.specs.Deeds.{Sends}
 use Rattle.cert_sched.specs.Built.{tells_or_closes, BuiltMayFollow}
-use Rattle.cert_sched.specs.Deeds.{deeds_in, is_end_of}
+use Rattle.cert_sched.specs.Deeds.{deeds_in, is_cut, is_end_of}
 use Rattle.cert_sched.specs.Moved.{any_since_moved, is_fetch, is_page_is}
 use Rattle.cert_sched.specs.Simulation.{IsUnended}
 use Rattle.cert_sched.specs.Told.{cluster_lost, is_moved}
@@ -96,9 +96,12 @@ waits_arrival w p waiting tells own none =
 quiet_moves_none : (system : System) (log : List Entry) (e : Entry) (p : Pid) → cluster_lost (what e) ≡ None → moves_next system log e p ≡ false
 quiet_moves_none system log e p none = ap (λ o. option_map_or (is_moved p (placement system log)) o false) none
 
--- such an entry moves no process, and is neither a fetch nor a page
+-- such an entry moves no process, cuts none, and is neither a fetch nor a page
 told_moves_none : (w : What) → tells_or_closes w ≡ true → cluster_lost w ≡ None
 told_moves_none = by_kind (λ w. cluster_lost w ≡ None) (λ at letter. refl) (λ pid at end. refl) (λ rests. refl) refl
+
+pub told_cuts_none : (p : Pid) (w : What) → tells_or_closes w ≡ true → is_cut p w ≡ false
+told_cuts_none p = by_kind (λ w. is_cut p w ≡ false) (λ at letter. refl) (λ pid at end. refl) (λ rests. refl) refl
 
 pub told_fetches_none : (p : Pid) (i : ℕ) (w : What) → tells_or_closes w ≡ true → is_fetch p i w ≡ false
 told_fetches_none p i = by_kind (λ w. is_fetch p i w ≡ false) (λ at letter. refl) (λ pid at end. refl) (λ rests. refl) refl
@@ -113,7 +116,7 @@ pub waits_told : (system : System) (log : List Entry) (e : Entry) (before after 
 waits_told system log e before after p waiting valid legal unended tells own none unmoved alike is =
     subst (IsHeldAs system (log ++ e ∷ []) after p) (sym (waits_arrival (what e) p waiting tells own none)) (
       unmoved,
-      other_entry system log e p (is_fetch_queued p after) waiting valid legal unended (quiet_moves_none system log e p (told_moves_none (what e) tells)) none (λ i. told_brings_none p i (what e) tells)
+      other_entry system log e p (is_fetch_queued p after) waiting valid legal unended (quiet_moves_none system log e p (told_moves_none (what e) tells)) (told_cuts_none p (what e) tells) none (λ i. told_brings_none p i (what e) tells)
           (queued_alike system log p (is_fetch_queued p before) (λ i. is_fetch p i (what e) || is_fetch_queued p after i) waiting (λ i. alike i ∙ ap (λ b. b || is_fetch_queued p after i) (sym (told_fetches_none p i (what e) tells))) is),
     )
 
@@ -127,7 +130,7 @@ waits_page system log e before after p waiting valid legal unended of other unmo
   unmoved,
   subst (λ r. WaitsAs system (log ++ e ∷ []) p (is_fetch_queued p after) (record waiting { kept = r })) (by_page (λ w. record_after w waiting.kept ≡ waiting.kept) (λ pid index. refl) (λ pid index bytes. refl) (what e) of)
       (other_entry system log e p (is_fetch_queued p after) waiting valid legal unended (quiet_moves_none system log e p (by_page (λ w. cluster_lost w ≡ None) (λ pid index. refl) (λ pid index bytes. refl) (what e) of))
-      (by_page (λ w. deeds_in p w ≡ []) (λ pid index. refl) (λ pid index bytes. refl) (what e) of) other
+      (by_page (λ w. is_cut p w ≡ false) (λ pid index. refl) (λ pid index bytes. refl) (what e) of) (by_page (λ w. deeds_in p w ≡ []) (λ pid index. refl) (λ pid index bytes. refl) (what e) of) other
       (queued_alike system log p (is_fetch_queued p before) (λ i. is_fetch p i (what e) || is_fetch_queued p after i) waiting alike is)),
 )
 

@@ -22,7 +22,7 @@ use Rattle.bus_msg.specs.Places.{Places, same_pid, same_cluster}
 use Rattle.cert_sched.specs.Parts.{rising}
 use Rattle.cert_sched.specs.Schedule.{placement, process_after, done_after}
 use Rattle.cert_sched.specs.Steps.{silent_upto, emission_at, after_items}
-use Rattle.cert_sched.specs.Rules.{has_its_pages, is_by, is_living, is_by_home, is_by_right, home_at}
+use Rattle.cert_sched.specs.Rules.{has_its_pages, is_by, is_living, is_by_home, is_by_right, is_new_page, home_at}
 use Rattle.cert_sched.specs.Kinds.{KindHolds}
 use Rattle.cert_sched.specs.Legal.{IsLegalBy, Stands}
 use Rattle.cert_sched.specs.Built.{is_unlost, BuiltMayFollow, KeepsWaits, UnlostMayFollow}
@@ -322,6 +322,11 @@ built_of : (pid : Pid) (at : ℕ) (e : Emission) → is_unlost (told_of pid at e
 built_of pid at (Sent letter) = refl
 built_of pid at (Ended end) = refl
 
+-- and no changed page
+changed_none : (system : System) (log : List Entry) (pid : Pid) (at : ℕ) (e : Emission) → is_new_page system log (told_of pid at e) ≡ true
+changed_none system log pid at (Sent letter) = refl
+changed_none system log pid at (Ended end) = refl
+
 -- which is sent alone
 lone_of : (pid : Pid) (at : ℕ) (e : Emission) → is_lone (told_of pid at e) ≡ true
 lone_of pid at (Sent letter) = refl
@@ -420,6 +425,7 @@ module _ (c : ClusterView) (p : Pid) (was : Held) (sending : Sending) (new : Hel
         kind = kind_of_post c.system log c.number p at e (state_of s.now) tells emission_is go.0;
       };
       built = built_of p at e;
+      new_page = changed_none c.system log p at e;
       pages = waits_of_post c.system log p at c.number e tells (f.pages p was there (can_in was (sends_can 64 was sending new s)));
     }
 

@@ -96,8 +96,8 @@ more_served : (places : Places) (w : What) → is_built w ≡ true → ends_run 
 more_served places (Mail at letter) built goes served = served
 more_served places (Birth parent at child end) built goes served = absurd (true≢false (sym built))
 more_served places (Exit pid at end) built goes served = served
-more_served places (Page pid at index bytes) built goes served = absurd (true≢false (sym built))
-more_served places (Sync pid small read took) built goes served = absurd (true≢false (sym built))
+more_served places (Page pid at index bytes) built goes served = served
+more_served places (Sync pid small read took) built goes served = served
 more_served places (Fetch pid index) built goes served = served
 more_served places (PageIs pid index bytes) built goes served = served
 more_served places (Crash k cause) built goes served = loss_served places k cause (not_not (is_covered places k) goes)

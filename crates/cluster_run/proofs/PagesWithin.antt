@@ -19,7 +19,7 @@ use Rattle.bus_msg.specs.declared.entry.What.TheVariants.{Mail, Birth, Exit, Pag
 use Rattle.bus_msg.specs.declared.entry.Entry.{Entry}
 use Rattle.bus_msg.specs.declared.placed.Placed.{Placed}
 use Rattle.bus_msg.specs.Places.{Places, unended_in}
-use Rattle.bus_msg.specs.PlacedAfter.{after_exit, after_loss, placed_after, what}
+use Rattle.bus_msg.specs.PlacedAfter.{after_exit, after_loss, after_sync, placed_after, what}
 use Rattle.cert_sched.specs.Schedule.{placement, places_at_boot, plain_after}
 use Rattle.cert_sched.specs.Told.{Told, told, told_from}
 use Rattle.cert_sched.specs.Moved.{add_wait, ends_wait, fetched, moved_with_state, waiting_fetches, waiting_in}
@@ -42,8 +42,8 @@ same_count : (w : What) (places : Places) → is_built w ≡ true → length (pl
 same_count (Mail at letter) places h = refl
 same_count (Birth parent at child end) places h = absurd (true≢false (sym h))
 same_count (Exit pid at end) places h = length-map places.placed (after_exit pid)
-same_count (Page pid at index bytes) places h = absurd (true≢false (sym h))
-same_count (Sync pid small read took) places h = absurd (true≢false (sym h))
+same_count (Page pid at index bytes) places h = refl
+same_count (Sync pid small read took) places h = length-map places.placed (after_sync pid)
 same_count (Fetch pid index) places h = refl
 same_count (PageIs pid index bytes) places h = refl
 same_count (Crash k cause) places h = length-map places.placed (after_loss k)

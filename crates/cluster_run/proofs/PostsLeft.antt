@@ -4,7 +4,6 @@ use Rattle.std.proofs.Common.{◌≡◌, ℕ, ◌+◌, ◌≤◌, ◌<◌, ap, s
 use Rattle.std.specs.Option.{option_map_or}
 use Rattle.t32_base.specs.declared.process.Pid.{Pid}
 use Rattle.t32_base.specs.declared.process.End.{End}
-use Rattle.t32_base.specs.declared.process.ClusterNo.{ClusterNo}
 use Rattle.t32_base.specs.declared.letter.Letter.{Letter}
 use Rattle.sys_text.specs.declared.system.System.{System}
 use Rattle.sys_calls.specs.declared.steps.Emission.TheVariants.{Mail as Sent, Exit as Ended}
@@ -12,19 +11,18 @@ use Rattle.plain_kernel.specs.Kernel.{Kernel}
 use Rattle.bus_msg.specs.declared.entry.What.TheVariants.{Mail, Exit}
 use Rattle.bus_msg.specs.declared.entry.Entry.{Entry}
 use Rattle.bus_msg.specs.PlacedAfter.{what}
-use Rattle.cert_sched.specs.Schedule.{items_of, placement}
-use Rattle.cert_sched.specs.Rules.{is_by_right}
+use Rattle.cert_sched.specs.Schedule.{items_of}
 use Rattle.cert_sched.specs.Kinds.{KindHolds}
 use Rattle.cert_sched.specs.Legal.{Stands}
-use Rattle.cert_sched.specs.Losses.{is_from}
-use Rattle.cert_sched.specs.Built.{UnlostMayFollow, tells_or_closes}
+use Rattle.cert_sched.specs.Built.{tells_or_closes}
 use Rattle.cert_sched.proofs.LogLaws.{no_items}
 use Rattle.cert_sched.proofs.StepLaws.{is_sent}
 use Rattle.page_laws.specs.Left.{left_of_pages}
 use Rattle.page_laws.proofs.Leaving.{left_fetch, left_most, left_page_is}
+use Rattle.cluster_core.specs.Queue.{is_lone}
 use Rattle.cluster_run.specs.Progress.{kernel_load, left_after, log_load}
 use Rattle.cluster_run.proofs.StepsLeft.{sent_leaves}
-use Rattle.cluster_run.proofs.Unlost.{by_unlost, not_bus}
+use Rattle.cluster_run.proofs.Unlost.{by_lone}
 
 -- one part falls, and the other does not rise
 steps_fall : (was now before after : ℕ) → now + 1 ≤ was → after ≤ before → (now + after) + 1 ≤ was + before
@@ -61,14 +59,12 @@ module _ (system : System) (log : List Entry) (entry : Entry) (stands : Stands s
   paged none less =
       pages_fall (log_load system log) (log_load system next) (left_of_pages system log) (left_of_pages system next) (ap (λ o. option_map_or kernel_load o 0) (no_items system log entry none)) less
 
--- each entry that a cluster may send next leaves a post less to send
-pub entry_leaves : (system : System) (log : List Entry) (k : ClusterNo) (entry : Entry) → UnlostMayFollow system log entry → is_from k (entry.post).by ≡ true → left_after system (log ++ entry ∷ []) + 1 ≤ left_after system log
-entry_leaves system log k entry may own =
-    by_unlost (λ w. what entry ≡ w → is_by_right (placement system log) (entry.post).by w ≡ true → left_after system (log ++ entry ∷ []) + 1 ≤ left_after system log)
-    (λ at letter is right. letter_leaves system log entry may.stands at letter is)
-    (λ pid at end is right. exit_leaves system log entry may.stands pid at end is)
-    (λ pid index is right. paged system log entry may.stands (λ k. ap (items_of k) is) (left_fetch system log entry pid index may.stands is))
-    (λ pid index bytes is right. paged system log entry may.stands (λ k. ap (items_of k) is) (left_page_is system log entry pid index bytes may.stands is))
-    (λ rests is right. absurd (not_bus k (entry.post).by own right))
-    (λ is right. absurd (not_bus k (entry.post).by own right))
-    (what entry) may.built refl (may.stands).by_right
+-- each entry that a cluster may send next, alone, leaves a post less to send
+pub entry_leaves : (system : System) (log : List Entry) (entry : Entry) → Stands system log entry → is_lone (what entry) ≡ true → left_after system (log ++ entry ∷ []) + 1 ≤ left_after system log
+entry_leaves system log entry stands lone =
+    by_lone (λ w. what entry ≡ w → left_after system (log ++ entry ∷ []) + 1 ≤ left_after system log)
+    (λ at letter is. letter_leaves system log entry stands at letter is)
+    (λ pid at end is. exit_leaves system log entry stands pid at end is)
+    (λ pid index is. paged system log entry stands (λ k. ap (items_of k) is) (left_fetch system log entry pid index stands is))
+    (λ pid index bytes is. paged system log entry stands (λ k. ap (items_of k) is) (left_page_is system log entry pid index bytes stands is))
+    (what entry) lone refl

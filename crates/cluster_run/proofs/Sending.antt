@@ -19,7 +19,7 @@ use Rattle.cert_sched.proofs.Induction.{is_over-snoc}
 use Rattle.cert_sched.proofs.LogLaws.{IsLegal-snoc}
 use Rattle.cert_sched.proofs.UnlostLaws.{may_unlost}
 use Rattle.cluster_core.specs.View.{ClusterView, head_of, after_sent, with_server}
-use Rattle.cluster_core.specs.Queue.{IsQueueLegal}
+use Rattle.cluster_core.specs.Queue.{IsQueueLegal, is_lone}
 use Rattle.cluster_core.specs.Follows.{FollowsBuilt, IsOpen, StandsBetween}
 use Rattle.cluster_core.specs.Calls.{Absorbs, IsReady, ReadyFor, absorbed}
 use Rattle.bus_order.specs.Script.{is_unpassed}
@@ -33,7 +33,7 @@ use Rattle.cluster_run.proofs.Heads.{head_first, tail_of}
 use Rattle.cluster_run.proofs.Prefixes.{drop_whole, get_last}
 use Rattle.cluster_run.proofs.OwnLosses.{none_own, passed_next}
 use Rattle.cluster_run.proofs.PostsLeft.{entry_leaves}
-use Rattle.cluster_run.proofs.Unlost.{closes_not, ends_closed, no_loss, same_after}
+use Rattle.cluster_run.proofs.Unlost.{closes_not, ends_closed, no_loss, queued_lone, same_after}
 use Rattle.cluster_run.proofs.TakingIn.{upto_all}
 
 -- a cluster whose head was sent
@@ -53,13 +53,16 @@ module _ (log : List Entry) (c : ClusterView) (post : Post) (after : BusView) (s
   may : UnlostMayFollow c.system log next
   may = let queue = subst (λ q. IsQueueLegal UnlostMayFollow c.system log q) queue_is (follows.queue).legal in queue.0
 
+  lone : is_lone post.what ≡ true
+  lone = queued_lone c.queue follows.queued post (tail_of c.queue) queue_is
+
   pub own : is_from c.number post.by ≡ true
   own =
       let all = sym (ap (λ q. list_all (λ (p : Post). is_from c.number p.by) q) queue_is) ∙ (follows.queue).own in
       (and_parts (is_from c.number post.by) (list_all (λ (p : Post). is_from c.number p.by) (tail_of c.queue)) all).0
 
   pub clears : after_sent c c.queue ≡ cleared c
-  clears = ap (after_sent c) queue_is ∙ ap (λ (v : ClusterView). record v { queue = tail_of c.queue; tried = false }) (same_after post.what c may.built)
+  clears = ap (after_sent c) queue_is ∙ ap (λ (v : ClusterView). record v { queue = tail_of c.queue; tried = false }) (same_after post.what c lone)
 
   legal_next : IsLegalBy BuiltMayFollow c.system (log ++ next ∷ [])
   legal_next = IsLegal-snoc BuiltMayFollow c.system log next s.legal (may_unlost c.system log next may)
@@ -82,7 +85,7 @@ module _ (log : List Entry) (c : ClusterView) (post : Post) (after : BusView) (s
   -- it leaves a post less to send, at least
   pub sent_spends : left_after after.system after.log + length after.log ≤ left_after c.system log + length log
   sent_spends =
-      let less = entry_leaves c.system log c.number next may own in
+      let less = entry_leaves c.system log next may.stands lone in
       let left_is : left_after after.system after.log ≡ left_after c.system (log ++ next ∷ []) = λ i. left_after (sym s.system i) (s.longer i) in
       let grown : length after.log ≡ length log + 1 = ap length s.longer ∙ length-append log (next ∷ []) in
       omega (arith, less, left_is, grown)

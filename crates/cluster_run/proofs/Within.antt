@@ -10,6 +10,7 @@ use Rattle.std.proofs.lemmas.Nat.{mul-le}
 use Rattle.std.proofs.lemmas.Option.{slice_get_cases}
 use Rattle.std.proofs.Math.Nat.{mul-le-mul_right}
 use Rattle.t32_base.specs.declared.process.Pid.{Pid}
+use Rattle.t32_base.specs.Small.{SmallState}
 use Rattle.sys_text.specs.declared.system.System.{System}
 use Rattle.sys_text.specs.Valid.{is_system}
 use Rattle.proc_state.specs.State.{ProcState, state_of}
@@ -30,6 +31,7 @@ use Rattle.cert_sched.specs.Parts.{put_rising, rising, upto_last}
 use Rattle.cert_sched.specs.Deeds.{since, starts}
 use Rattle.cert_sched.specs.Rolling.{refilled}
 use Rattle.cert_sched.specs.Schedule.{placement, plain_after, process_after}
+use Rattle.cert_sched.specs.Kinds.{after_take}
 use Rattle.cert_sched.specs.Steps.{emission_at, silent_upto}
 use Rattle.cert_sched.specs.Appended.{entry_of}
 use Rattle.cert_sched.specs.Rests.{home_pids}
@@ -43,7 +45,7 @@ use Rattle.cluster_core.specs.View.{ClusterView, Held, Runs, Rolls, Waits, after
 use Rattle.cluster_core.specs.Holds.{IsHeldAs}
 use Rattle.cluster_core.specs.Calls.{FollowsSome}
 use Rattle.cluster_core.specs.Follows.{FollowsBuilt, IsOpen}
-use Rattle.cluster_core.specs.Queue.{IsQueueLegal, is_move_of, state_by}
+use Rattle.cluster_core.specs.Queue.{IsQueued, IsQueueLegal, is_move_of, state_by}
 use Rattle.cluster_core.proofs.Here.{same_itself}
 use Rattle.cluster_core.specs.Residents.{pids_in}
 use Rattle.cluster_core.proofs.Lightening.{held_apart}
@@ -60,7 +62,7 @@ use Rattle.cluster_run.proofs.PagesWithin.{few_placed, most_pages, pages_within,
 use Rattle.cluster_run.proofs.StepLosses.{gone_inside, same_sent}
 use Rattle.cluster_run.proofs.StepsLeft.{after_log, one_of_all}
 use Rattle.cluster_run.proofs.Together.{one_member}
-use Rattle.cluster_run.proofs.Unlost.{by_unlost, same_after}
+use Rattle.cluster_run.proofs.Unlost.{by_unlost, queued_lone, same_after}
 use Rattle.page_laws.specs.Left.{left_of_pages}
 
 -- ---- a process
@@ -130,8 +132,14 @@ moved_within system log p steps t =
     by_unlost (λ w. state_by system log p steps (Some w) ≡ Some t → weight t.small ≤ boot_load system)
     (λ at letter there. emitted_within system log letter.from at t (emission_at system log letter.from at) refl (same_option _ ∙ there))
     (λ pid at end there. emitted_within system log pid at t (emission_at system log pid at) refl (same_option _ ∙ there))
-    (λ pid index there. cc) (λ pid index bytes there. cc) (λ rests there. cc) (λ there. cc)
+    (λ pid index there. cc) (λ pid index bytes there. cc) (λ pid at index bytes there. cc) (λ pid small read there. cut_within pid small (silent_upto system log pid small.steps) refl there) (λ rests there. cc) (λ there. cc)
   where
+    cut_within : (pid : Pid) (small : SmallState) (o : Option ProcState) → silent_upto system log pid small.steps ≡ o → option_map (after_take None) o ≡ Some t → weight t.small ≤ boot_load system
+    cut_within pid small None is there = cc
+    cut_within pid small (Some u) is there =
+        let same : u ≡ t = cc in
+        subst (λ (u : ProcState). weight u.small ≤ boot_load system) same (silent_within system log pid small.steps u is)
+
     same_option : (o : Option ProcState) → o ≡ option_map (λ (s : ProcState). s) o
     same_option None = refl
     same_option (Some s) = refl
@@ -251,9 +259,9 @@ module _ (b : BusView) (c : ClusterView) (sound : IsSound b) (gone : IsGone b c)
     follows = subst (λ s. FollowsBuilt s (take c.cursor b.log) v) (sym system) follows;
   })
 
-  sent_load : (was : ClusterView) (queue : List Post) (e : Entry) → IsQueueLegal UnlostMayFollow b.system (take c.cursor b.log) queue → option_map (entry_of b.system (take c.cursor b.log)) (head_of queue) ≡ Some e → load (after_sent was queue) ≡ load was
-  sent_load was [] e legal head = cc
-  sent_load was (p ∷ queue) e legal head = ap load (ap (λ (v : ClusterView). record v { queue = queue; tried = false }) (same_after p.what was (legal.0).built))
+  sent_load : (was : ClusterView) (queue : List Post) (e : Entry) → IsQueued queue → option_map (entry_of b.system (take c.cursor b.log)) (head_of queue) ≡ Some e → load (after_sent was queue) ≡ load was
+  sent_load was [] e queued head = cc
+  sent_load was (p ∷ queue) e queued head = ap load (ap (λ (v : ClusterView). record v { queue = queue; tried = false }) (same_after p.what was (queued_lone (p ∷ queue) queued p queue refl)))
 
   pub gone_within : load c ≤ most_load b.system
   gone_within = by_stood (gone.left).followed
@@ -263,7 +271,7 @@ module _ (b : BusView) (c : ClusterView) (sound : IsSound b) (gone : IsGone b c)
       by_way (inr (lost, stood)) =
           let was = (stood.between).before in
           let system : was.system ≡ b.system = sym (ap (λ (v : ClusterView). v.system) (stood.between).sent ∙ (same_sent was was.queue).2) ∙ (gone.left).system in
-          let same : load c ≡ load was = ap load (stood.between).sent ∙ sent_load was was.queue stood.entry (((stood.between).followed).queue).legal (stood.between).head in
+          let same : load c ≡ load was = ap load (stood.between).sent ∙ sent_load was was.queue stood.entry ((stood.between).followed).queued (stood.between).head in
           let most = follows_then was system (stood.between).followed in
           omega (arith, same, most)
 

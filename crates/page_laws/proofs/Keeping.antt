@@ -14,11 +14,9 @@ use Rattle.cert_sched.specs.Moved.{any_since_moved, moved_with_state, waiting_fe
 use Rattle.cert_sched.specs.Rules.{has_its_pages}
 use Rattle.cert_sched.specs.Steps.{page_count}
 use Rattle.cert_sched.specs.Kinds.{FetchHolds, PageIsHolds}
-use Rattle.cert_sched.specs.Built.{is_built}
 use Rattle.cert_sched.specs.Legal.{Stands}
 use Rattle.cert_sched.proofs.ListLaws.{list_all-weaker}
 use Rattle.cert_sched.proofs.LogLaws.{account_after-snoc}
-use Rattle.cert_sched.proofs.BuiltCuts.{built_cuts_none}
 use Rattle.page_laws.specs.Next.{next_told, moves_next, ends_wait_next}
 use Rattle.page_laws.specs.Waited.{is_wait_for}
 use Rattle.page_laws.proofs.OneEntry.{any_since-goes_on, any_since-kept, moved-goes_on, waiting-snoc, goes_on, added, wait_is}
@@ -98,7 +96,3 @@ answer_kept system log e p i bytes no_cut goes holds =
           ∙ first_kept p i (goes_on (next_told system log e)) (waiting_fetches system log) (added (fetched (what e))) (ap not goes) holds.asked;
       page = ap (λ pages. page_in pages i) (kept_still system log e p on.no_exit no_cut) ∙ holds.page;
     }
-
--- While no kind that is built is a cut: so it is after an entry of such a kind.
-pub page_is_kept : (system : System) (log : List Entry) (e : Entry) (p : Pid) (i : ℕ) (bytes : List ℕ) → is_built (what e) ≡ true → ends_wait_next system log e p i ≡ false → PageIsHolds system log p i bytes → PageIsHolds system (log ++ e ∷ []) p i bytes
-page_is_kept system log e p i bytes built = answer_kept system log e p i bytes (built_cuts_none p (what e) built)

@@ -27,7 +27,6 @@ use Rattle.cert_sched.specs.Built.{BuiltMayFollow}
 use Rattle.cert_sched.specs.Simulation.{IsUnended}
 use Rattle.cert_sched.specs.Rolling.{RollsAs}
 use Rattle.cert_sched.proofs.SpentLaws.{few_steps_after}
-use Rattle.cert_sched.proofs.MailLaws.{built_is_plain}
 use Rattle.cert_sched.proofs.CameLaws.{IsStandingRule}
 use Rattle.cert_sched.proofs.OpenLaws.{unended_open}
 use Rattle.recovery_laws.specs.Behind.{EndsExactly, RollsBehind, RunsAhead}
@@ -37,7 +36,6 @@ use Rattle.recovery_laws.proofs.Stepping.{rolls_on, went_on, behind_on, rolls_ad
 use Rattle.recovery_laws.proofs.RunningOut.{runs_ahead, can_roll}
 use Rattle.recovery_laws.proofs.NotEnded.{rolls_not_ended, rolls_not_blocked}
 use Rattle.recovery_laws.proofs.KeepingBehind.{behind_from_record, behind_standing}
-use Rattle.recovery_laws.proofs.FromBoot.{start_at_boot}
 use Rattle.recovery_laws.proofs.FromStart.{stated_at_start, behind_from_start}
 use Rattle.recovery_laws.proofs.Exact.{exact_unended}
 use Rattle.recovery_laws.proofs.CaughtUp.{standing_caught_up, caught_up_after, caught_up_from, ends_exactly, silent_here}
@@ -63,12 +61,6 @@ standing_stated = stated_at_start Stands itself
 pub standing_from_start : (system : System) (log : List Entry) (p : Pid) (start : ProcState) (kept : BackRec) (ram : Memory) → is_system system ≡ true → IsLegalBy Stands system log → IsUnended system log p → start_of system log p ≡ Some start
     → backup_record system log p ≡ Some kept → ram.bytes ≡ start.memory → RollsBehind system log p (started start.small ram kept.saved kept.next) kept.counts kept.births
 standing_from_start = behind_from_start Stands itself
-
--- While no kind that is built is a cut: that of boot.
-pub built_stated : (system : System) (log : List Entry) (p : Pid) (start : ProcState) (kept : BackRec) → IsLegalBy BuiltMayFollow system log → IsUnended system log p → process_after system [] p ≡ Some start → backup_record system log p ≡ Some kept
-    → kept.state ≡ Some start.small
-built_stated system log p start kept legal unended there =
-    stated_at_start BuiltMayFollow built_stands system log p start kept legal unended (start_at_boot BuiltMayFollow built_is_plain system log p legal ∙ there)
 
 -- ---- entries
 

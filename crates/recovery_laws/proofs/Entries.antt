@@ -11,7 +11,7 @@ use Rattle.proc_state.specs.State.{ProcState, delivered}
 use Rattle.sys_calls.proofs.RunLemma.{all_delivered}
 use Rattle.plain_kernel.proofs.Entries.{some_same}
 use Rattle.bus_msg.specs.declared.entry.What.{What}
-use Rattle.bus_msg.specs.declared.entry.What.TheVariants.{Mail, Birth, Exit, Page, Sync, Fetch, PageIs, Crash, Return, Rebackup, Done, Stop}
+use Rattle.bus_msg.specs.declared.entry.What.TheVariants.{Exit}
 use Rattle.bus_msg.specs.declared.entry.Entry.{Entry}
 use Rattle.bus_msg.specs.Places.{unended_at}
 use Rattle.bus_msg.specs.PlacedAfter.{what}
@@ -26,7 +26,7 @@ use Rattle.cert_sched.proofs.ListLaws.{after_last-snoc}
 use Rattle.cert_sched.proofs.LogLaws.{placement-snoc, IsLegal-before, IsLegal-last, IsLegal-snoc}
 use Rattle.cert_sched.proofs.RecordLaws.{start_of-snoc, since-snoc, arrived_count-other}
 use Rattle.cert_sched.proofs.Induction.{legal_induction}
-use Rattle.cert_sched.proofs.MailLaws.{is_plain, boot_arrived}
+use Rattle.cert_sched.proofs.MailLaws.{boot_arrived}
 use Rattle.cert_sched.proofs.ReplayLaws.{Replays, replays_all_delivered}
 use Rattle.cert_sched.proofs.CameLaws.{IsStandingRule, is_birth, not_birth}
 use Rattle.cert_sched.proofs.StayingUnended.{unended_stays}
@@ -61,21 +61,6 @@ unended_counts May standing system log p valid legal unended start started =
     by_process (Some now) is there = rolls_count system log p now ((all_roll May standing system log valid legal).rolls p now is (unended_open May standing system log p valid legal unended now is)) start started
 
 -- ---- entries that start no process
-
--- While no kind that is built is a cut: an entry of such a kind is no cut and no birth.
-pub plain_starts_none : (p : Pid) (w : What) → is_plain w ≡ true → (is_cut p w ≡ false) × (is_birth_of p w ≡ false)
-plain_starts_none p (Mail at letter) plain = (refl, refl)
-plain_starts_none p (Birth parent at child end) plain = absurd (true≢false (sym plain))
-plain_starts_none p (Exit pid at end) plain = (refl, refl)
-plain_starts_none p (Page pid at index bytes) plain = absurd (true≢false (sym plain))
-plain_starts_none p (Sync pid small read took) plain = absurd (true≢false (sym plain))
-plain_starts_none p (Fetch pid index) plain = (refl, refl)
-plain_starts_none p (PageIs pid index bytes) plain = (refl, refl)
-plain_starts_none p (Crash k cause) plain = (refl, refl)
-plain_starts_none p (Return k) plain = absurd (true≢false (sym plain))
-plain_starts_none p (Rebackup to fresh recs) plain = absurd (true≢false (sym plain))
-plain_starts_none p (Done rests) plain = (refl, refl)
-plain_starts_none p Stop plain = (refl, refl)
 
 module _ (system : System) (log : List Entry) (e : Entry) (p : Pid) where
   pub quiet_of : is_cut p (what e) ≡ false → is_birth_of p (what e) ≡ false → starts p e ≡ false

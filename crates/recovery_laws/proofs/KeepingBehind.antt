@@ -20,7 +20,6 @@ use Rattle.cert_sched.specs.Record.{backup_record}
 use Rattle.cert_sched.specs.Legal.{IsLegalBy, Stands}
 use Rattle.cert_sched.specs.Simulation.{IsUnended}
 use Rattle.cert_sched.proofs.LogLaws.{placement-snoc, IsLegal-before, IsLegal-last}
-use Rattle.cert_sched.proofs.MailLaws.{IsPlainRule}
 use Rattle.cert_sched.proofs.ReplayLaws.{replays_counts, all_delivered-is}
 use Rattle.cert_sched.proofs.CameLaws.{IsStandingRule, Came, went_on, was_cut, was_born, came, not_birth}
 use Rattle.cert_sched.proofs.StayingUnended.{no_deed_no_exit, unended_stays}
@@ -30,7 +29,7 @@ use Rattle.cert_sched.proofs.OpenLaws.{unended_open}
 use Rattle.cert_sched.proofs.ThereLaws.{unended_there}
 use Rattle.recovery_laws.specs.Behind.{RollsBehind}
 use Rattle.recovery_laws.proofs.Beginning.{rolls_from_record, state_of_record}
-use Rattle.recovery_laws.proofs.Entries.{plain_starts_none, rolls_entry_standing}
+use Rattle.recovery_laws.proofs.Entries.{rolls_entry_standing}
 use Rattle.recovery_laws.proofs.Reaching.{Led, done_is, start_behind}
 
 -- ---- the begin
@@ -86,9 +85,3 @@ module _ (system : System) (log : List Entry) (e : Entry) (p : Pid) where
       let same : ((all_delivered s (letter_for p (what e))).small).steps ≡ (s.small).steps = ap (λ (x : ProcState). (x.small).steps) (all_delivered-is s (letter_for p (what e))) in
       let behind = rolls.behind in
       record { rolls = rolls_entry_standing system log e p May standing s counts births valid legal no_cut none rolls.rolls; behind = omega (arith, kept, same, behind) }
-
-  -- While no kind that is built is a cut: so does each such entry.
-  pub behind_entry : (May : System → List Entry → Entry → Type 0) → IsPlainRule May → (s : ProcState) (counts : Counts) (births : List Pid) → is_system system ≡ true → IsLegalBy May system (log ++ e ∷ []) → IsUnended system log p
-      → deeds_in p (what e) ≡ [] → RollsBehind system log p s counts births → RollsBehind system (log ++ e ∷ []) p (all_delivered s (letter_for p (what e))) counts births
-  behind_entry May plain s counts births valid legal unended none rolls =
-      behind_standing May (λ system log e may. (plain system log e may).0) s counts births valid legal unended (plain_starts_none p (what e) (plain system log e (IsLegal-last May system log e legal)).1).0 none rolls

@@ -7,7 +7,6 @@ pub mod RunningOut
 pub mod NotEnded
 pub mod Others
 pub mod KeepingBehind
-pub mod FromBoot
 pub mod FromStart
 pub mod Exact
 pub mod CaughtUp

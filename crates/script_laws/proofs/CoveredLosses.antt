@@ -1,5 +1,5 @@
 -- In a log with no loss each loss is covered; so a log with one loss at most ends only by Done or Stop.
-use Rattle.std.proofs.Common.{◌≡◌, ℕ, ◌+◌, ◌<◌, ◌≤◌, refl, sym, ◌∙◌, ap, arith, List, [], ◌∷◌, ◌++◌, map, length, Bool, true, false, cond, not, ◌&&◌, ◌||◌, eqb-true, Some, true≢false}
+use Rattle.std.proofs.Common.{◌≡◌, ℕ, ◌+◌, ◌<◌, ◌≤◌, refl, sym, ◌∙◌, ap, arith, List, [], ◌∷◌, ◌++◌, map, length, Bool, true, false, cond, not, ◌&&◌, ◌||◌, eqb-true, Some, None, true≢false}
 use Rattle.std.specs.Prelude.{filter, slice_get}
 use Rattle.std.specs.Option.{option_map_or}
 use Rattle.std.specs.List.{list_any, list_all, range_with_len}
@@ -41,8 +41,9 @@ no_loss_unlost : (w : What) → is_built w ≡ true → is_loss w ≡ false → 
 no_loss_unlost (Mail at letter) h none = refl
 no_loss_unlost (Birth parent at child end) h none = h
 no_loss_unlost (Exit pid at end) h none = refl
-no_loss_unlost (Page pid at index bytes) h none = h
-no_loss_unlost (Sync pid small read took) h none = h
+no_loss_unlost (Page pid at index bytes) h none = refl
+no_loss_unlost (Sync pid small read None) h none = refl
+no_loss_unlost (Sync pid small read (Some g)) h none = h
 no_loss_unlost (Fetch pid index) h none = h
 no_loss_unlost (PageIs pid index bytes) h none = h
 no_loss_unlost (Crash k cause) h none = absurd (true≢false none)
@@ -64,6 +65,7 @@ crashless_unlost system log legal =
     IsLegal-snoc UnlostMayFollow system log e (before (omega (arith, none, more))) (record {
       stands = may.stands;
       built = no_loss_unlost (what e) may.built (uncounted (is_loss (what e)) (omega (arith, none, more)));
+      new_page = may.new_page;
       pages = may.pages;
     })) log legal
 

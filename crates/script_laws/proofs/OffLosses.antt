@@ -196,8 +196,8 @@ sends_living : (places : Places) (k : ClusterNo) → (never_lost places k ≡ tr
 sends_living places k serves (Mail at letter) built right = (and_parts (lives_in places k) _ right).0
 sends_living places k serves (Birth parent at child end) built right = absurd (true≢false (sym built))
 sends_living places k serves (Exit pid at end) built right = (and_parts (lives_in places k) _ right).0
-sends_living places k serves (Page pid at index bytes) built right = absurd (true≢false (sym built))
-sends_living places k serves (Sync pid small read took) built right = absurd (true≢false (sym built))
+sends_living places k serves (Page pid at index bytes) built right = (and_parts (lives_in places k) _ right).0
+sends_living places k serves (Sync pid small read took) built right = (and_parts (lives_in places k) _ right).0
 sends_living places k serves (Fetch pid index) built right = (and_parts (lives_in places k) _ right).0
 sends_living places k serves (PageIs pid index bytes) built right = serves (first_server places k right)
 sends_living places k serves (Crash j cause) built right = absurd (true≢false (sym right))

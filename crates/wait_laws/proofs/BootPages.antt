@@ -26,11 +26,9 @@ use Rattle.cert_sched.specs.Steps.{page_count}
 use Rattle.cert_sched.specs.Built.{BuiltMayFollow}
 use Rattle.cert_sched.specs.Legal.{IsLegalBy, Stands}
 use Rattle.cert_sched.specs.Simulation.{IsUnended}
-use Rattle.cert_sched.proofs.MailLaws.{built_is_plain}
 use Rattle.cert_sched.proofs.PidLaws.{placed_pids}
 use Rattle.cert_sched.proofs.ThereLaws.{found_among, pids_of_boot, plain_there, unended_there}
 use Rattle.recovery_laws.proofs.ByRule.{built_stands, itself, standing_stated}
-use Rattle.recovery_laws.proofs.FromBoot.{start_at_boot}
 use Rattle.recovery_laws.proofs.Reaching.{led_there}
 use Rattle.record_laws.proofs.Standing.{built_stands as all_stand}
 use Rattle.page_laws.proofs.PagesStay.{page_count-boot}
@@ -141,13 +139,12 @@ has_pages system log p kept valid legal = has_pages_so system log p kept valid (
 
 -- ---- how a process starts
 
--- While no kind that is built is a cut: it starts as it was at boot.
+-- a process that has not ended has a start
 pub record StartsSo (system : System) (log : List Entry) (p : Pid) : Type 0 where
   pub start : ProcState
   pub started : start_of system log p ≡ Some start
-  pub first : process_after system [] p ≡ Some start
 
 pub starts_so : (system : System) (log : List Entry) (p : Pid) → is_system system ≡ true → IsLegalBy BuiltMayFollow system log → IsUnended system log p → StartsSo system log p
 starts_so system log p valid legal unended =
     let there = led_there BuiltMayFollow built_stands system log p valid legal unended in
-    record { start = (there.led).start; started = (there.led).started; first = sym (start_at_boot BuiltMayFollow built_is_plain system log p legal) ∙ (there.led).started }
+    record { start = (there.led).start; started = (there.led).started }

@@ -18,7 +18,6 @@ use Rattle.cert_sched.specs.Simulation.{IsUnended}
 use Rattle.cert_sched.specs.Told.{cluster_lost}
 use Rattle.cert_sched.proofs.LogLaws.{IsLegal-before, IsLegal-last}
 use Rattle.cert_sched.proofs.StayingUnended.{no_deed_no_exit}
-use Rattle.cert_sched.proofs.BuiltCuts.{built_cuts_none}
 use Rattle.record_laws.proofs.Standing.{built_stands}
 use Rattle.backup_records.specs.Records.{record_after}
 use Rattle.page_laws.specs.Next.{moves_next}
@@ -136,11 +135,10 @@ module _ (system : System) (log : List Entry) (e : Entry) (p : Pid) (queued : �
 
 -- ---- in a log of the entries that are built so far
 
--- While no kind that is built is a cut: an entry that is no page of it.
+-- an entry that is no page of it, and does not cut it
 pub other_entry : (system : System) (log : List Entry) (e : Entry) (p : Pid) (queued : ℕ → Bool) (w : WaitingState) → is_system system ≡ true → IsLegalBy BuiltMayFollow system (log ++ e ∷ []) → IsUnended system log p → moves_next system log e p ≡ false
-    → deeds_in p (what e) ≡ [] → ((i : ℕ) → is_page_is p i (what e) ≡ false) → WaitsAs system log p (λ i. is_fetch p i (what e) || queued i) w → WaitsAs system (log ++ e ∷ []) p queued (record w { kept = record_after (what e) w.kept })
-other_entry system log e p queued w valid legal unended stays =
-    other_so system log e p queued w valid (built_stands system (log ++ e ∷ []) legal) unended stays (built_cuts_none p (what e) (IsLegal-last BuiltMayFollow system log e legal).built)
+    → is_cut p (what e) ≡ false → deeds_in p (what e) ≡ [] → ((i : ℕ) → is_page_is p i (what e) ≡ false) → WaitsAs system log p (λ i. is_fetch p i (what e) || queued i) w → WaitsAs system (log ++ e ∷ []) p queued (record w { kept = record_after (what e) w.kept })
+other_entry system log e p queued w valid legal = other_so system log e p queued w valid (built_stands system (log ++ e ∷ []) legal)
 
 -- a page of it
 pub page_within : (system : System) (log : List Entry) (e : Entry) (p : Pid) (queued : ℕ → Bool) (w : WaitingState) → is_system system ≡ true → IsLegalBy BuiltMayFollow system (log ++ e ∷ []) → (i : ℕ) (bytes : List ℕ) → what e ≡ PageIs p i bytes
