@@ -81,7 +81,7 @@ absorbs c e server valid own order serves log now later ready = by_loss (one_of 
 
     sync : is_of_sync (what e) ≡ true → IsReady log e c → FollowsBuilt c.system (log ++ e ∷ []) (with_server server (absorbed c e))
     sync of (inl f) = follows_sync c.system valid log e of now later c server own (serves_there ((f.0).log).places) f.0 f.1
-    sync of (inr s) = absurd (sync_not_alone (what e) of (left_of c log e s).lone)
+    sync of (inr s) = absurd (true≢false (sym (left_of c log e s).lone ∙ sync_not_alone (what e) of))
 
     by_loss : OneOf (what e) → FollowsBuilt c.system (log ++ e ∷ []) (with_server server (absorbed c e))
     by_loss (inl tells) = by_case tells (next_of c.system log e tells now later) ready

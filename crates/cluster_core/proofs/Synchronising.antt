@@ -388,5 +388,5 @@ module _ (system : System) (valid : is_system system ≡ true) (log : List Entry
           (subst (λ ps. MarkedIfThere CarriesMarks system (with_queue system log ps) p (unended_process h)) queue_is (f.marks p h there)))
 
 -- no queue has such a post: each of its posts is sent alone
-pub sync_not_alone : (w : What) → is_of_sync w ≡ true → is_lone w ≡ true → ⊥
-sync_not_alone w of = by_sync (λ w. is_lone w ≡ true → ⊥) (λ pid at index bytes lone. true≢false (sym lone)) (λ pid small read lone. true≢false (sym lone)) w of
+pub sync_not_alone : (w : What) → is_of_sync w ≡ true → is_lone w ≡ false
+sync_not_alone = by_sync (λ w. is_lone w ≡ false) (λ pid at index bytes. refl) (λ pid small read. refl)
