@@ -1,20 +1,27 @@
--- A worked process: it has the marks of its start, and two steps later, of which the second stores to its one page, it has those of a process that runs on.
-use Rattle.std.proofs.Common.{ℕ, List, refl, [], ◌∷◌, Bool, true, false}
+-- A worked process: it has the marks of its start, and two steps later, of which the second stores to its one page, it has those of a process that runs on, or that rolls forward.
+use Rattle.std.proofs.Common.{◌≡◌, ℕ, List, refl, [], ◌∷◌, Bool, true, false, Some}
 use Rattle.std.specs.Option.{option_map_or}
 use Rattle.t32_base.specs.declared.process.Pid.{Pid}
+use Rattle.t32_base.specs.declared.process.Counts.{Counts}
 use Rattle.sys_text.specs.declared.system.System.{System}
 use Rattle.proc_state.specs.declared.process.Process.{Process}
 use Rattle.proc_state.specs.State.{ProcState, root_state}
 use Rattle.sys_calls.specs.Next.{silently}
 use Rattle.plain_kernel.specs.Kernel.{boot}
 use Rattle.plain_kernel.specs.Apply.{one_step, steps}
-use Rattle.cert_sched.specs.Schedule.{plain_after}
+use Rattle.write_count.specs.Counting.{counts_of}
+use Rattle.roll_forward.specs.Advancing.{going, rolled_on}
+use Rattle.cert_sched.specs.Schedule.{placement, plain_after}
 use Rattle.cert_sched.specs.Steps.{silent_upto}
 use Rattle.cert_sched.specs.Legal.{IsLegalBy}
 use Rattle.cert_sched.proofs.Systems.{store_system, store_words}
+use Rattle.read_laws.proofs.LogReads.{silent_reads}
+use Rattle.sync_laws.specs.Marked.{IsMarked}
 use Rattle.sync_laws.specs.Running.{RunsMarked}
+use Rattle.mark_laws.specs.Rolled.{RollsMarked}
 use Rattle.mark_laws.specs.Stepped.{StepsSilently}
 use Rattle.mark_laws.proofs.BootMarks.{boot_marks}
+use Rattle.mark_laws.proofs.RolledMarks.{rolled_marked}
 use Rattle.mark_laws.proofs.SentPages.{sent_none}
 use Rattle.mark_laws.proofs.StepMarks.{step_runs}
 
@@ -51,3 +58,30 @@ runs_on =
     step_runs named [] it (process 1 (false ∷ [])) (process 2 (true ∷ []))
     (step_runs named [] it (process 0 (false ∷ [])) (process 1 (false ∷ [])) begins (sent_none named it ((process 0 (false ∷ [])).small).steps) first)
     (sent_none named it ((process 1 (false ∷ [])).small).steps) second
+
+-- ---- the same where it rolls forward
+
+-- nothing is to be withheld
+abbrev none_counted : Counts
+none_counted = counts_of []
+
+rolls : RollsMarked named [] it (process 0 (false ∷ []))
+unfolding boot one_step steps silently plain_after silent_upto IsLegalBy placement
+rolls = record {
+  valid = refl;
+  legal = tt;
+  unended = refl;
+  reads = silent_reads named [] it 0 (there 0) refl tt refl refl;
+  next = refl;
+  pages = refl;
+  marked = begins.marked;
+}
+
+two_rolled : rolled_on 2 (going (process 0 (false ∷ [])) none_counted []) ≡ Some (going (process 2 (true ∷ [])) none_counted [])
+unfolding boot one_step steps silently plain_after silent_upto rolled_on
+two_rolled = refl
+
+rolls_on : IsMarked named [] it (process 2 (true ∷ []))
+rolls_on =
+    rolled_marked named [] it 2 (process 0 (false ∷ [])) (process 2 (true ∷ [])) none_counted none_counted [] [] rolls
+    (sent_none named it ((process 0 (false ∷ [])).small).steps) two_rolled refl
