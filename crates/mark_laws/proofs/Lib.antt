@@ -9,7 +9,6 @@ pub mod SendingMarks
 pub mod SavedCame
 pub mod RolledReads
 pub mod RolledMarks
-pub mod RollingHeld
 pub mod AwaitedPages
 pub mod BegunMarks
 mod WorkedMarks
