@@ -1,32 +1,29 @@
 -- A cluster goes on posting, by what became of its head.
-use Rattle.std.proofs.Common.{◌≡◌, ℕ, ◌+◌, ◌-◌, ◌^◌, ◌≤◌, ◌<◌, refl, cond, Some, None, sym, ◌∙◌, ap, subst, arith, List, [], ◌∷◌, length, take, drop, length-append, false, inl, inr, is_some, true}
+use Rattle.std.proofs.Common.{◌≡◌, ℕ, ◌+◌, ◌-◌, ◌≤◌, ◌<◌, cond, Some, None, sym, ◌∙◌, ap, subst, arith, List, [], ◌∷◌, length, take, drop, length-append, false, inl, inr, is_some, true}
 use Rattle.std.specs.List.{list_all, list_any}
 use Rattle.t32_base.specs.declared.process.ClusterNo.{ClusterNo}
 use Rattle.sys_text.specs.declared.system.System.{System}
-use Rattle.bus_msg.specs.declared.entry.Cause.TheVariants.{Disk}
 use Rattle.bus_msg.specs.declared.entry.Post.{Post}
 use Rattle.bus_msg.specs.declared.entry.Entry.{Entry}
 use Rattle.cert_sched.specs.Appended.{entry_of}
 use Rattle.cert_sched.specs.Rules.{is_over}
 use Rattle.cert_sched.specs.Legal.{IsLegalBy}
 use Rattle.cert_sched.specs.Built.{BuiltMayFollow}
-use Rattle.cert_sched.specs.Losses.{capped, least_calls, was_lost_in}
+use Rattle.cert_sched.specs.Losses.{was_lost_in}
 use Rattle.cert_sched.specs.Scripted.{is_server}
 use Rattle.cluster_core.specs.declared.worked.Worked.{Worked}
 use Rattle.cluster_core.specs.declared.worked.Worked.TheVariants.{Moved, Queued, Waits, Rests}
 use Rattle.cluster_core.specs.Follows.{FollowsBuilt}
-use Rattle.cluster_core.specs.Calls.{FailsBy, FollowsSome, GoesOn, KeepsPlace, WorkIs}
-use Rattle.cluster_core.specs.Queue.{with_queue}
-use Rattle.cluster_core.specs.View.{ClusterView, after_sent, disk_calls, failed_at, failing_in, head_of, tried_once, with_server}
-use Rattle.bus_order.specs.Script.{has_unused, is_unpassed}
+use Rattle.cluster_core.specs.Calls.{FollowsSome, GoesOn, KeepsPlace, WorkIs}
+use Rattle.cluster_core.specs.View.{ClusterView, after_sent, failing_in, head_of, tried_once}
+use Rattle.bus_order.specs.Script.{is_unpassed}
 use Rattle.bus_order.specs.View.{BusView}
-use Rattle.cluster_run.specs.Disks.{HasFailed, calls_for}
+use Rattle.cluster_run.specs.Disks.{calls_for}
 use Rattle.cluster_run.specs.Gone.{is_told_by}
-use Rattle.cluster_run.specs.Along.{HasTaken, IsAlong, IsBeside, IsFailed, IsPosting, IsReadyAt, IsShown, IsSound, IsUnnamed, TakesNext, upto}
+use Rattle.cluster_run.specs.Along.{HasTaken, IsAlong, IsPosting, IsReadyAt, IsShown, IsSound, IsUnnamed, TakesNext, upto}
 use Rattle.cluster_run.specs.Turns.{IsSent}
 use Rattle.cluster_run.specs.Offers.{GoesOnFor}
-use Rattle.cluster_run.proofs.DiskCalls.{disk_named, disk_server}
-use Rattle.cluster_run.proofs.OwnLosses.{none_own, none_sent, passed_next}
+use Rattle.cluster_run.proofs.OwnLosses.{passed_next}
 use Rattle.cluster_run.proofs.Prefixes.{legal_prefix}
 use Rattle.cluster_run.proofs.Offering.{along_tried}
 use Rattle.cluster_run.proofs.TakingIn.{upto_all}
@@ -118,37 +115,6 @@ failing_by Queued c new (inr (inl fetch)) = ap (λ (v : ClusterView). failing_in
 failing_by Queued c new (inr (inr sent)) = ap (λ (v : ClusterView). failing_in v.server) (sent.2).rest
 failing_by Waits c new is = ap (λ (v : ClusterView). failing_in v.server) is.4
 failing_by Rests c new is = ap (λ (v : ClusterView). failing_in v.server) is.3
-
--- a work in which a call of its disk failed leaves it before its loss by that
-pub work_failed : (b : BusView) (c new : ClusterView) (call : ℕ) → IsSound b → IsAlong b c → IsUnnamed b c → c.queue ≡ [] → FailsBy call c new → IsFailed b new
-work_failed b c new call sound along unnamed empty fails = subst (IsFailed b) (sym fails.rest) (record {
-  before = record {
-    system = along.system;
-    has = subst (λ (s : System). (c.number).0 < s.clusters) along.system beside.has;
-    within = beside.within;
-    lives = beside.lives;
-    stands = inr (record { disk = disk; sent_before = none_sent c.number (drop c.cursor b.log) beside.told_before; counted = inr counted });
-    kept = none_own b.system b.log c.cursor c.number sound.legal beside.lives beside.told_before;
-    passed = passed_next b c unnamed along.passed;
-  };
-  disk = disk;
-})
-  where
-    beside : IsBeside b.log c
-    beside = along.beside
-
-    named : (has_unused b.script c.number (Disk call) ≡ true) × (call < 2 ^ 64 - 1)
-    named = disk_named b.script c call along.disk (fails.disk).failing
-
-    disk : HasFailed b.script (failed_at call (with_server new.server c))
-    disk = record { call = call; failed = refl; named = named.0; fits = named.1; none = refl }
-
-    counted : capped (least_calls b.system (take c.cursor b.log) (take c.cursor b.log) c.number) ≤ call
-    counted =
-        let least = ((beside.follows).accounts).calls beside.lives (disk_server b.script c call along.disk (fails.disk).failing) in
-        let queue : capped (least_calls c.system (take c.cursor b.log) (take c.cursor b.log) c.number) ≤ disk_calls c = subst (λ q. capped (least_calls c.system (take c.cursor b.log) (with_queue c.system (take c.cursor b.log) q) c.number) ≤ disk_calls c) empty least in
-        subst (λ n. capped (least_calls b.system (take c.cursor b.log) (take c.cursor b.log) c.number) ≤ n) (sym (fails.disk).number)
-        (subst (λ s. capped (least_calls s (take c.cursor b.log) (take c.cursor b.log) c.number) ≤ disk_calls c) along.system queue)
 
 -- what it queued is one post
 queued_one : (c new : ClusterView) → WorkIs c Queued new → (post : Post) × (new.queue ≡ post ∷ [])

@@ -1,5 +1,5 @@
 -- A cluster takes in the entry that it sent.
-use Rattle.std.proofs.Common.{◌≡◌, ◌+◌, ◌≤◌, ◌<◌, take, refl, sym, ◌∙◌, ap, subst, arith, List, [], ◌∷◌, ◌++◌, length, drop, length-append, false, true, ◌||◌, Some, slice_get, inr, inl}
+use Rattle.std.proofs.Common.{◌≡◌, ◌+◌, ◌≤◌, ◌<◌, take, sym, ◌∙◌, ap, subst, arith, List, [], ◌∷◌, ◌++◌, length, drop, length-append, false, true, ◌||◌, Some, slice_get, inr, inl}
 use Rattle.std.specs.Prelude.{option_map}
 use Rattle.std.specs.List.{list_any, list_all}
 use Rattle.std.proofs.lemmas.List.{take-append-le, take_all}
@@ -41,10 +41,10 @@ abbrev pub cleared : ClusterView → ClusterView
 cleared c = record c { queue = tail_of c.queue; tried = false }
 
 module _ (log : List Entry) (c : ClusterView) (post : Post) (after : BusView) (s : IsSent log c post after) where
-  abbrev next : Entry
+  abbrev pub next : Entry
   next = entry_of c.system log post
 
-  follows : FollowsBuilt c.system log c
+  pub follows : FollowsBuilt c.system log c
   follows = subst (λ l. FollowsBuilt c.system l c) (take_all c.cursor log (omega (arith, s.seen))) (s.beside).follows
 
   queue_is : c.queue ≡ post ∷ tail_of c.queue
@@ -67,7 +67,7 @@ module _ (log : List Entry) (c : ClusterView) (post : Post) (after : BusView) (s
   legal_next : IsLegalBy BuiltMayFollow c.system (log ++ next ∷ [])
   legal_next = IsLegal-snoc BuiltMayFollow c.system log next s.legal (may_unlost c.system log next may)
 
-  lives_log : was_lost_in log c.number ≡ false
+  pub lives_log : was_lost_in log c.number ≡ false
   lives_log = ap (λ l. was_lost_in l c.number) (sym (take_all c.cursor log (omega (arith, s.seen)))) ∙ (s.beside).lives
 
   -- the cluster lives still
@@ -90,7 +90,7 @@ module _ (log : List Entry) (c : ClusterView) (post : Post) (after : BusView) (s
       let grown : length after.log ≡ length log + 1 = ap length s.longer ∙ length-append log (next ∷ []) in
       omega (arith, less, left_is, grown)
 
-  long : length after.log ≡ c.cursor + 1
+  pub long : length after.log ≡ c.cursor + 1
   long = ap length s.longer ∙ length-append log (next ∷ []) ∙ ap (λ n. n + 1) (sym s.seen)
 
   at_cursor : slice_get after.log c.cursor ≡ Some next
@@ -124,7 +124,7 @@ module _ (log : List Entry) (c : ClusterView) (post : Post) (after : BusView) (s
   })
 
   -- it has passed no word for a step
-  passed_then : list_all (is_unpassed c.number after.log c.steps) after.script ≡ true
+  pub passed_then : list_all (is_unpassed c.number after.log c.steps) after.script ≡ true
   passed_then = ap (λ l. list_all (is_unpassed c.number l c.steps) after.script) s.longer ∙ all_longer c.number log (next ∷ []) c.steps after.script s.passed
 
   module _ (left new : ClusterView) (left_is : left ≡ after_sent c c.queue) (t' : TakesNext after.log left new) where

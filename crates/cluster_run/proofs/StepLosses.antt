@@ -34,12 +34,12 @@ use Rattle.bus_order.specs.declared.refused.Refused.{Refused}
 use Rattle.std.specs.Prelude.{Result, Ok, Err}
 use Rattle.bus_order.specs.declared.refused.Refused.TheVariants.{Over, Off, Behind, NoMemory}
 use Rattle.script_laws.specs.Off.{IsItsLoss}
-use Rattle.script_laws.proofs.LosingAtCall.{may_at_call}
+use Rattle.script_laws.proofs.LosingAtCall.{may_at_call, may_at_sent}
 use Rattle.script_laws.proofs.LosingAtStep.{may_before, may_sent}
 use Rattle.script_laws.proofs.OffLosses.{not_off_not_lost, off_is_its_loss, silent_once_lost}
 use Rattle.script_laws.proofs.PassedWords.{all_longer}
 use Rattle.cluster_run.specs.Disks.{HasFailed}
-use Rattle.cluster_run.specs.Gone.{IsBeforeStep, IsGone, Stands, StoodAs, StoodBeside, StoodBetween, StoodFailed, is_own_loss, is_told_by, own_cause}
+use Rattle.cluster_run.specs.Gone.{FailedBeside, FailedBetween, HasCountedCalls, IsBeforeStep, IsGone, Stands, StoodAs, StoodBeside, StoodBetween, StoodFailed, is_own_loss, is_told_by, own_cause}
 use Rattle.cluster_run.specs.Along.{IsAlong, IsNamed, IsSound, IsStopped}
 use Rattle.cluster_run.specs.Lived.{EndsBy, cause_in, end_cause, end_of_life}
 use Rattle.cluster_run.specs.Offers.{Adds}
@@ -78,18 +78,40 @@ stood_longer b after c more system longer within others (inr between) =
 
 -- so does one of whose disk a call failed
 failed_longer : (b after : BusView) (c : ClusterView) (more : List Entry) → after.system ≡ b.system → after.script ≡ b.script → after.log ≡ b.log ++ more → c.cursor ≤ length b.log → list_any (is_by_cluster c.number) more ≡ false → StoodFailed b c → StoodFailed after c
-failed_longer b after c more system script longer within others failed =
-    let disk = failed.disk in
-    let front : take c.cursor after.log ≡ take c.cursor b.log = ap (take c.cursor) longer ∙ take-append-le c.cursor b.log more within in
-    let back : drop c.cursor after.log ≡ drop c.cursor b.log ++ more = ap (drop c.cursor) longer ∙ drop-append-le c.cursor b.log more within in
-    record {
-      disk = record { call = disk.call; failed = disk.failed; named = ap (λ words. has_unused words c.number (Disk disk.call)) script ∙ disk.named; fits = disk.fits; none = disk.none };
-      sent_before = ap (list_any (is_by_cluster c.number)) back ∙ list_any-append (is_by_cluster c.number) (drop c.cursor b.log) more ∙ (λ i. failed.sent_before i || others i);
-      counted = elim failed.counted [
-        | inl none ↦ inl (ap (list_any (is_by_cluster c.number)) front ∙ none)
-        | inr most ↦ inr (subst (λ l. capped (least_calls after.system l l c.number) ≤ disk.call) (sym front) (subst (λ s. capped (least_calls s (take c.cursor b.log) (take c.cursor b.log) c.number) ≤ disk.call) (sym system) most))
-      ];
-    }
+failed_longer b after c more system script longer within others failed = record {
+  disk = record { call = disk.call; failed = disk.failed; named = ap (λ words. has_unused words c.number (Disk disk.call)) script ∙ disk.named; fits = disk.fits; none = disk.none };
+  sent = by_way failed.sent;
+}
+  where
+    disk : HasFailed b.script c
+    disk = failed.disk
+
+    front : take c.cursor after.log ≡ take c.cursor b.log
+    front = ap (take c.cursor) longer ∙ take-append-le c.cursor b.log more within
+
+    counted : HasCountedCalls b c disk.call → HasCountedCalls after c disk.call
+    counted most = subst (λ l. capped (least_calls after.system l l c.number) ≤ disk.call) (sym front) (subst (λ s. capped (least_calls s (take c.cursor b.log) (take c.cursor b.log) c.number) ≤ disk.call) (sym system) most)
+
+    by_way : FailedBeside b c disk.call ⊎ FailedBetween b c disk.call → FailedBeside after c disk.call ⊎ FailedBetween after c disk.call
+    by_way (inl beside) =
+        let back : drop c.cursor after.log ≡ drop c.cursor b.log ++ more = ap (drop c.cursor) longer ∙ drop-append-le c.cursor b.log more within in
+        inl (record {
+          sent_before = ap (list_any (is_by_cluster c.number)) back ∙ list_any-append (is_by_cluster c.number) (drop c.cursor b.log) more ∙ (λ i. beside.sent_before i || others i);
+          counted = elim beside.counted [
+            | inl none ↦ inl (ap (list_any (is_by_cluster c.number)) front ∙ none)
+            | inr most ↦ inr (counted most)
+          ];
+        })
+    by_way (inr between) =
+        let inside : c.cursor < length b.log = slice_get_within b.log c.cursor between.entry between.there in
+        let back : drop (c.cursor + 1) after.log ≡ drop (c.cursor + 1) b.log ++ more = ap (drop (c.cursor + 1)) longer ∙ drop-append-le (c.cursor + 1) b.log more (omega (arith, inside)) in
+        inr (record {
+          entry = between.entry;
+          there = ap (λ l. slice_get l c.cursor) longer ∙ get_front b.log more c.cursor inside ∙ between.there;
+          page = between.page;
+          sent_before = ap (list_any (is_by_cluster c.number)) back ∙ list_any-append (is_by_cluster c.number) (drop (c.cursor + 1) b.log) more ∙ (λ i. between.sent_before i || others i);
+          counted = counted between.counted;
+        })
 
 pub stands_longer : (b after : BusView) (c : ClusterView) (more : List Entry) → after.system ≡ b.system → after.script ≡ b.script → after.log ≡ b.log ++ more → c.cursor ≤ length b.log → list_any (is_by_cluster c.number) more ≡ false → Stands b c → Stands after c
 stands_longer b after c more system script longer within others (inl (unfailed, stood)) = inl (unfailed, stood_longer b after c more system longer within others stood)
@@ -246,13 +268,16 @@ may_be_lost b c keeps before named = by_way before.stands
             subst (λ t. capped (least_steps (take c.cursor b.log) (take c.cursor b.log) was.number + cond t 1 0) ≤ was.steps) (between.between).tried all in
             subst (λ k. capped (least_steps (take c.cursor b.log) (take c.cursor b.log) k + 1) ≤ c.steps) number (subst (λ n. capped (least_steps (take c.cursor b.log) (take c.cursor b.log) was.number + 1) ≤ n) steps tried)
 
+    at_call : (disk : HasFailed b.script c) → has_unused b.left c.number (Disk disk.call) ≡ true → FailedBeside b c disk.call ⊎ FailedBetween b c disk.call → MayBeLost b c.number (Disk disk.call)
+    at_call disk left (inl beside) = may_at_call b c.number disk.call c.cursor before.has keeps left beside.sent_before beside.counted disk.fits
+    at_call disk left (inr between) = may_at_sent b c.number disk.call c.cursor between.entry before.has keeps left between.there between.page between.sent_before between.counted disk.fits
+
     by_way : Stands b c → MayBeLost b c.number (own_cause c)
     by_way (inl (unfailed, stood)) = subst (MayBeLost b c.number) (sym (cause_unfailed c unfailed)) (at_step unfailed stood)
     by_way (inr failed) =
         let disk = failed.disk in
         let cause = cause_failed c disk.call disk.failed in
-        subst (MayBeLost b c.number) (sym cause)
-        (may_at_call b c.number disk.call c.cursor before.has keeps (subst (λ cause. list_any (is_word_for c.number cause) b.left ≡ true) cause unused) failed.sent_before failed.counted disk.fits)
+        subst (MayBeLost b c.number) (sym cause) (at_call disk (subst (λ cause. list_any (is_word_for c.number cause) b.left ≡ true) cause unused) failed.sent)
 
 same_itself : (k : ClusterNo) → same_cluster k k ≡ true
 same_itself k = eq-eqb k.0 k.0 refl

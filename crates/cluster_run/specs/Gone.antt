@@ -1,5 +1,5 @@
 -- How a cluster is left when its life has ended: by the end of the run, or by its loss.
-use Rattle.std.specs.Prelude.{◌≡◌, ◌+◌, ◌-◌, ◌≤◌, ◌<◌, ◌⊎◌, Bool, true, false, length, take, drop, slice_get, Some, None}
+use Rattle.std.specs.Prelude.{ℕ, ◌≡◌, ◌+◌, ◌-◌, ◌≤◌, ◌<◌, ◌⊎◌, Bool, true, false, length, take, drop, slice_get, Some, None}
 use Rattle.std.specs.List.{list_any, list_all}
 use Rattle.std.specs.Option.{option_map_or}
 use Rattle.t32_base.specs.declared.process.ClusterNo.{ClusterNo}
@@ -10,7 +10,7 @@ use Rattle.bus_msg.specs.declared.entry.Cause.TheVariants.{Place, Step, Disk}
 use Rattle.bus_msg.specs.declared.entry.Entry.{Entry}
 use Rattle.bus_msg.specs.Places.{same_cluster}
 use Rattle.bus_msg.specs.PlacedAfter.{what}
-use Rattle.cert_sched.specs.Losses.{capped, is_by_cluster, least_calls, was_lost_in}
+use Rattle.cert_sched.specs.Losses.{capped, is_by_cluster, is_page_entry, least_calls, was_lost_in}
 use Rattle.cluster_core.specs.View.{ClusterView, disk_calls}
 use Rattle.cluster_core.specs.Follows.{FollowsBuilt, StandsBetween}
 use Rattle.bus_lock.specs.Lists.{is_author}
@@ -47,11 +47,27 @@ pub record StoodBetween (b : BusView) (c : ClusterView) : Type 0 where
   pub between : StandsBetween FollowsBuilt b.system (take c.cursor b.log) entry c
   pub sent_before : list_any (is_by_cluster c.number) (drop (c.cursor + 1) b.log) ≡ false
 
--- a call of its disk failed; it sent nothing that stands later, and has sent nothing at all or counted at least the calls that the log up to its cursor shows
+-- it has counted at least the disk calls that the log up to its cursor shows
+abbrev pub HasCountedCalls : BusView → ClusterView → ℕ → Type 0
+HasCountedCalls b c calls = capped (least_calls b.system (take c.cursor b.log) (take c.cursor b.log) c.number) ≤ calls
+
+-- where its disk failed it sent nothing that stands later, and has sent nothing at all or counted its calls
+pub record FailedBeside (b : BusView) (c : ClusterView) (call : ℕ) : Type 0 where
+  pub sent_before : list_any (is_by_cluster c.number) (drop c.cursor b.log) ≡ false
+  pub counted : (list_any (is_by_cluster c.number) (take c.cursor b.log) ≡ false) ⊎ HasCountedCalls b c call
+
+-- where its disk failed it was to take in the entry at its cursor, a page that it had sent; it sent nothing that stands later, and has counted its calls
+pub record FailedBetween (b : BusView) (c : ClusterView) (call : ℕ) : Type 0 where
+  pub entry : Entry
+  pub there : slice_get b.log c.cursor ≡ Some entry
+  pub page : is_page_entry (what entry) ≡ true
+  pub sent_before : list_any (is_by_cluster c.number) (drop (c.cursor + 1) b.log) ≡ false
+  pub counted : HasCountedCalls b c call
+
+-- a call of its disk failed
 pub record StoodFailed (b : BusView) (c : ClusterView) : Type 0 where
   pub disk : HasFailed b.script c
-  pub sent_before : list_any (is_by_cluster c.number) (drop c.cursor b.log) ≡ false
-  pub counted : (list_any (is_by_cluster c.number) (take c.cursor b.log) ≡ false) ⊎ (capped (least_calls b.system (take c.cursor b.log) (take c.cursor b.log) c.number) ≤ disk.call)
+  pub sent : FailedBeside b c disk.call ⊎ FailedBetween b c disk.call
 
 -- no call of its disk failed, and it follows the log, or has just sent the entry that it takes in next; or one failed
 abbrev pub Stands : BusView → ClusterView → Type 0

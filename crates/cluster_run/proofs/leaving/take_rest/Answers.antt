@@ -28,4 +28,4 @@ returns-clause-caught c =
     let b : BusView = c.args.bus.now in
     let v = c.args.cluster.now in
     let on : is_some (off_at b.log v.number) ≡ false = ap (λ k. is_some (off_at b.log k)) (sym c.number.ensures) ∙ ap is_some (sym c.off_at.ensures) ∙ sym c.is_some.ensures ∙ c.if-is_some.false in
-    rest_caught b v c.take_unnamed.new.cluster (lost_off b.system b.log v.number c.requires.sound.legal ∙ on) c.in_ok-take_unnamed.ensures.taken (c.in_ok-take_unnamed.ensures.caught c.if-branch.false)
+    rest_caught b v c.take_unnamed.new.cluster (lost_off b.system b.log v.number c.requires.sound.legal ∙ on) (c.in_ok-take_unnamed.ensures.taken c.if-branch.false) (c.in_ok-take_unnamed.ensures.caught c.if-branch.false)

@@ -13,7 +13,8 @@ use Rattle.page_server.specs.declared.disk.DiskFault.{DiskFault}
 use Rattle.cluster_run.specs.Turns.{GoesOwn, LosesOwn, SendsAll, TurnsOwn}
 use Rattle.cluster_run.proofs.StepLosses.{failed_named}
 use Rattle.cluster_run.proofs.Owning.{gone_turn, moves_turn, sends_turn, tells_turn, waits_turn, where_ok}
-use Rattle.cluster_run.proofs.Posting.{follows_some, queued_head, work_failed, worked_posting, worked_shown}
+use Rattle.cluster_run.proofs.Failing.{call_failed}
+use Rattle.cluster_run.proofs.Posting.{follows_some, queued_head, worked_posting, worked_shown}
 use Rattle.cluster_run.proofs.Answering.{along_answered, along_awaits}
 use Rattle.t32_base.specs.declared.process.ClusterNo.{ClusterNo}
 use Rattle.cluster_run.specs.Progress.{HasAnswered}
@@ -125,14 +126,14 @@ lose-requires-clause-before g c =
     let b = g.P.Port.bus c.args.port.now in
     let v = c.args.cluster.now in
     let worked : ClusterView = c.work.new.self in
-    (work_failed b v worked _ c.requires.shown.sound c.requires.shown.along c.requires.unnamed c.requires.empty (hurt_is v worked c.work.result _ (c.in-Err-Disk.is ∙ ap (λ h. Err h) c.in-Err-Disk.field-0-is) c.work.ensures.hurts)).before
+    (call_failed b v worked _ c.requires.shown.sound c.requires.shown.along c.requires.unnamed (hurt_is v worked c.work.result _ (c.in-Err-Disk.is ∙ ap (λ h. Err h) c.in-Err-Disk.field-0-is) c.work.ensures.hurts)).before
 
 pub lose-requires-clause-named : goal.lose-requires-clause-named
 lose-requires-clause-named g c =
     let b = g.P.Port.bus c.args.port.now in
     let v = c.args.cluster.now in
     let worked : ClusterView = c.work.new.self in
-    failed_named b worked (work_failed b v worked _ c.requires.shown.sound c.requires.shown.along c.requires.unnamed c.requires.empty (hurt_is v worked c.work.result _ (c.in-Err-Disk.is ∙ ap (λ h. Err h) c.in-Err-Disk.field-0-is) c.work.ensures.hurts)).disk
+    failed_named b worked (call_failed b v worked _ c.requires.shown.sound c.requires.shown.along c.requires.unnamed (hurt_is v worked c.work.result _ (c.in-Err-Disk.is ∙ ap (λ h. Err h) c.in-Err-Disk.field-0-is) c.work.ensures.hurts)).disk
 
 pub returns-in_ok-lose-in-Err-Disk-clause-own : goal.returns-in_ok-lose-in-Err-Disk-clause-own
 returns-in_ok-lose-in-Err-Disk-clause-own g c alone own =

@@ -3,14 +3,23 @@ use Rattle.t32_base.specs.declared.process.ClusterNo.{ClusterNo}
 use Rattle.cert_sched.specs.Losses.{was_lost_in}
 use Rattle.cluster_core.specs.View.{ClusterView}
 use Rattle.cluster_run.specs.Turns.{LosesOwn}
+use Rattle.cluster_run.proofs.Failing.{next_same, sent_failed}
 use Rattle.cluster_run.proofs.Posting.{left_ready, sent_posting}
-use Rattle.cluster_run.proofs.Sending.{before_sent, clears, sent_lives}
+use Rattle.cluster_run.proofs.Sending.{before_sent, cleared, clears, sent_lives}
+use Rattle.cluster_run.proofs.StepLosses.{failed_named}
 use Rattle.cluster_run.proofs.turn.take_sent.Goals as goal
 
 pub is_named-requires-clause-before : goal.is_named-requires-clause-before
 is_named-requires-clause-before g c =
     let sent = c.requires.sent in
     before_sent sent.0 c.args.cluster.now sent.1 (g.P.Port.bus c.args.port.now) sent.2 c.requires.sound.legal c.sent.new.self c.sent.ensures
+
+pub is_named-requires-clause-unfailed : goal.is_named-requires-clause-unfailed
+is_named-requires-clause-unfailed g c =
+    let sent = c.requires.sent in
+    ap (λ (v : ClusterView). v.failed) (c.sent.ensures ∙ clears sent.0 c.args.cluster.now sent.1 (g.P.Port.bus c.args.port.now) sent.2) ∙ ((sent.2).beside).unfailed
+
+-- ---- it is lost before that
 
 pub lose-requires-clause-before : goal.lose-requires-clause-before
 lose-requires-clause-before g c =
@@ -25,6 +34,8 @@ returns-then-is_named-clause-own g c lost alone own =
     let lives : was_lost_in b.log c.sent.new.self.number ≡ false = ap (was_lost_in b.log) number ∙ sent_lives sent.0 c.args.cluster.now sent.1 b sent.2 in
     subst (λ (k : ClusterNo). LosesOwn k b (g.P.Port.bus c.lose.new.self)) number (c.in_ok-lose.ensures.own alone own lives)
 
+-- ---- it takes the entry in
+
 pub take_next-requires-clause-ready : goal.take_next-requires-clause-ready
 take_next-requires-clause-ready g c =
     let sent = c.requires.sent in
@@ -34,9 +45,38 @@ pub returns-clause-posting : goal.returns-clause-posting
 returns-clause-posting g c goes =
     let sent = c.requires.sent in
     sent_posting sent.0 c.args.cluster.now c.sent.new.self sent.1 (g.P.Port.bus c.args.port.now) sent.2 c.sent.ensures (g.P.Port.shows c.args.port.now) (g.P.Port.from c.args.port.now) c.take_next.new.cluster
-    c.requires.shows c.requires.from c.requires.sound (c.is_named.ensures.unnamed c.if-is_named.false) c.in_ok-take_next.ensures
+    c.requires.shows c.requires.from c.requires.sound (c.is_named.ensures.unnamed c.if-is_named.false) (c.in_ok-take_next.ensures.taken c.if-branch.false)
 
-pub is_named-requires-clause-unfailed : goal.is_named-requires-clause-unfailed
-is_named-requires-clause-unfailed g c =
+-- ---- a call of its disk fails at that
+
+pub lose-requires-then-branch-clause-before : goal.lose-requires-then-branch-clause-before
+lose-requires-then-branch-clause-before g c =
+    let b = g.P.Port.bus c.args.port.now in
     let sent = c.requires.sent in
-    ap (λ (v : ClusterView). v.failed) (c.sent.ensures ∙ clears sent.0 c.args.cluster.now sent.1 (g.P.Port.bus c.args.port.now) sent.2) ∙ ((sent.2).beside).unfailed
+    let fails = c.in_ok-take_next.ensures.failed c.if-branch.true in
+    (sent_failed sent.0 c.args.cluster.now sent.1 b sent.2 c.sent.new.self c.take_next.new.cluster c.sent.ensures c.requires.sound (c.is_named.ensures.unnamed c.if-is_named.false) fails).before
+
+pub lose-requires-then-branch-clause-named : goal.lose-requires-then-branch-clause-named
+lose-requires-then-branch-clause-named g c =
+    let b = g.P.Port.bus c.args.port.now in
+    let sent = c.requires.sent in
+    let fails = c.in_ok-take_next.ensures.failed c.if-branch.true in
+    failed_named b c.take_next.new.cluster (sent_failed sent.0 c.args.cluster.now sent.1 b sent.2 c.sent.new.self c.take_next.new.cluster c.sent.ensures c.requires.sound (c.is_named.ensures.unnamed c.if-is_named.false) fails).disk
+
+pub returns-then-branch-clause-same : goal.returns-then-branch-clause-same
+returns-then-branch-clause-same g c =
+    let b = g.P.Port.bus c.args.port.now in
+    let sent = c.requires.sent in
+    let same = next_same b.log c.sent.new.self c.take_next.new.cluster (c.in_ok-take_next.ensures.failed c.if-branch.true) in
+    let left : c.sent.new.self ≡ cleared c.args.cluster.now = c.sent.ensures ∙ clears sent.0 c.args.cluster.now sent.1 b sent.2 in
+    record { system = same.system ∙ ap (λ (v : ClusterView). v.system) left; number = same.number ∙ ap (λ (v : ClusterView). v.number) left }
+
+pub returns-then-branch-clause-own : goal.returns-then-branch-clause-own
+returns-then-branch-clause-own g c lost alone own =
+    let b = g.P.Port.bus c.args.port.now in
+    let v : ClusterView = c.take_next.new.cluster in
+    let sent = c.requires.sent in
+    let same = next_same b.log c.sent.new.self v (c.in_ok-take_next.ensures.failed c.if-branch.true) in
+    let number : v.number ≡ c.args.cluster.now.number = same.number ∙ ap (λ (v : ClusterView). v.number) (c.sent.ensures ∙ clears sent.0 c.args.cluster.now sent.1 b sent.2) in
+    let lives : was_lost_in b.log v.number ≡ false = ap (was_lost_in b.log) number ∙ sent_lives sent.0 c.args.cluster.now sent.1 b sent.2 in
+    subst (λ (k : ClusterNo). LosesOwn k b (g.P.Port.bus c.lose-then-branch.new.self)) number (c.in_ok-lose-2.ensures.own alone own lives)
