@@ -1,7 +1,7 @@
 -- A process whose record moves waits under its own pid.
-use Rattle.std.proofs.Common.{◌≡◌, ℕ, ◌≤◌, refl, sym, ◌∙◌, ap, arith, List, [], ◌++◌, length, true, false, Some, None, is_some, suc, zero}
+use Rattle.std.proofs.Common.{◌≡◌, ℕ, ◌≤◌, refl, sym, ap, arith, List, length, true, false, Some, None, is_some, suc, zero}
 use Rattle.std.specs.Prelude.{replicate}
-use Rattle.std.specs.List.{list_all, list_any}
+use Rattle.std.specs.List.{list_all}
 use Rattle.t32_base.specs.declared.process.Pid.{Pid}
 use Rattle.t32_base.specs.declared.letter.BackRec.{BackRec}
 use Rattle.sys_text.specs.declared.system.System.{System}

@@ -1,17 +1,15 @@
 -- A cluster that takes in an entry by which a process of another cluster synchronises, a changed page or the cut, goes on to follow the log.
-use Rattle.std.proofs.Common.{◌≡◌, ◌⊎◌, ℕ, ◌+◌, ◌-◌, refl, sym, ◌∙◌, ap, subst, List, [], ◌∷◌, ◌++◌, length-append, append-nil, Bool, true, false, cond, ◌&&◌, ◌||◌, eqb, eqb-true, eq-eqb, ne_eqb, Option, Some, None, is_some, slice_get, true≢false, inl, inr}
+use Rattle.std.proofs.Common.{◌≡◌, ◌⊎◌, ℕ, ◌+◌, ◌-◌, refl, sym, ◌∙◌, ap, subst, List, [], ◌∷◌, ◌++◌, length-append, append-nil, Bool, true, false, cond, ◌&&◌, ◌||◌, eq-eqb, ne_eqb, Option, Some, None, is_some, slice_get, true≢false, inl, inr}
 use Rattle.std.specs.Prelude.{◌≢◌, option_and_then, option_map}
 use Rattle.std.specs.List.{list_all}
 use Rattle.std.specs.Option.{option_map_or}
 use Rattle.std.proofs.lemmas.Bool.{and_parts}
 use Rattle.t32_base.specs.declared.process.Pid.{Pid}
 use Rattle.t32_base.specs.declared.process.ClusterNo.{ClusterNo}
-use Rattle.t32_base.specs.declared.process.Counts.{Counts}
 use Rattle.t32_base.specs.declared.letter.BackRec.{BackRec}
 use Rattle.t32_base.specs.Small.{SmallState}
 use Rattle.sys_text.specs.declared.system.System.{System}
 use Rattle.sys_text.specs.Valid.{is_system}
-use Rattle.proc_state.specs.declared.process.Process.{Process}
 use Rattle.proc_state.specs.State.{ProcState, state_of}
 use Rattle.sys_calls.specs.declared.steps.Emission.{Emission}
 use Rattle.sys_calls.specs.Next.{silently, last_emission}
@@ -38,10 +36,9 @@ use Rattle.cert_sched.specs.Losses.{is_by_cluster, is_from, is_crash_of}
 use Rattle.cert_sched.specs.Moved.{is_fetch, is_page_is}
 use Rattle.cert_sched.specs.Parts.{rising}
 use Rattle.cert_sched.specs.Rests.{home_pids}
-use Rattle.cert_sched.specs.Rules.{has_its_pages, home_at, is_by, is_by_home, is_by_right, is_living}
+use Rattle.cert_sched.specs.Rules.{home_at, is_by, is_by_home, is_by_right, is_living}
 use Rattle.cert_sched.specs.Schedule.{done_after, items_of, placement, process_after, run_upto}
 use Rattle.cert_sched.specs.Scripted.{is_done}
-use Rattle.cert_sched.specs.Simulation.{IsUnended}
 use Rattle.cert_sched.specs.Steps.{after_items, emission_at, process_of, silent_upto}
 use Rattle.cert_sched.proofs.LogLaws.{IsLegal-last, placement-snoc}
 use Rattle.cert_sched.proofs.StepLaws.{done_after-other, process_after-beside}
@@ -59,9 +56,9 @@ use Rattle.wait_laws.proofs.Follows.{other_entry}
 use Rattle.cluster_core.specs.View.{ClusterView, Held, Runs, Rolls, Waits, held_of, next_count, with_server}
 use Rattle.cluster_core.specs.Residents.{pids_in}
 use Rattle.cluster_core.specs.Parts.{AllOwn}
-use Rattle.cluster_core.specs.Queue.{AreTogether, Queued, Nothing, One, posts_of, is_lone, IsQueueLegal, is_move_of, move_of, state_by, state_now, taken_by, with_queue}
+use Rattle.cluster_core.specs.Queue.{AreTogether, Queued, Nothing, One, posts_of, is_lone, IsQueueLegal, is_move_of, state_by, state_now, taken_by, with_queue}
 use Rattle.cluster_core.specs.Recovered.{left_by, moved_by, with_all_waiting}
-use Rattle.cluster_core.specs.Holds.{IsHeldAs, is_fetch_queued, process_in, CarriesMarks, MarkedIfThere, unended_process}
+use Rattle.cluster_core.specs.Holds.{IsHeldAs, is_fetch_queued, CarriesMarks, MarkedIfThere, unended_process}
 use Rattle.cluster_core.specs.Follows.{FollowsBuilt, IsOpen}
 use Rattle.cluster_core.specs.Calls.{absorbed, here_after}
 use Rattle.cluster_core.specs.Serving.{Serves}
