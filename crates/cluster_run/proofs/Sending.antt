@@ -18,7 +18,7 @@ use Rattle.cert_sched.specs.Losses.{is_by_cluster, is_crash_of, is_from, was_los
 use Rattle.cert_sched.proofs.Induction.{is_over-snoc}
 use Rattle.cert_sched.proofs.LogLaws.{IsLegal-snoc}
 use Rattle.cert_sched.proofs.UnlostLaws.{may_unlost}
-use Rattle.cluster_core.specs.View.{ClusterView, head_of, after_sent, with_server}
+use Rattle.cluster_core.specs.View.{ClusterView, after_sent, with_server}
 use Rattle.cluster_core.specs.Queue.{IsQueueLegal, is_lone}
 use Rattle.cluster_core.specs.Follows.{FollowsBuilt, IsOpen, StandsBetween}
 use Rattle.cluster_core.specs.Calls.{Absorbs, IsReady, ReadyFor, absorbed}
