@@ -1,5 +1,5 @@
 -- A cluster that has taken in all but the end of a log has taken in each page.
-use Rattle.std.proofs.Common.{◌≡◌, ℕ, suc, ◌-◌, sym, ◌∙◌, ap, arith, List, [], ◌∷◌, ◌++◌, length, take, Bool, true, false, cond, Some, slice_get, true≢false, refl}
+use Rattle.std.proofs.Common.{◌≡◌, ℕ, suc, ◌-◌, sym, ◌∙◌, ap, arith, List, [], ◌∷◌, ◌++◌, length, take, Bool, true, false, cond, Some, slice_get, true≢false, refl, inl, inr}
 use Rattle.std.specs.Prelude.{count_by}
 use Rattle.std.proofs.lemmas.List.{take_all}
 use Rattle.std.proofs.lemmas.Option.{slice_get_cases}
