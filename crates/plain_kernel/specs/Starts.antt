@@ -1,5 +1,5 @@
 -- The roots of a system at their start, whose memories were not made yet.
-use Rattle.std.specs.Prelude.{ℕ, ◌≡◌, ◌≤◌, ◌+◌, ◌*◌, List, map, length}
+use Rattle.std.specs.Prelude.{ℕ, ◌≡◌, ◌≤◌, ◌+◌, ◌*◌, ◌++◌, List, map, length, drop, replicate}
 use Rattle.std.specs.List.{sum_by}
 use Rattle.std.specs.Map.{values_of}
 use Rattle.t32_base.specs.declared.process.Pid.{Pid}
@@ -7,6 +7,7 @@ use Rattle.t32_base.specs.Small.{SmallState}
 use Rattle.proc_state.specs.State.{ProcState}
 use Rattle.sys_calls.specs.Small.{weight}
 use Rattle.sys_text.specs.declared.system.Image.{Image}
+use Rattle.sys_text.specs.Boot.{bytes_of_words}
 use Rattle.plain_kernel.specs.Kernel.{with_end_linked}
 use Rattle.plain_kernel.specs.Maps.{pid_of}
 
@@ -17,6 +18,10 @@ pub record IsReady (small : SmallState) (image : Image) : Type 0 where
   pub least : 1 ≤ image.pages
   pub most : image.pages ≤ 256
   pub fits : 4 * length image.words ≤ 256 * image.pages
+
+-- a page that begins with the bytes of words, lowest byte first, followed by zero bytes
+abbrev pub page_of_words : List ℕ → List ℕ
+page_of_words words = bytes_of_words words ++ drop (4 * length words) (replicate 256 0)
 
 -- the processes that a map of roots at their start stands for
 abbrev pub starts_in : List (ℕ × ProcState) → List (Pid × ProcState)

@@ -59,9 +59,22 @@ pub fn processes_of(alloc: Global, system: &System) -> Result<BTreeMap<u32, Proc
     ensures room { IfOk result (λ processes. total_load processes.entries < 2 ^ 64) }
 {
     let starts = starts_of(alloc, system)?;
+    with_memories(alloc, starts)
+}
+
+// The processes of roots at their start, each with its memory.
+fn with_memories(
+    alloc: Global,
+    starts: BTreeMap<u32, Start>,
+) -> Result<BTreeMap<u32, Process>, NoMemory>
+    ensures states { IfOk result (λ processes. states_of processes.entries ≡ starts_in starts.entry.entries) }
+    ensures fresh { IfOk result (λ processes. AreFresh processes.entries) }
+    ensures load { IfOk result (λ processes. total_load processes.entries ≡ starts_load starts.entry.entries) }
+{
     let mut processes = BTreeMap::new(alloc);
     for (pid, start) in starts {
-        processes.insert(pid, start.process(alloc)?)?;
+        let process = start.process(alloc)?;
+        processes.insert(pid, process)?;
     }
     Ok(processes)
 }

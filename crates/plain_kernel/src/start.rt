@@ -1,11 +1,11 @@
 //! A root at its start, whose memory was not made yet.
-ghost use Rattle.std.specs.Prelude.{◌≡◌, ◌≤◌, ◌<◌, ◌*◌, ◌+◌, ◌++◌, IfOk, drop, length, replicate, take};
+ghost use Rattle.std.specs.Prelude.{◌≡◌, ◌≤◌, ◌<◌, ◌*◌, ◌+◌, ◌++◌, IfOk, drop, length, take};
 ghost use Rattle.rv_mem.specs.Memory.{page_at};
 ghost use Rattle.sys_text.specs.Boot.{bytes_of_words};
 ghost use Rattle.proc_state.specs.Ends.{free_end as free_end_in};
 ghost use Rattle.proc_state.specs.State.{linked_to, state_of, IsFresh};
 ghost use Rattle.plain_kernel.specs.Kernel.{root_process};
-ghost use Rattle.plain_kernel.specs.Starts.{state_load};
+ghost use Rattle.plain_kernel.specs.Starts.{page_of_words, state_load};
 ghost use Rattle.plain_kernel.specs.Maps.{CanBoot, IsImageOf};
 
 use byteorder::{ByteOrder, LittleEndian};
@@ -92,7 +92,7 @@ impl<'a> Start<'a> {
 
     /// The process, with its memory.
     pub fn process(self, alloc: Global) -> Result<Process, NoMemory>
-        ensures state { IfOk result (λ p. state_of p ≡ self) }
+        ensures state { IfOk result (λ p. state_of p ≡ self.entry) }
         ensures fresh { IfOk result IsFresh }
     {
         let bytes = bytes_of(alloc, self.image.words.as_slice())?;
@@ -121,14 +121,26 @@ fn bytes_of(alloc: Global, words: &[u32]) -> Result<Vec<u8>, NoMemory>
 
 // Page `i` of the bytes of words, lowest byte first, which zero bytes follow.
 fn page_of(words: &[u32], i: u16) -> [u8; 256]
-    ensures { result ≡ take 256 (drop (256 * i) (bytes_of_words words.now) ++ replicate 256 0) }
+    ensures { result ≡ page_of_words (take 64 (drop (64 * i) words.now)) }
 {
     let mut page = [0u8; 256];
-    let first = 64 * usize::from(i);
-    if first < words.len() {
-        let rest = &words[first..];
-        let count = rest.len().min(64);
-        LittleEndian::write_u32_into(&rest[..count], &mut page[..4 * count]);
-    }
+    put_words(&mut page, words_of_page(words, i));
     page
+}
+
+// The words of page `i`.
+fn words_of_page(words: &[u32], i: u16) -> &[u32]
+    ensures { result.now ≡ take 64 (drop (64 * i) words.now) }
+{
+    let first = words.len().min(64 * usize::from(i));
+    let rest = &words[first..];
+    &rest[..rest.len().min(64)]
+}
+
+// Puts words at the front of a page, lowest byte first.
+fn put_words(page: &mut [u8; 256], words: &[u32])
+    requires { length words.now ≤ 64 }
+    ensures { page.new ≡ bytes_of_words words.now ++ drop (4 * length words.now) page.old }
+{
+    LittleEndian::write_u32_into(words, &mut page[..4 * words.len()]);
 }

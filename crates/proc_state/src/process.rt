@@ -150,7 +150,14 @@ ghost use Rattle.proc_state.specs.Ends.{free_end as free_end_in, is_never};
 pub fn free_end(small: &Small) -> u8
     ensures { result ≡ free_end_in small.now.ends }
 {
-    match never_linked(&small.ends) {
+    lowest_never(&small.ends)
+}
+
+// The lowest of these ends that was never linked; 32 where there is none.
+fn lowest_never(ends: &[EndState; 32]) -> u8
+    ensures { result ≡ free_end_in ends.now }
+{
+    match never_linked(ends) {
         Some(number) => number as u8,
         None => 32,
     }
