@@ -27,6 +27,7 @@ mod Paging
 pub mod Served
 pub mod Counted
 pub mod Passing
+mod Homing
 pub mod Booted
 pub mod Following
 pub mod Owning

@@ -106,7 +106,7 @@ fn residents_of(
     number: ClusterNo,
     starts: BTreeMap<u32, Start>,
 ) -> Result<Residents, NoMemory>
-    ensures { IfOk result (λ r. RunFrom (starts_in starts.entries) number r.here) }
+    ensures { IfOk result (λ r. RunFrom (starts_in starts.entry.entries) number r.here) }
 {
     let mut here = Residents::none(alloc);
     for (pid, start) in starts {
