@@ -49,9 +49,9 @@ fn a_root_at_its_start_has_the_pages_of_its_process(rt: HostRuntime) -> Result<(
         assert_eq!(rt; pid, 16);
         assert_eq!(rt; start.pages(), 2);
         let (first, second) = (start.page(0), start.page(1));
-        assert_eq!(rt; first[..5], [0x93, 0x08, 0x20, 0, 0]);
-        assert_eq!(rt; first[251..], [0, 0xff, 0x68, 0x69, 0x0a]);
-        assert_eq!(rt; second[..5], [0x13, 0x05, 0x10, 0, 0]);
+        assert_eq!(rt; &first[..5], [0x93, 0x08, 0x20, 0, 0].as_slice());
+        assert_eq!(rt; &first[251..], [0, 0xff, 0x68, 0x69, 0x0a].as_slice());
+        assert_eq!(rt; &second[..5], [0x13, 0x05, 0x10, 0, 0].as_slice());
         assert_eq!(rt; second[255], 0);
         let process = start.process(rt.alloc())?;
         assert_eq!(rt; process.ram.pages(), 2);
