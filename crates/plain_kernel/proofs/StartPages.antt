@@ -47,15 +47,15 @@ take_behind k xs ys behind = ap (λ n. take n (xs ++ ys)) (parts k (length xs) b
 filled_page : (words : List ℕ) (zeros : ℕ) → 256 ≤ 4 * length words + zeros → take 256 (bytes_of_words words ++ replicate zeros 0) ≡ page_of_words (take 64 words)
 filled_page words zeros enough = elim (cases_lt (length words) 64) [
   | inl few ↦ (
-    take_behind 256 (bytes_of_words words) (replicate zeros 0) (omega (arith, four_each words, few))
-    ∙ ap (λ n. bytes_of_words words ++ take (256 - n) (replicate zeros 0)) (four_each words)
-    ∙ ap (λ l. bytes_of_words words ++ l) (take-replicate (256 - 4 * length words) zeros 0 (omega (arith, enough)) ∙ sym (drop-replicate (4 * length words) 256 0))
-    ∙ ap page_of_words (sym (take_all 64 words (omega (arith, few)))))
+      take_behind 256 (bytes_of_words words) (replicate zeros 0) (omega (arith, four_each words, few))
+      ∙ ap (λ n. bytes_of_words words ++ take (256 - n) (replicate zeros 0)) (four_each words)
+      ∙ ap (λ l. bytes_of_words words ++ l) (take-replicate (256 - 4 * length words) zeros 0 (omega (arith, enough)) ∙ sym (drop-replicate (4 * length words) 256 0))
+      ∙ ap page_of_words (sym (take_all 64 words (omega (arith, few)))))
   | inr many ↦ (
-    take-append-le 256 (bytes_of_words words) (replicate zeros 0) (omega (arith, four_each words, many))
-    ∙ bytes_upto 64 words
-    ∙ sym (append-nil (bytes_of_words (take 64 words)))
-    ∙ ap (λ l. bytes_of_words (take 64 words) ++ l) (sym (drop_all (4 * length (take 64 words)) (replicate 256 0) (omega (arith, length-take-le 64 words many, length-replicate {A = ℕ} 256 0)))))
+      take-append-le 256 (bytes_of_words words) (replicate zeros 0) (omega (arith, four_each words, many))
+      ∙ bytes_upto 64 words
+      ∙ sym (append-nil (bytes_of_words (take 64 words)))
+      ∙ ap (λ l. bytes_of_words (take 64 words) ++ l) (sym (drop_all (4 * length (take 64 words)) (replicate 256 0) (omega (arith, length-take-le 64 words many, length-replicate {A = ℕ} 256 0)))))
 ]
 
 -- page i of a memory of n pages that begins with the bytes of words

@@ -34,10 +34,7 @@ pub fn starts_of<'a>(
 }
 
 // The roots of a system at their start by pid, with no end linked.
-fn roots_by_pid<'a>(
-    alloc: Global,
-    system: &'a System,
-) -> Result<BTreeMap<u32, Start<'a>>, NoMemory>
+fn roots_by_pid<'a>(alloc: Global, system: &'a System) -> Result<BTreeMap<u32, Start<'a>>, NoMemory>
     requires { is_system system.now ≡ true }
     ensures states { IfOk result (λ starts. starts_in starts.entries ≡ booted_processes system.now (roots_of system.now)) }
     ensures room { IfOk result (λ starts. starts_load starts.entries < 2 ^ 64) }

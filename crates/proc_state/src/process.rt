@@ -43,11 +43,7 @@ impl Process {
         ensures state { IfOk result (λ p. state_of p ≡ root_state pid pages image.now limit births tty) }
         ensures fresh { IfOk result IsFresh }
     {
-        Process::starting(
-            alloc,
-            first_small(pid, pages, limit, births, tty),
-            image,
-        )
+        Process::starting(alloc, first_small(pid, pages, limit, births, tty), image)
     }
 
     /// A process at its start, in a state that has made no step. Its memory has the pages of that state and begins with
