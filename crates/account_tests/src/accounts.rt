@@ -13,7 +13,7 @@ use page_accounts::noting::note;
 use page_server::disk::PageDisk;
 use page_server::mem_disk::MemDisk;
 use page_server::pager::Pager;
-use plain_kernel::booting::processes_of;
+use plain_kernel::booting::starts_of;
 use std::alloc::Global;
 use std::test::Fail;
 use sys_text::read_system;
@@ -37,9 +37,9 @@ struct Server {
 
 fn server_at_boot(alloc: Global) -> Result<Server, Fail> {
     let system = read_system(alloc, HI.as_bytes())?;
-    let processes = processes_of(alloc, &system)?;
+    let starts = starts_of(alloc, &system)?;
     let mut pager = Pager::new(alloc, MemDisk::new(alloc, List::new(alloc)));
-    put_roots(&mut pager, &processes)?;
+    put_roots(&mut pager, &starts)?;
     let places = placement_at_boot(alloc, &system)?;
     Ok(Server { pager, places })
 }

@@ -45,7 +45,7 @@ use Rattle.cluster_core.specs.Queue.{Nothing}
 use Rattle.cluster_core.specs.Residents.{pids_in}
 use Rattle.cluster_core.specs.View.{ClusterView, Held, Runs, held_at, held_of}
 use Rattle.cluster_core.proofs.Here.{is_among}
-use Rattle.cluster_core.proofs.Passing.{passing_apart, pids_pass, process_is}
+use Rattle.cluster_core.proofs.Passing.{found_passing, passing, passing_apart, pids_pass, pids_under, process_is}
 use Rattle.cluster_core.proofs.Telling.{at_once}
 use Rattle.mark_laws.proofs.BootMarks.{boot_marks}
 use Rattle.mark_laws.proofs.SentPages.{sent_none}
@@ -65,10 +65,11 @@ pub record IsBooted (system : System) (p : Pid) (h : Held) : Type 0 where
 
 pub here_booted : (system : System) (number : ClusterNo) (here : List (Pid × Held)) → AreBooted system number here → (p : Pid) (h : Held) → held_of here p ≡ Some h → IsBooted system p h
 here_booted system number here is p h there =
-    let one = process_is (belongs_to number) is.all p h (ap (λ l. held_of l p) (sym is.own) ∙ there) in
+    let one = process_is is.all p h (ap (λ l. held_of l p) (sym is.own) ∙ there) in
+    let among : finmap.find pid_cmp p (passing (belongs_to number) (linked_processes system)) ≡ Some (state_of one.process) = ap (finmap.find pid_cmp p) (sym is.states) ∙ lookup_state p.0 is.all ∙ ap (option_map state_of) one.found in
     record {
       process = one.process;
-      at = ap (finmap.find pid_cmp p) (boot_has system ∙ sym is.states) ∙ lookup_state p.0 is.all ∙ ap (option_map state_of) one.found;
+      at = ap (finmap.find pid_cmp p) (boot_has system) ∙ found_passing (belongs_to number) (linked_processes system) p (state_of one.process) among;
       fresh = found_fresh is.all p.0 one.process is.fresh one.found;
       is = one.is;
     }
@@ -93,10 +94,12 @@ boot_quiet system q s there = boot-each (λ p s. list_any is_signal s.mail ≡ f
 
 -- ---- each process
 
+-- the pids here are those of the kernel that belong to the cluster
+pids_here : (system : System) (number : ClusterNo) (here : List (Pid × Held)) → AreBooted system number here → pids_in here ≡ filter (belongs_to number) (state_pids (linked_processes system))
+pids_here system number here is = ap pids_in is.own ∙ pids_under is.all ∙ ap state_pids is.states ∙ pids_pass (belongs_to number) (linked_processes system)
+
 here_apart : (system : System) (number : ClusterNo) (here : List (Pid × Held)) → AreBooted system number here → NoTwo (pids_in here)
-here_apart system number here is =
-    subst (λ l. NoTwo (pids_in l)) (sym is.own)
-    (passing_apart (belongs_to number) is.all (subst (λ ps. NoTwo (state_pids ps)) (boot_has system ∙ sym is.states) (boot_apart system)))
+here_apart system number here is = subst NoTwo (sym (pids_here system number here is)) (passing_apart (belongs_to number) (state_pids (linked_processes system)) (subst (λ ps. NoTwo (state_pids ps)) (boot_has system) (boot_apart system)))
 
 -- what holds of each process by its pid holds of all, where no pid stands twice
 all_own : (cursor : ℕ) (rs : List (Pid × Held)) → NoTwo (pids_in rs) → ((p : Pid) (h : Held) → held_of rs p ≡ Some h → IsHeldOwn cursor p h) → AllOwn cursor rs
@@ -159,9 +162,7 @@ homes_of system valid =
 once : (system : System) (number : ClusterNo) (here : List (Pid × Held)) → is_system system ≡ true → AreBooted system number here → rising (pids_in here) ≡ rising (home_pids system [] number)
 unfolding placement
 once system number here valid is =
-    ap (λ l. rising (pids_in l)) is.own
-    ∙ ap rising (pids_pass (belongs_to number) is.all)
-    ∙ ap (λ ps. rising (filter (belongs_to number) (state_pids ps))) is.states
+    ap rising (pids_here system number here is)
     ∙ rising-same (belongs_to number) (state_pids (linked_processes system)) (root_pids (roots_of system)) (ap (λ ps. rising (state_pids ps)) (sym (boot_has system)) ∙ boot_numbers system valid)
     ∙ ap rising (pass_at_home number [] system.roots (homes_of system valid))
 

@@ -1,4 +1,4 @@
--- The records of the processes of a kernel at its start, one after another.
+-- The records of the roots of a kernel at their start, one after another.
 use Rattle.std.proofs.Common.{◌≡◌, ℕ, refl, sym, ◌∙◌, ap, arith, List, [], ◌∷◌, ◌++◌, map, Bool, true, false, cond, eqb, eqb-true, eq-eqb, ltb, Option, Some, None, true≢false, Bor}
 use Rattle.std.specs.Prelude.{option_map}
 use Rattle.std.specs.FinMap as finmap
@@ -14,12 +14,11 @@ use Rattle.t32_base.specs.declared.process.ClusterNo.{ClusterNo}
 use Rattle.t32_base.specs.declared.letter.BackRec.{BackRec}
 use Rattle.sys_text.specs.declared.system.System.{System}
 use Rattle.sys_text.specs.Valid.{is_system}
-use Rattle.proc_state.specs.declared.process.Process.{Process}
-use Rattle.proc_state.specs.State.{ProcState, state_of}
+use Rattle.proc_state.specs.State.{ProcState}
 use Rattle.plain_kernel.specs.Kernel.{boot, pid_cmp, process_at}
 use Rattle.plain_kernel.specs.Maps.{at_key, linked_processes, pid_of}
-use Rattle.plain_kernel.specs.Maps.{processes_of as states_of}
-use Rattle.plain_kernel.proofs.Entries.{lookup_state}
+use Rattle.plain_kernel.specs.Starts.{starts_in}
+use Rattle.plain_kernel.proofs.Entries.{lookup_start}
 use Rattle.bus_msg.specs.declared.placed.Placed.{Placed}
 use Rattle.bus_msg.specs.Places.{Places, is_cluster, same_pid, unended_at}
 use Rattle.cert_sched.specs.Schedule.{placement}
@@ -33,10 +32,10 @@ use Rattle.cluster_core.proofs.Here.{pid_same}
 use Rattle.cluster_core.proofs.Slots.{at_key_is}
 
 -- the entries of a map that were seen
-abbrev pub seen : List (Bor ℕ × Bor Process) → List (ℕ × Process)
-seen es = map (λ (e : Bor ℕ × Bor Process). ((e.0).now, (e.1).now)) es
+abbrev pub seen : List (Bor ℕ × Bor ProcState) → List (ℕ × ProcState)
+seen es = map (λ (e : Bor ℕ × Bor ProcState). ((e.0).now, (e.1).now)) es
 
-pub seen_last : (es : List (Bor ℕ × Bor Process)) (e : Bor ℕ × Bor Process) → seen (es ++ e ∷ []) ≡ seen es ++ ((e.0).now, (e.1).now) ∷ []
+pub seen_last : (es : List (Bor ℕ × Bor ProcState)) (e : Bor ℕ × Bor ProcState) → seen (es ++ e ∷ []) ≡ seen es ++ ((e.0).now, (e.1).now) ∷ []
 seen_last [] e = refl
 seen_last (d ∷ es) e = ap (λ ds. ((d.0).now, (d.1).now) ∷ ds) (seen_last es e)
 
@@ -64,20 +63,20 @@ record_with r (s ∷ rest) p = by_tests (ltb (r.pid).0 (s.pid).0) (same_pid s.pi
 
 -- ---- one process more of a map that rises
 
-later_key : (P : ℕ → Type 0) (es : List (ℕ × Process)) (e : ℕ × Process) (rest : List (ℕ × Process)) → AllByRecursion P (map (λ (d : ℕ × Process). d.0) (es ++ e ∷ rest)) → P e.0
+later_key : (P : ℕ → Type 0) (es : List (ℕ × ProcState)) (e : ℕ × ProcState) (rest : List (ℕ × ProcState)) → AllByRecursion P (map (λ (d : ℕ × ProcState). d.0) (es ++ e ∷ rest)) → P e.0
 later_key P [] e rest all = all.0
 later_key P (d ∷ es) e rest all = later_key P es e rest all.1
 
 not_key : (m n : ℕ) → nat_cmp m n ≡ Less → eqb m n ≡ false
 not_key m n less = grind (arith, nat_tests)
 
-key_new : (es : List (ℕ × Process)) (e : ℕ × Process) (rest : List (ℕ × Process)) → IsStrictlySortedBy nat_cmp (map (λ (d : ℕ × Process). d.0) (es ++ e ∷ rest)) → lookup (at_key e.0) es ≡ None
+key_new : (es : List (ℕ × ProcState)) (e : ℕ × ProcState) (rest : List (ℕ × ProcState)) → IsStrictlySortedBy nat_cmp (map (λ (d : ℕ × ProcState). d.0) (es ++ e ∷ rest)) → lookup (at_key e.0) es ≡ None
 unfolding IsStrictlySortedBy
 key_new [] e rest ordered = refl
 key_new (d ∷ es) e rest ordered =
     ap (λ b. cond b (Some d.1) (lookup (at_key e.0) es)) (at_key_is e.0 d.0 ∙ not_key d.0 e.0 (later_key (λ n. nat_cmp d.0 n ≡ Less) es e rest ordered.0)) ∙ key_new es e rest ordered.1
 
-lookup_last : (n : ℕ) (es : List (ℕ × Process)) (e : ℕ × Process) → lookup (at_key n) es ≡ None → lookup (at_key n) (es ++ e ∷ []) ≡ cond (at_key n e.0) (Some e.1) None
+lookup_last : (n : ℕ) (es : List (ℕ × ProcState)) (e : ℕ × ProcState) → lookup (at_key n) es ≡ None → lookup (at_key n) (es ++ e ∷ []) ≡ cond (at_key n e.0) (Some e.1) None
 lookup_last n [] e none = refl
 lookup_last n (d ∷ es) e none = by_test (at_key n d.0) none (lookup_last n es e)
   where
@@ -86,32 +85,32 @@ lookup_last n (d ∷ es) e none = by_test (at_key n d.0) none (lookup_last n es 
     by_test true none more = cc
     by_test false none more = more none
 
-lookup_before : (n : ℕ) (es : List (ℕ × Process)) (e : ℕ × Process) → at_key n e.0 ≡ false → lookup (at_key n) (es ++ e ∷ []) ≡ lookup (at_key n) es
+lookup_before : (n : ℕ) (es : List (ℕ × ProcState)) (e : ℕ × ProcState) → at_key n e.0 ≡ false → lookup (at_key n) (es ++ e ∷ []) ≡ lookup (at_key n) es
 lookup_before n [] e other = ap (λ b. cond b (Some e.1) None) other
 lookup_before n (d ∷ es) e other = ap (λ o. cond (at_key n d.0) (Some d.1) o) (lookup_before n es e other)
 
-module _ (places : Places) (k : ClusterNo) (es : List (ℕ × Process)) (e : ℕ × Process) (rest : List (ℕ × Process)) (recs : List BackRec) (ordered : IsStrictlySortedBy nat_cmp (map (λ (d : ℕ × Process). d.0) (es ++ e ∷ rest)))
+module _ (places : Places) (k : ClusterNo) (es : List (ℕ × ProcState)) (e : ℕ × ProcState) (rest : List (ℕ × ProcState)) (recs : List BackRec) (ordered : IsStrictlySortedBy nat_cmp (map (λ (d : ℕ × ProcState). d.0) (es ++ e ∷ rest)))
     (are : AreFirstRecords places k es recs) where
   abbrev has : Pid → Bool
   has p = option_map_or (λ (q : Placed). is_cluster q.backup k) (unended_at places p) false
 
-  abbrev due : List (ℕ × Process) → Pid → Option BackRec
-  due all p = cond (has p) (option_map (λ (s : Process). record_at_boot (p, state_of s)) (lookup (at_key p.0) all)) None
+  abbrev due : List (ℕ × ProcState) → Pid → Option BackRec
+  due all p = cond (has p) (option_map (λ (s : ProcState). record_at_boot (p, s)) (lookup (at_key p.0) all)) None
 
   found : lookup (at_key e.0) (es ++ e ∷ []) ≡ Some e.1
   found = lookup_last e.0 es e (key_new es e rest ordered) ∙ ap (λ b. cond b (Some e.1) None) (at_key_is e.0 e.0 ∙ eq-eqb e.0 e.0 refl)
 
   beside : (p : Pid) → eqb e.0 p.0 ≡ false → due (es ++ e ∷ []) p ≡ due es p
-  beside p other = ap (λ o. cond (has p) (option_map (λ (s : Process). record_at_boot (p, state_of s)) o) None) (lookup_before p.0 es e (at_key_is p.0 e.0 ∙ other))
+  beside p other = ap (λ o. cond (has p) (option_map (λ (s : ProcState). record_at_boot (p, s)) o) None) (lookup_before p.0 es e (at_key_is p.0 e.0 ∙ other))
 
   -- its backup is here: its record is added
-  pub more_recorded : has (pid_of e.0) ≡ true → AreFirstRecords places k (es ++ e ∷ []) (with_record (record_at_boot (pid_of e.0, state_of e.1)) recs)
-  more_recorded here p = record_with (record_at_boot (pid_of e.0, state_of e.1)) recs p ∙ by_test (eqb e.0 p.0) refl
+  pub more_recorded : has (pid_of e.0) ≡ true → AreFirstRecords places k (es ++ e ∷ []) (with_record (record_at_boot (pid_of e.0, e.1)) recs)
+  more_recorded here p = record_with (record_at_boot (pid_of e.0, e.1)) recs p ∙ by_test (eqb e.0 p.0) refl
     where
-      by_test : (b : Bool) → eqb e.0 p.0 ≡ b → cond b (Some (record_at_boot (pid_of e.0, state_of e.1))) (record_in recs p) ≡ due (es ++ e ∷ []) p
+      by_test : (b : Bool) → eqb e.0 p.0 ≡ b → cond b (Some (record_at_boot (pid_of e.0, e.1))) (record_in recs p) ≡ due (es ++ e ∷ []) p
       by_test true is =
           let same : pid_of e.0 ≡ p = pid_same (pid_of e.0) p (eqb-true e.0 p.0 is) in
-          sym (ap (λ b. cond b (option_map (λ (s : Process). record_at_boot (pid_of e.0, state_of s)) (lookup (at_key e.0) (es ++ e ∷ []))) None) here ∙ ap (option_map (λ (s : Process). record_at_boot (pid_of e.0, state_of s))) found)
+          sym (ap (λ b. cond b (option_map (λ (s : ProcState). record_at_boot (pid_of e.0, s)) (lookup (at_key e.0) (es ++ e ∷ []))) None) here ∙ ap (option_map (λ (s : ProcState). record_at_boot (pid_of e.0, s))) found)
           ∙ ap (due (es ++ e ∷ [])) same
       by_test false is = are p ∙ sym (beside p is)
 
@@ -123,22 +122,18 @@ module _ (places : Places) (k : ClusterNo) (es : List (ℕ × Process)) (e : ℕ
       by_test true is =
           let same : pid_of e.0 ≡ p = pid_same (pid_of e.0) p (eqb-true e.0 p.0 is) in
           let none : has p ≡ false = ap has (sym same) ∙ away in
-          (λ i. cond (none i) (option_map (λ (s : Process). record_at_boot (p, state_of s)) (lookup (at_key p.0) es)) None)
-          ∙ sym (λ i. cond (none i) (option_map (λ (s : Process). record_at_boot (p, state_of s)) (lookup (at_key p.0) (es ++ e ∷ []))) None)
+          (λ i. cond (none i) (option_map (λ (s : ProcState). record_at_boot (p, s)) (lookup (at_key p.0) es)) None)
+          ∙ sym (λ i. cond (none i) (option_map (λ (s : ProcState). record_at_boot (p, s)) (lookup (at_key p.0) (es ++ e ∷ []))) None)
       by_test false is = sym (beside p is)
 
 -- ---- all of them
 
 -- those of the kernel at its start are the records of the empty log
-pub first_kept : (system : System) (k : ClusterNo) (all : List (ℕ × Process)) (recs : List BackRec) → is_system system ≡ true → states_of all ≡ linked_processes system → AreFirstRecords (placement system []) k all recs → KeepsRecords system [] k recs
+pub first_kept : (system : System) (k : ClusterNo) (all : List (ℕ × ProcState)) (recs : List BackRec) → is_system system ≡ true → starts_in all ≡ linked_processes system → AreFirstRecords (placement system []) k all recs → KeepsRecords system [] k recs
 first_kept system k all recs valid states are p = are p ∙ ap (λ o. cond (has_backup_in system [] k p) o None) one
   where
-    by_process : (o : Option Process) → option_map (λ (s : Process). record_at_boot (p, state_of s)) o ≡ option_map (λ (s : ProcState). record_at_boot (p, s)) (option_map state_of o)
-    by_process None = refl
-    by_process (Some s) = refl
+    at : process_at (boot system) p ≡ lookup (at_key p.0) all
+    at = ap (finmap.find pid_cmp p) (boot_has system ∙ sym states) ∙ lookup_start p.0 all
 
-    at : process_at (boot system) p ≡ option_map state_of (lookup (at_key p.0) all)
-    at = ap (finmap.find pid_cmp p) (boot_has system ∙ sym states) ∙ lookup_state p.0 all
-
-    one : option_map (λ (s : Process). record_at_boot (p, state_of s)) (lookup (at_key p.0) all) ≡ backup_record system [] p
-    one = by_process (lookup (at_key p.0) all) ∙ ap (option_map (λ (s : ProcState). record_at_boot (p, s))) (sym at) ∙ sym (boot_record system p valid)
+    one : option_map (λ (s : ProcState). record_at_boot (p, s)) (lookup (at_key p.0) all) ≡ backup_record system [] p
+    one = ap (option_map (λ (s : ProcState). record_at_boot (p, s))) (sym at) ∙ sym (boot_record system p valid)

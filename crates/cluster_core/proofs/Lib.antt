@@ -31,6 +31,7 @@ mod Synchronising
 pub mod Served
 pub mod Counted
 pub mod Passing
+mod Homing
 pub mod Booted
 pub mod Following
 pub mod Owning

@@ -7,7 +7,7 @@ use Rattle.t32_base.specs.declared.process.ClusterNo.{ClusterNo}
 use Rattle.t32_base.specs.declared.letter.BackRec.{BackRec}
 use Rattle.sys_text.specs.declared.system.System.{System}
 use Rattle.proc_state.specs.declared.process.Process.{Process}
-use Rattle.proc_state.specs.State.{state_of}
+use Rattle.proc_state.specs.State.{ProcState}
 use Rattle.plain_kernel.specs.Maps.{AreFresh, at_key, linked_processes, pid_of}
 use Rattle.plain_kernel.specs.Maps.{processes_of as states_of}
 use Rattle.bus_msg.specs.declared.placed.Placed.{Placed}
@@ -24,17 +24,21 @@ belongs_to k n = n % 16 == k.0
 abbrev pub running_at : ℕ × Process → Pid × Held
 running_at e = (pid_of e.0, Runs e.1)
 
--- the processes of a kernel at its start, linked by the channels, of which those of one cluster are here; each has read nothing, and no page of it is marked
-pub record AreBooted (system : System) (number : ClusterNo) (here : List (Pid × Held)) : Type 0 where
+-- of the processes of a kernel those that belong to a cluster run here, each at its start: it has read nothing, and no page of it is marked
+pub record RunFrom (kernel : List (Pid × ProcState)) (number : ClusterNo) (here : List (Pid × Held)) : Type 0 where
   pub all : List (ℕ × Process)
-  pub states : states_of all ≡ linked_processes system
+  pub states : states_of all ≡ filter (λ (e : Pid × ProcState). belongs_to number (e.0).0) kernel
   pub fresh : AreFresh all
-  pub own : here ≡ map running_at (filter (λ (e : ℕ × Process). belongs_to number e.0) all)
+  pub own : here ≡ map running_at all
+
+-- the same of a kernel at its start, linked by the channels
+abbrev pub AreBooted : System → ClusterNo → List (Pid × Held) → Type 0
+AreBooted system number here = RunFrom (linked_processes system) number here
 
 -- they are the records of those processes that have not ended and whose backup is in the cluster
-abbrev pub AreFirstRecords : Places → ClusterNo → List (ℕ × Process) → List BackRec → Type 0
+abbrev pub AreFirstRecords : Places → ClusterNo → List (ℕ × ProcState) → List BackRec → Type 0
 AreFirstRecords places k all recs =
     (p : Pid) → record_in recs p
     ≡ (if option_map_or (λ (q : Placed). is_cluster q.backup k) (unended_at places p) false
-    then option_map (λ (s : Process). record_at_boot (p, state_of s)) (lookup (at_key p.0) all)
+    then option_map (λ (s : ProcState). record_at_boot (p, s)) (lookup (at_key p.0) all)
     else None)

@@ -1,14 +1,15 @@
 //! The start of a cluster: the roots that are at home there, the records of those whose backup is there, and the pages that it serves.
-ghost use Rattle.std.specs.Prelude.{◌≡◌, IfOk, IfSome, None, Some, true, false, [], map, filter, is_some, option_map};
+ghost use Rattle.std.specs.Prelude.{◌≡◌, IfOk, IfSome, None, Some, true, false, [], is_some, option_map};
 ghost use Rattle.std.specs.Option.{option_map_or};
 ghost use Rattle.std.specs.List.Sorted.{IsStrictlySortedBy};
 ghost use Rattle.std.specs.Map.{keys_of};
 ghost use Rattle.std.specs.Ordering.{nat_cmp};
 ghost use Rattle.sys_text.specs.Valid.{is_system};
+ghost use Rattle.plain_kernel.specs.Starts.{starts_in};
 ghost use Rattle.bus_msg.specs.Places.{is_cluster, unended_at};
 ghost use Rattle.cert_sched.specs.Schedule.{placement};
 ghost use Rattle.record_laws.specs.Kept.{KeepsRecords};
-ghost use Rattle.cluster_core.specs.Booting.{AreBooted, AreFirstRecords, belongs_to, running_at};
+ghost use Rattle.cluster_core.specs.Booting.{AreBooted, AreFirstRecords, RunFrom, belongs_to};
 ghost use Rattle.cluster_core.specs.Serving.{BeginsToServe, IsAheadThere, IsFailing};
 ghost use Rattle.cluster_core.specs.View.{failing_in};
 ghost use Rattle.page_accounts.specs.Booting.{IsAhead};
@@ -21,8 +22,8 @@ use backup_records::records::Records;
 use channel_table::placement::Placement;
 use page_server::disk::PageDisk;
 use page_server::pager::Pager;
-use plain_kernel::booting::processes_of;
-use proc_state::process::Process;
+use plain_kernel::booting::starts_of;
+use plain_kernel::start::Start;
 use std::alloc::Global;
 use std::collections::BTreeMap;
 use sys_text::system::System;
@@ -40,7 +41,7 @@ pub struct Parts<D: PageDisk> {
 
 /// The processes of the roots that are at home in a cluster, at their start, linked by the channels of the
 /// system; the records of those whose backup is there, with their state at the start; and, with a disk, the pages of
-/// all roots. Where a call of the disk failed it has the number of that, and neither processes nor records. The placement is
+/// all roots. Memory is made for the processes at home alone. Where a call of the disk failed it has the number of that, and neither processes nor records. The placement is
 /// the one at boot.
 pub fn parts_at_boot<D: PageDisk + Drop>(
     alloc: Global,
@@ -60,8 +61,8 @@ pub fn parts_at_boot<D: PageDisk + Drop>(
     ensures ahead { IfOk result (λ parts. parts.failed ≡ None → IfSome disk (λ d. IsAhead (D.counts d)) → IsAheadThere parts.server) }
     ensures fails { IfOk result (λ parts. IfSome parts.failed (IsFailing parts.server)) }
 {
-    let processes = processes_of(alloc, system)?;
-    let (server, failed) = serve_roots(alloc, disk, &processes)?;
+    let starts = starts_of(alloc, system)?;
+    let (server, failed) = serve_roots(alloc, disk, &starts)?;
     if failed.is_some() {
         return Ok(Parts {
             here: Residents::none(alloc),
@@ -70,8 +71,8 @@ pub fn parts_at_boot<D: PageDisk + Drop>(
             failed,
         });
     }
-    let records = first_records(alloc, number, places, &processes)?;
-    let here = residents_of(alloc, number, processes)?;
+    let records = first_records(alloc, number, places, &starts)?;
+    let here = residents_of(alloc, number, starts)?;
     Ok(Parts {
         here,
         records,
@@ -85,31 +86,32 @@ fn first_records(
     alloc: Global,
     number: ClusterNo,
     places: &Placement,
-    processes: &BTreeMap<u32, Process>,
+    starts: &BTreeMap<u32, Start>,
 ) -> Result<Records, NoMemory>
-    ensures { IfOk result (AreFirstRecords places.now number processes.now.entries) }
+    ensures { IfOk result (AreFirstRecords places.now number starts.now.entries) }
 {
     let mut records = Records::none(alloc);
-    for (pid, process) in processes {
+    for (pid, start) in starts {
         if has_backup(places, number, Pid(*pid)) {
-            let state = process.small.copy();
+            let state = start.small().copy();
             records.add(Record::new(alloc, Pid(*pid), Some(state)))?;
         }
     }
     Ok(records)
 }
 
-// Those processes that are at home in a cluster run there.
+// Those roots that are at home in a cluster run there, each with its memory.
 fn residents_of(
     alloc: Global,
     number: ClusterNo,
-    processes: BTreeMap<u32, Process>,
+    starts: BTreeMap<u32, Start>,
 ) -> Result<Residents, NoMemory>
-    ensures { IfOk result (λ r. r.here ≡ map running_at (filter (λ e. belongs_to number e.0) processes.entries)) }
+    ensures { IfOk result (λ r. RunFrom (starts_in starts.entry.entries) number r.here) }
 {
     let mut here = Residents::none(alloc);
-    for (pid, process) in processes {
+    for (pid, start) in starts {
         if is_pid_at(number, pid) {
+            let process = start.process(alloc)?;
             here.add(Pid(pid), Resident::running(process))?;
         }
     }

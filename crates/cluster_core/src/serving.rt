@@ -3,7 +3,7 @@ ghost use Rattle.std.specs.Prelude.{◌≡◌, IfErr, IfOk, IfSome, None, OnOk, 
 ghost use Rattle.sys_text.specs.declared.system.System.{System};
 ghost use Rattle.sys_text.specs.Valid.{is_system};
 ghost use Rattle.plain_kernel.specs.Maps.{linked_processes};
-ghost use Rattle.plain_kernel.specs.Maps.{processes_of as states_of};
+ghost use Rattle.plain_kernel.specs.Starts.{starts_in};
 ghost use Rattle.page_accounts.specs.Booting.{IsAhead};
 ghost use Rattle.cluster_core.specs.Serving.{BeginsToServe, CanAnswer, HurtsNoting, HurtsServer, IsAheadThere, IsFailing, Serves, answer_post};
 ghost use Rattle.cluster_core.specs.View.{failing_in};
@@ -18,21 +18,21 @@ use page_accounts::booting::put_roots;
 use page_accounts::noting::note;
 use page_server::disk::{DiskRefused, PageDisk};
 use page_server::pager::Pager;
-use proc_state::process::Process;
+use plain_kernel::start::Start;
 use std::alloc::Global;
 use std::collections::BTreeMap;
 use t32_base::process::ClusterNo;
 use t32_base::streams::NoMemory;
 
-/// What a cluster keeps as a page server at its start: with a disk the pages of all roots, which are these processes;
+/// What a cluster keeps as a page server at its start: with a disk the pages of all roots, which are these;
 /// without one nothing. Beside it the number of the call of the disk that failed, if one did: what is kept is of no
 /// use then.
 pub fn serve_roots<D: PageDisk + Drop>(
     alloc: Global,
     disk: Option<D>,
-    processes: &BTreeMap<u32, Process>,
+    starts: &BTreeMap<u32, Start>,
 ) -> Result<(Option<Pager<D>>, Option<u64>), NoMemory>
-    ensures begins { IfOk result (λ r. r.1 ≡ None → (system : System) → is_system system ≡ true → states_of processes.now.entries ≡ linked_processes system → BeginsToServe system r.0) }
+    ensures begins { IfOk result (λ r. r.1 ≡ None → (system : System) → is_system system ≡ true → starts_in starts.now.entries ≡ linked_processes system → BeginsToServe system r.0) }
     ensures there { IfOk result (λ r. is_some r.0 ≡ is_some disk) }
     ensures told { IfOk result (λ r. failing_in r.0 ≡ option_map (λ d. (D.counts d).failing) disk) }
     ensures ahead { IfOk result (λ r. r.1 ≡ None → IfSome disk (λ d. IsAhead (D.counts d)) → IsAheadThere r.0) }
@@ -42,7 +42,7 @@ pub fn serve_roots<D: PageDisk + Drop>(
         return Ok((None, None));
     };
     let mut pager = Pager::new(alloc, disk);
-    match put_roots(&mut pager, processes) {
+    match put_roots(&mut pager, starts) {
         Ok(()) => Ok((Some(pager), None)),
         Err(DiskRefused::Fault(fault)) => Ok((Some(pager), Some(fault.call))),
         Err(DiskRefused::NoMemory) => Err(NoMemory),

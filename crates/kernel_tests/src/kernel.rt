@@ -2,6 +2,7 @@
 ghost use Rattle.std.specs.Prelude.{◌≡◌, IfOk, true};
 ghost use Rattle.sys_text.specs.Valid.{is_system};
 
+use plain_kernel::booting::starts_of;
 use plain_kernel::item::{Item, NotApplied, RunRefused};
 use plain_kernel::plain::{Plain, default_run, run};
 use std::alloc::Global;
@@ -34,6 +35,29 @@ fn a_kernel_starts_with_its_roots(rt: HostRuntime) -> Result<(), Fail> {
     assert_eq!(rt; plain.tty(0), Some(b"".as_slice()));
     assert_eq!(rt; plain.tty(1), None);
     assert!(rt; plain.process(Pid(17)).is_none());
+    Ok(())
+}
+
+// One root of two pages, whose image has one word more than the first page holds, behind 62 that are 0.
+static TWO_PAGES: &str =
+    "clusters 2\npager 0 1\nsyncreads 32\nsyncsteps 4096\nimage long 2\nwords 00200893 00000000 00000000 00000000 00000000 00000000 00000000 00000000\nwords 00000000 00000000 00000000 00000000 00000000 00000000 00000000 00000000\nwords 00000000 00000000 00000000 00000000 00000000 00000000 00000000 00000000\nwords 00000000 00000000 00000000 00000000 00000000 00000000 00000000 00000000\nwords 00000000 00000000 00000000 00000000 00000000 00000000 00000000 00000000\nwords 00000000 00000000 00000000 00000000 00000000 00000000 00000000 00000000\nwords 00000000 00000000 00000000 00000000 00000000 00000000 00000000 00000000\nwords 00000000 00000000 00000000 00000000 00000000 00000000 00000000 0a6968ff\nwords 00100513\nend\nroot 0 1 quarter long 1000 0 0\n";
+
+#[test]
+fn a_root_at_its_start_has_the_pages_of_its_process(rt: HostRuntime) -> Result<(), Fail> {
+    let system = read_system(rt.alloc(), TWO_PAGES.as_bytes())?;
+    for (pid, start) in starts_of(rt.alloc(), &system)? {
+        assert_eq!(rt; pid, 16);
+        assert_eq!(rt; start.pages(), 2);
+        let (first, second) = (start.page(0), start.page(1));
+        assert_eq!(rt; &first[..5], [0x93, 0x08, 0x20, 0, 0].as_slice());
+        assert_eq!(rt; &first[251..], [0, 0xff, 0x68, 0x69, 0x0a].as_slice());
+        assert_eq!(rt; &second[..5], [0x13, 0x05, 0x10, 0, 0].as_slice());
+        assert_eq!(rt; second[255], 0);
+        let process = start.process(rt.alloc())?;
+        assert_eq!(rt; process.ram.pages(), 2);
+        assert_eq!(rt; process.ram.page(0), first);
+        assert_eq!(rt; process.ram.page(1), second);
+    }
     Ok(())
 }
 

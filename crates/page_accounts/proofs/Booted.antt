@@ -1,4 +1,4 @@
--- The memories of the processes of a kernel at its start, put one after another.
+-- The memories of the roots of a kernel at their start, put one after another.
 use Rattle.std.proofs.Common.{◌≡◌, ℕ, refl, sym, ◌∙◌, ap, arith, List, [], ◌∷◌, ◌++◌, map, Bool, true, false, cond, eqb, eqb-true, eq-eqb, Option, Some, None, Bor}
 use Rattle.std.specs.Prelude.{option_map}
 use Rattle.std.specs.FinMap as finmap
@@ -11,12 +11,11 @@ use Rattle.std.specs.declared.cmp.Ordering.TheVariants.{Less}
 use Rattle.std.proofs.lemmas.Bool.Decides.{nat_tests}
 use Rattle.t32_base.specs.declared.process.Pid.{Pid}
 use Rattle.sys_text.specs.declared.system.System.{System}
-use Rattle.proc_state.specs.declared.process.Process.{Process}
-use Rattle.proc_state.specs.State.{state_of}
+use Rattle.proc_state.specs.State.{ProcState}
 use Rattle.plain_kernel.specs.Kernel.{Kernel, boot, pid_cmp, process_at}
 use Rattle.plain_kernel.specs.Maps.{at_key, booted_ttys, linked_processes, pid_of}
-use Rattle.plain_kernel.specs.Maps.{processes_of as states_of}
-use Rattle.plain_kernel.proofs.Entries.{lookup_state}
+use Rattle.plain_kernel.specs.Starts.{starts_in}
+use Rattle.plain_kernel.proofs.Entries.{lookup_start}
 use Rattle.plain_kernel.proofs.Roots.{booted}
 use Rattle.cert_sched.specs.Account.{Account, no_pages, account_after, image_pages}
 use Rattle.cert_sched.specs.Told.{told}
@@ -25,18 +24,18 @@ use Rattle.page_accounts.specs.Booting.{whole_memory}
 use Rattle.page_accounts.specs.Keeps.{KeepsAccounts}
 
 -- the entries of a map that were seen
-abbrev pub seen : List (Bor ℕ × Bor Process) → List (ℕ × Process)
-seen es = map (λ (e : Bor ℕ × Bor Process). ((e.0).now, (e.1).now)) es
+abbrev pub seen : List (Bor ℕ × Bor ProcState) → List (ℕ × ProcState)
+seen es = map (λ (e : Bor ℕ × Bor ProcState). ((e.0).now, (e.1).now)) es
 
-pub seen_last : (es : List (Bor ℕ × Bor Process)) (e : Bor ℕ × Bor Process) → seen (es ++ e ∷ []) ≡ seen es ++ ((e.0).now, (e.1).now) ∷ []
+pub seen_last : (es : List (Bor ℕ × Bor ProcState)) (e : Bor ℕ × Bor ProcState) → seen (es ++ e ∷ []) ≡ seen es ++ ((e.0).now, (e.1).now) ∷ []
 seen_last [] e = refl
 seen_last (d ∷ es) e = ap (λ ds. ((d.0).now, (d.1).now) ∷ ds) (seen_last es e)
 
 -- both accounts of each of these processes hold its memory, and those of the others are empty
-abbrev pub memory_of : List (ℕ × Process) → Pid → Account
-memory_of es p = option_map_or (λ (s : Process). whole_memory (s.ram).bytes) (lookup (at_key p.0) es) no_pages
+abbrev pub memory_of : List (ℕ × ProcState) → Pid → Account
+memory_of es p = option_map_or (λ (s : ProcState). whole_memory s.memory) (lookup (at_key p.0) es) no_pages
 
-abbrev pub HoldsMemories : List (ℕ × Process) → PagerState → Type 0
+abbrev pub HoldsMemories : List (ℕ × ProcState) → PagerState → Type 0
 HoldsMemories es state = (p : Pid) → account state p ≡ memory_of es p
 
 -- ---- one process more of a map that rises
@@ -44,20 +43,20 @@ HoldsMemories es state = (p : Pid) → account state p ≡ memory_of es p
 at_key_is : (n m : ℕ) → at_key n m ≡ eqb m n
 at_key_is n m = grind (arith, nat_tests)
 
-later_key : (P : ℕ → Type 0) (es : List (ℕ × Process)) (e : ℕ × Process) (rest : List (ℕ × Process)) → AllByRecursion P (map (λ (d : ℕ × Process). d.0) (es ++ e ∷ rest)) → P e.0
+later_key : (P : ℕ → Type 0) (es : List (ℕ × ProcState)) (e : ℕ × ProcState) (rest : List (ℕ × ProcState)) → AllByRecursion P (map (λ (d : ℕ × ProcState). d.0) (es ++ e ∷ rest)) → P e.0
 later_key P [] e rest all = all.0
 later_key P (d ∷ es) e rest all = later_key P es e rest all.1
 
 not_key : (m n : ℕ) → nat_cmp m n ≡ Less → eqb m n ≡ false
 not_key m n less = grind (arith, nat_tests)
 
-key_new : (es : List (ℕ × Process)) (e : ℕ × Process) (rest : List (ℕ × Process)) → IsStrictlySortedBy nat_cmp (map (λ (d : ℕ × Process). d.0) (es ++ e ∷ rest)) → lookup (at_key e.0) es ≡ None
+key_new : (es : List (ℕ × ProcState)) (e : ℕ × ProcState) (rest : List (ℕ × ProcState)) → IsStrictlySortedBy nat_cmp (map (λ (d : ℕ × ProcState). d.0) (es ++ e ∷ rest)) → lookup (at_key e.0) es ≡ None
 unfolding IsStrictlySortedBy
 key_new [] e rest ordered = refl
 key_new (d ∷ es) e rest ordered =
     ap (λ b. cond b (Some d.1) (lookup (at_key e.0) es)) (at_key_is e.0 d.0 ∙ not_key d.0 e.0 (later_key (λ n. nat_cmp d.0 n ≡ Less) es e rest ordered.0)) ∙ key_new es e rest ordered.1
 
-lookup_last : (n : ℕ) (es : List (ℕ × Process)) (e : ℕ × Process) → lookup (at_key n) es ≡ None → lookup (at_key n) (es ++ e ∷ []) ≡ cond (at_key n e.0) (Some e.1) None
+lookup_last : (n : ℕ) (es : List (ℕ × ProcState)) (e : ℕ × ProcState) → lookup (at_key n) es ≡ None → lookup (at_key n) (es ++ e ∷ []) ≡ cond (at_key n e.0) (Some e.1) None
 lookup_last n [] e none = refl
 lookup_last n (d ∷ es) e none = by_test (at_key n d.0) none (lookup_last n es e)
   where
@@ -66,17 +65,17 @@ lookup_last n (d ∷ es) e none = by_test (at_key n d.0) none (lookup_last n es 
     by_test true none more = cc
     by_test false none more = more none
 
-lookup_before : (n : ℕ) (es : List (ℕ × Process)) (e : ℕ × Process) → at_key n e.0 ≡ false → lookup (at_key n) (es ++ e ∷ []) ≡ lookup (at_key n) es
+lookup_before : (n : ℕ) (es : List (ℕ × ProcState)) (e : ℕ × ProcState) → at_key n e.0 ≡ false → lookup (at_key n) (es ++ e ∷ []) ≡ lookup (at_key n) es
 lookup_before n [] e other = ap (λ b. cond b (Some e.1) None) other
 lookup_before n (d ∷ es) e other = ap (λ o. cond (at_key n d.0) (Some d.1) o) (lookup_before n es e other)
 
-module _ (es : List (ℕ × Process)) (e : ℕ × Process) (rest : List (ℕ × Process)) (ordered : IsStrictlySortedBy nat_cmp (map (λ (d : ℕ × Process). d.0) (es ++ e ∷ rest))) where
+module _ (es : List (ℕ × ProcState)) (e : ℕ × ProcState) (rest : List (ℕ × ProcState)) (ordered : IsStrictlySortedBy nat_cmp (map (λ (d : ℕ × ProcState). d.0) (es ++ e ∷ rest))) where
   -- the next process has no pages yet
   pub next_empty : (state : PagerState) → HoldsMemories es state → account state (pid_of e.0) ≡ no_pages
-  next_empty state holds = holds (pid_of e.0) ∙ ap (λ o. option_map_or (λ (s : Process). whole_memory (s.ram).bytes) o no_pages) (key_new es e rest ordered)
+  next_empty state holds = holds (pid_of e.0) ∙ ap (λ o. option_map_or (λ (s : ProcState). whole_memory s.memory) o no_pages) (key_new es e rest ordered)
 
   -- and then its memory
-  pub next_holds : (old new : PagerState) → HoldsMemories es old → Changes old new (pid_of e.0) (λ _. whole_memory ((e.1).ram).bytes) → HoldsMemories (es ++ e ∷ []) new
+  pub next_holds : (old new : PagerState) → HoldsMemories es old → Changes old new (pid_of e.0) (λ _. whole_memory (e.1).memory) → HoldsMemories (es ++ e ∷ []) new
   next_holds old new holds changes p = changes p ∙ by_test (eqb p.0 e.0) refl
     where
       found : lookup (at_key e.0) (es ++ e ∷ []) ≡ Some e.1
@@ -85,11 +84,11 @@ module _ (es : List (ℕ × Process)) (e : ℕ × Process) (rest : List (ℕ × 
       other : (m n : ℕ) → eqb m n ≡ false → at_key m n ≡ false
       other m n is = grind (arith, nat_tests)
 
-      by_test : (b : Bool) → eqb p.0 e.0 ≡ b → cond b (whole_memory ((e.1).ram).bytes) (account old p) ≡ memory_of (es ++ e ∷ []) p
+      by_test : (b : Bool) → eqb p.0 e.0 ≡ b → cond b (whole_memory (e.1).memory) (account old p) ≡ memory_of (es ++ e ∷ []) p
       by_test true is =
-          sym (ap (λ n. option_map_or (λ (s : Process). whole_memory (s.ram).bytes) (lookup (at_key n) (es ++ e ∷ [])) no_pages) (eqb-true p.0 e.0 is)
-          ∙ ap (λ o. option_map_or (λ (s : Process). whole_memory (s.ram).bytes) o no_pages) found)
-      by_test false is = holds p ∙ sym (ap (λ o. option_map_or (λ (s : Process). whole_memory (s.ram).bytes) o no_pages) (lookup_before p.0 es e (other p.0 e.0 is)))
+          sym (ap (λ n. option_map_or (λ (s : ProcState). whole_memory s.memory) (lookup (at_key n) (es ++ e ∷ [])) no_pages) (eqb-true p.0 e.0 is)
+          ∙ ap (λ o. option_map_or (λ (s : ProcState). whole_memory s.memory) o no_pages) found)
+      by_test false is = holds p ∙ sym (ap (λ o. option_map_or (λ (s : ProcState). whole_memory s.memory) o no_pages) (lookup_before p.0 es e (other p.0 e.0 is)))
 
 -- ---- all of them
 
@@ -97,16 +96,12 @@ pub boot_has : (system : System) → (boot system).processes ≡ linked_processe
 boot_has system = ap (λ (k : Kernel). k.processes) (sym (booted system (linked_processes system) (booted_ttys system.roots) refl refl))
 
 -- with the memories of a kernel at its start the accounts are those of the empty log
-pub all_kept : (system : System) (all : List (ℕ × Process)) (state : PagerState) → states_of all ≡ linked_processes system → HoldsMemories all state → state.fetches ≡ [] → KeepsAccounts system [] state
+pub all_kept : (system : System) (all : List (ℕ × ProcState)) (state : PagerState) → starts_in all ≡ linked_processes system → HoldsMemories all state → state.fetches ≡ [] → KeepsAccounts system [] state
 unfolding account_after told
 all_kept system all state states holds none = record {
-  accounts = λ p. holds p ∙ by_process (lookup (at_key p.0) all) ∙ sym (ap (λ o. option_map_or image_pages o no_pages) (at p));
+  accounts = λ p. holds p ∙ sym (ap (λ o. option_map_or image_pages o no_pages) (at p));
   waits = none;
 }
   where
-    by_process : (o : Option Process) → option_map_or (λ (s : Process). whole_memory (s.ram).bytes) o no_pages ≡ option_map_or image_pages (option_map state_of o) no_pages
-    by_process None = refl
-    by_process (Some s) = refl
-
-    at : (p : Pid) → process_at (boot system) p ≡ option_map state_of (lookup (at_key p.0) all)
-    at p = ap (finmap.find pid_cmp p) (boot_has system ∙ sym states) ∙ lookup_state p.0 all
+    at : (p : Pid) → process_at (boot system) p ≡ lookup (at_key p.0) all
+    at p = ap (finmap.find pid_cmp p) (boot_has system ∙ sym states) ∙ lookup_start p.0 all

@@ -1,4 +1,4 @@
--- The pages of the roots of a system are those of the memories of its processes at boot.
+-- The pages of the roots of a system are those of its processes at boot.
 use Rattle.std.proofs.Common.{◌≡◌, ℕ, ◌+◌, ◌-◌, ◌*◌, ◌≤◌, Bool, true, false, ◌||◌, cond, eqb, T, is_some, List, [], ◌∷◌, ◌++◌, length, map, refl, sym, ap, ◌∙◌, arith, Option, Some, None, slice_get, eqb-true, eq-eqb, true≢false, add-zero}
 use Rattle.std.specs.Prelude.{◌/◌, fold, replicate, unwrap_or}
 use Rattle.std.specs.List.{list_any, sum_by}
@@ -17,11 +17,10 @@ use Rattle.sys_text.specs.declared.system.Root.{Root}
 use Rattle.sys_text.specs.Valid.{is_system}
 use Rattle.sys_text.specs.Boot.{bytes_of_words, roots_of}
 use Rattle.sys_text.proofs.Bounds.{image_bounds}
-use Rattle.proc_state.specs.declared.process.Process.{Process}
-use Rattle.proc_state.specs.State.{ProcState, linked_to, state_of}
+use Rattle.proc_state.specs.State.{ProcState, linked_to}
 use Rattle.plain_kernel.specs.Kernel.{Kernel, boot, boot_roots, empty, no_image, pid_cmp, process_at, root_process, with_process, with_root}
 use Rattle.plain_kernel.specs.Maps.{linked_processes, pid_of}
-use Rattle.plain_kernel.specs.Maps.{processes_of as states_of}
+use Rattle.plain_kernel.specs.Starts.{starts_in}
 use Rattle.plain_kernel.proofs.AtBoot.{boot-each, chans-keep, roots-rising}
 use Rattle.plain_kernel.proofs.Entries.{some_same}
 use Rattle.plain_kernel.proofs.Laws.{pid_cmp_total}
@@ -34,7 +33,6 @@ use Rattle.cert_sched.proofs.RisingLaws.{NoTwo, either_not}
 use Rattle.cert_sched.proofs.RootPids.{root_pids_differ}
 use Rattle.page_accounts.specs.Booting.{pages_of}
 use Rattle.page_accounts.proofs.Booted.{boot_has}
-use Rattle.page_accounts.proofs.Pages.{whole}
 
 -- ---- a process starts with as much memory as its pages have
 
@@ -65,7 +63,7 @@ boot_size system valid = boot-each HasSize system (root_size system valid) (λ p
 -- ---- a sum over the processes of a kernel
 
 abbrev pages : ProcState → ℕ
-pages s = length s.memory / 256
+pages s = (s.small).pages
 
 abbrev state_pages : List (Pid × ProcState) → ℕ
 state_pages es = sum_by (λ (e : Pid × ProcState). pages e.1) es
@@ -172,40 +170,33 @@ pages_from system k (r ∷ roots) two apart =
             ∙ ap (λ b. b || list_any (λ m. eqb m n) (state_pids k.processes)) is
             ∙ apart n (ap (λ b. b || list_any (λ m. eqb m n) (root_pids roots)) is ∙ among)
 
-each_size : (system : System) → is_system system ≡ true → (roots : List (Pid × Root)) → root_sum system roots ≡ sum_by (λ (r : Pid × Root). ((root_process system r.0 r.1).small).pages) roots
-each_size system valid [] = refl
-each_size system valid (r ∷ roots) =
-    sum_by-cons (λ (r : Pid × Root). pages (root_process system r.0 r.1)) r roots
-    ∙ (λ i. whole ((root_process system r.0 r.1).small).pages (root_process system r.0 r.1).memory (root_size system valid r.0 r.1) i + each_size system valid roots i)
-    ∙ sym (sum_by-cons (λ (r : Pid × Root). ((root_process system r.0 r.1).small).pages) r roots)
-
 none_before : (n : ℕ) → 0 + n ≡ n
 none_before n = omega arith
 
 boot_pages : (system : System) → is_system system ≡ true → state_pages (boot system).processes ≡ root_pages system
 boot_pages system valid =
-    chans_leave system ∙ pages_from system empty (roots_of system) (apart_of (map placed_root (roots_of system)) (root_pids_differ system valid)) (λ n among. refl) ∙ none_before (root_sum system (roots_of system)) ∙ each_size system valid (roots_of system)
+    chans_leave system ∙ pages_from system empty (roots_of system) (apart_of (map placed_root (roots_of system)) (root_pids_differ system valid)) (λ n among. refl) ∙ none_before (root_sum system (roots_of system))
 
--- ---- the processes of a map
+-- ---- the roots of a map
 
-state_pages_of : (es : List (ℕ × Process)) → pages_of es ≡ state_pages (states_of es)
+state_pages_of : (es : List (ℕ × ProcState)) → pages_of es ≡ state_pages (starts_in es)
 state_pages_of [] = refl
 state_pages_of (e ∷ es) =
-    sum_by-cons (λ (e : ℕ × Process). length ((e.1).ram).bytes / 256) e es ∙ ap (λ n. length ((e.1).ram).bytes / 256 + n) (state_pages_of es)
-    ∙ sym (page_sum (pid_of e.0, state_of e.1) (states_of es))
+    sum_by-cons (λ (e : ℕ × ProcState). ((e.1).small).pages) e es ∙ ap (λ n. ((e.1).small).pages + n) (state_pages_of es)
+    ∙ sym (page_sum (pid_of e.0, e.1) (starts_in es))
 
-pub all_pages_of : (system : System) (es : List (ℕ × Process)) → is_system system ≡ true → states_of es ≡ linked_processes system → pages_of es ≡ root_pages system
+pub all_pages_of : (system : System) (es : List (ℕ × ProcState)) → is_system system ≡ true → starts_in es ≡ linked_processes system → pages_of es ≡ root_pages system
 all_pages_of system es valid states = state_pages_of es ∙ ap state_pages (states ∙ sym (boot_has system)) ∙ boot_pages system valid
 
--- one process more
-pub pages_last : (es : List (ℕ × Process)) (e : ℕ × Process) → pages_of (es ++ e ∷ []) ≡ pages_of es + length ((e.1).ram).bytes / 256
-pages_last es e = sum_by_push (λ (e : ℕ × Process). length ((e.1).ram).bytes / 256) es e
+-- one root more
+pub pages_last : (es : List (ℕ × ProcState)) (e : ℕ × ProcState) → pages_of (es ++ e ∷ []) ≡ pages_of es + ((e.1).small).pages
+pages_last es e = sum_by_push (λ (e : ℕ × ProcState). ((e.1).small).pages) es e
 
 -- and those behind it are no fewer
-pub pages_upto : (es : List (ℕ × Process)) (e : ℕ × Process) (rest : List (ℕ × Process)) → pages_of es + length ((e.1).ram).bytes / 256 ≤ pages_of (es ++ e ∷ rest)
+pub pages_upto : (es : List (ℕ × ProcState)) (e : ℕ × ProcState) (rest : List (ℕ × ProcState)) → pages_of es + ((e.1).small).pages ≤ pages_of (es ++ e ∷ rest)
 pages_upto es e rest =
-    let f : ℕ × Process → ℕ = λ (e : ℕ × Process). length ((e.1).ram).bytes / 256 in
-    at_most (pages_of es) (length ((e.1).ram).bytes / 256) (pages_of rest) (pages_of (e ∷ rest)) (pages_of (es ++ e ∷ rest)) (sum_by-append f es (e ∷ rest)) (sum_by-cons f e rest)
+    let f : ℕ × ProcState → ℕ = λ (e : ℕ × ProcState). ((e.1).small).pages in
+    at_most (pages_of es) ((e.1).small).pages (pages_of rest) (pages_of (e ∷ rest)) (pages_of (es ++ e ∷ rest)) (sum_by-append f es (e ∷ rest)) (sum_by-cons f e rest)
   where
     at_most : (a b c m n : ℕ) → n ≡ a + m → m ≡ b + c → a + b ≤ n
     at_most a b c m n h g = omega (arith, h, g)

@@ -1,8 +1,8 @@
 -- What a page server puts at boot, and what its disk counts by then.
-use Rattle.std.specs.Prelude.{ℕ, ◌≡◌, ◌+◌, ◌/◌, ◌<◌, ◌≤◌, ◌^◌, true, nat_le, List, [], length, Result, Ok, Err}
+use Rattle.std.specs.Prelude.{ℕ, ◌≡◌, ◌+◌, ◌<◌, ◌≤◌, ◌^◌, true, nat_le, List, [], Result, Ok, Err}
 use Rattle.std.specs.List.{list_all, sum_by}
 use Rattle.std.specs.Option.{IfSome}
-use Rattle.proc_state.specs.declared.process.Process.{Process}
+use Rattle.proc_state.specs.State.{ProcState}
 use Rattle.cert_sched.specs.Account.{Account, all_pages}
 use Rattle.cert_sched.specs.Losses.{capped}
 use Rattle.page_server.specs.declared.disk.DiskRefused.{DiskRefused}
@@ -14,8 +14,8 @@ abbrev pub whole_memory : List ℕ → Account
 whole_memory bytes = record { now = all_pages bytes; kept = all_pages bytes }
 
 -- the pages of the memories of processes
-abbrev pub pages_of : List (ℕ × Process) → ℕ
-pages_of es = sum_by (λ (e : ℕ × Process). length ((e.1).ram).bytes / 256) es
+abbrev pub pages_of : List (ℕ × ProcState) → ℕ
+pages_of es = sum_by (λ (e : ℕ × ProcState). ((e.1).small).pages) es
 
 -- the uncommitted account alone holds every page of a memory
 abbrev pub memory_put : List ℕ → Account

@@ -1,27 +1,28 @@
 -- The channels of a system, one at a time.
-use Rattle.std.proofs.Common.{◌≡◌, ℕ, zero, suc, false, ◌+◌, ◌-◌, ◌<◌, ◌≤◌, true, List, [], ◌∷◌, ◌++◌, length, take, fold, get_or, refl, sym, ap, subst, ◌∙◌, arith, Some, None, append_assoc, append-nil}
-use Rattle.std.specs.Prelude.{replicate, slice_get}
+use Rattle.std.proofs.Common.{◌≡◌, ℕ, zero, suc, ◌+◌, ◌-◌, ◌<◌, ◌≤◌, true, List, [], ◌∷◌, ◌++◌, length, take, fold, get_or, refl, sym, ap, ◌∙◌, arith, is_some, Some, None, append_assoc, append-nil}
+use Rattle.std.specs.Prelude.{slice_get}
 use Rattle.std.specs.List.{count_by}
 use Rattle.std.specs.FinMap.{put}
-use Rattle.std.specs.Map.{lookup}
+use Rattle.std.specs.List.Sorted.{IsStrictlySortedBy}
+use Rattle.std.specs.Ordering.{nat_cmp}
+use Rattle.std.specs.Map.{lookup, set_value}
 use Rattle.std.specs.Option.{option_map_or}
 use Rattle.std.proofs.lemmas.List.{take_more}
 use Rattle.std.proofs.lemmas.List.Sums.{fold-append}
-use Rattle.std.proofs.lemmas.Map.Views.{All-values-set_value}
+use Rattle.std.proofs.lemmas.Map.Entries.{sum_by-set_value}
 use Rattle.std.proofs.lemmas.Option.{slice_get-get_or}
 use Rattle.t32_base.specs.declared.process.Pid.{Pid}
-use Rattle.rv_mem.specs.Marks.{Memory}
-use Rattle.proc_state.specs.declared.process.Process.{Process}
 use Rattle.proc_state.specs.Ends.{free_end}
-use Rattle.proc_state.specs.State.{ProcState, IsFresh, SameRest, state_of, linked_to}
+use Rattle.proc_state.specs.State.{ProcState, linked_to}
 use Rattle.sys_text.specs.declared.system.System.{System}
 use Rattle.sys_text.specs.declared.system.Root.{Root}
 use Rattle.sys_text.specs.Valid.{is_system}
 use Rattle.sys_text.specs.Boot.{pid_of as pid_in, with_pids}
 use Rattle.sys_text.proofs.Bounds.{ChanBounds, chan_bounds}
 use Rattle.plain_kernel.specs.Kernel.{free_end_at, pid_cmp, root_pid, with_chan}
-use Rattle.plain_kernel.specs.Maps.{at_key, pid_of, processes_of, load, total_load, AreFresh, Changes, Links}
-use Rattle.plain_kernel.proofs.Entries.{found_fresh, load_after, lookup_state, put_after, state_before}
+use Rattle.plain_kernel.specs.Maps.{at_key, pid_of}
+use Rattle.plain_kernel.specs.Starts.{starts_in, starts_load, state_load, LinksStart}
+use Rattle.plain_kernel.proofs.Entries.{keys, lookup_start, put_seen}
 use Rattle.plain_kernel.proofs.Roots.{same_home}
 
 -- ---- the pid of a root
@@ -41,36 +42,23 @@ root_pid_is system number d least most =
 
 -- ---- one more end
 
-pub free_there : (pid : ℕ) (es : List (ℕ × Process)) (p : Process) → lookup (at_key pid) es ≡ Some p → free_end (p.small).ends ≡ free_end_at (processes_of es) (pid_of pid)
-free_there pid es p found = rw (lookup_state pid es, found) refl
+pub free_there : (pid : ℕ) (es : List (ℕ × ProcState)) (s : ProcState) → lookup (at_key pid) es ≡ Some s → free_end (s.small).ends ≡ free_end_at (starts_in es) (pid_of pid)
+free_there pid es s found = rw (lookup_start pid es, found) refl
 
-pub free_nowhere : (pid : ℕ) (es : List (ℕ × Process)) → lookup (at_key pid) es ≡ None → 32 ≡ free_end_at (processes_of es) (pid_of pid)
-free_nowhere pid es none = rw (lookup_state pid es, none) refl
+pub free_nowhere : (pid : ℕ) (es : List (ℕ × ProcState)) → lookup (at_key pid) es ≡ None → 32 ≡ free_end_at (starts_in es) (pid_of pid)
+free_nowhere pid es none = rw (lookup_start pid es, none) refl
 
--- a process at its start is so still
-linked_fresh : (was now : Process) (peer : Pid) (far : ℕ) → state_of now ≡ linked_to (state_of was) peer far → SameRest was now → IsFresh was → IsFresh now
-linked_fresh was now peer far linked same fresh = record {
-  steps = ap (λ (s : ProcState). (s.small).steps) linked ∙ fresh.steps;
-  letters = ap (λ (s : ProcState). s.mail) linked ∙ fresh.letters;
-  next = ap (λ (s : ProcState). s.next) linked ∙ fresh.next;
-  unread = same.read ∙ fresh.unread;
-  synced = same.since ∙ fresh.synced;
-  clean = ap (λ (m : Memory). m.dirty) same.ram ∙ fresh.clean ∙ ap (λ n. replicate n false) (sym (ap (λ (s : ProcState). (s.small).pages) linked));
+pub linked_there : (old new : List (ℕ × ProcState)) (pid : ℕ) (peer : Pid) (far : ℕ) (was now : ProcState) → lookup (at_key pid) old ≡ Some was → new ≡ set_value (at_key pid) old now → IsStrictlySortedBy nat_cmp (keys old)
+    → now ≡ linked_to was peer far → state_load now ≡ state_load was → LinksStart old new pid peer far
+linked_there old new pid peer far was now found entries ordered linked as_much = record {
+  states = rw (lookup_start pid old, found) (ap starts_in entries ∙ put_seen (λ s. s) pid now old ordered (ap is_some found) ∙ ap (λ s. put pid_cmp (pid_of pid) s (starts_in old)) linked);
+  load = omega (arith, ap starts_load entries, sum_by-set_value state_load (at_key pid) old was now found, as_much);
 }
 
-pub linked_there : (old new : List (ℕ × Process)) (pid : ℕ) (peer : Pid) (far : ℕ) (was now : Process) → Changes old new pid was now → state_of now ≡ linked_to (state_of was) peer far → SameRest was now
-    → load now ≡ load was → Links old new pid peer far
-linked_there old new pid peer far was now c linked same as_much = record {
-  states = rw (state_before old new pid was now c) (put_after old new pid was now c ∙ ap (λ s. put pid_cmp (pid_of pid) s (processes_of old)) linked);
-  load = omega (arith, load_after old new pid was now c, as_much);
-  fresh = λ fresh. subst AreFresh (sym c.entries) (All-values-set_value (at_key pid) IsFresh old now fresh (linked_fresh was now peer far linked same (found_fresh old pid was fresh c.found)));
-}
-
-pub linked_nowhere : (old new : List (ℕ × Process)) (pid : ℕ) (peer : Pid) (far : ℕ) → lookup (at_key pid) old ≡ None → new ≡ old → Links old new pid peer far
+pub linked_nowhere : (old new : List (ℕ × ProcState)) (pid : ℕ) (peer : Pid) (far : ℕ) → lookup (at_key pid) old ≡ None → new ≡ old → LinksStart old new pid peer far
 linked_nowhere old new pid peer far none same = record {
-  states = ap processes_of same ∙ rw (lookup_state pid old, none) refl;
-  load = ap total_load same;
-  fresh = subst AreFresh (sym same);
+  states = ap starts_in same ∙ rw (lookup_start pid old, none) refl;
+  load = ap starts_load same;
 }
 
 -- ---- one more channel

@@ -17,8 +17,9 @@ use Rattle.std.specs.FinMap as finmap
 use Rattle.std.proofs.lemmas.Cmp.{nat_cmp_total}
 use Rattle.std.specs.Cmp.{tied_itself}
 use Rattle.proc_state.specs.declared.process.Process.{Process}
-use Rattle.proc_state.specs.State.{IsFresh, state_of}
+use Rattle.proc_state.specs.State.{IsFresh, ProcState, state_of}
 use Rattle.plain_kernel.specs.Kernel.{pid_cmp}
+use Rattle.plain_kernel.specs.Starts.{starts_in}
 use Rattle.plain_kernel.specs.Maps.{at_key, pid_of, processes_of, load, total_load, AreFresh, Changes, SameBut}
 
 pub some_same : {X : Type 0} → (x y : X) → Some x ≡ Some y → x ≡ y
@@ -27,7 +28,7 @@ some_same x y e = ap (λ o. unwrap_or o x) e
 pub tied : (n : ℕ) → nat_cmp n n ≡ Equal
 tied n = tied_itself nat_cmp_total n
 
-abbrev keys : {X : Type 0} → List (ℕ × X) → List ℕ
+abbrev pub keys : {X : Type 0} → List (ℕ × X) → List ℕ
 keys es = map (λ e. e.0) es
 
 -- ---- keys in order
@@ -61,32 +62,47 @@ put_here k w (e ∷ es) s h = by_order (nat_cmp k e.0) refl h (λ later. put_her
     by_order Equal o h ih = rw o refl
     by_order Greater o h ih = rw o (ap (λ r. e ∷ r) (ih h))
 
--- the same of processes, whose states are seen by pid; the state is any
-pub put_state : (k : ℕ) (w : Process) (es : List (ℕ × Process)) → IsStrictlySortedBy nat_cmp (keys es) → IsSome (lookup (at_key k) es)
-    → processes_of (set_value (at_key k) es w) ≡ put pid_cmp (pid_of k) (state_of w) (processes_of es)
+-- the same of entries whose states are seen by pid; the state is any
+pub put_seen : {X : Type 0} → (f : X → ProcState) (k : ℕ) (w : X) (es : List (ℕ × X)) → IsStrictlySortedBy nat_cmp (keys es) → IsSome (lookup (at_key k) es)
+    → map (λ (e : ℕ × X). (pid_of e.0, f e.1)) (set_value (at_key k) es w) ≡ put pid_cmp (pid_of k) (f w) (map (λ (e : ℕ × X). (pid_of e.0, f e.1)) es)
 unfolding IsStrictlySortedBy
-put_state k w [] s h = absurd (false≢true h)
-put_state k w (e ∷ es) s h = by_order (nat_cmp k e.0) refl h (λ later. put_state k w es s.1 later)
+put_seen f k w [] s h = absurd (false≢true h)
+put_seen {X = X} f k w (e ∷ es) s h = by_order (nat_cmp k e.0) refl h (λ later. put_seen f k w es s.1 later)
   where
     by_order : (o : Ordering) → nat_cmp k e.0 ≡ o → IsSome (cond (is_eq o) (Some e.1) (lookup (at_key k) es))
-        → (IsSome (lookup (at_key k) es) → processes_of (set_value (at_key k) es w) ≡ put pid_cmp (pid_of k) (state_of w) (processes_of es))
-        → processes_of (set_value (at_key k) (e ∷ es) w) ≡ put pid_cmp (pid_of k) (state_of w) (processes_of (e ∷ es))
+        → (IsSome (lookup (at_key k) es) → map (λ (e : ℕ × X). (pid_of e.0, f e.1)) (set_value (at_key k) es w) ≡ put pid_cmp (pid_of k) (f w) (map (λ (e : ℕ × X). (pid_of e.0, f e.1)) es))
+        → map (λ (e : ℕ × X). (pid_of e.0, f e.1)) (set_value (at_key k) (e ∷ es) w) ≡ put pid_cmp (pid_of k) (f w) (map (λ (e : ℕ × X). (pid_of e.0, f e.1)) (e ∷ es))
     by_order Less o h ih = absurd (none_is_no_some _ (not_there k e.0 es o s.0) h)
     by_order Equal o h ih = rw o refl
-    by_order Greater o h ih = rw o (ap (λ r. (pid_of e.0, state_of e.1) ∷ r) (ih h))
+    by_order Greater o h ih = rw o (ap (λ r. (pid_of e.0, f e.1) ∷ r) (ih h))
+
+pub put_state : (k : ℕ) (w : Process) (es : List (ℕ × Process)) → IsStrictlySortedBy nat_cmp (keys es) → IsSome (lookup (at_key k) es)
+    → processes_of (set_value (at_key k) es w) ≡ put pid_cmp (pid_of k) (state_of w) (processes_of es)
+put_state k w es s h = put_seen state_of k w es s h
 
 -- the look-up of a map is that of the finite map
 pub lookup_find : {X : Type 0} → (k : ℕ) (es : List (ℕ × X)) → lookup (at_key k) es ≡ finmap.find nat_cmp k es
 lookup_find k [] = refl
 lookup_find k (e ∷ es) = ap (λ r. cond (at_key k e.0) (Some e.1) r) (lookup_find k es)
 
-pub lookup_state : (k : ℕ) (es : List (ℕ × Process)) → finmap.find pid_cmp (pid_of k) (processes_of es) ≡ option_map state_of (lookup (at_key k) es)
-lookup_state k [] = refl
-lookup_state k (e ∷ es) =
-    elim (at_key k e.0) as (λ b. cond b (Some (state_of e.1)) (finmap.find pid_cmp (pid_of k) (processes_of es)) ≡ option_map state_of (cond b (Some e.1) (lookup (at_key k) es))) [
+pub lookup_seen : {X : Type 0} → (f : X → ProcState) (k : ℕ) (es : List (ℕ × X)) → finmap.find pid_cmp (pid_of k) (map (λ (e : ℕ × X). (pid_of e.0, f e.1)) es) ≡ option_map f (lookup (at_key k) es)
+lookup_seen f k [] = refl
+lookup_seen {X = X} f k (e ∷ es) =
+    elim (at_key k e.0) as (λ b. cond b (Some (f e.1)) (finmap.find pid_cmp (pid_of k) (map (λ (e : ℕ × X). (pid_of e.0, f e.1)) es)) ≡ option_map f (cond b (Some e.1) (lookup (at_key k) es))) [
       | true ↦ refl
-      | false ↦ lookup_state k es
+      | false ↦ lookup_seen f k es
     ]
+
+pub lookup_state : (k : ℕ) (es : List (ℕ × Process)) → finmap.find pid_cmp (pid_of k) (processes_of es) ≡ option_map state_of (lookup (at_key k) es)
+lookup_state k es = lookup_seen state_of k es
+
+-- of roots at their start, which are seen as their states
+pub lookup_start : (k : ℕ) (es : List (ℕ × ProcState)) → finmap.find pid_cmp (pid_of k) (starts_in es) ≡ lookup (at_key k) es
+lookup_start k es = lookup_seen (λ s. s) k es ∙ itself (lookup (at_key k) es)
+  where
+    itself : (o : Option ProcState) → option_map (λ s. s) o ≡ o
+    itself None = refl
+    itself (Some s) = refl
 
 -- ---- a value that is written in its place
 

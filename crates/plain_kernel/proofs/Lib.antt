@@ -6,6 +6,8 @@ pub mod Entries
 pub mod Laws
 pub mod Pids
 pub mod Roots
+mod StartPages
+pub mod Starts
 mod Ready
 mod Turns
 pub mod Others

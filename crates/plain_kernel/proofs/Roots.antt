@@ -1,5 +1,5 @@
 -- The start of a kernel, root by root.
-use Rattle.std.proofs.Common.{◌≡◌, ℕ, ◌+◌, ◌*◌, ◌<◌, ◌≤◌, Bool, true, eqb, List, [], ◌∷◌, ◌++◌, length, take, map, fold, get_or, refl, sym, ap, subst, ◌∙◌, arith, Some, append_assoc, append-nil}
+use Rattle.std.proofs.Common.{◌≡◌, ℕ, ◌+◌, ◌*◌, ◌<◌, ◌≤◌, Bool, true, eqb, List, [], ◌∷◌, ◌++◌, length, take, map, fold, get_or, refl, sym, ap, ◌∙◌, arith, Some, append_assoc, append-nil}
 use Rattle.std.specs.Prelude.{slice_get}
 use Rattle.std.specs.List.{count_by}
 use Rattle.std.specs.BTreeMap.{insert_entry}
@@ -13,18 +13,17 @@ use Rattle.std.proofs.lemmas.Cmp.{nat_cmp_total}
 use Rattle.std.proofs.lemmas.List.{take_more}
 use Rattle.std.proofs.lemmas.List.Sums.{fold-append}
 use Rattle.std.proofs.lemmas.Map.Entries.{sum_by-insert_entry}
-use Rattle.std.proofs.lemmas.Map.Views.{All-values-insert_entry}
 use Rattle.std.proofs.lemmas.Option.{slice_get-get_or}
 use Rattle.t32_base.specs.declared.process.Pid.{Pid}
-use Rattle.proc_state.specs.declared.process.Process.{Process}
-use Rattle.proc_state.specs.State.{ProcState, IsFresh, state_of}
+use Rattle.proc_state.specs.State.{ProcState}
 use Rattle.sys_text.specs.declared.system.System.{System}
 use Rattle.sys_text.specs.declared.system.Root.{Root}
 use Rattle.sys_text.specs.Valid.{is_system}
 use Rattle.sys_text.specs.Boot.{pid_of as pid_in, with_pids, roots_of}
 use Rattle.sys_text.proofs.Bounds.{root_bounds, root_image, system_bounds}
 use Rattle.plain_kernel.specs.Kernel.{Kernel, pid_cmp, boot, boot_roots, with_chan, with_root, empty, root_process}
-use Rattle.plain_kernel.specs.Maps.{pid_of, processes_of, load, total_load, booted_processes, booted_ttys, linked_processes, AreFresh, CanBoot}
+use Rattle.plain_kernel.specs.Maps.{pid_of, booted_processes, booted_ttys, linked_processes, CanBoot}
+use Rattle.plain_kernel.specs.Starts.{starts_in, starts_load, state_load}
 
 -- ---- an entry that is inserted is put
 
@@ -37,14 +36,14 @@ insert_put k v (e ∷ es) =
       | Greater ↦ ap (λ r. e ∷ r) (insert_put k v es)
     ]
 
-insert_state : (k : ℕ) (v : Process) (es : List (ℕ × Process)) → processes_of (insert_entry nat_cmp es k v) ≡ put pid_cmp (pid_of k) (state_of v) (processes_of es)
+insert_state : (k : ℕ) (v : ProcState) (es : List (ℕ × ProcState)) → starts_in (insert_entry nat_cmp es k v) ≡ put pid_cmp (pid_of k) v (starts_in es)
 insert_state k v [] = refl
 insert_state k v (e ∷ es) =
-    elim (nat_cmp k e.0) as (λ o. processes_of (match_ordering o ((k, v) ∷ e ∷ es) ((e.0, v) ∷ es) (e ∷ insert_entry nat_cmp es k v))
-    ≡ by_order o ((pid_of k, state_of v) ∷ processes_of (e ∷ es)) ((pid_of e.0, state_of v) ∷ processes_of es) ((pid_of e.0, state_of e.1) ∷ put pid_cmp (pid_of k) (state_of v) (processes_of es))) [
+    elim (nat_cmp k e.0) as (λ o. starts_in (match_ordering o ((k, v) ∷ e ∷ es) ((e.0, v) ∷ es) (e ∷ insert_entry nat_cmp es k v))
+    ≡ by_order o ((pid_of k, v) ∷ starts_in (e ∷ es)) ((pid_of e.0, v) ∷ starts_in es) ((pid_of e.0, e.1) ∷ put pid_cmp (pid_of k) v (starts_in es))) [
       | Less ↦ refl
       | Equal ↦ refl
-      | Greater ↦ ap (λ r. (pid_of e.0, state_of e.1) ∷ r) (insert_state k v es)
+      | Greater ↦ ap (λ r. (pid_of e.0, e.1) ∷ r) (insert_state k v es)
     ]
 
 -- ---- one root more
@@ -58,16 +57,16 @@ pids-snoc earlier (q ∷ roots) r =
     ap (λ rest. (pid_in (q.home).0 (1 + count_by (same_home q) earlier), q) ∷ rest)
     (pids-snoc (earlier ++ q ∷ []) roots r ∙ ap (λ l. with_pids (earlier ++ q ∷ []) roots ++ (pid_in (r.home).0 (1 + count_by (same_home r) l), r) ∷ []) (append_assoc earlier (q ∷ []) roots))
 
--- the processes of the roots so far
-pub booted_more : (system : System) (roots : List Root) (n : ℕ) (d root : Root) (v : Process) (es fs : List (ℕ × Process)) (pid : Pid) → n < length roots → root ≡ get_or roots n d
-    → processes_of es ≡ booted_processes system (with_pids [] (take n roots)) → fs ≡ insert_entry nat_cmp es pid.0 v → pid ≡ pid_in (root.home).0 (1 + count_by (same_home root) (take n roots)) → state_of v ≡ root_process system pid root
-    → processes_of fs ≡ booted_processes system (with_pids [] (take (n + 1) roots))
+-- the roots so far
+pub booted_more : (system : System) (roots : List Root) (n : ℕ) (d root : Root) (v : ProcState) (es fs : List (ℕ × ProcState)) (pid : Pid) → n < length roots → root ≡ get_or roots n d
+    → starts_in es ≡ booted_processes system (with_pids [] (take n roots)) → fs ≡ insert_entry nat_cmp es pid.0 v → pid ≡ pid_in (root.home).0 (1 + count_by (same_home root) (take n roots)) → v ≡ root_process system pid root
+    → starts_in fs ≡ booted_processes system (with_pids [] (take (n + 1) roots))
 booted_more system roots n d root v es fs pid within is before insert pid_is state =
     let step : Pid × Root → List (Pid × ProcState) → List (Pid × ProcState) = λ r ps. put pid_cmp r.0 (root_process system r.0 r.1) ps in
     let pids : with_pids [] (take (n + 1) roots) ≡ with_pids [] (take n roots) ++ (pid, root) ∷ [] =
     ap (with_pids []) (take_more roots n d within ∙ ap (λ r. take n roots ++ r ∷ []) (sym is)) ∙ pids-snoc [] (take n roots) root
     ∙ ap (λ p. with_pids [] (take n roots) ++ (p, root) ∷ []) (sym pid_is) in
-    ap processes_of insert ∙ insert_state pid.0 v es ∙ ap (λ s. put pid_cmp pid s (processes_of es)) state ∙ ap (λ ps. put pid_cmp pid (root_process system pid root) ps) before
+    ap starts_in insert ∙ insert_state pid.0 v es ∙ ap (λ s. put pid_cmp pid s (starts_in es)) state ∙ ap (λ ps. put pid_cmp pid (root_process system pid root) ps) before
     ∙ sym (ap (booted_processes system) pids ∙ fold-append _ [] (with_pids [] (take n roots)) ((pid, root) ∷ []))
 
 pub ttys_more : (roots : List Root) (n : ℕ) (d root : Root) (es fs : List (ℕ × List ℕ)) → n < length roots → root ≡ get_or roots n d → es ≡ booted_ttys (take n roots) → fs ≡ insert_entry nat_cmp es root.tty []
@@ -76,13 +75,10 @@ ttys_more roots n d root es fs within is before insert =
     insert ∙ insert_put root.tty [] es ∙ ap (put nat_cmp root.tty []) before
     ∙ sym (ap booted_ttys (take_more roots n d within ∙ ap (λ r. take n roots ++ r ∷ []) (sym is)) ∙ fold-append _ [] (take n roots) (root ∷ []))
 
-pub load_more : (es fs : List (ℕ × Process)) (k : ℕ) (v : Process) (bound : ℕ) → IsStrictlySortedBy nat_cmp (map (λ (e : ℕ × Process). e.0) es) → fs ≡ insert_entry nat_cmp es k v → load v ≤ bound → total_load fs ≤ total_load es + bound
+pub load_more : (es fs : List (ℕ × ProcState)) (k : ℕ) (v : ProcState) (bound : ℕ) → IsStrictlySortedBy nat_cmp (map (λ (e : ℕ × ProcState). e.0) es) → fs ≡ insert_entry nat_cmp es k v → state_load v ≤ bound
+    → starts_load fs ≤ starts_load es + bound
 load_more es fs k v bound ordered insert within =
-    omega (arith, ap total_load insert, sum_by-insert_entry load nat_cmp_total es k v ordered, within)
-
--- each is at its start
-pub fresh_more : (es fs : List (ℕ × Process)) (k : ℕ) (v : Process) → fs ≡ insert_entry nat_cmp es k v → AreFresh es → IsFresh v → AreFresh fs
-fresh_more es fs k v insert fresh one = subst AreFresh (sym insert) (All-values-insert_entry nat_cmp k v IsFresh es fresh one)
+    omega (arith, ap starts_load insert, sum_by-insert_entry state_load nat_cmp_total es k v ordered, within)
 
 -- ---- a root of a valid system
 
@@ -102,7 +98,7 @@ can_boot s n d root valid within is =
       limit = b.limit;
     }
 
-pub light : (v : Process) (limit : ℕ) → load v ≡ 2 * (limit + 34) → limit ≤ 100000 → load v ≤ 200068
+pub light : (v : ProcState) (limit : ℕ) → state_load v ≡ 2 * (limit + 34) → limit ≤ 100000 → state_load v ≤ 200068
 light v limit e h = omega arith
 
 pub root_home : (s : System) (n : ℕ) (d root : Root) → is_system s ≡ true → n < length s.roots → root ≡ get_or s.roots n d → (root.home).0 < 16

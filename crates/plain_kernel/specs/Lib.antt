@@ -2,4 +2,5 @@ pub mod Kernel
 pub mod Apply
 pub mod Still
 pub mod Maps
+pub mod Starts
 pub mod Answers

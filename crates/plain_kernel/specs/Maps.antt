@@ -22,7 +22,7 @@ use Rattle.sys_text.specs.declared.system.System.{System}
 use Rattle.sys_text.specs.declared.system.Image.{Image}
 use Rattle.sys_text.specs.declared.system.Root.{Root}
 use Rattle.sys_text.specs.Boot.{roots_of}
-use Rattle.plain_kernel.specs.Kernel.{Kernel, pid_cmp, root_process, with_chan, with_end_linked}
+use Rattle.plain_kernel.specs.Kernel.{Kernel, pid_cmp, root_process, with_chan}
 use Rattle.plain_kernel.specs.Apply.{one_step, steps}
 use Rattle.plain_kernel.specs.Still.{default_after}
 use Rattle.plain_kernel.specs.declared.item.NotApplied.{NotApplied}
@@ -67,12 +67,6 @@ SameBut touched old new = (q : ℕ) → touched q ≡ false → lookup (at_key q
 abbrev pub GoesTo : Option ℕ → List (ℕ × Process) → List (ℕ × Process) → Type 0
 GoesTo None old new = new ≡ old
 GoesTo (Some to) old new = SameBut (at_key to) old new
-
--- one more end of the process with a pid was linked, which leaves as much to come, and each at its start that is there
-pub record Links (old new : List (ℕ × Process)) (pid : ℕ) (peer : Pid) (far : ℕ) : Type 0 where
-  pub states : processes_of new ≡ with_end_linked (processes_of old) (pid_of pid) peer far
-  pub load : total_load new ≡ total_load old
-  pub fresh : AreFresh old → AreFresh new
 
 -- it made so many silent steps
 pub record RunsAt (old new : List (ℕ × Process)) (pid n : ℕ) : Type 0 where

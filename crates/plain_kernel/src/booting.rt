@@ -1,50 +1,77 @@
 //! The start of a kernel: its roots with their images, and their terminals.
-ghost use Rattle.std.specs.Prelude.{◌≡◌, ◌≤◌, ◌<◌, ◌^◌, ◌*◌, ◌+◌, [], IfOk, true, take, length, count_by, ◌==◌};
+ghost use Rattle.std.specs.Prelude.{◌≡◌, ◌<◌, ◌^◌, ◌*◌, ◌+◌, [], IfOk, true, length, count_by, ◌==◌};
 ghost use Rattle.sys_text.specs.Valid.{is_system};
-ghost use Rattle.sys_text.specs.Boot.{bytes_of_words, pid_of as pid_in, roots_of};
-ghost use Rattle.plain_kernel.specs.Kernel.{root_process};
-ghost use Rattle.plain_kernel.specs.Maps.{booted_processes, booted_ttys, linked_processes, load, total_load, AreFresh, CanBoot, IsImageOf};
+ghost use Rattle.sys_text.specs.Boot.{pid_of as pid_in, roots_of};
+ghost use Rattle.plain_kernel.specs.Maps.{booted_processes, booted_ttys, linked_processes, total_load, AreFresh};
 ghost use Rattle.plain_kernel.specs.Maps.{processes_of as states_of};
-ghost use Rattle.proc_state.specs.State.{state_of, IsFresh};
+ghost use Rattle.plain_kernel.specs.Starts.{starts_in, starts_load};
 
 use crate::linking::link_roots;
-use byteorder::{ByteOrder, LittleEndian};
+use crate::start::Start;
 use proc_state::process::Process;
 use std::alloc::Global;
 use std::collections::BTreeMap;
-use sys_text::system::{Image, Root, System};
+use sys_text::system::{Root, System};
 use t32_base::lists::Bytes;
 use t32_base::process::Pid;
 use t32_base::streams::NoMemory;
 
-/// The roots of a system by pid, each at its start, linked by its channels.
+/// The roots of a system at their start by pid, linked by its channels, without their memories.
+pub fn starts_of<'a>(
+    alloc: Global,
+    system: &'a System,
+) -> Result<BTreeMap<u32, Start<'a>>, NoMemory>
+    requires { is_system system.now ≡ true }
+    ensures states { IfOk result (λ starts. starts_in starts.entries ≡ linked_processes system.now) }
+    ensures room { IfOk result (λ starts. starts_load starts.entries < 2 ^ 64) }
+{
+    let mut starts = roots_by_pid(alloc, system)?;
+    let chans = system.chans.as_slice();
+    for chan in chans {
+        link_roots(&mut starts, system, *chan);
+    }
+    Ok(starts)
+}
+
+// The roots of a system at their start by pid, with no end linked.
+fn roots_by_pid<'a>(alloc: Global, system: &'a System) -> Result<BTreeMap<u32, Start<'a>>, NoMemory>
+    requires { is_system system.now ≡ true }
+    ensures states { IfOk result (λ starts. starts_in starts.entries ≡ booted_processes system.now (roots_of system.now)) }
+    ensures room { IfOk result (λ starts. starts_load starts.entries < 2 ^ 64) }
+{
+    let mut starts = BTreeMap::new(alloc);
+    let roots = system.roots.as_slice();
+    for (number, root) in roots.iter().enumerate() {
+        let pid = pid_after(&roots[..number], *root);
+        starts.insert(pid.0, Start::of_root(system, pid, *root))?;
+    }
+    Ok(starts)
+}
+
+/// The roots of a system by pid, each at its start, with its memory, linked by its channels.
 pub fn processes_of(alloc: Global, system: &System) -> Result<BTreeMap<u32, Process>, NoMemory>
     requires { is_system system.now ≡ true }
     ensures states { IfOk result (λ processes. states_of processes.entries ≡ linked_processes system.now) }
     ensures fresh { IfOk result (λ processes. AreFresh processes.entries) }
     ensures room { IfOk result (λ processes. total_load processes.entries < 2 ^ 64) }
 {
-    let mut processes = roots_by_pid(alloc, system)?;
-    let chans = system.chans.as_slice();
-    for chan in chans {
-        link_roots(&mut processes, system, *chan);
-    }
-    Ok(processes)
+    let starts = starts_of(alloc, system)?;
+    with_memories(alloc, starts)
 }
 
-// The roots of a system by pid, with no end linked.
-fn roots_by_pid(alloc: Global, system: &System) -> Result<BTreeMap<u32, Process>, NoMemory>
-    requires { is_system system.now ≡ true }
-    ensures states { IfOk result (λ processes. states_of processes.entries ≡ booted_processes system.now (roots_of system.now)) }
+// The processes of roots at their start, each with its memory.
+fn with_memories(
+    alloc: Global,
+    starts: BTreeMap<u32, Start>,
+) -> Result<BTreeMap<u32, Process>, NoMemory>
+    ensures states { IfOk result (λ processes. states_of processes.entries ≡ starts_in starts.entry.entries) }
     ensures fresh { IfOk result (λ processes. AreFresh processes.entries) }
-    ensures room { IfOk result (λ processes. total_load processes.entries < 2 ^ 64) }
+    ensures load { IfOk result (λ processes. total_load processes.entries ≡ starts_load starts.entry.entries) }
 {
     let mut processes = BTreeMap::new(alloc);
-    let roots = system.roots.as_slice();
-    for (number, root) in roots.iter().enumerate() {
-        let pid = pid_after(&roots[..number], *root);
-        let process = root_of(alloc, system, pid, *root)?;
-        processes.insert(pid.0, process)?;
+    for (pid, start) in starts {
+        let process = start.process(alloc)?;
+        processes.insert(pid, process)?;
     }
     Ok(processes)
 }
@@ -69,43 +96,4 @@ pub fn pid_after(earlier: &[Root], root: Root) -> Pid
     let home = root.home.0;
     let before = earlier.iter().filter(|other| other.home.0 == home).count();
     Pid(u32::from(home) + 16 * (1 + before as u32))
-}
-
-/// A root at its start: its image, followed by zero bytes, and nothing read, sent or synchronised yet.
-pub fn root_of(alloc: Global, system: &System, pid: Pid, root: Root) -> Result<Process, NoMemory>
-    requires { CanBoot system.now root }
-    ensures state { IfOk result (λ p. state_of p ≡ root_process system.now pid root) }
-    ensures fresh { IfOk result IsFresh }
-    ensures load { IfOk result (λ p. load p ≡ 2 * (root.limit + 34)) }
-{
-    let image = image_of(system, root);
-    let bytes = bytes_of(alloc, image.words.as_slice())?;
-    Process::root(
-        alloc,
-        pid,
-        image.pages,
-        &bytes,
-        root.limit,
-        root.births,
-        root.tty,
-    )
-}
-
-// The image of a root, which is there.
-fn image_of(system: &System, root: Root) -> &Image
-    requires { CanBoot system.now root }
-    ensures { IsImageOf system.now root result.now }
-{
-    &system.images.as_slice()[root.image as usize]
-}
-
-// The bytes of words, lowest byte first.
-fn bytes_of(alloc: Global, words: &[u32]) -> Result<Vec<u8>, NoMemory>
-    requires { length words.now ≤ 16384 }
-    ensures bytes { IfOk result (λ bytes. bytes.items ≡ bytes_of_words words.now) }
-    ensures size { IfOk result (λ bytes. length bytes.items ≡ 4 * length words.now) }
-{
-    let mut bytes = vec![in alloc; 0u8; 4 * words.len()]?;
-    LittleEndian::write_u32_into(words, &mut bytes);
-    Ok(bytes)
 }

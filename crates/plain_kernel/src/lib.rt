@@ -8,3 +8,4 @@ pub mod plain;
 mod processes;
 mod running;
 pub mod sending;
+pub mod start;

@@ -83,11 +83,14 @@ root_small pid pages limit births tty = record {
   pages = pages;
 }
 
--- the memory is the image, followed by zero bytes
-abbrev pub root_state : Pid → ℕ → List ℕ → ℕ → ℕ → ℕ → ProcState
-root_state pid pages image limit births tty = record {
-  small = root_small pid pages limit births tty;
-  memory = image ++ replicate (256 * pages - length image) 0;
+-- in a state with nothing in the mailbox; the memory is the image, followed by zero bytes
+abbrev pub started : SmallState → List ℕ → ProcState
+started small image = record {
+  small = small;
+  memory = image ++ replicate (256 * small.pages - length image) 0;
   mail = [];
   next = 0;
 }
+
+abbrev pub root_state : Pid → ℕ → List ℕ → ℕ → ℕ → ℕ → ProcState
+root_state pid pages image limit births tty = started (root_small pid pages limit births tty) image

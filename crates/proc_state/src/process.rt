@@ -23,7 +23,7 @@ pub struct Process {
 impl Process {
     ghost use Rattle.t32_base.specs.Small.{steps_left};
     ghost use Rattle.proc_state.specs.Ends.{free_end};
-    ghost use Rattle.proc_state.specs.State.{state_of, root_state, delivered, linked_to, IsFresh, SameRest};
+    ghost use Rattle.proc_state.specs.State.{state_of, root_state, started, delivered, linked_to, IsFresh, SameRest};
 
     /// A root at its start. Its memory has `pages` pages of 256 bytes and begins with the image, which
     /// fits it; the rest is zero, and no page is dirty. It may execute `limit` instructions and fork
@@ -43,11 +43,23 @@ impl Process {
         ensures state { IfOk result (λ p. state_of p ≡ root_state pid pages image.now limit births tty) }
         ensures fresh { IfOk result IsFresh }
     {
-        let ram = match Ram::filled(alloc, pages, image) {
+        Process::starting(alloc, first_small(pid, pages, limit, births, tty), image)
+    }
+
+    /// A process at its start, in a state that has made no step. Its memory has the pages of that state and begins with
+    /// the image, which fits it; the rest is zero, and no page is dirty.
+    pub fn starting(alloc: Global, small: Small, image: &[u8]) -> Result<Process, NoMemory>
+        requires low { 1 ≤ small.pages }
+        requires high { small.pages ≤ 256 }
+        requires fits { length image.now ≤ 256 * small.pages }
+        requires steps { small.steps ≡ 0 }
+        ensures state { IfOk result (λ p. state_of p ≡ started small image.now) }
+        ensures fresh { IfOk result IsFresh }
+    {
+        let ram = match Ram::filled(alloc, small.pages, image) {
             Ok(ram) => ram,
             Err(_) => return Err(NoMemory),
         };
-        let small = first_small(pid, pages, limit, births, tty);
         Ok(Process {
             small,
             ram,
@@ -72,7 +84,7 @@ impl Process {
     pub fn free_end(&self) -> u8
         ensures { result ≡ free_end self.now.small.ends }
     {
-        lowest_never(&self.small.ends)
+        free_end(&self.small)
     }
 
     /// Links the lowest end that was never linked to the end `far` of a peer, and answers its number. Where
@@ -103,8 +115,9 @@ impl Process {
 
 ghost use Rattle.proc_state.specs.State.{root_small};
 
-// The state of a root at its start.
-fn first_small(pid: Pid, pages: u16, limit: u32, births: u8, tty: u8) -> Small
+/// The state of a root at its start. It may execute `limit` instructions and fork `births` times, and its end 0 is the
+/// terminal `tty`. Takes no memory.
+pub fn first_small(pid: Pid, pages: u16, limit: u32, births: u8, tty: u8) -> Small
     requires { pages ≤ 256 }
     ensures { result ≡ root_small pid pages limit births tty }
 {
@@ -127,11 +140,18 @@ fn first_small(pid: Pid, pages: u16, limit: u32, births: u8, tty: u8) -> Small
 }
 
 ghost use Rattle.t32_base.specs.Small.{is_unshut, steps_left};
-ghost use Rattle.proc_state.specs.Ends.{free_end, is_never};
+ghost use Rattle.proc_state.specs.Ends.{free_end as free_end_in, is_never};
 
-// The lowest end that was never linked; 32 where there is none.
+/// The lowest end that was never linked; 32 where there is none. Takes no memory.
+pub fn free_end(small: &Small) -> u8
+    ensures { result ≡ free_end_in small.now.ends }
+{
+    lowest_never(&small.ends)
+}
+
+// The lowest of these ends that was never linked; 32 where there is none.
 fn lowest_never(ends: &[EndState; 32]) -> u8
-    ensures { result ≡ free_end ends.now }
+    ensures { result ≡ free_end_in ends.now }
 {
     match never_linked(ends) {
         Some(number) => number as u8,
@@ -146,20 +166,21 @@ fn never_linked(ends: &[EndState; 32]) -> Option<usize>
     ends.iter().position(|end| matches!(end, EndState::Never))
 }
 
-// Links the lowest end that was never linked, if there is one, which leaves as many steps.
-fn link_lowest(small: &mut Small, peer: Pid, far: u8) -> u8
-    ensures number { result ≡ free_end small.old.ends }
+/// Links the lowest end that was never linked to the end `far` of a peer, and answers its number; that leaves as many
+/// steps. Where there is none, nothing is linked and 32 is the answer. Takes no memory.
+pub fn link_lowest(small: &mut Small, peer: Pid, far: u8) -> u8
+    ensures number { result ≡ free_end_in small.old.ends }
     ensures linked { small.new ≡ record small.old { ends = slice_set small.old.ends result (EndState.Linked peer far false) } }
     ensures load { steps_left small.new.left small.new.ends small.new.status ≡ steps_left small.old.left small.old.ends small.old.status }
 {
-    let number = lowest_never(&small.ends);
+    let number = free_end(small);
     link_at(&mut small.ends, number, peer, far);
     number
 }
 
 // Links the end with a number, if there is one.
 fn link_at(ends: &mut [EndState; 32], number: u8, peer: Pid, far: u8)
-    requires { number ≡ free_end ends.old }
+    requires { number ≡ free_end_in ends.old }
     ensures linked { ends.new ≡ slice_set ends.old number (EndState.Linked peer far false) }
     ensures unshut { count_by is_unshut ends.new ≡ count_by is_unshut ends.old }
 {

@@ -2,8 +2,7 @@ use Rattle.std.proofs.Common.{◌≡◌, ℕ, sym, ◌∙◌, ap, subst, List, [
 use Rattle.std.specs.List.Sorted.{IsStrictlySortedBy}
 use Rattle.std.specs.Ordering.{nat_cmp}
 use Rattle.t32_base.specs.declared.letter.BackRec.{BackRec}
-use Rattle.proc_state.specs.declared.process.Process.{Process}
-use Rattle.proc_state.specs.State.{state_of}
+use Rattle.proc_state.specs.State.{ProcState}
 use Rattle.plain_kernel.specs.Maps.{pid_of}
 use Rattle.backup_records.specs.Records.{with_record}
 use Rattle.record_laws.specs.Kept.{record_at_boot}
@@ -13,15 +12,15 @@ use Rattle.cluster_core.proofs.booting.first_records.Goals as goal
 
 pub loop-pid-preserved-in-Continue-1 : goal.loop-pid-preserved-in-Continue-1
 loop-pid-preserved-in-Continue-1 c =
-    let e : ℕ × Process = (c.in-Some.pid.now, c.in-Some.process.now) in
-    let before : List (ℕ × Process) = seen c.loop-pid.yielded in
-    let last : seen (c.loop-pid.yielded ++ (c.in-Some.pid, c.in-Some.process) ∷ []) ≡ before ++ e ∷ [] = seen_last c.loop-pid.yielded (c.in-Some.pid, c.in-Some.process) in
-    let ordered : IsStrictlySortedBy nat_cmp (map (λ (d : ℕ × Process). d.0) (before ++ e ∷ c.next.new.self)) = rw c.in-Some.ensures.steps at c.loop-pid.invariant.ordered in
-    let one : c.new.result ≡ record_at_boot (pid_of e.0, state_of e.1) = c.new.ensures ∙ ap (λ small. record { pid = pid_of e.0; state = Some small; saved = []; next = 0; counts = _; births = [] }) c.copy-state.ensures in
-    let added : c.add.new.self ≡ with_record (record_at_boot (pid_of e.0, state_of e.1)) c.loop-pid.records = c.in_ok-add.ensures.ok ∙ ap (λ (r : BackRec). with_record r c.loop-pid.records) one in
+    let e : ℕ × ProcState = (c.in-Some.pid.now, c.in-Some.start.now) in
+    let before : List (ℕ × ProcState) = seen c.loop-pid.yielded in
+    let last : seen (c.loop-pid.yielded ++ (c.in-Some.pid, c.in-Some.start) ∷ []) ≡ before ++ e ∷ [] = seen_last c.loop-pid.yielded (c.in-Some.pid, c.in-Some.start) in
+    let ordered : IsStrictlySortedBy nat_cmp (map (λ (d : ℕ × ProcState). d.0) (before ++ e ∷ c.next.new.self)) = rw c.in-Some.ensures.steps at c.loop-pid.invariant.ordered in
+    let one : c.new.result ≡ record_at_boot (pid_of e.0, e.1) = c.new.ensures ∙ ap (λ small. record { pid = pid_of e.0; state = Some small; saved = []; next = 0; counts = _; births = [] }) (c.copy-state.ensures ∙ c.small.ensures) in
+    let added : c.add.new.self ≡ with_record (record_at_boot (pid_of e.0, e.1)) c.loop-pid.records = c.in_ok-add.ensures.ok ∙ ap (λ (r : BackRec). with_record r c.loop-pid.records) one in
     record {
       all = ap (λ es. es ++ c.next.new.self) last ∙ append_assoc before (e ∷ []) c.next.new.self ∙ rw c.in-Some.ensures.steps at c.loop-pid.invariant.all;
-      ordered = subst (λ es. IsStrictlySortedBy nat_cmp (map (λ (d : ℕ × Process). d.0) es)) (sym (ap (λ es. es ++ c.next.new.self) last ∙ append_assoc before (e ∷ []) c.next.new.self)) ordered;
+      ordered = subst (λ es. IsStrictlySortedBy nat_cmp (map (λ (d : ℕ × ProcState). d.0) es)) (sym (ap (λ es. es ++ c.next.new.self) last ∙ append_assoc before (e ∷ []) c.next.new.self)) ordered;
       are = subst (λ es. AreFirstRecords c.args.places.now c.args.number es c.add.new.self) (sym last)
           (subst (AreFirstRecords c.args.places.now c.args.number (before ++ e ∷ [])) (sym added)
           (more_recorded c.args.places.now c.args.number before e c.next.new.self c.loop-pid.records ordered c.loop-pid.invariant.are (sym c.has_backup.ensures ∙ c.if-has_backup.true)));
@@ -29,13 +28,13 @@ loop-pid-preserved-in-Continue-1 c =
 
 pub loop-pid-preserved : goal.loop-pid-preserved
 loop-pid-preserved c =
-    let e : ℕ × Process = (c.in-Some.pid.now, c.in-Some.process.now) in
-    let before : List (ℕ × Process) = seen c.loop-pid.yielded in
-    let last : seen (c.loop-pid.yielded ++ (c.in-Some.pid, c.in-Some.process) ∷ []) ≡ before ++ e ∷ [] = seen_last c.loop-pid.yielded (c.in-Some.pid, c.in-Some.process) in
-    let ordered : IsStrictlySortedBy nat_cmp (map (λ (d : ℕ × Process). d.0) (before ++ e ∷ c.next.new.self)) = rw c.in-Some.ensures.steps at c.loop-pid.invariant.ordered in
+    let e : ℕ × ProcState = (c.in-Some.pid.now, c.in-Some.start.now) in
+    let before : List (ℕ × ProcState) = seen c.loop-pid.yielded in
+    let last : seen (c.loop-pid.yielded ++ (c.in-Some.pid, c.in-Some.start) ∷ []) ≡ before ++ e ∷ [] = seen_last c.loop-pid.yielded (c.in-Some.pid, c.in-Some.start) in
+    let ordered : IsStrictlySortedBy nat_cmp (map (λ (d : ℕ × ProcState). d.0) (before ++ e ∷ c.next.new.self)) = rw c.in-Some.ensures.steps at c.loop-pid.invariant.ordered in
     record {
       all = ap (λ es. es ++ c.next.new.self) last ∙ append_assoc before (e ∷ []) c.next.new.self ∙ rw c.in-Some.ensures.steps at c.loop-pid.invariant.all;
-      ordered = subst (λ es. IsStrictlySortedBy nat_cmp (map (λ (d : ℕ × Process). d.0) es)) (sym (ap (λ es. es ++ c.next.new.self) last ∙ append_assoc before (e ∷ []) c.next.new.self)) ordered;
+      ordered = subst (λ es. IsStrictlySortedBy nat_cmp (map (λ (d : ℕ × ProcState). d.0) es)) (sym (ap (λ es. es ++ c.next.new.self) last ∙ append_assoc before (e ∷ []) c.next.new.self)) ordered;
       are = subst (λ es. AreFirstRecords c.args.places.now c.args.number es c.loop-pid.records) (sym last)
           (none_recorded c.args.places.now c.args.number before e c.next.new.self c.loop-pid.records ordered c.loop-pid.invariant.are (sym c.has_backup.ensures ∙ c.if-has_backup.false));
     }

@@ -1,6 +1,6 @@
 use Rattle.std.proofs.Common.{arith, ap, length}
 use Rattle.plain_kernel.proofs.Channels.{chan_at}
-use Rattle.plain_kernel.proofs.booting.processes_of.Goals as goal
+use Rattle.plain_kernel.proofs.booting.starts_of.Goals as goal
 
 pub link_roots-requires-clause-first : goal.link_roots-requires-clause-first
 link_roots-requires-clause-first c =
