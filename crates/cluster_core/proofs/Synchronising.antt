@@ -81,6 +81,7 @@ use Rattle.cluster_core.proofs.Waiting.{queued_alike}
 use Rattle.cert_sched.specs.Account.{is_exit_of}
 use Rattle.cert_sched.specs.Told.{cluster_lost, is_moved}
 use Rattle.mark_laws.specs.Beside.{is_some_page}
+use Rattle.cert_sched.specs.Simulation.{IsUnended}
 
 -- ---- what an entry leaves of a process
 
