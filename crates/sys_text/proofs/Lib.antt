@@ -9,6 +9,7 @@ mod Keeping
 mod Leading
 mod Limits
 mod Lines
+mod WordFields
 mod Printed
 mod ReadBack
 mod Reached
