@@ -2,6 +2,7 @@ mod BlockLines
 mod Blocks
 pub mod Bounds
 mod Examples
+mod FirstWords
 mod Headed
 mod ImagePlaces
 mod Imaged
@@ -22,4 +23,5 @@ mod Standing
 mod Stepping
 mod Taking
 mod Words
+mod WordFields
 mod WordLines

@@ -1,7 +1,8 @@
 -- A line of words in an open image.
-use Rattle.std.specs.Prelude.{◌≡◌, ℕ, ◌+◌, true, not, List, ◌∷◌, length, Option, Some, None, codes, nat_le, if◌then◌else◌}
+use Rattle.std.specs.Prelude.{◌≡◌, ℕ, ◌+◌, ◌<◌, true, not, List, ◌∷◌, length, Option, Some, None, codes, nat_le, if◌then◌else◌}
 use Rattle.std.specs.List.{list_all}
 use Rattle.text_parts.specs.Lines.{are_printable, fields_of}
+use Rattle.text_parts.specs.Numbers.{word_of}
 use Rattle.sys_text.specs.declared.stage.Stage.{Stage}
 use Rattle.sys_text.specs.declared.stage.Stage.TheVariants.{InImage}
 use Rattle.sys_text.specs.declared.stage.Kind.TheVariants.{Word}
@@ -18,6 +19,13 @@ pub record IsWordsLine (stage : Stage) (line rest : List ℕ) : Type 0 where
   pub in_image : stage ≡ InImage
   pub printable : are_printable line ≡ true
   pub fields : fields_of line ≡ codes "words" ∷ fields_of rest
+
+-- the first field of the line is this word or, with None, no word, and these bytes stand after it
+pub record FirstWord (line : List ℕ) (value : Option ℕ) (rest : List ℕ) : Type 0 where
+  pub field : List ℕ
+  pub fields : fields_of line ≡ field ∷ fields_of rest
+  pub value_is : word_of field ≡ value
+  pub shorter : length rest < length line
 
 -- the lowest rule that the fields after `words` break, behind so many words of an image of so many pages
 abbrev pub lowest_of_words : (words pages : ℕ) → List (List ℕ) → Option Rule

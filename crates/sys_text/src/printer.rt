@@ -103,18 +103,39 @@ fn put_words_line(text: &mut Text, words: &[u32]) -> Result<(), NoMemory>
     ensures { OnOk result (text.new ≡ text.old ++ line_text (words_line words.now)) }
 {
     text.extend(b"words")?;
-    for word in words {
-        text.extend(b" ")?;
-        put_word(text, *word)?;
-    }
+    put_fields(text, words)?;
     text.extend(b"\n")?;
     Ok(())
 }
 
-/// A word as eight hexadecimal digits.
+/// Puts each word after a space.
+fn put_fields(text: &mut Text, words: &[u32]) -> Result<(), NoMemory>
+    ensures { OnOk result (text.new ≡ text.old ++ flat_map (λ w. 32 ∷ word_text w) words.now) }
+{
+    // Most lines have eight words.
+    if let [a, b, c, d, e, f, g, h] = words {
+        let fields = [
+            word_field(*a),
+            word_field(*b),
+            word_field(*c),
+            word_field(*d),
+            word_field(*e),
+            word_field(*f),
+            word_field(*g),
+            word_field(*h),
+        ];
+        return text.extend(fields.as_flattened());
+    }
+    for word in words {
+        text.extend(&word_field(*word))?;
+    }
+    Ok(())
+}
+
+/// A space, and a word as eight hexadecimal digits.
 #[tactic(auto, unfolding(crate::specs::Text::word_text))]
-fn put_word(text: &mut Text, word: u32) -> Result<(), NoMemory>
-    ensures { OnOk result (text.new ≡ text.old ++ word_text word) }
+fn word_field(word: u32) -> [u8; 9]
+    ensures { result ≡ 32 ∷ word_text word }
 {
     let b = word / 16;
     let c = b / 16;
@@ -123,7 +144,8 @@ fn put_word(text: &mut Text, word: u32) -> Result<(), NoMemory>
     let f = e / 16;
     let g = f / 16;
     let h = g / 16;
-    text.extend(&[
+    [
+        b' ',
         hex_digit(h % 16),
         hex_digit(g % 16),
         hex_digit(f % 16),
@@ -132,7 +154,7 @@ fn put_word(text: &mut Text, word: u32) -> Result<(), NoMemory>
         hex_digit(c % 16),
         hex_digit(b % 16),
         hex_digit(word % 16),
-    ])
+    ]
 }
 
 fn hex_digit(digit: u32) -> u8

@@ -1,9 +1,10 @@
 //! Lines of words, of which a long text has most: each field is read once, as it is cut off.
-ghost use Rattle.std.specs.Prelude.{◌≡◌, ◌++◌, None, OnOk, IfErr, IfSome, length, codes};
+ghost use Rattle.std.specs.Prelude.{◌≡◌, ◌++◌, [], take, None, OnOk, IfErr, IfSome, MatchOption, length, codes};
+ghost use Rattle.std.specs.List.{list_all};
 ghost use Rattle.std.specs.Str.{bytes_eq};
-ghost use Rattle.text_parts.specs.Lines.{fields_of};
+ghost use Rattle.text_parts.specs.Lines.{fields_of, is_space};
 ghost use Rattle.sys_text.specs.Rules.{words_in};
-ghost use Rattle.sys_text.specs.WordLines.{IsWordsLine, lowest_of_words, RefusesBy};
+ghost use Rattle.sys_text.specs.WordLines.{IsWordsLine, FirstWord, lowest_of_words, RefusesBy};
 
 use crate::refusal::{Rule, SystemRefused};
 use crate::stage::Stage;
@@ -31,6 +32,45 @@ pub fn after_words<'a>(stage: Stage, line: &'a [u8]) -> Option<&'a [u8]>
     }
 }
 
+/// Does a field that stands before these bytes end there?
+fn is_after_field(rest: &[u8]) -> bool
+    ensures { result ≡ list_all is_space (take 1 rest.now) }
+{
+    match rest {
+        [] => true,
+        [byte, ..] => *byte == b' ',
+    }
+}
+
+/// The word after one space, as most stand, and the line after it; nothing where the line begins otherwise.
+fn word_after_space(line: &[u8]) -> Option<(u32, &[u8])>
+    ensures { IfSome result (λ x. FirstWord line.now (Some x.0) x.1.now) }
+{
+    let [b' ', text @ ..] = line else {
+        return None;
+    };
+    if text.len() < 8 {
+        return None;
+    }
+    let (field, rest) = text.split_at(8);
+    if !is_after_field(rest) {
+        return None;
+    }
+    let value = word(field)?;
+    Some((value, rest))
+}
+
+/// What the first field of a line is as a word, and the line after it.
+fn first_word(line: &[u8]) -> Option<(Option<u32>, &[u8])>
+    ensures { MatchOption result (fields_of line.now ≡ []) (λ x. FirstWord line.now x.0 x.1.now) }
+{
+    if let Some((value, rest)) = word_after_space(line) {
+        return Some((Some(value), rest));
+    }
+    let (field, rest) = first_field(line)?;
+    Some((word(field), rest))
+}
+
 /// Reads the words of line `number` behind those so far of an image of so many pages.
 pub fn read_words(
     words: &mut List<u32>,
@@ -44,8 +84,8 @@ pub fn read_words(
 {
     let before = words.len();
     let mut rest = fields;
-    'fields: while let Some((field, after)) = first_field(rest) {
-        let Some(value) = word(field) else {
+    'fields: while let Some((value, after)) = first_word(rest) {
+        let Some(value) = value else {
             return Err(refused(number, Rule::FieldKind));
         };
         words.push(value)?;

@@ -6,11 +6,11 @@ use Rattle.sys_text.proofs.word_lines.read_words.Goals.{In_default}
 
 read : (c : In_default) → Read c.args.words.now c.fields.words (fields_of c.args.fields.now)
 read c =
-    let none : fields_of c.fields.rest.now ≡ [] = search (rules, c.in_default.ensures.fields) in
+    let none : fields_of c.fields.rest.now ≡ [] = search (rules, c.in_default.ensures) in
     read_all c.args.words.now c.fields.words c.fields.rest.now (fields_of c.args.fields.now) c.fields.invariant none
 
 pub fields-preserved : goal.fields-preserved
-fields-preserved c = so_far_more c.args.words.now c.fields.words c.push.new.self c.fields.rest.now c.in-Some.after.now (fields_of c.args.fields.now) c.in-Some.field.now c.in-Some-word.value c.fields.invariant c.in-Some.ensures.fields (sym c.word.ensures ∙ c.in-Some-word.is) c.in_ok-push.ensures.ok
+fields-preserved c = so_far_more c.args.words.now c.fields.words c.push.new.self c.fields.rest.now c.in-Some.after.now (fields_of c.args.fields.now) c.in-Some.ensures.field c.in-Some-value.value c.fields.invariant c.in-Some.ensures.fields (c.in-Some.ensures.value_is ∙ c.in-Some-value.is) c.in_ok-push.ensures.ok
 
 pub returns-then-len-before-clause-refused : goal.returns-then-len-before-clause-refused
 returns-then-len-before-clause-refused c =

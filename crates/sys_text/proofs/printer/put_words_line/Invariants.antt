@@ -1,8 +1,0 @@
-use Rattle.std.proofs.Common.{◌≡◌, ◌++◌, ◌∷◌, take}
-use Rattle.std.specs.List.{flat_map}
-use Rattle.std.specs.Prelude.{codes}
-use Rattle.sys_text.specs.Text.{word_text}
-use Rattle.sys_text.proofs.printer.put_words_line.Given as goal
-
-abbrev pub invariant-loop-word : goal.invariant-loop-word
-invariant-loop-word l = l.text ≡ l.fn.text ++ (codes "words" ++ flat_map (λ w. 32 ∷ word_text w) (take l.word-index l.words))
