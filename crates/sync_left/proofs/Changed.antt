@@ -1,7 +1,6 @@
 -- A changed page that is new leaves one pair of a page and a step count less.
-use Rattle.std.proofs.Common.{◌≡◌, ℕ, ◌+◌, ◌-◌, ◌≤◌, refl, sym, ◌∙◌, ap, subst, arith, List, [], ◌∷◌, ◌++◌, Bool, true, false, cond, not, ◌&&◌, ◌||◌, eqb, eq-eqb, eqb-true, ltb, Option, Some, None, is_some, true≢false}
+use Rattle.std.proofs.Common.{◌≡◌, ℕ, ◌+◌, ◌-◌, ◌≤◌, refl, sym, ◌∙◌, ap, subst, arith, List, [], ◌∷◌, ◌++◌, Bool, true, false, not, ◌&&◌, ◌||◌, eq-eqb, eqb-true, ltb, Option, Some, None}
 use Rattle.std.specs.Prelude.{option_map, sum_by}
-use Rattle.std.specs.List.{list_any}
 use Rattle.std.specs.Option.{option_map_or}
 use Rattle.t32_base.specs.declared.process.Pid.{Pid}
 use Rattle.sys_text.specs.declared.system.System.{System}
@@ -9,8 +8,6 @@ use Rattle.sys_text.specs.Valid.{is_system}
 use Rattle.rv_mem.specs.Memory.{page_at}
 use Rattle.proc_state.specs.State.{ProcState}
 use Rattle.sys_calls.proofs.Weighing.{silently_leaves}
-use Rattle.plain_kernel.specs.Kernel.{Kernel, process_at}
-use Rattle.plain_kernel.proofs.Entries.{some_same}
 use Rattle.bus_msg.specs.declared.entry.What.TheVariants.{Page}
 use Rattle.bus_msg.specs.declared.entry.Entry.{Entry}
 use Rattle.bus_msg.specs.declared.placed.Placed.{Placed}
@@ -25,15 +22,15 @@ use Rattle.cert_sched.specs.Rules.{is_by_home, is_by_right, is_new_page}
 use Rattle.cert_sched.specs.Kinds.{KindHolds, PageHolds}
 use Rattle.cert_sched.specs.Legal.{IsLegalBy, Stands}
 use Rattle.cert_sched.proofs.LogLaws.{no_items}
-use Rattle.cert_sched.proofs.StepLaws.{SilentFrom, silent_from, done_kernel}
+use Rattle.cert_sched.proofs.StepLaws.{silent_from, done_kernel}
 use Rattle.page_laws.proofs.OneEntry.{moves_none, any_since-goes_on}
 use Rattle.page_laws.proofs.Leaving.{one_if}
 use Rattle.sync_laws.proofs.Beside.{start_stays}
 use Rattle.sync_left.specs.Load.{kernel_load, log_load}
-use Rattle.sync_left.specs.Left.{has_stepped, is_unsent, left_of_process, left_of_syncs, most_of, most_steps, pairs_that}
+use Rattle.sync_left.specs.Left.{has_stepped, is_unsent, left_of_process, left_of_syncs, most_of, most_steps}
 use Rattle.sync_left.proofs.Pairs.{pairs-less}
 use Rattle.sync_left.proofs.OneStep.{most_in}
-use Rattle.sync_left.proofs.OneEntry.{each_most, left_then, most_kernel, one_less, sender_among, stays_most, stepped_stays, there, unsent_after, unsent_still}
+use Rattle.sync_left.proofs.OneEntry.{left_then, most_kernel, one_less, sender_among, stays_most, stepped_stays, there, unsent_after, unsent_still}
 
 -- silent steps up to a count that is not before the present one end within the most steps
 within_most : (system : System) (log : List Entry) (p : Pid) (at : ℕ) (t : ProcState) → done_after system log p ≤ at → silent_upto system log p at ≡ Some t → at ≤ most_steps system log p

@@ -1,5 +1,5 @@
 -- A process that is due has made steps since its start: who has read a letter since then has made a step, and each has a state in its record.
-use Rattle.std.proofs.Common.{◌≡◌, ℕ, ◌+◌, ◌-◌, ◌≤◌, refl, sym, ◌∙◌, ap, subst, arith, List, [], ◌∷◌, length, Bool, true, false, not, ◌||◌, ltb, leb, eqb, Option, Some, None, true≢false}
+use Rattle.std.proofs.Common.{◌≡◌, ℕ, ◌-◌, ◌≤◌, refl, sym, ◌∙◌, ap, subst, arith, List, [], ◌∷◌, length, Bool, true, false, not, ◌||◌, ltb, leb, eqb, Option, Some, None, true≢false}
 use Rattle.std.specs.Prelude.{map, option_and_then}
 use Rattle.std.specs.List.{list_any}
 use Rattle.std.specs.Option.{option_map_or}

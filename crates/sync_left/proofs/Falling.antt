@@ -1,7 +1,6 @@
 -- Each entry that a cluster sends leaves less to send; the end and a stop leave no more.
-use Rattle.std.proofs.Common.{◌≡◌, ℕ, ◌+◌, ◌*◌, ◌<◌, ◌≤◌, refl, sym, ◌∙◌, ap, subst, arith, List, [], ◌∷◌, ◌++◌, Bool, true, false, Option, Some, None, is_some, true≢false}
+use Rattle.std.proofs.Common.{◌≡◌, ℕ, ◌+◌, ◌*◌, ◌<◌, ◌≤◌, refl, sym, ◌∙◌, ap, subst, arith, List, [], ◌∷◌, ◌++◌, true, false, Option, Some, None, true≢false}
 use Rattle.std.specs.Prelude.{sum_by}
-use Rattle.std.specs.Option.{option_map_or}
 use Rattle.t32_base.specs.declared.process.Pid.{Pid}
 use Rattle.t32_base.specs.declared.process.End.{End}
 use Rattle.t32_base.specs.declared.letter.Letter.{Letter}
@@ -9,27 +8,26 @@ use Rattle.t32_base.specs.Small.{SmallState}
 use Rattle.sys_text.specs.declared.system.System.{System}
 use Rattle.sys_text.specs.Valid.{is_system}
 use Rattle.sys_calls.specs.declared.steps.Emission.TheVariants.{Mail as Sent, Exit as Ended}
-use Rattle.plain_kernel.specs.Kernel.{Kernel}
 use Rattle.bus_msg.specs.declared.entry.What.{What}
 use Rattle.bus_msg.specs.declared.entry.What.TheVariants.{Mail, Birth, Exit, Page, Sync, Fetch, PageIs, Crash, Return, Rebackup, Done, Stop}
 use Rattle.bus_msg.specs.declared.entry.Entry.{Entry}
 use Rattle.bus_msg.specs.declared.placed.Placed.{Placed}
 use Rattle.bus_msg.specs.Places.{Places, unended_in}
 use Rattle.bus_msg.specs.PlacedAfter.{what, placed_after}
-use Rattle.cert_sched.specs.Schedule.{items_of, placement}
+use Rattle.cert_sched.specs.Schedule.{placement}
 use Rattle.cert_sched.specs.Told.{cluster_lost}
 use Rattle.cert_sched.specs.Deeds.{is_cut, is_birth_of}
 use Rattle.cert_sched.specs.Rules.{is_new_page}
 use Rattle.cert_sched.specs.Kinds.{KindHolds}
 use Rattle.cert_sched.specs.Legal.{IsLegalBy, Stands}
 use Rattle.cert_sched.specs.Built.{tells_or_closes}
-use Rattle.cert_sched.proofs.LogLaws.{no_items, placement-snoc}
+use Rattle.cert_sched.proofs.LogLaws.{placement-snoc}
 use Rattle.cert_sched.proofs.StepLaws.{is_sent, no_signal_taken}
 use Rattle.page_laws.specs.Left.{left_of_pages}
 use Rattle.page_laws.proofs.OneEntry.{after_other}
 use Rattle.page_laws.proofs.Leaving.{exit_sum, left_fetch, left_most, left_page_is, left_still}
 use Rattle.cert_sched.specs.Moved.{waiting_fetches}
-use Rattle.sync_left.specs.Load.{kernel_load, log_load}
+use Rattle.sync_left.specs.Load.{log_load}
 use Rattle.sync_left.specs.Left.{is_from_cluster, left_of_process, left_of_syncs, left_to_send}
 use Rattle.sync_left.proofs.StepsLeft.{sent_leaves}
 use Rattle.sync_left.proofs.OneEntry.{all_most, load_most}

@@ -7,3 +7,4 @@ pub mod Changed
 pub mod Due
 pub mod Synced
 pub mod Falling
+mod WorkedSending

@@ -1,5 +1,5 @@
 -- One more entry, which moves no process: what is left of the processes and of the steps of the kernel, in sum, does not rise where starts stay.
-use Rattle.std.proofs.Common.{◌≡◌, ℕ, ◌+◌, ◌≤◌, refl, sym, ◌∙◌, ap, subst, arith, List, [], ◌∷◌, ◌++◌, Bool, true, false, cond, not, ◌||◌, ltb, Option, Some, None, true≢false}
+use Rattle.std.proofs.Common.{◌≡◌, ℕ, ◌+◌, ◌≤◌, refl, sym, ◌∙◌, ap, arith, List, [], ◌∷◌, ◌++◌, Bool, true, false, not, ◌||◌, ltb, Some, None}
 use Rattle.std.specs.Prelude.{option_and_then, sum_by}
 use Rattle.std.specs.List.{list_any}
 use Rattle.std.specs.Option.{option_map_or}
@@ -14,7 +14,7 @@ use Rattle.bus_msg.specs.declared.entry.Entry.{Entry}
 use Rattle.bus_msg.specs.declared.placed.Placed.{Placed}
 use Rattle.bus_msg.specs.Places.{Places, same_pid, unended_in}
 use Rattle.bus_msg.specs.PlacedAfter.{what}
-use Rattle.cert_sched.specs.Schedule.{items_of, done, plain_after, placement, done_after}
+use Rattle.cert_sched.specs.Schedule.{items_of, done, plain_after, placement}
 use Rattle.cert_sched.specs.Told.{cluster_lost}
 use Rattle.cert_sched.specs.Moved.{any_since_moved, is_page_at}
 use Rattle.cert_sched.specs.Steps.{start_steps, page_count}
@@ -27,7 +27,6 @@ use Rattle.cert_sched.proofs.CameLaws.{IsStandingRule}
 use Rattle.cert_sched.proofs.RisingLaws.{NoTwo}
 use Rattle.cert_sched.proofs.PidLaws.{placed_pids, apart_fewer}
 use Rattle.cert_sched.proofs.FreshLaws.{numbered}
-use Rattle.page_laws.specs.Next.{moves_next}
 use Rattle.page_laws.proofs.OneEntry.{moves_none, any_since-goes_on}
 use Rattle.page_laws.proofs.PagesStay.{page_count-snoc}
 use Rattle.page_laws.proofs.Leaving.{one_if, sum_by-le-each, sum_by-less, unended_there}

@@ -14,7 +14,7 @@ use Rattle.plain_kernel.specs.Kernel.{Kernel, process_at, with_process, emitted}
 use Rattle.plain_kernel.specs.Apply.{after_step, one_step}
 use Rattle.plain_kernel.proofs.Entries.{some_same}
 use Rattle.plain_kernel.proofs.Laws.{process_at-same}
-use Rattle.plain_kernel.proofs.Others.{small_at, small_at-emitted, one_step-here, one_step-other, one_step-small}
+use Rattle.plain_kernel.proofs.Others.{small_at, small_at-emitted, one_step-other, one_step-small}
 use Rattle.plain_kernel.proofs.Pids.{HasPids, one_step-pids}
 use Rattle.bus_msg.specs.declared.placed.Placed.{Placed}
 use Rattle.bus_msg.specs.Places.{same_pid}

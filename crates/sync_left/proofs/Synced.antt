@@ -1,5 +1,5 @@
 -- A synchronisation leaves one less: its process had made steps since its start, and starts again from where it is.
-use Rattle.std.proofs.Common.{◌≡◌, ℕ, ◌+◌, ◌≤◌, refl, sym, ◌∙◌, ap, subst, arith, List, [], ◌∷◌, ◌++◌, length, Bool, true, false, ltb, eqb-true, Option, Some, None, is_some, true≢false}
+use Rattle.std.proofs.Common.{◌≡◌, ℕ, ◌+◌, ◌≤◌, refl, sym, ◌∙◌, ap, subst, arith, List, [], ◌∷◌, ◌++◌, length, Bool, true, false, ltb, eqb-true, Option, Some, None, true≢false}
 use Rattle.std.specs.Prelude.{option_and_then, option_map, sum_by}
 use Rattle.std.specs.Option.{option_map_or}
 use Rattle.std.proofs.lemmas.Bool.Decides.{nat_tests}
@@ -15,7 +15,7 @@ use Rattle.bus_msg.specs.declared.entry.Entry.{Entry}
 use Rattle.bus_msg.specs.declared.placed.Placed.{Placed}
 use Rattle.bus_msg.specs.Places.{Places, same_pid, unended_in}
 use Rattle.bus_msg.specs.PlacedAfter.{what}
-use Rattle.cert_sched.specs.Schedule.{done, placement, process_after}
+use Rattle.cert_sched.specs.Schedule.{done, placement}
 use Rattle.cert_sched.specs.Told.{cluster_lost}
 use Rattle.cert_sched.specs.Moved.{waiting_fetches}
 use Rattle.cert_sched.specs.Steps.{silent_upto, start_steps}
