@@ -49,9 +49,6 @@ no_more : (l m p q s t : ℕ) → m ≤ l → q ≤ p → t + m ≤ s + l → 2 
 no_more l m p q s t steps pages syncs = omega (arith, steps, pages, syncs)
 
 module _ (system : System) (log : List Entry) (e : Entry) (valid : is_system system ≡ true) (legal : IsLegalBy Stands system log) (stands : Stands system log e) where
-  next : List Entry
-  next = log ++ e ∷ []
-
   -- what is left after the entry of the processes that had not ended before it
   of_those : ℕ
   of_those = sum_by (λ (q : Placed). left_of_process system (log ++ e ∷ []) q.pid) (unended_in (placement system log))

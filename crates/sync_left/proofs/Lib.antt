@@ -7,4 +7,5 @@ pub mod Changed
 pub mod Due
 pub mod Synced
 pub mod Falling
+pub mod Bounded
 mod WorkedSending

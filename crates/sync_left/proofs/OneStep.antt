@@ -88,7 +88,7 @@ most-each p k j q made = by_pid (same_pid p q) refl
 not_same : (q p : Pid) → same_pid q p ≡ false → q.0 ≢ p.0
 not_same q p is same = true≢false (sym (eq-eqb q.0 p.0 same) ∙ is)
 
-at_most_one : (b : Bool) → one_if b ≤ 1
+pub at_most_one : (b : Bool) → one_if b ≤ 1
 at_most_one true = omega arith
 at_most_one false = omega arith
 

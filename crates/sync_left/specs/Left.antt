@@ -1,5 +1,5 @@
 -- How many posts clusters may still send after a log, while no cluster is lost.
-use Rattle.std.specs.Prelude.{ℕ, ◌+◌, ◌*◌, Bool, true, false, not, nat_lt, if◌then◌else◌, List, count_by}
+use Rattle.std.specs.Prelude.{ℕ, ◌+◌, ◌*◌, Bool, true, false, not, nat_lt, if◌then◌else◌, List, [], count_by}
 use Rattle.std.specs.List.{sum_by, range_with_len}
 use Rattle.std.specs.Option.{option_map_or}
 use Rattle.t32_base.specs.declared.process.Pid.{Pid}
@@ -11,7 +11,7 @@ use Rattle.bus_msg.specs.declared.entry.What.TheVariants.{Mail, Exit, Page, Sync
 use Rattle.bus_msg.specs.declared.entry.Entry.{Entry}
 use Rattle.bus_msg.specs.declared.placed.Placed.{Placed}
 use Rattle.bus_msg.specs.Places.{unended_in}
-use Rattle.cert_sched.specs.Schedule.{placement, process_after, done_after}
+use Rattle.cert_sched.specs.Schedule.{placement, places_at_boot, process_after, done_after}
 use Rattle.cert_sched.specs.Moved.{any_since_moved, is_page_at}
 use Rattle.cert_sched.specs.Steps.{start_steps, page_count}
 use Rattle.page_laws.specs.Left.{left_of_pages}
@@ -67,3 +67,17 @@ left_of_syncs system log = sum_by (λ (q : Placed). left_of_process system log q
 -- a synchronisation of each process that has made steps.
 abbrev pub left_to_send : System → List Entry → ℕ
 left_to_send system log = 2 * log_load system log + left_of_pages system log + left_of_syncs system log
+
+-- ---- how much it can be
+
+-- every pair of a page and a step count
+abbrev pub every : ℕ → ℕ → Bool
+every i steps = true
+
+-- a synchronisation, and every page at every step count that it could have at boot
+abbrev pub most_of_process : System → Pid → ℕ
+most_of_process system p = 1 + pairs_that every (page_count system [] p) (most_steps system [] p)
+
+-- the same of all processes that a system places
+abbrev pub most_syncs : System → ℕ
+most_syncs system = sum_by (λ (q : Placed). most_of_process system q.pid) (places_at_boot system).placed
