@@ -20,8 +20,9 @@ use Rattle.cert_sched.proofs.StepLaws.{is_sent}
 use Rattle.page_laws.specs.Left.{left_of_pages}
 use Rattle.page_laws.proofs.Leaving.{left_fetch, left_most, left_page_is}
 use Rattle.cluster_core.specs.Queue.{is_lone}
-use Rattle.cluster_run.specs.Progress.{kernel_load, left_after, log_load}
-use Rattle.cluster_run.proofs.StepsLeft.{sent_leaves}
+use Rattle.sync_left.specs.Load.{kernel_load, log_load}
+use Rattle.sync_left.proofs.StepsLeft.{sent_leaves}
+use Rattle.cluster_run.specs.Progress.{left_after}
 use Rattle.cluster_run.proofs.Unlost.{by_lone}
 
 -- one part falls, and the other does not rise

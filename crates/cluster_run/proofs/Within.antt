@@ -55,12 +55,13 @@ use Rattle.bus_order.specs.View.{BusView}
 use Rattle.cluster_run.specs.Disks.{HasFailed}
 use Rattle.cluster_run.specs.Gone.{IsGone, StoodAs, StoodBeside, StoodBetween}
 use Rattle.cluster_run.specs.Along.{AllAlong, IsMember, IsOwned, IsSound}
-use Rattle.cluster_run.specs.Progress.{Falls, IsOver, Remaining, kernel_load, left_after, log_load, remaining, total, unseen}
+use Rattle.sync_left.specs.Load.{kernel_load, log_load}
+use Rattle.sync_left.proofs.StepsLeft.{after_log, one_of_all}
+use Rattle.cluster_run.specs.Progress.{Falls, IsOver, Remaining, left_after, remaining, total, unseen}
 use Rattle.cluster_run.proofs.Posting.{follows_some}
 use Rattle.cluster_run.proofs.Prefixes.{goes_on_before, legal_prefix}
 use Rattle.cluster_run.proofs.PagesWithin.{few_placed, most_pages, pages_within, placed_count}
 use Rattle.cluster_run.proofs.StepLosses.{gone_inside, same_sent}
-use Rattle.cluster_run.proofs.StepsLeft.{after_log, one_of_all}
 use Rattle.cluster_run.proofs.Together.{one_member}
 use Rattle.cluster_run.proofs.Unlost.{by_unlost, queued_lone, same_after}
 use Rattle.page_laws.specs.Left.{left_of_pages}

@@ -2,7 +2,8 @@
 use Rattle.std.proofs.Common.{◌≡◌, ◌∷◌, [], ℕ, inl, inr, refl, arith}
 use Rattle.t32_base.specs.declared.process.Pid.{Pid}
 use Rattle.proc_state.specs.State.{root_state}
-use Rattle.cluster_run.specs.Progress.{Falls, IsAtMost, Remaining, kernel_load}
+use Rattle.sync_left.specs.Load.{kernel_load}
+use Rattle.cluster_run.specs.Progress.{Falls, IsAtMost, Remaining}
 
 abbrev left : ℕ → ℕ → ℕ → ℕ → Remaining
 left words posts entries moves = record { words = words; posts = posts; entries = entries; moves = moves }

@@ -1,32 +1,20 @@
 -- How far a run has come: what is left to do, and who rests.
 use Rattle.std.specs.Prelude.{ℕ, ◌≡◌, ◌≢◌, ◌+◌, ◌-◌, ◌≤◌, ◌<◌, ◌⊎◌, true, false, List, [], length, Some, is_some}
 use Rattle.std.specs.List.{sum_by}
-use Rattle.std.specs.Option.{option_map_or}
-use Rattle.t32_base.specs.declared.process.Pid.{Pid}
 use Rattle.sys_text.specs.declared.system.System.{System}
-use Rattle.proc_state.specs.State.{ProcState}
-use Rattle.sys_calls.specs.Small.{weight}
-use Rattle.plain_kernel.specs.Kernel.{Kernel}
 use Rattle.bus_msg.specs.declared.entry.Entry.{Entry}
 use Rattle.bus_msg.specs.Places.{cluster_no, servers_in}
 use Rattle.cert_sched.specs.Moved.{waiting_fetches}
 use Rattle.cert_sched.specs.Parts.{first_of}
-use Rattle.cert_sched.specs.Schedule.{placement, plain_after}
+use Rattle.cert_sched.specs.Schedule.{placement}
 use Rattle.cert_sched.specs.Losses.{was_lost_in}
 use Rattle.cert_sched.specs.Rules.{is_over}
 use Rattle.page_laws.specs.Left.{left_of_pages}
+use Rattle.sync_left.specs.Load.{log_load}
 use Rattle.cluster_core.specs.View.{ClusterView, load}
 use Rattle.bus_order.specs.View.{BusView, is_awaited, mark_in}
 
 -- ---- what is left to do
-
--- the most steps that all processes of a kernel without failures have left
-abbrev pub kernel_load : Kernel → ℕ
-kernel_load k = sum_by (λ (e : Pid × ProcState). weight (e.1).small) k.processes
-
--- the same of the kernel after a log
-abbrev pub log_load : System → List Entry → ℕ
-log_load system log = option_map_or kernel_load (plain_after system log) 0
 
 -- the most posts that clusters may send after a log while no cluster is lost: of letters and exits one for each step that the kernel without failures has left, and one for
 -- each page that is to be asked for and each that is to come

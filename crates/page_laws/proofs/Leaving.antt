@@ -34,12 +34,12 @@ use Rattle.page_laws.proofs.Waiting.{fetch_holds, came_waited}
 
 -- ---- sums
 
-sum_by-le-each : {X : Type 0} (f g : X → ℕ) → ((x : X) → f x ≤ g x) → (xs : List X) → sum_by f xs ≤ sum_by g xs
+pub sum_by-le-each : {X : Type 0} (f g : X → ℕ) → ((x : X) → f x ≤ g x) → (xs : List X) → sum_by f xs ≤ sum_by g xs
 sum_by-le-each f g each [] = omega arith
 sum_by-le-each f g each (x ∷ xs) = omega (arith, sum_by-cons f x xs, sum_by-cons g x xs, each x, sum_by-le-each f g each xs)
 
 -- less at one that is there makes the sum less
-sum_by-less : {X : Type 0} (f g : X → ℕ) (t : X → Bool) → ((x : X) → f x ≤ g x) → ((x : X) → t x ≡ true → f x + 1 ≤ g x) → (xs : List X) → list_any t xs ≡ true → sum_by f xs + 1 ≤ sum_by g xs
+pub sum_by-less : {X : Type 0} (f g : X → ℕ) (t : X → Bool) → ((x : X) → f x ≤ g x) → ((x : X) → t x ≡ true → f x + 1 ≤ g x) → (xs : List X) → list_any t xs ≡ true → sum_by f xs + 1 ≤ sum_by g xs
 sum_by-less f g t each less [] there = absurd (true≢false (sym there))
 sum_by-less f g t each less (x ∷ xs) there = by_test (t x) refl there (sum_by-less f g t each less xs)
   where
@@ -47,7 +47,7 @@ sum_by-less f g t each less (x ∷ xs) there = by_test (t x) refl there (sum_by-
     by_test true is there more = omega (arith, sum_by-cons f x xs, sum_by-cons g x xs, less x is, sum_by-le-each f g each xs)
     by_test false is there more = let rest = more there in omega (arith, sum_by-cons f x xs, sum_by-cons g x xs, each x, rest)
 
-in_range : (a n i : ℕ) → i < n → list_any (λ j. eqb j (a + i)) (range_with_len a n) ≡ true
+pub in_range : (a n i : ℕ) → i < n → list_any (λ j. eqb j (a + i)) (range_with_len a n) ≡ true
 in_range a zero i within = absurd (omega (arith, within))
 in_range a (suc n) zero within = ap (λ b. b || list_any (λ j. eqb j (a + 0)) (range_with_len (a + 1) n)) (eq-eqb a (a + 0) (sym (add-zero a)))
 in_range a (suc n) (suc i) within =
@@ -170,7 +170,7 @@ asker_unended system log e p i stands is = unended_there p (placement system log
 
 module _ (system : System) (log : List Entry) (e : Entry) (stands : Stands system log e) (none : (r : Pid) → moves_next system log e r ≡ false) where
   -- over the same processes no more is unasked
-  most_over : (qs : List Placed) → sum_by (λ (q : Placed). unasked_of system (log ++ e ∷ []) q.pid) qs ≤ sum_by (λ (q : Placed). unasked_of system log q.pid) qs
+  pub most_over : (qs : List Placed) → sum_by (λ (q : Placed). unasked_of system (log ++ e ∷ []) q.pid) qs ≤ sum_by (λ (q : Placed). unasked_of system log q.pid) qs
   most_over qs = sum_by-le-each (λ (q : Placed). unasked_of system (log ++ e ∷ []) q.pid) (λ (q : Placed). unasked_of system log q.pid) (λ q. unasked_of-most system log e stands q.pid (none q.pid)) qs
 
   unasked-most : placement system (log ++ e ∷ []) ≡ placement system log → unasked system (log ++ e ∷ []) ≤ unasked system log
@@ -193,7 +193,7 @@ unasked-less system log e p i stands is =
         subst (λ r. unasked_of system (log ++ e ∷ []) r + 1 ≤ unasked_of system log r) here (fetch-less system log e p i stands is (none p))
 
 -- who exits is counted no more
-exit_sum : (g : Pid → ℕ) (p : Pid) (qs : List Placed)
+pub exit_sum : (g : Pid → ℕ) (p : Pid) (qs : List Placed)
     → sum_by (λ (q : Placed). g q.pid) (filter (λ (q : Placed). not q.ended) (map (after_exit p) qs)) ≤ sum_by (λ (q : Placed). g q.pid) (filter (λ (q : Placed). not q.ended) qs)
 exit_sum g p [] = omega arith
 exit_sum g p (q ∷ qs) = by_pid (same_pid q.pid p) (exit_sum g p qs)
@@ -244,7 +244,7 @@ left_page_is system log e p i bytes stands is =
     omega (arith, asked, waits, less)
 
 module _ (system : System) (log : List Entry) (e : Entry) (stands : Stands system log e) where
-  left_still : (w : What) → what e ≡ w → cluster_lost w ≡ None → placed_after (placement system log) w ≡ placement system log → waits_after (placement system log) w (waiting_fetches system log) ≡ waiting_fetches system log
+  pub left_still : (w : What) → what e ≡ w → cluster_lost w ≡ None → placed_after (placement system log) w ≡ placement system log → waits_after (placement system log) w (waiting_fetches system log) ≡ waiting_fetches system log
       → left_of_pages system (log ++ e ∷ []) ≤ left_of_pages system log
   left_still w is no_crash places waits =
       let asked = unasked-most system log e stands (moves_none system log e (ap cluster_lost is ∙ no_crash)) (placement-snoc system log e ∙ ap (placed_after (placement system log)) is ∙ places) in

@@ -32,7 +32,7 @@ use Rattle.cert_sched.specs.Schedule.{plain_after}
 use Rattle.cert_sched.specs.Steps.{emission_at}
 use Rattle.cert_sched.proofs.StepLaws.{Tells, plain_after-keeps, plain_after-sent, sent_from}
 use Rattle.sys_calls.proofs.Weighing.{Leaves, emits_leaves, next_leaves, silently_leaves}
-use Rattle.cluster_run.specs.Progress.{kernel_load, log_load}
+use Rattle.sync_left.specs.Load.{kernel_load, log_load}
 
 abbrev pub weight_of : Pid × ProcState → ℕ
 weight_of e = weight (e.1).small

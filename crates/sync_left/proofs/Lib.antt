@@ -1,0 +1,11 @@
+pub mod StepsLeft
+pub mod Pairs
+pub mod Rising
+pub mod OneStep
+pub mod OneEntry
+pub mod Changed
+pub mod Due
+pub mod Synced
+pub mod Falling
+pub mod Bounded
+mod WorkedSending
