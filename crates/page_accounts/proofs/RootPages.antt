@@ -1,6 +1,6 @@
 -- The pages of the roots of a system are those of its processes at boot.
 use Rattle.std.proofs.Common.{◌≡◌, ℕ, ◌+◌, ◌-◌, ◌*◌, ◌≤◌, Bool, true, false, ◌||◌, cond, eqb, T, is_some, List, [], ◌∷◌, ◌++◌, length, map, refl, sym, ap, ◌∙◌, arith, Option, Some, None, slice_get, eqb-true, eq-eqb, true≢false, add-zero}
-use Rattle.std.specs.Prelude.{fold, replicate, unwrap_or}
+use Rattle.std.specs.Prelude.{◌/◌, fold, replicate, unwrap_or}
 use Rattle.std.specs.List.{list_any, sum_by}
 use Rattle.std.specs.Ordering.{nat_cmp, is_eq}
 use Rattle.std.specs.declared.cmp.Ordering.{Ordering}

@@ -1,4 +1,4 @@
-use Rattle.std.proofs.Common.{ℕ, [], ◌∷◌, ◌++◌, sym, ap, ◌∙◌, subst, append_assoc}
+use Rattle.std.proofs.Common.{◌≡◌, ℕ, [], ◌∷◌, ◌++◌, sym, ap, ◌∙◌, subst, append_assoc}
 use Rattle.proc_state.specs.State.{ProcState}
 use Rattle.plain_kernel.specs.Maps.{pid_of}
 use Rattle.plain_kernel.specs.Starts.{starts_in}
