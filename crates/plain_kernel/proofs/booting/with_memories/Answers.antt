@@ -1,4 +1,4 @@
-use Rattle.std.proofs.Common.{◌≡◌, ℕ, List, ◌∙◌, ◌++◌, ap, append-nil, append_assoc, sym}
+use Rattle.std.proofs.Common.{ℕ, List, ◌∙◌, ◌++◌, ap, append-nil, append_assoc, sym}
 use Rattle.proc_state.specs.State.{ProcState}
 use Rattle.plain_kernel.specs.Starts.{starts_in}
 use Rattle.plain_kernel.proofs.Starts.{fresh_more, loads_alike, made_more}

@@ -1,4 +1,4 @@
-use Rattle.std.proofs.Common.{◌≡◌, ap, ◌*◌, arith, drop, length}
+use Rattle.std.proofs.Common.{ap, ◌*◌, arith, drop, length}
 use Rattle.std.proofs.lemmas.List.{length-take}
 use Rattle.plain_kernel.proofs.start.page_of.Goals as goal
 

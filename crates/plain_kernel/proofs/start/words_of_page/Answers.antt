@@ -1,4 +1,4 @@
-use Rattle.std.proofs.Common.{◌≡◌, arith}
+use Rattle.std.proofs.Common.{arith}
 use Rattle.plain_kernel.proofs.StartPages.{words_at}
 use Rattle.plain_kernel.proofs.start.words_of_page.Goals as goal
 

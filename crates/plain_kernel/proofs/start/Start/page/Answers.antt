@@ -1,4 +1,4 @@
-use Rattle.std.proofs.Common.{◌≡◌, ◌∙◌, ◌*◌, ℕ, List, sym, ap, arith, take, drop}
+use Rattle.std.proofs.Common.{◌∙◌, ◌*◌, ℕ, List, ap, arith, take, drop}
 use Rattle.rv_mem.specs.Memory.{page_at}
 use Rattle.proc_state.specs.State.{ProcState}
 use Rattle.plain_kernel.specs.Starts.{page_of_words}

@@ -1,4 +1,4 @@
-use Rattle.std.proofs.Common.{◌∙◌, sym, ap, arith, length}
+use Rattle.std.proofs.Common.{sym, ap, arith, length}
 use Rattle.proc_state.specs.State.{ProcState}
 use Rattle.plain_kernel.specs.declared.start.Start.TheInside.{Inside}
 use Rattle.plain_kernel.proofs.StartPages.{memory_fills}
