@@ -3,3 +3,4 @@ pub mod Numerals
 pub mod Tables
 pub mod Parting
 pub mod NameTables
+pub mod HexTable

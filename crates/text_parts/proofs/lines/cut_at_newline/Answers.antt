@@ -1,4 +1,4 @@
-use Rattle.std.proofs.Common.{◌≡◌, List, [], ℕ, arith, drop, take, ◌∙◌}
+use Rattle.std.proofs.Common.{◌≡◌, [], arith, drop, take, ◌∙◌}
 use Rattle.text_parts.specs.Lines.{is_newline, before, from}
 use Rattle.text_parts.proofs.Splitting.{cut_first, cut_none}
 use Rattle.text_parts.proofs.lines.cut_at_newline.Goals as goal
