@@ -63,8 +63,8 @@ left_of_process system log p = (if has_stepped system log p then 1 else 0) + uns
 abbrev pub left_of_syncs : System → List Entry → ℕ
 left_of_syncs system log = sum_by (λ (q : Placed). left_of_process system log q.pid) (unended_in (placement system log))
 
--- No more posts may be sent: two for each step that is left, a letter or an exit and a synchronisation; the pages that are asked for and that come; the changed pages, and
--- a synchronisation of each process that has made steps.
+-- At least as much as clusters may still send: two for each step that is left, a letter or an exit and a synchronisation; the pages that are asked for and that come; the
+-- changed pages, and a synchronisation of each process that has made steps.
 abbrev pub left_to_send : System → List Entry → ℕ
 left_to_send system log = 2 * log_load system log + left_of_pages system log + left_of_syncs system log
 
