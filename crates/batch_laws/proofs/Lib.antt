@@ -1,0 +1,10 @@
+pub mod PageSent
+pub mod WholeAccount
+pub mod RestStands
+pub mod RestMarks
+pub mod MarkedPages
+pub mod BatchBegins
+pub mod LettersRead
+pub mod NoBirths
+pub mod EntryBetween
+pub mod BatchAndOthers
