@@ -1,5 +1,5 @@
 -- An entry that comes between the posts of a batch: the process is where it was, with the letters that the entry brings it, and what is left may still be sent.
-use Rattle.std.proofs.Common.{◌≡◌, ℕ, zero, suc, ◌+◌, ◌-◌, refl, sym, ◌∙◌, ap, subst, arith, List, [], ◌∷◌, ◌++◌, length, Bool, true, false, cond, not, ◌||◌, eqb, ltb, Option, Some, None, is_some, true≢false}
+use Rattle.std.proofs.Common.{◌≡◌, ℕ, zero, suc, ◌+◌, ◌-◌, ◌<◌, refl, sym, ◌∙◌, ap, subst, arith, List, [], ◌∷◌, ◌++◌, length, Bool, true, false, cond, not, ◌||◌, eqb, ltb, Option, Some, None, is_some, true≢false}
 use Rattle.std.specs.Prelude.{max, nat_le, option_and_then}
 use Rattle.std.specs.List.{list_all}
 use Rattle.std.specs.Option.{option_map_or}
@@ -38,7 +38,7 @@ use Rattle.cert_sched.specs.Steps.{numbers_read, page_count, saved_of, silent_up
 use Rattle.cert_sched.specs.Rules.{ends_run, is_by_home, is_over}
 use Rattle.cert_sched.specs.Legal.{IsLegalBy, Stands}
 use Rattle.cert_sched.proofs.BuiltCuts.{by_home_there}
-use Rattle.cert_sched.proofs.CameLaws.{Came, Goes, came}
+use Rattle.cert_sched.proofs.CameLaws.{Came, went_on, was_cut, was_born, came}
 use Rattle.cert_sched.proofs.Induction.{is_over-snoc}
 use Rattle.cert_sched.proofs.LogLaws.{IsLegal-snoc}
 use Rattle.cert_sched.proofs.MailLaws.{silent_upto-ends}

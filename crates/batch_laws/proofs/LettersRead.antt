@@ -35,10 +35,10 @@ in_mail (a ∷ letters) mail there =
     ap (λ b. number_of (cond (not b) (a ∷ left) left)) (there a.number (ap (λ b. b || has a.number letters) (eq-eqb a.number a.number refl)))
     ∙ in_mail letters mail (λ m here. there m (ap (λ b. eqb a.number m || b) here ∙ or_true (eqb a.number m)))
   where
-    abbrev number_of : List Arrived → List ℕ
+    number_of : List Arrived → List ℕ
     number_of xs = map (λ (b : Arrived). b.number) xs
 
-    abbrev left : List Arrived
+    left : List Arrived
     left = filter (λ (b : Arrived). not (has b.number mail)) letters
 
 module _ (n : ℕ) (letters : List Letter) (mail : List Arrived) where
@@ -60,10 +60,10 @@ module _ (n : ℕ) (letters : List Letter) (mail : List Arrived) where
       ap (λ b. map (λ (c : Arrived). c.number) (cond (not b) (a ∷ left_more) left_more)) (same_there a.number (less_of a.number n parts.0))
       ∙ by_test (has a.number mail) (same_read saved parts.1)
     where
-      abbrev left : List Arrived
+      left : List Arrived
       left = filter (λ (b : Arrived). not (has b.number mail)) saved
 
-      abbrev left_more : List Arrived
+      left_more : List Arrived
       left_more = filter (λ (b : Arrived). not (has b.number (mail ++ new))) (saved ++ new)
 
       by_test : (b : Bool) → map (λ (c : Arrived). c.number) left_more ≡ map (λ (c : Arrived). c.number) left
