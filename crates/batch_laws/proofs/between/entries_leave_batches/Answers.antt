@@ -5,4 +5,4 @@ pub returns-clause-stays : goal.returns-clause-stays
 returns-clause-stays c = batch_stays
 
 pub returns-clause-reached : goal.returns-clause-reached
-returns-clause-reached c = batch_reached
+returns-clause-reached c system log e k p s t read indices valid legal stands leaves none goes_on home b is = batch_reached system log e k p s read indices valid legal stands leaves none goes_on home b t is
