@@ -8,3 +8,6 @@ pub mod LettersRead
 pub mod NoBirths
 pub mod EntryBetween
 pub mod BatchAndOthers
+pub mod OtherSenders
+pub mod LaterPages
+mod WorkedBatch

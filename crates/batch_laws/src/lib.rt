@@ -6,3 +6,4 @@ pub mod between;
 pub mod ended;
 pub mod left;
 pub mod others;
+pub mod sent;

@@ -1,0 +1,8 @@
+use Rattle.batch_laws.proofs.OtherSenders.{others_deeds, others_leave}
+use Rattle.batch_laws.proofs.between.others_tell_no_deeds.Goals as goal
+
+pub returns-clause-deeds : goal.returns-clause-deeds
+returns-clause-deeds c = others_deeds
+
+pub returns-clause-leaves : goal.returns-clause-leaves
+returns-clause-leaves c = others_leave
