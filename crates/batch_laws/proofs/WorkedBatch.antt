@@ -1,10 +1,11 @@
 -- A worked batch: a process changes its one page and is due after 64 steps. Its page is sent, the other cluster is lost, and then its state may stand. The page may not
 -- be sent a second time.
-use Rattle.std.proofs.Common.{◌≡◌, ℕ, zero, suc, ◌<◌, refl, sym, ◌∙◌, ap, arith, List, [], ◌∷◌, ◌++◌, true, false, not, ◌&&◌, None, true≢false}
+use Rattle.std.proofs.Common.{◌≡◌, ℕ, zero, suc, ◌<◌, refl, sym, arith, List, [], ◌∷◌, ◌++◌, true, false, Some, true≢false}
 use Rattle.std.specs.Option.{option_map_or}
-use Rattle.std.proofs.lemmas.Bool.{and_parts}
 use Rattle.t32_base.specs.declared.process.Pid.{Pid}
+use Rattle.t32_base.specs.Account.{page_in}
 use Rattle.sys_text.specs.declared.system.System.{System}
+use Rattle.rv_mem.specs.Memory.{page_at}
 use Rattle.proc_state.specs.State.{ProcState, root_state}
 use Rattle.sys_calls.specs.Next.{silently}
 use Rattle.plain_kernel.specs.Kernel.{boot}
@@ -17,14 +18,13 @@ use Rattle.cert_sched.specs.Appended.{entry_of}
 use Rattle.cert_sched.specs.Schedule.{plain_after, placement}
 use Rattle.cert_sched.specs.Told.{told}
 use Rattle.cert_sched.specs.Account.{account_after}
-use Rattle.cert_sched.specs.Moved.{any_since_moved, is_page_at}
 use Rattle.cert_sched.specs.Steps.{silent_upto}
 use Rattle.cert_sched.specs.Rules.{is_over}
 use Rattle.cert_sched.specs.Legal.{IsLegalBy, Stands}
 use Rattle.cert_sched.proofs.LogLaws.{IsLegal-snoc}
 use Rattle.cert_sched.proofs.Systems.{cluster, store_system, store_words}
 use Rattle.sync_laws.specs.Batched.{AllStand}
-use Rattle.batch_laws.specs.Underway.{BatchMay, page_left, posts_left}
+use Rattle.batch_laws.specs.Underway.{BatchMay, is_left, page_left, posts_left}
 use Rattle.batch_laws.proofs.PageSent.{page_sent}
 use Rattle.batch_laws.proofs.RestStands.{next_stands, rest_stands}
 use Rattle.batch_laws.proofs.OtherSenders.{batch_others}
@@ -46,7 +46,7 @@ begins : BatchMay named [] (cluster 0) it there [] (0 ∷ [])
 unfolding boot one_step steps silently plain_after placement told is_over silent_upto account_after
 begins = record { may = record { goes_on = refl; by_home = refl; reached = refl }; runs = refl; in_order = refl; within = refl; unsent = refl; account = account; reads = refl; children = refl; due = refl }
   where
-    account : (i : ℕ) → i < 1 → _ → _
+    account : (i : ℕ) → i < 1 → is_left (0 ∷ []) i ≡ false → page_in (account_after named [] it).now i ≡ Some (page_at (there.memory) i)
     account zero within other = absurd (true≢false other)
     account (suc i) within other = absurd (omega arith)
 
