@@ -1,5 +1,5 @@
 -- The posts of a batch leave the marks of every other process.
-use Rattle.std.proofs.Common.{◌≡◌, ℕ, refl, List, [], ◌∷◌, false}
+use Rattle.std.proofs.Common.{◌≡◌, ℕ, refl, List, false}
 use Rattle.t32_base.specs.declared.process.Pid.{Pid}
 use Rattle.t32_base.specs.declared.process.ClusterNo.{ClusterNo}
 use Rattle.sys_text.specs.declared.system.System.{System}

@@ -1,13 +1,11 @@
 -- An entry that comes between the posts of a batch: the process is where it was, with the letters that the entry brings it, and what is left may still be sent.
-use Rattle.std.proofs.Common.{◌≡◌, ℕ, zero, suc, ◌+◌, ◌-◌, ◌<◌, refl, sym, ◌∙◌, ap, subst, arith, List, [], ◌∷◌, ◌++◌, length, Bool, true, false, cond, not, ◌||◌, eqb, ltb, Option, Some, None, is_some, true≢false}
+use Rattle.std.proofs.Common.{◌≡◌, ℕ, zero, suc, ◌+◌, ◌-◌, ◌<◌, refl, sym, ◌∙◌, ap, subst, arith, List, [], ◌∷◌, ◌++◌, length, Bool, true, false, cond, not, ◌||◌, ltb, Option, Some, None, is_some, true≢false}
 use Rattle.std.specs.Prelude.{max, nat_le, option_and_then}
 use Rattle.std.specs.List.{list_all}
 use Rattle.std.specs.Option.{option_map_or}
 use Rattle.std.proofs.lemmas.Bool.{and_parts}
 use Rattle.t32_base.specs.declared.process.Pid.{Pid}
 use Rattle.t32_base.specs.declared.process.ClusterNo.{ClusterNo}
-use Rattle.t32_base.specs.declared.letter.Arrived.{Arrived}
-use Rattle.t32_base.specs.declared.letter.BackRec.{BackRec}
 use Rattle.t32_base.specs.declared.letter.Letter.{Letter}
 use Rattle.t32_base.specs.Account.{Account, page_in}
 use Rattle.sys_text.specs.declared.system.System.{System}
@@ -27,11 +25,8 @@ use Rattle.bus_msg.specs.Places.{Places, same_pid}
 use Rattle.bus_msg.specs.PlacedAfter.{what}
 use Rattle.roll_forward.specs.Deeds.{Deed, Sends, Bears}
 use Rattle.cert_sched.specs.CertAfter.{count_in, raised_at}
-use Rattle.cert_sched.specs.Parts.{after_last}
 use Rattle.cert_sched.specs.Schedule.{done, done_after, placement, plain_after, process_after}
-use Rattle.cert_sched.specs.Deeds.{deeds_in, is_birth_of, is_cut, letter_for, letters_to, numbered, saved_letters, start_of, starts, arrived_count}
-use Rattle.cert_sched.specs.Account.{account_after}
-use Rattle.cert_sched.specs.Moved.{any_since_moved, is_page_at}
+use Rattle.cert_sched.specs.Deeds.{deeds_in, is_birth_of, is_cut, letter_for, numbered, saved_letters, starts, arrived_count}
 use Rattle.cert_sched.specs.Scripted.{is_done}
 use Rattle.cert_sched.specs.Simulation.{IsUnended}
 use Rattle.cert_sched.specs.Steps.{numbers_read, page_count, saved_of, silent_upto}

@@ -1,5 +1,5 @@
 -- No process is born in a log in which each entry stands, since no birth can be applied yet.
-use Rattle.std.proofs.Common.{◌≡◌, refl, ◌∙◌, ap, List, [], ◌∷◌, ◌++◌, true, false, ◌&&◌, true≢false}
+use Rattle.std.proofs.Common.{◌≡◌, refl, ◌∙◌, ap, List, [], ◌∷◌, false, ◌&&◌, true≢false}
 use Rattle.std.specs.List.{list_any}
 use Rattle.std.proofs.lemmas.Grind.{flat_map-append}
 use Rattle.t32_base.specs.declared.process.Pid.{Pid}

@@ -1,5 +1,5 @@
 -- The rest of a batch may stand, post by post, and has no page that was sent already.
-use Rattle.std.proofs.Common.{◌≡◌, ℕ, ◌<◌, refl, ap, arith, List, [], ◌∷◌, ◌++◌, true, not, ltb}
+use Rattle.std.proofs.Common.{◌≡◌, ℕ, ◌<◌, refl, arith, List, [], ◌∷◌, ◌++◌, true, not, ltb}
 use Rattle.std.specs.List.{list_all}
 use Rattle.std.proofs.lemmas.Bool.{and_parts}
 use Rattle.std.proofs.lemmas.Bool.Decides.{nat_tests}

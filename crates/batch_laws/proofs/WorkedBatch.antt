@@ -1,6 +1,6 @@
 -- A worked batch: a process changes its one page and is due after 64 steps. Its page is sent, the other cluster is lost, and then its state may stand. The page may not
 -- be sent a second time.
-use Rattle.std.proofs.Common.{◌≡◌, ℕ, zero, suc, ◌<◌, refl, sym, arith, List, [], ◌∷◌, ◌++◌, true, false, Some, true≢false}
+use Rattle.std.proofs.Common.{◌≡◌, ℕ, zero, suc, ◌<◌, refl, sym, arith, List, [], ◌∷◌, ◌++◌, false, Some, true≢false}
 use Rattle.std.specs.Option.{option_map_or}
 use Rattle.t32_base.specs.declared.process.Pid.{Pid}
 use Rattle.t32_base.specs.Account.{page_in}
