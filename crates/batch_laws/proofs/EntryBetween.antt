@@ -9,7 +9,6 @@ use Rattle.t32_base.specs.declared.process.ClusterNo.{ClusterNo}
 use Rattle.t32_base.specs.declared.letter.Letter.{Letter}
 use Rattle.t32_base.specs.Account.{Account, page_in}
 use Rattle.sys_text.specs.declared.system.System.{System}
-use Rattle.sys_text.specs.Valid.{is_system}
 use Rattle.proc_state.specs.State.{ProcState, delivered, has_ended}
 use Rattle.sys_calls.specs.declared.steps.Emission.TheVariants.{Mail as Sent, Exit as Ended}
 use Rattle.sys_calls.specs.Next.{silently}
@@ -30,7 +29,7 @@ use Rattle.cert_sched.specs.Deeds.{deeds_in, is_birth_of, is_cut, letter_for, nu
 use Rattle.cert_sched.specs.Scripted.{is_done}
 use Rattle.cert_sched.specs.Simulation.{IsUnended}
 use Rattle.cert_sched.specs.Steps.{numbers_read, page_count, saved_of, silent_upto}
-use Rattle.cert_sched.specs.Rules.{ends_run, is_by_home, is_over}
+use Rattle.cert_sched.specs.Rules.{ends_run}
 use Rattle.cert_sched.specs.Legal.{IsLegalBy, Stands}
 use Rattle.cert_sched.proofs.BuiltCuts.{by_home_there}
 use Rattle.cert_sched.proofs.CameLaws.{Came, went_on, was_cut, was_born, came}
@@ -49,9 +48,9 @@ use Rattle.read_laws.specs.Numbered.{are_below, are_in_order}
 use Rattle.read_laws.proofs.LogReads.{itself, all_saved_numbered}
 use Rattle.sync_laws.specs.Sending.{is_due_since}
 use Rattle.sync_laws.proofs.Beside.{start_stays}
-use Rattle.mark_laws.specs.Beside.{LeavesMarks}
 use Rattle.mark_laws.proofs.EntryMarks.{account_stays, sent_stay, steps_stay}
-use Rattle.batch_laws.specs.Underway.{BatchMay, with_letters}
+use Rattle.batch_laws.specs.Between.{ComesBetween}
+use Rattle.batch_laws.specs.Underway.{BatchMay, posts_left, with_letters}
 use Rattle.batch_laws.proofs.LettersRead.{same_read}
 use Rattle.batch_laws.proofs.NoBirths.{no_children}
 
@@ -98,9 +97,7 @@ no_steps : (n : ℕ) (s t : ProcState) → n ≡ 0 → Replays n s [] t → t �
 no_steps zero s t none made = made.1
 no_steps (suc n) s t none made = absurd (omega (arith, none))
 
-module _ (system : System) (log : List Entry) (e : Entry) (k : ClusterNo) (p : Pid) (s : ProcState) (read indices : List ℕ) (valid : is_system system ≡ true) (legal : IsLegalBy Stands system log) (stands : Stands system log e)
-    (leaves : LeavesMarks system log e p) (tells_none : deeds_in p (what e) ≡ []) (goes_on : is_over system (log ++ e ∷ []) ≡ false) (home : is_by_home (placement system (log ++ e ∷ [])) (Cluster k) (Some p) ≡ true)
-    (b : BatchMay system log k p s read indices) where
+module _ (system : System) (log : List Entry) (e : Entry) (k : ClusterNo) (p : Pid) (s : ProcState) (read indices : List ℕ) (comes : ComesBetween system log e k p) (b : BatchMay system log k p s read indices) where
   abbrev letters : List Letter
   letters = letter_for p (what e)
 
@@ -119,7 +116,7 @@ module _ (system : System) (log : List Entry) (e : Entry) (k : ClusterNo) (p : P
   open_still = sym (silent_upto-ends system log p (s.small).steps was s there (b.may).reached) ∙ b.runs
 
   all : AllRoll system log
-  all = all_roll Stands itself system log valid legal
+  all = all_roll Stands itself system log comes.valid comes.legal
 
   rolls : Rolls system log p was
   rolls = all.rolls p was there open_still
@@ -130,10 +127,10 @@ module _ (system : System) (log : List Entry) (e : Entry) (k : ClusterNo) (p : P
   -- ---- where it is after the entry
 
   legal_more : IsLegalBy Stands system (log ++ e ∷ [])
-  legal_more = IsLegal-snoc Stands system log e legal stands
+  legal_more = IsLegal-snoc Stands system log e comes.legal comes.stands
 
   unended : IsUnended system (log ++ e ∷ []) p
-  unended = by_home_there (placement system (log ++ e ∷ [])) (Cluster k) p home
+  unended = by_home_there (placement system (log ++ e ∷ [])) (Cluster k) p comes.home
 
   done_is : (l : List Entry) (x : ProcState) → process_after system l p ≡ Some x → done_after system l p ≡ (x.small).steps
   done_is l x is = by_kernel (plain_after system l) is
@@ -144,16 +141,16 @@ module _ (system : System) (log : List Entry) (e : Entry) (k : ClusterNo) (p : P
 
   done_stays : done_after system (log ++ e ∷ []) p ≡ done_after system log p
   done_stays =
-      done_after-snoc system log e p (not_done (placement system log) (what e) (sym (is_over-snoc system log e) ∙ goes_on)) stands.applies
-      ∙ same_count p (done_after system log) (what e) leaves.no_cut tells_none
+      done_after-snoc system log e p (not_done (placement system log) (what e) (sym (is_over-snoc system log e) ∙ comes.goes_on)) (comes.stands).applies
+      ∙ same_count p (done_after system log) (what e) (comes.leaves).no_cut comes.no_deeds
 
   arrives : process_after system (log ++ e ∷ []) p ≡ Some (all_delivered was letters)
-  arrives = by_process (process_after system (log ++ e ∷ []) p) refl (unended_there Stands itself system (log ++ e ∷ []) p valid legal_more unended)
+  arrives = by_process (process_after system (log ++ e ∷ []) p) refl (unended_there Stands itself system (log ++ e ∷ []) p comes.valid legal_more unended)
     where
       went : (now : ProcState) → process_after system (log ++ e ∷ []) p ≡ Some now → Came system log (what e) p now → now ≡ all_delivered was letters
       went now after (went_on w here birth g) =
           let same : w ≡ was = some_same w was (sym here ∙ there) in
-          let made : Replays g.made w [] g.to = subst (λ ds. Replays g.made w ds g.to) tells_none g.replays in
+          let made : Replays g.made w [] g.to = subst (λ ds. Replays g.made w ds g.to) comes.no_deeds g.replays in
           let steps = (replays_counts g.made w g.to [] made).steps in
           let delivered_steps : (now.small).steps ≡ ((g.to).small).steps = ap (λ (x : ProcState). (x.small).steps) (g.arrives ∙ all_delivered-is g.to letters) in
           let before : done_after system log p ≡ (w.small).steps = done_is log w here in
@@ -161,13 +158,13 @@ module _ (system : System) (log : List Entry) (e : Entry) (k : ClusterNo) (p : P
           let stays = done_stays in
           let none : g.made ≡ 0 = omega (arith, steps, delivered_steps, before, later, stays) in
           g.arrives ∙ ap (λ x. all_delivered x letters) (no_steps g.made w g.to none made ∙ same)
-      went now after (was_cut w here runs cut same) = absurd (true≢false (sym cut ∙ leaves.no_cut))
-      went now after (was_born birth none) = absurd (true≢false (sym birth ∙ leaves.no_birth))
+      went now after (was_cut w here runs cut same) = absurd (true≢false (sym cut ∙ (comes.leaves).no_cut))
+      went now after (was_born birth none) = absurd (true≢false (sym birth ∙ (comes.leaves).no_birth))
 
       by_process : (o : Option ProcState) → process_after system (log ++ e ∷ []) p ≡ o → is_some o ≡ true → o ≡ Some (all_delivered was letters)
       by_process None after some = absurd (true≢false (sym some))
       by_process (Some now) after some =
-          ap Some (went now after (came system log e stands (two_apart system log all) p now after (unended_open Stands itself system (log ++ e ∷ []) p valid legal_more unended now after)))
+          ap Some (went now after (came system log e comes.stands (two_apart system log all) p now after (unended_open Stands itself system (log ++ e ∷ []) p comes.valid legal_more unended now after)))
 
   reached : silent_upto system (log ++ e ∷ []) p (s.small).steps ≡ Some (all_delivered s letters)
   unfolding silent_upto
@@ -181,17 +178,17 @@ module _ (system : System) (log : List Entry) (e : Entry) (k : ClusterNo) (p : P
 
   saved_more : saved_of system (log ++ e ∷ []) p ≡ saved_of system log p ++ numbered s.next letters
   saved_more =
-      ap (λ (o : Option ProcState). option_map_or (saved_letters (log ++ e ∷ []) p) o []) (start_stays system log e p leaves.no_cut leaves.no_birth ∙ rolls.started)
+      ap (λ (o : Option ProcState). option_map_or (saved_letters (log ++ e ∷ []) p) o []) (start_stays system log e p (comes.leaves).no_cut (comes.leaves).no_birth ∙ rolls.started)
       ∙ saved_letters-other log e p rolls.start quiet
       ∙ (λ j. option_map_or (saved_letters log p) (sym rolls.started j) [] ++ numbered ((sym rolls.arrived ∙ sym next) j) letters)
     where
       quiet : starts p e ≡ false
-      quiet = ap (λ b. b || is_birth_of p (what e)) leaves.no_cut ∙ leaves.no_birth
+      quiet = ap (λ b. b || is_birth_of p (what e)) (comes.leaves).no_cut ∙ (comes.leaves).no_birth
 
   below : are_below s.next (saved_of system log p) ≡ true
   below =
       ap (λ n. are_below n (saved_of system log p)) next
-      ∙ (and_parts (are_in_order (saved_of system log p)) (are_below (arrived_count log p) (saved_of system log p)) (all_saved_numbered system log p was valid legal there open_still)).1
+      ∙ (and_parts (are_in_order (saved_of system log p)) (are_below (arrived_count log p) (saved_of system log p)) (all_saved_numbered system log p was comes.valid comes.legal there open_still)).1
 
   reads_stay : numbers_read (saved_of system (log ++ e ∷ []) p) (s.mail ++ numbered s.next letters) ≡ numbers_read (saved_of system log p) s.mail
   reads_stay = ap (λ saved. numbers_read saved (s.mail ++ numbered s.next letters)) saved_more ∙ same_read s.next letters s.mail (saved_of system log p) below
@@ -202,19 +199,19 @@ module _ (system : System) (log : List Entry) (e : Entry) (k : ClusterNo) (p : P
   with_mail = record s { mail = s.mail ++ numbered s.next letters; next = s.next + length letters }
 
   due_stays : is_due_since system (log ++ e ∷ []) p with_mail ≡ is_due_since system log p s
-  due_stays = λ j. nat_le system.syncreads (length (reads_stay j)) || nat_le system.syncsteps ((s.small).steps - steps_stay system log e p leaves j)
+  due_stays = λ j. nat_le system.syncreads (length (reads_stay j)) || nat_le system.syncsteps ((s.small).steps - steps_stay system log e p comes.leaves j)
 
   counted : page_count system (log ++ e ∷ []) p ≡ page_count system log p
-  counted = page_count-snoc system log e p stands.applies
+  counted = page_count-snoc system log e p (comes.stands).applies
 
   goes : BatchMay system (log ++ e ∷ []) k p with_mail read indices
   goes = record {
-    may = record { goes_on = goes_on; by_home = home; reached = reached ∙ ap Some (all_delivered-is s letters) };
+    may = record { goes_on = comes.goes_on; by_home = comes.home; reached = reached ∙ ap Some (all_delivered-is s letters) };
     runs = b.runs;
     in_order = b.in_order;
     within = ap (λ n. list_all (λ i. ltb i n) indices) counted ∙ b.within;
-    unsent = (λ j. list_all (λ i. not (sent_stay system log e p leaves i (s.small).steps j)) indices) ∙ b.unsent;
-    account = λ i within other. ap (λ (a : Account). page_in a.now i) (account_stays system log e p leaves) ∙ b.account i (subst (λ n. i < n) counted within) other;
+    unsent = (λ j. list_all (λ i. not (sent_stay system log e p comes.leaves i (s.small).steps j)) indices) ∙ b.unsent;
+    account = λ i within other. ap (λ (a : Account). page_in a.now i) (account_stays system log e p comes.leaves) ∙ b.account i (subst (λ n. i < n) counted within) other;
     reads = b.reads ∙ sym reads_stay;
     children = no_children system (log ++ e ∷ []) p legal_more;
     due = due_stays ∙ b.due;
@@ -223,5 +220,14 @@ module _ (system : System) (log : List Entry) (e : Entry) (k : ClusterNo) (p : P
   pub batch_stays : BatchMay system (log ++ e ∷ []) k p (with_letters s letters) read indices
   batch_stays = subst (λ x. BatchMay system (log ++ e ∷ []) k p x read indices) (sym (as_delivered s letters ∙ all_delivered-is s letters)) goes
 
-  pub batch_reached : (t : ProcState) → silent_upto system (log ++ e ∷ []) p (s.small).steps ≡ Some t → BatchMay system (log ++ e ∷ []) k p t read indices
-  batch_reached t is = subst (λ x. BatchMay system (log ++ e ∷ []) k p x read indices) (some_same (all_delivered s letters) t (sym reached ∙ is)) (subst (λ x. BatchMay system (log ++ e ∷ []) k p x read indices) (sym (all_delivered-is s letters)) goes)
+  pub batch_reached : silent_upto system (log ++ e ∷ []) p (s.small).steps ≡ Some (with_letters s letters)
+  batch_reached = reached ∙ ap Some (sym (as_delivered s letters))
+
+  pub batch_found : (t : ProcState) → silent_upto system (log ++ e ∷ []) p (s.small).steps ≡ Some t → BatchMay system (log ++ e ∷ []) k p t read indices
+  batch_found t is = subst (λ x. BatchMay system (log ++ e ∷ []) k p x read indices) (some_same (with_letters s letters) t (sym batch_reached ∙ is)) batch_stays
+
+-- ---- the posts
+
+-- letters that come leave them
+pub same_posts : (k : ClusterNo) (p : Pid) (s : ProcState) (letters : List Letter) (read indices : List ℕ) → posts_left k p (with_letters s letters) read indices ≡ posts_left k p s read indices
+same_posts k p s letters read indices = ap (λ x. posts_left k p x read indices) (as_delivered s letters ∙ all_delivered-is s letters)

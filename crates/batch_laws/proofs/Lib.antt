@@ -10,4 +10,5 @@ pub mod EntryBetween
 pub mod BatchAndOthers
 pub mod OtherSenders
 pub mod LaterPages
+pub mod QueuedBatch
 mod WorkedBatch

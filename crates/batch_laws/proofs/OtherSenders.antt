@@ -1,11 +1,10 @@
 -- An entry that the home of a process did not send is nothing that the process did: no cut, no exit and no page of it, and it tells no deed of it.
-use Rattle.std.proofs.Common.{◌≡◌, ℕ, refl, sym, ◌∙◌, ap, List, [], ◌∷◌, ◌++◌, Bool, true, false, cond, eqb-true, eq-eqb, Option, Some, None, true≢false}
+use Rattle.std.proofs.Common.{◌≡◌, refl, sym, ◌∙◌, ap, List, [], ◌∷◌, ◌++◌, Bool, true, false, cond, eqb-true, eq-eqb, Option, Some, None, true≢false}
 use Rattle.std.proofs.lemmas.Bool.{and_parts}
 use Rattle.t32_base.specs.declared.process.Pid.{Pid}
 use Rattle.t32_base.specs.declared.process.ClusterNo.{ClusterNo}
 use Rattle.sys_text.specs.declared.system.System.{System}
 use Rattle.sys_text.specs.Valid.{is_system}
-use Rattle.proc_state.specs.State.{ProcState}
 use Rattle.sys_calls.specs.declared.steps.Emission.TheVariants.{Mail as Sent, Exit as Ended}
 use Rattle.bus_msg.specs.declared.entry.What.{What}
 use Rattle.bus_msg.specs.declared.entry.What.TheVariants.{Mail, Birth, Exit, Page, Sync, Fetch, PageIs, Crash, Return, Rebackup, Done, Stop}
@@ -16,7 +15,7 @@ use Rattle.bus_msg.specs.Places.{Places, same_pid}
 use Rattle.bus_msg.specs.PlacedAfter.{what}
 use Rattle.roll_forward.specs.Deeds.{Deed, Sends}
 use Rattle.cert_sched.specs.Schedule.{placement}
-use Rattle.cert_sched.specs.Deeds.{deeds_in, is_birth_of, is_cut, letter_for}
+use Rattle.cert_sched.specs.Deeds.{deeds_in, is_birth_of, is_cut}
 use Rattle.cert_sched.specs.Account.{is_exit_of}
 use Rattle.cert_sched.specs.Losses.{is_by_cluster, is_from}
 use Rattle.cert_sched.specs.Rules.{home_at, is_by, is_by_home, is_by_right, is_living, is_over}
@@ -24,8 +23,7 @@ use Rattle.cert_sched.specs.Legal.{IsLegalBy, Stands}
 use Rattle.cert_sched.proofs.CameLaws.{is_birth, not_birth, same_of}
 use Rattle.page_laws.specs.Next.{moves_next}
 use Rattle.mark_laws.specs.Beside.{LeavesMarks, is_some_page}
-use Rattle.batch_laws.specs.Underway.{BatchMay, with_letters}
-use Rattle.batch_laws.proofs.EntryBetween.{batch_stays}
+use Rattle.batch_laws.specs.Between.{ComesBetween}
 
 -- ---- who sends as the home of a process
 
@@ -97,8 +95,14 @@ module _ (system : System) (log : List Entry) (e : Entry) (k : ClusterNo) (p : P
   pub others_leave : moves_next system log e p ≡ false → LeavesMarks system log e p
   others_leave stays = record { no_cut = facts.no_cut; no_birth = none_born p (what e) no_birth; no_exit = facts.no_exit; no_page = facts.no_page; stays = stays }
 
-pub batch_others : (system : System) (log : List Entry) (e : Entry) (k : ClusterNo) (p : Pid) (s : ProcState) (read indices : List ℕ) → is_system system ≡ true → IsLegalBy Stands system log → Stands system log e → is_by_cluster k e ≡ false
-    → moves_next system log e p ≡ false → is_over system (log ++ e ∷ []) ≡ false → is_by_home (placement system (log ++ e ∷ [])) (Cluster k) (Some p) ≡ true → BatchMay system log k p s read indices
-    → BatchMay system (log ++ e ∷ []) k p (with_letters s (letter_for p (what e))) read indices
-batch_others system log e k p s read indices valid legal stands foreign stays goes_on home b =
-    batch_stays system log e k p s read indices valid legal stands (others_leave system log e k p stands foreign (b.may).by_home stays) (others_deeds system log e k p stands foreign (b.may).by_home) goes_on home b
+pub others_between : (system : System) (log : List Entry) (e : Entry) (k : ClusterNo) (p : Pid) → is_system system ≡ true → IsLegalBy Stands system log → Stands system log e → is_by_cluster k e ≡ false
+    → is_by_home (placement system log) (Cluster k) (Some p) ≡ true → moves_next system log e p ≡ false → is_over system (log ++ e ∷ []) ≡ false → is_by_home (placement system (log ++ e ∷ [])) (Cluster k) (Some p) ≡ true → ComesBetween system log e k p
+others_between system log e k p valid legal stands foreign at_home stays goes_on home = record {
+  valid = valid;
+  legal = legal;
+  stands = stands;
+  leaves = others_leave system log e k p stands foreign at_home stays;
+  no_deeds = others_deeds system log e k p stands foreign at_home;
+  goes_on = goes_on;
+  home = home;
+}

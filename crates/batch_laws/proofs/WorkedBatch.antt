@@ -27,7 +27,8 @@ use Rattle.sync_laws.specs.Batched.{AllStand}
 use Rattle.batch_laws.specs.Underway.{BatchMay, is_left, page_left, posts_left}
 use Rattle.batch_laws.proofs.PageSent.{page_sent}
 use Rattle.batch_laws.proofs.RestStands.{next_stands, rest_stands}
-use Rattle.batch_laws.proofs.OtherSenders.{batch_others}
+use Rattle.batch_laws.proofs.EntryBetween.{batch_stays}
+use Rattle.batch_laws.proofs.OtherSenders.{others_between}
 
 -- a program that stores to its page and then jumps to itself, by a name; its process is to synchronise after 64 steps
 abbrev named : System
@@ -72,7 +73,7 @@ loss_stands = record { placed = (refl, refl, refl); by_right = refl; applies = r
 -- the rest is under way still
 goes_on : BatchMay named (page_log ++ loss ∷ []) (cluster 0) it there [] []
 unfolding boot one_step steps silently plain_after placement told is_over silent_upto
-goes_on = batch_others named page_log loss (cluster 0) it there [] [] refl legal loss_stands refl refl refl refl rest
+goes_on = batch_stays named page_log loss (cluster 0) it there [] [] (others_between named page_log loss (cluster 0) it refl legal loss_stands refl refl refl refl refl) rest
 
 -- so its state may stand
 last : AllStand named (page_log ++ loss ∷ []) (posts_left (cluster 0) it there [] [])

@@ -6,4 +6,5 @@ pub mod between;
 pub mod ended;
 pub mod left;
 pub mod others;
+pub mod queued;
 pub mod sent;
