@@ -8,6 +8,7 @@ pub mod LettersRead
 pub mod NoBirths
 pub mod EntryBetween
 pub mod BatchAndOthers
+pub mod HomeStays
 pub mod OtherSenders
 pub mod LaterPages
 pub mod QueuedBatch

@@ -24,6 +24,7 @@ use Rattle.cert_sched.proofs.CameLaws.{is_birth, not_birth, same_of}
 use Rattle.page_laws.specs.Next.{moves_next}
 use Rattle.mark_laws.specs.Beside.{LeavesMarks, is_some_page}
 use Rattle.batch_laws.specs.Between.{ComesBetween}
+use Rattle.batch_laws.proofs.HomeStays.{home_stays}
 
 -- ---- who sends as the home of a process
 
@@ -96,12 +97,12 @@ module _ (system : System) (log : List Entry) (e : Entry) (k : ClusterNo) (p : P
   others_leave stays = record { no_cut = facts.no_cut; no_birth = none_born p (what e) no_birth; no_exit = facts.no_exit; no_page = facts.no_page; stays = stays }
 
 pub others_between : (system : System) (log : List Entry) (e : Entry) (k : ClusterNo) (p : Pid) → is_system system ≡ true → IsLegalBy Stands system log → Stands system log e → is_by_cluster k e ≡ false
-    → is_by_home (placement system log) (Cluster k) (Some p) ≡ true → moves_next system log e p ≡ false → is_over system (log ++ e ∷ []) ≡ false → is_by_home (placement system (log ++ e ∷ [])) (Cluster k) (Some p) ≡ true → ComesBetween system log e k p
-others_between system log e k p valid legal stands foreign at_home stays goes_on home = record {
+    → is_by_home (placement system log) (Cluster k) (Some p) ≡ true → is_over system (log ++ e ∷ []) ≡ false → is_by_home (placement system (log ++ e ∷ [])) (Cluster k) (Some p) ≡ true → ComesBetween system log e k p
+others_between system log e k p valid legal stands foreign at_home goes_on home = record {
   valid = valid;
   legal = legal;
   stands = stands;
-  leaves = others_leave system log e k p stands foreign at_home stays;
+  leaves = others_leave system log e k p stands foreign at_home (home_stays system log e k p valid legal at_home home);
   no_deeds = others_deeds system log e k p stands foreign at_home;
   goes_on = goes_on;
   home = home;

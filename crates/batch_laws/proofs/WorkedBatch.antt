@@ -73,7 +73,7 @@ loss_stands = record { placed = (refl, refl, refl); by_right = refl; applies = r
 -- the rest is under way still
 goes_on : BatchMay named (page_log ++ loss ∷ []) (cluster 0) it there [] []
 unfolding boot one_step steps silently plain_after placement told is_over silent_upto
-goes_on = batch_stays named page_log loss (cluster 0) it there [] [] (others_between named page_log loss (cluster 0) it refl legal loss_stands refl refl refl refl refl) rest
+goes_on = batch_stays named page_log loss (cluster 0) it there [] [] (others_between named page_log loss (cluster 0) it refl legal loss_stands refl refl refl refl) rest
 
 -- so its state may stand
 last : AllStand named (page_log ++ loss ∷ []) (posts_left (cluster 0) it there [] [])

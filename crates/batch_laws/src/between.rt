@@ -25,8 +25,8 @@ pub fn others_tell_no_deeds()
     ensures deeds { (system : System) (log : List Entry) (e : Entry) (k : ClusterNo) (p : Pid) → Stands system log e → is_by_cluster k e ≡ false → is_by_home (placement system log) (Cluster k) (Some p) ≡ true → deeds_in p (what e) ≡ [] }
     // So it leaves its marks, where it does not move the process,
     ensures leaves { (system : System) (log : List Entry) (e : Entry) (k : ClusterNo) (p : Pid) → Stands system log e → is_by_cluster k e ≡ false → is_by_home (placement system log) (Cluster k) (Some p) ≡ true → moves_next system log e p ≡ false → LeavesMarks system log e p }
-    // and may come between the posts of its batch.
-    ensures between { (system : System) (log : List Entry) (e : Entry) (k : ClusterNo) (p : Pid) → is_system system ≡ true → IsLegalBy Stands system log → Stands system log e → is_by_cluster k e ≡ false → is_by_home (placement system log) (Cluster k) (Some p) ≡ true → moves_next system log e p ≡ false → is_over system (log ++ e ∷ []) ≡ false → is_by_home (placement system (log ++ e ∷ [])) (Cluster k) (Some p) ≡ true → ComesBetween system log e k p }
+    // and comes between the posts of its batch where the log goes on after it and the process is still at that home.
+    ensures between { (system : System) (log : List Entry) (e : Entry) (k : ClusterNo) (p : Pid) → is_system system ≡ true → IsLegalBy Stands system log → Stands system log e → is_by_cluster k e ≡ false → is_by_home (placement system log) (Cluster k) (Some p) ≡ true → is_over system (log ++ e ∷ []) ≡ false → is_by_home (placement system (log ++ e ∷ [])) (Cluster k) (Some p) ≡ true → ComesBetween system log e k p }
 {}
 
 /// A law and no code: an entry that comes between the posts of a batch leaves it under way, with the letters that it
