@@ -10,9 +10,9 @@ ghost use Rattle.cert_sched.specs.Appended.{entry_of};
 ghost use Rattle.mark_laws.specs.Beside.{LeavesMarks};
 ghost use Rattle.batch_laws.specs.Underway.{page_left, sync_left};
 
-/// A law and no code: the posts of a batch leave the marks of every other process: each page does,
+/// A law and no code: each page of a batch leaves the marks of every other process,
 pub fn batches_leave_marks_of_others()
     ensures pages { (system : System) (log : List Entry) (k : ClusterNo) (p q : Pid) (s : ProcState) (i : ℕ) → same_pid p q ≡ false → LeavesMarks system log (entry_of system log (page_left k p s i)) q }
-    // and so does the state.
+    // and so does its state.
     ensures sync { (system : System) (log : List Entry) (k : ClusterNo) (p q : Pid) (s : ProcState) (read : List ℕ) → same_pid p q ≡ false → LeavesMarks system log (entry_of system log (sync_left k p s read)) q }
 {}

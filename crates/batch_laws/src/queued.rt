@@ -16,21 +16,20 @@ ghost use Rattle.sync_laws.specs.Marked.{IsMarked};
 ghost use Rattle.mark_laws.specs.Sent.{SentUpto};
 ghost use Rattle.batch_laws.specs.Underway.{BatchMay, posts_left};
 
-/// A law and no code: with the rest of a batch at the end of the log every other process is marked
+/// A law and no code: a process other than that of a batch, which is marked as the log says, is marked as the log says with
+/// the rest of the batch at its end,
 pub fn batches_keep_marks_of_others()
-    // where it was,
     ensures kept { (system : System) (log : List Entry) (k : ClusterNo) (p q : Pid) (s : ProcState) (read indices : List ℕ) (process : Process) → is_system system ≡ true → IsLegalBy Stands system log → BatchMay system log k p s read indices → same_pid p q ≡ false → IsUnended system log q → (process.mail).next ≤ arrived_count log q → IsMarked system log q process → IsMarked system (log_with system log (posts_left k p s read indices)) q process }
-    // and nowhere else.
+    // and the other way round.
     ensures before { (system : System) (log : List Entry) (k : ClusterNo) (p q : Pid) (s : ProcState) (read indices : List ℕ) (process : Process) → is_system system ≡ true → IsLegalBy Stands system log → BatchMay system log k p s read indices → same_pid p q ≡ false → IsUnended system log q → (process.mail).next ≤ arrived_count log q → IsMarked system (log_with system log (posts_left k p s read indices)) q process → IsMarked system log q process }
 {}
 
-/// A law and no code: with the rest of a batch at the end of the log the pages of each process were sent up to where they
-/// were,
+/// A law and no code: the rest of a batch at the end of the log has no page of a later step than was sent before it.
 pub fn batches_keep_what_was_sent()
-    // those of its process from its step count on,
+    // Of its own process none is later than its step count,
     ensures own { (system : System) (log : List Entry) (k : ClusterNo) (p : Pid) (s : ProcState) (read indices : List ℕ) (n : ℕ) → (s.small).steps ≤ n → SentUpto system log p n → SentUpto system (log_with system log (posts_left k p s read indices)) p n }
-    // and those of every other;
+    // and of any other there is none;
     ensures others { (system : System) (log : List Entry) (k : ClusterNo) (p q : Pid) (s : ProcState) (read indices : List ℕ) (n : ℕ) → same_pid p q ≡ false → SentUpto system log q n → SentUpto system (log_with system log (posts_left k p s read indices)) q n }
-    // and no further.
+    // so none was later before it, too.
     ensures before { (system : System) (log : List Entry) (k : ClusterNo) (p q : Pid) (s : ProcState) (read indices : List ℕ) (n : ℕ) → SentUpto system (log_with system log (posts_left k p s read indices)) q n → SentUpto system log q n }
 {}

@@ -10,12 +10,12 @@ ghost use Rattle.cert_sched.specs.Appended.{entry_of};
 ghost use Rattle.mark_laws.specs.Sent.{SentUpto};
 ghost use Rattle.batch_laws.specs.Underway.{page_left, sync_left};
 
-/// A law and no code: the posts of a batch leave up to which step the pages of each process were sent: each page that of
-/// its own process, from its step count on,
+/// A law and no code: no post of a batch is a page of a later step.
 pub fn batches_send_no_later_page()
+    // A page is not later than the step count of its process,
     ensures own { (system : System) (log : List Entry) (k : ClusterNo) (p : Pid) (s : ProcState) (i n : ℕ) → (s.small).steps ≤ n → SentUpto system log p n → SentUpto system (log ++ entry_of system log (page_left k p s i) ∷ []) p n }
-    // and that of any other,
+    // and is none of another process;
     ensures others { (system : System) (log : List Entry) (k : ClusterNo) (p q : Pid) (s : ProcState) (i n : ℕ) → same_pid p q ≡ false → SentUpto system log q n → SentUpto system (log ++ entry_of system log (page_left k p s i) ∷ []) q n }
-    // and the state that of all.
+    // and the state is no page.
     ensures sync { (system : System) (log : List Entry) (k : ClusterNo) (p q : Pid) (s : ProcState) (read : List ℕ) (n : ℕ) → SentUpto system log q n → SentUpto system (log ++ entry_of system log (sync_left k p s read) ∷ []) q n }
 {}
