@@ -71,10 +71,10 @@ below_append n (x ∷ xs) ys = by_test (nat_lt x.number n) (below_append n xs ys
 -- ---- the entry
 
 module _ (system : System) (log : List Entry) (e : Entry) (p : Pid) (leaves : LeavesMarks system log e p) where
-  steps_stay : start_steps system (log ++ e ∷ []) p ≡ start_steps system log p
+  pub steps_stay : start_steps system (log ++ e ∷ []) p ≡ start_steps system log p
   steps_stay = ap (λ (o : Option ProcState). option_map_or (λ (s : ProcState). (s.small).steps) o 0) (start_stays system log e p leaves.no_cut leaves.no_birth)
 
-  account_stays : account_after system (log ++ e ∷ []) p ≡ account_after system log p
+  pub account_stays : account_after system (log ++ e ∷ []) p ≡ account_after system log p
   account_stays =
       account_next system log e p (what e) refl
       ∙ ap (λ b. cond b no_pages (cond (is_cut p (what e)) (committed a) moved)) leaves.no_exit
@@ -88,7 +88,7 @@ module _ (system : System) (log : List Entry) (e : Entry) (p : Pid) (leaves : Le
       moved : Account
       moved = cond (option_map_or (is_moved p (placement system log)) (cluster_lost (what e)) false) (reverted a) (record { now = page_put p (what e) a.now; kept = a.kept })
 
-  sent_stay : (i steps : ℕ) → any_since_moved system (log ++ e ∷ []) p (is_page_at p i steps) ≡ any_since_moved system log p (is_page_at p i steps)
+  pub sent_stay : (i steps : ℕ) → any_since_moved system (log ++ e ∷ []) p (is_page_at p i steps) ≡ any_since_moved system log p (is_page_at p i steps)
   sent_stay i steps =
       any_since-goes_on system log e p (is_page_at p i steps) leaves.stays
       ∙ ap (λ b. any_since_moved system log p (is_page_at p i steps) || b) (not_at p i steps (what e) leaves.no_page)

@@ -1,0 +1,233 @@
+-- An entry that comes between the posts of a batch: the process is where it was, with the letters that the entry brings it, and what is left may still be sent.
+use Rattle.std.proofs.Common.{◌≡◌, ℕ, zero, suc, ◌+◌, ◌-◌, ◌<◌, refl, sym, ◌∙◌, ap, subst, arith, List, [], ◌∷◌, ◌++◌, length, Bool, true, false, cond, not, ◌||◌, ltb, Option, Some, None, is_some, true≢false}
+use Rattle.std.specs.Prelude.{max, nat_le, option_and_then}
+use Rattle.std.specs.List.{list_all}
+use Rattle.std.specs.Option.{option_map_or}
+use Rattle.std.proofs.lemmas.Bool.{and_parts}
+use Rattle.t32_base.specs.declared.process.Pid.{Pid}
+use Rattle.t32_base.specs.declared.process.ClusterNo.{ClusterNo}
+use Rattle.t32_base.specs.declared.letter.Letter.{Letter}
+use Rattle.t32_base.specs.Account.{Account, page_in}
+use Rattle.sys_text.specs.declared.system.System.{System}
+use Rattle.proc_state.specs.State.{ProcState, delivered, has_ended}
+use Rattle.sys_calls.specs.declared.steps.Emission.TheVariants.{Mail as Sent, Exit as Ended}
+use Rattle.sys_calls.specs.Next.{silently}
+use Rattle.sys_calls.proofs.Counting.{silently_counts}
+use Rattle.sys_calls.proofs.RunLemma.{all_delivered, silently-all_delivered}
+use Rattle.plain_kernel.specs.Kernel.{Kernel, process_at}
+use Rattle.plain_kernel.proofs.Entries.{some_same}
+use Rattle.bus_msg.specs.declared.entry.What.{What}
+use Rattle.bus_msg.specs.declared.entry.What.TheVariants.{Mail, Birth, Exit, Page, Sync, Fetch, PageIs, Crash, Return, Rebackup, Done, Stop}
+use Rattle.bus_msg.specs.declared.entry.By.TheVariants.{Cluster}
+use Rattle.bus_msg.specs.declared.entry.Entry.{Entry}
+use Rattle.bus_msg.specs.Places.{Places, same_pid}
+use Rattle.bus_msg.specs.PlacedAfter.{what}
+use Rattle.roll_forward.specs.Deeds.{Deed, Sends, Bears}
+use Rattle.cert_sched.specs.CertAfter.{count_in, raised_at}
+use Rattle.cert_sched.specs.Schedule.{done, done_after, placement, plain_after, process_after}
+use Rattle.cert_sched.specs.Deeds.{deeds_in, is_birth_of, is_cut, letter_for, numbered, saved_letters, starts, arrived_count}
+use Rattle.cert_sched.specs.Scripted.{is_done}
+use Rattle.cert_sched.specs.Simulation.{IsUnended}
+use Rattle.cert_sched.specs.Steps.{numbers_read, page_count, saved_of, silent_upto}
+use Rattle.cert_sched.specs.Rules.{ends_run}
+use Rattle.cert_sched.specs.Legal.{IsLegalBy, Stands}
+use Rattle.cert_sched.proofs.BuiltCuts.{by_home_there}
+use Rattle.cert_sched.proofs.CameLaws.{Came, went_on, was_cut, was_born, came}
+use Rattle.cert_sched.proofs.Induction.{is_over-snoc}
+use Rattle.cert_sched.proofs.LogLaws.{IsLegal-snoc}
+use Rattle.cert_sched.proofs.MailLaws.{silent_upto-ends}
+use Rattle.cert_sched.proofs.OpenLaws.{unended_open}
+use Rattle.cert_sched.proofs.RecordLaws.{saved_letters-other}
+use Rattle.cert_sched.proofs.ReplayLaws.{Replays, all_delivered-is, replays_counts}
+use Rattle.cert_sched.proofs.RollLaws.{AllRoll, Rolls, all_roll, rolls_next, two_apart}
+use Rattle.cert_sched.proofs.StepLaws.{SilentFrom, done_after-snoc, done_kernel, silent_from}
+use Rattle.cert_sched.proofs.ThereLaws.{unended_there}
+use Rattle.page_laws.proofs.OneEntry.{turned}
+use Rattle.page_laws.proofs.PagesStay.{page_count-snoc}
+use Rattle.read_laws.specs.Numbered.{are_below, are_in_order}
+use Rattle.read_laws.proofs.LogReads.{itself, all_saved_numbered}
+use Rattle.sync_laws.specs.Sending.{is_due_since}
+use Rattle.sync_laws.proofs.Beside.{start_stays}
+use Rattle.mark_laws.proofs.EntryMarks.{account_stays, sent_stay, steps_stay}
+use Rattle.batch_laws.specs.Between.{ComesBetween}
+use Rattle.batch_laws.specs.Underway.{BatchMay, posts_left, with_letters}
+use Rattle.batch_laws.proofs.LettersRead.{same_read}
+use Rattle.batch_laws.proofs.NoBirths.{no_children}
+
+-- ---- the count of a process after an entry that tells nothing that it did
+
+no_deed : (q p : Pid) (d : Deed) → cond (same_pid q p) (d ∷ []) [] ≡ [] → same_pid q p ≡ false
+no_deed q p d none = by_test (same_pid q p) none
+  where
+    by_test : (b : Bool) → cond b (d ∷ []) [] ≡ [] → b ≡ false
+    by_test true none = cc
+    by_test false none = refl
+
+-- another process raises its own count
+raises_other : (q p : Pid) (n : ℕ) (counts : Pid → ℕ) → same_pid q p ≡ false → raised_at (Some (q, n)) counts p ≡ counts p
+raises_other q p n counts apart = ap (λ b. cond b (max n (counts q)) (counts p)) (turned p.0 q.0 ∙ apart)
+
+same_count : (p : Pid) (counts : Pid → ℕ) (w : What) → is_cut p w ≡ false → deeds_in p w ≡ [] → raised_at (count_in w) counts p ≡ counts p
+same_count p counts (Mail at letter) no_cut none = raises_other letter.from p at counts (no_deed letter.from p (Sends (Sent letter)) none)
+same_count p counts (Birth parent at child end) no_cut none = raises_other parent p at counts (no_deed parent p (Bears child) none)
+same_count p counts (Exit q at end) no_cut none = raises_other q p at counts (no_deed q p (Sends (Ended end)) none)
+same_count p counts (Page q at index bytes) no_cut none = refl
+same_count p counts (Sync q small read took) no_cut none = raises_other q p small.steps counts no_cut
+same_count p counts (Fetch q index) no_cut none = refl
+same_count p counts (PageIs q index bytes) no_cut none = refl
+same_count p counts (Crash k cause) no_cut none = refl
+same_count p counts (Return k) no_cut none = refl
+same_count p counts (Rebackup to true []) no_cut none = refl
+same_count p counts (Rebackup to true (r ∷ rs)) no_cut none = raises_other r.pid p _ counts no_cut
+same_count p counts (Rebackup to false recs) no_cut none = refl
+same_count p counts (Done rests) no_cut none = refl
+same_count p counts Stop no_cut none = refl
+
+not_done : (places : Places) (w : What) → ends_run places w ≡ false → is_done w ≡ false
+not_done places (Done rests) goes_on = goes_on
+not_done places _ goes_on = refl
+
+-- letters that come, in one step
+as_delivered : (s : ProcState) (letters : List Letter) → with_letters s letters ≡ all_delivered s letters
+as_delivered s [] = refl
+as_delivered s (l ∷ letters) = as_delivered (delivered s l) letters
+
+-- no steps lead where it is
+no_steps : (n : ℕ) (s t : ProcState) → n ≡ 0 → Replays n s [] t → t ≡ s
+no_steps zero s t none made = made.1
+no_steps (suc n) s t none made = absurd (omega (arith, none))
+
+module _ (system : System) (log : List Entry) (e : Entry) (k : ClusterNo) (p : Pid) (s : ProcState) (read indices : List ℕ) (comes : ComesBetween system log e k p) (b : BatchMay system log k p s read indices) where
+  abbrev letters : List Letter
+  letters = letter_for p (what e)
+
+  -- ---- where the process was after the log
+
+  from : SilentFrom system log p (s.small).steps s
+  from = silent_from system log p (s.small).steps s (b.may).reached
+
+  abbrev was : ProcState
+  was = from.was
+
+  there : process_after system log p ≡ Some was
+  there = ap (option_and_then (λ k. process_at k p)) from.before ∙ from.there
+
+  open_still : has_ended (was.small).status ≡ false
+  open_still = sym (silent_upto-ends system log p (s.small).steps was s there (b.may).reached) ∙ b.runs
+
+  all : AllRoll system log
+  all = all_roll Stands itself system log comes.valid comes.legal
+
+  rolls : Rolls system log p was
+  rolls = all.rolls p was there open_still
+
+  next : s.next ≡ arrived_count log p
+  next = (silently_counts ((s.small).steps - done from.kernel p) was s from.silent).next ∙ rolls_next system log p was rolls
+
+  -- ---- where it is after the entry
+
+  legal_more : IsLegalBy Stands system (log ++ e ∷ [])
+  legal_more = IsLegal-snoc Stands system log e comes.legal comes.stands
+
+  unended : IsUnended system (log ++ e ∷ []) p
+  unended = by_home_there (placement system (log ++ e ∷ [])) (Cluster k) p comes.home
+
+  done_is : (l : List Entry) (x : ProcState) → process_after system l p ≡ Some x → done_after system l p ≡ (x.small).steps
+  done_is l x is = by_kernel (plain_after system l) is
+    where
+      by_kernel : (o : Option Kernel) → option_and_then (λ k. process_at k p) o ≡ Some x → option_map_or (λ k. done k p) o 0 ≡ (x.small).steps
+      by_kernel None is = cc
+      by_kernel (Some j) is = ap (λ (o : Option ProcState). option_map_or (λ (s : ProcState). (s.small).steps) o 0) is
+
+  done_stays : done_after system (log ++ e ∷ []) p ≡ done_after system log p
+  done_stays =
+      done_after-snoc system log e p (not_done (placement system log) (what e) (sym (is_over-snoc system log e) ∙ comes.goes_on)) (comes.stands).applies
+      ∙ same_count p (done_after system log) (what e) (comes.leaves).no_cut comes.no_deeds
+
+  arrives : process_after system (log ++ e ∷ []) p ≡ Some (all_delivered was letters)
+  arrives = by_process (process_after system (log ++ e ∷ []) p) refl (unended_there Stands itself system (log ++ e ∷ []) p comes.valid legal_more unended)
+    where
+      went : (now : ProcState) → process_after system (log ++ e ∷ []) p ≡ Some now → Came system log (what e) p now → now ≡ all_delivered was letters
+      went now after (went_on w here birth g) =
+          let same : w ≡ was = some_same w was (sym here ∙ there) in
+          let made : Replays g.made w [] g.to = subst (λ ds. Replays g.made w ds g.to) comes.no_deeds g.replays in
+          let steps = (replays_counts g.made w g.to [] made).steps in
+          let delivered_steps : (now.small).steps ≡ ((g.to).small).steps = ap (λ (x : ProcState). (x.small).steps) (g.arrives ∙ all_delivered-is g.to letters) in
+          let before : done_after system log p ≡ (w.small).steps = done_is log w here in
+          let later : done_after system (log ++ e ∷ []) p ≡ (now.small).steps = done_is (log ++ e ∷ []) now after in
+          let stays = done_stays in
+          let none : g.made ≡ 0 = omega (arith, steps, delivered_steps, before, later, stays) in
+          g.arrives ∙ ap (λ x. all_delivered x letters) (no_steps g.made w g.to none made ∙ same)
+      went now after (was_cut w here runs cut same) = absurd (true≢false (sym cut ∙ (comes.leaves).no_cut))
+      went now after (was_born birth none) = absurd (true≢false (sym birth ∙ (comes.leaves).no_birth))
+
+      by_process : (o : Option ProcState) → process_after system (log ++ e ∷ []) p ≡ o → is_some o ≡ true → o ≡ Some (all_delivered was letters)
+      by_process None after some = absurd (true≢false (sym some))
+      by_process (Some now) after some =
+          ap Some (went now after (came system log e comes.stands (two_apart system log all) p now after (unended_open Stands itself system (log ++ e ∷ []) p comes.valid legal_more unended now after)))
+
+  reached : silent_upto system (log ++ e ∷ []) p (s.small).steps ≡ Some (all_delivered s letters)
+  unfolding silent_upto
+  reached =
+      let steps : (s.small).steps - done_after system (log ++ e ∷ []) p ≡ (s.small).steps - done from.kernel p =
+      ap (λ n. (s.small).steps - n) (done_stays ∙ done_kernel system log from.kernel p from.before) in
+      (λ j. option_and_then (silently (steps j)) (arrives j))
+      ∙ silently-all_delivered ((s.small).steps - done from.kernel p) was s letters from.silent
+
+  -- ---- the letters
+
+  saved_more : saved_of system (log ++ e ∷ []) p ≡ saved_of system log p ++ numbered s.next letters
+  saved_more =
+      ap (λ (o : Option ProcState). option_map_or (saved_letters (log ++ e ∷ []) p) o []) (start_stays system log e p (comes.leaves).no_cut (comes.leaves).no_birth ∙ rolls.started)
+      ∙ saved_letters-other log e p rolls.start quiet
+      ∙ (λ j. option_map_or (saved_letters log p) (sym rolls.started j) [] ++ numbered ((sym rolls.arrived ∙ sym next) j) letters)
+    where
+      quiet : starts p e ≡ false
+      quiet = ap (λ b. b || is_birth_of p (what e)) (comes.leaves).no_cut ∙ (comes.leaves).no_birth
+
+  below : are_below s.next (saved_of system log p) ≡ true
+  below =
+      ap (λ n. are_below n (saved_of system log p)) next
+      ∙ (and_parts (are_in_order (saved_of system log p)) (are_below (arrived_count log p) (saved_of system log p)) (all_saved_numbered system log p was comes.valid comes.legal there open_still)).1
+
+  reads_stay : numbers_read (saved_of system (log ++ e ∷ []) p) (s.mail ++ numbered s.next letters) ≡ numbers_read (saved_of system log p) s.mail
+  reads_stay = ap (λ saved. numbers_read saved (s.mail ++ numbered s.next letters)) saved_more ∙ same_read s.next letters s.mail (saved_of system log p) below
+
+  -- ---- the batch
+
+  abbrev with_mail : ProcState
+  with_mail = record s { mail = s.mail ++ numbered s.next letters; next = s.next + length letters }
+
+  due_stays : is_due_since system (log ++ e ∷ []) p with_mail ≡ is_due_since system log p s
+  due_stays = λ j. nat_le system.syncreads (length (reads_stay j)) || nat_le system.syncsteps ((s.small).steps - steps_stay system log e p comes.leaves j)
+
+  counted : page_count system (log ++ e ∷ []) p ≡ page_count system log p
+  counted = page_count-snoc system log e p (comes.stands).applies
+
+  goes : BatchMay system (log ++ e ∷ []) k p with_mail read indices
+  goes = record {
+    may = record { goes_on = comes.goes_on; by_home = comes.home; reached = reached ∙ ap Some (all_delivered-is s letters) };
+    runs = b.runs;
+    in_order = b.in_order;
+    within = ap (λ n. list_all (λ i. ltb i n) indices) counted ∙ b.within;
+    unsent = (λ j. list_all (λ i. not (sent_stay system log e p comes.leaves i (s.small).steps j)) indices) ∙ b.unsent;
+    account = λ i within other. ap (λ (a : Account). page_in a.now i) (account_stays system log e p comes.leaves) ∙ b.account i (subst (λ n. i < n) counted within) other;
+    reads = b.reads ∙ sym reads_stay;
+    children = no_children system (log ++ e ∷ []) p legal_more;
+    due = due_stays ∙ b.due;
+  }
+
+  pub batch_stays : BatchMay system (log ++ e ∷ []) k p (with_letters s letters) read indices
+  batch_stays = subst (λ x. BatchMay system (log ++ e ∷ []) k p x read indices) (sym (as_delivered s letters ∙ all_delivered-is s letters)) goes
+
+  pub batch_reached : silent_upto system (log ++ e ∷ []) p (s.small).steps ≡ Some (with_letters s letters)
+  batch_reached = reached ∙ ap Some (sym (as_delivered s letters))
+
+  pub batch_found : (t : ProcState) → silent_upto system (log ++ e ∷ []) p (s.small).steps ≡ Some t → BatchMay system (log ++ e ∷ []) k p t read indices
+  batch_found t is = subst (λ x. BatchMay system (log ++ e ∷ []) k p x read indices) (some_same (with_letters s letters) t (sym batch_reached ∙ is)) batch_stays
+
+-- ---- the posts
+
+-- letters that come leave them
+pub same_posts : (k : ClusterNo) (p : Pid) (s : ProcState) (letters : List Letter) (read indices : List ℕ) → posts_left k p (with_letters s letters) read indices ≡ posts_left k p s read indices
+same_posts k p s letters read indices = ap (λ x. posts_left k p x read indices) (as_delivered s letters ∙ all_delivered-is s letters)
