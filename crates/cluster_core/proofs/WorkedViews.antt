@@ -188,12 +188,12 @@ unfolding boot one_step steps silently plain_after placement told silent_upto em
 near_writer_marked = record { since_start = refl; read = refl; clean = one_page _ (λ none. refl); unsent = one_page _ (λ marked. absurd (true≢false (sym marked))) }
 
 -- neither has read a letter
-near_marks : HoldsMarks near_system [] (near_view [])
+near_marks : HoldsMarks IsMarked near_system [] (near_view [])
 unfolding boot one_step steps silently plain_after placement told silent_upto emission_at account_after
-near_marks p h at = both _ _ (λ p h. MarkedIfThere near_system (with_queue near_system [] (near_post ∷ [])) p (unended_process h)) near_reader_marked near_writer_marked p h at
+near_marks p h at = both _ _ (λ p h. MarkedIfThere IsMarked near_system (with_queue near_system [] (near_post ∷ [])) p (unended_process h)) near_reader_marked near_writer_marked p h at
 
 -- it has not read the letter that has yet to arrive
-near_refused : HoldsMarks near_system [] (near_view (0 ∷ [])) → ⊥
+near_refused : HoldsMarks IsMarked near_system [] (near_view (0 ∷ [])) → ⊥
 unfolding boot one_step steps silently plain_after placement told silent_upto emission_at account_after
 near_refused marks = differ 1 0 refl (ap length (marks (pid 16) (Runs (record near_reader { read = 0 ∷ [] })) refl).read)
 
