@@ -1,0 +1,4 @@
+pub mod OwnCounts
+pub mod StepLimits
+pub mod SendingLimits
+pub mod SyncLimits
