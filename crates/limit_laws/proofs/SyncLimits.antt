@@ -84,11 +84,7 @@ pub batch_keeps : (system : System) (log : List Entry) (p : Pid) (process : Proc
 unfolding pages
 batch_keeps system log p process by runs within = pages_keep system p process by (marked_pages process) log (sync_post process by ∷ []) (last, tt)
   where
-    paged : List Entry
-    paged = log_with system log (page_posts process by)
-
-    last : KeepsLimits system paged (sync_post process by).what
-    unfolding paged
+    last : KeepsLimits system (log_with system log (page_posts process by)) (sync_post process by).what
     last =
-        subst (λ q. KeepsLimits system paged (Sync q process.small process.read None)) (sym (own_pid system log p (state_of process) (process.small).steps runs.reached))
-        (later_within system log p process runs within paged process.read None (pages_same system p process by (marked_pages process) log))
+        subst (λ q. KeepsLimits system (log_with system log (page_posts process by)) (Sync q process.small process.read None)) (sym (own_pid system log p (state_of process) (process.small).steps runs.reached))
+        (later_within system log p process runs within (log_with system log (page_posts process by)) process.read None (pages_same system p process by (marked_pages process) log))
