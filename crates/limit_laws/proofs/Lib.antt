@@ -1,0 +1,5 @@
+pub mod OwnCounts
+pub mod StepLimits
+pub mod SendingLimits
+pub mod SyncLimits
+mod WorkedLimits
