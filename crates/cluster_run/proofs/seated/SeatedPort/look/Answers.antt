@@ -27,7 +27,7 @@ returns-then-not-is_due-clause-later g c =
     let k = c.args.cluster.now.number in
     let before = seen c.args.self.now.seat in
     elim c.then-not-is_due.branch [
-      then-not-is_due-via-then-not-is_due w ↦
+      | then-not-is_due-via-then-not-is_due w ↦
           (λ i. arc_value (w.self-is i).system.now, λ i. (w.self-is i).script.now, subst (GrowsFor k before) (sym (λ i. seen (w.self-is i).seat)) (grows_none k before))
       | then-not-is_due-via-else-not-is_due+then-not-has_grown w ↦ (
         λ i. arc_value (w.self-is i).system.now,
