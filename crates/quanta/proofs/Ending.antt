@@ -1,7 +1,7 @@
 -- What the rest of a quantum answers, where it ends by no emission.
-use Rattle.std.proofs.Common.{◌≡◌, ℕ, zero, suc, ◌+◌, ◌≤◌, ◌∙◌, refl, sym, ap, subst, arith, true, false, not, ◌&&◌, ◌||◌, Bool, cond, eqb, ltb, ne_eqb, ◌⊎◌, inl, inr, Ok, Err}
+use Rattle.std.proofs.Common.{◌≡◌, ℕ, zero, suc, ◌+◌, ◌≤◌, ◌∙◌, refl, sym, ap, subst, arith, true, false, not, ◌||◌, Bool, cond, eqb, ne_eqb, Ok, Err}
 use Rattle.std.specs.Prelude.{Result}
-use Rattle.std.proofs.lemmas.Bool.{and_cases, both_ways, eq-eqb, ltb-false, not-false, not_from_false, or_left, or_right}
+use Rattle.std.proofs.lemmas.Bool.{both_ways, eq-eqb, not_from_false, or_left, or_right}
 use Rattle.t32_base.specs.declared.streams.NoMemory.{NoMemory}
 use Rattle.proc_state.specs.declared.process.Process.{Process}
 use Rattle.proc_state.specs.State.{state_of}
@@ -14,14 +14,23 @@ use Rattle.quanta.specs.Quantum.{RunsOn, RunsRest, TellsRefusal, goes_no_further
 
 -- ---- a quantum that is over
 
+-- one that has no step
 no_step_ends : (limits : Limits) (made : ℕ) (p : Process) → has_step (next_step (state_of p)) ≡ false → goes_no_further limits 64 made p ≡ true
-no_step_ends limits made p none = or_right _ _ (or_right _ _ (not_from_false _ none))
+no_step_ends limits made p none =
+    let stuck : Bool = not (has_step (next_step (state_of p))) in
+    or_right (eqb made 64) (is_due limits p || stuck) (or_right (is_due limits p) stuck (not_from_false (has_step (next_step (state_of p))) none))
 
+-- one that is due
 due_ends : (limits : Limits) (made : ℕ) (p : Process) → is_due limits p ≡ true → goes_no_further limits 64 made p ≡ true
-due_ends limits made p due = or_right _ _ (or_left _ _ due)
+due_ends limits made p due =
+    let stuck : Bool = not (has_step (next_step (state_of p))) in
+    or_right (eqb made 64) (is_due limits p || stuck) (or_left (is_due limits p) stuck due)
 
+-- one of as many steps as there may be
 full_ends : (limits : Limits) (made : ℕ) (p : Process) → 64 ≤ made → made ≤ 64 → goes_no_further limits 64 made p ≡ true
-full_ends limits made p full few = or_left _ _ (eq-eqb made 64 (omega (arith, full, few)))
+full_ends limits made p full few =
+    let stuck : Bool = not (has_step (next_step (state_of p))) in
+    or_left (eqb made 64) (is_due limits p || stuck) (eq-eqb made 64 (omega (arith, full, few)))
 
 -- ---- what is answered then
 
@@ -44,25 +53,21 @@ none_left limits before m (suc n) old mid new count silent few stood none same =
     let has_moved : RunsRest limits 64 before old (Ok Moved) new = subst (λ p. RunsRest limits 64 before old (Ok Moved) p) (sym same) there in
     subst (λ b. RunsRest limits 64 before old (Ok (cond b Stuck Moved)) new) (sym (ne_eqb (suc n) 0 (λ h. omega (arith, h)))) has_moved
 
--- it made as many steps as a quantum may have, or is due
-pub over : (limits : Limits) (before m made : ℕ) (old new : Process) → made ≡ before + m → RunsOn m old new → made ≤ 64 → (m ≡ 0 → new ≡ old) → (before ≡ 0 → is_due limits old ≡ false)
-    → (ltb made 64 && not (is_due limits new)) ≡ false → RunsRest limits 64 before old (Ok Moved) new
-over limits before m made old new count silent few stood begins stops = by_case (and_cases (ltb made 64) (not (is_due limits new)) stops)
+-- it made as many steps as a quantum may have
+pub over_full : (limits : Limits) (before m made : ℕ) (old new : Process) → made ≡ before + m → RunsOn m old new → made ≤ 64 → 64 ≤ made → RunsRest limits 64 before old (Ok Moved) new
+over_full limits before m made old new count silent few full = moved limits before m made old new count (omega (arith, full)) few silent (full_ends limits made new full few)
+
+-- it is due, and was not where it made none
+pub over_due : (limits : Limits) (before m made : ℕ) (old new : Process) → made ≡ before + m → RunsOn m old new → made ≤ 64 → (m ≡ 0 → new ≡ old) → (before ≡ 0 → is_due limits old ≡ false) → is_due limits new ≡ true
+    → RunsRest limits 64 before old (Ok Moved) new
+over_due limits before m made old new count silent few stood begins due = moved limits before m made old new count (some made refl) few silent (due_ends limits made new due)
   where
-    some_due : (n : ℕ) → made ≡ n → is_due limits new ≡ true → 1 ≤ n
-    some_due zero is due =
+    some : (n : ℕ) → made ≡ n → 1 ≤ n
+    some zero is =
         let no_more : m ≡ 0 = omega (arith, count, is) in
         let unstarted : before ≡ 0 = omega (arith, count, is) in
         absurd (both_ways (is_due limits new) (ap (is_due limits) (stood no_more) ∙ begins unstarted) due)
-    some_due (suc n) is due = omega arith
-
-    by_case : (ltb made 64 ≡ false) ⊎ (not (is_due limits new) ≡ false) → RunsRest limits 64 before old (Ok Moved) new
-    by_case (inl full) =
-        let all : 64 ≤ made = ltb-false made 64 full in
-        moved limits before m made old new count (omega (arith, all)) few silent (full_ends limits made new all few)
-    by_case (inr undue) =
-        let due : is_due limits new ≡ true = not-false (is_due limits new) undue in
-        moved limits before m made old new count (some_due made refl due) few silent (due_ends limits made new due)
+    some (suc n) is = omega arith
 
 -- memory was refused for the next step
 pub refused_then : (limits : Limits) (before m made : ℕ) (old mid new : Process) (r : Result Ran NoMemory) → made ≡ before + m → RunsOn m old mid → made ≤ 64 → (m ≡ 0 → mid ≡ old) → new ≡ mid → TellsRefusal made r
