@@ -18,19 +18,19 @@ use Rattle.quanta.specs.Quantum.{RunsOn, RunsRest, TellsRefusal, goes_no_further
 no_step_ends : (limits : Limits) (made : ℕ) (p : Process) → has_step (next_step (state_of p)) ≡ false → goes_no_further limits 64 made p ≡ true
 no_step_ends limits made p none =
     let stuck : Bool = not (has_step (next_step (state_of p))) in
-    or_right (eqb made 64) (is_due limits p || stuck) (or_right (is_due limits p) stuck (not_from_false (has_step (next_step (state_of p))) none))
+    or_right (eqb made 64 || is_due limits p) stuck (not_from_false (has_step (next_step (state_of p))) none)
 
 -- one that is due
 due_ends : (limits : Limits) (made : ℕ) (p : Process) → is_due limits p ≡ true → goes_no_further limits 64 made p ≡ true
 due_ends limits made p due =
     let stuck : Bool = not (has_step (next_step (state_of p))) in
-    or_right (eqb made 64) (is_due limits p || stuck) (or_left (is_due limits p) stuck due)
+    or_left (eqb made 64 || is_due limits p) stuck (or_right (eqb made 64) (is_due limits p) due)
 
 -- one of as many steps as there may be
 full_ends : (limits : Limits) (made : ℕ) (p : Process) → 64 ≤ made → made ≤ 64 → goes_no_further limits 64 made p ≡ true
 full_ends limits made p full few =
     let stuck : Bool = not (has_step (next_step (state_of p))) in
-    or_left (eqb made 64) (is_due limits p || stuck) (eq-eqb made 64 (omega (arith, full, few)))
+    or_left (eqb made 64 || is_due limits p) stuck (or_left (eqb made 64) (is_due limits p) (eq-eqb made 64 (omega (arith, full, few))))
 
 -- ---- what is answered then
 
