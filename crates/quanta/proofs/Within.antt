@@ -1,5 +1,5 @@
 -- Steps of a process that is not due leave it within its limits.
-use Rattle.std.proofs.Common.{◌≡◌, ℕ, ◌+◌, ◌-◌, ◌≤◌, ◌<◌, ◌∙◌, arith, ap, true, false, Bool, cond, leb, [], ◌∷◌, length, Option, Some, None, sym, subst}
+use Rattle.std.proofs.Common.{◌≡◌, ℕ, ◌+◌, ◌-◌, ◌≤◌, ◌<◌, ◌∙◌, arith, ap, true, false, Bool, cond, leb, [], ◌∷◌, length, Option, Some, None}
 use Rattle.std.proofs.lemmas.Bool.{and_from, and_parts, le-leb, leb-true, leb-false, or_parts}
 use Rattle.std.proofs.lemmas.List.{length-append}
 use Rattle.t32_base.specs.declared.letter.Arrived.{Arrived}

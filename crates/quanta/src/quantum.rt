@@ -28,7 +28,12 @@ pub const MOST: u32 = 64;
 /// to a read that waits, or until it is due. Each step is made by a process that is not due; where none was made
 /// before, the caller has synchronised one that was. A later step for which memory is refused is not made; where it is
 /// the first of the quantum, nothing has changed.
-pub fn run_rest(alloc: Global, p: &mut Process, limits: Limits, before: u32) -> Result<Ran, NoMemory>
+pub fn run_rest(
+    alloc: Global,
+    p: &mut Process,
+    limits: Limits,
+    before: u32,
+) -> Result<Ran, NoMemory>
     requires few { before ≤ 64 }
     requires begins { before ≡ 0 → is_due limits p.old ≡ false }
     ensures runs { RunsRest limits 64 before p.old result p.new }

@@ -53,18 +53,26 @@ fn made(alloc: Global, limits: Limits) -> Result<Option<Made>, NoMemory> {
         return Ok(None);
     }
     let ran = run_rest(alloc, &mut p, limits, 0)?;
-    Ok(Some((
-        matches!(ran, Ran::Moved),
-        p.small.steps,
-        p.read.len(),
-    )))
+    Ok(Some((matches!(ran, Ran::Moved), p.small.steps, p.read.len())))
 }
 
 fn three_made(alloc: Global) -> Result<[Option<Made>; 3], NoMemory> {
     Ok([
         made(alloc, Limits { reads: 9, steps: 3 })?,
-        made(alloc, Limits { reads: 1, steps: 99 })?,
-        made(alloc, Limits { reads: 9, steps: 99 })?,
+        made(
+            alloc,
+            Limits {
+                reads: 1,
+                steps: 99,
+            },
+        )?,
+        made(
+            alloc,
+            Limits {
+                reads: 9,
+                steps: 99,
+            },
+        )?,
     ])
 }
 

@@ -53,7 +53,7 @@ pub returns-clause-runs : goal.returns-clause-runs
 returns-clause-runs c =
     let made : c.steps.made ≡ c.args.before + (c.steps.made - c.args.before) = omega (arith, c.steps.invariant.from) in
     elim c.steps-test.branch [
-      then-steps-test+else-not-due w ↦
+      | then-steps-test+else-not-due w ↦
           over_due c.args.limits c.args.before (c.steps.made - c.args.before) c.steps.made c.args.p.now c.steps.p made c.steps.invariant.runs c.steps.invariant.few c.steps.invariant.unmoved c.requires.begins
           (sym w.due.ensures ∙ w.if-not-due.false)
       | else-steps-test w ↦
