@@ -1,0 +1,4 @@
+pub mod Silence
+mod RunningOn
+pub mod Ending
+pub mod Within

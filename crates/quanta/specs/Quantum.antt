@@ -1,0 +1,60 @@
+-- A quantum of a process that runs, up to the step by which it is due: steps that were made before, silent steps, and at most one emission at their end.
+use Rattle.std.specs.Prelude.{ℕ, ◌+◌, ◌≤◌, ◌<◌, ◌≡◌, Bool, true, false, not, ◌||◌, ◌==◌, List, Some, Result, Ok, Err}
+use Rattle.t32_base.specs.declared.streams.NoMemory.{NoMemory}
+use Rattle.t32_base.specs.declared.process.Pid.{Pid}
+use Rattle.t32_base.specs.declared.process.Counts.{Counts}
+use Rattle.proc_state.specs.declared.process.Process.{Process}
+use Rattle.proc_state.specs.State.{state_of}
+use Rattle.sys_calls.specs.declared.steps.Emission.{Emission}
+use Rattle.sys_calls.specs.Calls.{Emits}
+use Rattle.sys_calls.specs.Next.{next_step, has_step, silently}
+use Rattle.roll_forward.specs.Advancing.{going, rolled_on}
+use Rattle.quanta.specs.declared.limits.Limits.{Limits}
+use Rattle.quanta.specs.declared.quantum.Ran.{Ran}
+use Rattle.quanta.specs.declared.quantum.Ran.TheVariants.{Moved, Refused, Sent, Stuck}
+use Rattle.quanta.specs.Limited.{is_due}
+
+-- n silent steps of a process, with the marks of its pages and what it has read, whatever is left to withhold
+pub record RunsOn (n : ℕ) (p q : Process) : Type 0 where
+  pub silent : silently n (state_of p) ≡ Some (state_of q)
+  pub ran : (counts : Counts) (births : List Pid) → rolled_on n (going p counts births) ≡ Some (going q counts births)
+  pub since : q.since ≡ p.since
+
+-- a quantum of so many steps goes no further: it has as many as it may have, or the process is due, or has no step
+abbrev pub goes_no_further : Limits → ℕ → ℕ → Process → Bool
+goes_no_further limits most made p = (made == most) || is_due limits p || not (has_step (next_step (state_of p)))
+
+-- silent steps, of which there is one at least with those that were made before
+pub record Moves (most made : ℕ) (old new : Process) : Type 0 where
+  pub steps : ℕ
+  pub some : 1 ≤ made + steps
+  pub few : made + steps ≤ most
+  pub silent : RunsOn steps old new
+
+-- as many as may be made
+pub record MovesOn (limits : Limits) (most made : ℕ) (old new : Process) : Type 0 where
+  pub moves : Moves most made old new
+  pub ends : goes_no_further limits most (made + moves.steps) new ≡ true
+
+-- silent steps, and one of a process that is not due, which sends something and touches the state alone
+pub record Sends (limits : Limits) (most made : ℕ) (old : Process) (emission : Emission) (new : Process) : Type 0 where
+  pub steps : ℕ
+  pub before : Process
+  pub few : made + steps < most
+  pub silent : RunsOn steps old before
+  pub undue : is_due limits before ≡ false
+  pub sends : next_step (state_of before) ≡ Emits emission (state_of new)
+  pub touches : new ≡ record before { small = new.small }
+
+-- the rest of a quantum after so many steps: where there were none, it may have no step, or no memory for the first
+abbrev pub RunsRest : Limits → ℕ → ℕ → Process → Result Ran NoMemory → Process → Type 0
+RunsRest limits most made old (Ok Moved) new = MovesOn limits most made old new
+RunsRest limits most made old (Ok Refused) new = Moves most made old new
+RunsRest limits most made old (Ok (Sent emission)) new = Sends limits most made old emission new
+RunsRest limits most made old (Ok Stuck) new = (made ≡ 0) × (has_step (next_step (state_of old)) ≡ false) × (new ≡ old)
+RunsRest limits most made old (Err fault) new = (made ≡ 0) × (new ≡ old)
+
+-- where memory is refused after some steps they stand, and otherwise that is told
+abbrev pub TellsRefusal : ℕ → Result Ran NoMemory → Type 0
+TellsRefusal made (Ok ran) = (1 ≤ made) × (ran ≡ Refused)
+TellsRefusal made (Err fault) = made ≡ 0

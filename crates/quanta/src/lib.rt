@@ -1,0 +1,5 @@
+//! A quantum of a process, which ends where the process is due to synchronise. No cluster calls it yet.
+#![tactic(auto)]
+
+pub mod limits;
+pub mod quantum;

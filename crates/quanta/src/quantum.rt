@@ -1,0 +1,82 @@
+//! A quantum of a process that runs, or the rest of one that it began otherwise.
+ghost use Rattle.std.specs.Prelude.{◌≡◌, ◌≤◌, ◌==◌, false, true, min, if◌then◌else◌};
+ghost use Rattle.quanta.specs.Limited.{is_due, is_within, steps_until_due};
+ghost use Rattle.quanta.specs.Quantum.{RunsRest, TellsRefusal};
+
+use crate::limits::Limits;
+use proc_state::process::Process;
+use std::alloc::Global;
+use sync_point::due::due;
+use sys_calls::stepping::{run_instructions, step};
+use sys_calls::steps::{Emission, Step};
+use t32_base::streams::NoMemory;
+
+/// What a process did in a quantum: it made silent steps, and none more may be made; it made silent steps, and memory
+/// was refused for the next; its last step sent something; or it had no step.
+#[derive(Drop)]
+pub enum Ran {
+    Moved,
+    Refused,
+    Sent(Emission),
+    Stuck,
+}
+
+/// The most steps of a quantum.
+pub const MOST: u32 = 64;
+
+/// The rest of a quantum in which a process made some steps: at most 64 with them, up to one that sends something, up
+/// to a read that waits, or until it is due. Each step is made by a process that is not due; where none was made
+/// before, the caller has synchronised one that was. A later step for which memory is refused is not made; where it is
+/// the first of the quantum, nothing has changed.
+pub fn run_rest(
+    alloc: Global,
+    p: &mut Process,
+    limits: Limits,
+    before: u32,
+) -> Result<Ran, NoMemory>
+    requires few { before ≤ 64 }
+    requires begins { before ≡ 0 → is_due limits p.old ≡ false }
+    ensures runs { RunsRest limits 64 before p.old result p.new }
+    ensures within { is_within limits p.old ≡ true → is_within limits p.new ≡ true }
+{
+    let most = until_due(p, limits, MOST - before);
+    let mut made = before + run_instructions(p, most);
+    'steps: while made < MOST && !due(p, limits.reads, limits.steps) {
+        match step(alloc, p) {
+            Ok(Step::Silent) => made += 1,
+            Ok(Step::Emit(emission)) => return Ok(Ran::Sent(emission)),
+            Ok(Step::Blocked) => return Ok(moved_or_stuck(made)),
+            Ok(Step::Over) => return Ok(moved_or_stuck(made)),
+            Ok(Step::Forks) => unreachable!(),
+            Err(NoMemory) => return refused(made),
+        }
+    }
+    Ok(Ran::Moved)
+}
+
+// How many steps that read no letter a process may make until it is due, and at most so many.
+fn until_due(p: &Process, limits: Limits, most: u32) -> u32
+    ensures { result ≡ min most (steps_until_due limits p.now) }
+{
+    if due(p, limits.reads, limits.steps) {
+        return 0;
+    }
+    let left = u64::from(limits.steps) - p.small.steps.saturating_sub(p.since);
+    u64::from(most).min(left) as u32
+}
+
+fn moved_or_stuck(made: u32) -> Ran
+    ensures { result ≡ (if made == 0 then Ran.Stuck else Ran.Moved) }
+{
+    if made == 0 { Ran::Stuck } else { Ran::Moved }
+}
+
+fn refused(made: u32) -> Result<Ran, NoMemory>
+    ensures { TellsRefusal made result }
+{
+    if made == 0 {
+        Err(NoMemory)
+    } else {
+        Ok(Ran::Refused)
+    }
+}
