@@ -1,5 +1,5 @@
 -- What the calls on a cluster ask and promise. What a call asks holds of some log; what it promises, of every log that the cluster follows.
-use Rattle.std.specs.Prelude.{ℕ, ◌+◌, ◌≡◌, ◌≢◌, ◌⊎◌, Bool, true, false, not, if◌then◌else◌, List, [], ◌∷◌, ◌++◌, map, filter, Some, None, ⊤}
+use Rattle.std.specs.Prelude.{ℕ, ◌+◌, ◌≡◌, ◌≢◌, ◌⊎◌, ◌&&◌, Bool, true, false, not, if◌then◌else◌, List, [], ◌∷◌, ◌++◌, map, filter, Some, None, ⊤}
 use Rattle.std.specs.List.{list_all}
 use Rattle.t32_base.specs.declared.process.Pid.{Pid}
 use Rattle.t32_base.specs.declared.process.ClusterNo.{ClusterNo}
@@ -24,7 +24,10 @@ use Rattle.cert_sched.specs.Schedule.{placement}
 use Rattle.cluster_core.specs.declared.worked.Worked.{Worked}
 use Rattle.cluster_core.specs.declared.worked.Worked.TheVariants.{Moved, Queued, Waits as IsWaiting, Rests}
 use Rattle.backup_records.specs.Records.{records_after}
-use Rattle.cluster_core.specs.View.{ClusterView, Held, Runs, Rolls, Waits, arrived_held, held_at, page_held, steps_of_held, next_count, counted_once, failed_at, with_server}
+use Rattle.sync_point.specs.Batch.{batch, synced}
+use Rattle.quanta.specs.declared.limits.Limits.{Limits}
+use Rattle.quanta.specs.Limited.{is_due}
+use Rattle.cluster_core.specs.View.{ClusterView, Held, Runs, Rolls, Waits, arrived_held, held_at, page_held, steps_of_held, limits_of, next_count, counted_once, failed_at, with_server}
 use Rattle.cluster_core.specs.declared.hurt.Hurt.{Hurt}
 use Rattle.cluster_core.specs.declared.hurt.Hurt.TheVariants.{Disk, NoMemory}
 use Rattle.cluster_core.specs.Quantum.{Moves, Sends, post_told}
@@ -103,18 +106,18 @@ absorbed c e = record c {
 
 -- ---- working
 
--- a process here runs, and has neither a step nor a take
-abbrev pub is_at_rest : Held → Bool
-is_at_rest (Runs p) = is_idle (state_of p)
-is_at_rest (Rolls p counts births) = false
-is_at_rest (Waits waiting) = false
+-- a process here runs, has neither a step nor a take, and is not due
+abbrev pub is_at_rest : Limits → Held → Bool
+is_at_rest limits (Runs p) = is_idle (state_of p) && not (is_due limits p)
+is_at_rest limits (Rolls p counts births) = false
+is_at_rest limits (Waits waiting) = false
 
-abbrev pub are_at_rest : List (Pid × Held) → Bool
-are_at_rest here = list_all (λ (e : Pid × Held). is_at_rest e.1) here
+abbrev pub are_at_rest : Limits → List (Pid × Held) → Bool
+are_at_rest limits here = list_all (λ (e : Pid × Held). is_at_rest limits e.1) here
 
 -- nothing here can move
 abbrev pub is_resting : ClusterView → Bool
-is_resting c = are_at_rest c.here
+is_resting c = are_at_rest (limits_of c.system) c.here
 
 abbrev pub rests_in : List (Pid × Held) → List (Pid × ℕ)
 rests_in here = map (λ (e : Pid × Held). (e.0, steps_of_held e.1)) here
@@ -143,8 +146,16 @@ pub record QueuesOne (old new : ClusterView) : Type 0 where
   pub now : Process
   pub emission : Emission
   pub there : held_at old pid ≡ Some was
-  pub sends : Sends 64 was (record { pid = pid; at = (now.small).steps; emission = emission }) (Runs now)
+  pub sends : Sends (limits_of old.system) 64 was (record { pid = pid; at = (now.small).steps; emission = emission }) (Runs now)
   pub rest : new ≡ record old { here = with_changed pid (Runs now) old.here; queue = post_told old.number pid (now.small).steps emission ∷ []; steps = next_count old.steps }
+
+-- one process that was due has synchronised, and the posts of its batch are those to be sent
+pub record QueuesBatch (old new : ClusterView) : Type 0 where
+  pub pid : Pid
+  pub process : Process
+  pub there : held_at old pid ≡ Some (Runs process)
+  pub due : is_due (limits_of old.system) process ≡ true
+  pub rest : new ≡ record old { here = with_changed pid (Runs (synced process)) old.here; queue = batch process old.number; steps = next_count old.steps }
 
 -- a fetch waits, in each log that the cluster follows
 abbrev pub WaitsForPages : ClusterView → Type 0
@@ -179,7 +190,7 @@ WorkIs old Moved new = OwesNothing old × (is_resting old ≡ false) × MovedOne
 WorkIs old Queued new =
     QueuesAnswer old new
     ⊎ ((owes_answer old.places old.number old.server ≡ false) × QueuesFetch old new)
-    ⊎ (OwesNothing old × (is_resting old ≡ false) × QueuesOne old new)
+    ⊎ (OwesNothing old × (is_resting old ≡ false) × (QueuesOne old new ⊎ QueuesBatch old new))
 WorkIs old IsWaiting new = OwesNothing old × (is_resting old ≡ false) × WaitsForPages old × OwesNoAnswer old × (new ≡ counted_once old)
 WorkIs old Rests new = OwesNothing old × (is_resting old ≡ true) × OwesNoAnswer old × (new ≡ counted_once old)
 

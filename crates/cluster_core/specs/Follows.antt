@@ -1,5 +1,5 @@
 -- When a cluster follows a log: it holds what the log says, and nothing else.
-use Rattle.std.specs.Prelude.{◌≡◌, true, false, List, Some, option_map}
+use Rattle.std.specs.Prelude.{◌≡◌, ◌⊎◌, true, false, List, Some, option_map}
 use Rattle.sys_text.specs.declared.system.System.{System}
 use Rattle.bus_msg.specs.declared.entry.Entry.{Entry}
 use Rattle.cert_sched.specs.Legal.{IsLegalBy, MayFollow}
@@ -8,6 +8,7 @@ use Rattle.cert_sched.specs.Built.{UnlostMayFollow}
 use Rattle.cluster_core.specs.View.{ClusterView, head_of, after_sent}
 use Rattle.cert_sched.specs.Appended.{entry_of}
 use Rattle.cluster_core.specs.Queue.{IsQueued}
+use Rattle.cluster_core.specs.Syncing.{Synchronises}
 use Rattle.cluster_core.specs.Holds.{HoldsLog, HoldsProcesses, HoldsQueue, HoldsSteps, HoldsPages, HoldsMarks, IsMarked, CarriesMarks, HoldsRecords, HoldsAccounts, HasNotFailed}
 
 -- all that a cluster holds
@@ -21,12 +22,12 @@ pub record Follows (system : System) (entries : List Entry) (c : ClusterView) : 
   pub records : HoldsRecords system entries c
   pub accounts : HoldsAccounts system entries c
 
--- The lines that are built so far, for logs of the entries that are built so far.
+-- The lines that are built so far, for logs of the entries that are built so far. What is queued is nothing, or one post that is sent alone, or the rest of a batch.
 pub record FollowsBuilt (system : System) (entries : List Entry) (c : ClusterView) : Type 0 where
   pub log : HoldsLog system entries c
   pub processes : HoldsProcesses system entries c
   pub queue : HoldsQueue UnlostMayFollow system entries c
-  pub queued : IsQueued c.queue
+  pub queued : IsQueued c.queue ⊎ Synchronises system entries c
   pub steps : HoldsSteps entries c
   pub pages : HoldsPages system entries c
   pub marks : HoldsMarks CarriesMarks system entries c

@@ -8,6 +8,7 @@ pub mod Work
 pub mod Parts
 pub mod Queue
 pub mod Holds
+pub mod Syncing
 pub mod Follows
 pub mod Calls
 pub mod Booting

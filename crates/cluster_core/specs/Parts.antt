@@ -12,7 +12,8 @@ use Rattle.bus_msg.specs.declared.entry.Post.{Post}
 use Rattle.cert_sched.specs.Built.{is_unlost}
 use Rattle.cert_sched.specs.Losses.{is_from}
 use Rattle.page_waits.specs.Waiting.{WaitingState, is_whole}
-use Rattle.cluster_core.specs.View.{Held, Runs, Rolls, Waits}
+use Rattle.quanta.specs.declared.limits.Limits.{Limits}
+use Rattle.cluster_core.specs.View.{Held, Runs, Rolls, Waits, limits_of}
 
 -- a process that stands under its own pid; no signal waits for it, and no more letters came to it than the cluster took entries in
 pub record IsOwn (cursor : ℕ) (pid : Pid) (p : Process) : Type 0 where
@@ -40,10 +41,11 @@ abbrev pub AllOwn : ℕ → List (Pid × Held) → Type 0
 AllOwn cursor [] = ⊤
 AllOwn cursor (e ∷ here) = IsHeldOwn cursor e.0 e.1 × AllOwn cursor here
 
--- the system is valid and has the cluster; its processes are its own, and its posts are its own and of kinds that are built
-pub record IsSound (system : System) (number : ClusterNo) (cursor : ℕ) (here : List (Pid × Held)) (queue : List Post) : Type 0 where
+-- the system is valid and has the cluster, whose processes synchronise by its limits; its processes are its own, and its posts are its own and of kinds that are built
+pub record IsSound (system : System) (number : ClusterNo) (cursor : ℕ) (limits : Limits) (here : List (Pid × Held)) (queue : List Post) : Type 0 where
   pub valid : is_system system ≡ true
   pub has : number.0 < system.clusters
+  pub limits_are : limits ≡ limits_of system
   pub residents : AllOwn cursor here
   pub own : list_all (λ (post : Post). is_from number post.by) queue ≡ true
   pub built : list_all (λ (post : Post). is_unlost post.what) queue ≡ true

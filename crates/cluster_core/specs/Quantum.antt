@@ -1,24 +1,31 @@
--- A quantum of a process: steps that it did before, in which what it sends is withheld; silent steps; and at most one emission at their end.
-use Rattle.std.specs.Prelude.{ℕ, ◌+◌, ◌≤◌, ◌<◌, ◌≡◌, false, List, Some, Result, Ok, Err}
+-- The turn of a process. It synchronises where it is due; else a quantum: steps that it did before, in which what it sends is withheld; silent steps; and at most one emission at their end.
+use Rattle.std.specs.Prelude.{ℕ, ◌+◌, ◌≤◌, ◌<◌, ◌≡◌, true, false, List, Some, Result, Ok, Err}
 use Rattle.t32_base.specs.declared.streams.NoMemory.{NoMemory}
 use Rattle.t32_base.specs.declared.process.Pid.{Pid}
 use Rattle.t32_base.specs.declared.process.ClusterNo.{ClusterNo}
 use Rattle.t32_base.specs.declared.process.Counts.{Counts}
+use Rattle.t32_base.specs.Small.{SmallState}
 use Rattle.proc_state.specs.declared.process.Process.{Process}
 use Rattle.proc_state.specs.State.{state_of}
 use Rattle.sys_calls.specs.declared.steps.Emission.{Emission}
 use Rattle.sys_calls.specs.declared.steps.Emission.TheVariants.{Mail as SentMail, Exit as SentExit}
 use Rattle.sys_calls.specs.Calls.{Emits}
-use Rattle.sys_calls.specs.Next.{next_step, has_step, silently}
+use Rattle.sys_calls.specs.Next.{next_step, has_step}
 use Rattle.roll_forward.specs.RunsOut.{RunsOut}
 use Rattle.roll_forward.specs.Advancing.{going, rolled_on}
 use Rattle.bus_msg.specs.declared.entry.What.{What}
 use Rattle.bus_msg.specs.declared.entry.What.TheVariants.{Mail, Exit}
 use Rattle.bus_msg.specs.declared.entry.By.TheVariants.{Cluster}
 use Rattle.bus_msg.specs.declared.entry.Post.{Post}
+use Rattle.sync_point.specs.Batch.{batch, synced}
+use Rattle.quanta.specs.declared.limits.Limits.{Limits}
+use Rattle.quanta.specs.declared.quantum.Ran.{Ran}
+use Rattle.quanta.specs.declared.quantum.Ran.TheVariants.{Moved as RanOn, Refused, Sent as RanSending, Stuck as RanStuck}
+use Rattle.quanta.specs.Limited.{is_due}
+use Rattle.quanta.specs.Quantum.{RunsOn, Moves as MovesAlone, Sends as SendsAlone}
 use Rattle.cluster_core.specs.declared.quantum.Sending.{Sending}
 use Rattle.cluster_core.specs.declared.quantum.Quantum.{Quantum}
-use Rattle.cluster_core.specs.declared.quantum.Quantum.TheVariants.{Moved, Sent, Stuck}
+use Rattle.cluster_core.specs.declared.quantum.Quantum.TheVariants.{Moved, Sent, Synced, Stuck}
 use Rattle.cluster_core.specs.View.{Held, Runs, Rolls, Waits, can_act}
 
 -- ---- what is withheld
@@ -41,12 +48,6 @@ RollsTo n (Waits waiting) new = ⊥
 
 -- ---- the quantum
 
--- n silent steps of a process, with the marks of its pages and what it has read, whatever is left to withhold
-pub record RunsOn (n : ℕ) (p q : Process) : Type 0 where
-  pub silent : silently n (state_of p) ≡ Some (state_of q)
-  pub ran : (counts : Counts) (births : List Pid) → rolled_on n (going p counts births) ≡ Some (going q counts births)
-  pub since : q.since ≡ p.since
-
 -- m silent steps of one that runs; one that still rolls forward makes none
 abbrev pub RunsTo : ℕ → Held → Held → Type 0
 RunsTo m (Runs p) (Runs q) = RunsOn m p q
@@ -65,8 +66,8 @@ pub record Moves (most : ℕ) (old new : Held) : Type 0 where
   pub rolls : RollsTo rolled old between
   pub runs : RunsTo silent between new
 
--- steps that are withheld, and then silent ones and one that sends something, which touches the state alone
-pub record Sends (most : ℕ) (old : Held) (sending : Sending) (new : Held) : Type 0 where
+-- steps that are withheld, and then silent ones and one of a process that is not due, which sends something and touches the state alone
+pub record Sends (limits : Limits) (most : ℕ) (old : Held) (sending : Sending) (new : Held) : Type 0 where
   pub rolled : ℕ
   pub silent : ℕ
   pub between : Process
@@ -75,48 +76,50 @@ pub record Sends (most : ℕ) (old : Held) (sending : Sending) (new : Held) : Ty
   pub few : rolled + silent < most
   pub rolls : RollsTo rolled old (Runs between)
   pub runs : RunsOn silent between before
+  pub undue : is_due limits before ≡ false
   pub sends : next_step (state_of before) ≡ Emits sending.emission (state_of now)
   pub touches : now ≡ record before { small = now.small }
   pub new_is : new ≡ Runs now
   pub pid_is : sending.pid ≡ (now.small).pid
   pub at_is : sending.at ≡ (now.small).steps
 
--- it moved, or sent something, or could not move; after want of memory nothing has changed
-abbrev pub RunsQuantum : ℕ → Held → Result Quantum NoMemory → Held → Type 0
-RunsQuantum most old (Ok Moved) new = Moves most old new
-RunsQuantum most old (Ok (Sent sending)) new = Sends most old sending new
-RunsQuantum most old (Ok Stuck) new = (can_act old ≡ false) × (new ≡ old)
-RunsQuantum most old (Err fault) new = new ≡ old
+-- one that runs and is due synchronises, by the posts of its batch
+pub record Syncs (limits : Limits) (by : ClusterNo) (old : Held) (posts : List Post) (new : Held) : Type 0 where
+  pub process : Process
+  pub old_is : old ≡ Runs process
+  pub due : is_due limits process ≡ true
+  pub posts_are : posts ≡ batch process by
+  pub new_is : new ≡ Runs (synced process)
+
+-- in a cluster it moved, or sent something, or synchronised, or could not move; after want of memory nothing has changed
+abbrev pub RunsQuantum : Limits → ClusterNo → ℕ → Held → Result Quantum NoMemory → Held → Type 0
+RunsQuantum limits by most old (Ok Moved) new = Moves most old new
+RunsQuantum limits by most old (Ok (Sent sending)) new = Sends limits most old sending new
+RunsQuantum limits by most old (Ok (Synced posts)) new = Syncs limits by old posts new
+RunsQuantum limits by most old (Ok Stuck) new = (can_act limits old ≡ false) × (new ≡ old)
+RunsQuantum limits by most old (Err fault) new = new ≡ old
 
 -- ---- its part in which the process runs
 
-pub record RestMoves (most made : ℕ) (old new : Process) : Type 0 where
-  pub steps : ℕ
-  pub some : 1 ≤ made + steps
-  pub few : made + steps ≤ most
-  pub silent : RunsOn steps old new
+-- what a cluster says of it, after which the process has this state
+abbrev pub quantum_of : SmallState → Ran → Quantum
+quantum_of small RanOn = Moved
+quantum_of small Refused = Moved
+quantum_of small (RanSending emission) = Sent (record { pid = small.pid; at = small.steps; emission = emission })
+quantum_of small RanStuck = Stuck
 
-pub record RestSends (most made : ℕ) (old : Process) (sending : Sending) (new : Process) : Type 0 where
-  pub steps : ℕ
-  pub before : Process
-  pub few : made + steps < most
-  pub silent : RunsOn steps old before
-  pub sends : next_step (state_of before) ≡ Emits sending.emission (state_of new)
-  pub touches : new ≡ record before { small = new.small }
+pub record RestSends (limits : Limits) (most made : ℕ) (old : Process) (sending : Sending) (new : Process) : Type 0 where
+  pub sends : SendsAlone limits most made old sending.emission new
   pub pid_is : sending.pid ≡ (new.small).pid
   pub at_is : sending.at ≡ (new.small).steps
 
--- the rest of a quantum after so many steps: where there were none, it may have no step, or no memory for the first
-abbrev pub RunsRest : ℕ → ℕ → Process → Result Quantum NoMemory → Process → Type 0
-RunsRest most made old (Ok Moved) new = RestMoves most made old new
-RunsRest most made old (Ok (Sent sending)) new = RestSends most made old sending new
-RunsRest most made old (Ok Stuck) new = (made ≡ 0) × (has_step (next_step (state_of old)) ≡ false) × (new ≡ old)
-RunsRest most made old (Err fault) new = (made ≡ 0) × (new ≡ old)
-
--- where memory is refused after some steps the process has moved, and otherwise that is told
-abbrev pub MovesOrTells : ℕ → Result Quantum NoMemory → Type 0
-MovesOrTells made (Ok q) = (1 ≤ made) × (q ≡ Moved)
-MovesOrTells made (Err fault) = made ≡ 0
+-- the rest of a turn after so many steps: where there were none, it may be due and synchronise, or have no step, or no memory for the first
+abbrev pub ActsOn : Limits → ClusterNo → ℕ → ℕ → Process → Result Quantum NoMemory → Process → Type 0
+ActsOn limits by most made old (Ok Moved) new = MovesAlone most made old new
+ActsOn limits by most made old (Ok (Sent sending)) new = RestSends limits most made old sending new
+ActsOn limits by most made old (Ok (Synced posts)) new = (made ≡ 0) × (is_due limits old ≡ true) × (posts ≡ batch old by) × (new ≡ synced old)
+ActsOn limits by most made old (Ok Stuck) new = (made ≡ 0) × (is_due limits old ≡ false) × (has_step (next_step (state_of old)) ≡ false) × (new ≡ old)
+ActsOn limits by most made old (Err fault) new = (made ≡ 0) × (new ≡ old)
 
 -- ---- what is posted
 

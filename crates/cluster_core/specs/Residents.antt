@@ -3,17 +3,20 @@ use Rattle.std.specs.Prelude.{ℕ, ◌≡◌, ◌<◌, ◌-◌, ◌^◌, Bool, t
 use Rattle.std.specs.List.{list_all}
 use Rattle.std.specs.Option.{option_or}
 use Rattle.t32_base.specs.declared.process.Pid.{Pid}
+use Rattle.t32_base.specs.declared.process.ClusterNo.{ClusterNo}
 use Rattle.t32_base.specs.declared.streams.NoMemory.{NoMemory}
 use Rattle.bus_msg.specs.Places.{same_pid}
 use Rattle.plain_kernel.specs.Maps.{pid_of}
 use Rattle.cert_sched.specs.Parts.{first_of}
+use Rattle.quanta.specs.declared.limits.Limits.{Limits}
 use Rattle.cluster_core.specs.declared.quantum.Quantum.{Quantum}
-use Rattle.cluster_core.specs.declared.quantum.Quantum.TheVariants.{Moved, Sent, Stuck}
+use Rattle.cluster_core.specs.declared.quantum.Quantum.TheVariants.{Moved, Sent, Synced, Stuck}
 use Rattle.cluster_core.specs.Quantum.{RunsQuantum}
 use Rattle.cluster_core.specs.View.{Held, asked_held, can_act, held_of, is_waiting, next_number, page_lacked}
 
--- the processes by rising pid; the pids of those that may move, rising; those of which some may have pages to ask for, rising; and the pid that was chosen last, 0 before any was
+-- the limits by which they synchronise; the processes by rising pid; the pids of those that may move, rising; those of which some may have pages to ask for, rising; and the pid that was chosen last, 0 before any was
 pub record ResidentsView : Type 0 where
+  pub limits : Limits
   pub here : List (Pid × Held)
   pub ready : List ℕ
   pub asking : List ℕ
@@ -33,19 +36,19 @@ abbrev pub with_changed : Pid → Held → List (Pid × Held) → List (Pid × H
 with_changed p now here = map (λ (e : Pid × Held). if same_pid e.0 p then (p, now) else e) here
 
 -- it cannot move
-abbrev pub is_stuck : Held → Bool
-is_stuck h = not (can_act h)
+abbrev pub is_stuck : Limits → Held → Bool
+is_stuck limits h = not (can_act limits h)
 
 -- none of them can move
-abbrev pub are_stuck : List (Pid × Held) → Bool
-are_stuck here = list_all (λ (e : Pid × Held). is_stuck e.1) here
+abbrev pub are_stuck : Limits → List (Pid × Held) → Bool
+are_stuck limits here = list_all (λ (e : Pid × Held). is_stuck limits e.1) here
 
 abbrev pub pids_in : List (Pid × Held) → List ℕ
 pids_in here = map (λ (e : Pid × Held). (e.0).0) here
 
 -- the pids of those that can move
-abbrev pub pids_able : List (Pid × Held) → List ℕ
-pids_able here = pids_in (filter (λ (e : Pid × Held). not (is_stuck e.1)) here)
+abbrev pub pids_able : Limits → List (Pid × Held) → List ℕ
+pids_able limits here = pids_in (filter (λ (e : Pid × Held). not (is_stuck limits e.1)) here)
 
 -- each number is below those after it
 abbrev pub are_rising : List ℕ → Bool
@@ -58,37 +61,38 @@ next_ready ready last = option_or (find (λ n. nat_lt last n) ready) (first_of r
 
 -- the process with a pid is the next one that can move, where it can
 abbrev pub NextAble : ℕ → ResidentsView → Type 0
-NextAble n rs = (h : Held) → held_of rs.here (pid_of n) ≡ Some h → can_act h ≡ true → next_ready (pids_able rs.here) rs.last ≡ Some n
+NextAble n rs = (h : Held) → held_of rs.here (pid_of n) ≡ Some h → can_act rs.limits h ≡ true → next_ready (pids_able rs.limits rs.here) rs.last ≡ Some n
 
 -- ---- a turn
 
--- the process with a pid had a quantum, and the others stayed
-pub record TakesTurn (pid : Pid) (old : List (Pid × Held)) (quantum : Quantum) (new : List (Pid × Held)) : Type 0 where
+-- the process with a pid had its turn in a cluster, and the others stayed
+pub record TakesTurn (limits : Limits) (by : ClusterNo) (pid : Pid) (old : List (Pid × Held)) (quantum : Quantum) (new : List (Pid × Held)) : Type 0 where
   pub was : Held
   pub now : Held
   pub there : held_of old pid ≡ Some was
-  pub ran : RunsQuantum 64 was (Ok quantum) now
+  pub ran : RunsQuantum limits by 64 was (Ok quantum) now
   pub here : new ≡ with_changed pid now old
 
 -- it was the next process that can move, in rising pid order after the one that was chosen last, cyclically
-pub record ChosenTurn (old : ResidentsView) (quantum : Quantum) (new : ResidentsView) : Type 0 where
-  pub chosen : next_ready (pids_able old.here) old.last ≡ Some new.last
-  pub takes : TakesTurn (pid_of new.last) old.here quantum new.here
+pub record ChosenTurn (by : ClusterNo) (old : ResidentsView) (quantum : Quantum) (new : ResidentsView) : Type 0 where
+  pub chosen : next_ready (pids_able old.limits old.here) old.last ≡ Some new.last
+  pub takes : TakesTurn old.limits by (pid_of new.last) old.here quantum new.here
 
--- one of them moved or sent something, or none can move; after want of memory no process has changed
-abbrev pub TurnIs : ResidentsView → Result Quantum NoMemory → ResidentsView → Type 0
-TurnIs old (Ok Moved) new = ChosenTurn old Moved new
-TurnIs old (Ok (Sent sending)) new = ChosenTurn old (Sent sending) new
-TurnIs old (Ok Stuck) new = (are_stuck old.here ≡ true) × (new.here ≡ old.here) × (new.last ≡ old.last)
-TurnIs old (Err fault) new = new.here ≡ old.here
+-- one of them moved, or sent something, or synchronised, or none can move; after want of memory no process has changed
+abbrev pub TurnIs : ClusterNo → ResidentsView → Result Quantum NoMemory → ResidentsView → Type 0
+TurnIs by old (Ok Moved) new = ChosenTurn by old Moved new
+TurnIs by old (Ok (Sent sending)) new = ChosenTurn by old (Sent sending) new
+TurnIs by old (Ok (Synced posts)) new = ChosenTurn by old (Synced posts) new
+TurnIs by old (Ok Stuck) new = (are_stuck old.limits old.here ≡ true) × (new.here ≡ old.here) × (new.last ≡ old.last)
+TurnIs by old (Err fault) new = new.here ≡ old.here
 
 -- it cannot move, and does not wait for a page
-abbrev pub is_settled : Held → Bool
-is_settled h = is_stuck h && not (is_waiting h)
+abbrev pub is_settled : Limits → Held → Bool
+is_settled limits h = is_stuck limits h && not (is_waiting h)
 
 -- so it is of each of them
-abbrev pub are_settled : List (Pid × Held) → Bool
-are_settled here = list_all (λ (e : Pid × Held). is_settled e.1) here
+abbrev pub are_settled : Limits → List (Pid × Held) → Bool
+are_settled limits here = list_all (λ (e : Pid × Held). is_settled limits e.1) here
 
 -- ---- pages to ask for
 
@@ -111,12 +115,13 @@ AsksOf pid old (Some index) new = AsksPage pid old index new
 -- ---- a turn of one of them
 
 -- the process with a pid cannot move, if it is there
-abbrev pub is_stuck_at : Pid → List (Pid × Held) → Bool
-is_stuck_at pid here = list_all (λ (e : Pid × Held). not (same_pid e.0 pid) || is_stuck e.1) here
+abbrev pub is_stuck_at : Limits → Pid → List (Pid × Held) → Bool
+is_stuck_at limits pid here = list_all (λ (e : Pid × Held). not (same_pid e.0 pid) || is_stuck limits e.1) here
 
--- the process with a pid moved or sent something, or cannot move; after want of memory nothing has changed
-abbrev pub GivenTurnIs : Pid → List (Pid × Held) → Result Quantum NoMemory → List (Pid × Held) → Type 0
-GivenTurnIs pid old (Ok Moved) new = TakesTurn pid old Moved new
-GivenTurnIs pid old (Ok (Sent sending)) new = TakesTurn pid old (Sent sending) new
-GivenTurnIs pid old (Ok Stuck) new = (is_stuck_at pid old ≡ true) × (new ≡ old)
-GivenTurnIs pid old (Err fault) new = new ≡ old
+-- the process with a pid moved, or sent something, or synchronised, or cannot move; after want of memory nothing has changed
+abbrev pub GivenTurnIs : Limits → ClusterNo → Pid → List (Pid × Held) → Result Quantum NoMemory → List (Pid × Held) → Type 0
+GivenTurnIs limits by pid old (Ok Moved) new = TakesTurn limits by pid old Moved new
+GivenTurnIs limits by pid old (Ok (Sent sending)) new = TakesTurn limits by pid old (Sent sending) new
+GivenTurnIs limits by pid old (Ok (Synced posts)) new = TakesTurn limits by pid old (Synced posts) new
+GivenTurnIs limits by pid old (Ok Stuck) new = (is_stuck_at limits pid old ≡ true) × (new ≡ old)
+GivenTurnIs limits by pid old (Err fault) new = new ≡ old

@@ -1,5 +1,5 @@
 -- What a cluster holds, as contracts see it.
-use Rattle.std.specs.Prelude.{ℕ, ◌+◌, ◌-◌, ◌^◌, min, Bool, true, false, ◌==◌, ◌&&◌, if◌then◌else◌, List, [], ◌∷◌, ◌++◌, map, find, replicate, length, Option, Some, None, option_map}
+use Rattle.std.specs.Prelude.{ℕ, ◌+◌, ◌-◌, ◌*◌, ◌^◌, min, Bool, true, false, ◌==◌, ◌&&◌, ◌||◌, nat_lt, if◌then◌else◌, List, [], ◌∷◌, ◌++◌, map, find, length, Option, Some, None, option_map}
 use Rattle.std.specs.List.{sum_by}
 use Rattle.std.specs.Option.{option_map_or}
 use Rattle.t32_base.specs.declared.process.Pid.{Pid}
@@ -16,6 +16,9 @@ use Rattle.bus_msg.specs.declared.entry.Post.{Post}
 use Rattle.bus_msg.specs.declared.entry.What.{What}
 use Rattle.bus_msg.specs.declared.entry.What.TheVariants.{Rebackup}
 use Rattle.bus_msg.specs.Places.{Places, same_pid}
+use Rattle.sync_point.specs.Batch.{synced}
+use Rattle.quanta.specs.declared.limits.Limits.{Limits}
+use Rattle.quanta.specs.Limited.{is_due}
 use Rattle.page_server.specs.Account.{Account, PagerState, account, no_pages}
 use Rattle.backup_records.specs.Records.{with_saved}
 use Rattle.roll_forward.specs.Rolling.{RollingState}
@@ -53,11 +56,15 @@ held_of here p = option_map (λ (e : Pid × Held). e.1) (find (λ (e : Pid × He
 abbrev pub held_at : ClusterView → Pid → Option Held
 held_at c p = held_of c.here p
 
--- one that runs can move where it has a step, one that rolls forward always
-abbrev pub can_act : Held → Bool
-can_act (Runs p) = has_step (next_step (state_of p))
-can_act (Rolls p counts births) = true
-can_act (Waits waiting) = false
+-- after so many letters and steps the processes of a system are due to synchronise
+abbrev pub limits_of : System → Limits
+limits_of system = record { reads = system.syncreads; steps = system.syncsteps }
+
+-- one that runs can move where it has a step or is due, one that rolls forward always
+abbrev pub can_act : Limits → Held → Bool
+can_act limits (Runs p) = has_step (next_step (state_of p)) || is_due limits p
+can_act limits (Rolls p counts births) = true
+can_act limits (Waits waiting) = false
 
 -- it waits for its pages
 abbrev pub is_waiting : Held → Bool
@@ -135,10 +142,6 @@ asked_held h = h
 
 -- ---- the head was sent
 
--- a process that has just synchronised: no page is marked, no letter was read since, and its steps count from now
-abbrev pub synced : Process → Process
-synced p = record p { ram = record (p.ram) { dirty = replicate (length (p.ram).dirty) false }; read = []; since = (p.small).steps }
-
 abbrev pub synced_held : Held → Held
 synced_held (Runs p) = Runs (synced p)
 synced_held (Rolls p counts births) = Rolls p counts births
@@ -181,12 +184,19 @@ tried_once c = record c { tried = true; steps = next_count c.steps }
 
 -- ---- what is left to do
 
--- the most steps that what is held has left
+-- it has made a step or read a letter since its last synchronisation
+abbrev pub has_moved : Process → Bool
+has_moved p = nat_lt p.since (p.small).steps || nat_lt 0 (length p.read)
+
+-- two for each step that a process has left at most, and one for a synchronisation
+abbrev pub process_load : Process → ℕ
+process_load p = 2 * weight p.small + (if has_moved p then 1 else 0)
+
 abbrev pub held_load : Held → ℕ
-held_load (Runs p) = weight p.small
-held_load (Rolls p counts births) = weight p.small
+held_load (Runs p) = process_load p
+held_load (Rolls p counts births) = process_load p
 held_load (Waits waiting) = 0
 
--- the most steps that all processes here have left
+-- the same of all processes here
 abbrev pub load : ClusterView → ℕ
 load c = sum_by (λ (e : Pid × Held). held_load e.1) c.here

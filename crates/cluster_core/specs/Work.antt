@@ -14,7 +14,7 @@ use Rattle.page_server.specs.Disk.{Passed}
 use Rattle.page_accounts.specs.Answering.{earliest}
 use Rattle.page_accounts.specs.Keeps.{SamePages}
 use Rattle.cluster_core.specs.declared.quantum.Sending.{Sending}
-use Rattle.cluster_core.specs.declared.quantum.Quantum.TheVariants.{Moved as QuantumMoved, Sent, Stuck}
+use Rattle.cluster_core.specs.declared.quantum.Quantum.TheVariants.{Moved as QuantumMoved, Sent, Synced, Stuck}
 use Rattle.cluster_core.specs.declared.worked.Worked.{Worked}
 use Rattle.cluster_core.specs.declared.worked.Worked.TheVariants.{Moved, Queued, Waits as IsWaiting, Rests}
 use Rattle.cluster_core.specs.Quantum.{post_told}
@@ -99,12 +99,14 @@ pub record NoPages (k : ClusterNo) (places : Places) (old : ResidentsView) (serv
   pub none : any_lacks old.here ≡ false
   pub kept : served ≡ server
 
--- a turn of one that is here, and what it sent is queued; where none can move, whether a process waits for its pages
+-- a turn of one that is here, and what it sent or synchronises by is queued; where none can move, whether a process waits for its pages
 abbrev pub RunsNext : ClusterNo → ResidentsView → Worked → ResidentsView → List Post → Type 0
-RunsNext k old Moved new queue = TurnIs old (Ok QuantumMoved) new × (queue ≡ [])
-RunsNext k old Queued new queue = (sending : Sending) × TurnIs old (Ok (Sent sending)) new × (queue ≡ post_told k sending.pid sending.at sending.emission ∷ [])
-RunsNext k old IsWaiting new queue = TurnIs old (Ok Stuck) new × (any_waits old.here ≡ true) × (queue ≡ [])
-RunsNext k old Rests new queue = TurnIs old (Ok Stuck) new × (any_waits old.here ≡ false) × (queue ≡ [])
+RunsNext k old Moved new queue = TurnIs k old (Ok QuantumMoved) new × (queue ≡ [])
+RunsNext k old Queued new queue =
+    ((sending : Sending) × TurnIs k old (Ok (Sent sending)) new × (queue ≡ post_told k sending.pid sending.at sending.emission ∷ []))
+    ⊎ ((posts : List Post) × TurnIs k old (Ok (Synced posts)) new × (queue ≡ posts))
+RunsNext k old IsWaiting new queue = TurnIs k old (Ok Stuck) new × (any_waits old.here ≡ true) × (queue ≡ [])
+RunsNext k old Rests new queue = TurnIs k old (Ok Stuck) new × (any_waits old.here ≡ false) × (queue ≡ [])
 
 -- an answer that is owed comes first, then a page that is to be asked for, and then the turn of one that is here; what it sent is queued
 abbrev pub WorksOn : ClusterNo → Places → ResidentsView → Option PagerState → Worked → ResidentsView → Option PagerState → List Post → Type 0

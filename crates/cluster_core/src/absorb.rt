@@ -28,6 +28,7 @@ pub fn tell(
     requires page { CanCome (what entry.now) here.old.here }
     ensures ok { OnOk result (here.new.here ≡ here_after (what entry.now) here.old.here) }
     ensures err { OnErr result (here.new.here ≡ here.old.here) }
+    ensures limits { here.new.limits ≡ here.old.limits }
 {
     match &entry.post.what {
         What::Mail { letter, .. } => {

@@ -11,7 +11,7 @@ ghost use Rattle.cert_sched.specs.Schedule.{placement};
 ghost use Rattle.record_laws.specs.Kept.{KeepsRecords};
 ghost use Rattle.cluster_core.specs.Booting.{AreBooted, AreFirstRecords, RunFrom, belongs_to};
 ghost use Rattle.cluster_core.specs.Serving.{BeginsToServe, IsAheadThere, IsFailing};
-ghost use Rattle.cluster_core.specs.View.{failing_in};
+ghost use Rattle.cluster_core.specs.View.{failing_in, limits_of};
 ghost use Rattle.page_accounts.specs.Booting.{IsAhead};
 
 use crate::resident::Resident;
@@ -24,6 +24,7 @@ use page_server::disk::PageDisk;
 use page_server::pager::Pager;
 use plain_kernel::booting::starts_of;
 use plain_kernel::start::Start;
+use quanta::limits::Limits;
 use std::alloc::Global;
 use std::collections::BTreeMap;
 use sys_text::system::System;
@@ -60,25 +61,36 @@ pub fn parts_at_boot<D: PageDisk + Drop>(
     ensures told { IfOk result (λ parts. failing_in parts.server ≡ option_map (λ d. (D.counts d).failing) disk) }
     ensures ahead { IfOk result (λ parts. parts.failed ≡ None → IfSome disk (λ d. IsAhead (D.counts d)) → IsAheadThere parts.server) }
     ensures fails { IfOk result (λ parts. IfSome parts.failed (IsFailing parts.server)) }
+    ensures limits { IfOk result (λ parts. parts.here.limits ≡ limits_of system.now) }
 {
     let starts = starts_of(alloc, system)?;
     let (server, failed) = serve_roots(alloc, disk, &starts)?;
     if failed.is_some() {
         return Ok(Parts {
-            here: Residents::none(alloc),
+            here: Residents::none(alloc, limits_of(system)),
             records: Records::none(alloc),
             server,
             failed,
         });
     }
     let records = first_records(alloc, number, places, &starts)?;
-    let here = residents_of(alloc, number, starts)?;
+    let here = residents_of(alloc, number, limits_of(system), starts)?;
     Ok(Parts {
         here,
         records,
         server,
         failed,
     })
+}
+
+// The limits by which the processes of a system synchronise.
+fn limits_of(system: &System) -> Limits
+    ensures { result ≡ limits_of system.now }
+{
+    Limits {
+        reads: system.syncreads,
+        steps: system.syncsteps,
+    }
 }
 
 // The records of those processes whose backup is in a cluster.
@@ -104,11 +116,13 @@ fn first_records(
 fn residents_of(
     alloc: Global,
     number: ClusterNo,
+    limits: Limits,
     starts: BTreeMap<u32, Start>,
 ) -> Result<Residents, NoMemory>
-    ensures { IfOk result (λ r. RunFrom (starts_in starts.entry.entries) number r.here) }
+    ensures here { IfOk result (λ r. RunFrom (starts_in starts.entry.entries) number r.here) }
+    ensures limits { IfOk result (λ r. r.limits ≡ limits) }
 {
-    let mut here = Residents::none(alloc);
+    let mut here = Residents::none(alloc, limits);
     for (pid, start) in starts {
         if is_pid_at(number, pid) {
             let process = start.process(alloc)?;

@@ -74,7 +74,7 @@ impl<D: PageDisk> Model for Cluster<D> {
       failed = c.failed;
     } };
 
-    ghost invariant = { λ c. IsSound (arc_value c.system) c.number c.cursor (c.here).here (c.queue).items };
+    ghost invariant = { λ c. IsSound (arc_value c.system) c.number c.cursor (c.here).limits (c.here).here (c.queue).items };
 }
 
 impl<D: PageDisk + Drop> Cluster<D> {
@@ -231,8 +231,9 @@ impl<D: PageDisk + Drop> Cluster<D> {
 
     /// Does the next thing that is to be done here. The first of the page servers that live queues its answer to the earliest
     /// fetch that waits. Else the lowest page is asked for that the lowest process here lacks and has not asked for. Else a
-    /// process runs, up to something that it sends: the next one in rising pid order that can move, after the one that ran
-    /// last, cyclically. Where none can, the cluster waits if a process here waits for its pages, and rests if none does.
+    /// process has its turn: the next one in rising pid order that can move, after the one that had it
+    /// last, cyclically. Where it has read `syncreads` letters or made `syncsteps` steps since its last synchronisation it synchronises: its
+    /// changed pages are queued, and then its state. Else it runs, up to something that it sends or until it is due. Where none can move, the cluster waits if a process here waits for its pages, and rests if none does.
     /// A call of its disk that fails leaves a cluster that has failed, in which there is no process. After want of memory nothing
     /// is said of the cluster but that it can be dropped.
     pub fn work(&mut self) -> Result<Worked, Hurt>
@@ -284,7 +285,7 @@ impl<D: PageDisk + Drop> Cluster<D> {
     fn fail(&mut self, call: u64)
         ensures { self.new ≡ failed_at call self.old }
     {
-        self.here = Residents::none(self.alloc);
+        self.here = Residents::none(self.alloc, self.here.limits());
         self.failed = Some(call);
         self.count_step();
     }

@@ -4,18 +4,23 @@ ghost use Rattle.proc_state.specs.State.{state_of};
 ghost use Rattle.roll_forward.specs.RunsOut.{RunsOut, nothing_left};
 ghost use Rattle.page_waits.specs.Waiting.{next_page};
 ghost use Rattle.cluster_core.specs.View.{Runs, Rolls, Waits, arrived_held, asked_held, can_act, is_waiting, next_number, page_held, page_lacked, rolling_held, steps_of_held};
-ghost use Rattle.cluster_core.specs.Quantum.{RunsQuantum};
+ghost use Rattle.quanta.specs.Limited.{is_due};
+ghost use Rattle.cluster_core.specs.Quantum.{ActsOn, RunsQuantum};
 ghost use Rattle.cluster_core.specs.Resident.{gone_on, held_standing, running_on, CanComeTo, CanGoOnFrom, HasCaughtUp, HasRolled, StandsSo};
 
-use crate::quantum::{MOST, Quantum, run_rest};
+use crate::quantum::{Quantum, quantum_of};
 use page_waits::waiting::Waiting;
 use proc_state::process::Process;
+use quanta::limits::Limits;
+use quanta::quantum::{MOST, run_rest};
 use roll_forward::rolling::Rolling;
 use std::alloc::Global;
 use std::marker::Model;
+use sync_point::batch::build;
+use sync_point::due::due;
 use sys_calls::stepping::can_step;
 use t32_base::letter::Letter;
-use t32_base::process::Small;
+use t32_base::process::{ClusterNo, Small};
 use t32_base::streams::NoMemory;
 
 /// A process at home in a cluster: it runs; or it rolls forward, and then something is left to withhold; or it waits for
@@ -122,34 +127,65 @@ impl Resident {
         }
     }
 
-    /// Whether it can move: one that runs has a step, one that rolls forward has one always, and one that waits has none.
-    /// Takes no memory.
-    pub fn can_act(&self) -> bool
-        ensures { result ≡ can_act self.now }
+    /// Whether it can move by these limits: one that runs has a step or is due to synchronise, one that rolls forward can always, and
+    /// one that waits cannot. Takes no memory.
+    pub fn can_act(&self, limits: Limits) -> bool
+        ensures { result ≡ can_act limits self.now }
     {
         match &self.standing {
-            Some(Standing::Runs(process)) => can_step(process),
+            Some(Standing::Runs(process)) => can_step(process) || is_due(process, limits),
             Some(Standing::Rolls(_)) => true,
             Some(Standing::Waits(_)) => false,
             None => unreachable!(),
         }
     }
 
-    /// A quantum, of at most 64 steps. One that rolls forward does again what it did, and withholds what it
+    /// Its turn in the cluster `by`. One that runs and is due by these limits synchronises. Else it has a quantum, of at most 64
+    /// steps. One that rolls forward does again what it did, and withholds what it
     /// sent; where nothing is left to withhold it runs, and the same quantum goes on. One that runs goes up to a
-    /// step that sends something, or up to a read that waits. A later step for which memory is refused is not
+    /// step that sends something, up to a read that waits, or until it is due. A later step for which memory is refused is not
     /// made; where it is the first, nothing has changed.
-    pub fn run_quantum(&mut self, alloc: Global) -> Result<Quantum, NoMemory>
-        ensures { RunsQuantum 64 self.old result self.new }
+    pub fn run_quantum(
+        &mut self,
+        alloc: Global,
+        by: ClusterNo,
+        limits: Limits,
+    ) -> Result<Quantum, NoMemory>
+        ensures { RunsQuantum limits by 64 self.old result self.new }
     {
         let made = roll(&mut self.standing)?;
         match &mut self.standing {
-            Some(Standing::Runs(process)) => run_rest(alloc, process, made),
+            Some(Standing::Runs(process)) => act_on(alloc, process, by, limits, made),
             Some(Standing::Rolls(_)) => Ok(Quantum::Moved),
             Some(Standing::Waits(_)) => Ok(Quantum::Stuck),
             None => unreachable!(),
         }
     }
+}
+
+// The turn of one that runs in the cluster `by`, or the rest of a turn in which it made some steps.
+fn act_on(
+    alloc: Global,
+    process: &mut Process,
+    by: ClusterNo,
+    limits: Limits,
+    made: u32,
+) -> Result<Quantum, NoMemory>
+    requires { made ≤ 64 }
+    ensures { ActsOn limits by 64 made process.old result process.new }
+{
+    if made == 0 && is_due(process, limits) {
+        return Ok(Quantum::Synced(build(alloc, process, by)?));
+    }
+    let ran = run_rest(alloc, process, limits, made)?;
+    Ok(quantum_of(&process.small, ran))
+}
+
+// Whether one that runs is due to synchronise.
+fn is_due(process: &Process, limits: Limits) -> bool
+    ensures { result ≡ is_due limits process.now }
+{
+    due(process, limits.reads, limits.steps)
 }
 
 // A letter arrives.

@@ -13,6 +13,7 @@ ghost use Rattle.cluster_core.specs.Work.{AsksNext, any_lacks, any_waits, is_low
 
 use crate::quantum::Quantum;
 use crate::resident::Resident;
+use quanta::limits::Limits;
 use slab::Slab;
 use std::alloc::Global;
 use std::collections::{BTreeMap, BTreeSet};
@@ -20,13 +21,14 @@ use std::marker::Model;
 use std::ops::Bound;
 use t32_base::letter::{Letter, To};
 use t32_base::lists::List;
-use t32_base::process::Pid;
+use t32_base::process::{ClusterNo, Pid};
 use t32_base::streams::NoMemory;
 
 /// The processes at home in a cluster, by pid. One that cannot move, but may get a step by a letter or a page, is
 /// not asked again before one comes to it. Nor is one whose pages were all asked for.
 #[derive(Drop)]
 pub struct Residents {
+    limits: Limits,
     residents: Slab<Resident>,
     keys: BTreeMap<u32, usize>,
     ready: BTreeSet<u32>,
@@ -41,18 +43,20 @@ impl Model for Residents {
 
     ghost Value = { ResidentsView };
 
-    ghost view = { λ r. record { here = stands_in r.residents r.keys.entries; ready = r.ready.keys; asking = r.asking.keys; last = r.last } };
+    ghost view = { λ r. record { limits = r.limits; here = stands_in r.residents r.keys.entries; ready = r.ready.keys; asking = r.asking.keys; last = r.last } };
 
-    ghost invariant = { λ r. IsKept r.residents r.keys.entries r.ready.keys r.asking.keys };
+    ghost invariant = { λ r. IsKept r.limits r.residents r.keys.entries r.ready.keys r.asking.keys };
 }
 
 impl Residents {
-    /// No process.
-    pub fn none(alloc: Global) -> Residents
+    /// No process; those that come synchronise by these limits.
+    pub fn none(alloc: Global, limits: Limits) -> Residents
+        ensures limits { result.limits ≡ limits }
         ensures here { result.here ≡ [] }
         ensures last { result.last ≡ 0 }
     {
         Residents {
+            limits,
             residents: Slab::new(alloc),
             keys: BTreeMap::new(alloc),
             ready: BTreeSet::new(alloc),
@@ -61,12 +65,20 @@ impl Residents {
         }
     }
 
+    /// The limits by which the processes here synchronise. Takes no memory.
+    pub fn limits(&self) -> Limits
+        ensures { result ≡ self.now.limits }
+    {
+        self.limits
+    }
+
     /// One process more, whose pid none has that is here. After want of memory nothing is said but that the
     /// value can be dropped.
     pub fn add(&mut self, pid: Pid, resident: Resident) -> Result<(), NoMemory>
         requires { list_any (λ e. same_pid e.0 pid) self.old.here ≡ false }
         ensures here { OnOk result (self.new.here ≡ with_more pid resident self.old.here) }
         ensures last { OnOk result (self.new.last ≡ self.old.last) }
+        ensures limits { self.new.limits ≡ self.old.limits }
     {
         self.ready.insert(pid.0)?;
         self.asking.insert(pid.0)?;
@@ -75,13 +87,15 @@ impl Residents {
         Ok(())
     }
 
-    /// Lets the next process that can move run for a quantum: the next one in rising pid order after the
-    /// one that was chosen last, cyclically. `Stuck` is that of all. After want of memory no process has changed.
-    pub fn take_turn(&mut self, alloc: Global) -> Result<Quantum, NoMemory>
-        ensures { TurnIs self.old result self.new }
+    /// Gives the next process that can move its turn in the cluster `by`: the next one in rising pid order after the
+    /// one that was chosen last, cyclically. It synchronises where it is due, and else runs for a quantum. `Stuck` is that of all. After
+    /// want of memory no process has changed.
+    pub fn take_turn(&mut self, alloc: Global, by: ClusterNo) -> Result<Quantum, NoMemory>
+        ensures turn { TurnIs by self.old result self.new }
+        ensures limits { self.new.limits ≡ self.old.limits }
     {
         'choices: while let Some(pid) = self.next() {
-            match self.give_turn(alloc, pid)? {
+            match self.give_turn(alloc, by, pid)? {
                 Quantum::Stuck => self.rest(pid),
                 quantum => {
                     self.choose(pid);
@@ -95,7 +109,7 @@ impl Residents {
     // The next of those that may move. Takes no memory.
     fn next(&self) -> Option<u32>
         ensures next { result ≡ next_ready self.now.ready self.now.last }
-        ensures stuck { result ≡ None → are_stuck self.now.here ≡ true }
+        ensures stuck { result ≡ None → are_stuck self.now.limits self.now.here ≡ true }
         ensures able { (pid : ℕ) → result ≡ Some pid → NextAble pid self.now }
     {
         let above = (Bound::Excluded(self.last), Bound::Unbounded);
@@ -105,16 +119,17 @@ impl Residents {
         }
     }
 
-    // Lets the process with a pid run for a quantum, if it is here.
-    fn give_turn(&mut self, alloc: Global, pid: u32) -> Result<Quantum, NoMemory>
+    // Gives the process with a pid its turn in the cluster `by`, if it is here.
+    fn give_turn(&mut self, alloc: Global, by: ClusterNo, pid: u32) -> Result<Quantum, NoMemory>
         requires { list_any (at_key pid) self.old.ready ≡ true }
-        ensures turn { GivenTurnIs (pid_of pid) self.old.here result self.new.here }
+        ensures turn { GivenTurnIs self.old.limits by (pid_of pid) self.old.here result self.new.here }
         ensures ready { self.new.ready ≡ self.old.ready }
         ensures last { self.new.last ≡ self.old.last }
+        ensures limits { self.new.limits ≡ self.old.limits }
     {
         match self.keys.get(&pid) {
             Some(key) => match self.residents.get_mut(*key) {
-                Some(resident) => resident.run_quantum(alloc),
+                Some(resident) => resident.run_quantum(alloc, by, self.limits),
                 None => unreachable!(),
             },
             None => Ok(Quantum::Stuck),
@@ -123,11 +138,12 @@ impl Residents {
 
     // A process that cannot move is not asked again before a letter comes to it.
     fn rest(&mut self, pid: u32)
-        requires stuck { is_stuck_at (pid_of pid) self.old.here ≡ true }
+        requires stuck { is_stuck_at self.old.limits (pid_of pid) self.old.here ≡ true }
         requires there { list_any (at_key pid) self.old.ready ≡ true }
         ensures here { self.new.here ≡ self.old.here }
         ensures fewer { length self.new.ready + 1 ≡ length self.old.ready }
         ensures last { self.new.last ≡ self.old.last }
+        ensures limits { self.new.limits ≡ self.old.limits }
     {
         self.ready.remove(&pid);
     }
@@ -136,6 +152,7 @@ impl Residents {
     fn choose(&mut self, pid: u32)
         ensures here { self.new.here ≡ self.old.here }
         ensures last { self.new.last ≡ pid }
+        ensures limits { self.new.limits ≡ self.old.limits }
     {
         self.last = pid;
     }
@@ -147,6 +164,7 @@ impl Residents {
         ensures ok { OnOk result (self.new.here ≡ with_letter letter.now self.old.here) }
         ensures err { OnErr result (self.new.here ≡ self.old.here) }
         ensures last { self.new.last ≡ self.old.last }
+        ensures limits { self.new.limits ≡ self.old.limits }
     {
         match letter.to {
             To::Proc(pid, _) => self.arrive(pid, letter),
@@ -160,6 +178,7 @@ impl Residents {
         ensures ok { OnOk result (self.new.here ≡ map (λ e. if same_pid pid e.0 then (e.0, arrived_held e.1 letter.now) else e) self.old.here) }
         ensures err { OnErr result (self.new.here ≡ self.old.here) }
         ensures last { self.new.last ≡ self.old.last }
+        ensures limits { self.new.limits ≡ self.old.limits }
     {
         match self.keys.get(&pid.0) {
             Some(key) => {
@@ -185,6 +204,7 @@ impl Residents {
         ensures ok { OnOk result (self.new.here ≡ with_page_come pid index page.now self.old.here) }
         ensures err { OnErr result (self.new.here ≡ self.old.here) }
         ensures last { self.new.last ≡ self.old.last }
+        ensures limits { self.new.limits ≡ self.old.limits }
     {
         match self.keys.get(&pid.0) {
             Some(key) => {
@@ -207,6 +227,7 @@ impl Residents {
         ensures asks { IfSome result (λ r. AsksNext self.old.here self.new.here r.0 r.1) }
         ensures none { result ≡ None → (any_lacks self.old.here ≡ false) × (self.new.here ≡ self.old.here) }
         ensures last { self.new.last ≡ self.old.last }
+        ensures limits { self.new.limits ≡ self.old.limits }
     {
         'processes: while let Some(pid) = self.next_asking() {
             match self.ask_of(pid) {
@@ -231,6 +252,7 @@ impl Residents {
         ensures asks { AsksOf (pid_of pid) self.old.here result self.new.here }
         ensures asking { self.new.asking ≡ self.old.asking }
         ensures last { self.new.last ≡ self.old.last }
+        ensures limits { self.new.limits ≡ self.old.limits }
     {
         match self.keys.get(&pid) {
             Some(key) => match self.residents.get_mut(*key) {
@@ -248,6 +270,7 @@ impl Residents {
         ensures here { self.new.here ≡ self.old.here }
         ensures fewer { length self.new.asking + 1 ≡ length self.old.asking }
         ensures last { self.new.last ≡ self.old.last }
+        ensures limits { self.new.limits ≡ self.old.limits }
     {
         self.asking.remove(&pid);
     }
@@ -273,6 +296,7 @@ impl Residents {
     pub fn let_go(&mut self, pid: Pid)
         ensures here { self.new.here ≡ filter (λ e. not (same_pid e.0 pid)) self.old.here }
         ensures last { self.new.last ≡ self.old.last }
+        ensures limits { self.new.limits ≡ self.old.limits }
     {
         if let Some(key) = self.keys.remove(&pid.0) {
             self.ready.remove(&pid.0);
@@ -283,14 +307,14 @@ impl Residents {
 
     /// Each process with its steps, by rising pid: None exactly where one of them can move or waits for a page.
     pub fn rests(&self, alloc: Global) -> Result<Option<List<(Pid, u64)>>, NoMemory>
-        ensures rests { IfOk result (λ rests. rests ≡ (if are_settled self.now.here then Some (rests_in self.now.here) else None)) }
+        ensures rests { IfOk result (λ rests. rests ≡ (if are_settled self.now.limits self.now.here then Some (rests_in self.now.here) else None)) }
         ensures ordered { are_rising (pids_in self.now.here) ≡ true }
     {
         let mut rests = List::new(alloc);
         for (pid, key) in &self.keys {
             match self.residents.get(*key) {
                 Some(resident) => {
-                    if !is_settled(resident) {
+                    if !is_settled(resident, self.limits) {
                         return Ok(None);
                     }
                     rests.push((Pid(*pid), resident.steps()))?;
@@ -303,10 +327,10 @@ impl Residents {
 }
 
 // Whether a process can neither move nor waits for a page. Takes no memory.
-fn is_settled(resident: &Resident) -> bool
-    ensures { result ≡ is_settled resident.now }
+fn is_settled(resident: &Resident, limits: Limits) -> bool
+    ensures { result ≡ is_settled limits resident.now }
 {
-    !resident.can_act() && !resident.waits()
+    !resident.can_act(limits) && !resident.waits()
 }
 
 // Drops the process in a slot, if there is one. Takes no memory.

@@ -34,11 +34,13 @@ pub fn take_over(
     ensures rising { OnOk result (are_rising (moved_by before.now number (what entry.now) records.old) ≡ true) }
     ensures here { OnOk result (here.new.here ≡ with_all_waiting (moved_by before.now number (what entry.now) records.old) here.old.here) }
     ensures err { OnErr result ((here.new.here ≡ here.old.here) ⊎ (here.new.here ≡ [])) }
+    ensures limits { here.new.limits ≡ here.old.limits }
 {
     match &entry.post.what {
         What::Crash { k, .. } => {
             let moved = records.take_moved(alloc, *k, number, before)?;
-            let stayed = mem::replace(here, Residents::none(alloc));
+            let empty = Residents::none(alloc, here.limits());
+            let stayed = mem::replace(here, empty);
             *here = begin_waits(alloc, moved, stayed)?;
             Ok(())
         }
@@ -61,7 +63,8 @@ pub fn take_over(
 fn begin_waits(alloc: Global, moved: List<Record>, here: Residents) -> Result<Residents, NoMemory>
     requires rising { are_rising moved ≡ true }
     requires can { CanWait moved here.here }
-    ensures { IfOk result (λ now. now.here ≡ with_all_waiting moved here.here) }
+    ensures here { IfOk result (λ now. now.here ≡ with_all_waiting moved here.here) }
+    ensures limits { IfOk result (λ now. now.limits ≡ here.limits) }
 {
     let mut left = VecDeque::from_vec(moved.into_vec());
     let mut here = here;

@@ -21,8 +21,8 @@ use t32_base::process::{ClusterNo, Pid};
 use t32_base::streams::NoMemory;
 
 /// Does the next thing that is to be done in the cluster with a number. An answer that it owes as a page server is queued;
-/// or a fetch of a page that a process here lacks; or the next process that can move runs for a quantum, and what it sends
-/// is queued; or nothing can move, where a process may wait for its pages. After want of memory, or where the call of the disk
+/// or a fetch of a page that a process here lacks; or the next process that can move synchronises or runs for a quantum, and
+/// what it sends is queued; or nothing can move, where a process may wait for its pages. After want of memory, or where the call of the disk
 /// failed, nothing is queued, and nothing else is said but that the values can be dropped.
 pub fn work_on<D: PageDisk>(
     alloc: Global,
@@ -36,6 +36,7 @@ pub fn work_on<D: PageDisk>(
     requires can { CanAnswer server.old }
     ensures ok { IfOk result (λ worked. WorksOn number places.now here.old server.old worked here.new server.new queue.new.items) }
     ensures here { OnErr result (here.new.here ≡ here.old.here) }
+    ensures limits { here.new.limits ≡ here.old.limits }
     ensures queue { OnErr result (queue.new.items ≡ []) }
     ensures hurts { IfErr result (HurtsServer server.old) }
 {
@@ -60,7 +61,7 @@ fn make_room(queue: &mut VecDeque<Post>) -> Result<(), NoMemory>
     Ok(())
 }
 
-// The next process that can move runs for a quantum, and what it sends is queued.
+// The next process that can move has its turn, and what it sends or synchronises by is queued.
 fn run_next(
     alloc: Global,
     number: ClusterNo,
@@ -71,12 +72,17 @@ fn run_next(
     requires room { deque_len queue.old < deque_capacity queue.old }
     ensures ok { IfOk result (λ worked. RunsNext number here.old worked here.new queue.new.items) }
     ensures here { OnErr result (here.new.here ≡ here.old.here) }
+    ensures limits { here.new.limits ≡ here.old.limits }
     ensures queue { OnErr result (queue.new.items ≡ []) }
 {
-    match here.take_turn(alloc)? {
+    match here.take_turn(alloc, number)? {
         Quantum::Moved => Ok(Worked::Moved),
         Quantum::Sent(sending) => {
             queue.push_back_reserved(post_of(number, sending));
+            Ok(Worked::Queued)
+        }
+        Quantum::Synced(posts) => {
+            *queue = VecDeque::from_vec(posts.into_vec());
             Ok(Worked::Queued)
         }
         Quantum::Stuck => Ok(stuck(here)),

@@ -1,4 +1,4 @@
-//! A quantum of a process, which ends where the process is due to synchronise. No cluster calls it yet.
+//! A quantum of a process, which ends where the process is due to synchronise.
 #![tactic(auto)]
 
 pub mod limits;

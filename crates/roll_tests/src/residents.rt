@@ -2,9 +2,11 @@
 use crate::rolls::two_lost;
 use cluster_core::quantum::Quantum;
 use cluster_core::resident::Resident;
+use quanta::limits::Limits;
 use std::alloc::Global;
 use std::test::Fail;
 use sys_calls::steps::Emission;
+use t32_base::process::ClusterNo;
 use t32_base::streams::NoMemory;
 use test_asserts::same;
 
@@ -26,8 +28,16 @@ fn sent_at(quantum: &Quantum) -> Option<u64> {
     }
 }
 
+// Limits that it does not reach.
+fn never() -> Limits {
+    Limits {
+        reads: 1000,
+        steps: 100_000,
+    }
+}
+
 fn run_quantum(alloc: Global, resident: &mut Resident) -> Result<Option<u64>, NoMemory> {
-    let quantum = resident.run_quantum(alloc)?;
+    let quantum = resident.run_quantum(alloc, ClusterNo(0), never())?;
     Ok(sent_at(&quantum))
 }
 
@@ -36,7 +46,7 @@ type Ran = ((bool, u64), Option<u64>, u64);
 
 fn ran(alloc: Global) -> Result<Ran, NoMemory> {
     let mut resident = resident_lost(alloc)?;
-    let before = (resident.can_act(), resident.steps());
+    let before = (resident.can_act(never()), resident.steps());
     let sent = run_quantum(alloc, &mut resident)?;
     Ok((before, sent, resident.steps()))
 }

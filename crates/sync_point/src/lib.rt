@@ -1,4 +1,4 @@
-//! When a process is due to synchronise, and the posts by which it does. No cluster calls it yet.
+//! When a process is due to synchronise, and the posts by which it does.
 #![tactic(auto)]
 
 pub mod batch;
