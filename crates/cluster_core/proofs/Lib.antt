@@ -24,6 +24,10 @@ mod LostQueue
 mod Losing
 mod OwningWaits
 mod Unmoved
+mod Beside
+mod BatchPosts
+mod Batching
+mod Stayed
 mod Waiting
 pub mod MarksBegin
 mod Paging

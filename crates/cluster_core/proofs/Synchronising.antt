@@ -59,7 +59,8 @@ use Rattle.cluster_core.specs.Parts.{AllOwn}
 use Rattle.cluster_core.specs.Queue.{AreTogether, Queued, Nothing, One, posts_of, is_lone, IsQueueLegal, is_move_of, state_by, state_now, taken_by, with_queue}
 use Rattle.cluster_core.specs.Recovered.{left_by, moved_by, with_all_waiting}
 use Rattle.cluster_core.specs.Holds.{IsHeldAs, is_fetch_queued, CarriesMarks, MarkedIfThere, unended_process}
-use Rattle.cluster_core.specs.Follows.{FollowsBuilt, IsOpen}
+use Rattle.cluster_core.specs.Follows.{IsOpen}
+use Rattle.cluster_core.proofs.Beside.{FollowsBeside}
 use Rattle.cluster_core.specs.Calls.{absorbed, here_after}
 use Rattle.cluster_core.specs.Serving.{Serves}
 use Rattle.cluster_core.proofs.ByKind.{by_kind, by_sync, is_of_page, is_of_sync, lone_is, may_told, told_may}
@@ -98,7 +99,7 @@ emission_stays system log later q process steps at = λ i. option_and_then (last
 abbrev synced_in : ClusterView → Entry → ClusterView
 synced_in c e = record c { cursor = c.cursor + 1; places = placed_after c.places (what e); records = records_after (what e) c.records; steps = next_count c.steps }
 
-sync_taken : (c : ClusterView) (e : Entry) → is_of_sync (what e) ≡ true → absorbed c e ≡ synced_in c e
+pub sync_taken : (c : ClusterView) (e : Entry) → is_of_sync (what e) ≡ true → absorbed c e ≡ synced_in c e
 sync_taken c e =
     by_sync (λ w. record c {
       cursor = c.cursor + 1;
@@ -206,7 +207,7 @@ module _ (system : System) (valid : is_system system ≡ true) (log : List Entry
 
   -- ---- where processes are
 
-  home_same : (q : Pid) → home_at (placement system later) q ≡ home_at places q
+  pub home_same : (q : Pid) → home_at (placement system later) q ≡ home_at places q
   home_same q = ap (λ places. home_at places q) (placement-snoc system log e) ∙ by_sync (λ w. home_at (placed_after places w) q ≡ home_at places q) (λ pid at index bytes. refl) (λ pid small read. cut_home pid small read) (what e) of
     where
       each : (r : Pid) (o : Option Placed) → option_map (λ (q : Placed). q.home) (option_map (after_sync r) o) ≡ option_map (λ (q : Placed). q.home) o
@@ -325,8 +326,9 @@ module _ (system : System) (valid : is_system system ≡ true) (log : List Entry
   records_stay : (k : ClusterNo) (recs : List BackRec) → KeepsRecords system log k recs → KeepsRecords system later k (records_after (what e) recs)
   records_stay k recs keeps = records_kept system log e k recs valid (built_stands system later next.0) (by_sync (λ w. changes_in_place w ≡ true) (λ pid at index bytes. refl) (λ pid small read. refl) (what e) of) keeps
 
-  pub follows_sync : (c : ClusterView) (server : Option PagerState) → AllOwn c.cursor c.here → Serves places e c.server server → FollowsBuilt system log c → is_by_cluster c.number e ≡ false → FollowsBuilt system later (with_server server (absorbed c e))
-  follows_sync c server own serves f foreign = subst (λ v. FollowsBuilt system later (with_server server v)) (sym (sync_taken c e of)) (record {
+  pub follows_sync : (which : Pid → Bool) (c : ClusterView) (server : Option PagerState) → AllOwn c.cursor c.here → Serves places e c.server server → FollowsBeside which system log c → is_by_cluster c.number e ≡ false
+      → FollowsBeside which system later (with_server server (absorbed c e))
+  follows_sync which c server own serves f foreign = subst (λ v. FollowsBeside which system later (with_server server v)) (sym (sync_taken c e of)) (record {
     log = record {
       cursor = ap (λ m. m + 1) (f.log).cursor ∙ sym (length-append log (e ∷ []));
       places = ap (λ (places : Places). placed_after places (what e)) (f.log).places ∙ sym (placement-snoc system log e);
@@ -375,16 +377,16 @@ module _ (system : System) (valid : is_system system ≡ true) (log : List Entry
           subst (λ ps. IsHeldAs system later ps p h) (sym queue_is)
           (held_still c.number q p h (f.queued).together home (other_here c.number p home foreign) (mine p h there) (subst (λ ps. IsHeldAs system log ps p h) queue_is ((f.processes).held p h there)))
 
-      marks : (p : Pid) (h : Held) → held_of c.here p ≡ Some h → MarkedIfThere CarriesMarks system (with_queue system later c.queue) p (unended_process h)
-      marks p h there =
+      marks : (p : Pid) (h : Held) → held_of c.here p ≡ Some h → which p ≡ true → MarkedIfThere CarriesMarks system (with_queue system later c.queue) p (unended_process h)
+      marks p h there among =
           let home = home_of p h there in
           subst (λ ps. MarkedIfThere CarriesMarks system (with_queue system later ps) p (unended_process h)) (sym queue_is)
           (marked_after system log e p q h h valid (built_stands system later next.0) (ap is_some home.found) (unended_later p (ap is_some home.found)) (f.queued).together
           (queue_tells system log c.number q posts_own posts_legal) (queue_tells system later c.number q posts_own (queue_stays c.number q (f.queued).together foreign posts_own posts_legal))
           (subst (λ ps. IsHeldAs system log ps p h) queue_is ((f.processes).held p h there)) (subst (λ ps. IsHeldAs system later ps p h) queue_is (held p h there))
           (leaves p (other_here c.number p home foreign)) (by_sync (λ w. is_exit_of p w ≡ false) (λ pid at index bytes. refl) (λ pid small read. refl) (what e) of) (λ m. m)
-          (subst (λ ps. MarkedIfThere CarriesMarks system (with_queue system log ps) p (unended_process h)) queue_is (f.marks p h there)))
+          (subst (λ ps. MarkedIfThere CarriesMarks system (with_queue system log ps) p (unended_process h)) queue_is (f.marks p h there among)))
 
--- no queue has such a post: each of its posts is sent alone
+-- one that is sent alone is no such entry
 pub sync_not_alone : (w : What) → is_of_sync w ≡ true → is_lone w ≡ false
 sync_not_alone = by_sync (λ w. is_lone w ≡ false) (λ pid at index bytes. refl) (λ pid small read. refl)
