@@ -28,6 +28,7 @@ mod Waiting
 pub mod MarksBegin
 mod Paging
 mod Synchronising
+mod OwnBatch
 pub mod Served
 pub mod Counted
 pub mod Passing
