@@ -54,3 +54,4 @@ pub mod ByKind
 pub mod Posted
 pub mod Marking
 pub mod RunMarks
+pub mod BatchPosts
