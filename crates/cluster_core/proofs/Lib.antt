@@ -32,6 +32,7 @@ mod Waiting
 pub mod MarksBegin
 mod Paging
 mod Synchronising
+mod OwnBatch
 pub mod Served
 pub mod Counted
 pub mod Passing
@@ -57,3 +58,4 @@ pub mod ByKind
 pub mod Posted
 pub mod Marking
 pub mod RunMarks
+pub mod BatchPosts

@@ -96,7 +96,7 @@ unfolding emission_at
 emission_stays system log later q process steps at = λ i. option_and_then (last_emission (at - steps i)) (process i)
 
 -- what the cluster is then
-abbrev synced_in : ClusterView → Entry → ClusterView
+abbrev pub synced_in : ClusterView → Entry → ClusterView
 synced_in c e = record c { cursor = c.cursor + 1; places = placed_after c.places (what e); records = records_after (what e) c.records; steps = next_count c.steps }
 
 pub sync_taken : (c : ClusterView) (e : Entry) → is_of_sync (what e) ≡ true → absorbed c e ≡ synced_in c e
@@ -116,16 +116,16 @@ module _ (system : System) (valid : is_system system ≡ true) (log : List Entry
   abbrev places : Places
   places = placement system log
 
-  stands : Stands system log e
+  pub stands : Stands system log e
   stands = (IsLegal-last BuiltMayFollow system log e next.0).stands
 
-  differ : pids_differ places.placed ≡ true
+  pub differ : pids_differ places.placed ≡ true
   differ = differ_built system log valid now.0
 
   -- ---- the process that synchronises
 
   -- its home sent the entry, and every other process stands where it stood
-  record Synced : Type 0 where
+  pub record Synced : Type 0 where
     pub pid : Pid
     pub process : process_of (what e) ≡ Some pid
     pub by_home : is_by_home places (e.post).by (Some pid) ≡ true
@@ -166,7 +166,7 @@ module _ (system : System) (valid : is_system system ≡ true) (log : List Entry
           steps : (q : Pid) → q.0 ≢ pid.0 → done_after system later q ≡ done_after system log q
           steps q other = done_after-other system log e pid q small.steps (ap is_done is) stands.applies (ap count_in is) other
 
-  s : Synced
+  pub s : Synced
   s = by_sync (λ w. what e ≡ w → is_by_right places (e.post).by w ≡ true → KindHolds system log e w → Synced)
       (λ pid at index bytes is right kind. by_changed pid at index bytes is right) (λ pid small read is right kind. by_cut pid small read is right kind) (what e) of refl stands.by_right stands.kind
 
@@ -202,7 +202,7 @@ module _ (system : System) (valid : is_system system ≡ true) (log : List Entry
   deeds_none : (p : Pid) → deeds_in p (what e) ≡ []
   deeds_none p = by_sync (λ w. deeds_in p w ≡ []) (λ pid at index bytes. refl) (λ pid small read. refl) (what e) of
 
-  loses_none : (k : ClusterNo) → is_crash_of k (what e) ≡ false
+  pub loses_none : (k : ClusterNo) → is_crash_of k (what e) ≡ false
   loses_none k = by_sync (λ w. is_crash_of k w ≡ false) (λ pid at index bytes. refl) (λ pid small read. refl) (what e) of
 
   -- ---- where processes are
@@ -234,7 +234,7 @@ module _ (system : System) (valid : is_system system ≡ true) (log : List Entry
   living_same (Cluster k) = ap (λ (cs : List ClusterPlace). option_map_or (λ (c : ClusterPlace). c.lives) (slice_get cs k.0) false) clusters_same
   living_same Bus = refl
 
-  pids_same : (k : ClusterNo) → pids_home k (placement system later).placed ≡ pids_home k places.placed
+  pub pids_same : (k : ClusterNo) → pids_home k (placement system later).placed ≡ pids_home k places.placed
   pids_same k =
       ap (λ (places : Places). pids_home k places.placed) (placement-snoc system log e)
       ∙ by_sync (λ w. pids_home k (placed_after places w).placed ≡ pids_home k places.placed) (λ pid at index bytes. refl) (λ pid small read. pids_synced k pid places.placed) (what e) of
@@ -298,7 +298,7 @@ module _ (system : System) (valid : is_system system ≡ true) (log : List Entry
       by_what (inr page) = ap (now_at later) (page_moves_none p post page) ∙ s.silent p other steps ∙ ap (now_at log) (sym (page_moves_none p post page))
 
   -- what is held of it stays what the log says
-  held_still : (k : ClusterNo) (q : Queued) (p : Pid) (h : Held) → AreTogether q → HomeHere places p k → p.0 ≢ (s.pid).0 → ((waiting : WaitingState) → h ≡ Waits waiting → (waiting.kept).pid ≡ p) → IsHeldAs system log (posts_of q) p h → IsHeldAs system later (posts_of q) p h
+  pub held_still : (k : ClusterNo) (q : Queued) (p : Pid) (h : Held) → AreTogether q → HomeHere places p k → p.0 ≢ (s.pid).0 → ((waiting : WaitingState) → h ≡ Waits waiting → (waiting.kept).pid ≡ p) → IsHeldAs system log (posts_of q) p h → IsHeldAs system later (posts_of q) p h
   held_still k q p (Runs process) together home other own held = state_other q p (process.small).steps together other ∙ held
   held_still k q p (Rolls process counts births) together home other own held = (
     held.0,
@@ -323,7 +323,7 @@ module _ (system : System) (valid : is_system system ≡ true) (log : List Entry
 
   -- ---- the whole
 
-  records_stay : (k : ClusterNo) (recs : List BackRec) → KeepsRecords system log k recs → KeepsRecords system later k (records_after (what e) recs)
+  pub records_stay : (k : ClusterNo) (recs : List BackRec) → KeepsRecords system log k recs → KeepsRecords system later k (records_after (what e) recs)
   records_stay k recs keeps = records_kept system log e k recs valid (built_stands system later next.0) (by_sync (λ w. changes_in_place w ≡ true) (λ pid at index bytes. refl) (λ pid small read. refl) (what e) of) keeps
 
   pub follows_sync : (which : Pid → Bool) (c : ClusterView) (server : Option PagerState) → AllOwn c.cursor c.here → Serves places e c.server server → FollowsBeside which system log c → is_by_cluster c.number e ≡ false
