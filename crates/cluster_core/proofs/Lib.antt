@@ -58,4 +58,3 @@ pub mod ByKind
 pub mod Posted
 pub mod Marking
 pub mod RunMarks
-pub mod BatchPosts
