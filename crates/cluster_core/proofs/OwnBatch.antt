@@ -1,17 +1,15 @@
 -- A cluster that takes in a post of its own batch goes on to follow the log: a page of the process that synchronises, or the cut at the end of the batch.
-use Rattle.std.proofs.Common.{◌≡◌, ◌⊎◌, ℕ, ◌+◌, refl, sym, ◌∙◌, ap, subst, arith, List, [], ◌∷◌, ◌++◌, length-append, Bool, true, false, cond, ◌&&◌, ◌||◌, eqb, eqb-true, eq-eqb, Option, Some, None, is_some, true≢false, inl, inr}
-use Rattle.std.specs.Prelude.{◌≢◌, find, option_map}
+use Rattle.std.proofs.Common.{◌≡◌, ◌⊎◌, ℕ, ◌+◌, refl, sym, ◌∙◌, ap, subst, arith, List, [], ◌∷◌, ◌++◌, length-append, Bool, true, false, cond, eqb-true, eq-eqb, Option, Some, None, true≢false, inl, inr}
+use Rattle.std.specs.Prelude.{◌≢◌, option_map}
 use Rattle.std.specs.List.{list_all}
-use Rattle.std.specs.Option.{option_map_or}
 use Rattle.std.proofs.lemmas.Bool.{and_parts}
 use Rattle.t32_base.specs.declared.process.Pid.{Pid}
+use Rattle.t32_base.specs.declared.process.ClusterNo.{ClusterNo}
 use Rattle.sys_text.specs.declared.system.System.{System}
 use Rattle.sys_text.specs.Valid.{is_system}
 use Rattle.proc_state.specs.declared.process.Process.{Process}
 use Rattle.proc_state.specs.State.{ProcState, state_of}
 use Rattle.plain_kernel.proofs.Entries.{some_same}
-use Rattle.bus_msg.specs.declared.entry.What.{What}
-use Rattle.bus_msg.specs.declared.entry.What.TheVariants.{Sync}
 use Rattle.bus_msg.specs.declared.entry.Entry.{Entry}
 use Rattle.bus_msg.specs.declared.entry.Post.{Post}
 use Rattle.bus_msg.specs.Places.{Places, same_pid}
@@ -30,7 +28,7 @@ use Rattle.batch_laws.proofs.PageSent.{page_sent}
 use Rattle.batch_laws.proofs.RestMarks.{last_cuts}
 use Rattle.page_server.specs.Account.{PagerState}
 use Rattle.page_waits.specs.Waiting.{WaitingState}
-use Rattle.cluster_core.specs.View.{ClusterView, Held, Runs, Rolls, Waits, after_sent, head_of, held_at, held_of, with_server}
+use Rattle.cluster_core.specs.View.{ClusterView, Held, Runs, Rolls, Waits, after_sent, head_of, held_at, with_server}
 use Rattle.cluster_core.specs.Residents.{pids_in}
 use Rattle.cluster_core.specs.Parts.{AllOwn}
 use Rattle.cluster_core.specs.Queue.{Nothing, IsQueued, IsQueueLegal, is_rebackup, move_of, state_by, state_now, with_queue}
@@ -39,6 +37,7 @@ use Rattle.cluster_core.specs.Syncing.{Synchronises}
 use Rattle.cluster_core.specs.Follows.{FollowsBuilt, IsOpen, StandsBetween}
 use Rattle.cluster_core.specs.Calls.{absorbed}
 use Rattle.cluster_core.specs.Serving.{Serves}
+use Rattle.cluster_core.proofs.BatchPosts.{batch_fetches_none, batch_moves, batch_moves_other}
 use Rattle.cluster_core.proofs.ByKind.{by_sync, is_of_sync}
 use Rattle.cluster_core.proofs.Counted.{count_by-snoc, lost_before}
 use Rattle.cluster_core.proofs.Following.{counted_own}
@@ -73,9 +72,13 @@ requeued system log p q posts (Waits waiting) aside apart held = (aside.moves q 
 none_aside : (p : Pid) → AsideOf p []
 none_aside p = record { moves = λ q apart. refl; fetches = λ q i. refl }
 
+-- so are those that are left of a batch
+batch_aside : (k : ClusterNo) (p : Pid) (s : ProcState) (read indices : List ℕ) → AsideOf p (posts_left k p s read indices)
+batch_aside k p s read indices = record { moves = λ q. batch_moves_other k p s read q indices; fetches = λ q i. batch_fetches_none k p s read q i indices }
+
 -- ---- the head of a batch in the log
 
--- the head was sent
+-- a cluster whose head was sent has the rest
 abbrev left : ClusterView → List Post → ClusterView
 left b rest = record b { queue = rest; tried = false }
 
@@ -152,6 +155,7 @@ module _ (system : System) (valid : is_system system ≡ true) (log : List Entry
 
 -- ---- the whole
 
+-- After the entry that the head of its batch became, a cluster follows the log with it: it has the rest of the batch to send, or nothing once that was the cut.
 pub follows_own_batch : (c : ClusterView) (log : List Entry) (e : Entry) (server : Option PagerState) → is_system c.system ≡ true → AllOwn c.cursor c.here → IsOpen BuiltMayFollow c.system log → IsOpen BuiltMayFollow c.system (log ++ e ∷ [])
     → (s : StandsBetween FollowsBuilt c.system log e c) → Synchronises c.system log s.before → Serves (placement c.system log) e c.server server → FollowsBuilt c.system (log ++ e ∷ []) (with_server server (absorbed c e))
 follows_own_batch c log e server valid own now next s y serves = by_indices y.indices y.posts y.may
@@ -185,11 +189,11 @@ follows_own_batch c log e server valid own now next s y serves = by_indices y.in
 
     by_indices : (indices : List ℕ) → b.queue ≡ posts_left b.number y.pid state y.read indices → BatchMay system log b.number y.pid state y.read indices → FollowsBuilt system (log ++ e ∷ []) (with_server server (absorbed c e))
     by_indices [] posts may =
-        from_head (sync_left b.number y.pid state y.read) [] posts refl refl refl (aside_left b.number y.pid state y.read []) (none_aside y.pid)
+        from_head (sync_left b.number y.pid state y.read) [] posts refl refl refl (batch_aside b.number y.pid state y.read []) (none_aside y.pid)
         (at_once system _ y.pid state (cut_process system log _ y.pid state (last_cuts system log b.number y.pid state y.read may))) (inl (record { queued = Nothing; posts = refl; together = tt }))
     by_indices (i ∷ indices) posts may =
         let sent = page_sent system log b.number y.pid state i y.read indices may in
-        from_head (page_left b.number y.pid state i) (posts_left b.number y.pid state y.read indices) posts refl refl refl (aside_left b.number y.pid state y.read (i ∷ indices)) (aside_left b.number y.pid state y.read indices)
+        from_head (page_left b.number y.pid state i) (posts_left b.number y.pid state y.read indices) posts refl refl refl (batch_aside b.number y.pid state y.read (i ∷ indices)) (batch_aside b.number y.pid state y.read indices)
         (ap (state_by system _ y.pid (state.small).steps) (batch_moves b.number y.pid state y.read indices) ∙ ap (option_map (λ s. s)) (sent.may).reached)
         (inr (record {
           pid = y.pid;
