@@ -16,17 +16,14 @@ use Rattle.bus_msg.specs.PlacedAfter.{what}
 use Rattle.crash_notice.specs.Splitting.{moves_here}
 use Rattle.cert_sched.specs.Built.{BuiltMayFollow, is_built, tells_or_closes, is_unlost}
 use Rattle.cert_sched.specs.Losses.{is_by_cluster, is_crash_of}
-use Rattle.cert_sched.specs.Appended.{entry_of}
 use Rattle.cert_sched.specs.Rules.{home_at}
 use Rattle.bus_msg.specs.declared.placed.Placed.{Placed}
-use Rattle.proc_state.specs.State.{state_of}
-use Rattle.batch_laws.specs.Underway.{page_left, posts_left, sync_left}
 use Rattle.cert_sched.specs.Schedule.{placement}
 use Rattle.cert_sched.proofs.LogLaws.{IsLegal-last}
 use Rattle.cert_sched.proofs.MailLaws.{sent_no_signal}
 use Rattle.cert_sched.proofs.StepLaws.{Tells}
 use Rattle.backup_records.specs.Records.{are_rising, record_in, records_after}
-use Rattle.cluster_core.specs.View.{ClusterView, Held, Runs, Rolls, after_head, after_sent, head_of, with_server, Waits, held_at, held_of}
+use Rattle.cluster_core.specs.View.{ClusterView, Held, Runs, Rolls, with_server, Waits, held_at, held_of}
 use Rattle.cluster_core.specs.Parts.{AllOwn}
 use Rattle.cluster_core.specs.Recovered.{moved_by, CanWait, with_all_waiting}
 use Rattle.cluster_core.specs.Follows.{FollowsBuilt, IsOpen, StandsBetween}
@@ -43,9 +40,10 @@ use Rattle.cluster_core.specs.Serving.{Serves}
 use Rattle.page_server.specs.Account.{PagerState}
 use Rattle.cluster_core.proofs.Turning.{built_no_birth}
 use Rattle.cluster_core.proofs.Owning.{brings_none, own_after, own_later, own_page}
-use Rattle.cluster_core.proofs.Following.{Left, apart, follows_foreign, follows_own, found_stays, left_of, next_of, told_taken}
+use Rattle.cluster_core.proofs.Following.{Left, Next, apart, follows_foreign, follows_own, found_stays, left_of, next_of, told_taken}
 use Rattle.cluster_core.proofs.Beside.{FollowsBeside, all_of, beside_of, built_of}
-use Rattle.cluster_core.proofs.Batching.{all_but, unqueued, without_batch}
+use Rattle.cluster_core.proofs.AfterSent.{sent_is}
+use Rattle.cluster_core.proofs.Batching.{all_but, batch_head, unqueued, without_batch}
 use Rattle.cluster_core.proofs.Stayed.{RunsStill, home_now, stays_with_batch, still_itself, still_paged, still_told}
 use Rattle.cluster_core.proofs.OwnBatch.{follows_own_batch}
 use Rattle.cluster_core.specs.Absorbing.{CanCome}
@@ -53,7 +51,7 @@ use Rattle.cluster_core.specs.Resident.{CanComeTo}
 use Rattle.cluster_core.specs.Holds.{IsHeldAs}
 use Rattle.cert_sched.specs.Simulation.{IsUnended}
 use Rattle.cluster_core.proofs.Waiting.{may_come_to}
-use Rattle.bus_msg.specs.declared.entry.What.TheVariants.{PageIs, Rebackup}
+use Rattle.bus_msg.specs.declared.entry.What.TheVariants.{PageIs}
 use Rattle.cert_sched.specs.Parts.{rising}
 use Rattle.cert_sched.specs.Rests.{home_pids}
 use Rattle.cluster_core.specs.Residents.{pids_in}
@@ -124,25 +122,6 @@ module _ (c : ClusterView) (log : List Entry) (e : Entry) (y : Synchronises c.sy
           subst (RunsStill y.process) (sym (same_process h there)) (still_itself y.process)
       by_kind_of (inr (inr (inr of))) = subst (RunsStill y.process) (sym (same_process h (ap (λ (v : ClusterView). held_at v y.pid) (sym (sync_taken c e of)) ∙ at))) (still_itself y.process)
 
--- ---- its own entry
-
--- the head of a batch is a page or a synchronisation
-batch_head : (system : System) (log : List Entry) (e : Entry) (before : ClusterView) → Synchronises system log before → option_map (entry_of system log) (head_of before.queue) ≡ Some e → is_of_sync (what e) ≡ true
-batch_head system log e before y head = by_indices y.indices (sym (ap (λ ps. option_map (entry_of system log) (head_of ps)) y.posts) ∙ head)
-  where
-    by_indices : (indices : List ℕ) → option_map (entry_of system log) (head_of (posts_left before.number y.pid (state_of y.process) y.read indices)) ≡ Some e → is_of_sync (what e) ≡ true
-    by_indices [] is = let whole : entry_of system log (sync_left before.number y.pid (state_of y.process) y.read) ≡ e = cc in ap (λ (x : Entry). is_of_sync (what x)) (sym whole)
-    by_indices (i ∷ indices) is = let whole : entry_of system log (page_left before.number y.pid (state_of y.process) i) ≡ e = cc in ap (λ (x : Entry). is_of_sync (what x)) (sym whole)
-
--- sending it leaves the placement
-head_places : (c : ClusterView) (w : What) → (after_head c w).places ≡ c.places
-head_places c (Rebackup to true (r ∷ rs)) = refl
-head_places c _ = refl
-
-sent_places : (c : ClusterView) (queue : List Post) → (after_sent c queue).places ≡ c.places
-sent_places c [] = refl
-sent_places c (head ∷ rest) = head_places c head.what
-
 -- ---- the whole
 
 -- a cluster that takes in an entry for which it is ready
@@ -177,7 +156,7 @@ absorbs c e server valid own order serves log now later ready = by_ready ready
     own_post s (inr y) = follows_own_batch c log e server valid own now later s y serves_log
       where
         serves_log : Serves (placement c.system log) e c.server server
-        serves_log = serves_there (ap (λ (d : ClusterView). d.places) s.sent ∙ sent_places s.before (s.before).queue ∙ ((s.followed).log).places)
+        serves_log = serves_there (ap (λ (d : ClusterView). d.places) (s.sent ∙ sent_is s.before (s.before).queue) ∙ ((s.followed).log).places)
 
     by_ready : IsReady log e c → FollowsBuilt c.system (log ++ e ∷ []) (with_server server (absorbed c e))
     by_ready (inl f) = foreign f.0 f.1 f.2 (f.0).queued

@@ -3,34 +3,28 @@ use Rattle.std.proofs.Common.{◌≡◌, ℕ, ◌≤◌, refl, sym, ◌∙◌, a
 use Rattle.std.specs.Prelude.{is_some, option_map, map}
 use Rattle.std.specs.List.{list_all}
 use Rattle.t32_base.specs.declared.process.Pid.{Pid}
-use Rattle.t32_base.specs.declared.process.ClusterNo.{ClusterNo}
 use Rattle.sys_text.specs.declared.system.System.{System}
 use Rattle.sys_text.specs.Valid.{is_system}
-use Rattle.rv_mem.specs.Memory.{page_at}
 use Rattle.proc_state.specs.declared.process.Process.{Process}
 use Rattle.proc_state.specs.State.{ProcState, has_ended, state_of}
-use Rattle.bus_msg.specs.declared.entry.What.TheVariants.{Page, Sync}
-use Rattle.bus_msg.specs.declared.entry.By.TheVariants.{Cluster}
 use Rattle.bus_msg.specs.declared.entry.Post.{Post}
 use Rattle.bus_msg.specs.declared.entry.Entry.{Entry}
 use Rattle.bus_msg.specs.Places.{same_pid}
+use Rattle.bus_msg.specs.PlacedAfter.{what}
+use Rattle.cert_sched.specs.Appended.{entry_of}
 use Rattle.cert_sched.specs.Built.{BuiltMayFollow, UnlostMayFollow}
 use Rattle.cert_sched.specs.Deeds.{arrived_count}
 use Rattle.cert_sched.specs.Legal.{IsLegalBy, Stands}
-use Rattle.cert_sched.specs.Losses.{capped, is_from, least_calls, was_lost_in}
+use Rattle.cert_sched.specs.Losses.{capped, is_from, least_calls}
 use Rattle.cert_sched.specs.Parts.{rising}
 use Rattle.cert_sched.specs.Rests.{home_pids}
 use Rattle.cert_sched.specs.Schedule.{placement}
-use Rattle.cert_sched.specs.Scripted.{is_server}
 use Rattle.cert_sched.specs.Simulation.{IsUnended}
-use Rattle.cert_sched.specs.Steps.{silent_upto}
 use Rattle.mark_laws.specs.Sent.{SentUpto}
-use Rattle.batch_laws.specs.Underway.{posts_left}
+use Rattle.batch_laws.specs.Underway.{page_left, posts_left, sync_left}
 use Rattle.batch_laws.proofs.QueuedBatch.{queued_sent_before}
-use Rattle.recovery_laws.specs.Behind.{RollsBehind}
-use Rattle.wait_laws.specs.Waits.{WaitsAs}
 use Rattle.record_laws.proofs.Standing.{built_stands}
-use Rattle.cluster_core.specs.View.{ClusterView, Held, Runs, Rolls, Waits, disk_calls, held_at}
+use Rattle.cluster_core.specs.View.{ClusterView, Held, Runs, Rolls, Waits, disk_calls, head_of, held_at}
 use Rattle.cluster_core.specs.Residents.{pids_in}
 use Rattle.cluster_core.specs.Queue.{Nothing, IsQueueLegal, move_of, state_by, with_queue}
 use Rattle.cluster_core.specs.Holds.{CarriesMarks, IsHeldAs, MarkedIfThere, is_fetch_queued, unended_process}
@@ -38,6 +32,7 @@ use Rattle.cluster_core.specs.Syncing.{Synchronises}
 use Rattle.cluster_core.specs.Follows.{FollowsBuilt, IsOpen}
 use Rattle.cluster_core.proofs.BatchPosts.{batch_calls, batch_fetches_none, batch_legal, batch_log, batch_marks_others, batch_marks_others_before, batch_marks_own, batch_moves, batch_moves_other, batch_own}
 use Rattle.cluster_core.proofs.Beside.{FollowsBeside}
+use Rattle.cluster_core.proofs.ByKind.{is_of_sync}
 use Rattle.cluster_core.proofs.Here.{is_among, pid_same, same_itself}
 use Rattle.cluster_core.proofs.Homes.{HomeHere, differ_built, home_here}
 use Rattle.cluster_core.proofs.Marking.{came_to}
@@ -62,6 +57,14 @@ held_alike system log before after q (Waits waiting) none still fetches held = (
 arrived_low : (system : System) (log : List Entry) (q : Pid) (h : Held) → is_system system ≡ true → IsLegalBy Stands system log → IsUnended system log q → IsHeldAs system log [] q h
     → (process : Process) → unended_process h ≡ Some process → (process.mail).next ≤ arrived_count log q
 arrived_low system log q h valid legal unended held process is = let came = came_to system log q valid legal unended Nothing h process tt tt held is in omega (arith, came)
+
+-- the head of a batch is a page or a synchronisation
+pub batch_head : (system : System) (log : List Entry) (e : Entry) (before : ClusterView) → Synchronises system log before → option_map (entry_of system log) (head_of before.queue) ≡ Some e → is_of_sync (what e) ≡ true
+batch_head system log e before y head = by_indices y.indices (sym (ap (λ ps. option_map (entry_of system log) (head_of ps)) y.posts) ∙ head)
+  where
+    by_indices : (indices : List ℕ) → option_map (entry_of system log) (head_of (posts_left before.number y.pid (state_of y.process) y.read indices)) ≡ Some e → is_of_sync (what e) ≡ true
+    by_indices [] is = let whole : entry_of system log (sync_left before.number y.pid (state_of y.process) y.read) ≡ e = cc in ap (λ (x : Entry). is_of_sync (what x)) (sym whole)
+    by_indices (i ∷ indices) is = let whole : entry_of system log (page_left before.number y.pid (state_of y.process) i) ≡ e = cc in ap (λ (x : Entry). is_of_sync (what x)) (sym whole)
 
 module _ (system : System) (log : List Entry) (c : ClusterView) (y : Synchronises system log c) (valid : is_system system ≡ true) (open_log : IsOpen BuiltMayFollow system log) where
   abbrev p : Pid

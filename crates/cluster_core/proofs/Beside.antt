@@ -14,16 +14,16 @@ use Rattle.cluster_core.specs.Follows.{FollowsBuilt}
 abbrev pub HoldsMarksOf : (Pid → Bool) → System → List Entry → ClusterView → Type 0
 HoldsMarksOf which system log c = (p : Pid) (h : Held) → held_at c p ≡ Some h → which p ≡ true → MarkedIfThere CarriesMarks system (with_queue system log c.queue) p (unended_process h)
 
-pub record FollowsBeside (which : Pid → Bool) (system : System) (log : List Entry) (c : ClusterView) : Type 0 where
-  pub log : HoldsLog system log c
-  pub processes : HoldsProcesses system log c
-  pub queue : HoldsQueue UnlostMayFollow system log c
+pub record FollowsBeside (which : Pid → Bool) (system : System) (entries : List Entry) (c : ClusterView) : Type 0 where
+  pub log : HoldsLog system entries c
+  pub processes : HoldsProcesses system entries c
+  pub queue : HoldsQueue UnlostMayFollow system entries c
   pub queued : IsQueued c.queue
-  pub steps : HoldsSteps log c
-  pub pages : HoldsPages system log c
-  pub marks : HoldsMarksOf which system log c
-  pub records : HoldsRecords system log c
-  pub accounts : HoldsAccounts system log c
+  pub steps : HoldsSteps entries c
+  pub pages : HoldsPages system entries c
+  pub marks : HoldsMarksOf which system entries c
+  pub records : HoldsRecords system entries c
+  pub accounts : HoldsAccounts system entries c
   pub disk : HasNotFailed c
 
 -- all processes

@@ -24,6 +24,7 @@ mod LostQueue
 mod Losing
 mod OwningWaits
 mod Unmoved
+mod AfterSent
 mod Beside
 mod BatchPosts
 mod Batching
