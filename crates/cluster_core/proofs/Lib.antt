@@ -1,7 +1,6 @@
 pub mod Telling
 pub mod Standing
 pub mod Quanta
-mod RunningOn
 pub mod Here
 pub mod Slots
 pub mod Kept
