@@ -54,3 +54,4 @@ pub mod Posted
 pub mod Marking
 pub mod RunMarks
 pub mod BatchPosts
+mod BeginSync
