@@ -8,7 +8,7 @@ use Rattle.t32_base.specs.declared.process.ClusterNo.{ClusterNo}
 use Rattle.sys_text.specs.declared.system.System.{System}
 use Rattle.sys_text.specs.Valid.{is_system}
 use Rattle.proc_state.specs.declared.process.Process.{Process}
-use Rattle.proc_state.specs.State.{ProcState, state_of, has_ended}
+use Rattle.proc_state.specs.State.{ProcState, state_of}
 use Rattle.bus_msg.specs.declared.entry.What.TheVariants.{Sync}
 use Rattle.bus_msg.specs.declared.entry.Post.{Post}
 use Rattle.bus_msg.specs.declared.entry.Entry.{Entry}
@@ -21,9 +21,6 @@ use Rattle.cert_sched.specs.Legal.{IsLegalBy, Stands}
 use Rattle.cert_sched.specs.Losses.{is_by_cluster, is_from, is_page_is_entry, least_calls}
 use Rattle.cert_sched.specs.Rules.{has_its_pages}
 use Rattle.cert_sched.specs.Simulation.{IsUnended}
-use Rattle.cert_sched.specs.Steps.{silent_upto}
-use Rattle.read_laws.proofs.RollingReads.{silent_next}
-use Rattle.recovery_laws.proofs.Others.{rolls_next}
 use Rattle.page_laws.proofs.Keeping.{pages_kept}
 use Rattle.page_laws.proofs.OneEntry.{moves_none}
 use Rattle.sync_laws.specs.Batched.{AllNew, AllStand, log_with}
@@ -32,36 +29,9 @@ use Rattle.batch_laws.specs.Underway.{BatchMay, page_left, posts_left, sync_left
 use Rattle.batch_laws.proofs.QueuedBatch.{queued_before, queued_kept, queued_others, queued_own, queued_sent_before}
 use Rattle.batch_laws.proofs.RestMarks.{rest_marks}
 use Rattle.batch_laws.proofs.RestStands.{rest_is_new, rest_stands}
-use Rattle.cluster_core.specs.View.{Held, Runs, Rolls, Waits}
-use Rattle.cluster_core.specs.Queue.{IsQueueLegal, move_of, state_by, with_queue}
-use Rattle.cluster_core.specs.Holds.{CarriesMarks, IsHeldAs, MarkedIfThere, is_fetch_queued, unended_process}
+use Rattle.cluster_core.specs.Queue.{IsQueueLegal, move_of, with_queue}
+use Rattle.cluster_core.specs.Holds.{CarriesMarks, MarkedIfThere, is_fetch_queued}
 use Rattle.cluster_core.proofs.Counted.{count_by-snoc}
-
--- Where no move of it is queued, no more letters came to a process that is held than the log has for it.
-pub came_unmoved : (system : System) (log : List Entry) (q : Pid) (queue : List Post) (h : Held) (s : Process) → is_system system ≡ true → IsLegalBy Stands system log → move_of q queue ≡ None → IsHeldAs system log queue q h → unended_process h ≡ Some s
-    → (s.mail).next ≤ arrived_count log q
-came_unmoved system log q queue (Runs t) s valid legal none held is = by_status (has_ended (t.small).status) refl is
-  where
-    silent : silent_upto system log q (t.small).steps ≡ Some (state_of t)
-    silent = sym (ap (state_by system log q (t.small).steps) none) ∙ held
-
-    by_status : (b : Bool) → has_ended (t.small).status ≡ b → cond b None (Some t) ≡ Some s → (s.mail).next ≤ arrived_count log q
-    by_status true ended is = cc
-    by_status false runs is =
-        let same : t ≡ s = cc in
-        let next : (t.mail).next ≡ arrived_count log q = silent_next system log q (t.small).steps (state_of t) valid legal silent runs in
-        let kept : (t.mail).next ≡ (s.mail).next = ap (λ (s : Process). (s.mail).next) same in
-        omega (arith, next, kept)
-came_unmoved system log q queue (Rolls t counts births) s valid legal none held is = by_status (has_ended (t.small).status) is
-  where
-    by_status : (b : Bool) → cond b None (Some t) ≡ Some s → (s.mail).next ≤ arrived_count log q
-    by_status true is = cc
-    by_status false is =
-        let same : t ≡ s = cc in
-        let next : (t.mail).next ≡ arrived_count log q = rolls_next system log q (state_of t) counts births (held.1).rolls in
-        let kept : (t.mail).next ≡ (s.mail).next = ap (λ (s : Process). (s.mail).next) same in
-        omega (arith, next, kept)
-came_unmoved system log q queue (Waits waiting) s valid legal none held is = cc
 
 module _ (k : ClusterNo) (p : Pid) (s : ProcState) (read : List ℕ) where
   -- Each post is sent by the cluster.

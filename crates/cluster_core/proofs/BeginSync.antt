@@ -1,5 +1,5 @@
 -- A process that is due synchronises: with its batch queued a cluster goes on to follow each log that it followed.
-use Rattle.std.proofs.Common.{◌≡◌, ℕ, ◌+◌, ◌-◌, ◌*◌, ◌≤◌, refl, sym, ◌∙◌, ap, subst, List, [], ◌∷◌, length, Bool, true, false, cond, Option, Some, None, is_some, inr, true≢false}
+use Rattle.std.proofs.Common.{◌≡◌, ◌+◌, ◌-◌, ◌*◌, ◌≤◌, refl, sym, ◌∙◌, ap, subst, arith, List, [], ◌∷◌, length, Bool, true, false, cond, Some, None, is_some, inr, true≢false}
 use Rattle.std.specs.Prelude.{find, option_and_then, option_map, replicate}
 use Rattle.std.specs.List.{list_all}
 use Rattle.t32_base.specs.declared.process.Pid.{Pid}
@@ -13,6 +13,7 @@ use Rattle.bus_msg.specs.declared.entry.By.TheVariants.{Cluster}
 use Rattle.bus_msg.specs.declared.entry.Post.{Post}
 use Rattle.bus_msg.specs.declared.entry.Entry.{Entry}
 use Rattle.bus_msg.specs.Places.{same_pid}
+use Rattle.cert_sched.specs.Deeds.{arrived_count}
 use Rattle.cert_sched.specs.Parts.{rising}
 use Rattle.cert_sched.specs.Schedule.{done, placement, process_after}
 use Rattle.cert_sched.specs.Steps.{silent_upto}
@@ -37,7 +38,7 @@ use Rattle.batch_laws.proofs.NoBirths.{no_children}
 use Rattle.cluster_core.specs.View.{ClusterView, Held, Runs, Rolls, Waits, disk_calls, held_at, held_of, limits_of, next_count}
 use Rattle.cluster_core.specs.Residents.{pids_in, with_changed}
 use Rattle.cluster_core.specs.Parts.{AllOwn}
-use Rattle.cluster_core.specs.Queue.{IsQueueLegal, move_of, state_by, state_now, taken_by, with_queue}
+use Rattle.cluster_core.specs.Queue.{IsQueueLegal, Nothing, move_of, state_by, state_now, taken_by, with_queue}
 use Rattle.cluster_core.specs.Holds.{CarriesMarks, IsHeldAs, MarkedIfThere, is_fetch_queued, unended_process}
 use Rattle.cluster_core.specs.Syncing.{Synchronises}
 use Rattle.cluster_core.specs.Follows.{FollowsBuilt, IsOpen}
@@ -45,7 +46,8 @@ use Rattle.cluster_core.specs.Calls.{GoesOn}
 use Rattle.cluster_core.proofs.Here.{is_among, pids_changed, same_itself}
 use Rattle.cluster_core.proofs.Homes.{HomeHere, differ_built, home_here, home_lives}
 use Rattle.cluster_core.proofs.Waiting.{queued_alike}
-use Rattle.cluster_core.proofs.BatchPosts.{batch_calls, batch_fetches_none, batch_legal, batch_marks_others, batch_marks_own, batch_moves, batch_moves_other, batch_own, came_unmoved}
+use Rattle.cluster_core.proofs.BatchPosts.{batch_calls, batch_fetches_none, batch_legal, batch_marks_others, batch_marks_own, batch_moves, batch_moves_other, batch_own}
+use Rattle.cluster_core.proofs.Marking.{came_to}
 use Rattle.cluster_core.proofs.Working.{held_beside, home_by, marks_beside, more_counted, pages_beside, turned}
 
 -- ---- a process that runs
@@ -80,7 +82,7 @@ module _ (system : System) (log : List Entry) (p : Pid) (process : Process) (val
   -- its memory has its pages
   still_sized : length (process.ram).bytes ≡ 256 * (process.small).pages
   still_sized =
-      let same = silent_sizes ((process.small).steps - done (from.kernel) p) from.was (state_of process) from.silent in
+      let same = silent_sizes ((process.small).steps - done from.kernel p) from.was (state_of process) from.silent in
       same.bytes ∙ process_sized system log p from.was valid was_there ∙ ap (λ n. 256 * n) (sym same.pages)
 
 -- ---- a process of a cluster that follows a log, where nothing is queued and the process is due
@@ -194,12 +196,18 @@ module _ (c : ClusterView) (p : Pid) (process : Process) (valid : is_system c.sy
       (subst (λ ps. CarriesMarks c.system (with_queue c.system log ps) p (synced process)) (sym posts)
       (batch_marks_own c.number p (state_of process) process.read c.system log (marked_pages process) valid legal begins (synced process) refl refl refl no_marks carries.sent))
 
+  -- no more letters came to a process that is held than the log has for it
+  arrived_low : (q : Pid) (h : Held) → held_at c q ≡ Some h → (s : Process) → unended_process h ≡ Some s → (s.mail).next ≤ arrived_count log q
+  arrived_low q h at s is =
+      let came = came_to c.system log q valid legal (ap is_some (home_of q h at).found) Nothing h s tt tt (held_so q h at) is in
+      omega (arith, came)
+
   others_marked : (q : Pid) (h : Held) → same_pid q p ≡ false → held_at c q ≡ Some h → MarkedIfThere CarriesMarks c.system (with_queue c.system log c.queue) q (unended_process h)
       → MarkedIfThere CarriesMarks c.system (with_queue c.system log (batch process c.number)) q (unended_process h)
   others_marked q h other at m =
       subst (λ ps. MarkedIfThere CarriesMarks c.system (with_queue c.system log ps) q (unended_process h)) (sym posts)
       (batch_marks_others c.number p (state_of process) process.read c.system log (marked_pages process) valid legal begins q (unended_process h) (turned p q other) (ap is_some (home_of q h at).found)
-      (λ s is. came_unmoved c.system log q [] h s valid legal refl (held_so q h at) is) (marked_so q h m))
+      (arrived_low q h at) (marked_so q h m))
 
   follows_batch : FollowsBuilt c.system log (record c { here = with_changed p (Runs (synced process)) c.here; queue = batch process c.number; steps = next_count c.steps })
   follows_batch = record {

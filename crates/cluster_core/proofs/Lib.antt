@@ -37,6 +37,7 @@ pub mod Following
 pub mod Owning
 mod Catching
 mod FirstServer
+mod BeginSync
 pub mod Working
 mod Answering
 mod Fetching
@@ -54,4 +55,3 @@ pub mod Posted
 pub mod Marking
 pub mod RunMarks
 pub mod BatchPosts
-mod BeginSync
