@@ -42,6 +42,7 @@ pub mod Following
 pub mod Owning
 mod Catching
 mod FirstServer
+mod BeginSync
 pub mod Working
 mod Answering
 mod Fetching
