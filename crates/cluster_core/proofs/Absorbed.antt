@@ -11,10 +11,9 @@ use Rattle.sys_calls.proofs.Quiet.{sends_none}
 use Rattle.bus_msg.specs.declared.entry.What.{What}
 use Rattle.bus_msg.specs.declared.entry.Post.{Post}
 use Rattle.bus_msg.specs.declared.entry.Entry.{Entry}
-use Rattle.bus_msg.specs.Places.{same_cluster}
 use Rattle.bus_msg.specs.PlacedAfter.{what}
 use Rattle.crash_notice.specs.Splitting.{moves_here}
-use Rattle.cert_sched.specs.Built.{BuiltMayFollow, is_built, tells_or_closes, is_unlost}
+use Rattle.cert_sched.specs.Built.{BuiltMayFollow, is_built, tells_or_closes}
 use Rattle.cert_sched.specs.Losses.{is_by_cluster, is_crash_of}
 use Rattle.cert_sched.specs.Rules.{home_at}
 use Rattle.bus_msg.specs.declared.placed.Placed.{Placed}
@@ -27,10 +26,10 @@ use Rattle.cluster_core.specs.View.{ClusterView, Held, Runs, Rolls, with_server,
 use Rattle.cluster_core.specs.Parts.{AllOwn}
 use Rattle.cluster_core.specs.Recovered.{moved_by, CanWait, with_all_waiting}
 use Rattle.cluster_core.specs.Follows.{FollowsBuilt, IsOpen, StandsBetween}
-use Rattle.cluster_core.specs.Queue.{IsQueued, is_lone}
+use Rattle.cluster_core.specs.Queue.{IsQueued}
 use Rattle.cluster_core.specs.Syncing.{Synchronises}
 use Rattle.cluster_core.specs.Calls.{Absorbs, IsReady, ReadyFor, absorbed, here_after}
-use Rattle.cluster_core.proofs.ByKind.{IsLoss, OneOf, by_kind, by_page, by_sync, is_of_page, is_of_sync, kind_is}
+use Rattle.cluster_core.proofs.ByKind.{IsLoss, OneOf, by_kind, by_page, by_sync, is_of_page, is_of_sync}
 use Rattle.cluster_core.proofs.Homes.{HomeHere, differ_built, home_here}
 use Rattle.cluster_core.proofs.Losing.{follows_lost, can_wait, still_here}
 use Rattle.cluster_core.proofs.LostQueue.{home_stays}

@@ -31,7 +31,7 @@ use Rattle.cluster_core.specs.View.{ClusterView, Held, arrived_held, held_of}
 use Rattle.cluster_core.specs.Queue.{IsQueued}
 use Rattle.cluster_core.specs.Syncing.{Synchronises}
 use Rattle.cluster_core.proofs.Batching.{batch_head}
-use Rattle.cluster_core.proofs.Following.{Next, left_of, next_of, own_unlost}
+use Rattle.cluster_core.proofs.Following.{Next, left_of, next_of}
 use Rattle.cluster_core.proofs.Here.{is_among, pid_same, same_itself}
 use Rattle.cluster_core.proofs.Homes.{HomeHere, differ_built, home_here, home_lives}
 use Rattle.cluster_core.proofs.ByKind.{OneOf, by_kind, by_page, by_sync, kind_is}

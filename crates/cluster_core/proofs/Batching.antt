@@ -1,12 +1,12 @@
 -- A cluster that follows a log, where the rest of a batch is queued: beside the batch, and with it.
-use Rattle.std.proofs.Common.{◌≡◌, ℕ, ◌≤◌, refl, sym, ◌∙◌, ap, subst, arith, List, [], ◌∷◌, ◌++◌, Bool, true, false, cond, not, eqb, eqb-true, ne_eqb, eq-eqb, Option, Some, None, true≢false, inl, inr}
-use Rattle.std.specs.Prelude.{is_some, option_map, map}
+use Rattle.std.proofs.Common.{◌≡◌, ℕ, ◌≤◌, refl, sym, ◌∙◌, ap, subst, arith, List, [], ◌∷◌, ◌++◌, Bool, true, false, cond, not, eqb-true, Some, None, true≢false, inr}
+use Rattle.std.specs.Prelude.{is_some, option_map}
 use Rattle.std.specs.List.{list_all}
 use Rattle.t32_base.specs.declared.process.Pid.{Pid}
 use Rattle.sys_text.specs.declared.system.System.{System}
 use Rattle.sys_text.specs.Valid.{is_system}
 use Rattle.proc_state.specs.declared.process.Process.{Process}
-use Rattle.proc_state.specs.State.{ProcState, has_ended, state_of}
+use Rattle.proc_state.specs.State.{ProcState, state_of}
 use Rattle.bus_msg.specs.declared.entry.Post.{Post}
 use Rattle.bus_msg.specs.declared.entry.Entry.{Entry}
 use Rattle.bus_msg.specs.Places.{same_pid}
@@ -33,8 +33,8 @@ use Rattle.cluster_core.specs.Follows.{FollowsBuilt, IsOpen}
 use Rattle.cluster_core.proofs.BatchPosts.{batch_calls, batch_fetches_none, batch_legal, batch_log, batch_marks_others, batch_marks_others_before, batch_marks_own, batch_moves, batch_moves_other, batch_own}
 use Rattle.cluster_core.proofs.Beside.{FollowsBeside}
 use Rattle.cluster_core.proofs.ByKind.{is_of_sync}
-use Rattle.cluster_core.proofs.Here.{is_among, pid_same, same_itself}
-use Rattle.cluster_core.proofs.Homes.{HomeHere, differ_built, home_here}
+use Rattle.cluster_core.proofs.Here.{is_among, pid_same}
+use Rattle.cluster_core.proofs.Homes.{differ_built, home_here}
 use Rattle.cluster_core.proofs.Marking.{came_to}
 use Rattle.cluster_core.proofs.Waiting.{queued_alike}
 

@@ -1,25 +1,22 @@
 -- A process that is due synchronises: with its batch queued a cluster goes on to follow each log that it followed.
-use Rattle.std.proofs.Common.{◌≡◌, ◌+◌, ◌-◌, ◌*◌, ◌≤◌, refl, sym, ◌∙◌, ap, subst, arith, List, [], ◌∷◌, length, Bool, true, false, cond, Some, None, is_some, inr, true≢false}
+use Rattle.std.proofs.Common.{◌≡◌, ◌+◌, ◌-◌, ◌*◌, ◌≤◌, refl, sym, ◌∙◌, ap, subst, List, [], ◌∷◌, length, Bool, true, false, cond, Some, None, is_some, true≢false}
 use Rattle.std.specs.Prelude.{find, option_and_then, option_map, replicate}
-use Rattle.std.specs.List.{list_all}
+use Rattle.std.proofs.lemmas.Bool.{not-true}
 use Rattle.t32_base.specs.declared.process.Pid.{Pid}
 use Rattle.sys_text.specs.declared.system.System.{System}
 use Rattle.sys_text.specs.Valid.{is_system}
 use Rattle.proc_state.specs.declared.process.Process.{Process}
 use Rattle.proc_state.specs.State.{state_of, has_ended}
 use Rattle.plain_kernel.specs.Kernel.{process_at}
-use Rattle.bus_msg.specs.declared.entry.What.TheVariants.{Sync}
 use Rattle.bus_msg.specs.declared.entry.By.TheVariants.{Cluster}
-use Rattle.bus_msg.specs.declared.entry.Post.{Post}
 use Rattle.bus_msg.specs.declared.entry.Entry.{Entry}
 use Rattle.bus_msg.specs.Places.{same_pid}
-use Rattle.cert_sched.specs.Deeds.{arrived_count}
 use Rattle.cert_sched.specs.Parts.{rising}
 use Rattle.cert_sched.specs.Schedule.{done, placement, process_after}
 use Rattle.cert_sched.specs.Steps.{silent_upto}
 use Rattle.cert_sched.specs.Legal.{IsLegalBy, Stands}
-use Rattle.cert_sched.specs.Built.{BuiltMayFollow, UnlostMayFollow}
-use Rattle.cert_sched.specs.Losses.{capped, is_from, least_calls, least_steps}
+use Rattle.cert_sched.specs.Built.{BuiltMayFollow}
+use Rattle.cert_sched.specs.Losses.{capped, least_calls, least_steps}
 use Rattle.cert_sched.specs.Rules.{has_its_pages}
 use Rattle.cert_sched.specs.Simulation.{IsUnended}
 use Rattle.cert_sched.proofs.MailLaws.{silent_upto-ends}
@@ -35,20 +32,19 @@ use Rattle.sync_laws.proofs.SilentSizes.{silent_sizes}
 use Rattle.batch_laws.specs.Underway.{BatchMay, posts_left}
 use Rattle.batch_laws.proofs.BatchBegins.{batch_begins, batch_posts}
 use Rattle.batch_laws.proofs.NoBirths.{no_children}
-use Rattle.cluster_core.specs.View.{ClusterView, Held, Runs, Rolls, Waits, disk_calls, held_at, held_of, limits_of, next_count}
+use Rattle.cluster_core.specs.View.{ClusterView, Held, Runs, disk_calls, held_at, held_of, limits_of, next_count}
 use Rattle.cluster_core.specs.Residents.{pids_in, with_changed}
 use Rattle.cluster_core.specs.Parts.{AllOwn}
-use Rattle.cluster_core.specs.Queue.{IsQueueLegal, Nothing, move_of, state_by, state_now, taken_by, with_queue}
-use Rattle.cluster_core.specs.Holds.{CarriesMarks, IsHeldAs, MarkedIfThere, is_fetch_queued, unended_process}
+use Rattle.cluster_core.specs.Queue.{Nothing, with_queue}
+use Rattle.cluster_core.specs.Holds.{CarriesMarks, IsHeldAs, MarkedIfThere, unended_process}
 use Rattle.cluster_core.specs.Syncing.{Synchronises}
 use Rattle.cluster_core.specs.Follows.{FollowsBuilt, IsOpen}
 use Rattle.cluster_core.specs.Calls.{GoesOn}
-use Rattle.cluster_core.proofs.Here.{is_among, pids_changed, same_itself}
+use Rattle.cluster_core.proofs.Here.{found_changed, is_among, pids_changed, same_itself}
 use Rattle.cluster_core.proofs.Homes.{HomeHere, differ_built, home_here, home_lives}
-use Rattle.cluster_core.proofs.Waiting.{queued_alike}
-use Rattle.cluster_core.proofs.BatchPosts.{batch_calls, batch_fetches_none, batch_legal, batch_marks_others, batch_marks_own, batch_moves, batch_moves_other, batch_own}
-use Rattle.cluster_core.proofs.Marking.{came_to}
-use Rattle.cluster_core.proofs.Working.{held_beside, home_by, marks_beside, more_counted, pages_beside, turned}
+use Rattle.cluster_core.proofs.Batching.{all_but, unqueued, with_batch}
+use Rattle.cluster_core.proofs.Beside.{FollowsBeside}
+use Rattle.cluster_core.proofs.Working.{held_beside, home_by, more_counted, pages_beside, turned}
 
 -- ---- a process that runs
 
@@ -136,38 +132,12 @@ module _ (c : ClusterView) (p : Pid) (process : Process) (valid : is_system c.sy
   posts : batch process c.number ≡ posts_left c.number p (state_of process) process.read (marked_pages process)
   posts = batch_posts c.system log p process c.number marked
 
-  -- ---- what is held
+  -- ---- the cluster then
 
-  held_synced : IsHeldAs c.system log (batch process c.number) p (Runs (synced process))
-  held_synced =
-      ap (λ ps. state_now c.system log ps p (process.small).steps) posts
-      ∙ ap (state_by c.system log p (process.small).steps) (batch_moves c.number p (state_of process) process.read (marked_pages process))
-      ∙ ap (option_map (taken_by (Sync p process.small process.read None))) reached
+  abbrev new : ClusterView
+  new = record c { here = with_changed p (Runs (synced process)) c.here; queue = batch process c.number; steps = next_count c.steps }
 
-  no_other : (q : Pid) → same_pid q p ≡ false → move_of q (batch process c.number) ≡ None
-  no_other q other = ap (move_of q) posts ∙ batch_moves_other c.number p (state_of process) process.read q (marked_pages process) (turned p q other)
-
-  held_others : (q : Pid) (h : Held) → same_pid q p ≡ false → IsHeldAs c.system log c.queue q h → IsHeldAs c.system log (batch process c.number) q h
-  held_others q (Runs r) other as_before = ap (state_by c.system log q (r.small).steps) (no_other q other) ∙ sym (ap (λ ps. state_now c.system log ps q (r.small).steps) empty) ∙ as_before
-  held_others q (Rolls r counts births) other as_before = (no_other q other, as_before.1)
-  held_others q (Waits waiting) other as_before = (
-    no_other q other,
-    queued_alike c.system log q (is_fetch_queued q c.queue) (is_fetch_queued q (batch process c.number)) waiting
-    (λ i. ap (λ ps. is_fetch_queued q ps i) empty ∙ sym (ap (λ ps. is_fetch_queued q ps i) posts ∙ batch_fetches_none c.number p (state_of process) process.read q i (marked_pages process))) as_before.1,
-  )
-
-  -- ---- what is queued
-
-  own_batch : list_all (λ (post : Post). is_from c.number post.by) (batch process c.number) ≡ true
-  own_batch = ap (list_all (λ (post : Post). is_from c.number post.by)) posts ∙ batch_own c.number p (state_of process) process.read (marked_pages process)
-
-  legal_batch : IsQueueLegal UnlostMayFollow c.system log (batch process c.number)
-  legal_batch = subst (IsQueueLegal UnlostMayFollow c.system log) (sym posts) (batch_legal c.number p (state_of process) process.read c.system log (marked_pages process) valid legal has begins)
-
-  no_marks : ((synced process).ram).dirty ≡ replicate (process.small).pages false
-  no_marks = ap (λ n. replicate n false) (sym carries.pages)
-
-  synchronises : Synchronises c.system log (record c { here = with_changed p (Runs (synced process)) c.here; queue = batch process c.number; steps = next_count c.steps })
+  synchronises : Synchronises c.system log new
   synchronises = record {
     pid = p;
     process = synced process;
@@ -178,57 +148,38 @@ module _ (c : ClusterView) (p : Pid) (process : Process) (valid : is_system c.sy
     may = begins;
     unread = refl;
     since = refl;
-    unmarked = no_marks;
+    unmarked = ap (λ n. replicate n false) (sym carries.pages);
   }
 
-  -- it is no call of a disk
-  calls_batch : least_calls c.system log (with_queue c.system log (batch process c.number)) c.number ≡ least_calls c.system log (with_queue c.system log c.queue) c.number
-  calls_batch =
-      ap (λ ps. least_calls c.system log (with_queue c.system log ps) c.number) posts
-      ∙ batch_calls c.number p (state_of process) process.read c.system log log c.number (marked_pages process)
-      ∙ sym (ap (λ ps. least_calls c.system log (with_queue c.system log ps) c.number) empty)
+  -- the others have their marks as before
+  others_marked : (q : Pid) (h : Held) → held_at new q ≡ Some h → all_but p q ≡ true → MarkedIfThere CarriesMarks c.system log q (unended_process h)
+  others_marked q h at other =
+      let w = found_changed p (Runs (synced process)) c.here q h at in
+      subst (λ x. MarkedIfThere CarriesMarks c.system log q (unended_process x)) (sym (w.is.1 (turned q p (not-true (same_pid p q) other)))) (marked_so q w.was (f.marks q w.was w.there))
 
-  -- ---- the marks
-
-  own_marked : MarkedIfThere CarriesMarks c.system (with_queue c.system log (batch process c.number)) p (unended_process (Runs (synced process)))
-  own_marked =
-      subst (λ b. MarkedIfThere CarriesMarks c.system (with_queue c.system log (batch process c.number)) p (cond b None (Some (synced process)))) (sym runs)
-      (subst (λ ps. CarriesMarks c.system (with_queue c.system log ps) p (synced process)) (sym posts)
-      (batch_marks_own c.number p (state_of process) process.read c.system log (marked_pages process) valid legal begins (synced process) refl refl refl no_marks carries.sent))
-
-  -- no more letters came to a process that is held than the log has for it
-  arrived_low : (q : Pid) (h : Held) → held_at c q ≡ Some h → (s : Process) → unended_process h ≡ Some s → (s.mail).next ≤ arrived_count log q
-  arrived_low q h at s is =
-      let came = came_to c.system log q valid legal (ap is_some (home_of q h at).found) Nothing h s tt tt (held_so q h at) is in
-      omega (arith, came)
-
-  others_marked : (q : Pid) (h : Held) → same_pid q p ≡ false → held_at c q ≡ Some h → MarkedIfThere CarriesMarks c.system (with_queue c.system log c.queue) q (unended_process h)
-      → MarkedIfThere CarriesMarks c.system (with_queue c.system log (batch process c.number)) q (unended_process h)
-  others_marked q h other at m =
-      subst (λ ps. MarkedIfThere CarriesMarks c.system (with_queue c.system log ps) q (unended_process h)) (sym posts)
-      (batch_marks_others c.number p (state_of process) process.read c.system log (marked_pages process) valid legal begins q (unended_process h) (turned p q other) (ap is_some (home_of q h at).found)
-      (arrived_low q h at) (marked_so q h m))
-
-  follows_batch : FollowsBuilt c.system log (record c { here = with_changed p (Runs (synced process)) c.here; queue = batch process c.number; steps = next_count c.steps })
-  follows_batch = record {
+  beside : FollowsBeside (all_but p) c.system log (unqueued new)
+  beside = record {
     log = record { cursor = (f.log).cursor; places = (f.log).places };
     processes = record {
-      held = held_beside c log p (Runs (synced process)) (batch process c.number) f held_synced held_others;
+      held = held_beside c log p (Runs (synced process)) [] f reached (λ q h other as_before. subst (λ ps. IsHeldAs c.system log ps q h) empty as_before);
       each_once = ap rising (pids_changed p (Runs (synced process)) c.here) ∙ (f.processes).each_once;
     };
-    queue = record { own = own_batch; legal = legal_batch };
-    queued = inr synchronises;
+    queue = record { own = refl; legal = tt };
+    queued = record { queued = Nothing; posts = refl; together = tt };
     steps = record { counted = λ kept. more_counted (least_steps log log c.number + cond c.tried 1 0) c.steps ((f.steps).counted kept) };
     pages = pages_beside c log p (Runs (synced process)) f.pages (λ some. has);
-    marks = marks_beside c log p (Runs (synced process)) (batch process c.number) f own_marked others_marked;
+    marks = others_marked;
     records = f.records;
     accounts = record {
       keeps = (f.accounts).keeps;
       there = (f.accounts).there;
-      calls = λ kept serves. subst (λ n. capped n ≤ disk_calls c) (sym calls_batch) ((f.accounts).calls kept serves);
+      calls = λ kept serves. subst (λ ps. capped (least_calls c.system log (with_queue c.system log ps) c.number) ≤ disk_calls c) empty ((f.accounts).calls kept serves);
     };
     disk = f.disk;
   }
+
+  follows_batch : FollowsBuilt c.system log new
+  follows_batch = with_batch c.system log new synchronises valid go beside carries.sent
 
 -- Where nothing is queued and a process that runs here is due, a cluster goes on with the process synchronised and its batch queued.
 pub batch_goes_on : (c : ClusterView) (p : Pid) (process : Process) → is_system c.system ≡ true → AllOwn c.cursor c.here → c.queue ≡ [] → held_at c p ≡ Some (Runs process) → is_due (limits_of c.system) process ≡ true

@@ -37,7 +37,6 @@ use Rattle.cluster_core.specs.Absorbing.{IsNotedHere, goes_to}
 use Rattle.cluster_core.proofs.Here.{pid_same, same_itself}
 use Rattle.cluster_core.proofs.ByKind.{OneOf, by_kind, by_page, by_sync, kind_is}
 use Rattle.cluster_core.proofs.AfterSent.{sent_is}
-use Rattle.cluster_core.proofs.Following.{own_unlost}
 use Rattle.cluster_core.proofs.BackupsLive.{BackupsLive, backups_live}
 
 -- ---- the clusters that an entry goes to

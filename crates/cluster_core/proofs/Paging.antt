@@ -58,8 +58,7 @@ use Rattle.channel_table.specs.Changes.{pids_differ}
 use Rattle.cluster_core.proofs.HasPages.{pages_after, waits_after}
 use Rattle.cluster_core.proofs.PagePosts.{page_post_stays}
 use Rattle.std.specs.Prelude.{find, option_map}
-use Rattle.std.specs.Option.{option_map_or}
-use Rattle.bus_msg.specs.declared.entry.What.TheVariants.{PageIs, Fetch}
+use Rattle.bus_msg.specs.declared.entry.What.TheVariants.{PageIs}
 use Rattle.bus_msg.specs.declared.entry.By.TheVariants.{Cluster}
 use Rattle.bus_msg.specs.declared.placed.Placed.{Placed}
 use Rattle.proc_state.specs.declared.process.Process.{Process}

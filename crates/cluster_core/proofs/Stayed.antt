@@ -1,19 +1,17 @@
 -- A process that synchronises while an entry of another cluster is taken in: it is still here, with letters more at most, and the rest of its batch is still under way.
-use Rattle.std.proofs.Common.{◌≡◌, ℕ, refl, sym, ◌∙◌, ap, subst, List, [], ◌∷◌, ◌++◌, Bool, true, false, cond, not, ◌&&◌, ◌||◌, eqb, eqb-true, Option, Some, None, true≢false}
-use Rattle.std.specs.Prelude.{find, is_some, map, nat_lt, option_map, replicate}
+use Rattle.std.proofs.Common.{◌≡◌, ℕ, refl, sym, ◌∙◌, ap, subst, List, [], ◌∷◌, ◌++◌, Bool, true, false, cond, not, ◌&&◌, ◌||◌, eqb, Option, Some, None, true≢false}
+use Rattle.std.specs.Prelude.{find, map, nat_lt, option_map, replicate}
 use Rattle.std.specs.List.{list_any}
-use Rattle.std.proofs.lemmas.Bool.{and_parts}
 use Rattle.t32_base.specs.declared.process.Pid.{Pid}
 use Rattle.t32_base.specs.declared.process.ClusterNo.{ClusterNo}
 use Rattle.t32_base.specs.declared.letter.Letter.{Letter}
 use Rattle.t32_base.specs.Small.{SmallState}
-use Rattle.sys_text.specs.declared.system.System.{System}
 use Rattle.sys_text.specs.Valid.{is_system}
 use Rattle.rv_mem.specs.Memory.{page_at as page_bytes}
 use Rattle.proc_state.specs.declared.process.Process.{Process}
 use Rattle.proc_state.specs.State.{ProcState, state_of}
 use Rattle.bus_msg.specs.declared.entry.What.{What}
-use Rattle.bus_msg.specs.declared.entry.What.TheVariants.{Page, PageIs, Sync}
+use Rattle.bus_msg.specs.declared.entry.What.TheVariants.{Page, Sync}
 use Rattle.bus_msg.specs.declared.entry.By.TheVariants.{Cluster}
 use Rattle.bus_msg.specs.declared.entry.Entry.{Entry}
 use Rattle.bus_msg.specs.declared.placed.Placed.{Placed}
@@ -38,7 +36,7 @@ use Rattle.batch_laws.specs.Underway.{BatchMay, posts_left}
 use Rattle.batch_laws.proofs.EntryBetween.{batch_found}
 use Rattle.batch_laws.proofs.OtherSenders.{others_between}
 use Rattle.record_laws.proofs.Standing.{built_stands}
-use Rattle.cluster_core.specs.View.{ClusterView, Held, Runs, Rolls, Waits, arrived, arrived_held, held_at, held_of, page_held}
+use Rattle.cluster_core.specs.View.{ClusterView, Held, Runs, arrived, arrived_held, held_at, held_of, page_held}
 use Rattle.cluster_core.specs.Residents.{pids_in}
 use Rattle.cluster_core.specs.Syncing.{Synchronises}
 use Rattle.cluster_core.specs.Follows.{FollowsBuilt, IsOpen}
