@@ -1,6 +1,6 @@
 -- A cluster that takes in the next entry of a log goes on to follow it, whichever kind the entry is of.
-use Rattle.std.proofs.Common.{◌≡◌, ◌⊎◌, ℕ, ◌+◌, refl, sym, ◌∙◌, ap, subst, List, [], ◌∷◌, ◌++◌, true, false, Option, Some, None, is_some, inl, inr, true≢false}
-use Rattle.std.specs.Prelude.{filter}
+use Rattle.std.proofs.Common.{◌≡◌, ◌⊎◌, ℕ, ◌+◌, refl, sym, ◌∙◌, ap, subst, List, [], ◌∷◌, ◌++◌, true, false, Bool, eqb-true, Option, Some, None, is_some, inl, inr, true≢false}
+use Rattle.std.specs.Prelude.{filter, option_map}
 use Rattle.t32_base.specs.declared.process.Pid.{Pid}
 use Rattle.sys_text.specs.declared.system.System.{System}
 use Rattle.sys_text.specs.Valid.{is_system}
@@ -11,11 +11,12 @@ use Rattle.sys_calls.proofs.Quiet.{sends_none}
 use Rattle.bus_msg.specs.declared.entry.What.{What}
 use Rattle.bus_msg.specs.declared.entry.Post.{Post}
 use Rattle.bus_msg.specs.declared.entry.Entry.{Entry}
-use Rattle.bus_msg.specs.Places.{same_cluster}
 use Rattle.bus_msg.specs.PlacedAfter.{what}
 use Rattle.crash_notice.specs.Splitting.{moves_here}
-use Rattle.cert_sched.specs.Built.{BuiltMayFollow, is_built, tells_or_closes, is_unlost}
-use Rattle.cert_sched.specs.Losses.{is_crash_of}
+use Rattle.cert_sched.specs.Built.{BuiltMayFollow, is_built, tells_or_closes}
+use Rattle.cert_sched.specs.Losses.{is_by_cluster, is_crash_of}
+use Rattle.cert_sched.specs.Rules.{home_at}
+use Rattle.bus_msg.specs.declared.placed.Placed.{Placed}
 use Rattle.cert_sched.specs.Schedule.{placement}
 use Rattle.cert_sched.proofs.LogLaws.{IsLegal-last}
 use Rattle.cert_sched.proofs.MailLaws.{sent_no_signal}
@@ -23,19 +24,27 @@ use Rattle.cert_sched.proofs.StepLaws.{Tells}
 use Rattle.backup_records.specs.Records.{are_rising, record_in, records_after}
 use Rattle.cluster_core.specs.View.{ClusterView, Held, Runs, Rolls, with_server, Waits, held_at, held_of}
 use Rattle.cluster_core.specs.Parts.{AllOwn}
-use Rattle.cluster_core.specs.Recovered.{moved_by, CanWait}
-use Rattle.cluster_core.specs.Follows.{FollowsBuilt, IsOpen}
+use Rattle.cluster_core.specs.Recovered.{moved_by, CanWait, with_all_waiting}
+use Rattle.cluster_core.specs.Follows.{FollowsBuilt, IsOpen, StandsBetween}
+use Rattle.cluster_core.specs.Queue.{IsQueued}
+use Rattle.cluster_core.specs.Syncing.{Synchronises}
 use Rattle.cluster_core.specs.Calls.{Absorbs, IsReady, ReadyFor, absorbed, here_after}
-use Rattle.cluster_core.proofs.ByKind.{IsLoss, OneOf, by_kind, by_page, by_sync, is_of_page, is_of_sync, kind_is}
-use Rattle.cluster_core.proofs.Homes.{differ_built, home_here}
-use Rattle.cluster_core.proofs.Losing.{follows_lost, can_wait}
-use Rattle.cluster_core.proofs.Paging.{follows_page, follows_own_page}
-use Rattle.cluster_core.proofs.Synchronising.{follows_sync, sync_not_alone}
+use Rattle.cluster_core.proofs.ByKind.{IsLoss, OneOf, by_kind, by_page, by_sync, is_of_page, is_of_sync}
+use Rattle.cluster_core.proofs.Homes.{HomeHere, differ_built, home_here}
+use Rattle.cluster_core.proofs.Losing.{follows_lost, can_wait, still_here}
+use Rattle.cluster_core.proofs.LostQueue.{home_stays}
+use Rattle.cluster_core.proofs.Paging.{follows_page, follows_own_page, page_at, page_taken, places_same, was_paged}
+use Rattle.cluster_core.proofs.Synchronising.{follows_sync, home_same, sync_not_alone, sync_taken}
 use Rattle.cluster_core.specs.Serving.{Serves}
 use Rattle.page_server.specs.Account.{PagerState}
 use Rattle.cluster_core.proofs.Turning.{built_no_birth}
 use Rattle.cluster_core.proofs.Owning.{brings_none, own_after, own_later, own_page}
-use Rattle.cluster_core.proofs.Following.{Next, follows_foreign, follows_own, left_of, next_of, told_taken, own_unlost}
+use Rattle.cluster_core.proofs.Following.{Left, Next, apart, follows_foreign, follows_own, found_stays, left_of, next_of, told_taken}
+use Rattle.cluster_core.proofs.Beside.{FollowsBeside, all_of, beside_of, built_of}
+use Rattle.cluster_core.proofs.AfterSent.{sent_is}
+use Rattle.cluster_core.proofs.Batching.{all_but, batch_head, unqueued, without_batch}
+use Rattle.cluster_core.proofs.Stayed.{RunsStill, home_now, stays_with_batch, still_itself, still_paged, still_told}
+use Rattle.cluster_core.proofs.OwnBatch.{follows_own_batch}
 use Rattle.cluster_core.specs.Absorbing.{CanCome}
 use Rattle.cluster_core.specs.Resident.{CanComeTo}
 use Rattle.cluster_core.specs.Holds.{IsHeldAs}
@@ -46,48 +55,111 @@ use Rattle.cert_sched.specs.Parts.{rising}
 use Rattle.cert_sched.specs.Rests.{home_pids}
 use Rattle.cluster_core.specs.Residents.{pids_in}
 use Rattle.cluster_core.proofs.OwningWaits.{loss_of, one_of, other_lost, own_no_loss}
-use Rattle.cluster_core.proofs.Here.{is_among}
+use Rattle.cluster_core.proofs.Here.{arrival_at, is_among, was_here}
+
+-- ---- an entry of another cluster
+
+-- beside what is queued the cluster follows the log with it, whichever kind it is of
+beside_next : (which : Pid → Bool) (c : ClusterView) (log : List Entry) (e : Entry) (server : Option PagerState) → is_system c.system ≡ true → AllOwn c.cursor c.here → are_rising (moved_by c.places c.number (what e) (records_after (what e) c.records)) ≡ true
+    → IsOpen BuiltMayFollow c.system log → IsOpen BuiltMayFollow c.system (log ++ e ∷ []) → Serves (placement c.system log) e c.server server → FollowsBeside which c.system log c → is_by_cluster c.number e ≡ false → is_crash_of c.number (what e) ≡ false
+    → FollowsBeside which c.system (log ++ e ∷ []) (with_server server (absorbed c e))
+beside_next which c log e server valid own order now later serves f foreign spared = by_kind_of (one_of c.system log e later)
+  where
+    by_kind_of : OneOf (what e) → FollowsBeside which c.system (log ++ e ∷ []) (with_server server (absorbed c e))
+    by_kind_of (inl tells) =
+        let n = next_of c.system log e tells now later in
+        subst (λ v. FollowsBeside which c.system (log ++ e ∷ []) (with_server server v)) (sym (told_taken c e tells)) (follows_foreign which c log e n server valid (differ_built c.system log valid n.legal) own f foreign serves)
+    by_kind_of (inr (inl of)) = follows_page c.system valid log e of now later which c server serves f foreign
+    by_kind_of (inr (inr (inl l))) =
+        let moved : are_rising (filter (moves_here (placement c.system log) l.lost c.number) c.records) ≡ true =
+        ap (λ places. are_rising (filter (moves_here places l.lost c.number) c.records)) (sym (f.log).places) ∙ sym (ap (λ w. are_rising (moved_by c.places c.number w (records_after w c.records))) l.same) ∙ order in
+        follows_lost c.system valid log e l.lost l.cause (loss_of c.system log e l now later) c.number (other_lost c e l spared) which c server serves refl refl own f foreign moved
+    by_kind_of (inr (inr (inr of))) = follows_sync c.system valid log e of now later which c server own serves f foreign
+
+-- ---- beside a batch
+
+module _ (c : ClusterView) (log : List Entry) (e : Entry) (y : Synchronises c.system log c) (valid : is_system c.system ≡ true) (now : IsOpen BuiltMayFollow c.system log) (later : IsOpen BuiltMayFollow c.system (log ++ e ∷ []))
+    (f : FollowsBuilt c.system log c) (foreign : is_by_cluster c.number e ≡ false) (spared : is_crash_of c.number (what e) ≡ false) (order : are_rising (moved_by c.places c.number (what e) (records_after (what e) c.records)) ≡ true) where
+  home : HomeHere (placement c.system log) y.pid c.number
+  home = home_now c log e y valid now later f foreign
+
+  home_is : home_at (placement c.system log) y.pid ≡ Some c.number
+  home_is = ap (option_map (λ (q : Placed). q.home)) home.found ∙ (λ i. Some (record { 0 = eqb-true ((home.placed).home).0 (c.number).0 home.home i }))
+
+  -- the process that synchronises is at home where it was
+  same_home : home_at (placement c.system (log ++ e ∷ [])) y.pid ≡ home_at (placement c.system log) y.pid
+  same_home = by_kind_of (one_of c.system log e later)
+    where
+      by_kind_of : OneOf (what e) → home_at (placement c.system (log ++ e ∷ [])) y.pid ≡ home_at (placement c.system log) y.pid
+      by_kind_of (inl tells) =
+          let n = next_of c.system log e tells now later in
+          ap (option_map (λ (q : Placed). q.home)) (found_stays c.system log e n.told y.pid (apart c.system log e n.told c.number y.pid home foreign))
+      by_kind_of (inr (inl of)) = ap (λ places. home_at places y.pid) (places_same c.system valid log e of now later)
+      by_kind_of (inr (inr (inl l))) = home_stays c.system valid log e l.lost l.cause (loss_of c.system log e l now later) c.number (other_lost c e l spared) y.pid home_is ∙ sym home_is
+      by_kind_of (inr (inr (inr of))) = home_same c.system valid log e of now later y.pid
+
+  -- it is held as before, with letters more at most
+  same_process : (h : Held) → held_at c y.pid ≡ Some h → h ≡ Runs y.process
+  same_process h there = let same : Some h ≡ Some (Runs y.process) = sym there ∙ y.there in cc
+
+  stays : (h : Held) → held_at (absorbed c e) y.pid ≡ Some h → RunsStill y.process h
+  stays h at = by_kind_of (one_of c.system log e later)
+    where
+      by_kind_of : OneOf (what e) → RunsStill y.process h
+      by_kind_of (inl tells) =
+          let before = was_here (what e) c.here y.pid h tells (ap (λ (v : ClusterView). held_at v y.pid) (sym (told_taken c e tells)) ∙ at) in
+          subst (RunsStill y.process) (sym (before.same ∙ ap (arrival_at (what e) y.pid) (same_process before.was before.there))) (still_told (what e) y.pid y.process tells)
+      by_kind_of (inr (inl of)) =
+          let before = was_paged (what e) c.here y.pid h of (ap (λ (v : ClusterView). held_at v y.pid) (sym (page_taken c e of)) ∙ at) in
+          subst (RunsStill y.process) (sym (before.same ∙ ap (page_at (what e) y.pid) (same_process before.was before.there))) (still_paged (what e) y.pid y.process of)
+      by_kind_of (inr (inr (inl l))) =
+          let here : with_all_waiting (moved_by c.places c.number (what e) (records_after (what e) c.records)) (here_after (what e) c.here) ≡ with_all_waiting (filter (moves_here (placement c.system log) l.lost c.number) c.records) c.here =
+          ap (λ w. with_all_waiting (moved_by c.places c.number w (records_after w c.records)) (here_after w c.here)) l.same ∙ ap (λ places. with_all_waiting (filter (moves_here places l.lost c.number) c.records) c.here) (f.log).places in
+          let moved : are_rising (filter (moves_here (placement c.system log) l.lost c.number) c.records) ≡ true =
+          ap (λ places. are_rising (filter (moves_here places l.lost c.number) c.records)) (sym (f.log).places) ∙ sym (ap (λ w. are_rising (moved_by c.places c.number w (records_after w c.records))) l.same) ∙ order in
+          let there = still_here c.system valid log e l.lost l.cause (loss_of c.system log e l now later) c.number (other_lost c e l spared) c.records c.here y.pid h f.records moved home (ap (λ here. held_of here y.pid) (sym here) ∙ at) in
+          subst (RunsStill y.process) (sym (same_process h there)) (still_itself y.process)
+      by_kind_of (inr (inr (inr of))) = subst (RunsStill y.process) (sym (same_process h (ap (λ (v : ClusterView). held_at v y.pid) (sym (sync_taken c e of)) ∙ at))) (still_itself y.process)
 
 -- ---- the whole
 
 -- a cluster that takes in an entry for which it is ready
 pub absorbs : (c : ClusterView) (e : Entry) (server : Option PagerState) → is_system c.system ≡ true → AllOwn c.cursor c.here → are_rising (moved_by c.places c.number (what e) (records_after (what e) c.records)) ≡ true
     → Serves c.places e c.server server → Absorbs e c (with_server server (absorbed c e))
-absorbs c e server valid own order serves log now later ready = by_loss (one_of c.system log e later)
+absorbs c e server valid own order serves log now later ready = by_ready ready
   where
     serves_there : c.places ≡ placement c.system log → Serves (placement c.system log) e c.server server
     serves_there same = subst (λ before. Serves before e c.server server) same serves
 
-    by_case : (tells : tells_or_closes (what e) ≡ true) → (n : Next c.system log e) → IsReady log e c → FollowsBuilt c.system (log ++ e ∷ []) (with_server server (absorbed c e))
-    by_case tells n (inl f) =
-        subst (λ v. FollowsBuilt c.system (log ++ e ∷ []) (with_server server v)) (sym (told_taken c e tells)) (follows_foreign c log e n server valid (differ_built c.system log valid n.legal) own f.0 f.1 (serves_there ((f.0).log).places))
-    by_case tells n (inr s) =
-        let l = left_of c log e s in
-        subst (λ v. FollowsBuilt c.system (log ++ e ∷ []) (with_server server v)) (sym (told_taken c e tells))
-        (follows_own c log e n l server valid (differ_built c.system log valid n.legal) own (serves_there (ap (λ (d : ClusterView). d.places) l.same ∙ ((l.followed).log).places)))
+    foreign : (f : FollowsBuilt c.system log c) → is_by_cluster c.number e ≡ false → is_crash_of c.number (what e) ≡ false → IsQueued c.queue ⊎ Synchronises c.system log c → FollowsBuilt c.system (log ++ e ∷ []) (with_server server (absorbed c e))
+    foreign f other spared (inl alone) =
+        built_of c.system (log ++ e ∷ []) (with_server server (absorbed c e)) (beside_next all_of c log e server valid own order now later (serves_there (f.log).places) (beside_of c.system log c f alone) other spared)
+    foreign f other spared (inr y) =
+        stays_with_batch c log e y valid now later f other (with_server server (absorbed c e)) refl refl refl
+        (beside_next (all_but y.pid) (unqueued c) log e server valid own order now later (serves_there (f.log).places) (without_batch c.system log c y valid now f) other spared)
+        (same_home c log e y valid now later f other spared order) (stays c log e y valid now later f other spared order)
 
-    lost : (l : IsLoss (what e)) → IsReady log e c → FollowsBuilt c.system (log ++ e ∷ []) (with_server server (absorbed c e))
-    lost l (inl f) =
-        let moved : are_rising (filter (moves_here (placement c.system log) l.lost c.number) c.records) ≡ true =
-        ap (λ places. are_rising (filter (moves_here places l.lost c.number) c.records)) (sym (((f.0).log).places)) ∙ sym (ap (λ w. are_rising (moved_by c.places c.number w (records_after w c.records))) l.same) ∙ order in
-        follows_lost c.system valid log e l.lost l.cause (loss_of c.system log e l now later) c.number (other_lost c e l f.2) c server (serves_there ((f.0).log).places) refl refl own f.0 f.1 moved
-    lost l (inr s) = absurd (own_no_loss c log e l s)
+    sent : (s : StandsBetween FollowsBuilt c.system log e c) → Left c log e → OneOf (what e) → FollowsBuilt c.system (log ++ e ∷ []) (with_server server (absorbed c e))
+    sent s l (inl tells) =
+        let n = next_of c.system log e tells now later in
+        subst (λ v. FollowsBuilt c.system (log ++ e ∷ []) (with_server server v)) (sym (told_taken c e tells)) (follows_own c log e n l server valid (differ_built c.system log valid n.legal) own (serves_there (places_of l)))
+      where
+        places_of : (l : Left c log e) → c.places ≡ placement c.system log
+        places_of l = ap (λ (d : ClusterView). d.places) l.same ∙ ((l.followed).log).places
+    sent s l (inr (inl of)) = follows_own_page c.system valid log e of now later c l server refl (serves_there (ap (λ (d : ClusterView). d.places) l.same ∙ ((l.followed).log).places))
+    sent s l (inr (inr (inl loss))) = absurd (own_no_loss c log e loss s)
+    sent s l (inr (inr (inr of))) = absurd (true≢false (sym l.lone ∙ sync_not_alone (what e) of))
 
-    page : is_of_page (what e) ≡ true → IsReady log e c → FollowsBuilt c.system (log ++ e ∷ []) (with_server server (absorbed c e))
-    page of (inl f) = follows_page c.system valid log e of now later c server (serves_there ((f.0).log).places) f.0 f.1
-    page of (inr s) =
-        let l = left_of c log e s in
-        follows_own_page c.system valid log e of now later c l server refl (serves_there (ap (λ (d : ClusterView). d.places) l.same ∙ ((l.followed).log).places))
+    own_post : (s : StandsBetween FollowsBuilt c.system log e c) → IsQueued (s.before).queue ⊎ Synchronises c.system log s.before → FollowsBuilt c.system (log ++ e ∷ []) (with_server server (absorbed c e))
+    own_post s (inl alone) = sent s (left_of c log e s alone) (one_of c.system log e later)
+    own_post s (inr y) = follows_own_batch c log e server valid own now later s y serves_log
+      where
+        serves_log : Serves (placement c.system log) e c.server server
+        serves_log = serves_there (ap (λ (d : ClusterView). d.places) (s.sent ∙ sent_is s.before (s.before).queue) ∙ ((s.followed).log).places)
 
-    sync : is_of_sync (what e) ≡ true → IsReady log e c → FollowsBuilt c.system (log ++ e ∷ []) (with_server server (absorbed c e))
-    sync of (inl f) = follows_sync c.system valid log e of now later c server own (serves_there ((f.0).log).places) f.0 f.1
-    sync of (inr s) = absurd (true≢false (sym (left_of c log e s).lone ∙ sync_not_alone (what e) of))
-
-    by_loss : OneOf (what e) → FollowsBuilt c.system (log ++ e ∷ []) (with_server server (absorbed c e))
-    by_loss (inl tells) = by_case tells (next_of c.system log e tells now later) ready
-    by_loss (inr (inl of)) = page of ready
-    by_loss (inr (inr (inl l))) = lost l ready
-    by_loss (inr (inr (inr of))) = sync of ready
+    by_ready : IsReady log e c → FollowsBuilt c.system (log ++ e ∷ []) (with_server server (absorbed c e))
+    by_ready (inl f) = foreign f.0 f.1 f.2 (f.0).queued
+    by_ready (inr s) = own_post s (s.followed).queued
 
 -- ---- what it brings
 
@@ -147,12 +219,16 @@ may_come c e valid r = by_loss (one_of c.system r.log e r.open_next)
 
     by_ready : (p : Pid) (i : ℕ) (bytes : List ℕ) → what e ≡ PageIs p i bytes → IsReady r.log e c → (h : Held) → held_at c p ≡ Some h → CanComeTo i bytes h
     by_ready p i bytes is (inl f) h there = came c.queue p i bytes is (home p h ((f.0).processes).each_once there) h (((f.0).processes).held p h there)
-    by_ready p i bytes is (inr s) h there =
-        let l = left_of c r.log e s in
-        let here : (l.before).here ≡ c.here = sym (ap (λ (d : ClusterView). d.here) l.same) in
-        let number : (l.before).number ≡ c.number = sym (ap (λ (d : ClusterView). d.number) l.same) in
-        let once = ap (λ hs. rising (pids_in hs)) (sym here) ∙ ((l.followed).processes).each_once ∙ ap (λ k. rising (home_pids c.system r.log k)) number in
-        came (l.before).queue p i bytes is (home p h once there) h (((l.followed).processes).held p h (ap (λ hs. held_of hs p) here ∙ there))
+    by_ready p i bytes is (inr s) h there = by_queue (s.followed).queued
+      where
+        by_queue : IsQueued (s.before).queue ⊎ Synchronises c.system r.log s.before → CanComeTo i bytes h
+        by_queue (inl alone) =
+            let l = left_of c r.log e s alone in
+            let here : (l.before).here ≡ c.here = sym (ap (λ (d : ClusterView). d.here) l.same) in
+            let number : (l.before).number ≡ c.number = sym (ap (λ (d : ClusterView). d.number) l.same) in
+            let once = ap (λ hs. rising (pids_in hs)) (sym here) ∙ ((l.followed).processes).each_once ∙ ap (λ k. rising (home_pids c.system r.log k)) number in
+            came (l.before).queue p i bytes is (home p h once there) h (((l.followed).processes).held p h (ap (λ hs. held_of hs p) here ∙ there))
+        by_queue (inr y) = absurd (true≢false (sym (batch_head c.system r.log e s.before y s.head) ∙ ap is_of_sync is))
 
     page : (w : What) → is_of_page w ≡ true → what e ≡ w → CanCome w c.here
     page = by_page (λ w. what e ≡ w → CanCome w c.here) (λ pid index is. tt) (λ pid index bytes is. by_ready pid index bytes is r.ready)

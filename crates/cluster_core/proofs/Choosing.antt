@@ -7,17 +7,19 @@ use Rattle.std.proofs.lemmas.Bool.{and_parts}
 use Rattle.std.proofs.lemmas.Bool.Decides.{nat_tests}
 use Rattle.slab.specs.Slab.{Slab, get}
 use Rattle.t32_base.specs.declared.process.Pid.{Pid}
+use Rattle.t32_base.specs.declared.process.ClusterNo.{ClusterNo}
 use Rattle.bus_msg.specs.Places.{same_pid}
 use Rattle.plain_kernel.specs.Maps.{at_key, pid_of}
 use Rattle.plain_kernel.proofs.Entries.{some_same}
 use Rattle.cert_sched.specs.Parts.{first_of}
+use Rattle.quanta.specs.declared.limits.Limits.{Limits}
 use Rattle.cluster_core.specs.declared.quantum.Quantum.{Quantum}
-use Rattle.cluster_core.specs.declared.quantum.Quantum.TheVariants.{Moved, Sent, Stuck}
+use Rattle.cluster_core.specs.declared.quantum.Quantum.TheVariants.{Moved, Sent, Synced, Stuck}
 use Rattle.cluster_core.specs.Residents.{ResidentsView, NextAble, is_stuck, are_rising, pids_in, pids_able, next_ready, ChosenTurn, TurnIs, TakesTurn, GivenTurnIs}
 use Rattle.cluster_core.specs.Slots.{in_slot, stands_in, IsSlot, IsKept}
 use Rattle.cluster_core.specs.View.{Held, can_act, held_of}
 use Rattle.cluster_core.proofs.Slots.{at_key_is}
-use Rattle.cluster_core.proofs.Quanta.{moves_can, sends_can}
+use Rattle.cluster_core.proofs.Quanta.{moves_can, sends_can, syncs_can}
 
 -- ---- the first that passes, among numbers that rise
 
@@ -145,82 +147,84 @@ next_of_those ready able last n rise rise_able among next there = by_case (find 
 
 -- ---- those that have a step
 
-fewer_rise : (here : List (Pid × Held)) → are_rising (pids_in here) ≡ true → are_rising (pids_able here) ≡ true
-fewer_rise [] rise = refl
-fewer_rise (e ∷ here) rise = by_test (not (is_stuck e.1)) (fewer_rise here parts.1)
+fewer_rise : (limits : Limits) (here : List (Pid × Held)) → are_rising (pids_in here) ≡ true → are_rising (pids_able limits here) ≡ true
+fewer_rise limits [] rise = refl
+fewer_rise limits (e ∷ here) rise = by_test (not (is_stuck limits e.1)) (fewer_rise limits here parts.1)
   where
     parts : (list_all (λ m. ltb (e.0).0 m) (pids_in here) ≡ true) × (are_rising (pids_in here) ≡ true)
     parts = and_parts (list_all (λ m. ltb (e.0).0 m) (pids_in here)) (are_rising (pids_in here)) rise
 
-    all_fewer : (here : List (Pid × Held)) → list_all (λ m. ltb (e.0).0 m) (pids_in here) ≡ true → list_all (λ m. ltb (e.0).0 m) (pids_able here) ≡ true
+    all_fewer : (here : List (Pid × Held)) → list_all (λ m. ltb (e.0).0 m) (pids_in here) ≡ true → list_all (λ m. ltb (e.0).0 m) (pids_able limits here) ≡ true
     all_fewer [] all = refl
-    all_fewer (f ∷ here) all = by_stuck (not (is_stuck f.1)) (and_parts (ltb (e.0).0 (f.0).0) (list_all (λ m. ltb (e.0).0 m) (pids_in here)) all) (all_fewer here)
+    all_fewer (f ∷ here) all = by_stuck (not (is_stuck limits f.1)) (and_parts (ltb (e.0).0 (f.0).0) (list_all (λ m. ltb (e.0).0 m) (pids_in here)) all) (all_fewer here)
       where
         by_stuck : (b : Bool) → (ltb (e.0).0 (f.0).0 ≡ true) × (list_all (λ m. ltb (e.0).0 m) (pids_in here) ≡ true)
-            → (list_all (λ m. ltb (e.0).0 m) (pids_in here) ≡ true → list_all (λ m. ltb (e.0).0 m) (pids_able here) ≡ true)
-            → list_all (λ m. ltb (e.0).0 m) (pids_in (cond b (f ∷ filter (λ (e : Pid × Held). not (is_stuck e.1)) here) (filter (λ (e : Pid × Held). not (is_stuck e.1)) here))) ≡ true
-        by_stuck true both more = ap (λ b. b && list_all (λ m. ltb (e.0).0 m) (pids_able here)) both.0 ∙ more both.1
+            → (list_all (λ m. ltb (e.0).0 m) (pids_in here) ≡ true → list_all (λ m. ltb (e.0).0 m) (pids_able limits here) ≡ true)
+            → list_all (λ m. ltb (e.0).0 m) (pids_in (cond b (f ∷ filter (λ (e : Pid × Held). not (is_stuck limits e.1)) here) (filter (λ (e : Pid × Held). not (is_stuck limits e.1)) here))) ≡ true
+        by_stuck true both more = ap (λ b. b && list_all (λ m. ltb (e.0).0 m) (pids_able limits here)) both.0 ∙ more both.1
         by_stuck false both more = more both.1
 
-    by_test : (b : Bool) → are_rising (pids_able here) ≡ true → are_rising (pids_in (cond b (e ∷ filter (λ (e : Pid × Held). not (is_stuck e.1)) here) (filter (λ (e : Pid × Held). not (is_stuck e.1)) here))) ≡ true
-    by_test true more = ap (λ b. b && are_rising (pids_able here)) (all_fewer here parts.0) ∙ more
+    by_test : (b : Bool) → are_rising (pids_able limits here) ≡ true → are_rising (pids_in (cond b (e ∷ filter (λ (e : Pid × Held). not (is_stuck limits e.1)) here) (filter (λ (e : Pid × Held). not (is_stuck limits e.1)) here))) ≡ true
+    by_test true more = ap (λ b. b && are_rising (pids_able limits here)) (all_fewer here parts.0) ∙ more
     by_test false more = more
 
 -- each of them is ready
-able_ready : (slots : Slab Held) (ready asking : List ℕ) (es : List (ℕ × ℕ)) → AllByRecursion (IsSlot slots ready asking) es → (q : ℕ) → list_any (at_key q) (pids_able (stands_in slots es)) ≡ true → list_any (at_key q) ready ≡ true
-able_ready slots ready asking [] kept q any = cc
-able_ready slots ready asking (e ∷ es) kept q any = in_front (get slots e.1) (λ p is steps. (kept.0).able p is steps) any (able_ready slots ready asking es kept.1 q)
+able_ready : (limits : Limits) (slots : Slab Held) (ready asking : List ℕ) (es : List (ℕ × ℕ)) → AllByRecursion (IsSlot limits slots ready asking) es → (q : ℕ) → list_any (at_key q) (pids_able limits (stands_in slots es)) ≡ true → list_any (at_key q) ready ≡ true
+able_ready limits slots ready asking [] kept q any = cc
+able_ready limits slots ready asking (e ∷ es) kept q any = in_front (get slots e.1) (λ p is steps. (kept.0).able p is steps) any (able_ready limits slots ready asking es kept.1 q)
   where
-    by_step : (p : Held) (b c : Bool) → can_act p ≡ b → at_key q e.0 ≡ c → (b ≡ true → list_any (at_key e.0) ready ≡ true)
-        → list_any (at_key q) (pids_in (cond (not (not b)) ((pid_of e.0, p) ∷ filter (λ (e : Pid × Held). not (is_stuck e.1)) (stands_in slots es)) (filter (λ (e : Pid × Held). not (is_stuck e.1)) (stands_in slots es)))) ≡ true
-        → (list_any (at_key q) (pids_able (stands_in slots es)) ≡ true → list_any (at_key q) ready ≡ true) → list_any (at_key q) ready ≡ true
+    by_step : (p : Held) (b c : Bool) → can_act limits p ≡ b → at_key q e.0 ≡ c → (b ≡ true → list_any (at_key e.0) ready ≡ true)
+        → list_any (at_key q) (pids_in (cond (not (not b)) ((pid_of e.0, p) ∷ filter (λ (e : Pid × Held). not (is_stuck limits e.1)) (stands_in slots es)) (filter (λ (e : Pid × Held). not (is_stuck limits e.1)) (stands_in slots es)))) ≡ true
+        → (list_any (at_key q) (pids_able limits (stands_in slots es)) ≡ true → list_any (at_key q) ready ≡ true) → list_any (at_key q) ready ≡ true
     by_step p true true steps at ready_if any more = ap (λ n. list_any (at_key n) ready) (sym (eqb-true e.0 q (sym (at_key_is q e.0) ∙ at))) ∙ ready_if refl
-    by_step p true false steps at ready_if any more = more (sym (ap (λ b. b || list_any (at_key q) (pids_able (stands_in slots es))) at) ∙ any)
+    by_step p true false steps at ready_if any more = more (sym (ap (λ b. b || list_any (at_key q) (pids_able limits (stands_in slots es))) at) ∙ any)
     by_step p false c steps at ready_if any more = more any
 
-    in_front : (o : Option Held) → ((p : Held) → o ≡ Some p → can_act p ≡ true → list_any (at_key e.0) ready ≡ true) → list_any (at_key q) (pids_able (in_slot (pid_of e.0) o (stands_in slots es))) ≡ true
-        → (list_any (at_key q) (pids_able (stands_in slots es)) ≡ true → list_any (at_key q) ready ≡ true) → list_any (at_key q) ready ≡ true
+    in_front : (o : Option Held) → ((p : Held) → o ≡ Some p → can_act limits p ≡ true → list_any (at_key e.0) ready ≡ true) → list_any (at_key q) (pids_able limits (in_slot (pid_of e.0) o (stands_in slots es))) ≡ true
+        → (list_any (at_key q) (pids_able limits (stands_in slots es)) ≡ true → list_any (at_key q) ready ≡ true) → list_any (at_key q) ready ≡ true
     in_front None ready_if any more = more any
-    in_front (Some p) ready_if any more = by_step p (can_act p) (at_key q e.0) refl refl (ready_if p refl) any more
+    in_front (Some p) ready_if any more = by_step p (can_act limits p) (at_key q e.0) refl refl (ready_if p refl) any more
 
 -- the process with a pid is one of them, where it has a step
-able_there : (n : ℕ) (here : List (Pid × Held)) (p : Held) → held_of here (pid_of n) ≡ Some p → can_act p ≡ true → list_any (at_key n) (pids_able here) ≡ true
-able_there n [] p there steps = cc
-able_there n (e ∷ here) p there steps = by_tests (same_pid e.0 (pid_of n)) (can_act e.1) refl refl there (able_there n here p)
+able_there : (limits : Limits) (n : ℕ) (here : List (Pid × Held)) (p : Held) → held_of here (pid_of n) ≡ Some p → can_act limits p ≡ true → list_any (at_key n) (pids_able limits here) ≡ true
+able_there limits n [] p there steps = cc
+able_there limits n (e ∷ here) p there steps = by_tests (same_pid e.0 (pid_of n)) (can_act limits e.1) refl refl there (able_there limits n here p)
   where
     or_true : (b : Bool) → (b || true) ≡ true
     or_true true = refl
     or_true false = refl
 
-    by_tests : (b c : Bool) → same_pid e.0 (pid_of n) ≡ b → can_act e.1 ≡ c
+    by_tests : (b c : Bool) → same_pid e.0 (pid_of n) ≡ b → can_act limits e.1 ≡ c
         → option_map (λ (e : Pid × Held). e.1) (cond b (Some e) (find (λ (e : Pid × Held). same_pid e.0 (pid_of n)) here)) ≡ Some p
-        → (held_of here (pid_of n) ≡ Some p → can_act p ≡ true → list_any (at_key n) (pids_able here) ≡ true)
-        → list_any (at_key n) (pids_in (cond (not (not c)) (e ∷ filter (λ (e : Pid × Held). not (is_stuck e.1)) here) (filter (λ (e : Pid × Held). not (is_stuck e.1)) here))) ≡ true
-    by_tests true true at has there more = ap (λ b. b || list_any (at_key n) (pids_able here)) (at_key_is n (e.0).0 ∙ at)
+        → (held_of here (pid_of n) ≡ Some p → can_act limits p ≡ true → list_any (at_key n) (pids_able limits here) ≡ true)
+        → list_any (at_key n) (pids_in (cond (not (not c)) (e ∷ filter (λ (e : Pid × Held). not (is_stuck limits e.1)) here) (filter (λ (e : Pid × Held). not (is_stuck limits e.1)) here))) ≡ true
+    by_tests true true at has there more = ap (λ b. b || list_any (at_key n) (pids_able limits here)) (at_key_is n (e.0).0 ∙ at)
     by_tests true false at has there more =
         let same : e.1 ≡ p = some_same e.1 p there in
-        absurd (true≢false (sym steps ∙ ap can_act (sym same) ∙ has))
+        absurd (true≢false (sym steps ∙ ap (can_act limits) (sym same) ∙ has))
     by_tests false true at has there more = ap (λ b. at_key n (e.0).0 || b) (more there steps) ∙ or_true (at_key n (e.0).0)
     by_tests false false at has there more = more there steps
 
 -- where the next of those that are ready has a step, it is the next of those that have one
-pub next_able : (slots : Slab Held) (keys : List (ℕ × ℕ)) (ready asking : List ℕ) (last n : ℕ) (p : Held) → IsKept slots keys ready asking → are_rising ready ≡ true → are_rising (pids_in (stands_in slots keys)) ≡ true → next_ready ready last ≡ Some n
-    → held_of (stands_in slots keys) (pid_of n) ≡ Some p → can_act p ≡ true → next_ready (pids_able (stands_in slots keys)) last ≡ Some n
-next_able slots keys ready asking last n p kept rise rise_here next there steps =
-    next_of_those ready (pids_able (stands_in slots keys)) last n rise (fewer_rise (stands_in slots keys) rise_here) (able_ready slots ready asking keys kept.each) next (able_there n (stands_in slots keys) p there steps)
+pub next_able : (limits : Limits) (slots : Slab Held) (keys : List (ℕ × ℕ)) (ready asking : List ℕ) (last n : ℕ) (p : Held) → IsKept limits slots keys ready asking → are_rising ready ≡ true → are_rising (pids_in (stands_in slots keys)) ≡ true → next_ready ready last ≡ Some n
+    → held_of (stands_in slots keys) (pid_of n) ≡ Some p → can_act limits p ≡ true → next_ready (pids_able limits (stands_in slots keys)) last ≡ Some n
+next_able limits slots keys ready asking last n p kept rise rise_here next there steps =
+    next_of_those ready (pids_able limits (stands_in slots keys)) last n rise (fewer_rise limits (stands_in slots keys) rise_here) (able_ready limits slots ready asking keys kept.each) next (able_there limits n (stands_in slots keys) p there steps)
 
 -- ---- the turn of the one that was chosen
 
 -- what a turn of the process with a pid makes is the turn of the one that was chosen
-module _ (n : ℕ) (was old given new : ResidentsView) (here : old.here ≡ was.here) (last : old.last ≡ was.last) (able : NextAble n old) (now : new.here ≡ given.here) (chosen : new.last ≡ n) where
-  took : (quantum : Quantum) (takes : TakesTurn (pid_of n) old.here quantum given.here) → can_act takes.was ≡ true → ChosenTurn was quantum new
-  took quantum takes steps = record {
-    chosen = (λ i. next_ready (pids_able (sym here i)) (sym last i)) ∙ able takes.was takes.there steps ∙ ap Some (sym chosen);
-    takes = subst (λ m. TakesTurn (pid_of m) was.here quantum new.here) (sym chosen)
-        (subst (λ hs. TakesTurn (pid_of n) hs quantum new.here) here (subst (λ hs. TakesTurn (pid_of n) old.here quantum hs) (sym now) takes));
+module _ (by : ClusterNo) (n : ℕ) (was old given new : ResidentsView) (limits : old.limits ≡ was.limits) (here : old.here ≡ was.here) (last : old.last ≡ was.last) (able : NextAble n old) (now : new.here ≡ given.here) (chosen : new.last ≡ n) where
+  took : (quantum : Quantum) (takes : TakesTurn old.limits by (pid_of n) old.here quantum given.here) → can_act old.limits takes.was ≡ true → ChosenTurn by was quantum new
+  took quantum takes acts = record {
+    chosen = (λ i. next_ready (pids_able (sym limits i) (sym here i)) (sym last i)) ∙ able takes.was takes.there acts ∙ ap Some (sym chosen);
+    takes = subst (λ m. TakesTurn was.limits by (pid_of m) was.here quantum new.here) (sym chosen)
+        (subst (λ ls. TakesTurn ls by (pid_of n) was.here quantum new.here) limits
+        (subst (λ hs. TakesTurn old.limits by (pid_of n) hs quantum new.here) here (subst (λ hs. TakesTurn old.limits by (pid_of n) old.here quantum hs) (sym now) takes)));
   }
 
-  pub chosen_turn : (quantum : Quantum) → GivenTurnIs (pid_of n) old.here (Ok quantum) given.here → (quantum ≡ Stuck → ⊥) → TurnIs was (Ok quantum) new
-  chosen_turn Moved takes ran = took Moved takes (moves_can 64 takes.was takes.now takes.ran)
-  chosen_turn (Sent sending) takes ran = took (Sent sending) takes (sends_can 64 takes.was sending takes.now takes.ran)
+  pub chosen_turn : (quantum : Quantum) → GivenTurnIs old.limits by (pid_of n) old.here (Ok quantum) given.here → (quantum ≡ Stuck → ⊥) → TurnIs by was (Ok quantum) new
+  chosen_turn Moved takes ran = took Moved takes (moves_can old.limits 64 takes.was takes.now takes.ran)
+  chosen_turn (Sent sending) takes ran = took (Sent sending) takes (sends_can old.limits 64 takes.was sending takes.now takes.ran)
+  chosen_turn (Synced posts) takes ran = took (Synced posts) takes (syncs_can old.limits by takes.was posts takes.now takes.ran)
   chosen_turn Stuck takes ran = absurd (ran refl)

@@ -15,6 +15,8 @@ use Rattle.std.proofs.lemmas.Bool.Decides.{nat_tests}
 use Rattle.std.proofs.lemmas.Bool.{false≢true}
 use Rattle.slab.specs.Slab.{Slab, get, Updates}
 use Rattle.t32_base.specs.declared.process.Pid.{Pid}
+use Rattle.t32_base.specs.declared.process.ClusterNo.{ClusterNo}
+use Rattle.quanta.specs.declared.limits.Limits.{Limits}
 use Rattle.cluster_core.specs.View.{Held, can_act, page_lacked, steps_of_held}
 use Rattle.cluster_core.specs.Calls.{rests_in}
 use Rattle.bus_msg.specs.Places.{same_pid}
@@ -26,40 +28,40 @@ use Rattle.cluster_core.specs.Residents.{is_stuck, are_rising, are_settled, are_
 use Rattle.cluster_core.specs.Slots.{in_slot, stands_in, IsSlot, IsKept}
 use Rattle.t32_base.specs.declared.streams.NoMemory.{NoMemory}
 use Rattle.cluster_core.specs.declared.quantum.Quantum.{Quantum}
-use Rattle.cluster_core.specs.declared.quantum.Quantum.TheVariants.{Moved, Sent, Stuck}
+use Rattle.cluster_core.specs.declared.quantum.Quantum.TheVariants.{Moved, Sent, Synced, Stuck}
 use Rattle.cluster_core.specs.Quantum.{RunsQuantum}
 use Rattle.cluster_core.proofs.Slots.{IsOne, all_more, all_removed, all_with, at_key_is, entry_goes, later_is_other, none_not_some, not_true, one_key, passes_each, passes_there, pids, process_there, slot_keys, taken_out, turned, written}
 
 -- ---- what is kept
 
 -- more pids may be ready, and more may ask
-pub listed_more : (slots : Slab Held) (keys : List (ℕ × ℕ)) (ready more asking wider : List ℕ) → ((q : ℕ) → list_any (at_key q) ready ≡ true → list_any (at_key q) more ≡ true)
-    → ((q : ℕ) → list_any (at_key q) asking ≡ true → list_any (at_key q) wider ≡ true) → IsKept slots keys ready asking → IsKept slots keys more wider
-listed_more slots keys ready more asking wider adds widens k = record {
+pub listed_more : (limits : Limits) (slots : Slab Held) (keys : List (ℕ × ℕ)) (ready more asking wider : List ℕ) → ((q : ℕ) → list_any (at_key q) ready ≡ true → list_any (at_key q) more ≡ true)
+    → ((q : ℕ) → list_any (at_key q) asking ≡ true → list_any (at_key q) wider ≡ true) → IsKept limits slots keys ready asking → IsKept limits slots keys more wider
+listed_more limits slots keys ready more asking wider adds widens k = record {
   ordered = k.ordered;
   apart = k.apart;
-  each = all_more (IsSlot slots ready asking) (IsSlot slots more wider) (λ e s. record { filled = s.filled; able = λ p is steps. adds e.0 (s.able p is steps); lacks = λ p is some. widens e.0 (s.lacks p is some) }) keys k.each;
+  each = all_more (IsSlot limits slots ready asking) (IsSlot limits slots more wider) (λ e s. record { filled = s.filled; able = λ p is steps. adds e.0 (s.able p is steps); lacks = λ p is some. widens e.0 (s.lacks p is some) }) keys k.each;
 }
 
 -- a process was written, whose pid is ready where it can move, and asks where it has a page to ask for
-pub kept_written : (slots new : Slab Held) (n key : ℕ) (now : Held) (keys : List (ℕ × ℕ)) (ready asking : List ℕ) → (can_act now ≡ true → list_any (at_key n) ready ≡ true) → (is_some (page_lacked now) ≡ true → list_any (at_key n) asking ≡ true)
-    → lookup (at_key n) keys ≡ Some key → Updates slots new key (Some now) → IsKept slots keys ready asking → IsKept new keys ready asking
-kept_written slots new n key now keys ready asking able_now lacks_now found updates k = record {
+pub kept_written : (limits : Limits) (slots new : Slab Held) (n key : ℕ) (now : Held) (keys : List (ℕ × ℕ)) (ready asking : List ℕ) → (can_act limits now ≡ true → list_any (at_key n) ready ≡ true) → (is_some (page_lacked now) ≡ true → list_any (at_key n) asking ≡ true)
+    → lookup (at_key n) keys ≡ Some key → Updates slots new key (Some now) → IsKept limits slots keys ready asking → IsKept limits new keys ready asking
+kept_written limits slots new n key now keys ready asking able_now lacks_now found updates k = record {
   ordered = k.ordered;
   apart = k.apart;
-  each = all_with (IsOne n key) (IsSlot slots ready asking) (IsSlot new ready asking) each keys (one_key n key keys k.ordered k.apart found) k.each;
+  each = all_with (IsOne n key) (IsSlot limits slots ready asking) (IsSlot limits new ready asking) each keys (one_key n key keys k.ordered k.apart found) k.each;
 }
   where
-    each : (e : ℕ × ℕ) → IsOne n key e → IsSlot slots ready asking e → IsSlot new ready asking e
+    each : (e : ℕ × ℕ) → IsOne n key e → IsSlot limits slots ready asking e → IsSlot limits new ready asking e
     each e one s = by_test (eqb e.1 key) refl
       where
-        by_test : (b : Bool) → eqb e.1 key ≡ b → IsSlot new ready asking e
+        by_test : (b : Bool) → eqb e.1 key ≡ b → IsSlot limits new ready asking e
         by_test true is =
             let at : get new e.1 ≡ Some now = ap (get new) (eqb-true e.1 key is) ∙ updates.changed in
             let pid : e.0 ≡ n = eqb-true e.0 n (one ∙ is) in
             record {
               filled = ap is_some at;
-              able = λ p there steps. ap (λ m. list_any (at_key m) ready) pid ∙ able_now (ap can_act (some_same now p (sym at ∙ there)) ∙ steps);
+              able = λ p there steps. ap (λ m. list_any (at_key m) ready) pid ∙ able_now (ap (can_act limits) (some_same now p (sym at ∙ there)) ∙ steps);
               lacks = λ p there some. ap (λ m. list_any (at_key m) asking) pid ∙ lacks_now (ap (λ (h : Held). is_some (page_lacked h)) (some_same now p (sym at ∙ there)) ∙ some);
             }
         by_test false is =
@@ -71,17 +73,17 @@ kept_written slots new n key now keys ready asking able_now lacks_now found upda
             }
 
 -- a process is in a slot that no entry names
-pub unnamed : (slots : Slab Held) (ready asking : List ℕ) (key : ℕ) (es : List (ℕ × ℕ)) → AllByRecursion (IsSlot slots ready asking) es → get slots key ≡ None → AllByRecursion (λ (e : ℕ × ℕ). eqb e.1 key ≡ false) es
-unnamed slots ready asking key es kept none = all_more (IsSlot slots ready asking) (λ (e : ℕ × ℕ). eqb e.1 key ≡ false) (λ e s. ne_eqb e.1 key (λ same. none_not_some (get slots e.1) (ap (get slots) same ∙ none) s.filled)) es kept
+pub unnamed : (limits : Limits) (slots : Slab Held) (ready asking : List ℕ) (key : ℕ) (es : List (ℕ × ℕ)) → AllByRecursion (IsSlot limits slots ready asking) es → get slots key ≡ None → AllByRecursion (λ (e : ℕ × ℕ). eqb e.1 key ≡ false) es
+unnamed limits slots ready asking key es kept none = all_more (IsSlot limits slots ready asking) (λ (e : ℕ × ℕ). eqb e.1 key ≡ false) (λ e s. ne_eqb e.1 key (λ same. none_not_some (get slots e.1) (ap (get slots) same ∙ none) s.filled)) es kept
 
-pub kept_beside : (slots new : Slab Held) (key : ℕ) (o : Option Held) (keys : List (ℕ × ℕ)) (ready asking : List ℕ) → get slots key ≡ None → Updates slots new key o → IsKept slots keys ready asking → IsKept new keys ready asking
-kept_beside slots new key o keys ready asking none updates k = record {
+pub kept_beside : (limits : Limits) (slots new : Slab Held) (key : ℕ) (o : Option Held) (keys : List (ℕ × ℕ)) (ready asking : List ℕ) → get slots key ≡ None → Updates slots new key o → IsKept limits slots keys ready asking → IsKept limits new keys ready asking
+kept_beside limits slots new key o keys ready asking none updates k = record {
   ordered = k.ordered;
   apart = k.apart;
-  each = all_with (λ (e : ℕ × ℕ). eqb e.1 key ≡ false) (IsSlot slots ready asking) (IsSlot new ready asking) each keys (unnamed slots ready asking key keys k.each none) k.each;
+  each = all_with (λ (e : ℕ × ℕ). eqb e.1 key ≡ false) (IsSlot limits slots ready asking) (IsSlot limits new ready asking) each keys (unnamed limits slots ready asking key keys k.each none) k.each;
 }
   where
-    each : (e : ℕ × ℕ) → eqb e.1 key ≡ false → IsSlot slots ready asking e → IsSlot new ready asking e
+    each : (e : ℕ × ℕ) → eqb e.1 key ≡ false → IsSlot limits slots ready asking e → IsSlot limits new ready asking e
     each e other s =
         let same : get new e.1 ≡ get slots e.1 = updates.others e.1 (λ same. true≢false (sym (eq-eqb e.1 key same) ∙ other)) in
         record {
@@ -110,19 +112,19 @@ put_first n key e es other = by_test (ltb n e.0) refl
     by_test false is = rw (after_it n e.0 is other) refl
 
 -- no entry has the pid of a process that is not here
-pub none_here : (slots : Slab Held) (ready asking : List ℕ) (n : ℕ) (es : List (ℕ × ℕ)) → AllByRecursion (IsSlot slots ready asking) es → list_any (λ (e : Pid × Held). same_pid e.0 (pid_of n)) (stands_in slots es) ≡ false → OtherPids n es
-none_here slots ready asking n [] kept none = tt
-none_here slots ready asking n (e ∷ es) kept none = let parts = in_front (get slots e.1) (kept.0).filled none in (parts.0, none_here slots ready asking n es kept.1 parts.1)
+pub none_here : (limits : Limits) (slots : Slab Held) (ready asking : List ℕ) (n : ℕ) (es : List (ℕ × ℕ)) → AllByRecursion (IsSlot limits slots ready asking) es → list_any (λ (e : Pid × Held). same_pid e.0 (pid_of n)) (stands_in slots es) ≡ false → OtherPids n es
+none_here limits slots ready asking n [] kept none = tt
+none_here limits slots ready asking n (e ∷ es) kept none = let parts = in_front (get slots e.1) (kept.0).filled none in (parts.0, none_here limits slots ready asking n es kept.1 parts.1)
   where
     in_front : (o : Option Held) → IsSome o → list_any (λ (e : Pid × Held). same_pid e.0 (pid_of n)) (in_slot (pid_of e.0) o (stands_in slots es)) ≡ false
         → (eqb e.0 n ≡ false) × (list_any (λ (e : Pid × Held). same_pid e.0 (pid_of n)) (stands_in slots es) ≡ false)
     in_front None there none = absurd (false≢true there)
     in_front (Some p) there none = either_not (eqb e.0 n) (list_any (λ (e : Pid × Held). same_pid e.0 (pid_of n)) (stands_in slots es)) none
 
-pub stands_put : (slots : Slab Held) (ready asking : List ℕ) (n key : ℕ) (p : Held) (es : List (ℕ × ℕ)) → get slots key ≡ Some p → AllByRecursion (IsSlot slots ready asking) es → OtherPids n es
+pub stands_put : (limits : Limits) (slots : Slab Held) (ready asking : List ℕ) (n key : ℕ) (p : Held) (es : List (ℕ × ℕ)) → get slots key ≡ Some p → AllByRecursion (IsSlot limits slots ready asking) es → OtherPids n es
     → stands_in slots (insert_entry nat_cmp es n key) ≡ with_more (pid_of n) p (stands_in slots es)
-stands_put slots ready asking n key p [] there kept others = ap (λ o. in_slot (pid_of n) o []) there
-stands_put slots ready asking n key p (e ∷ es) there kept others = ap (stands_in slots) (put_first n key e es others.0) ∙ by_slot (get slots e.1) refl (kept.0).filled (stands_put slots ready asking n key p es there kept.1 others.1)
+stands_put limits slots ready asking n key p [] there kept others = ap (λ o. in_slot (pid_of n) o []) there
+stands_put limits slots ready asking n key p (e ∷ es) there kept others = ap (stands_in slots) (put_first n key e es others.0) ∙ by_slot (get slots e.1) refl (kept.0).filled (stands_put limits slots ready asking n key p es there kept.1 others.1)
   where
     by_slot : (o : Option Held) → get slots e.1 ≡ o → IsSome o → stands_in slots (insert_entry nat_cmp es n key) ≡ with_more (pid_of n) p (stands_in slots es)
         → stands_in slots (cond (ltb n e.0) ((n, key) ∷ e ∷ es) (e ∷ insert_entry nat_cmp es n key)) ≡ with_more (pid_of n) p (in_slot (pid_of e.0) o (stands_in slots es))
@@ -161,12 +163,12 @@ all_put P n key (e ∷ es) others all mine = subst (AllByRecursion P) (sym (put_
     by_test true more = (mine, all)
     by_test false more = (all.0, more)
 
-pub kept_added : (slots : Slab Held) (n key : ℕ) (keys : List (ℕ × ℕ)) (ready asking : List ℕ) → IsSome (get slots key) → AllByRecursion (λ (e : ℕ × ℕ). eqb e.1 key ≡ false) keys → OtherPids n keys
-    → list_any (at_key n) ready ≡ true → list_any (at_key n) asking ≡ true → IsStrictlySortedBy nat_cmp (pids (insert_entry nat_cmp keys n key)) → IsKept slots keys ready asking → IsKept slots (insert_entry nat_cmp keys n key) ready asking
-kept_added slots n key keys ready asking there unkeyed others listed asks ordered k = record {
+pub kept_added : (limits : Limits) (slots : Slab Held) (n key : ℕ) (keys : List (ℕ × ℕ)) (ready asking : List ℕ) → IsSome (get slots key) → AllByRecursion (λ (e : ℕ × ℕ). eqb e.1 key ≡ false) keys → OtherPids n keys
+    → list_any (at_key n) ready ≡ true → list_any (at_key n) asking ≡ true → IsStrictlySortedBy nat_cmp (pids (insert_entry nat_cmp keys n key)) → IsKept limits slots keys ready asking → IsKept limits slots (insert_entry nat_cmp keys n key) ready asking
+kept_added limits slots n key keys ready asking there unkeyed others listed asks ordered k = record {
   ordered = ordered;
   apart = apart_put n key keys others k.apart unkeyed;
-  each = all_put (IsSlot slots ready asking) n key keys others k.each (record { filled = there; able = λ p is steps. listed; lacks = λ p is some. asks });
+  each = all_put (IsSlot limits slots ready asking) n key keys others k.each (record { filled = there; able = λ p is steps. listed; lacks = λ p is some. asks });
 }
 
 -- ---- one less
@@ -206,18 +208,18 @@ gone n (e ∷ es) ordered = by_test (at_key n e.0) (at_key_is n e.0) (gone n es 
 abbrev pub LeavesOthers : ℕ → List ℕ → List ℕ → Type 0
 LeavesOthers n old less = (q : ℕ) → at_key n q ≡ false → list_any (at_key q) less ≡ list_any (at_key q) old
 
-pub kept_gone : (slots new : Slab Held) (n key : ℕ) (keys : List (ℕ × ℕ)) (ready less asking fewer : List ℕ) → lookup (at_key n) keys ≡ Some key → Updates slots new key None → LeavesOthers n ready less → LeavesOthers n asking fewer
-    → IsStrictlySortedBy nat_cmp (pids (remove_entry (at_key n) keys)) → IsKept slots keys ready asking → IsKept new (remove_entry (at_key n) keys) less fewer
-kept_gone slots new n key keys ready less asking fewer found updates keeps leaves ordered k = record {
+pub kept_gone : (limits : Limits) (slots new : Slab Held) (n key : ℕ) (keys : List (ℕ × ℕ)) (ready less asking fewer : List ℕ) → lookup (at_key n) keys ≡ Some key → Updates slots new key None → LeavesOthers n ready less → LeavesOthers n asking fewer
+    → IsStrictlySortedBy nat_cmp (pids (remove_entry (at_key n) keys)) → IsKept limits slots keys ready asking → IsKept limits new (remove_entry (at_key n) keys) less fewer
+kept_gone limits slots new n key keys ready less asking fewer found updates keeps leaves ordered k = record {
   ordered = ordered;
   apart = apart_removed (at_key n) keys k.apart;
   each =
-      all_with (λ (e : ℕ × ℕ). eqb e.0 n ≡ false) (λ (e : ℕ × ℕ). IsOne n key e × IsSlot slots ready asking e) (IsSlot new less fewer) each (remove_entry (at_key n) keys) (gone n keys k.ordered)
-      (all_removed (λ (e : ℕ × ℕ). IsOne n key e × IsSlot slots ready asking e) (at_key n) keys
-      (all_with (IsOne n key) (IsSlot slots ready asking) (λ (e : ℕ × ℕ). IsOne n key e × IsSlot slots ready asking e) (λ e one s. (one, s)) keys (one_key n key keys k.ordered k.apart found) k.each));
+      all_with (λ (e : ℕ × ℕ). eqb e.0 n ≡ false) (λ (e : ℕ × ℕ). IsOne n key e × IsSlot limits slots ready asking e) (IsSlot limits new less fewer) each (remove_entry (at_key n) keys) (gone n keys k.ordered)
+      (all_removed (λ (e : ℕ × ℕ). IsOne n key e × IsSlot limits slots ready asking e) (at_key n) keys
+      (all_with (IsOne n key) (IsSlot limits slots ready asking) (λ (e : ℕ × ℕ). IsOne n key e × IsSlot limits slots ready asking e) (λ e one s. (one, s)) keys (one_key n key keys k.ordered k.apart found) k.each));
 }
   where
-    each : (e : ℕ × ℕ) → eqb e.0 n ≡ false → IsOne n key e × IsSlot slots ready asking e → IsSlot new less fewer e
+    each : (e : ℕ × ℕ) → eqb e.0 n ≡ false → IsOne n key e × IsSlot limits slots ready asking e → IsSlot limits new less fewer e
     each e other s =
         let same : get new e.1 ≡ get slots e.1 = updates.others e.1 (λ same. true≢false (sym (eq-eqb e.1 key same) ∙ sym s.0 ∙ other)) in
         record {
@@ -228,41 +230,41 @@ kept_gone slots new n key keys ready less asking fewer found updates keeps leave
 
 -- ---- one rests
 
-filled_each : (slots : Slab Held) (ready asking : List ℕ) (es : List (ℕ × ℕ)) → AllByRecursion (IsSlot slots ready asking) es → AllByRecursion (λ (e : ℕ × ℕ). IsSome (get slots e.1)) es
-filled_each slots ready asking es kept = all_more (IsSlot slots ready asking) (λ (e : ℕ × ℕ). IsSome (get slots e.1)) (λ e s. s.filled) es kept
+filled_each : (limits : Limits) (slots : Slab Held) (ready asking : List ℕ) (es : List (ℕ × ℕ)) → AllByRecursion (IsSlot limits slots ready asking) es → AllByRecursion (λ (e : ℕ × ℕ). IsSome (get slots e.1)) es
+filled_each limits slots ready asking es kept = all_more (IsSlot limits slots ready asking) (λ (e : ℕ × ℕ). IsSome (get slots e.1)) (λ e s. s.filled) es kept
 
 -- one that cannot move is no longer ready
-pub kept_resting : (slots : Slab Held) (n : ℕ) (keys : List (ℕ × ℕ)) (ready less asking : List ℕ) → is_stuck_at (pid_of n) (stands_in slots keys) ≡ true → LeavesOthers n ready less → IsKept slots keys ready asking → IsKept slots keys less asking
-kept_resting slots n keys ready less asking stuck keeps k = record {
+pub kept_resting : (limits : Limits) (slots : Slab Held) (n : ℕ) (keys : List (ℕ × ℕ)) (ready less asking : List ℕ) → is_stuck_at limits (pid_of n) (stands_in slots keys) ≡ true → LeavesOthers n ready less → IsKept limits slots keys ready asking → IsKept limits slots keys less asking
+kept_resting limits slots n keys ready less asking stuck keeps k = record {
   ordered = k.ordered;
   apart = k.apart;
   each =
-      all_with (λ (e : ℕ × ℕ). (p : Held) → get slots e.1 ≡ Some p → eqb e.0 n ≡ true → is_stuck p ≡ true) (IsSlot slots ready asking) (IsSlot slots less asking) each keys
-      (passes_each (λ p. is_stuck p) slots n keys (filled_each slots ready asking keys k.each) stuck) k.each;
+      all_with (λ (e : ℕ × ℕ). (p : Held) → get slots e.1 ≡ Some p → eqb e.0 n ≡ true → is_stuck limits p ≡ true) (IsSlot limits slots ready asking) (IsSlot limits slots less asking) each keys
+      (passes_each (λ p. is_stuck limits p) slots n keys (filled_each limits slots ready asking keys k.each) stuck) k.each;
 }
   where
-    each : (e : ℕ × ℕ) → ((p : Held) → get slots e.1 ≡ Some p → eqb e.0 n ≡ true → is_stuck p ≡ true) → IsSlot slots ready asking e → IsSlot slots less asking e
+    each : (e : ℕ × ℕ) → ((p : Held) → get slots e.1 ≡ Some p → eqb e.0 n ≡ true → is_stuck limits p ≡ true) → IsSlot limits slots ready asking e → IsSlot limits slots less asking e
     each e quiet s = record { filled = s.filled; able = λ p there steps. by_test (eqb e.0 n) refl p there steps; lacks = s.lacks }
       where
-        by_test : (b : Bool) → eqb e.0 n ≡ b → (p : Held) → get slots e.1 ≡ Some p → can_act p ≡ true → list_any (at_key e.0) less ≡ true
-        by_test true is p there steps = absurd (true≢false (sym steps ∙ not_true (can_act p) (quiet p there is)))
+        by_test : (b : Bool) → eqb e.0 n ≡ b → (p : Held) → get slots e.1 ≡ Some p → can_act limits p ≡ true → list_any (at_key e.0) less ≡ true
+        by_test true is p there steps = absurd (true≢false (sym steps ∙ not_true (can_act limits p) (quiet p there is)))
         by_test false is p there steps = keeps e.0 (at_key_is n e.0 ∙ is) ∙ s.able p there steps
 
 -- one that has no page to ask for asks no longer
-pub kept_asked : (slots : Slab Held) (n : ℕ) (keys : List (ℕ × ℕ)) (ready asking fewer : List ℕ) → lacks_none_at (pid_of n) (stands_in slots keys) ≡ true → LeavesOthers n asking fewer → IsKept slots keys ready asking → IsKept slots keys ready fewer
-kept_asked slots n keys ready asking fewer none leaves k = record {
+pub kept_asked : (limits : Limits) (slots : Slab Held) (n : ℕ) (keys : List (ℕ × ℕ)) (ready asking fewer : List ℕ) → lacks_none_at (pid_of n) (stands_in slots keys) ≡ true → LeavesOthers n asking fewer → IsKept limits slots keys ready asking → IsKept limits slots keys ready fewer
+kept_asked limits slots n keys ready asking fewer none leaves k = record {
   ordered = k.ordered;
   apart = k.apart;
   each =
-      all_with (λ (e : ℕ × ℕ). (p : Held) → get slots e.1 ≡ Some p → eqb e.0 n ≡ true → is_none (page_lacked p) ≡ true) (IsSlot slots ready asking) (IsSlot slots ready fewer) each keys
-      (passes_each (λ p. is_none (page_lacked p)) slots n keys (filled_each slots ready asking keys k.each) none) k.each;
+      all_with (λ (e : ℕ × ℕ). (p : Held) → get slots e.1 ≡ Some p → eqb e.0 n ≡ true → is_none (page_lacked p) ≡ true) (IsSlot limits slots ready asking) (IsSlot limits slots ready fewer) each keys
+      (passes_each (λ p. is_none (page_lacked p)) slots n keys (filled_each limits slots ready asking keys k.each) none) k.each;
 }
   where
     not_both : (o : Option ℕ) → is_none o ≡ true → is_some o ≡ true → ⊥
     not_both None none some = absurd (false≢true some)
     not_both (Some i) none some = absurd (false≢true none)
 
-    each : (e : ℕ × ℕ) → ((p : Held) → get slots e.1 ≡ Some p → eqb e.0 n ≡ true → is_none (page_lacked p) ≡ true) → IsSlot slots ready asking e → IsSlot slots ready fewer e
+    each : (e : ℕ × ℕ) → ((p : Held) → get slots e.1 ≡ Some p → eqb e.0 n ≡ true → is_none (page_lacked p) ≡ true) → IsSlot limits slots ready asking e → IsSlot limits slots ready fewer e
     each e has s = record { filled = s.filled; able = s.able; lacks = λ p there some. by_test (eqb e.0 n) refl p there some }
       where
         by_test : (b : Bool) → eqb e.0 n ≡ b → (p : Held) → get slots e.1 ≡ Some p → is_some (page_lacked p) ≡ true → list_any (at_key e.0) fewer ≡ true
@@ -282,17 +284,17 @@ none_ready ready last none = by_case (find (λ n. ltb last n) ready) none
     by_case None none = first_some ready none
     by_case (Some n) none = cc
 
-pub all_stuck : (slots : Slab Held) (asking : List ℕ) (es : List (ℕ × ℕ)) → AllByRecursion (IsSlot slots [] asking) es → are_stuck (stands_in slots es) ≡ true
-all_stuck slots asking [] kept = refl
-all_stuck slots asking (e ∷ es) kept = in_front (get slots e.1) (λ p is. (kept.0).able p is) (all_stuck slots asking es kept.1)
+pub all_stuck : (limits : Limits) (slots : Slab Held) (asking : List ℕ) (es : List (ℕ × ℕ)) → AllByRecursion (IsSlot limits slots [] asking) es → are_stuck limits (stands_in slots es) ≡ true
+all_stuck limits slots asking [] kept = refl
+all_stuck limits slots asking (e ∷ es) kept = in_front (get slots e.1) (λ p is. (kept.0).able p is) (all_stuck limits slots asking es kept.1)
   where
     quiet : (b : Bool) → (b ≡ true → false ≡ true) → not b ≡ true
     quiet true steps = steps refl
     quiet false steps = refl
 
-    in_front : (o : Option Held) → ((p : Held) → o ≡ Some p → can_act p ≡ true → false ≡ true) → are_stuck (stands_in slots es) ≡ true → are_stuck (in_slot (pid_of e.0) o (stands_in slots es)) ≡ true
+    in_front : (o : Option Held) → ((p : Held) → o ≡ Some p → can_act limits p ≡ true → false ≡ true) → are_stuck limits (stands_in slots es) ≡ true → are_stuck limits (in_slot (pid_of e.0) o (stands_in slots es)) ≡ true
     in_front None steps more = more
-    in_front (Some p) steps more = λ i. ((λ j. quiet (can_act p) (steps p refl) j && are_stuck (stands_in slots es)) ∙ more) i
+    in_front (Some p) steps more = λ i. ((λ j. quiet (can_act limits p) (steps p refl) j && are_stuck limits (stands_in slots es)) ∙ more) i
 
 find_any : (t : ℕ → Bool) (n : ℕ) (xs : List ℕ) → find t xs ≡ Some n → list_any (at_key n) xs ≡ true
 find_any t n [] found = cc
@@ -332,44 +334,44 @@ unfolding IsStrictlySortedBy
 in_order [] ordered = refl
 in_order (n ∷ ns) ordered = ap (λ b. b && are_rising ns) (all_after n ns ordered.0) ∙ in_order ns ordered.1
 
-pub pids_stand : (slots : Slab Held) (ready asking : List ℕ) (es : List (ℕ × ℕ)) → AllByRecursion (IsSlot slots ready asking) es → pids_in (stands_in slots es) ≡ pids es
-pids_stand slots ready asking [] kept = refl
-pids_stand slots ready asking (e ∷ es) kept = in_front (get slots e.1) (kept.0).filled (pids_stand slots ready asking es kept.1)
+pub pids_stand : (limits : Limits) (slots : Slab Held) (ready asking : List ℕ) (es : List (ℕ × ℕ)) → AllByRecursion (IsSlot limits slots ready asking) es → pids_in (stands_in slots es) ≡ pids es
+pids_stand limits slots ready asking [] kept = refl
+pids_stand limits slots ready asking (e ∷ es) kept = in_front (get slots e.1) (kept.0).filled (pids_stand limits slots ready asking es kept.1)
   where
     in_front : (o : Option Held) → IsSome o → pids_in (stands_in slots es) ≡ pids es → pids_in (in_slot (pid_of e.0) o (stands_in slots es)) ≡ e.0 ∷ pids es
     in_front None there more = absurd (false≢true there)
     in_front (Some p) there more = ap (λ ns. e.0 ∷ ns) more
 
-pub rising_here : (slots : Slab Held) (keys : List (ℕ × ℕ)) (ready asking : List ℕ) → IsKept slots keys ready asking → are_rising (pids_in (stands_in slots keys)) ≡ true
-rising_here slots keys ready asking k = ap are_rising (pids_stand slots ready asking keys k.each) ∙ in_order (pids keys) k.ordered
+pub rising_here : (limits : Limits) (slots : Slab Held) (keys : List (ℕ × ℕ)) (ready asking : List ℕ) → IsKept limits slots keys ready asking → are_rising (pids_in (stands_in slots keys)) ≡ true
+rising_here limits slots keys ready asking k = ap are_rising (pids_stand limits slots ready asking keys k.each) ∙ in_order (pids keys) k.ordered
 
 -- what rests, after some: all, or nothing where one of them can move or waits
-abbrev pub rests_with : List (Pid × ℕ) → List (Pid × Held) → Option (List (Pid × ℕ))
-rests_with before here = cond (are_settled here) (Some (before ++ rests_in here)) None
+abbrev pub rests_with : Limits → List (Pid × ℕ) → List (Pid × Held) → Option (List (Pid × ℕ))
+rests_with limits before here = cond (are_settled limits here) (Some (before ++ rests_in here)) None
 
-pub one_rests : (slots : Slab Held) (before : List (Pid × ℕ)) (e : ℕ × ℕ) (p : Held) (es : List (ℕ × ℕ)) → get slots e.1 ≡ Some p → is_settled p ≡ true
-    → rests_with before (stands_in slots (e ∷ es)) ≡ rests_with (before ++ (pid_of e.0, steps_of_held p) ∷ []) (stands_in slots es)
-one_rests slots before e p es there settled =
-    ap (λ o. rests_with before (in_slot (pid_of e.0) o (stands_in slots es))) there
-    ∙ (λ i. cond (settled i && are_settled (stands_in slots es)) (Some (sym (append_assoc before ((pid_of e.0, steps_of_held p) ∷ []) (rests_in (stands_in slots es))) i)) None)
+pub one_rests : (limits : Limits) (slots : Slab Held) (before : List (Pid × ℕ)) (e : ℕ × ℕ) (p : Held) (es : List (ℕ × ℕ)) → get slots e.1 ≡ Some p → is_settled limits p ≡ true
+    → rests_with limits before (stands_in slots (e ∷ es)) ≡ rests_with limits (before ++ (pid_of e.0, steps_of_held p) ∷ []) (stands_in slots es)
+one_rests limits slots before e p es there settled =
+    ap (λ o. rests_with limits before (in_slot (pid_of e.0) o (stands_in slots es))) there
+    ∙ (λ i. cond (settled i && are_settled limits (stands_in slots es)) (Some (sym (append_assoc before ((pid_of e.0, steps_of_held p) ∷ []) (rests_in (stands_in slots es))) i)) None)
 
-pub one_goes_on : (slots : Slab Held) (before : List (Pid × ℕ)) (e : ℕ × ℕ) (p : Held) (es : List (ℕ × ℕ)) → get slots e.1 ≡ Some p → is_settled p ≡ false → rests_with before (stands_in slots (e ∷ es)) ≡ None
-one_goes_on slots before e p es there unsettled =
-    ap (λ o. rests_with before (in_slot (pid_of e.0) o (stands_in slots es))) there
-    ∙ (λ i. cond (unsettled i && are_settled (stands_in slots es)) (Some (before ++ (pid_of e.0, steps_of_held p) ∷ rests_in (stands_in slots es))) None)
+pub one_goes_on : (limits : Limits) (slots : Slab Held) (before : List (Pid × ℕ)) (e : ℕ × ℕ) (p : Held) (es : List (ℕ × ℕ)) → get slots e.1 ≡ Some p → is_settled limits p ≡ false → rests_with limits before (stands_in slots (e ∷ es)) ≡ None
+one_goes_on limits slots before e p es there unsettled =
+    ap (λ o. rests_with limits before (in_slot (pid_of e.0) o (stands_in slots es))) there
+    ∙ (λ i. cond (unsettled i && are_settled limits (stands_in slots es)) (Some (before ++ (pid_of e.0, steps_of_held p) ∷ rests_in (stands_in slots es))) None)
 
 -- ---- one process of those that are kept
 
-filled_at : (slots : Slab Held) (ready asking : List ℕ) (n key : ℕ) (es : List (ℕ × ℕ)) → lookup (at_key n) es ≡ Some key → AllByRecursion (IsSlot slots ready asking) es → IsSome (get slots key)
-filled_at slots ready asking n key [] found kept = cc
-filled_at slots ready asking n key (e ∷ es) found kept = by_test (at_key n e.0) found (λ found. filled_at slots ready asking n key es found kept.1)
+filled_at : (limits : Limits) (slots : Slab Held) (ready asking : List ℕ) (n key : ℕ) (es : List (ℕ × ℕ)) → lookup (at_key n) es ≡ Some key → AllByRecursion (IsSlot limits slots ready asking) es → IsSome (get slots key)
+filled_at limits slots ready asking n key [] found kept = cc
+filled_at limits slots ready asking n key (e ∷ es) found kept = by_test (at_key n e.0) found (λ found. filled_at limits slots ready asking n key es found kept.1)
   where
     by_test : (b : Bool) → cond b (Some e.1) (lookup (at_key n) es) ≡ Some key → (lookup (at_key n) es ≡ Some key → IsSome (get slots key)) → IsSome (get slots key)
     by_test true found more = ap (λ k. is_some (get slots k)) (sym (some_same e.1 key found)) ∙ (kept.0).filled
     by_test false found more = more found
 
-pub never_empty : (slots : Slab Held) (n key : ℕ) (keys : List (ℕ × ℕ)) (ready asking : List ℕ) → IsKept slots keys ready asking → lookup (at_key n) keys ≡ Some key → get slots key ≡ None → ⊥
-never_empty slots n key keys ready asking k found none = none_not_some (get slots key) none (filled_at slots ready asking n key keys found k.each)
+pub never_empty : (limits : Limits) (slots : Slab Held) (n key : ℕ) (keys : List (ℕ × ℕ)) (ready asking : List ℕ) → IsKept limits slots keys ready asking → lookup (at_key n) keys ≡ Some key → get slots key ≡ None → ⊥
+never_empty limits slots n key keys ready asking k found none = none_not_some (get slots key) none (filled_at limits slots ready asking n key keys found k.each)
 
 -- a slot that is written as it was
 pub written_back : (slots new : Slab Held) (key : ℕ) (was now : Held) (es : List (ℕ × ℕ)) → get slots key ≡ Some was → Updates slots new key (Some now) → now ≡ was → stands_in new es ≡ stands_in slots es
@@ -386,11 +388,11 @@ written_back slots new key was now (e ∷ es) there updates same =
     by_test false is = updates.others e.1 (λ same. true≢false (sym (eq-eqb e.1 key same) ∙ is))
 
 -- a process had its turn
-module _ (slots new : Slab Held) (n key : ℕ) (keys : List (ℕ × ℕ)) (ready asking : List ℕ) (was now : Held) (old : List (Pid × Held)) (kept : IsKept slots keys ready asking) (found : lookup (at_key n) keys ≡ Some key)
+module _ (limits : Limits) (by : ClusterNo) (slots new : Slab Held) (n key : ℕ) (keys : List (ℕ × ℕ)) (ready asking : List ℕ) (was now : Held) (old : List (Pid × Held)) (kept : IsKept limits slots keys ready asking) (found : lookup (at_key n) keys ≡ Some key)
     (there : get slots key ≡ Some was) (updates : Updates slots new key (Some now)) (same : stands_in slots keys ≡ old) where
-  took : (quantum : Quantum) → RunsQuantum 64 was (Ok quantum) now → TakesTurn (pid_of n) old quantum (stands_in new keys)
+  took : (quantum : Quantum) → RunsQuantum limits by 64 was (Ok quantum) now → TakesTurn limits by (pid_of n) old quantum (stands_in new keys)
   took quantum ran =
-      subst (λ old. TakesTurn (pid_of n) old quantum (stands_in new keys)) same
+      subst (λ old. TakesTurn limits by (pid_of n) old quantum (stands_in new keys)) same
       (record {
         was = was;
         now = now;
@@ -399,17 +401,18 @@ module _ (slots new : Slab Held) (n key : ℕ) (keys : List (ℕ × ℕ)) (ready
         here = written slots new n key was now (λ e. (pid_of n, now)) keys (one_key n key keys kept.ordered kept.apart found) there updates refl;
       })
 
-  pub given_turn : (r : Result Quantum NoMemory) → RunsQuantum 64 was r now → GivenTurnIs (pid_of n) old r (stands_in new keys)
+  pub given_turn : (r : Result Quantum NoMemory) → RunsQuantum limits by 64 was r now → GivenTurnIs limits by (pid_of n) old r (stands_in new keys)
   given_turn (Ok Moved) ran = took Moved ran
   given_turn (Ok (Sent sending)) ran = took (Sent sending) ran
+  given_turn (Ok (Synced posts)) ran = took (Synced posts) ran
   given_turn (Ok Stuck) ran =
-      (ap (is_stuck_at (pid_of n)) (sym same) ∙ passes_there (λ p. is_stuck p) slots n key was keys (one_key n key keys kept.ordered kept.apart found) there (ap not ran.0), written_back slots new key was now keys there updates ran.1 ∙ same)
+      (ap (is_stuck_at limits (pid_of n)) (sym same) ∙ passes_there (λ p. is_stuck limits p) slots n key was keys (one_key n key keys kept.ordered kept.apart found) there (ap not ran.0), written_back slots new key was now keys there updates ran.1 ∙ same)
   given_turn (Err fault) ran = written_back slots new key was now keys there updates ran ∙ same
 
 -- a process goes with its entry
-pub goes : (slots new : Slab Held) (n key : ℕ) (keys : List (ℕ × ℕ)) (ready asking : List ℕ) → IsKept slots keys ready asking → lookup (at_key n) keys ≡ Some key → Updates slots new key None
+pub goes : (limits : Limits) (slots new : Slab Held) (n key : ℕ) (keys : List (ℕ × ℕ)) (ready asking : List ℕ) → IsKept limits slots keys ready asking → lookup (at_key n) keys ≡ Some key → Updates slots new key None
     → stands_in new (remove_entry (at_key n) keys) ≡ filter (λ (e : Pid × Held). not (same_pid e.0 (pid_of n))) (stands_in slots keys)
-goes slots new n key keys ready asking kept found updates = entry_goes new (at_key n) key keys found updates.changed ∙ taken_out slots new n key keys (one_key n key keys kept.ordered kept.apart found) updates
+goes limits slots new n key keys ready asking kept found updates = entry_goes new (at_key n) key keys found updates.changed ∙ taken_out slots new n key keys (one_key n key keys kept.ordered kept.apart found) updates
 
 -- ---- the first of those above
 
@@ -429,8 +432,8 @@ next_above t ready last n same first = sym (ap (λ o. option_or o (first_of read
 pub next_around : (t : ℕ → Bool) (ready : List ℕ) (last : ℕ) → ((m : ℕ) → t m ≡ ltb last m) → first_of (filter t ready) ≡ None → first_of ready ≡ next_ready ready last
 next_around t ready last same first = sym (ap (λ o. option_or o (first_of ready)) (sym (first_filtered t (λ m. ltb last m) same ready) ∙ first))
 
-pub none_next : (slots : Slab Held) (keys : List (ℕ × ℕ)) (ready asking : List ℕ) (last : ℕ) → IsKept slots keys ready asking → next_ready ready last ≡ None → are_stuck (stands_in slots keys) ≡ true
-none_next slots keys ready asking last kept none = all_stuck slots asking keys (subst (λ ready. AllByRecursion (IsSlot slots ready asking) keys) (none_ready ready last none) kept.each)
+pub none_next : (limits : Limits) (slots : Slab Held) (keys : List (ℕ × ℕ)) (ready asking : List ℕ) (last : ℕ) → IsKept limits slots keys ready asking → next_ready ready last ≡ None → are_stuck limits (stands_in slots keys) ≡ true
+none_next limits slots keys ready asking last kept none = all_stuck limits slots asking keys (subst (λ ready. AllByRecursion (IsSlot limits slots ready asking) keys) (none_ready ready last none) kept.each)
 
 in_range : (last m : ℕ) → range_contains nat_cmp (Excluded last) Unbounded m ≡ ltb last m
 in_range last m = grind (arith, nat_tests)
@@ -461,16 +464,16 @@ PutsOne n old more = (q : ℕ) → list_any (at_key q) more ≡ cond (at_key n q
 puts_more : (n : ℕ) (old more : List ℕ) → PutsOne n old more → (q : ℕ) → list_any (at_key q) old ≡ true → list_any (at_key q) more ≡ true
 puts_more n old more puts q h = adds (at_key n q) (list_any (at_key q) old) (list_any (at_key q) more) (puts q) h
 
-pub ready_put : (slots : Slab Held) (keys : List (ℕ × ℕ)) (n : ℕ) (ready more asking : List ℕ) → PutsOne n ready more → IsKept slots keys ready asking → IsKept slots keys more asking
-ready_put slots keys n ready more asking puts kept = listed_more slots keys ready more asking asking (puts_more n ready more puts) (λ q h. h) kept
+pub ready_put : (limits : Limits) (slots : Slab Held) (keys : List (ℕ × ℕ)) (n : ℕ) (ready more asking : List ℕ) → PutsOne n ready more → IsKept limits slots keys ready asking → IsKept limits slots keys more asking
+ready_put limits slots keys n ready more asking puts kept = listed_more limits slots keys ready more asking asking (puts_more n ready more puts) (λ q h. h) kept
 
-pub asking_put : (slots : Slab Held) (keys : List (ℕ × ℕ)) (n : ℕ) (ready asking more : List ℕ) → PutsOne n asking more → IsKept slots keys ready asking → IsKept slots keys ready more
-asking_put slots keys n ready asking more puts kept = listed_more slots keys ready ready asking more (λ q h. h) (puts_more n asking more puts) kept
+pub asking_put : (limits : Limits) (slots : Slab Held) (keys : List (ℕ × ℕ)) (n : ℕ) (ready asking more : List ℕ) → PutsOne n asking more → IsKept limits slots keys ready asking → IsKept limits slots keys ready more
+asking_put limits slots keys n ready asking more puts kept = listed_more limits slots keys ready ready asking more (λ q h. h) (puts_more n asking more puts) kept
 
-pub more_room : (slots new : Slab Held) (keys : List (ℕ × ℕ)) (ready asking : List ℕ) → new.slots ≡ slots.slots → IsKept slots keys ready asking → IsKept new keys ready asking
-more_room slots new keys ready asking same kept = record { ordered = kept.ordered; apart = kept.apart; each = all_more (IsSlot slots ready asking) (IsSlot new ready asking) each keys kept.each }
+pub more_room : (limits : Limits) (slots new : Slab Held) (keys : List (ℕ × ℕ)) (ready asking : List ℕ) → new.slots ≡ slots.slots → IsKept limits slots keys ready asking → IsKept limits new keys ready asking
+more_room limits slots new keys ready asking same kept = record { ordered = kept.ordered; apart = kept.apart; each = all_more (IsSlot limits slots ready asking) (IsSlot limits new ready asking) each keys kept.each }
   where
-    each : (e : ℕ × ℕ) → IsSlot slots ready asking e → IsSlot new ready asking e
+    each : (e : ℕ × ℕ) → IsSlot limits slots ready asking e → IsSlot limits new ready asking e
     each e s =
         let at : get new e.1 ≡ get slots e.1 = ap (λ l. slice_index_or l e.1 None) same in
         record { filled = ap is_some at ∙ s.filled; able = λ p there steps. s.able p (sym at ∙ there) steps; lacks = λ p there some. s.lacks p (sym at ∙ there) some }

@@ -1,7 +1,6 @@
 pub mod Telling
 pub mod Standing
 pub mod Quanta
-mod RunningOn
 pub mod Here
 pub mod Slots
 pub mod Kept
@@ -24,10 +23,16 @@ mod LostQueue
 mod Losing
 mod OwningWaits
 mod Unmoved
+mod AfterSent
+mod Beside
+mod BatchPosts
+mod Batching
+mod Stayed
 mod Waiting
 pub mod MarksBegin
 mod Paging
 mod Synchronising
+mod OwnBatch
 pub mod Served
 pub mod Counted
 pub mod Passing
@@ -37,6 +42,7 @@ pub mod Following
 pub mod Owning
 mod Catching
 mod FirstServer
+mod BeginSync
 pub mod Working
 mod Answering
 mod Fetching

@@ -49,7 +49,7 @@ use Rattle.cluster_core.specs.Parts.{AllOwn}
 use Rattle.cluster_core.specs.Queue.{AreTogether, Queued, posts_of, IsQueueLegal, move_of, with_queue}
 use Rattle.cluster_core.specs.Recovered.{left_by, moved_by, CanWait, with_all_waiting}
 use Rattle.cluster_core.specs.Holds.{IsHeldAs, is_fetch_queued, process_in, CarriesMarks, MarkedIfThere, unended_process}
-use Rattle.cluster_core.specs.Follows.{FollowsBuilt}
+use Rattle.cluster_core.proofs.Beside.{FollowsBeside}
 use Rattle.cluster_core.specs.Calls.{absorbed, here_after}
 use Rattle.cluster_core.proofs.Here.{is_among, pid_same}
 use Rattle.cluster_core.proofs.Homes.{HomeHere, differ_built, home_here}
@@ -264,6 +264,20 @@ module _ (system : System) (valid : is_system system ≡ true) (log : List Entry
         (λ i. ap (is_page_is p i) n.same) (subst (λ w. WaitsAs system log p (λ i. is_fetch p i w || is_fetch_queued p (posts_of q) i) waiting) (sym n.same) held.1)),
   )
 
+  -- one that is at home here was here, and is held as it was
+  pub still_here : (recs : List BackRec) (here : List (Pid × Held)) (p : Pid) (h : Held) → KeepsRecords system log k recs → are_rising (filter (moves_here places lost k) recs) ≡ true → HomeHere places p k
+      → held_of (with_all_waiting (filter (moves_here places lost k) recs) here) p ≡ Some h → held_of here p ≡ Some h
+  still_here recs here p h keeps order home at = by_either (held_waiting (λ r. Moves recs r.pid r) moved here p h (all_recorded (λ r. Moves recs r.pid r) moved order (λ r found. moving recs r.pid r keeps found)) at)
+    where
+      moved : List BackRec
+      moved = filter (moves_here places lost k) recs
+
+      by_either : (held_of here p ≡ Some h) ⊎ Recovery (λ r. Moves recs r.pid r) p h → held_of here p ≡ Some h
+      by_either (inl there) = there
+      by_either (inr y) =
+          let pids : (y.kept).pid ≡ p = pid_same (y.kept).pid p (eqb-true ((y.kept).pid).0 p.0 y.own) in
+          absurd (not_here recs p y.kept (subst (λ p. Moves recs p y.kept) pids y.has) (home_is p home))
+
   -- it has its pages if it had them
   pages_still : (p : Pid) → HomeHere places p k → has_its_pages system log p ≡ true → has_its_pages system later p ≡ true
   pages_still p home has = pages_after system log e p k stands (differ_built system log valid n.legal) home spared has
@@ -305,9 +319,9 @@ module _ (system : System) (valid : is_system system ≡ true) (log : List Entry
 
   -- ---- the whole
 
-  pub follows_lost : (c : ClusterView) (server : Option PagerState) → Serves places e c.server server → c.system ≡ system → c.number ≡ k → AllOwn c.cursor c.here → FollowsBuilt system log c → is_by_cluster k e ≡ false
-      → are_rising (filter (moves_here places lost k) c.records) ≡ true → FollowsBuilt system later (with_server server (absorbed c e))
-  follows_lost c server serves system_is number_is own f foreign order = subst (λ v. FollowsBuilt system later (with_server server v)) (sym whole) (record {
+  pub follows_lost : (which : Pid → Bool) (c : ClusterView) (server : Option PagerState) → Serves places e c.server server → c.system ≡ system → c.number ≡ k → AllOwn c.cursor c.here → FollowsBeside which system log c → is_by_cluster k e ≡ false
+      → are_rising (filter (moves_here places lost k) c.records) ≡ true → FollowsBeside which system later (with_server server (absorbed c e))
+  follows_lost which c server serves system_is number_is own f foreign order = subst (λ v. FollowsBeside which system later (with_server server v)) (sym whole) (record {
     log = record {
       cursor = ap (λ m. m + 1) (f.log).cursor ∙ sym (length-append log (e ∷ []));
       places = sym there_after;
@@ -396,8 +410,8 @@ module _ (system : System) (valid : is_system system ≡ true) (log : List Entry
               (waiting_held q c.records p y.kept m (no_move_queued system valid log e lost cause n k apart q p (f.queued).together posts_own posts_legal elsewhere) (λ i. no_fetch_queued system valid log e lost cause n k apart q p i (f.queued).together posts_own posts_legal elsewhere))
 
       -- who was here has its marks still
-      marks_still : (p : Pid) (h : Held) → held_of c.here p ≡ Some h → IsHeldAs system later (posts_of q) p h → MarkedIfThere CarriesMarks system (with_queue system later (posts_of q)) p (unended_process h)
-      marks_still p h there now =
+      marks_still : (p : Pid) (h : Held) → which p ≡ true → held_of c.here p ≡ Some h → IsHeldAs system later (posts_of q) p h → MarkedIfThere CarriesMarks system (with_queue system later (posts_of q)) p (unended_process h)
+      marks_still p h among there now =
           let home = home_of p h there in
           let stays = home_not_moved system log e p k (differ_built system log valid n.legal) home spared in
           let leaves : Leaves system log p (what e) = (ap (is_cut p) n.same, ap (is_birth_of p) n.same, ap (is_some_page p) n.same, stays) in
@@ -405,13 +419,13 @@ module _ (system : System) (valid : is_system system ≡ true) (log : List Entry
           (ap is_some (found_after system valid log e lost cause n k apart p ∙ ap (option_map (after_loss lost)) home.found)) (f.queued).together
           (queue_tells system log k q posts_own posts_legal) (queue_tells system later k q posts_own (queue_stays system valid log e lost cause n k apart q (f.queued).together posts_own foreign posts_legal))
           (subst (λ ps. IsHeldAs system log ps p h) queue_is ((f.processes).held p h there)) now leaves (ap (is_exit_of p) n.same) (λ m. m)
-          (subst (λ ps. MarkedIfThere CarriesMarks system (with_queue system log ps) p (unended_process h)) queue_is (f.marks p h there))
+          (subst (λ ps. MarkedIfThere CarriesMarks system (with_queue system log ps) p (unended_process h)) queue_is (f.marks p h there among))
 
-      marks : (p : Pid) (h : Held) → held_of (with_all_waiting moved c.here) p ≡ Some h → MarkedIfThere CarriesMarks system (with_queue system later c.queue) p (unended_process h)
-      marks p h at = subst (λ ps. MarkedIfThere CarriesMarks system (with_queue system later ps) p (unended_process h)) (sym queue_is) (by_either (found p h at))
+      marks : (p : Pid) (h : Held) → held_of (with_all_waiting moved c.here) p ≡ Some h → which p ≡ true → MarkedIfThere CarriesMarks system (with_queue system later c.queue) p (unended_process h)
+      marks p h at among = subst (λ ps. MarkedIfThere CarriesMarks system (with_queue system later ps) p (unended_process h)) (sym queue_is) (by_either (found p h at))
         where
           by_either : (held_of c.here p ≡ Some h) ⊎ Recovery (λ r. Moves c.records r.pid r) p h → MarkedIfThere CarriesMarks system (with_queue system later (posts_of q)) p (unended_process h)
-          by_either (inl there) = marks_still p h there (held_still q p h (f.queued).together (home_of p h there) (subst (λ ps. IsHeldAs system log ps p h) queue_is ((f.processes).held p h there)))
+          by_either (inl there) = marks_still p h among there (held_still q p h (f.queued).together (home_of p h there) (subst (λ ps. IsHeldAs system log ps p h) queue_is ((f.processes).held p h there)))
           by_either (inr y) = subst (λ x. MarkedIfThere CarriesMarks system (with_queue system later (posts_of q)) p (unended_process x)) (sym y.is) tt
 
       pages : (p : Pid) (h : Held) → held_of (with_all_waiting moved c.here) p ≡ Some h → is_some (process_in h) ≡ true → has_its_pages system later p ≡ true

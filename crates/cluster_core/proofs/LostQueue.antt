@@ -88,7 +88,7 @@ module _ (system : System) (valid : is_system system ≡ true) (log : List Entry
       by_test false is = refl
 
   -- a process that is at home here stays here
-  home_stays : (p : Pid) → home_at places p ≡ Some k → home_at (placement system later) p ≡ Some k
+  pub home_stays : (p : Pid) → home_at places p ≡ Some k → home_at (placement system later) p ≡ Some k
   home_stays p at = ap (option_map (λ (q : Placed). q.home)) (found_after p) ∙ by_found (unended_at places p) at
     where
       by_found : (o : Option Placed) → option_map (λ (q : Placed). q.home) o ≡ Some k → option_map (λ (q : Placed). q.home) (option_map (after_loss lost) o) ≡ Some k

@@ -209,7 +209,7 @@ module _ (system : System) (log : List Entry) (p : Pid) (valid : is_system syste
       ap (λ (s : ProcState). s.next) (sym after ∙ taken_told post.what t.after m.0) ∙ sent_next t.at t.emission t.after (ap (λ q. emission_at system log q t.at) (sym pid) ∙ t.is)
 
   -- as many letters have come to a process that is held as came to it in the log
-  came_to : (q : Queued) (h : Held) (s : Process) → AreTogether q → TellsAs system log q → IsHeldAs system log (posts_of q) p h → unended_process h ≡ Some s → (s.mail).next ≡ arrived_count log p
+  pub came_to : (q : Queued) (h : Held) (s : Process) → AreTogether q → TellsAs system log q → IsHeldAs system log (posts_of q) p h → unended_process h ≡ Some s → (s.mail).next ≡ arrived_count log p
   came_to q h s together tells held is = by_held h held (unended_is h s is)
     where
       by_move : (t : Process) (o : Option What) → move_of p (posts_of q) ≡ o → has_ended (t.small).status ≡ false → state_by system log p (t.small).steps o ≡ Some (state_of t) → (t.mail).next ≡ arrived_count log p

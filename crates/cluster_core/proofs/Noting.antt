@@ -36,7 +36,7 @@ use Rattle.cluster_core.specs.Calls.{IsReady, ReadyFor}
 use Rattle.cluster_core.specs.Absorbing.{IsNotedHere, goes_to}
 use Rattle.cluster_core.proofs.Here.{pid_same, same_itself}
 use Rattle.cluster_core.proofs.ByKind.{OneOf, by_kind, by_page, by_sync, kind_is}
-use Rattle.cluster_core.proofs.Following.{left_of, own_unlost}
+use Rattle.cluster_core.proofs.AfterSent.{sent_is}
 use Rattle.cluster_core.proofs.BackupsLive.{BackupsLive, backups_live}
 
 -- ---- the clusters that an entry goes to
@@ -244,11 +244,11 @@ record Kept (c : ClusterView) (log : List Entry) : Type 0 where
 kept_of : (c : ClusterView) (log : List Entry) (e : Entry) → IsReady log e c → Kept c log
 kept_of c log e (inl f) = record { cursor = ((f.0).log).cursor; records = (f.0).records }
 kept_of c log e (inr s) =
-    let l = left_of c log e s in
-    let number : (l.before).number ≡ c.number = sym (ap (λ (d : ClusterView). d.number) l.same) in
+    let same = s.sent ∙ sent_is s.before (s.before).queue in
+    let number : (s.before).number ≡ c.number = sym (ap (λ (d : ClusterView). d.number) same) in
     record {
-      cursor = ap (λ (d : ClusterView). d.cursor) l.same ∙ ((l.followed).log).cursor;
-      records = subst (λ recs. KeepsRecords c.system log c.number recs) (sym (ap (λ (d : ClusterView). d.records) l.same)) (subst (λ k. KeepsRecords c.system log k (l.before).records) number (l.followed).records);
+      cursor = ap (λ (d : ClusterView). d.cursor) same ∙ ((s.followed).log).cursor;
+      records = subst (λ recs. KeepsRecords c.system log c.number recs) (sym (ap (λ (d : ClusterView). d.records) same)) (subst (λ k. KeepsRecords c.system log k (s.before).records) number (s.followed).records);
     }
 
 -- the entry may be noted

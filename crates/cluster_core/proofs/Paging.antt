@@ -39,6 +39,7 @@ use Rattle.cluster_core.specs.Holds.{IsHeldAs, is_fetch_queued, process_in, Carr
 use Rattle.cluster_core.specs.Follows.{FollowsBuilt, IsOpen}
 use Rattle.cluster_core.specs.Calls.{absorbed, here_after, with_page_come}
 use Rattle.cluster_core.proofs.ByKind.{by_page, is_of_page, lone_is, may_told, page_unlost, told_may}
+use Rattle.cluster_core.proofs.Beside.{FollowsBeside}
 use Rattle.cluster_core.proofs.Here.{is_among, pid_same}
 use Rattle.cluster_core.proofs.Homes.{HomeHere, differ_built, home_here, pids_home}
 use Rattle.cluster_core.proofs.Telling.{Telling, telling}
@@ -57,8 +58,7 @@ use Rattle.channel_table.specs.Changes.{pids_differ}
 use Rattle.cluster_core.proofs.HasPages.{pages_after, waits_after}
 use Rattle.cluster_core.proofs.PagePosts.{page_post_stays}
 use Rattle.std.specs.Prelude.{find, option_map}
-use Rattle.std.specs.Option.{option_map_or}
-use Rattle.bus_msg.specs.declared.entry.What.TheVariants.{PageIs, Fetch}
+use Rattle.bus_msg.specs.declared.entry.What.TheVariants.{PageIs}
 use Rattle.bus_msg.specs.declared.entry.By.TheVariants.{Cluster}
 use Rattle.bus_msg.specs.declared.placed.Placed.{Placed}
 use Rattle.proc_state.specs.declared.process.Process.{Process}
@@ -147,7 +147,7 @@ module _ (system : System) (valid : is_system system ≡ true) (log : List Entry
   none : (k : Kernel) → items_of k (what e) ≡ []
   none k = by_page (λ w. items_of k w ≡ []) (λ pid index. refl) (λ pid index bytes. refl) (what e) of
 
-  places_same : placement system later ≡ placement system log
+  pub places_same : placement system later ≡ placement system log
   places_same = placement-snoc system log e ∙ by_page (λ w. placed_after (placement system log) w ≡ placement system log) (λ pid index. refl) (λ pid index bytes. refl) (what e) of
 
   differ : pids_differ (placement system log).placed ≡ true
@@ -323,9 +323,9 @@ module _ (system : System) (valid : is_system system ≡ true) (log : List Entry
   home_of : (k : ClusterNo) (here : List (Pid × Held)) (p : Pid) (h : Held) → rising (pids_in here) ≡ rising (home_pids system log k) → held_of here p ≡ Some h → HomeHere (placement system log) p k
   home_of k here p h once there = home_here (placement system log) k (pids_in here) p differ once (is_among here p h there)
 
-  pub follows_page : (c : ClusterView) (server : Option PagerState) → Serves (placement system log) e c.server server → FollowsBuilt system log c → is_by_cluster c.number e ≡ false
-      → FollowsBuilt system later (with_server server (absorbed c e))
-  follows_page c server serves f foreign = subst (λ v. FollowsBuilt system later (with_server server v)) (sym (page_taken c e of)) (record {
+  pub follows_page : (which : Pid → Bool) (c : ClusterView) (server : Option PagerState) → Serves (placement system log) e c.server server → FollowsBeside which system log c → is_by_cluster c.number e ≡ false
+      → FollowsBeside which system later (with_server server (absorbed c e))
+  follows_page which c server serves f foreign = subst (λ v. FollowsBeside which system later (with_server server v)) (sym (page_taken c e of)) (record {
     log = record {
       cursor = ap (λ m. m + 1) (f.log).cursor ∙ sym (length-append log (e ∷ []));
       places = places_after c.places (f.log).places;
@@ -370,8 +370,8 @@ module _ (system : System) (valid : is_system system ≡ true) (log : List Entry
           subst (λ ps. IsHeldAs system later ps p h) (sym queue_is)
           (subst (λ x. IsHeldAs system later (posts_of q) p x) (sym before.same) (held_after (posts_of q) (posts_of q) p before.was (ap is_some home.found) (alike_foreign c.number q p home foreign (f.queued).together) was))
 
-      marks : (p : Pid) (h : Held) → held_of (here_after (what e) c.here) p ≡ Some h → MarkedIfThere CarriesMarks system (with_queue system later c.queue) p (unended_process h)
-      marks p h at =
+      marks : (p : Pid) (h : Held) → held_of (here_after (what e) c.here) p ≡ Some h → which p ≡ true → MarkedIfThere CarriesMarks system (with_queue system later c.queue) p (unended_process h)
+      marks p h at among =
           let before = was_paged (what e) c.here p h of at in
           let home = home_of c.number c.here p before.was once before.there in
           let unended = ap is_some home.found in
@@ -382,7 +382,7 @@ module _ (system : System) (valid : is_system system ≡ true) (log : List Entry
           (marked_after system log e p q before.was h valid (built_stands system later next.0) unended (unended_later p unended) (f.queued).together
           (queue_tells system log c.number q posts_own posts_legal) (queue_tells system later c.number q posts_own (queue_stays c.number q (f.queued).together foreign posts_own posts_legal))
           was (subst (λ ps. IsHeldAs system later ps p h) queue_is (held p h at)) (page_leaves system log p (what e) of) no_exit comes
-          (subst (λ ps. MarkedIfThere CarriesMarks system (with_queue system log ps) p (unended_process before.was)) queue_is (f.marks p before.was before.there)))
+          (subst (λ ps. MarkedIfThere CarriesMarks system (with_queue system log ps) p (unended_process before.was)) queue_is (f.marks p before.was before.there among)))
         where
           no_exit : is_exit_of p (what e) ≡ false
           no_exit = by_page (λ w. is_exit_of p w ≡ false) (λ pid index. refl) (λ pid index bytes. refl) (what e) of
@@ -403,7 +403,7 @@ module _ (system : System) (valid : is_system system ≡ true) (log : List Entry
       own = ap (λ ps. list_all (λ (post : Post). is_from c.number post.by) ps) empty;
       legal = subst (IsQueueLegal UnlostMayFollow system later) (sym empty) tt;
     };
-    queued = record { queued = Nothing; posts = empty; together = tt };
+    queued = inl (record { queued = Nothing; posts = empty; together = tt });
     steps = record { counted = counted_left c log e l };
     pages = pages;
     marks = λ p h at. subst (λ ps. MarkedIfThere CarriesMarks system (with_queue system later ps) p (unended_process h)) (sym empty) (marks p h at);

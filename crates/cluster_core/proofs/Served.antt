@@ -48,7 +48,7 @@ foreign_no_answer k e foreign = ap (λ b. is_page_is_entry (what e) && b) foreig
 -- ---- an entry more
 
 -- one where an entry brings a page
-abbrev brought : Entry → ℕ
+abbrev pub brought : Entry → ℕ
 brought e = cond (is_page_entry (what e)) 1 0
 
 -- the least calls rise by it where it brings a page, and where it is an answer
@@ -134,7 +134,7 @@ served_calls before e (Some old) None n there serves least = absurd serves
 served_calls before e (Some old) (Some new) n there serves least = least_called n (old.counts).calls (new.counts).calls (is_page_entry (what e)) (note_calls (what e) old.counts new.counts serves.counts) least
 
 -- A cluster that takes in an entry, where but for a page that it brings the least calls stay with what was queued before and what is queued after.
-accounts_on : (system : System) (log : List Entry) (e : Entry) (c d : ClusterView) → Serves (placement system log) e c.server d.server → d.number ≡ c.number
+pub accounts_on : (system : System) (log : List Entry) (e : Entry) (c d : ClusterView) → Serves (placement system log) e c.server d.server → d.number ≡ c.number
     → least_calls system (log ++ e ∷ []) (with_queue system (log ++ e ∷ []) d.queue) c.number ≡ least_calls system log (with_queue system log c.queue) c.number + brought e → HoldsAccounts system log c → HoldsAccounts system (log ++ e ∷ []) d
 accounts_on system log e c d serves number least f = record {
   keeps = keeps_on system log e c.server d.server serves f.keeps;

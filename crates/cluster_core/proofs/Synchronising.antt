@@ -59,7 +59,8 @@ use Rattle.cluster_core.specs.Parts.{AllOwn}
 use Rattle.cluster_core.specs.Queue.{AreTogether, Queued, Nothing, One, posts_of, is_lone, IsQueueLegal, is_move_of, state_by, state_now, taken_by, with_queue}
 use Rattle.cluster_core.specs.Recovered.{left_by, moved_by, with_all_waiting}
 use Rattle.cluster_core.specs.Holds.{IsHeldAs, is_fetch_queued, CarriesMarks, MarkedIfThere, unended_process}
-use Rattle.cluster_core.specs.Follows.{FollowsBuilt, IsOpen}
+use Rattle.cluster_core.specs.Follows.{IsOpen}
+use Rattle.cluster_core.proofs.Beside.{FollowsBeside}
 use Rattle.cluster_core.specs.Calls.{absorbed, here_after}
 use Rattle.cluster_core.specs.Serving.{Serves}
 use Rattle.cluster_core.proofs.ByKind.{by_kind, by_sync, is_of_page, is_of_sync, lone_is, may_told, told_may}
@@ -95,10 +96,10 @@ unfolding emission_at
 emission_stays system log later q process steps at = λ i. option_and_then (last_emission (at - steps i)) (process i)
 
 -- what the cluster is then
-abbrev synced_in : ClusterView → Entry → ClusterView
+abbrev pub synced_in : ClusterView → Entry → ClusterView
 synced_in c e = record c { cursor = c.cursor + 1; places = placed_after c.places (what e); records = records_after (what e) c.records; steps = next_count c.steps }
 
-sync_taken : (c : ClusterView) (e : Entry) → is_of_sync (what e) ≡ true → absorbed c e ≡ synced_in c e
+pub sync_taken : (c : ClusterView) (e : Entry) → is_of_sync (what e) ≡ true → absorbed c e ≡ synced_in c e
 sync_taken c e =
     by_sync (λ w. record c {
       cursor = c.cursor + 1;
@@ -115,16 +116,16 @@ module _ (system : System) (valid : is_system system ≡ true) (log : List Entry
   abbrev places : Places
   places = placement system log
 
-  stands : Stands system log e
+  pub stands : Stands system log e
   stands = (IsLegal-last BuiltMayFollow system log e next.0).stands
 
-  differ : pids_differ places.placed ≡ true
+  pub differ : pids_differ places.placed ≡ true
   differ = differ_built system log valid now.0
 
   -- ---- the process that synchronises
 
   -- its home sent the entry, and every other process stands where it stood
-  record Synced : Type 0 where
+  pub record Synced : Type 0 where
     pub pid : Pid
     pub process : process_of (what e) ≡ Some pid
     pub by_home : is_by_home places (e.post).by (Some pid) ≡ true
@@ -165,7 +166,7 @@ module _ (system : System) (valid : is_system system ≡ true) (log : List Entry
           steps : (q : Pid) → q.0 ≢ pid.0 → done_after system later q ≡ done_after system log q
           steps q other = done_after-other system log e pid q small.steps (ap is_done is) stands.applies (ap count_in is) other
 
-  s : Synced
+  pub s : Synced
   s = by_sync (λ w. what e ≡ w → is_by_right places (e.post).by w ≡ true → KindHolds system log e w → Synced)
       (λ pid at index bytes is right kind. by_changed pid at index bytes is right) (λ pid small read is right kind. by_cut pid small read is right kind) (what e) of refl stands.by_right stands.kind
 
@@ -201,12 +202,12 @@ module _ (system : System) (valid : is_system system ≡ true) (log : List Entry
   deeds_none : (p : Pid) → deeds_in p (what e) ≡ []
   deeds_none p = by_sync (λ w. deeds_in p w ≡ []) (λ pid at index bytes. refl) (λ pid small read. refl) (what e) of
 
-  loses_none : (k : ClusterNo) → is_crash_of k (what e) ≡ false
+  pub loses_none : (k : ClusterNo) → is_crash_of k (what e) ≡ false
   loses_none k = by_sync (λ w. is_crash_of k w ≡ false) (λ pid at index bytes. refl) (λ pid small read. refl) (what e) of
 
   -- ---- where processes are
 
-  home_same : (q : Pid) → home_at (placement system later) q ≡ home_at places q
+  pub home_same : (q : Pid) → home_at (placement system later) q ≡ home_at places q
   home_same q = ap (λ places. home_at places q) (placement-snoc system log e) ∙ by_sync (λ w. home_at (placed_after places w) q ≡ home_at places q) (λ pid at index bytes. refl) (λ pid small read. cut_home pid small read) (what e) of
     where
       each : (r : Pid) (o : Option Placed) → option_map (λ (q : Placed). q.home) (option_map (after_sync r) o) ≡ option_map (λ (q : Placed). q.home) o
@@ -233,7 +234,7 @@ module _ (system : System) (valid : is_system system ≡ true) (log : List Entry
   living_same (Cluster k) = ap (λ (cs : List ClusterPlace). option_map_or (λ (c : ClusterPlace). c.lives) (slice_get cs k.0) false) clusters_same
   living_same Bus = refl
 
-  pids_same : (k : ClusterNo) → pids_home k (placement system later).placed ≡ pids_home k places.placed
+  pub pids_same : (k : ClusterNo) → pids_home k (placement system later).placed ≡ pids_home k places.placed
   pids_same k =
       ap (λ (places : Places). pids_home k places.placed) (placement-snoc system log e)
       ∙ by_sync (λ w. pids_home k (placed_after places w).placed ≡ pids_home k places.placed) (λ pid at index bytes. refl) (λ pid small read. pids_synced k pid places.placed) (what e) of
@@ -297,7 +298,7 @@ module _ (system : System) (valid : is_system system ≡ true) (log : List Entry
       by_what (inr page) = ap (now_at later) (page_moves_none p post page) ∙ s.silent p other steps ∙ ap (now_at log) (sym (page_moves_none p post page))
 
   -- what is held of it stays what the log says
-  held_still : (k : ClusterNo) (q : Queued) (p : Pid) (h : Held) → AreTogether q → HomeHere places p k → p.0 ≢ (s.pid).0 → ((waiting : WaitingState) → h ≡ Waits waiting → (waiting.kept).pid ≡ p) → IsHeldAs system log (posts_of q) p h → IsHeldAs system later (posts_of q) p h
+  pub held_still : (k : ClusterNo) (q : Queued) (p : Pid) (h : Held) → AreTogether q → HomeHere places p k → p.0 ≢ (s.pid).0 → ((waiting : WaitingState) → h ≡ Waits waiting → (waiting.kept).pid ≡ p) → IsHeldAs system log (posts_of q) p h → IsHeldAs system later (posts_of q) p h
   held_still k q p (Runs process) together home other own held = state_other q p (process.small).steps together other ∙ held
   held_still k q p (Rolls process counts births) together home other own held = (
     held.0,
@@ -322,11 +323,12 @@ module _ (system : System) (valid : is_system system ≡ true) (log : List Entry
 
   -- ---- the whole
 
-  records_stay : (k : ClusterNo) (recs : List BackRec) → KeepsRecords system log k recs → KeepsRecords system later k (records_after (what e) recs)
+  pub records_stay : (k : ClusterNo) (recs : List BackRec) → KeepsRecords system log k recs → KeepsRecords system later k (records_after (what e) recs)
   records_stay k recs keeps = records_kept system log e k recs valid (built_stands system later next.0) (by_sync (λ w. changes_in_place w ≡ true) (λ pid at index bytes. refl) (λ pid small read. refl) (what e) of) keeps
 
-  pub follows_sync : (c : ClusterView) (server : Option PagerState) → AllOwn c.cursor c.here → Serves places e c.server server → FollowsBuilt system log c → is_by_cluster c.number e ≡ false → FollowsBuilt system later (with_server server (absorbed c e))
-  follows_sync c server own serves f foreign = subst (λ v. FollowsBuilt system later (with_server server v)) (sym (sync_taken c e of)) (record {
+  pub follows_sync : (which : Pid → Bool) (c : ClusterView) (server : Option PagerState) → AllOwn c.cursor c.here → Serves places e c.server server → FollowsBeside which system log c → is_by_cluster c.number e ≡ false
+      → FollowsBeside which system later (with_server server (absorbed c e))
+  follows_sync which c server own serves f foreign = subst (λ v. FollowsBeside which system later (with_server server v)) (sym (sync_taken c e of)) (record {
     log = record {
       cursor = ap (λ m. m + 1) (f.log).cursor ∙ sym (length-append log (e ∷ []));
       places = ap (λ (places : Places). placed_after places (what e)) (f.log).places ∙ sym (placement-snoc system log e);
@@ -375,16 +377,16 @@ module _ (system : System) (valid : is_system system ≡ true) (log : List Entry
           subst (λ ps. IsHeldAs system later ps p h) (sym queue_is)
           (held_still c.number q p h (f.queued).together home (other_here c.number p home foreign) (mine p h there) (subst (λ ps. IsHeldAs system log ps p h) queue_is ((f.processes).held p h there)))
 
-      marks : (p : Pid) (h : Held) → held_of c.here p ≡ Some h → MarkedIfThere CarriesMarks system (with_queue system later c.queue) p (unended_process h)
-      marks p h there =
+      marks : (p : Pid) (h : Held) → held_of c.here p ≡ Some h → which p ≡ true → MarkedIfThere CarriesMarks system (with_queue system later c.queue) p (unended_process h)
+      marks p h there among =
           let home = home_of p h there in
           subst (λ ps. MarkedIfThere CarriesMarks system (with_queue system later ps) p (unended_process h)) (sym queue_is)
           (marked_after system log e p q h h valid (built_stands system later next.0) (ap is_some home.found) (unended_later p (ap is_some home.found)) (f.queued).together
           (queue_tells system log c.number q posts_own posts_legal) (queue_tells system later c.number q posts_own (queue_stays c.number q (f.queued).together foreign posts_own posts_legal))
           (subst (λ ps. IsHeldAs system log ps p h) queue_is ((f.processes).held p h there)) (subst (λ ps. IsHeldAs system later ps p h) queue_is (held p h there))
           (leaves p (other_here c.number p home foreign)) (by_sync (λ w. is_exit_of p w ≡ false) (λ pid at index bytes. refl) (λ pid small read. refl) (what e) of) (λ m. m)
-          (subst (λ ps. MarkedIfThere CarriesMarks system (with_queue system log ps) p (unended_process h)) queue_is (f.marks p h there)))
+          (subst (λ ps. MarkedIfThere CarriesMarks system (with_queue system log ps) p (unended_process h)) queue_is (f.marks p h there among)))
 
--- no queue has such a post: each of its posts is sent alone
+-- one that is sent alone is no such entry
 pub sync_not_alone : (w : What) → is_of_sync w ≡ true → is_lone w ≡ false
 sync_not_alone = by_sync (λ w. is_lone w ≡ false) (λ pid at index bytes. refl) (λ pid small read. refl)

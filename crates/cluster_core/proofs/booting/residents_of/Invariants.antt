@@ -9,5 +9,6 @@ abbrev pub invariant-loop-pid : goal.invariant-loop-pid
 invariant-loop-pid l = record {
   all : l.yielded ++ l.pid-iterator ≡ l.fn.starts.entries;
   ordered : IsStrictlySortedBy nat_cmp (map (λ e. e.0) (l.yielded ++ l.pid-iterator));
+  limits : l.here.limits ≡ l.fn.limits;
   own : RunFrom (starts_in l.yielded) l.number l.here.here;
 }

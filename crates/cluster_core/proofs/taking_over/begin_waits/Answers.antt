@@ -1,4 +1,4 @@
-use Rattle.std.proofs.Common.{rules, ◌≡◌, ◌∙◌, ap, subst, sym, true, [], ◌∷◌}
+use Rattle.std.proofs.Common.{rules, ◌≡◌, ◌∙◌, ap, refl, subst, sym, true, [], ◌∷◌}
 use Rattle.std.specs.List.{list_any}
 use Rattle.t32_base.specs.declared.process.Pid.{Pid}
 use Rattle.bus_msg.specs.Places.{same_pid}
@@ -16,6 +16,7 @@ records-init c =
     record {
       rising = ap are_rising items ∙ c.requires.rising;
       can = subst (λ rs. CanWait rs c.args.here.here) (sym items) c.requires.can;
+      limits = refl;
       all = ap (λ rs. with_all_waiting rs c.args.here.here) items;
     }
 
@@ -47,10 +48,11 @@ records-preserved c =
     record {
       rising = others_rise r rest order;
       can = subst (λ hs. CanWait rest hs) (sym added) (others_wait r rest here (Waits (first_wait r)) order can);
+      limits = c.in_ok-add.ensures.limits ∙ inv.limits;
       all = ap (with_all_waiting rest) added ∙ ap (λ rs. with_all_waiting rs here) (sym c.in-Some.ensures.items) ∙ inv.all;
     }
 
-pub returns : goal.returns
-returns c =
+pub returns-clause-here : goal.returns-clause-here
+returns-clause-here c =
     let empty : c.records.left.items ≡ [] = search rules in
     sym (ap (λ rs. with_all_waiting rs c.records.here.here) empty) ∙ c.records.invariant.all

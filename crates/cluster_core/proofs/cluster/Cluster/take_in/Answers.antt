@@ -64,6 +64,7 @@ invariant_of-self-in_err-take_over g c =
     record {
       valid = c.self.invariant.valid;
       has = c.self.invariant.has;
+      limits_are = c.take_over.ensures.limits ∙ c.tell.ensures.limits ∙ c.self.invariant.limits_are;
       residents = own_either (c.self.inside.cursor + 1) c.tell.new.here.here c.take_over.new.here.here (subst (AllOwn (c.self.inside.cursor + 1)) (sym c.in_ok-tell.ensures.ok) told) c.in_err-take_over.ensures.err;
       own = c.self.invariant.own;
       built = c.self.invariant.built;
@@ -86,6 +87,7 @@ invariant_of-self-2 g c =
     record {
       valid = c.self.invariant.valid;
       has = c.self.invariant.has;
+      limits_are = c.take_over.ensures.limits ∙ c.tell.ensures.limits ∙ c.self.invariant.limits_are;
       residents = subst (AllOwn (c.self.inside.cursor + 1)) (sym here) mine;
       own = c.self.invariant.own;
       built = c.self.invariant.built;

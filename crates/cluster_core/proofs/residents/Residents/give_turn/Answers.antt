@@ -1,33 +1,37 @@
-use Rattle.std.proofs.Common.{◌∙◌, ap, sym, is_some, refl}
+use Rattle.std.proofs.Common.{◌∙◌, ap, sym, is_some, refl, subst}
 use Rattle.std.specs.List.{list_any}
 use Rattle.slab.specs.Slab.{with_value}
 use Rattle.slab.proofs.SlabLemmas.{Updates-with_value}
 use Rattle.plain_kernel.specs.Maps.{at_key, pid_of}
-use Rattle.cluster_core.specs.Residents.{ResidentsView, is_stuck, is_stuck_at}
+use Rattle.quanta.specs.declared.limits.Limits.{Limits}
+use Rattle.cluster_core.specs.Residents.{GivenTurnIs, ResidentsView, is_stuck, is_stuck_at}
+use Rattle.cluster_core.specs.Slots.{stands_in}
 use Rattle.cluster_core.proofs.Slots.{nobody_fails, no_entry}
 use Rattle.cluster_core.proofs.Kept.{never_empty, kept_written, given_turn}
 use Rattle.cluster_core.proofs.Asking.{lacks_listed, ran_lacks}
 use Rattle.cluster_core.proofs.residents.Residents.give_turn.Goals as goal
 
 pub unreachable-requires : goal.unreachable-requires
-unreachable-requires c = never_empty c.self.inside.residents c.args.pid c.in-Some.key.now c.self.inside.keys.entries c.self.inside.ready.keys c.self.inside.asking.keys c.self.invariant (sym c.in-Some.ensures.value) (sym c.in-None-get_mut.ensures.value)
+unreachable-requires c = never_empty c.self.inside.limits c.self.inside.residents c.args.pid c.in-Some.key.now c.self.inside.keys.entries c.self.inside.ready.keys c.self.inside.asking.keys c.self.invariant (sym c.in-Some.ensures.value) (sym c.in-None-get_mut.ensures.value)
 
 pub invariant_of-self : goal.invariant_of-self
 invariant_of-self c =
-    kept_written c.self.inside.residents (with_value c.self.inside.residents c.in-Some.key.now c.run_quantum.new.self) c.args.pid c.in-Some.key.now c.run_quantum.new.self c.self.inside.keys.entries c.self.inside.ready.keys c.self.inside.asking.keys
+    kept_written c.self.inside.limits c.self.inside.residents (with_value c.self.inside.residents c.in-Some.key.now c.run_quantum.new.self) c.args.pid c.in-Some.key.now c.run_quantum.new.self c.self.inside.keys.entries c.self.inside.ready.keys c.self.inside.asking.keys
     (λ acts. ap (λ (v : ResidentsView). list_any (at_key c.args.pid) v.ready) c.self.view_is ∙ c.requires)
     (λ some.
-    lacks_listed c.self.inside.residents c.self.inside.ready.keys c.self.inside.asking.keys c.args.pid c.in-Some.key.now c.in-Some-get_mut.resident.now c.self.inside.keys.entries (sym c.in-Some.ensures.value) (sym c.in-Some-get_mut.ensures.value) c.self.invariant.each
-    (ran_lacks c.in-Some-get_mut.resident.now c.run_quantum.new.self c.run_quantum.result c.run_quantum.ensures some))
+    lacks_listed c.self.inside.limits c.self.inside.residents c.self.inside.ready.keys c.self.inside.asking.keys c.args.pid c.in-Some.key.now c.in-Some-get_mut.resident.now c.self.inside.keys.entries (sym c.in-Some.ensures.value) (sym c.in-Some-get_mut.ensures.value) c.self.invariant.each
+    (ran_lacks c.self.inside.limits c.args.by c.in-Some-get_mut.resident.now c.run_quantum.new.self c.run_quantum.result c.run_quantum.ensures some))
     (sym c.in-Some.ensures.value)
     (Updates-with_value c.self.inside.residents c.in-Some.key.now c.run_quantum.new.self (ap is_some (sym c.in-Some-get_mut.ensures.value))) c.self.invariant
 
 pub returns-in-Some-get_mut-clause-turn : goal.returns-in-Some-get_mut-clause-turn
 returns-in-Some-get_mut-clause-turn c =
-    given_turn c.self.inside.residents (with_value c.self.inside.residents c.in-Some.key.now c.run_quantum.new.self) c.args.pid c.in-Some.key.now c.self.inside.keys.entries c.self.inside.ready.keys c.self.inside.asking.keys
+    subst (λ (limits : Limits). GivenTurnIs limits c.args.by (pid_of c.args.pid) c.args.self.now.here c.run_quantum.result (stands_in (with_value c.self.inside.residents c.in-Some.key.now c.run_quantum.new.self) c.self.inside.keys.entries))
+    (ap (λ (v : ResidentsView). v.limits) c.self.view_is)
+    (given_turn c.self.inside.limits c.args.by c.self.inside.residents (with_value c.self.inside.residents c.in-Some.key.now c.run_quantum.new.self) c.args.pid c.in-Some.key.now c.self.inside.keys.entries c.self.inside.ready.keys c.self.inside.asking.keys
     c.in-Some-get_mut.resident.now c.run_quantum.new.self c.args.self.now.here c.self.invariant (sym c.in-Some.ensures.value) (sym c.in-Some-get_mut.ensures.value)
-    (Updates-with_value c.self.inside.residents c.in-Some.key.now c.run_quantum.new.self (ap is_some (sym c.in-Some-get_mut.ensures.value))) (ap (λ (v : ResidentsView). v.here) c.self.view_is) c.run_quantum.result c.run_quantum.ensures
+    (Updates-with_value c.self.inside.residents c.in-Some.key.now c.run_quantum.new.self (ap is_some (sym c.in-Some-get_mut.ensures.value))) (ap (λ (v : ResidentsView). v.here) c.self.view_is) c.run_quantum.result c.run_quantum.ensures)
 
 pub returns-in-None-clause-turn : goal.returns-in-None-clause-turn
 returns-in-None-clause-turn c =
-    (ap (λ (v : ResidentsView). is_stuck_at (pid_of c.args.pid) v.here) (sym c.self.view_is) ∙ nobody_fails (λ h. is_stuck h) c.self.inside.residents c.args.pid c.self.inside.keys.entries (no_entry c.args.pid c.self.inside.keys.entries (sym c.in-None.ensures.value)), refl)
+    (ap (λ (v : ResidentsView). is_stuck_at v.limits (pid_of c.args.pid) v.here) (sym c.self.view_is) ∙ nobody_fails (λ h. is_stuck c.self.inside.limits h) c.self.inside.residents c.args.pid c.self.inside.keys.entries (no_entry c.args.pid c.self.inside.keys.entries (sym c.in-None.ensures.value)), refl)

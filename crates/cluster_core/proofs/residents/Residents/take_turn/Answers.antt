@@ -11,7 +11,7 @@ give_turn-requires c = next_is_ready c.choices.self.ready c.choices.self.last c.
 pub rest-requires-clause-there : goal.rest-requires-clause-there
 rest-requires-clause-there c = ap (list_any (at_key c.in-Some.pid)) c.give_turn.ensures.ready ∙ next_is_ready c.choices.self.ready c.choices.self.last c.in-Some.pid (sym c.next.ensures.next ∙ c.in-Some.is)
 
-pub returns-in_default-2 : goal.returns-in_default-2
-returns-in_default-2 c =
-    chosen_turn c.in-Some.pid c.args.self.now c.choices.self c.give_turn.new.self c.choose.new.self c.choices.invariant.0 c.choices.invariant.1 (c.next.ensures.able c.in-Some.pid c.in-Some.is)
+pub returns-in_default-2-clause-turn : goal.returns-in_default-2-clause-turn
+returns-in_default-2-clause-turn c =
+    chosen_turn c.args.by c.in-Some.pid c.args.self.now c.choices.self c.give_turn.new.self c.choose.new.self c.choices.invariant.2 c.choices.invariant.0 c.choices.invariant.1 (c.next.ensures.able c.in-Some.pid c.in-Some.is)
     c.choose.ensures.here c.choose.ensures.last c.in_ok-quantum.quantum c.in_ok-quantum.ensures.turn c.in_default-2.not-Stuck

@@ -1,0 +1,187 @@
+-- A process that is due synchronises: with its batch queued a cluster goes on to follow each log that it followed.
+use Rattle.std.proofs.Common.{◌≡◌, ◌+◌, ◌-◌, ◌*◌, ◌≤◌, refl, sym, ◌∙◌, ap, subst, List, [], ◌∷◌, length, Bool, true, false, cond, Some, None, is_some, true≢false}
+use Rattle.std.specs.Prelude.{find, option_and_then, option_map, replicate}
+use Rattle.std.proofs.lemmas.Bool.{not-true}
+use Rattle.t32_base.specs.declared.process.Pid.{Pid}
+use Rattle.sys_text.specs.declared.system.System.{System}
+use Rattle.sys_text.specs.Valid.{is_system}
+use Rattle.proc_state.specs.declared.process.Process.{Process}
+use Rattle.proc_state.specs.State.{state_of, has_ended}
+use Rattle.plain_kernel.specs.Kernel.{process_at}
+use Rattle.bus_msg.specs.declared.entry.By.TheVariants.{Cluster}
+use Rattle.bus_msg.specs.declared.entry.Entry.{Entry}
+use Rattle.bus_msg.specs.Places.{same_pid}
+use Rattle.cert_sched.specs.Parts.{rising}
+use Rattle.cert_sched.specs.Schedule.{done, placement, process_after}
+use Rattle.cert_sched.specs.Steps.{silent_upto}
+use Rattle.cert_sched.specs.Legal.{IsLegalBy, Stands}
+use Rattle.cert_sched.specs.Built.{BuiltMayFollow}
+use Rattle.cert_sched.specs.Losses.{capped, least_calls, least_steps}
+use Rattle.cert_sched.specs.Rules.{has_its_pages}
+use Rattle.cert_sched.specs.Simulation.{IsUnended}
+use Rattle.cert_sched.proofs.MailLaws.{silent_upto-ends}
+use Rattle.cert_sched.proofs.OpenLaws.{unended_open}
+use Rattle.cert_sched.proofs.StepLaws.{SilentFrom, silent_from}
+use Rattle.page_laws.proofs.SizesStay.{process_sized}
+use Rattle.record_laws.proofs.Standing.{built_stands, itself}
+use Rattle.sync_point.specs.Batch.{batch, marked_pages, synced}
+use Rattle.quanta.specs.Limited.{is_due}
+use Rattle.sync_laws.specs.Running.{RunsMarked}
+use Rattle.sync_laws.specs.Sending.{MaySend}
+use Rattle.sync_laws.proofs.SilentSizes.{silent_sizes}
+use Rattle.batch_laws.specs.Underway.{BatchMay, posts_left}
+use Rattle.batch_laws.proofs.BatchBegins.{batch_begins, batch_posts}
+use Rattle.batch_laws.proofs.NoBirths.{no_children}
+use Rattle.cluster_core.specs.View.{ClusterView, Held, Runs, disk_calls, held_at, held_of, limits_of, next_count}
+use Rattle.cluster_core.specs.Residents.{pids_in, with_changed}
+use Rattle.cluster_core.specs.Parts.{AllOwn}
+use Rattle.cluster_core.specs.Queue.{Nothing, with_queue}
+use Rattle.cluster_core.specs.Holds.{CarriesMarks, IsHeldAs, MarkedIfThere, unended_process}
+use Rattle.cluster_core.specs.Syncing.{Synchronises}
+use Rattle.cluster_core.specs.Follows.{FollowsBuilt, IsOpen}
+use Rattle.cluster_core.specs.Calls.{GoesOn}
+use Rattle.cluster_core.proofs.Here.{found_changed, is_among, pids_changed, same_itself}
+use Rattle.cluster_core.proofs.Homes.{HomeHere, differ_built, home_here, home_lives}
+use Rattle.cluster_core.proofs.Batching.{all_but, unqueued, with_batch}
+use Rattle.cluster_core.proofs.Beside.{FollowsBeside}
+use Rattle.cluster_core.proofs.Working.{held_beside, home_by, more_counted, pages_beside, turned}
+
+-- ---- a process that runs
+
+-- a process that has changed is found as it is now
+changed_there : (p : Pid) (now : Held) (here : List (Pid × Held)) (was : Held) → held_of here p ≡ Some was → held_of (with_changed p now here) p ≡ Some now
+changed_there p now [] was there = cc
+changed_there p now (e ∷ here) was there = by_test (same_pid e.0 p) refl there (changed_there p now here was)
+  where
+    first : (b : Bool) → b ≡ true → option_map (λ (e : Pid × Held). e.1) (cond b (Some (p, now)) (find (λ (e : Pid × Held). same_pid e.0 p) (with_changed p now here))) ≡ Some now
+    first true is = refl
+    first false is = absurd (true≢false (sym is))
+
+    by_test : (b : Bool) → same_pid e.0 p ≡ b → option_map (λ (e : Pid × Held). e.1) (cond b (Some e) (find (λ (e : Pid × Held). same_pid e.0 p) here)) ≡ Some was
+        → (held_of here p ≡ Some was → held_of (with_changed p now here) p ≡ Some now)
+        → option_map (λ (e : Pid × Held). e.1) (find (λ (e : Pid × Held). same_pid e.0 p) (cond b (p, now) e ∷ with_changed p now here)) ≡ Some now
+    by_test true is at more = first (same_pid p p) (same_itself p)
+    by_test false is at more = ap (λ b. option_map (λ (e : Pid × Held). e.1) (cond b (Some e) (find (λ (e : Pid × Held). same_pid e.0 p) (with_changed p now here)))) is ∙ more at
+
+-- a process to which silent steps lead
+module _ (system : System) (log : List Entry) (p : Pid) (process : Process) (valid : is_system system ≡ true) (reached : silent_upto system log p (process.small).steps ≡ Some (state_of process)) where
+  from : SilentFrom system log p (process.small).steps (state_of process)
+  from = silent_from system log p (process.small).steps (state_of process) reached
+
+  was_there : process_after system log p ≡ Some from.was
+  was_there = ap (option_and_then (λ k. process_at k p)) from.before ∙ from.there
+
+  -- it has not ended, where it has not in the log
+  still_runs : IsLegalBy Stands system log → IsUnended system log p → has_ended (process.small).status ≡ false
+  still_runs legal unended = silent_upto-ends system log p (process.small).steps from.was (state_of process) was_there reached ∙ unended_open Stands itself system log p valid legal unended from.was was_there
+
+  -- its memory has its pages
+  still_sized : length (process.ram).bytes ≡ 256 * (process.small).pages
+  still_sized =
+      let same = silent_sizes ((process.small).steps - done from.kernel p) from.was (state_of process) from.silent in
+      same.bytes ∙ process_sized system log p from.was valid was_there ∙ ap (λ n. 256 * n) (sym same.pages)
+
+-- ---- a process of a cluster that follows a log, where nothing is queued and the process is due
+
+module _ (c : ClusterView) (p : Pid) (process : Process) (valid : is_system c.system ≡ true) (empty : c.queue ≡ []) (there : held_at c p ≡ Some (Runs process)) (due : is_due (limits_of c.system) process ≡ true)
+    (log : List Entry) (go : IsOpen BuiltMayFollow c.system log) (f : FollowsBuilt c.system log c) where
+  legal : IsLegalBy Stands c.system log
+  legal = built_stands c.system log go.0
+
+  home_of : (q : Pid) (h : Held) → held_at c q ≡ Some h → HomeHere (placement c.system log) q c.number
+  home_of q h at = home_here (placement c.system log) c.number (pids_in c.here) q (differ_built c.system log valid go.0) (f.processes).each_once (is_among c.here q h at)
+
+  held_so : (q : Pid) (h : Held) → held_at c q ≡ Some h → IsHeldAs c.system log [] q h
+  held_so q h at = subst (λ ps. IsHeldAs c.system log ps q h) empty ((f.processes).held q h at)
+
+  marked_so : (q : Pid) (h : Held) → MarkedIfThere CarriesMarks c.system (with_queue c.system log c.queue) q (unended_process h) → MarkedIfThere CarriesMarks c.system log q (unended_process h)
+  marked_so q h = subst (λ ps. MarkedIfThere CarriesMarks c.system (with_queue c.system log ps) q (unended_process h)) empty
+
+  home : HomeHere (placement c.system log) p c.number
+  home = home_of p (Runs process) there
+
+  reached : silent_upto c.system log p (process.small).steps ≡ Some (state_of process)
+  reached = held_so p (Runs process) there
+
+  runs : has_ended (process.small).status ≡ false
+  runs = still_runs c.system log p process valid reached legal (ap is_some home.found)
+
+  has : has_its_pages c.system log p ≡ true
+  has = f.pages p (Runs process) there refl
+
+  carries : CarriesMarks c.system log p process
+  carries = subst (λ b. MarkedIfThere CarriesMarks c.system log p (cond b None (Some process))) runs (marked_so p (Runs process) (f.marks p (Runs process) there))
+
+  marked : RunsMarked c.system log p process
+  marked = record {
+    valid = valid;
+    legal = legal;
+    reached = reached;
+    runs = runs;
+    sized = still_sized c.system log p process valid reached ∙ ap (λ n. 256 * n) carries.pages;
+    marked = carries.marked;
+  }
+
+  may_send : MaySend c.system log (Cluster c.number) p (state_of process)
+  may_send = record { goes_on = go.1; by_home = home_by (placement c.system log) c.number p (home_lives c.system log p c.number valid go.0 go.1 home) home; reached = reached }
+
+  -- its batch is under way, with all its pages left
+  begins : BatchMay c.system log c.number p (state_of process) process.read (marked_pages process)
+  begins = batch_begins c.system log p process c.number marked may_send (no_children c.system log p legal) due
+
+  posts : batch process c.number ≡ posts_left c.number p (state_of process) process.read (marked_pages process)
+  posts = batch_posts c.system log p process c.number marked
+
+  -- ---- the cluster then
+
+  abbrev new : ClusterView
+  new = record c { here = with_changed p (Runs (synced process)) c.here; queue = batch process c.number; steps = next_count c.steps }
+
+  synchronises : Synchronises c.system log new
+  synchronises = record {
+    pid = p;
+    process = synced process;
+    read = process.read;
+    indices = marked_pages process;
+    posts = posts;
+    there = changed_there p (Runs (synced process)) c.here (Runs process) there;
+    may = begins;
+    unread = refl;
+    since = refl;
+    unmarked = ap (λ n. replicate n false) (sym carries.pages);
+  }
+
+  -- the others have their marks as before
+  others_marked : (q : Pid) (h : Held) → held_at new q ≡ Some h → all_but p q ≡ true → MarkedIfThere CarriesMarks c.system log q (unended_process h)
+  others_marked q h at other =
+      let w = found_changed p (Runs (synced process)) c.here q h at in
+      subst (λ x. MarkedIfThere CarriesMarks c.system log q (unended_process x)) (sym (w.is.1 (turned q p (not-true (same_pid p q) other)))) (marked_so q w.was (f.marks q w.was w.there))
+
+  beside : FollowsBeside (all_but p) c.system log (unqueued new)
+  beside = record {
+    log = record { cursor = (f.log).cursor; places = (f.log).places };
+    processes = record {
+      held = held_beside c log p (Runs (synced process)) [] f reached (λ q h other as_before. subst (λ ps. IsHeldAs c.system log ps q h) empty as_before);
+      each_once = ap rising (pids_changed p (Runs (synced process)) c.here) ∙ (f.processes).each_once;
+    };
+    queue = record { own = refl; legal = tt };
+    queued = record { queued = Nothing; posts = refl; together = tt };
+    steps = record { counted = λ kept. more_counted (least_steps log log c.number + cond c.tried 1 0) c.steps ((f.steps).counted kept) };
+    pages = pages_beside c log p (Runs (synced process)) f.pages (λ some. has);
+    marks = others_marked;
+    records = f.records;
+    accounts = record {
+      keeps = (f.accounts).keeps;
+      there = (f.accounts).there;
+      calls = λ kept serves. subst (λ ps. capped (least_calls c.system log (with_queue c.system log ps) c.number) ≤ disk_calls c) empty ((f.accounts).calls kept serves);
+    };
+    disk = f.disk;
+  }
+
+  follows_batch : FollowsBuilt c.system log new
+  follows_batch = with_batch c.system log new synchronises valid go beside carries.sent
+
+-- Where nothing is queued and a process that runs here is due, a cluster goes on with the process synchronised and its batch queued.
+pub batch_goes_on : (c : ClusterView) (p : Pid) (process : Process) → is_system c.system ≡ true → AllOwn c.cursor c.here → c.queue ≡ [] → held_at c p ≡ Some (Runs process) → is_due (limits_of c.system) process ≡ true
+    → GoesOn c (record c { here = with_changed p (Runs (synced process)) c.here; queue = batch process c.number; steps = next_count c.steps })
+batch_goes_on c p process valid own empty there due log go f = follows_batch c p process valid empty there due log go f
