@@ -1,5 +1,5 @@
 -- Who moved, or sent something, or synchronised could act.
-use Rattle.std.proofs.Common.{◌≡◌, ℕ, zero, suc, ◌≤◌, refl, ◌∙◌, ap, subst, arith, Option, Some, None, true, ◌||◌}
+use Rattle.std.proofs.Common.{◌≡◌, ℕ, zero, suc, ◌≤◌, refl, ◌∙◌, ap, subst, arith, Option, Some, None, true}
 use Rattle.std.specs.Prelude.{List, option_and_then}
 use Rattle.std.proofs.lemmas.Bool.{or_left, or_right}
 use Rattle.t32_base.specs.declared.process.ClusterNo.{ClusterNo}
@@ -18,6 +18,7 @@ use Rattle.cluster_core.specs.Quantum.{Moves, RollsTo, RunsTo, Sends, Syncs}
 
 -- ---- silent steps
 
+-- no silent step leaves a process as it is
 pub none_silent : (s t : ProcState) → silently 0 s ≡ Some t → s ≡ t
 unfolding silently
 none_silent s t is = cc
@@ -39,6 +40,7 @@ silent_has (suc n) s t is = by_case (silently (suc n) s) refl is (λ u. silent_h
     by_case None is last more = cc
     by_case (Some u) is last more = more u is
 
+-- so has one that makes some
 pub some_has : (n : ℕ) (s t : ProcState) → 1 ≤ n → silently n s ≡ Some t → has_step (next_step s) ≡ true
 some_has zero s t some silent = absurd (omega (arith, some))
 some_has (suc n) s t some silent = silent_has n s t silent
@@ -52,7 +54,7 @@ sends_has (suc n) s before t e silent sends = silent_has n s before silent
 
 -- ---- of one that runs
 
--- it made silent steps, one at least, and runs
+-- one that ran made silent steps, one at least, and runs
 pub record MovedAlone (most : ℕ) (p : Process) (new : Held) : Type 0 where
   pub now : Process
   pub steps : ℕ
@@ -61,6 +63,7 @@ pub record MovedAlone (most : ℕ) (p : Process) (new : Held) : Type 0 where
   pub silent : RunsOn steps p now
   pub is : new ≡ Runs now
 
+-- so moves one that runs
 pub moved_alone : (most : ℕ) (p : Process) (new : Held) → Moves most (Runs p) new → MovedAlone most p new
 moved_alone most p new m = by_parts m.between new m.rolls m.runs
   where

@@ -1,11 +1,11 @@
-use Rattle.std.proofs.Common.{◌≡◌, ℕ, [], ◌∷◌, ◌++◌, sym, ap, ◌∙◌, subst, append_assoc}
+use Rattle.std.proofs.Common.{ℕ, [], ◌∷◌, ◌++◌, sym, ap, ◌∙◌, subst, append_assoc}
 use Rattle.proc_state.specs.State.{ProcState}
 use Rattle.plain_kernel.specs.Maps.{pid_of}
 use Rattle.plain_kernel.specs.Starts.{starts_in}
 use Rattle.cluster_core.specs.Booting.{RunFrom}
 use Rattle.cluster_core.specs.Residents.{with_more}
 use Rattle.cluster_core.specs.View.{Held}
-use Rattle.cluster_core.proofs.Homing.{more_run, not_here, same_run}
+use Rattle.cluster_core.proofs.Homing.{more_run, not_here}
 use Rattle.cluster_core.proofs.booting.residents_of.Goals as goal
 
 pub add-requires : goal.add-requires
