@@ -117,7 +117,7 @@ module _ (c : ClusterView) (served : Option PagerState) (post : Post) (owed : ow
       own = answered_own;
       legal = (may_then log go f, tt);
     };
-    queued = record { queued = One post; posts = refl; together = ap (λ (p : Post). is_lone p.what) a.post_is };
+    queued = inl (record { queued = One post; posts = refl; together = ap (λ (p : Post). is_lone p.what) a.post_is });
     steps = record { counted = λ kept. more_counted (least_steps log log c.number + cond c.tried 1 0) c.steps ((f.steps).counted kept) };
     pages = f.pages;
     marks = λ q h there.

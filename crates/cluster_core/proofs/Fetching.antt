@@ -112,7 +112,7 @@ module _ (c : ClusterView) (p : Pid) (index : ℕ) (waiting : WaitingState) (emp
         each_once = ap rising (pids_changed p asked c.here) ∙ (f.processes).each_once;
       };
       queue = record { own = fetch_own c.number p index; legal = (fetch_follows, tt) };
-      queued = record { queued = One (fetch_post c.number p index); posts = refl; together = refl };
+      queued = inl (record { queued = One (fetch_post c.number p index); posts = refl; together = refl });
       steps = record { counted = λ kept. more_counted (least_steps log log c.number + cond c.tried 1 0) c.steps ((f.steps).counted kept) };
       pages = pages_beside c log p asked f.pages (λ some. absurd (true≢false (sym some)));
       marks = marks_beside c log p asked (fetch_post c.number p index ∷ []) f tt

@@ -16,7 +16,7 @@ use Rattle.page_waits.specs.Waiting.{next_page}
 use Rattle.record_laws.proofs.Standing.{built_stands}
 use Rattle.wait_laws.proofs.FetchesWait.{a_fetch_waits}
 use Rattle.cluster_core.specs.declared.worked.Worked.TheVariants.{Waits as IsWaiting, Rests}
-use Rattle.cluster_core.specs.View.{ClusterView, Held, Runs, Rolls, Waits, counted_once, held_at, held_of, is_waiting, page_lacked}
+use Rattle.cluster_core.specs.View.{ClusterView, Held, Runs, Rolls, Waits, counted_once, held_at, held_of, is_waiting, limits_of, page_lacked}
 use Rattle.cluster_core.specs.Residents.{are_stuck, pids_in}
 use Rattle.cluster_core.specs.Parts.{AllOwn, IsHeldOwn}
 use Rattle.cluster_core.specs.Holds.{IsHeldAs, KeepsIfThere}
@@ -120,8 +120,8 @@ unowed c none log go f first = by_server c.server ((f.accounts).there serves.unl
 
 -- ---- what a work says then
 
-pub rested_work : (c : ClusterView) → AllOwn c.cursor c.here → OwesNothing c → are_stuck c.here ≡ true → any_waits c.here ≡ false → WorkIs c Rests (counted_once c)
-rested_work c own nothing stuck none = (nothing, stuck_rest c.cursor c.here own none ∙ stuck, unowed c nothing.unowed, refl)
+pub rested_work : (c : ClusterView) → AllOwn c.cursor c.here → OwesNothing c → are_stuck (limits_of c.system) c.here ≡ true → any_waits c.here ≡ false → WorkIs c Rests (counted_once c)
+rested_work c own nothing stuck none = (nothing, stuck_rest (limits_of c.system) c.cursor c.here own none ∙ stuck, unowed c nothing.unowed, refl)
 
 pub waited_work : (c : ClusterView) → is_system c.system ≡ true → c.queue ≡ [] → AllOwn c.cursor c.here → OwesNothing c → any_waits c.here ≡ true → WorkIs c IsWaiting (counted_once c)
-waited_work c valid empty own nothing waits = (nothing, waiting_rests_not c.here waits, waited c valid empty own waits nothing.none, unowed c nothing.unowed, refl)
+waited_work c valid empty own nothing waits = (nothing, waiting_rests_not (limits_of c.system) c.here waits, waited c valid empty own waits nothing.none, unowed c nothing.unowed, refl)

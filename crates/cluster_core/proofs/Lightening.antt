@@ -1,14 +1,17 @@
--- A cluster that works has fewer steps left, or as many where it tells or asks for a page.
-use Rattle.std.proofs.Common.{◌≡◌, ℕ, ◌+◌, ◌≤◌, refl, sym, ◌∙◌, ap, subst, arith, List, [], ◌∷◌, Bool, true, false, cond, ◌||◌, eqb, ltb, eqb-true, eq-eqb, true≢false, Some, inl, inr}
+-- A cluster that works has less left to do: fewer steps, or a synchronisation fewer before the next of them; or as much where it answers or asks for a page.
+use Rattle.std.proofs.Common.{◌≡◌, ◌⊎◌, ℕ, ◌+◌, ◌*◌, ◌≤◌, refl, sym, ◌∙◌, ap, subst, arith, List, [], ◌∷◌, Bool, true, false, cond, ◌||◌, eqb, ltb, eqb-true, eq-eqb, true≢false, Some, inl, inr}
 use Rattle.std.specs.Prelude.{find, option_map}
 use Rattle.std.specs.List.{list_any, sum_by}
+use Rattle.std.proofs.lemmas.Bool.Decides.{nat_tests}
 use Rattle.std.proofs.lemmas.List.Sums.{sum_by-cons}
 use Rattle.t32_base.specs.declared.process.Pid.{Pid}
 use Rattle.t32_base.specs.declared.process.ClusterNo.{ClusterNo}
 use Rattle.sys_text.specs.declared.system.System.{System}
 use Rattle.sys_text.specs.Valid.{is_system}
+use Rattle.sys_text.proofs.Bounds.{system_bounds}
 use Rattle.proc_state.specs.declared.process.Process.{Process}
 use Rattle.proc_state.specs.State.{state_of}
+use Rattle.sync_point.specs.Batch.{synced}
 use Rattle.sys_calls.specs.Small.{weight}
 use Rattle.sys_calls.proofs.Weighing.{emits_leaves, silently_leaves}
 use Rattle.bus_msg.specs.declared.entry.Entry.{Entry}
@@ -22,11 +25,13 @@ use Rattle.cert_sched.proofs.PidLaws.{apart_fewer}
 use Rattle.cert_sched.proofs.RisingLaws.{NoTwo, either_not, rising-any, rising-apart}
 use Rattle.cert_sched.proofs.RollLaws.{all_roll, two_apart}
 use Rattle.cluster_core.specs.declared.worked.Worked.TheVariants.{Moved, Queued}
+use Rattle.quanta.specs.declared.limits.Limits.{Limits}
+use Rattle.quanta.specs.Limited.{is_due}
 use Rattle.roll_forward.specs.Advancing.{going}
 use Rattle.roll_forward.proofs.RolledLaws.{rolled_keeps}
-use Rattle.cluster_core.specs.View.{ClusterView, Held, Runs, Rolls, Waits, asked_held, held_load, held_of, load}
+use Rattle.cluster_core.specs.View.{ClusterView, Held, Runs, Rolls, Waits, asked_held, has_moved, held_load, held_of, limits_of, load, process_load}
 use Rattle.cluster_core.specs.Follows.{FollowsBuilt}
-use Rattle.cluster_core.specs.Calls.{FollowsSome, QueuesFetch, QueuesOne, WorkIs}
+use Rattle.cluster_core.specs.Calls.{FollowsSome, QueuesBatch, QueuesFetch, QueuesOne, WorkIs}
 use Rattle.cluster_core.specs.Quantum.{RollsTo, RunsTo}
 use Rattle.cluster_core.specs.Residents.{pids_in, with_changed}
 
@@ -112,8 +117,31 @@ one_lighter p was now n (e ∷ here) two at less = by_test (same_pid e.0 p) refl
 
 -- ---- a work
 
+-- the most steps that what is held has left
+abbrev held_weight : Held → ℕ
+held_weight (Runs p) = weight p.small
+held_weight (Rolls p counts births) = weight p.small
+held_weight (Waits waiting) = 0
+
+-- two are counted for each, and one more at most
+process_bounds : (p : Process) → (2 * weight p.small ≤ process_load p) × (process_load p ≤ 2 * weight p.small + 1)
+process_bounds p = by_test (has_moved p)
+  where
+    by_test : (b : Bool) → (2 * weight p.small ≤ 2 * weight p.small + cond b 1 0) × (2 * weight p.small + cond b 1 0 ≤ 2 * weight p.small + 1)
+    by_test true = (omega arith, omega arith)
+    by_test false = (omega arith, omega arith)
+
+load_bounds : (h : Held) → (2 * held_weight h ≤ held_load h) × (held_load h ≤ 2 * held_weight h + 1)
+load_bounds (Runs p) = process_bounds p
+load_bounds (Rolls p counts births) = process_bounds p
+load_bounds (Waits waiting) = (omega arith, omega arith)
+
+-- so one step fewer is less, whether it has moved or not
+fewer_loads : (was now : Held) → held_weight now + 1 ≤ held_weight was → held_load now + 1 ≤ held_load was
+fewer_loads was now fewer = omega (arith, fewer, (load_bounds was).0, (load_bounds now).1)
+
 -- steps that are withheld leave so many fewer
-rolled_leaves : (n : ℕ) (was between : Held) → RollsTo n was between → held_load between + n ≤ held_load was
+rolled_leaves : (n : ℕ) (was between : Held) → RollsTo n was between → held_weight between + n ≤ held_weight was
 rolled_leaves n (Runs p) (Runs q) rolls = omega (arith, rolls.0, ap (λ (x : Process). weight x.small) rolls.1)
 rolled_leaves n (Runs p) (Rolls q left unborn) rolls = absurd rolls
 rolled_leaves n (Runs p) (Waits waiting) rolls = absurd rolls
@@ -123,28 +151,46 @@ rolled_leaves n (Rolls p counts births) (Waits waiting) rolls = absurd rolls
 rolled_leaves n (Waits waiting) between rolls = absurd rolls
 
 -- and so do silent ones
-silent_leaves : (m : ℕ) (between now : Held) → RunsTo m between now → held_load now + m ≤ held_load between
+silent_leaves : (m : ℕ) (between now : Held) → RunsTo m between now → held_weight now + m ≤ held_weight between
 silent_leaves m (Runs p) (Runs q) runs = silently_leaves m (state_of p) (state_of q) runs.silent
 silent_leaves m (Runs p) (Rolls q left unborn) runs = absurd runs
 silent_leaves m (Runs p) (Waits waiting) runs = absurd runs
-silent_leaves m (Rolls p counts births) now runs = omega (arith, runs.0, ap held_load runs.1)
+silent_leaves m (Rolls p counts births) now runs = omega (arith, runs.0, ap held_weight runs.1)
 silent_leaves m (Waits waiting) now runs = absurd runs
 
 pub moved_lightens : (old new : ClusterView) → is_system old.system ≡ true → FollowsSome old → WorkIs old Moved new → load new + 1 ≤ load old
 moved_lightens old new valid f work =
     let one = work.2 in
     let m = one.moves in
-    let less : held_load one.now + 1 ≤ held_load one.was = omega (arith, m.some, rolled_leaves m.rolled one.was m.between m.rolls, silent_leaves m.silent m.between one.now m.runs) in
-    subst (λ (c : ClusterView). load c + 1 ≤ load old) (sym one.rest) (one_lighter one.pid one.was one.now 1 old.here (held_apart old valid f) one.there less)
+    let fewer : held_weight one.now + 1 ≤ held_weight one.was = omega (arith, m.some, rolled_leaves m.rolled one.was m.between m.rolls, silent_leaves m.silent m.between one.now m.runs) in
+    subst (λ (c : ClusterView). load c + 1 ≤ load old) (sym one.rest) (one_lighter one.pid one.was one.now 1 old.here (held_apart old valid f) one.there (fewer_loads one.was one.now fewer))
 
 -- one that sent something has a step fewer left
 sent_lightens : (old new : ClusterView) → is_system old.system ≡ true → FollowsSome old → QueuesOne old new → load new + 1 ≤ load old
 sent_lightens old new valid f one =
     let s = one.sends in
-    let same : weight (s.now).small ≡ weight (one.now).small = ap held_load (sym s.new_is) in
-    let less : held_load (Runs one.now) + 1 ≤ held_load one.was =
+    let same : weight (s.now).small ≡ weight (one.now).small = ap held_weight (sym s.new_is) in
+    let fewer : held_weight (Runs one.now) + 1 ≤ held_weight one.was =
     omega (arith, same, rolled_leaves s.rolled one.was (Runs s.between) s.rolls, silently_leaves s.silent (state_of s.between) (state_of s.before) (s.runs).silent, emits_leaves (state_of s.before) (state_of s.now) one.emission s.sends) in
-    subst (λ (c : ClusterView). load c + 1 ≤ load old) (sym one.rest) (one_lighter one.pid one.was (Runs one.now) 1 old.here (held_apart old valid f) one.there less)
+    subst (λ (c : ClusterView). load c + 1 ≤ load old) (sym one.rest) (one_lighter one.pid one.was (Runs one.now) 1 old.here (held_apart old valid f) one.there (fewer_loads one.was (Runs one.now) fewer))
+
+-- who is due has moved since its last synchronisation, where no limit is 0
+due_moved : (limits : Limits) (p : Process) → 1 ≤ limits.reads → 1 ≤ limits.steps → is_due limits p ≡ true → has_moved p ≡ true
+due_moved limits p reads steps due = grind (arith, nat_tests)
+
+-- and has not when it has just synchronised
+synced_unmoved : (p : Process) → has_moved (synced p) ≡ false
+synced_unmoved p = grind (arith, nat_tests)
+
+-- one that synchronised has as many steps left, and no synchronisation before the next of them
+batch_lightens : (old new : ClusterView) → is_system old.system ≡ true → FollowsSome old → QueuesBatch old new → load new + 1 ≤ load old
+batch_lightens old new valid f one =
+    let bounds = system_bounds old.system valid in
+    let moved : has_moved one.process ≡ true = due_moved (limits_of old.system) one.process bounds.least_reads (omega (arith, bounds.least_steps)) one.due in
+    let before : process_load one.process ≡ 2 * weight (one.process).small + 1 = ap (λ b. 2 * weight (one.process).small + cond b 1 0) moved in
+    let after : process_load (synced one.process) ≡ 2 * weight (one.process).small + 0 = ap (λ b. 2 * weight (one.process).small + cond b 1 0) (synced_unmoved one.process) in
+    let less : held_load (Runs (synced one.process)) + 1 ≤ held_load (Runs one.process) = omega (arith, before, after) in
+    subst (λ (c : ClusterView). load c + 1 ≤ load old) (sym one.rest) (one_lighter one.pid (Runs one.process) (Runs (synced one.process)) 1 old.here (held_apart old valid f) one.there less)
 
 -- a page that is asked for is no step
 asked_load : (h : Held) → held_load (asked_held h) ≡ held_load h
@@ -162,4 +208,8 @@ asked_lightens old new valid f one =
 pub queued_lightens : (old new : ClusterView) → is_system old.system ≡ true → FollowsSome old → WorkIs old Queued new → load new ≤ load old
 queued_lightens old new valid f (inl answer) = omega (arith, ap load answer.rest)
 queued_lightens old new valid f (inr (inl asked)) = asked_lightens old new valid f asked.1
-queued_lightens old new valid f (inr (inr sent)) = omega (arith, sent_lightens old new valid f sent.2)
+queued_lightens old new valid f (inr (inr acted)) = by_kind acted.2
+  where
+    by_kind : QueuesOne old new ⊎ QueuesBatch old new → load new ≤ load old
+    by_kind (inl sent) = omega (arith, sent_lightens old new valid f sent)
+    by_kind (inr batch) = omega (arith, batch_lightens old new valid f batch)

@@ -14,6 +14,9 @@ use Rattle.bus_msg.specs.declared.entry.What.{What}
 use Rattle.bus_msg.specs.declared.entry.What.TheVariants.{Mail}
 use Rattle.bus_msg.specs.Places.{same_pid}
 use Rattle.cert_sched.specs.Deeds.{is_end_of}
+use Rattle.sync_point.specs.Batch.{synced}
+use Rattle.quanta.specs.declared.limits.Limits.{Limits}
+use Rattle.quanta.specs.Limited.{is_due}
 use Rattle.cluster_core.specs.View.{Held, Runs, Rolls, Waits, arrived, arrived_held, held_of, next_number, asked_held, going_on, page_held, rolling_held, is_waiting}
 use Rattle.cluster_core.specs.Residents.{with_changed, are_stuck, is_stuck, HasRoom, are_settled, is_settled}
 use Rattle.cluster_core.specs.Parts.{IsHeldOwn, IsOwn, AllOwn, WaitsOwn}
@@ -63,25 +66,27 @@ has_room cursor here own room p h there = by_held h (own_at cursor here p h own 
 -- ---- none of them can move
 
 -- who cannot move and does not wait for a page is at rest, since no signal waits
-one_rest : (cursor : ℕ) (p : Pid) (h : Held) → IsHeldOwn cursor p h → is_at_rest h ≡ is_settled h
-one_rest cursor p (Runs s) own = (λ i. not (has_step (next_step (state_of s)) || takes_none (state_of s) own.quiet i)) ∙ alike (has_step (next_step (state_of s)))
+one_rest : (limits : Limits) (cursor : ℕ) (p : Pid) (h : Held) → IsHeldOwn cursor p h → is_at_rest limits h ≡ is_settled limits h
+one_rest limits cursor p (Runs s) own =
+    (λ i. not (has_step (next_step (state_of s)) || takes_none (state_of s) own.quiet i) && not (is_due limits s)) ∙ alike (has_step (next_step (state_of s))) (is_due limits s)
   where
-    alike : (a : Bool) → not (a || false) ≡ (not a && true)
-    alike true = refl
-    alike false = refl
-one_rest cursor p (Rolls s counts births) own = refl
-one_rest cursor p (Waits waiting) own = refl
+    alike : (a b : Bool) → (not (a || false) && not b) ≡ (not (a || b) && true)
+    alike true b = refl
+    alike false true = refl
+    alike false false = refl
+one_rest limits cursor p (Rolls s counts births) own = refl
+one_rest limits cursor p (Waits waiting) own = refl
 
-pub settled_rest : (cursor : ℕ) (here : List (Pid × Held)) → AllOwn cursor here → are_at_rest here ≡ are_settled here
-settled_rest cursor [] own = refl
-settled_rest cursor (e ∷ here) own = λ i. one_rest cursor e.0 e.1 own.0 i && settled_rest cursor here own.1 i
+pub settled_rest : (limits : Limits) (cursor : ℕ) (here : List (Pid × Held)) → AllOwn cursor here → are_at_rest limits here ≡ are_settled limits here
+settled_rest limits cursor [] own = refl
+settled_rest limits cursor (e ∷ here) own = λ i. one_rest limits cursor e.0 e.1 own.0 i && settled_rest limits cursor here own.1 i
 
 -- where none waits, who cannot move is at rest
-none_waits : (here : List (Pid × Held)) → any_waits here ≡ false → are_settled here ≡ are_stuck here
-none_waits [] none = refl
-none_waits (e ∷ here) none =
+none_waits : (limits : Limits) (here : List (Pid × Held)) → any_waits here ≡ false → are_settled limits here ≡ are_stuck limits here
+none_waits limits [] none = refl
+none_waits limits (e ∷ here) none =
     let parts = either_not (is_waiting e.1) (any_waits here) none in
-    λ i. by_stuck (is_stuck e.1) (is_waiting e.1) parts.0 i && none_waits here parts.1 i
+    λ i. by_stuck (is_stuck limits e.1) (is_waiting e.1) parts.0 i && none_waits limits here parts.1 i
   where
     and_true : (a : Bool) → (a && true) ≡ a
     and_true true = refl
@@ -90,20 +95,20 @@ none_waits (e ∷ here) none =
     by_stuck : (a b : Bool) → b ≡ false → (a && not b) ≡ a
     by_stuck a b is = ap (λ b. a && not b) is ∙ and_true a
 
-pub stuck_rest : (cursor : ℕ) (here : List (Pid × Held)) → AllOwn cursor here → any_waits here ≡ false → are_at_rest here ≡ are_stuck here
-stuck_rest cursor here own none = settled_rest cursor here own ∙ none_waits here none
+pub stuck_rest : (limits : Limits) (cursor : ℕ) (here : List (Pid × Held)) → AllOwn cursor here → any_waits here ≡ false → are_at_rest limits here ≡ are_stuck limits here
+stuck_rest limits cursor here own none = settled_rest limits cursor here own ∙ none_waits limits here none
 
 -- where one waits, not all rest
-pub waiting_rests_not : (here : List (Pid × Held)) → any_waits here ≡ true → are_at_rest here ≡ false
-waiting_rests_not [] waits = absurd (true≢false (sym waits))
-waiting_rests_not (e ∷ here) waits = by_held e.1 waits (waiting_rests_not here)
+pub waiting_rests_not : (limits : Limits) (here : List (Pid × Held)) → any_waits here ≡ true → are_at_rest limits here ≡ false
+waiting_rests_not limits [] waits = absurd (true≢false (sym waits))
+waiting_rests_not limits (e ∷ here) waits = by_held e.1 waits (waiting_rests_not limits here)
   where
     none_of : (a : Bool) → (a && false) ≡ false
     none_of true = refl
     none_of false = refl
 
-    by_held : (h : Held) → (is_waiting h || any_waits here) ≡ true → (any_waits here ≡ true → are_at_rest here ≡ false) → (is_at_rest h && are_at_rest here) ≡ false
-    by_held (Runs s) waits more = ap (λ b. is_at_rest (Runs s) && b) (more waits) ∙ none_of (is_at_rest (Runs s))
+    by_held : (h : Held) → (is_waiting h || any_waits here) ≡ true → (any_waits here ≡ true → are_at_rest limits here ≡ false) → (is_at_rest limits h && are_at_rest limits here) ≡ false
+    by_held (Runs s) waits more = ap (λ b. is_at_rest limits (Runs s) && b) (more waits) ∙ none_of (is_at_rest limits (Runs s))
     by_held (Rolls s counts births) waits more = refl
     by_held (Waits waiting) waits more = refl
 
@@ -144,12 +149,12 @@ own_after_silent cursor pid m (Waits kept) now own runs = absurd runs
 pub own_quantum : (cursor : ℕ) (pid : Pid) (was now : Held) → IsHeldOwn cursor pid was → Moves 64 was now → IsHeldOwn cursor pid now
 own_quantum cursor pid was now own m = own_after_silent cursor pid m.silent m.between now (own_between cursor pid m.rolled was m.between own m.rolls) m.runs
 
-pub own_before_sent : (cursor : ℕ) (pid : Pid) (was : Held) (sending : Sending) (new : Held) → IsHeldOwn cursor pid was → (s : Sends 64 was sending new) → IsOwn cursor pid s.between
-own_before_sent cursor pid was sending new own s = own_between cursor pid s.rolled was (Runs s.between) own s.rolls
+pub own_before_sent : (limits : Limits) (cursor : ℕ) (pid : Pid) (was : Held) (sending : Sending) (new : Held) → IsHeldOwn cursor pid was → (s : Sends limits 64 was sending new) → IsOwn cursor pid s.between
+own_before_sent limits cursor pid was sending new own s = own_between cursor pid s.rolled was (Runs s.between) own s.rolls
 
-pub own_sent : (cursor : ℕ) (pid : Pid) (was : Held) (sending : Sending) (new : Held) → IsHeldOwn cursor pid was → (s : Sends 64 was sending new) → IsOwn cursor pid s.now
-own_sent cursor pid was sending new own s =
-    let mine = own_before_sent cursor pid was sending new own s in
+pub own_sent : (limits : Limits) (cursor : ℕ) (pid : Pid) (was : Held) (sending : Sending) (new : Held) → IsHeldOwn cursor pid was → (s : Sends limits 64 was sending new) → IsOwn cursor pid s.now
+own_sent limits cursor pid was sending new own s =
+    let mine = own_before_sent limits cursor pid was sending new own s in
     let counts = silently_counts s.silent (state_of s.between) (state_of s.before) (s.runs).silent in
     let last = emits_counts (state_of s.before) (state_of s.now) sending.emission s.sends in
     record {
@@ -157,6 +162,10 @@ own_sent cursor pid was sending new own s =
       quiet = emits_quiet (state_of s.before) (state_of s.now) sending.emission s.sends (silently_quiet s.silent (state_of s.between) (state_of s.before) (s.runs).silent mine.quiet);
       arrived = subst (λ n. n ≤ cursor) (sym (last.next ∙ counts.next)) mine.arrived;
     }
+
+-- and one that synchronised
+pub own_synced : (cursor : ℕ) (pid : Pid) (p : Process) → IsOwn cursor pid p → IsOwn cursor pid (synced p)
+own_synced cursor pid p own = record { pid_is = own.pid_is; quiet = own.quiet; arrived = own.arrived }
 
 pub own_changed : (cursor : ℕ) (pid : Pid) (now : Held) (here : List (Pid × Held)) → AllOwn cursor here → IsHeldOwn cursor pid now → AllOwn cursor (with_changed pid now here)
 own_changed cursor pid now [] own mine = tt

@@ -25,7 +25,8 @@ use Rattle.mark_laws.proofs.RolledMarks.{rolled_marked, rolled_sent}
 use Rattle.mark_laws.proofs.RolledReads.{rolled_over}
 use Rattle.mark_laws.proofs.SendingMarks.{sending_marked, sending_sent}
 use Rattle.cluster_core.specs.Holds.{CarriesMarks, IsHeldAs, MarkedIfThere, unended_process}
-use Rattle.cluster_core.specs.Quantum.{RollsTo, RunsOn, RunsTo}
+use Rattle.quanta.specs.Quantum.{RunsOn}
+use Rattle.cluster_core.specs.Quantum.{RollsTo, RunsTo}
 use Rattle.cluster_core.specs.View.{Held, Runs, Rolls, Waits}
 use Rattle.read_laws.proofs.RollingReads.{rolling_reads, silent_next}
 use Rattle.recovery_laws.proofs.Others.{rolls_next}

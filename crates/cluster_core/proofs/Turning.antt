@@ -1,7 +1,10 @@
 -- What a work of its parts makes of a cluster.
-use Rattle.std.proofs.Common.{◌≡◌, ◌⊎◌, ℕ, ◌<◌, ◌&&◌, refl, sym, ◌∙◌, ap, subst, List, [], ◌∷◌, Option, Some, None, true, false, eq-eqb, inl, inr}
+use Rattle.std.proofs.Common.{◌≡◌, ◌⊎◌, ℕ, ◌<◌, Bool, ◌&&◌, refl, sym, ◌∙◌, ap, subst, List, [], ◌∷◌, ◌++◌, map, Option, Some, None, true, false, eq-eqb, inl, inr}
 use Rattle.std.specs.List.{list_all}
+use Rattle.std.proofs.lemmas.Bool.{and_from}
 use Rattle.t32_base.specs.declared.process.Pid.{Pid}
+use Rattle.proc_state.specs.declared.process.Process.{Process}
+use Rattle.sync_point.specs.Batch.{batch, marked_pages, page_post, sync_post, synced}
 use Rattle.sys_calls.specs.declared.steps.Emission.{Emission}
 use Rattle.sys_calls.specs.declared.steps.Emission.TheVariants.{Mail as SentMail, Exit as SentExit}
 use Rattle.bus_msg.specs.declared.entry.What.{What}
@@ -13,22 +16,25 @@ use Rattle.cert_sched.specs.Losses.{is_from}
 use Rattle.t32_base.specs.declared.process.ClusterNo.{ClusterNo}
 use Rattle.page_server.specs.Account.{PagerState}
 use Rattle.cluster_core.specs.declared.quantum.Sending.{Sending}
-use Rattle.cluster_core.specs.declared.quantum.Quantum.TheVariants.{Moved as QuantumMoved, Sent as QuantumSent}
+use Rattle.cluster_core.specs.declared.quantum.Quantum.{Quantum}
+use Rattle.cluster_core.specs.declared.quantum.Quantum.TheVariants.{Moved as QuantumMoved, Sent as QuantumSent, Synced as QuantumSynced}
 use Rattle.cluster_core.specs.declared.worked.Worked.{Worked}
 use Rattle.cluster_core.specs.declared.worked.Worked.TheVariants.{Moved, Queued, Waits, Rests}
-use Rattle.cluster_core.specs.View.{ClusterView, Held, Runs, asked_held, counted_once, next_count}
+use Rattle.cluster_core.specs.View.{ClusterView, Held, Runs, asked_held, counted_once, held_at, limits_of, next_count}
 use Rattle.plain_kernel.specs.Maps.{pid_of}
-use Rattle.cluster_core.specs.Residents.{ResidentsView, TakesTurn, are_stuck, with_changed}
+use Rattle.cluster_core.specs.Residents.{ChosenTurn, ResidentsView, TakesTurn, are_stuck, with_changed}
 use Rattle.cluster_core.specs.Parts.{AllOwn}
 use Rattle.cluster_core.specs.Calls.{GoesOn, OwesNothing, WorkIs}
-use Rattle.cluster_core.specs.Quantum.{Sends, post_told}
+use Rattle.cluster_core.specs.Quantum.{Sends, Syncs, post_told}
 use Rattle.cluster_core.specs.Work.{AnswersNext, AsksNext, NoPages, QueuesAnswer, QueuesFetch, RunsNext, WorksOn, any_lacks, any_waits, fetch_post, owes_answer}
 use Rattle.cluster_core.proofs.Answering.{answered_built, answered_goes_on, answered_own, answered_work}
 use Rattle.cluster_core.proofs.Fetching.{asked_goes_on, asked_work, fetch_own}
 use Rattle.cluster_core.proofs.Lacking.{rested_work, waited_work}
-use Rattle.cluster_core.proofs.Owning.{own_asked, own_at, own_before_sent, own_changed, own_quantum, own_sent}
+use Rattle.cluster_core.proofs.Owning.{own_asked, own_at, own_before_sent, own_changed, own_quantum, own_sent, own_synced}
+use Rattle.cluster_core.proofs.BeginSync.{batch_goes_on}
+use Rattle.cluster_core.proofs.Quanta.{syncs_can}
 use Rattle.cluster_core.proofs.ByKind.{by_kind}
-use Rattle.cluster_core.proofs.Working.{moved_view, moved_goes_on, moved_work, posted_goes_on, posted_work, goes_on_rested}
+use Rattle.cluster_core.proofs.Working.{moved_view, moved_goes_on, moved_work, posted_goes_on, posted_work, some_moves, goes_on_rested}
 
 -- an entry of a kind that is built is no birth
 pub built_no_birth : (w : What) → tells_or_closes w ≡ true → is_birth w ≡ false
@@ -42,6 +48,17 @@ told_own k p at (SentExit end) = ap (λ b. b && true) (eq-eqb k.0 k.0 refl)
 told_built : (k : ClusterNo) (p : Pid) (at : ℕ) (e : Emission) → (is_unlost (post_told k p at e).what && true) ≡ true
 told_built k p at (SentMail letter) = refl
 told_built k p at (SentExit end) = refl
+
+-- so is each page of a batch, and its state
+each_post : (test : Post → Bool) (p : Process) (k : ClusterNo) (indices : List ℕ) → ((i : ℕ) → test (page_post p k i) ≡ true) → test (sync_post p k) ≡ true → list_all test (map (page_post p k) indices ++ sync_post p k ∷ []) ≡ true
+each_post test p k [] pages state = ap (λ b. b && true) state
+each_post test p k (i ∷ indices) pages state = and_from (test (page_post p k i)) (list_all test (map (page_post p k) indices ++ sync_post p k ∷ [])) (pages i) (each_post test p k indices pages state)
+
+synced_own : (k : ClusterNo) (p : Process) → list_all (λ (post : Post). is_from k post.by) (batch p k) ≡ true
+synced_own k p = each_post (λ (post : Post). is_from k post.by) p k (marked_pages p) (λ i. eq-eqb k.0 k.0 refl) (eq-eqb k.0 k.0 refl)
+
+synced_built : (k : ClusterNo) (p : Process) → list_all (λ (post : Post). is_unlost post.what) (batch p k) ≡ true
+synced_built k p = each_post (λ (post : Post). is_unlost post.what) p k (marked_pages p) (λ i. refl) refl
 
 -- the cluster with what is here, what it keeps as a page server and what is queued after a work
 abbrev pub worked_view : ClusterView → List (Pid × Held) → Option PagerState → List Post → ClusterView
@@ -77,7 +94,7 @@ module _ (c : ClusterView) (empty : c.queue ≡ []) (own : AllOwn c.cursor c.her
   }
 
   -- who had a turn moved
-  took_moved : (pid : Pid) (here : List (Pid × Held)) → OwesNothing c → TakesTurn pid c.here QuantumMoved here → Works c Moved here c.server []
+  took_moved : (pid : Pid) (here : List (Pid × Held)) → OwesNothing c → TakesTurn (limits_of c.system) c.number pid c.here QuantumMoved here → Works c Moved here c.server []
   took_moved pid here nothing takes = subst (λ hs. Works c Moved hs c.server []) (sym takes.here) (record {
     goes_on = subst (λ ps. GoesOn c (record (moved_view c (with_changed pid takes.now c.here)) { queue = ps })) empty (moved_goes_on c pid takes.was takes.now valid empty takes.there takes.ran);
     work = subst (λ ps. WorkIs c Moved (record (moved_view c (with_changed pid takes.now c.here)) { queue = ps })) empty (moved_work c pid takes.was takes.now nothing takes.there takes.ran);
@@ -87,12 +104,12 @@ module _ (c : ClusterView) (empty : c.queue ≡ []) (own : AllOwn c.cursor c.her
   })
 
   -- or sent something
-  took_sent : (pid : Pid) (sending : Sending) (here : List (Pid × Held)) → OwesNothing c → TakesTurn pid c.here (QuantumSent sending) here → Works c Queued here c.server (post_told c.number sending.pid sending.at sending.emission ∷ [])
+  took_sent : (pid : Pid) (sending : Sending) (here : List (Pid × Held)) → OwesNothing c → TakesTurn (limits_of c.system) c.number pid c.here (QuantumSent sending) here → Works c Queued here c.server (post_told c.number sending.pid sending.at sending.emission ∷ [])
   took_sent pid sending here nothing takes =
-      let s : Sends 64 takes.was sending takes.now = takes.ran in
+      let s : Sends (limits_of c.system) 64 takes.was sending takes.now = takes.ran in
       let mine = own_at c.cursor c.here pid takes.was own takes.there in
-      let before_own = own_before_sent c.cursor pid takes.was sending takes.now mine s in
-      let now_own = own_sent c.cursor pid takes.was sending takes.now mine s in
+      let before_own = own_before_sent (limits_of c.system) c.cursor pid takes.was sending takes.now mine s in
+      let now_own = own_sent (limits_of c.system) c.cursor pid takes.was sending takes.now mine s in
       let named : sending.pid ≡ pid = s.pid_is ∙ now_own.pid_is in
       let post : Post = post_told c.number sending.pid sending.at sending.emission in
       let is : post ≡ post_told c.number pid ((s.now).small).steps sending.emission = λ i. post_told c.number (named i) (s.at_is i) sending.emission in
@@ -105,44 +122,70 @@ module _ (c : ClusterView) (empty : c.queue ≡ []) (own : AllOwn c.cursor c.her
         built = told_built c.number sending.pid sending.at sending.emission;
       })
 
+  -- or synchronised
+  took_synced : (pid : Pid) (posts : List Post) (here : List (Pid × Held)) → OwesNothing c → TakesTurn (limits_of c.system) c.number pid c.here (QuantumSynced posts) here → Works c Queued here c.server posts
+  took_synced pid posts here nothing takes =
+      let s : Syncs (limits_of c.system) c.number takes.was posts takes.now = takes.ran in
+      let there : held_at c pid ≡ Some (Runs s.process) = takes.there ∙ ap Some s.old_is in
+      let changed : with_changed pid (Runs (synced s.process)) c.here ≡ here = ap (λ (h : Held). with_changed pid h c.here) (sym s.new_is) ∙ sym takes.here in
+      subst (Works c Queued here c.server) (sym s.posts_are)
+      (subst (λ hs. Works c Queued hs c.server (batch s.process c.number)) changed (record {
+        goes_on = batch_goes_on c pid s.process valid own empty there s.due;
+        work = inr (inr (
+          nothing,
+          some_moves (limits_of c.system) c.here pid takes.was takes.there (syncs_can (limits_of c.system) c.number takes.was posts takes.now s),
+          inr (record { pid = pid; process = s.process; there = there; due = s.due; rest = refl }),
+        ));
+        residents = own_changed c.cursor pid (Runs (synced s.process)) c.here own (own_synced c.cursor pid s.process (own_at c.cursor c.here pid (Runs s.process) own there));
+        own = synced_own c.number s.process;
+        built = synced_built c.number s.process;
+      }))
+
   -- or nothing can move
   still : (worked : Worked) → WorkIs c worked (counted_once c) → Works c worked c.here c.server []
   still worked work =
       let whole : worked_view c c.here c.server [] ≡ counted_once c = λ i. record c { queue = sym empty i; steps = next_count c.steps } in
       record { goes_on = subst (GoesOn c) (sym whole) (goes_on_rested c); work = subst (WorkIs c worked) (sym whole) work; residents = own; own = refl; built = refl }
 
+  -- a turn by the limits of the system is one of a process of the cluster
+  turn_here : (old new : ResidentsView) (quantum : Quantum) → old.limits ≡ limits_of c.system → old.here ≡ c.here → ChosenTurn c.number old quantum new → TakesTurn (limits_of c.system) c.number (pid_of new.last) c.here quantum new.here
+  turn_here old new quantum limits here turn = subst (λ hs. TakesTurn (limits_of c.system) c.number (pid_of new.last) hs quantum new.here) here (subst (λ l. TakesTurn l c.number (pid_of new.last) old.here quantum new.here) limits turn.takes)
+
   -- what runs next, where it owes nothing
-  runs : (old new : ResidentsView) (worked : Worked) (queue : List Post) → old.here ≡ c.here → OwesNothing c → RunsNext c.number old worked new queue → Works c worked new.here c.server queue
-  runs old new Moved queue here nothing turn =
-      subst (Works c Moved new.here c.server) (sym turn.1) (took_moved (pid_of new.last) new.here nothing (subst (λ hs. TakesTurn (pid_of new.last) hs QuantumMoved new.here) here (turn.0).takes))
-  runs old new Queued queue here nothing turn =
-      subst (Works c Queued new.here c.server) (sym turn.2) (took_sent (pid_of new.last) turn.0 new.here nothing (subst (λ hs. TakesTurn (pid_of new.last) hs (QuantumSent turn.0) new.here) here (turn.1).takes))
-  runs old new Waits queue here nothing turn =
+  runs : (old new : ResidentsView) (worked : Worked) (queue : List Post) → old.limits ≡ limits_of c.system → old.here ≡ c.here → OwesNothing c → RunsNext c.number old worked new queue → Works c worked new.here c.server queue
+  runs old new Moved queue limits here nothing turn =
+      subst (Works c Moved new.here c.server) (sym turn.1) (took_moved (pid_of new.last) new.here nothing (turn_here old new QuantumMoved limits here turn.0))
+  runs old new Queued queue limits here nothing (inl turn) =
+      subst (Works c Queued new.here c.server) (sym turn.2) (took_sent (pid_of new.last) turn.0 new.here nothing (turn_here old new (QuantumSent turn.0) limits here turn.1))
+  runs old new Queued queue limits here nothing (inr turn) =
+      subst (Works c Queued new.here c.server) (sym turn.2) (took_synced (pid_of new.last) turn.0 new.here nothing (turn_here old new (QuantumSynced turn.0) limits here turn.1))
+  runs old new Waits queue limits here nothing turn =
       let same : new.here ≡ c.here = (turn.0).1 ∙ here in
       subst (Works c Waits new.here c.server) (sym turn.2)
       (subst (λ hs. Works c Waits hs c.server []) (sym same) (still Waits (waited_work c valid empty own nothing (ap any_waits (sym here) ∙ turn.1))))
-  runs old new Rests queue here nothing turn =
+  runs old new Rests queue limits here nothing turn =
       let same : new.here ≡ c.here = (turn.0).1 ∙ here in
+      let stuck : are_stuck (limits_of c.system) c.here ≡ true = (λ i. are_stuck (sym limits i) (sym here i)) ∙ (turn.0).0 in
       subst (Works c Rests new.here c.server) (sym turn.2)
-      (subst (λ hs. Works c Rests hs c.server []) (sym same) (still Rests (rested_work c own nothing (ap are_stuck (sym here) ∙ (turn.0).0) (ap any_waits (sym here) ∙ turn.1))))
+      (subst (λ hs. Works c Rests hs c.server []) (sym same) (still Rests (rested_work c own nothing stuck (ap any_waits (sym here) ∙ turn.1))))
 
-  after_none : (old new : ResidentsView) (served : Option PagerState) (worked : Worked) (queue : List Post) → old.here ≡ c.here → NoPages c.number c.places old c.server served → RunsNext c.number old worked new queue → Works c worked new.here served queue
-  after_none old new served worked queue here none turn =
-      subst (λ server. Works c worked new.here server queue) (sym none.kept) (runs old new worked queue here (record { unowed = none.unowed; none = ap any_lacks (sym here) ∙ none.none }) turn)
+  after_none : (old new : ResidentsView) (served : Option PagerState) (worked : Worked) (queue : List Post) → old.limits ≡ limits_of c.system → old.here ≡ c.here → NoPages c.number c.places old c.server served → RunsNext c.number old worked new queue → Works c worked new.here served queue
+  after_none old new served worked queue limits here none turn =
+      subst (λ server. Works c worked new.here server queue) (sym none.kept) (runs old new worked queue limits here (record { unowed = none.unowed; none = ap any_lacks (sym here) ∙ none.none }) turn)
 
-  queued : (old new : ResidentsView) (served : Option PagerState) (queue : List Post) → old.here ≡ c.here
+  queued : (old new : ResidentsView) (served : Option PagerState) (queue : List Post) → old.limits ≡ limits_of c.system → old.here ≡ c.here
       → QueuesAnswer c.number c.places old c.server new served queue ⊎ QueuesFetch c.number c.places old c.server new served queue ⊎ (NoPages c.number c.places old c.server served × RunsNext c.number old Queued new queue)
       → Works c Queued new.here served queue
-  queued old new served queue here (inl answer) =
+  queued old new served queue limits here (inl answer) =
       let same : new.here ≡ c.here = ap (λ (r : ResidentsView). r.here) answer.same ∙ here in
       subst (λ hs. Works c Queued hs served queue) (sym same) (subst (Works c Queued c.here served) (sym answer.queue_is) (answered served answer.post answer.owed answer.answers))
-  queued old new served queue here (inr (inl fetch)) =
+  queued old new served queue limits here (inr (inl fetch)) =
       subst (λ server. Works c Queued new.here server queue) (sym fetch.kept)
       (subst (Works c Queued new.here c.server) (sym fetch.queue_is) (fetched new.here fetch.pid fetch.index fetch.unowed (subst (λ hs. AsksNext hs new.here fetch.pid fetch.index) here fetch.asks)))
-  queued old new served queue here (inr (inr sent)) = after_none old new served Queued queue here sent.0 sent.1
+  queued old new served queue limits here (inr (inr sent)) = after_none old new served Queued queue limits here sent.0 sent.1
 
-  pub works : (old new : ResidentsView) (served : Option PagerState) (worked : Worked) (queue : List Post) → old.here ≡ c.here → WorksOn c.number c.places old c.server worked new served queue → Works c worked new.here served queue
-  works old new served Moved queue here on = after_none old new served Moved queue here on.0 on.1
-  works old new served Queued queue here on = queued old new served queue here on
-  works old new served Waits queue here on = after_none old new served Waits queue here on.0 on.1
-  works old new served Rests queue here on = after_none old new served Rests queue here on.0 on.1
+  pub works : (old new : ResidentsView) (served : Option PagerState) (worked : Worked) (queue : List Post) → old.limits ≡ limits_of c.system → old.here ≡ c.here → WorksOn c.number c.places old c.server worked new served queue → Works c worked new.here served queue
+  works old new served Moved queue limits here on = after_none old new served Moved queue limits here on.0 on.1
+  works old new served Queued queue limits here on = queued old new served queue limits here on
+  works old new served Waits queue limits here on = after_none old new served Waits queue limits here on.0 on.1
+  works old new served Rests queue limits here on = after_none old new served Rests queue limits here on.0 on.1

@@ -1,5 +1,5 @@
 -- A cluster that works goes on to follow each log that it followed.
-use Rattle.std.proofs.Common.{◌≡◌, ℕ, zero, suc, ◌+◌, ◌-◌, ◌≤◌, ◌<◌, refl, sym, ◌∙◌, ap, subst, arith, List, [], ◌∷◌, Bool, true, false, cond, not, ◌&&◌, ◌||◌, eqb-true, eq-eqb, add-zero, Option, Some, None, is_some, inr, true≢false}
+use Rattle.std.proofs.Common.{◌≡◌, ◌⊎◌, ℕ, zero, suc, ◌+◌, ◌-◌, ◌≤◌, ◌<◌, refl, sym, ◌∙◌, ap, subst, arith, List, [], ◌∷◌, Bool, true, false, cond, not, ◌&&◌, ◌||◌, eqb-true, eq-eqb, add-zero, Option, Some, None, is_some, inl, inr, true≢false}
 use Rattle.std.specs.Prelude.{option_map, option_and_then, find}
 use Rattle.std.specs.Option.{option_map_or}
 use Rattle.t32_base.specs.declared.process.Pid.{Pid}
@@ -11,7 +11,7 @@ use Rattle.proc_state.specs.State.{ProcState, state_of, can_take}
 use Rattle.sys_calls.specs.declared.steps.Emission.{Emission}
 use Rattle.sys_calls.specs.declared.steps.Emission.TheVariants.{Mail as Sent, Exit as Ended}
 use Rattle.sys_calls.specs.Calls.{Emits}
-use Rattle.sys_calls.specs.Next.{next_step, silently, silent_of, emission_of, last_emission}
+use Rattle.sys_calls.specs.Next.{next_step, has_step, silently, silent_of, emission_of, last_emission}
 use Rattle.sys_calls.proofs.Counting.{silently_counts, emits_counts, letter_is_own}
 use Rattle.bus_msg.specs.declared.entry.What.TheVariants.{Mail, Exit}
 use Rattle.bus_msg.specs.declared.entry.By.TheVariants.{Cluster}
@@ -31,12 +31,15 @@ use Rattle.cert_sched.specs.Appended.{entry_of}
 use Rattle.cert_sched.proofs.UnlostLaws.{built_births}
 use Rattle.cert_sched.proofs.StepLaws.{Tells, sent_applies}
 use Rattle.cluster_core.specs.declared.worked.Worked.TheVariants.{Moved, Queued}
-use Rattle.cluster_core.specs.View.{ClusterView, Held, Runs, Rolls, Waits, can_act, held_at, held_of, next_count, counted_once, tried_once}
+use Rattle.quanta.specs.declared.limits.Limits.{Limits}
+use Rattle.quanta.specs.Limited.{is_due}
+use Rattle.cluster_core.specs.View.{ClusterView, Held, Runs, Rolls, Waits, can_act, held_at, held_of, limits_of, next_count, counted_once, tried_once}
 use Rattle.cluster_core.specs.Residents.{pids_in, with_changed}
 use Rattle.cluster_core.specs.Parts.{IsOwn}
 use Rattle.cluster_core.proofs.Served.{accounts_queued}
-use Rattle.cluster_core.specs.Queue.{IsQueueLegal, One, is_lone, move_of, taken_by, state_by, state_now, with_queue}
+use Rattle.cluster_core.specs.Queue.{IsQueued, IsQueueLegal, Nothing, One, is_lone, move_of, taken_by, state_by, state_now, with_queue}
 use Rattle.cluster_core.specs.Holds.{CarriesMarks, HoldsPages, IsHeldAs, MarkedIfThere, is_fetch_queued, process_in, unended_process}
+use Rattle.cluster_core.specs.Syncing.{Synchronises}
 use Rattle.cluster_core.specs.Follows.{FollowsBuilt, IsOpen}
 use Rattle.cluster_core.specs.Calls.{GoesOn, OwesNothing, WorkIs, is_at_rest, are_at_rest}
 use Rattle.cluster_core.specs.declared.quantum.Sending.{Sending}
@@ -121,6 +124,27 @@ ahead_sent system log p s b t n e is silent sends =
 pub held_before : (c : ClusterView) (log : List Entry) (p : Pid) (s : Process) → c.queue ≡ [] → FollowsBuilt c.system log c → held_at c p ≡ Some (Runs s) → silent_upto c.system log p (s.small).steps ≡ Some (state_of s)
 held_before c log p s empty f there = ap (λ ps. state_now c.system log ps p (s.small).steps) (sym empty) ∙ (f.processes).held p (Runs s) there
 
+-- ---- what is queued
+
+abbrev QueuedIn : System → List Entry → ClusterView → Type 0
+QueuedIn system log c = IsQueued c.queue ⊎ Synchronises system log c
+
+-- kernel steps change nothing of it
+still_queued : (system : System) (log : List Entry) (c : ClusterView) (tried : Bool) (steps : ℕ) → QueuedIn system log c → QueuedIn system log (record c { tried = tried; steps = steps })
+still_queued system log c tried steps (inl alone) = inl alone
+still_queued system log c tried steps (inr batch) = inr (record {
+  pid = batch.pid;
+  process = batch.process;
+  read = batch.read;
+  indices = batch.indices;
+  posts = batch.posts;
+  there = batch.there;
+  may = batch.may;
+  unread = batch.unread;
+  since = batch.since;
+  unmarked = batch.unmarked;
+})
+
 -- ---- nothing can move
 
 pub goes_on_rested : (c : ClusterView) → GoesOn c (counted_once c)
@@ -128,7 +152,7 @@ goes_on_rested c log now f = record {
   log = record { cursor = (f.log).cursor; places = (f.log).places };
   processes = record { held = (f.processes).held; each_once = (f.processes).each_once };
   queue = record { own = (f.queue).own; legal = (f.queue).legal };
-  queued = f.queued;
+  queued = still_queued c.system log c c.tried (next_count c.steps) f.queued;
   steps = record { counted = λ kept. more_counted (least_steps log log c.number + cond c.tried 1 0) c.steps ((f.steps).counted kept) };
   pages = f.pages;
   marks = f.marks;
@@ -149,7 +173,7 @@ follows_tried c log f = record {
   log = record { cursor = (f.log).cursor; places = (f.log).places };
   processes = record { held = (f.processes).held; each_once = (f.processes).each_once };
   queue = record { own = (f.queue).own; legal = (f.queue).legal };
-  queued = f.queued;
+  queued = still_queued c.system log c true (next_count c.steps) f.queued;
   steps = record { counted = λ kept. more_tried (least_steps log log c.number) c.steps c.tried ((f.steps).counted kept) };
   pages = f.pages;
   marks = f.marks;
@@ -167,9 +191,9 @@ abbrev pub moved_view : ClusterView → List (Pid × Held) → ClusterView
 moved_view c here = record c { here = here; steps = next_count c.steps }
 
 -- where one can move, not all rest
-some_moves : (here : List (Pid × Held)) (p : Pid) (h : Held) → held_of here p ≡ Some h → can_act h ≡ true → are_at_rest here ≡ false
-some_moves [] p h there can = cc
-some_moves (e ∷ here) p h there can = by_test (same_pid e.0 p) there (some_moves here p h)
+pub some_moves : (limits : Limits) (here : List (Pid × Held)) (p : Pid) (h : Held) → held_of here p ≡ Some h → can_act limits h ≡ true → are_at_rest limits here ≡ false
+some_moves limits [] p h there can = cc
+some_moves limits (e ∷ here) p h there can = by_test (same_pid e.0 p) there (some_moves limits here p h)
   where
     none : (a b : Bool) → b ≡ false → (a && b) ≡ false
     none true b g = g
@@ -179,22 +203,27 @@ some_moves (e ∷ here) p h there can = by_test (same_pid e.0 p) there (some_mov
     first true b g = absurd (true≢false g)
     first false b g = refl
 
-    moves : (h : Held) → can_act h ≡ true → is_at_rest h ≡ false
-    moves (Runs s) can = ap (λ b. not (b || can_take (state_of s))) can
+    busy : (a b c : Bool) → (a || c) ≡ true → (not (a || b) && not c) ≡ false
+    busy true b c can = refl
+    busy false true c can = refl
+    busy false false c can = ap not can
+
+    moves : (h : Held) → can_act limits h ≡ true → is_at_rest limits h ≡ false
+    moves (Runs s) can = busy (has_step (next_step (state_of s))) (can_take (state_of s)) (is_due limits s) can
     moves (Rolls s counts births) can = refl
     moves (Waits waiting) can = refl
 
     by_test : (b : Bool) → option_map (λ (e : Pid × Held). e.1) (cond b (Some e) (find (λ (e : Pid × Held). same_pid e.0 p) here)) ≡ Some h
-        → (held_of here p ≡ Some h → can_act h ≡ true → are_at_rest here ≡ false) → are_at_rest (e ∷ here) ≡ false
+        → (held_of here p ≡ Some h → can_act limits h ≡ true → are_at_rest limits here ≡ false) → are_at_rest limits (e ∷ here) ≡ false
     by_test true is more =
         let same : h ≡ e.1 = cc in
-        first (is_at_rest e.1) (are_at_rest here) (ap is_at_rest (sym same) ∙ moves h can)
-    by_test false is more = none (is_at_rest e.1) (are_at_rest here) (more is can)
+        first (is_at_rest limits e.1) (are_at_rest limits here) (ap (is_at_rest limits) (sym same) ∙ moves h can)
+    by_test false is more = none (is_at_rest limits e.1) (are_at_rest limits here) (more is can)
 
 pub moved_work : (c : ClusterView) (p : Pid) (was now : Held) → OwesNothing c → held_at c p ≡ Some was → Moves 64 was now → WorkIs c Moved (moved_view c (with_changed p now c.here))
 moved_work c p was now nothing there moves = (
   nothing,
-  some_moves c.here p was there (moves_can 64 was now moves),
+  some_moves (limits_of c.system) c.here p was there (moves_can (limits_of c.system) 64 was now moves),
   record { pid = p; was = was; now = now; there = there; moves = moves; rest = refl },
 )
 
@@ -216,10 +245,10 @@ held_beside c log p now queue f mine others q h at = by_pid (same_pid q p) refl
         subst (λ (x : Held). IsHeldAs c.system log queue q x) (sym (w.is.1 other)) (others q w.was other old)
 
 -- who can move runs or rolls forward
-can_in : (h : Held) → can_act h ≡ true → is_some (process_in h) ≡ true
-can_in (Runs s) can = refl
-can_in (Rolls s counts births) can = refl
-can_in (Waits waiting) can = absurd (true≢false (sym can))
+can_in : (limits : Limits) (h : Held) → can_act limits h ≡ true → is_some (process_in h) ≡ true
+can_in limits (Runs s) can = refl
+can_in limits (Rolls s counts births) can = refl
+can_in limits (Waits waiting) can = absurd (true≢false (sym can))
 
 -- the others have their pages as before
 pub pages_beside : (c : ClusterView) (log : List Entry) (p : Pid) (now : Held) → HoldsPages c.system log c → (is_some (process_in now) ≡ true → has_its_pages c.system log p ≡ true)
@@ -303,9 +332,9 @@ moved_goes_on c p was new valid empty there moves log go f = record {
     each_once = ap rising (pids_changed p new c.here) ∙ (f.processes).each_once;
   };
   queue = record { own = (f.queue).own; legal = (f.queue).legal };
-  queued = f.queued;
+  queued = inl (record { queued = Nothing; posts = empty; together = tt });
   steps = record { counted = λ kept. more_counted (least_steps log log c.number + cond c.tried 1 0) c.steps ((f.steps).counted kept) };
-  pages = pages_beside c log p new f.pages (λ some. f.pages p was there (can_in was (moves_can 64 was new moves)));
+  pages = pages_beside c log p new f.pages (λ some. f.pages p was there (can_in (limits_of c.system) was (moves_can (limits_of c.system) 64 was new moves)));
   marks = marks_beside c log p new c.queue f (subst (λ ps. MarkedIfThere CarriesMarks c.system (with_queue c.system log ps) p (unended_process new)) (sym empty) (moved_marked c p was empty there valid log go f new moves)) (λ q h other held m. m);
   records = f.records;
   accounts = record { keeps = (f.accounts).keeps; there = (f.accounts).there; calls = (f.accounts).calls };
@@ -390,7 +419,7 @@ fetches_none pid q at k (Sent letter) i = refl
 fetches_none pid q at k (Ended end) i = refl
 
 -- what it was, where its quantum sent something
-module _ (c : ClusterView) (p : Pid) (was : Held) (sending : Sending) (new : Held) (s : Sends 64 was sending new) (post : Post)
+module _ (c : ClusterView) (p : Pid) (was : Held) (sending : Sending) (new : Held) (s : Sends (limits_of c.system) 64 was sending new) (post : Post)
     (post_is : post ≡ post_told c.number p ((s.now).small).steps sending.emission) (empty : c.queue ≡ []) (there : held_at c p ≡ Some was) (own : IsOwn c.cursor p s.between) where
   abbrev at : ℕ
   at = ((s.now).small).steps
@@ -426,7 +455,7 @@ module _ (c : ClusterView) (p : Pid) (was : Held) (sending : Sending) (new : Hel
       };
       built = built_of p at e;
       new_page = changed_none c.system log p at e;
-      pages = waits_of_post c.system log p at c.number e tells (f.pages p was there (can_in was (sends_can 64 was sending new s)));
+      pages = waits_of_post c.system log p at c.number e tells (f.pages p was there (can_in (limits_of c.system) was (sends_can (limits_of c.system) 64 was sending new s)));
     }
 
     -- it is marked as the log says, and also with the post in it
@@ -481,9 +510,9 @@ module _ (c : ClusterView) (p : Pid) (was : Held) (sending : Sending) (new : Hel
       own = ap (λ b. b && true) posted_own;
       legal = legal_post;
     };
-    queued = record { queued = One post; posts = refl; together = lone_post valid has log go f };
+    queued = inl (record { queued = One post; posts = refl; together = lone_post valid has log go f });
     steps = record { counted = λ kept. more_counted (least_steps log log c.number + cond c.tried 1 0) c.steps ((f.steps).counted kept) };
-    pages = pages_beside c log p (Runs s.now) f.pages (λ some. f.pages p was there (can_in was (sends_can 64 was sending new s)));
+    pages = pages_beside c log p (Runs s.now) f.pages (λ some. f.pages p was there (can_in (limits_of c.system) was (sends_can (limits_of c.system) 64 was sending new s)));
     marks = marks_beside c log p (Runs s.now) (post ∷ []) f (sent_marked valid has log go f) (others_marked valid has log go f);
     records = f.records;
     accounts = accounts_queued c.system log c (posted_view c (with_changed p (Runs s.now) c.here) post) post refl refl empty refl no_page f.accounts;
@@ -503,14 +532,14 @@ module _ (c : ClusterView) (p : Pid) (was : Held) (sending : Sending) (new : Hel
       let same : sending ≡ one = λ i. record { pid = named i; at = s.at_is i; emission = e } in
       inr (inr (
         nothing,
-        some_moves c.here p was there (sends_can 64 was sending new s),
-        record {
+        some_moves (limits_of c.system) c.here p was there (sends_can (limits_of c.system) 64 was sending new s),
+        inl (record {
           pid = p;
           was = was;
           now = s.now;
           emission = e;
           there = there;
-          sends = subst (λ (x : Held). Sends 64 was one x) s.new_is (subst (λ (x : Sending). Sends 64 was x new) same s);
+          sends = subst (λ (x : Held). Sends (limits_of c.system) 64 was one x) s.new_is (subst (λ (x : Sending). Sends (limits_of c.system) 64 was x new) same s);
           rest = λ i. record c { here = with_changed p (Runs s.now) c.here; queue = post_is i ∷ []; steps = next_count c.steps };
-        },
+        }),
       ))

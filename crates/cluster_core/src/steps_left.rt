@@ -18,8 +18,9 @@ pub fn steps_lighten()
     ensures sends { (s t : ProcState) (e : Emission) → next_step s ≡ Emits e t → weight t.small + 1 ≤ weight s.small }
 {}
 
-/// A law and no code: where a process of a cluster moved, the processes there have fewer steps left; where
-/// something is queued, which may be a fetch or an answer, they have no more.
+/// A law and no code: where a process of a cluster moved, the processes there have less left to do, which counts two for each
+/// step and one for each process that has moved since its last synchronisation; where something is queued, which may be a
+/// fetch or an answer, they have no more.
 pub fn work_lightens()
     ensures moved { (old new : ClusterView) → is_system old.system ≡ true → FollowsSome old → WorkIs old Worked.Moved new → load new + 1 ≤ load old }
     ensures queued { (old new : ClusterView) → is_system old.system ≡ true → FollowsSome old → WorkIs old Worked.Queued new → load new ≤ load old }
