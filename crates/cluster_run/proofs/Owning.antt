@@ -14,6 +14,7 @@ use Rattle.cert_sched.specs.Rules.{is_over}
 use Rattle.cert_sched.specs.declared.script.ScriptWord.{ScriptWord}
 use Rattle.cert_sched.specs.Losses.{was_lost_in}
 use Rattle.cert_sched.specs.Scripted.{is_closed, is_finished}
+use Rattle.sync_left.specs.Left.{left_to_send}
 use Rattle.cluster_core.specs.View.{ClusterView, counted_once, load}
 use Rattle.bus_lock.specs.Lists.{MayAdd}
 use Rattle.bus_order.specs.declared.marks.Mark.{Mark}
@@ -29,7 +30,7 @@ use Rattle.cluster_run.specs.declared.offers.Offered.TheVariants.{Sent, Behind, 
 use Rattle.cluster_run.specs.Gone.{own_cause}
 use Rattle.cluster_run.specs.Along.{IsAlong, IsOwned, IsSound, TakesIn}
 use Rattle.cluster_run.specs.Offers.{Adds, Later, OfferIs, TakesMark, TellIs, Visits}
-use Rattle.cluster_run.specs.Progress.{Falls, GetsOn, IsAtMost, IsOver, left_after, remaining_of, AwaitsPage, HasAnswered, Rests}
+use Rattle.cluster_run.specs.Progress.{Falls, GetsOn, IsAtMost, IsOver, remaining_of, AwaitsPage, HasAnswered, Rests}
 use Rattle.cluster_run.specs.Turns.{GoesOwn, HasRested, HasSpent, IsSent, LosesOwn, SendsAll, SendsOwn, Spends, TellsOwn, TurnsOwn}
 use Rattle.cluster_run.proofs.Offering.{adds_none, alone_later, alone_left}
 use Rattle.cluster_run.proofs.Progressing.{at_most_then, then_falls, told_rest, waiting_rests}
@@ -139,11 +140,11 @@ module _ (a : Bool) (alone : a ≡ true) (b after : BusView) (c : ClusterView) (
       by_case is (inr fewer) = inl (subst (λ (x : BusView). length x.left < length b.left) (sym is) fewer)
       by_case is (inl same) =
           let found : after_words v.found ≡ b = words_there v.found v.later ∙ same in
-          let left_is : left_after c.system (after_words v.found).log ≡ left_after b.system b.log = λ i. left_after ((s.system ∙ adds.system) i) (found i).log in
+          let left_is : left_to_send c.system (after_words v.found).log ≡ left_to_send b.system b.log = λ i. left_to_send ((s.system ∙ adds.system) i) (found i).log in
           let long : length (after_words v.found).log ≡ length b.log = ap (λ (x : BusView). length x.log) found in
           inr (
             ap (λ (x : BusView). length x.left) is ∙ ap (λ (x : BusView). length x.left) same,
-            omega (arith, sent_spends (after_words v.found).log c post after s, left_is, long),
+            omega (arith, sent_spends (after_words v.found).log c post after s sound, left_is, long),
           )
 
   -- one that had seen all of the log is behind only where words were due
@@ -350,8 +351,8 @@ tells_turn b mid after c caught new same taken is empty tells =
         let within = ((takes.along).beside).within in
         let cursor : new.cursor ≡ caught.cursor = ap (λ (v : ClusterView). v.cursor) is in
         let long : length after.log ≡ length b.log = ap length log in
-        inl (inr (words, inr (inl ((λ i. left_after (system i) (log i)), omega (arith, more, within, cursor, long)))))
-    at_most words takes system log (inr none) = inr (words, (λ i. left_after (system i) (log i)), (λ i. length (log i) - ((ap (λ (v : ClusterView). v.cursor) is ∙ ap (λ (v : ClusterView). v.cursor) none) i)), ap load is ∙ ap load none)
+        inl (inr (words, inr (inl ((λ i. left_to_send (system i) (log i)), omega (arith, more, within, cursor, long)))))
+    at_most words takes system log (inr none) = inr (words, (λ i. left_to_send (system i) (log i)), (λ i. length (log i) - ((ap (λ (v : ClusterView). v.cursor) is ∙ ap (λ (v : ClusterView). v.cursor) none) i)), ap load is ∙ ap load none)
 
     lasting : TakesIn b c caught → after.system ≡ b.system → HasRested c.number b after → IsOver after ⊎ IsAtMost (remaining_of b c) (remaining_of after new)
     lasting takes system (inl over) = inl over
@@ -390,12 +391,12 @@ sends_turn b mid after c caught worked new same taken number_is more sends empty
       gets_on = inl (falls did);
     }
   where
-    by_more : (length after.left < length b.left) ⊎ (length b.log < length after.log) → Spends b after → (length after.left < length b.left) ⊎ ((length after.left ≡ length b.left) × (left_after after.system after.log < left_after b.system b.log))
+    by_more : (length after.left < length b.left) ⊎ (length b.log < length after.log) → Spends b after → (length after.left < length b.left) ⊎ ((length after.left ≡ length b.left) × (left_to_send after.system after.log < left_to_send b.system b.log))
     by_more more (inl fewer) = inl fewer
     by_more (inl fewer) (inr less) = inl fewer
     by_more (inr grown) (inr less) = inr (less.0, omega (arith, grown, less.1))
 
-    falls : (length after.left < length b.left) ⊎ ((length after.left ≡ length b.left) × (left_after after.system after.log < left_after b.system b.log)) → Falls (remaining_of b c) (remaining_of after new)
+    falls : (length after.left < length b.left) ⊎ ((length after.left ≡ length b.left) × (left_to_send after.system after.log < left_to_send b.system b.log)) → Falls (remaining_of b c) (remaining_of after new)
     falls (inl fewer) = inl fewer
     falls (inr less) = inr (less.0, inl less.1)
 

@@ -1,5 +1,5 @@
 -- A cluster goes on posting, by what became of its head.
-use Rattle.std.proofs.Common.{◌≡◌, ℕ, ◌+◌, ◌-◌, ◌≤◌, ◌<◌, cond, Some, None, sym, ◌∙◌, ap, subst, arith, List, [], ◌∷◌, length, take, drop, length-append, false, inl, inr, is_some, true}
+use Rattle.std.proofs.Common.{◌≡◌, ℕ, ◌+◌, ◌-◌, ◌≤◌, ◌<◌, cond, Some, None, sym, ◌∙◌, ap, subst, arith, List, [], ◌∷◌, length, take, drop, length-append, refl, ◌++◌, false, inl, inr, is_some, true}
 use Rattle.std.specs.List.{list_all, list_any}
 use Rattle.t32_base.specs.declared.process.ClusterNo.{ClusterNo}
 use Rattle.sys_text.specs.declared.system.System.{System}
@@ -28,8 +28,6 @@ use Rattle.cluster_run.proofs.Prefixes.{legal_prefix}
 use Rattle.cluster_run.proofs.Offering.{along_tried}
 use Rattle.cluster_run.proofs.TakingIn.{upto_all}
 use Rattle.cluster_run.proofs.Sending.{clears, ready_sent, sent_along, sent_goes_on, sent_seen}
-use Rattle.cluster_core.specs.Work.{fetch_post}
-use Rattle.cluster_core.specs.Quantum.{post_told}
 
 -- its head is tried
 pub tried_posting : (Shows : Type 0) (from : ℕ) (b : BusView) (c t : ClusterView) → t ≡ tried_once c → IsUnnamed b c → IsPosting Shows from b c → IsPosting Shows from b t
@@ -101,7 +99,8 @@ unfailed_by : (w : Worked) (c new : ClusterView) → WorkIs c w new → new.fail
 unfailed_by Moved c new is = ap (λ (v : ClusterView). v.failed) (is.2).rest
 unfailed_by Queued c new (inl answer) = ap (λ (v : ClusterView). v.failed) answer.rest
 unfailed_by Queued c new (inr (inl fetch)) = ap (λ (v : ClusterView). v.failed) (fetch.1).rest
-unfailed_by Queued c new (inr (inr sent)) = ap (λ (v : ClusterView). v.failed) (sent.2).rest
+unfailed_by Queued c new (inr (inr (owes, rests, inl sent))) = ap (λ (v : ClusterView). v.failed) sent.rest
+unfailed_by Queued c new (inr (inr (owes, rests, inr synced))) = ap (λ (v : ClusterView). v.failed) synced.rest
 unfailed_by Waits c new is = ap (λ (v : ClusterView). v.failed) is.4
 unfailed_by Rests c new is = ap (λ (v : ClusterView). v.failed) is.3
 
@@ -112,18 +111,22 @@ failing_by Queued c new (inl answer) =
     let a = answer.answers in
     ap failing_in a.new_is ∙ ap (λ o. Some o) (a.called).failing ∙ sym (ap failing_in a.old_is)
 failing_by Queued c new (inr (inl fetch)) = ap (λ (v : ClusterView). failing_in v.server) (fetch.1).rest
-failing_by Queued c new (inr (inr sent)) = ap (λ (v : ClusterView). failing_in v.server) (sent.2).rest
+failing_by Queued c new (inr (inr (owes, rests, inl sent))) = ap (λ (v : ClusterView). failing_in v.server) sent.rest
+failing_by Queued c new (inr (inr (owes, rests, inr synced))) = ap (λ (v : ClusterView). failing_in v.server) synced.rest
 failing_by Waits c new is = ap (λ (v : ClusterView). failing_in v.server) is.4
 failing_by Rests c new is = ap (λ (v : ClusterView). failing_in v.server) is.3
 
--- what it queued is one post
-queued_one : (c new : ClusterView) → WorkIs c Queued new → (post : Post) × (new.queue ≡ post ∷ [])
-queued_one c new (inl answer) = (answer.post, ap (λ (v : ClusterView). v.queue) answer.rest)
-queued_one c new (inr (inl fetch)) = (fetch_post c.number (fetch.1).pid (fetch.1).index, ap (λ (v : ClusterView). v.queue) (fetch.1).rest)
-queued_one c new (inr (inr sent)) = (post_told c.number (sent.2).pid (((sent.2).now).small).steps (sent.2).emission, ap (λ (v : ClusterView). v.queue) (sent.2).rest)
+-- the posts of a batch are never none
+batch_head : (posts : List Post) (last : Post) → is_some (head_of (posts ++ last ∷ [])) ≡ true
+batch_head [] last = refl
+batch_head (post ∷ posts) last = refl
 
+-- what queued something left a head
 pub queued_head : (c new : ClusterView) → WorkIs c Queued new → is_some (head_of new.queue) ≡ true
-queued_head c new is = ap (λ q. is_some (head_of q)) (queued_one c new is).1
+queued_head c new (inl answer) = ap (λ (v : ClusterView). is_some (head_of v.queue)) answer.rest
+queued_head c new (inr (inl fetch)) = ap (λ (v : ClusterView). is_some (head_of v.queue)) (fetch.1).rest
+queued_head c new (inr (inr (owes, rests, inl sent))) = ap (λ (v : ClusterView). is_some (head_of v.queue)) sent.rest
+queued_head c new (inr (inr (owes, rests, inr synced))) = ap (λ (v : ClusterView). is_some (head_of v.queue)) synced.rest ∙ batch_head _ _
 
 pub worked_shown : (Shows : Type 0) (from : ℕ) (b : BusView) (c new : ClusterView) (w : Worked) → IsShown Shows from b c → IsUnnamed b c → GoesOn c new → KeepsPlace c new → WorkIs c w new → IsShown Shows from b new
 worked_shown Shows from b c new w shown unnamed goes keeps is = record {

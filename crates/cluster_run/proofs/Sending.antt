@@ -6,6 +6,7 @@ use Rattle.std.proofs.lemmas.List.{take-append-le, take_all}
 use Rattle.std.proofs.lemmas.Bool.{and_parts}
 use Rattle.std.proofs.lemmas.List.Folds.{list_any-append}
 use Rattle.sys_text.specs.declared.system.System.{System}
+use Rattle.sys_text.specs.Valid.{is_system}
 use Rattle.bus_msg.specs.declared.entry.Post.{Post}
 use Rattle.bus_msg.specs.declared.entry.Entry.{Entry}
 use Rattle.bus_msg.specs.PlacedAfter.{what}
@@ -14,12 +15,16 @@ use Rattle.cert_sched.specs.Appended.{entry_of}
 use Rattle.cert_sched.specs.Rules.{is_over}
 use Rattle.cert_sched.specs.Legal.{IsLegalBy}
 use Rattle.cert_sched.specs.Built.{BuiltMayFollow, UnlostMayFollow}
+use Rattle.cert_sched.specs.Scripted.{closes}
 use Rattle.cert_sched.specs.Losses.{is_by_cluster, is_crash_of, is_from, was_lost_in}
 use Rattle.cert_sched.proofs.Induction.{is_over-snoc}
 use Rattle.cert_sched.proofs.LogLaws.{IsLegal-snoc}
 use Rattle.cert_sched.proofs.UnlostLaws.{may_unlost}
+use Rattle.record_laws.proofs.Standing.{built_stands}
+use Rattle.sync_left.specs.Left.{left_to_send}
+use Rattle.sync_left.proofs.Falling.{to_send_falls}
 use Rattle.cluster_core.specs.View.{ClusterView, after_sent, with_server}
-use Rattle.cluster_core.specs.Queue.{IsQueueLegal, is_lone}
+use Rattle.cluster_core.specs.Queue.{IsQueueLegal}
 use Rattle.cluster_core.specs.Follows.{FollowsBuilt, IsOpen, StandsBetween}
 use Rattle.cluster_core.specs.Calls.{Absorbs, IsReady, ReadyFor, absorbed}
 use Rattle.bus_order.specs.Script.{is_unpassed}
@@ -27,13 +32,11 @@ use Rattle.bus_order.specs.View.{BusView}
 use Rattle.script_laws.proofs.PassedWords.{all_longer}
 use Rattle.cluster_run.specs.Gone.{IsBeforeStep, is_told_by}
 use Rattle.cluster_run.specs.Along.{IsAlong, IsReadyAt, IsSound, IsUnnamed, TakesNext}
-use Rattle.cluster_run.specs.Progress.{left_after}
 use Rattle.cluster_run.specs.Turns.{IsSent}
 use Rattle.cluster_run.proofs.Heads.{head_first, tail_of}
 use Rattle.cluster_run.proofs.Prefixes.{drop_whole, get_last}
 use Rattle.cluster_run.proofs.OwnLosses.{none_own, passed_next}
-use Rattle.cluster_run.proofs.PostsLeft.{entry_leaves}
-use Rattle.cluster_run.proofs.Unlost.{closes_not, ends_closed, no_loss, queued_lone, same_after}
+use Rattle.cluster_run.proofs.Unlost.{closes_not, ends_closed, from_cluster, no_loss, same_after}
 use Rattle.cluster_run.proofs.TakingIn.{upto_all}
 
 -- a cluster whose head was sent
@@ -53,16 +56,13 @@ module _ (log : List Entry) (c : ClusterView) (post : Post) (after : BusView) (s
   may : UnlostMayFollow c.system log next
   may = let queue = subst (λ q. IsQueueLegal UnlostMayFollow c.system log q) queue_is (follows.queue).legal in queue.0
 
-  lone : is_lone post.what ≡ true
-  lone = queued_lone c.queue follows.queued post (tail_of c.queue) queue_is
-
   pub own : is_from c.number post.by ≡ true
   own =
       let all = sym (ap (λ q. list_all (λ (p : Post). is_from c.number p.by) q) queue_is) ∙ (follows.queue).own in
       (and_parts (is_from c.number post.by) (list_all (λ (p : Post). is_from c.number p.by) (tail_of c.queue)) all).0
 
   pub clears : after_sent c c.queue ≡ cleared c
-  clears = ap (after_sent c) queue_is ∙ ap (λ (v : ClusterView). record v { queue = tail_of c.queue; tried = false }) (same_after post.what c lone)
+  clears = ap (after_sent c) queue_is ∙ ap (λ (v : ClusterView). record v { queue = tail_of c.queue; tried = false }) (same_after post.what c may.built)
 
   legal_next : IsLegalBy BuiltMayFollow c.system (log ++ next ∷ [])
   legal_next = IsLegal-snoc BuiltMayFollow c.system log next s.legal (may_unlost c.system log next may)
@@ -76,17 +76,20 @@ module _ (log : List Entry) (c : ClusterView) (post : Post) (after : BusView) (s
       ap (λ l. was_lost_in l c.number) s.longer ∙ list_any-append (λ (e : Entry). is_crash_of c.number (what e)) log (next ∷ [])
       ∙ (λ i. lives_log i || (no_loss c.number (what next) may.built i || false))
 
+  open_still : closes post.what ≡ false
+  open_still = closes_not c.number (placement c.system log) post.by post.what may.built own (may.stands).by_right
+
   goes_on_next : is_over c.system (log ++ next ∷ []) ≡ false
-  goes_on_next = is_over-snoc c.system log next ∙ ends_closed (placement c.system log) (what next) may.built ∙ closes_not c.number (placement c.system log) post.by post.what may.built own (may.stands).by_right
+  goes_on_next = is_over-snoc c.system log next ∙ ends_closed (placement c.system log) (what next) may.built ∙ open_still
 
   pub sent_goes_on : is_over after.system after.log ≡ false
   sent_goes_on = (λ i. is_over (sym s.system i) (s.longer i)) ∙ goes_on_next
 
   -- it leaves a post less to send, at least
-  pub sent_spends : left_after after.system after.log + length after.log ≤ left_after c.system log + length log
-  sent_spends =
-      let less = entry_leaves c.system log next may.stands lone in
-      let left_is : left_after after.system after.log ≡ left_after c.system (log ++ next ∷ []) = λ i. left_after (sym s.system i) (s.longer i) in
+  pub sent_spends : IsSound after → left_to_send after.system after.log + length after.log ≤ left_to_send c.system log + length log
+  sent_spends sound =
+      let less = to_send_falls c.system log next (ap is_system s.system ∙ sound.valid) (built_stands c.system log s.legal) may.stands may.new_page (from_cluster post.what may.built open_still) in
+      let left_is : left_to_send after.system after.log ≡ left_to_send c.system (log ++ next ∷ []) = λ i. left_to_send (sym s.system i) (s.longer i) in
       let grown : length after.log ≡ length log + 1 = ap length s.longer ∙ length-append log (next ∷ []) in
       omega (arith, less, left_is, grown)
 

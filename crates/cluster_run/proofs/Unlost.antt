@@ -1,5 +1,5 @@
 -- The kinds of entries that stand in a log without a loss: what holds of each of them holds of every such entry. A cluster sends only such.
-use Rattle.std.proofs.Common.{◌≡◌, ℕ, refl, sym, ◌∙◌, ap, List, [], ◌∷◌, true, false, Some, None, true≢false}
+use Rattle.std.proofs.Common.{◌≡◌, ℕ, refl, sym, List, true, false, Some, None, true≢false}
 use Rattle.t32_base.specs.declared.process.Pid.{Pid}
 use Rattle.t32_base.specs.declared.process.End.{End}
 use Rattle.t32_base.specs.declared.process.ClusterNo.{ClusterNo}
@@ -9,13 +9,12 @@ use Rattle.bus_msg.specs.declared.entry.What.{What}
 use Rattle.bus_msg.specs.declared.entry.What.TheVariants.{Mail, Birth, Exit, Page, Sync, Fetch, PageIs, Crash, Return, Rebackup, Done, Stop}
 use Rattle.bus_msg.specs.declared.entry.By.{By}
 use Rattle.bus_msg.specs.declared.entry.By.TheVariants.{Cluster, Bus}
-use Rattle.bus_msg.specs.declared.entry.Post.{Post}
 use Rattle.bus_msg.specs.Places.{Places}
 use Rattle.cert_sched.specs.Built.{is_unlost}
 use Rattle.cert_sched.specs.Losses.{is_crash_of, is_from}
 use Rattle.cert_sched.specs.Rules.{ends_run, is_bus, is_by_right}
 use Rattle.cert_sched.specs.Scripted.{closes}
-use Rattle.cluster_core.specs.Queue.{AreTogether, IsQueued, Queued, Nothing, One, is_lone, posts_of}
+use Rattle.sync_left.specs.Left.{is_from_cluster}
 use Rattle.cluster_core.specs.View.{ClusterView, after_head}
 
 pub by_unlost : (P : What → Type 0) → ((at : ℕ) (letter : Letter) → P (Mail at letter)) → ((pid : Pid) (at : ℕ) (end : End) → P (Exit pid at end)) → ((pid : Pid) (index : ℕ) → P (Fetch pid index)) → ((pid : Pid) (index : ℕ) (bytes : List ℕ) → P (PageIs pid index bytes))
@@ -34,33 +33,10 @@ by_unlost P mail exit fetch page changed cut done stop (Crash k cause) unlost = 
 by_unlost P mail exit fetch page changed cut done stop (Return k) unlost = absurd (true≢false (sym unlost))
 by_unlost P mail exit fetch page changed cut done stop (Rebackup to fresh recs) unlost = absurd (true≢false (sym unlost))
 
--- what is sent alone is a letter, an exit, or of a page that is asked for or comes
-pub by_lone : (P : What → Type 0) → ((at : ℕ) (letter : Letter) → P (Mail at letter)) → ((pid : Pid) (at : ℕ) (end : End) → P (Exit pid at end)) → ((pid : Pid) (index : ℕ) → P (Fetch pid index))
-    → ((pid : Pid) (index : ℕ) (bytes : List ℕ) → P (PageIs pid index bytes)) → (w : What) → is_lone w ≡ true → P w
-by_lone P mail exit fetch page (Mail at letter) lone = mail at letter
-by_lone P mail exit fetch page (Exit pid at end) lone = exit pid at end
-by_lone P mail exit fetch page (Fetch pid index) lone = fetch pid index
-by_lone P mail exit fetch page (PageIs pid index bytes) lone = page pid index bytes
-by_lone P mail exit fetch page (Birth parent at child end) lone = absurd (true≢false (sym lone))
-by_lone P mail exit fetch page (Page pid at index bytes) lone = absurd (true≢false (sym lone))
-by_lone P mail exit fetch page (Sync pid small read took) lone = absurd (true≢false (sym lone))
-by_lone P mail exit fetch page (Crash k cause) lone = absurd (true≢false (sym lone))
-by_lone P mail exit fetch page (Return k) lone = absurd (true≢false (sym lone))
-by_lone P mail exit fetch page (Rebackup to fresh recs) lone = absurd (true≢false (sym lone))
-by_lone P mail exit fetch page (Done rests) lone = absurd (true≢false (sym lone))
-by_lone P mail exit fetch page Stop lone = absurd (true≢false (sym lone))
-
--- the head of a queue is sent alone
-pub queued_lone : (queue : List Post) → IsQueued queue → (post : Post) (rest : List Post) → queue ≡ post ∷ rest → is_lone post.what ≡ true
-queued_lone queue q post rest is = by_queued q.queued (sym q.posts ∙ is) q.together
-  where
-    by_queued : (x : Queued) → posts_of x ≡ post ∷ rest → AreTogether x → is_lone post.what ≡ true
-    by_queued Nothing is together = cc
-    by_queued (One first) is together = let same : first ≡ post = cc in ap (λ (p : Post). is_lone p.what) (sym same) ∙ together
-
--- where such a head was sent, nothing else changed
-pub same_after : (w : What) (c : ClusterView) → is_lone w ≡ true → after_head c w ≡ c
-same_after w c = by_lone (λ w. after_head c w ≡ c) (λ at letter. refl) (λ pid at end. refl) (λ pid index. refl) (λ pid index bytes. refl) w
+-- where the head of a queue was sent, nothing else changed
+pub same_after : (w : What) (c : ClusterView) → is_unlost w ≡ true → after_head c w ≡ c
+same_after w c =
+    by_unlost (λ w. after_head c w ≡ c) (λ at letter. refl) (λ pid at end. refl) (λ pid index. refl) (λ pid index bytes. refl) (λ pid at index bytes. refl) (λ pid small read. refl) (λ rests. refl) refl w
 
 -- such an entry loses no cluster
 pub no_loss : (k : ClusterNo) (w : What) → is_unlost w ≡ true → is_crash_of k w ≡ false
@@ -80,3 +56,10 @@ closes_not k places by =
     by_unlost (λ w. is_from k by ≡ true → is_by_right places by w ≡ true → closes w ≡ false)
     (λ at letter own right. refl) (λ pid at end own right. refl) (λ pid index own right. refl) (λ pid index bytes own right. refl) (λ pid at index bytes own right. refl) (λ pid small read own right. refl)
     (λ rests own right. absurd (not_bus k by own right)) (λ own right. absurd (not_bus k by own right))
+
+-- what does not close a log is of a kind that clusters send
+pub from_cluster : (w : What) → is_unlost w ≡ true → closes w ≡ false → is_from_cluster w ≡ true
+from_cluster =
+    by_unlost (λ w. closes w ≡ false → is_from_cluster w ≡ true)
+    (λ at letter still. refl) (λ pid at end still. refl) (λ pid index still. refl) (λ pid index bytes still. refl) (λ pid at index bytes still. refl) (λ pid small read still. refl)
+    (λ rests still. absurd (true≢false still)) (λ still. absurd (true≢false still))

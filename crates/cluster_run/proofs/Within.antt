@@ -13,6 +13,7 @@ use Rattle.t32_base.specs.declared.process.Pid.{Pid}
 use Rattle.t32_base.specs.Small.{SmallState}
 use Rattle.sys_text.specs.declared.system.System.{System}
 use Rattle.sys_text.specs.Valid.{is_system}
+use Rattle.proc_state.specs.declared.process.Process.{Process}
 use Rattle.proc_state.specs.State.{ProcState, state_of}
 use Rattle.sys_calls.specs.Small.{weight}
 use Rattle.sys_calls.specs.Calls.{Next, Silent, Blocked, Forks, Emits, Over}
@@ -41,11 +42,11 @@ use Rattle.cert_sched.specs.Legal.{IsLegalBy}
 use Rattle.cert_sched.specs.Losses.{was_lost_in}
 use Rattle.cert_sched.proofs.RisingLaws.{NoTwo}
 use Rattle.cert_sched.proofs.StepLaws.{sent_from, silent_from}
-use Rattle.cluster_core.specs.View.{ClusterView, Held, Runs, Rolls, Waits, after_sent, head_of, held_load, held_of, load}
+use Rattle.cluster_core.specs.View.{ClusterView, Held, Runs, Rolls, Waits, after_sent, head_of, has_moved, held_load, held_of, load, process_load}
 use Rattle.cluster_core.specs.Holds.{IsHeldAs}
 use Rattle.cluster_core.specs.Calls.{FollowsSome}
 use Rattle.cluster_core.specs.Follows.{FollowsBuilt, IsOpen}
-use Rattle.cluster_core.specs.Queue.{IsQueued, IsQueueLegal, is_move_of, state_by}
+use Rattle.cluster_core.specs.Queue.{IsQueueLegal, is_move_of, state_by}
 use Rattle.cluster_core.proofs.Here.{same_itself}
 use Rattle.cluster_core.specs.Residents.{pids_in}
 use Rattle.cluster_core.proofs.Lightening.{held_apart}
@@ -55,15 +56,18 @@ use Rattle.bus_order.specs.View.{BusView}
 use Rattle.cluster_run.specs.Disks.{HasFailed}
 use Rattle.cluster_run.specs.Gone.{IsGone, StoodAs, StoodBeside, StoodBetween}
 use Rattle.cluster_run.specs.Along.{AllAlong, IsMember, IsOwned, IsSound}
+use Rattle.record_laws.proofs.Standing.{built_stands}
+use Rattle.sync_left.specs.Left.{left_of_syncs, left_to_send, most_syncs}
 use Rattle.sync_left.specs.Load.{kernel_load, log_load}
+use Rattle.sync_left.proofs.Bounded.{syncs_within}
 use Rattle.sync_left.proofs.StepsLeft.{after_log, one_of_all}
-use Rattle.cluster_run.specs.Progress.{Falls, IsOver, Remaining, left_after, remaining, total, unseen}
+use Rattle.cluster_run.specs.Progress.{Falls, IsOver, Remaining, remaining, total, unseen}
 use Rattle.cluster_run.proofs.Posting.{follows_some}
 use Rattle.cluster_run.proofs.Prefixes.{goes_on_before, legal_prefix}
 use Rattle.cluster_run.proofs.PagesWithin.{few_placed, most_pages, pages_within, placed_count}
 use Rattle.cluster_run.proofs.StepLosses.{gone_inside, same_sent}
 use Rattle.cluster_run.proofs.Together.{one_member}
-use Rattle.cluster_run.proofs.Unlost.{by_unlost, queued_lone, same_after}
+use Rattle.cluster_run.proofs.Unlost.{by_unlost, same_after}
 use Rattle.page_laws.specs.Left.{left_of_pages}
 
 -- ---- a process
@@ -159,12 +163,25 @@ runs_within : (system : System) (log : List Entry) (queue : List Post) (p : Pid)
 runs_within system log queue p steps t legal None found is = silent_within system log p steps t is
 runs_within system log queue p steps t legal (Some post) found is = moved_within system log p steps t post.what (queued_unlost system log queue (is_move_of p) post legal found) is
 
-held_within : (system : System) (log : List Entry) (queue : List Post) (p : Pid) (h : Held) → IsQueueLegal UnlostMayFollow system log queue → IsHeldAs system log queue p h → held_load h ≤ boot_load system
-held_within system log queue p (Runs process) legal is = runs_within system log queue p (process.small).steps (state_of process) legal (find (is_move_of p) queue) refl is
+-- two for each step that the system's processes have left at boot, and one for a synchronisation
+abbrev pub most_held : System → ℕ
+most_held system = 2 * boot_load system + 1
+
+process_load_within : (system : System) (process : Process) → weight process.small ≤ boot_load system → process_load process ≤ most_held system
+process_load_within system process within = by_test (has_moved process)
+  where
+    by_test : (b : Bool) → 2 * weight process.small + cond b 1 0 ≤ 2 * boot_load system + 1
+    by_test true = omega (arith, within)
+    by_test false = omega (arith, within)
+
+held_within : (system : System) (log : List Entry) (queue : List Post) (p : Pid) (h : Held) → IsQueueLegal UnlostMayFollow system log queue → IsHeldAs system log queue p h → held_load h ≤ most_held system
+held_within system log queue p (Runs process) legal is =
+    process_load_within system process (runs_within system log queue p (process.small).steps (state_of process) legal (find (is_move_of p) queue) refl is)
 held_within system log queue p (Rolls process counts births) legal held =
     let rolls = (held.1).rolls in
     let start = process_within system (upto_last (starts p) log) p rolls.start rolls.started in
-    omega (arith, start, replayed_leaves rolls.steps (refilled log p rolls.start) (state_of process) (births_in (since log p)) rolls.done rolls.replays)
+    let fewer = replayed_leaves rolls.steps (refilled log p rolls.start) (state_of process) (births_in (since log p)) rolls.done rolls.replays in
+    process_load_within system process (omega (arith, start, fewer))
 held_within system log queue p (Waits kept) legal is = omega arith
 
 -- ---- all that a cluster holds
@@ -218,13 +235,13 @@ few_here system log c legal same =
 
 -- the most that one cluster may have left
 abbrev pub most_load : System → ℕ
-most_load system = placed_count system * boot_load system
+most_load system = placed_count system * most_held system
 
 load_within : (system : System) (log : List Entry) (c : ClusterView) → IsLegalBy BuiltMayFollow system log → FollowsBuilt system log c → NoTwo (pids_in c.here) → load c ≤ most_load system
 load_within system log c legal follows two =
-    let each : All (λ (e : Pid × Held). held_load e.1 ≤ boot_load system) c.here =
-    each_held (λ h. held_load h ≤ boot_load system) c.here two (λ p h at. held_within system log c.queue p h (follows.queue).legal ((follows.processes).held p h at)) in
-    omega (arith, sum_by-le (λ (e : Pid × Held). held_load e.1) (boot_load system) c.here each, mul-le (length c.here) (boot_load system) (placed_count system) (boot_load system) (few_here system log c legal (follows.processes).each_once) (omega arith))
+    let each : All (λ (e : Pid × Held). held_load e.1 ≤ most_held system) c.here =
+    each_held (λ h. held_load h ≤ most_held system) c.here two (λ p h at. held_within system log c.queue p h (follows.queue).legal ((follows.processes).held p h at)) in
+    omega (arith, sum_by-le (λ (e : Pid × Held). held_load e.1) (most_held system) c.here each, mul-le (length c.here) (most_held system) (placed_count system) (most_held system) (few_here system log c legal (follows.processes).each_once) (omega arith))
 
 -- ---- all clusters
 
@@ -260,9 +277,9 @@ module _ (b : BusView) (c : ClusterView) (sound : IsSound b) (gone : IsGone b c)
     follows = subst (λ s. FollowsBuilt s (take c.cursor b.log) v) (sym system) follows;
   })
 
-  sent_load : (was : ClusterView) (queue : List Post) (e : Entry) → IsQueued queue → option_map (entry_of b.system (take c.cursor b.log)) (head_of queue) ≡ Some e → load (after_sent was queue) ≡ load was
-  sent_load was [] e queued head = cc
-  sent_load was (p ∷ queue) e queued head = ap load (ap (λ (v : ClusterView). record v { queue = queue; tried = false }) (same_after p.what was (queued_lone (p ∷ queue) queued p queue refl)))
+  sent_load : (was : ClusterView) (queue : List Post) (e : Entry) → IsQueueLegal UnlostMayFollow b.system (take c.cursor b.log) queue → option_map (entry_of b.system (take c.cursor b.log)) (head_of queue) ≡ Some e → load (after_sent was queue) ≡ load was
+  sent_load was [] e legal head = cc
+  sent_load was (p ∷ queue) e legal head = ap load (ap (λ (v : ClusterView). record v { queue = queue; tried = false }) (same_after p.what was (legal.0).built))
 
   pub gone_within : load c ≤ most_load b.system
   gone_within = by_stood (gone.left).followed
@@ -272,7 +289,7 @@ module _ (b : BusView) (c : ClusterView) (sound : IsSound b) (gone : IsGone b c)
       by_way (inr (lost, stood)) =
           let was = (stood.between).before in
           let system : was.system ≡ b.system = sym (ap (λ (v : ClusterView). v.system) (stood.between).sent ∙ (same_sent was was.queue).2) ∙ (gone.left).system in
-          let same : load c ≡ load was = ap load (stood.between).sent ∙ sent_load was was.queue stood.entry ((stood.between).followed).queued (stood.between).head in
+          let same : load c ≡ load was = ap load (stood.between).sent ∙ sent_load was was.queue stood.entry (((stood.between).followed).queue).legal (stood.between).head in
           let most = follows_then was system (stood.between).followed in
           omega (arith, same, most)
 
@@ -312,13 +329,15 @@ steps_within system log = by_kernel (plain_after system log) refl
 
 -- the most that clusters may send
 abbrev pub most_posts : System → ℕ
-most_posts system = boot_load system + most_pages system
+most_posts system = 2 * boot_load system + most_pages system + most_syncs system
 
-pub posts_within : (system : System) (log : List Entry) → IsLegalBy BuiltMayFollow system log → length log < 2 ^ 64 → left_after system log ≤ most_posts system
-posts_within system log legal fits = both (log_load system log) (boot_load system) (left_of_pages system log) (most_pages system) (steps_within system log) (pages_within system log legal fits)
+pub posts_within : (system : System) (log : List Entry) → IsLegalBy BuiltMayFollow system log → length log < 2 ^ 64 → left_to_send system log ≤ most_posts system
+posts_within system log legal fits =
+    all_parts (log_load system log) (boot_load system) (left_of_pages system log) (most_pages system) (left_of_syncs system log) (most_syncs system) (steps_within system log) (pages_within system log legal fits)
+    (syncs_within system log (built_stands system log legal))
   where
-    both : (a b c d : ℕ) → a ≤ b → c ≤ d → a + c ≤ b + d
-    both a b c d first second = omega (arith, first, second)
+    all_parts : (a b c d m n : ℕ) → a ≤ b → c ≤ d → m ≤ n → 2 * a + c + m ≤ 2 * b + d + n
+    all_parts a b c d m n first second third = omega (arith, first, second, third)
 
 -- ---- one number for the parts
 

@@ -1,5 +1,5 @@
 -- How far a run has come: what is left to do, and who rests.
-use Rattle.std.specs.Prelude.{ℕ, ◌≡◌, ◌≢◌, ◌+◌, ◌-◌, ◌≤◌, ◌<◌, ◌⊎◌, true, false, List, [], length, Some, is_some}
+use Rattle.std.specs.Prelude.{ℕ, ◌≡◌, ◌≢◌, ◌-◌, ◌≤◌, ◌<◌, ◌⊎◌, true, false, List, [], length, Some, is_some}
 use Rattle.std.specs.List.{sum_by}
 use Rattle.sys_text.specs.declared.system.System.{System}
 use Rattle.bus_msg.specs.declared.entry.Entry.{Entry}
@@ -9,28 +9,22 @@ use Rattle.cert_sched.specs.Parts.{first_of}
 use Rattle.cert_sched.specs.Schedule.{placement}
 use Rattle.cert_sched.specs.Losses.{was_lost_in}
 use Rattle.cert_sched.specs.Rules.{is_over}
-use Rattle.page_laws.specs.Left.{left_of_pages}
-use Rattle.sync_left.specs.Load.{log_load}
+use Rattle.sync_left.specs.Left.{left_to_send}
 use Rattle.cluster_core.specs.View.{ClusterView, load}
 use Rattle.bus_order.specs.View.{BusView, is_awaited, mark_in}
 
 -- ---- what is left to do
 
--- the most posts that clusters may send after a log while no cluster is lost: of letters and exits one for each step that the kernel without failures has left, and one for
--- each page that is to be asked for and each that is to come
-abbrev pub left_after : System → List Entry → ℕ
-left_after system log = log_load system log + left_of_pages system log
-
 -- how many entries of a log a cluster has not taken in
 abbrev pub unseen : List Entry → ClusterView → ℕ
 unseen log c = length log - c.cursor
 
--- the most steps that all processes of these clusters have left
+-- two for each step that all processes of these clusters have left at most, and one for each that has moved since it synchronised
 abbrev pub total : List ClusterView → ℕ
 total cs = sum_by load cs
 
--- What is left to do, by its parts: the words of the script that are left; the posts that clusters may send, which are steps that the kernel without failures has left after
--- the log and pages of moved processes; the entries that clusters have not taken in; and the steps that the processes of the clusters have left.
+-- What is left to do, by its parts: the words of the script that are left; the posts that clusters may still send after the log (`left_to_send`); the entries that clusters
+-- have not taken in; and what their processes may still do (`load`).
 pub record Remaining : Type 0 where
   pub words : ℕ
   pub posts : ℕ
@@ -39,11 +33,11 @@ pub record Remaining : Type 0 where
 
 -- what is left to one cluster at a bus
 abbrev pub remaining_of : BusView → ClusterView → Remaining
-remaining_of b c = record { words = length b.left; posts = left_after b.system b.log; entries = unseen b.log c; moves = load c }
+remaining_of b c = record { words = length b.left; posts = left_to_send b.system b.log; entries = unseen b.log c; moves = load c }
 
 -- what is left to all clusters of a bus
 abbrev pub remaining : BusView → List ClusterView → Remaining
-remaining b cs = record { words = length b.left; posts = left_after b.system b.log; entries = sum_by (unseen b.log) cs; moves = total cs }
+remaining b cs = record { words = length b.left; posts = left_to_send b.system b.log; entries = sum_by (unseen b.log) cs; moves = total cs }
 
 -- of the parts behind the words the first that changed has fallen
 abbrev pub FallsBehind : Remaining → Remaining → Type 0

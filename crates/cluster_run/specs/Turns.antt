@@ -9,6 +9,7 @@ use Rattle.cert_sched.specs.Rules.{is_over}
 use Rattle.cert_sched.specs.Appended.{entry_of}
 use Rattle.cert_sched.specs.Legal.{IsLegalBy}
 use Rattle.cert_sched.specs.Built.{BuiltMayFollow}
+use Rattle.sync_left.specs.Left.{left_to_send}
 use Rattle.cluster_core.specs.View.{ClusterView, head_of}
 use Rattle.bus_order.specs.Script.{is_unpassed}
 use Rattle.bus_order.specs.View.{BusView}
@@ -20,7 +21,7 @@ use Rattle.cluster_run.specs.Along.{IsBeside, IsOwned, IsPosting, IsShown, IsSto
 use Rattle.cluster_run.specs.declared.offers.Offered.{Offered}
 use Rattle.cluster_run.specs.Disks.{IsDiskOf}
 use Rattle.cluster_run.specs.Offers.{Adds, IsLeft, IsTold, OfferIs, Visits}
-use Rattle.cluster_run.specs.Progress.{GetsOn, IsAtMost, IsOver, Rests as RestsThere, left_after, remaining_of}
+use Rattle.cluster_run.specs.Progress.{GetsOn, IsAtMost, IsOver, Rests as RestsThere, remaining_of}
 
 -- the cluster has told so at the bus that its port shows
 abbrev pub HasTold : Bool → ClusterView → BusView → Type 0
@@ -54,7 +55,7 @@ GoesOwn b = IsOwned b × (is_over b.system b.log ≡ false)
 
 -- so many words as before are left, and each entry that was added leaves a post less to send, at least; or fewer words are left
 abbrev pub Spends : BusView → BusView → Type 0
-Spends b after = (length after.left < length b.left) ⊎ ((length after.left ≡ length b.left) × (left_after after.system after.log + length after.log ≤ left_after b.system b.log + length b.log))
+Spends b after = (length after.left < length b.left) ⊎ ((length after.left ≡ length b.left) × (left_to_send after.system after.log + length after.log ≤ left_to_send b.system b.log + length b.log))
 
 -- posts of a cluster were sent to it, and words that were due were carried out
 pub record SendsOwn (k : ClusterNo) (b after : BusView) : Type 0 where
@@ -92,7 +93,7 @@ pub record TellsOwn (k : ClusterNo) (b after : BusView) : Type 0 where
 
 -- the log is over, or fewer words are left, or fewer posts are left to send, or the log is as it was
 abbrev pub HasSpent : BusView → BusView → Type 0
-HasSpent b after = IsOver after ⊎ (length after.left < length b.left) ⊎ ((length after.left ≡ length b.left) × ((left_after after.system after.log < left_after b.system b.log) ⊎ (after.log ≡ b.log)))
+HasSpent b after = IsOver after ⊎ (length after.left < length b.left) ⊎ ((length after.left ≡ length b.left) × ((left_to_send after.system after.log < left_to_send b.system b.log) ⊎ (after.log ≡ b.log)))
 
 -- What the turn of a cluster makes of it. The cluster has nothing to send, or it was lost. Where it added to the log, fewer words are left, or fewer posts
 -- are left to send.
