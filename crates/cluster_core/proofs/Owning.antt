@@ -19,7 +19,7 @@ use Rattle.quanta.specs.declared.limits.Limits.{Limits}
 use Rattle.quanta.specs.Limited.{is_due}
 use Rattle.cluster_core.specs.View.{Held, Runs, Rolls, Waits, arrived, arrived_held, held_of, next_number, asked_held, going_on, page_held, rolling_held, is_waiting}
 use Rattle.cluster_core.specs.Residents.{with_changed, are_stuck, is_stuck, HasRoom, are_settled, is_settled}
-use Rattle.cluster_core.specs.Parts.{IsHeldOwn, IsOwn, AllOwn, WaitsOwn}
+use Rattle.cluster_core.specs.Parts.{IsHeldOwn, IsOwn, AllOwn}
 use Rattle.cluster_core.specs.Calls.{are_at_rest, here_after, is_at_rest, with_page_come}
 use Rattle.cluster_core.specs.declared.quantum.Sending.{Sending}
 use Rattle.cluster_core.specs.Quantum.{Moves, RollsTo, RunsTo, Sends}
