@@ -163,7 +163,7 @@ own_sent limits cursor pid was sending new own s =
       arrived = subst (λ n. n ≤ cursor) (sym (last.next ∙ counts.next)) mine.arrived;
     }
 
--- and one that synchronised
+-- one that synchronised is its own as before
 pub own_synced : (cursor : ℕ) (pid : Pid) (p : Process) → IsOwn cursor pid p → IsOwn cursor pid (synced p)
 own_synced cursor pid p own = record { pid_is = own.pid_is; quiet = own.quiet; arrived = own.arrived }
 
