@@ -158,6 +158,7 @@ silent_leaves m (Runs p) (Waits waiting) runs = absurd runs
 silent_leaves m (Rolls p counts births) now runs = omega (arith, runs.0, ap held_weight runs.1)
 silent_leaves m (Waits waiting) now runs = absurd runs
 
+-- where a process moved there is less left to do
 pub moved_lightens : (old new : ClusterView) → is_system old.system ≡ true → FollowsSome old → WorkIs old Moved new → load new + 1 ≤ load old
 moved_lightens old new valid f work =
     let one = work.2 in
@@ -205,6 +206,7 @@ asked_lightens old new valid f one =
     let less : sum_held (with_changed one.pid (asked_held asks.was) old.here) + 0 ≤ sum_held old.here = one_lighter one.pid asks.was (asked_held asks.was) 0 old.here (held_apart old valid f) asks.there alike in
     omega (arith, less, ap sum_held asks.new_is, ap load one.rest)
 
+-- where something is queued there is no more left to do
 pub queued_lightens : (old new : ClusterView) → is_system old.system ≡ true → FollowsSome old → WorkIs old Queued new → load new ≤ load old
 queued_lightens old new valid f (inl answer) = omega (arith, ap load answer.rest)
 queued_lightens old new valid f (inr (inl asked)) = asked_lightens old new valid f asked.1

@@ -19,7 +19,7 @@ use Rattle.quanta.specs.declared.limits.Limits.{Limits}
 use Rattle.quanta.specs.Limited.{is_due}
 use Rattle.cluster_core.specs.View.{Held, Runs, Rolls, Waits, arrived, arrived_held, held_of, next_number, asked_held, going_on, page_held, rolling_held, is_waiting}
 use Rattle.cluster_core.specs.Residents.{with_changed, are_stuck, is_stuck, HasRoom, are_settled, is_settled}
-use Rattle.cluster_core.specs.Parts.{IsHeldOwn, IsOwn, AllOwn, WaitsOwn}
+use Rattle.cluster_core.specs.Parts.{IsHeldOwn, IsOwn, AllOwn}
 use Rattle.cluster_core.specs.Calls.{are_at_rest, here_after, is_at_rest, with_page_come}
 use Rattle.cluster_core.specs.declared.quantum.Sending.{Sending}
 use Rattle.cluster_core.specs.Quantum.{Moves, RollsTo, RunsTo, Sends}
@@ -163,7 +163,7 @@ own_sent limits cursor pid was sending new own s =
       arrived = subst (λ n. n ≤ cursor) (sym (last.next ∙ counts.next)) mine.arrived;
     }
 
--- and one that synchronised
+-- one that synchronised is its own as before
 pub own_synced : (cursor : ℕ) (pid : Pid) (p : Process) → IsOwn cursor pid p → IsOwn cursor pid (synced p)
 own_synced cursor pid p own = record { pid_is = own.pid_is; quiet = own.quiet; arrived = own.arrived }
 

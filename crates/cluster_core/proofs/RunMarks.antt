@@ -7,7 +7,7 @@ use Rattle.sys_text.specs.declared.system.System.{System}
 use Rattle.sys_text.specs.Valid.{is_system}
 use Rattle.write_count.specs.Counting.{no_counts}
 use Rattle.proc_state.specs.declared.process.Process.{Process}
-use Rattle.proc_state.specs.State.{ProcState, state_of, has_ended}
+use Rattle.proc_state.specs.State.{state_of, has_ended}
 use Rattle.sys_calls.specs.declared.steps.Emission.{Emission}
 use Rattle.sys_calls.specs.Calls.{Emits, Over}
 use Rattle.sys_calls.specs.Next.{next_step}

@@ -1,5 +1,5 @@
--- Worked views: what a cluster holds of records, pages, marks and accounts, by computation; and for each line a view that it refuses.
-use Rattle.std.proofs.Common.{◌≡◌, ℕ, zero, suc, ◌<◌, refl, sym, ap, subst, arith, List, [], ◌∷◌, ◌++◌, replicate, Bool, true, false, cond, eqb, eq-eqb, eqb-true, ◌∙◌, length, get_or, Option, Some, None, lit<, true≢false}
+-- Worked views: what a cluster holds of records, pages, marks and accounts, and the batch of a process that is due, by computation; and for each line a view that it refuses.
+use Rattle.std.proofs.Common.{◌≡◌, ℕ, zero, suc, ◌+◌, ◌<◌, refl, sym, ap, subst, arith, List, [], ◌∷◌, ◌++◌, replicate, Bool, true, false, cond, eqb, eq-eqb, eqb-true, ◌∙◌, length, get_or, Option, Some, None, lit<, true≢false}
 use Rattle.std.specs.Prelude.{option_map, slice_set}
 use Rattle.std.specs.Option.{option_map_or}
 use Rattle.t32_base.specs.declared.process.Pid.{Pid}
@@ -38,9 +38,11 @@ use Rattle.cert_sched.specs.Account.{Account, account_after, page_in}
 use Rattle.cert_sched.specs.Steps.{silent_upto, emission_at}
 use Rattle.backup_records.specs.Records.{record_in}
 use Rattle.record_laws.specs.Kept.{has_backup_in}
+use Rattle.sync_point.specs.Batch.{batch, synced}
+use Rattle.quanta.specs.Limited.{is_due}
 use Rattle.page_waits.specs.Waiting.{WaitingState}
 use Rattle.wait_laws.specs.Waits.{WaitsAs, none_queued}
-use Rattle.cluster_core.specs.View.{ClusterView, Held, Runs, account_at, held_of}
+use Rattle.cluster_core.specs.View.{ClusterView, Held, Runs, account_at, held_of, limits_of, process_load}
 use Rattle.cluster_core.specs.Holds.{HoldsAccounts, HoldsMarks, HoldsPages, HoldsRecords, IsMarked, MarkedIfThere, is_fetch_queued, unended_process}
 use Rattle.cluster_core.specs.Queue.{with_queue}
 use Rattle.cluster_core.proofs.Here.{pid_same}
@@ -355,3 +357,26 @@ no_account = refl
 accounts_refused : HoldsAccounts far_system synced_log (accounts_view (image_page reader_words)) → ⊥
 unfolding boot one_step steps silently plain_after placement told silent_upto emission_at backup_record account_after
 accounts_refused holds = differ 0 120 refl (ap (λ (a : Account). option_map_or (λ bytes. get_or bytes 52 0) (page_in a.kept 0) 0) ((holds.keeps).accounts (pid 16)))
+
+-- ---- a batch: the reader has read the one letter after which it is due
+
+abbrev due_reader : Process
+due_reader = record (unmarked (upto far_system came 16 6)) { ram = record { bytes = (upto far_system came 16 6).memory; dirty = true ∷ [] }; read = 0 ∷ [] }
+
+reader_due : is_due (limits_of far_system) due_reader ≡ true
+reader_due = refl
+
+-- its page is sent, and then its state
+reader_batch : batch due_reader (cluster 0) ≡ far_2.post ∷ synced_3.post ∷ []
+unfolding boot one_step steps silently plain_after placement told silent_upto emission_at
+reader_batch = refl
+
+-- after it the reader is not due,
+due_refused : is_due (limits_of far_system) (synced due_reader) ≡ true → ⊥
+unfolding boot one_step steps silently plain_after placement told silent_upto emission_at
+due_refused due = true≢false (sym due)
+
+-- and has one thing less to do
+reader_lighter : process_load (synced due_reader) + 1 ≡ process_load due_reader
+unfolding boot one_step steps silently plain_after placement told silent_upto emission_at
+reader_lighter = refl

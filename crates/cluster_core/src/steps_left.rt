@@ -1,4 +1,4 @@
-//! How many steps are left.
+//! What is left to do, in steps and synchronisations.
 ghost use Rattle.std.specs.Prelude.{ℕ, ◌≡◌, ◌≤◌, ◌+◌, Some, true};
 ghost use Rattle.sys_text.specs.Valid.{is_system};
 ghost use Rattle.proc_state.specs.State.{ProcState};
