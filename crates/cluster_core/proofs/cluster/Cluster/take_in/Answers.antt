@@ -14,7 +14,7 @@ use Rattle.cluster_core.specs.Absorbing.{CanCome, ComesHere, IsNotedHere}
 use Rattle.cluster_core.proofs.Arriving.{comes_here}
 use Rattle.cluster_core.proofs.Noting.{can_note_next, noted_next}
 use Rattle.cluster_core.proofs.Owning.{has_room}
-use Rattle.cluster_core.proofs.Absorbed.{absorbs, may_come, may_wait, own_either, ready_built, ready_no_birth, ready_own}
+use Rattle.cluster_core.proofs.Absorbed.{absorbs, may_come, may_wait, own_either, ready_no_birth, ready_own}
 use Rattle.cluster_core.proofs.OwningWaits.{owns_waiting}
 use Rattle.cluster_core.proofs.cluster.Cluster.take_in.Goals as goal
 
