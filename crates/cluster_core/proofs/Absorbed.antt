@@ -13,12 +13,11 @@ use Rattle.bus_msg.specs.declared.entry.Post.{Post}
 use Rattle.bus_msg.specs.declared.entry.Entry.{Entry}
 use Rattle.bus_msg.specs.PlacedAfter.{what}
 use Rattle.crash_notice.specs.Splitting.{moves_here}
-use Rattle.cert_sched.specs.Built.{BuiltMayFollow, is_built, tells_or_closes}
+use Rattle.cert_sched.specs.Built.{BuiltMayFollow, tells_or_closes}
 use Rattle.cert_sched.specs.Losses.{is_by_cluster, is_crash_of}
 use Rattle.cert_sched.specs.Rules.{home_at}
 use Rattle.bus_msg.specs.declared.placed.Placed.{Placed}
 use Rattle.cert_sched.specs.Schedule.{placement}
-use Rattle.cert_sched.proofs.LogLaws.{IsLegal-last}
 use Rattle.cert_sched.proofs.MailLaws.{sent_no_signal}
 use Rattle.cert_sched.proofs.StepLaws.{Tells}
 use Rattle.backup_records.specs.Records.{are_rising, record_in, records_after}
@@ -266,7 +265,3 @@ ready_own c e r own = by_loss (one_of c.system r.log e r.open_next)
 pub own_either : (cursor : ℕ) (was now : List (Pid × Held)) → AllOwn cursor was → (now ≡ was) ⊎ (now ≡ []) → AllOwn cursor now
 own_either cursor was now own (inl same) = subst (AllOwn cursor) (sym same) own
 own_either cursor was now own (inr none) = subst (AllOwn cursor) (sym none) tt
-
--- the entry is of a kind that is built
-pub ready_built : (c : ClusterView) (e : Entry) → ReadyFor e c → is_built (what e) ≡ true
-ready_built c e r = (IsLegal-last BuiltMayFollow c.system r.log e (r.open_next).0).built

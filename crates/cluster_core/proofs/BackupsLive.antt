@@ -17,7 +17,7 @@ use Rattle.bus_msg.specs.Places.{Places, same_pid, same_cluster, is_cluster, liv
 use Rattle.bus_msg.specs.PlacedAfter.{what, placed_after, after_loss, after_sync, moved_to}
 use Rattle.t32_base.specs.declared.process.End.{End}
 use Rattle.t32_base.specs.Small.{SmallState}
-use Rattle.cert_sched.specs.Built.{BuiltMayFollow, tells_or_closes}
+use Rattle.cert_sched.specs.Built.{BuiltMayFollow}
 use Rattle.cert_sched.specs.Schedule.{placement, placed_root}
 use Rattle.cert_sched.specs.Legal.{IsLegalBy}
 use Rattle.cert_sched.proofs.LogLaws.{placement-snoc}

@@ -1,5 +1,5 @@
 -- Counts over a log that gets one entry more, and counts that stand still at the greatest number.
-use Rattle.std.proofs.Common.{◌≡◌, ℕ, ◌+◌, ◌≤◌, refl, sym, ◌∙◌, ap, arith, zero-add, List, [], ◌∷◌, ◌++◌, length, length-append, Bool, true, false, cond, ◌||◌}
+use Rattle.std.proofs.Common.{◌≡◌, ℕ, ◌+◌, ◌≤◌, sym, ◌∙◌, ap, arith, zero-add, List, [], ◌∷◌, ◌++◌, length, length-append, Bool, true, false, cond, ◌||◌}
 use Rattle.std.specs.Prelude.{count_by}
 use Rattle.std.proofs.lemmas.List.Folds.{list_any-append}
 use Rattle.std.proofs.lemmas.List.Sums.{sum_by-append}

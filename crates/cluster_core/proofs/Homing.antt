@@ -14,8 +14,7 @@ use Rattle.t32_base.specs.declared.process.Pid.{Pid}
 use Rattle.t32_base.specs.declared.process.ClusterNo.{ClusterNo}
 use Rattle.proc_state.specs.declared.process.Process.{Process}
 use Rattle.proc_state.specs.State.{IsFresh, ProcState, state_of}
-use Rattle.plain_kernel.specs.Maps.{AreFresh, pid_of}
-use Rattle.plain_kernel.specs.Maps.{processes_of as states_of}
+use Rattle.plain_kernel.specs.Maps.{pid_of}
 use Rattle.plain_kernel.specs.Starts.{starts_in}
 use Rattle.bus_msg.specs.Places.{same_pid}
 use Rattle.cert_sched.proofs.BootPids.{state_pids}

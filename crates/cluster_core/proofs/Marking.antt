@@ -1,5 +1,5 @@
 -- The marks of the processes that a cluster runs, with the entry that comes next and with the one post that is queued.
-use Rattle.std.proofs.Common.{◌≡◌, ◌≤◌, ◌-◌, ℕ, refl, sym, ◌∙◌, ap, subst, arith, List, [], ◌∷◌, ◌++◌, Bool, true, false, cond, ◌&&◌, ◌||◌, eqb, eqb-true, ne_eqb, Option, Some, None, true≢false, ◌⊎◌, inl, inr}
+use Rattle.std.proofs.Common.{◌≡◌, ◌≤◌, ◌-◌, ℕ, refl, sym, ◌∙◌, ap, subst, arith, List, [], ◌∷◌, ◌++◌, Bool, true, false, cond, ◌&&◌, ◌||◌, ne_eqb, Option, Some, None, true≢false, ◌⊎◌, inl, inr}
 use Rattle.std.specs.Prelude.{⊤, ◌≢◌, nat_lt, option_and_then, option_map}
 use Rattle.std.specs.List.{list_all}
 use Rattle.std.specs.Option.{option_map_or}
@@ -16,7 +16,7 @@ use Rattle.sys_calls.specs.declared.steps.Emission.TheVariants.{Mail as Sent, Ex
 use Rattle.sys_calls.specs.Next.{last_emission}
 use Rattle.sys_calls.proofs.Counting.{last_counts}
 use Rattle.bus_msg.specs.declared.entry.What.{What}
-use Rattle.bus_msg.specs.declared.entry.What.TheVariants.{Mail, Exit, Page}
+use Rattle.bus_msg.specs.declared.entry.What.TheVariants.{Exit, Page}
 use Rattle.bus_msg.specs.declared.entry.Post.{Post}
 use Rattle.bus_msg.specs.declared.entry.Entry.{Entry}
 use Rattle.bus_msg.specs.Places.{same_pid}

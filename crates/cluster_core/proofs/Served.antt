@@ -1,7 +1,7 @@
 -- What a cluster keeps as a page server stays what the log says: after an entry, and where a post is queued.
 use Rattle.std.proofs.Common.{◌≡◌, ℕ, ◌+◌, ◌≤◌, refl, sym, ◌∙◌, ap, subst, arith, List, [], ◌∷◌, ◌++◌, Bool, true, false, cond, ◌&&◌, eq-eqb, Option, Some, None, is_some, inl, inr, true≢false}
 use Rattle.std.specs.Prelude.{Ok, ⊤}
-use Rattle.std.specs.Option.{IfSome, option_map_or}
+use Rattle.std.specs.Option.{option_map_or}
 use Rattle.page_server.specs.Account.{PagerState}
 use Rattle.page_server.specs.Disk.{Counts}
 use Rattle.page_accounts.specs.Booting.{IsAhead}

@@ -13,11 +13,11 @@ use Rattle.bus_msg.specs.declared.entry.Post.{Post}
 use Rattle.bus_msg.specs.declared.entry.Entry.{Entry}
 use Rattle.bus_msg.specs.Places.{same_pid}
 use Rattle.bus_msg.specs.PlacedAfter.{what}
-use Rattle.cert_sched.specs.Built.{UnlostMayFollow, tells_or_closes}
+use Rattle.cert_sched.specs.Built.{tells_or_closes}
 use Rattle.cert_sched.specs.Schedule.{done, items_of, plain_after}
 use Rattle.cert_sched.specs.Steps.{after_items, emission_at, process_of, silent_upto}
 use Rattle.cert_sched.proofs.LogLaws.{no_items}
-use Rattle.cluster_core.specs.Queue.{AreTogether, Queued, Nothing, One, posts_of, IsQueueLegal, is_move_of, state_by, state_now, taken_by, tells_steps}
+use Rattle.cluster_core.specs.Queue.{AreTogether, Queued, Nothing, One, posts_of, is_move_of, state_by, state_now, taken_by, tells_steps}
 use Rattle.cluster_core.proofs.ByKind.{by_kind, by_page, is_of_page, lone_is}
 
 -- a post of a page moves no process
