@@ -5,7 +5,7 @@ use Rattle.cluster_core.specs.View.{ClusterView}
 use Rattle.cluster_run.specs.Turns.{LosesOwn}
 use Rattle.cluster_run.proofs.Failing.{next_same, sent_failed}
 use Rattle.cluster_run.proofs.Posting.{left_ready, sent_posting}
-use Rattle.cluster_run.proofs.Sending.{before_sent, cleared, clears, sent_lives}
+use Rattle.cluster_run.proofs.Sending.{before_sent, cleared, clears, sent_lives, sent_number, sent_system}
 use Rattle.cluster_run.proofs.StepLosses.{failed_named}
 use Rattle.cluster_run.proofs.turn.take_sent.Goals as goal
 
@@ -20,6 +20,19 @@ is_named-requires-clause-unfailed g c =
     ap (λ (v : ClusterView). v.failed) (c.sent.ensures ∙ clears sent.0 c.args.cluster.now sent.1 (g.P.Port.bus c.args.port.now) sent.2) ∙ ((sent.2).beside).unfailed
 
 -- ---- it is lost before that
+
+pub returns-then-is_named-clause-sits : goal.returns-then-is_named-clause-sits
+returns-then-is_named-clause-sits g c =
+    let sent = c.requires.sent in
+    let number : c.sent.new.self.number ≡ c.args.cluster.now.number =
+    ap (λ (v : ClusterView). v.number) (c.sent.ensures ∙ clears sent.0 c.args.cluster.now sent.1 (g.P.Port.bus c.args.port.now) sent.2) in
+    subst (λ (k : ClusterNo). g.P.Port.sits k c.lose.new.self) number c.in_ok-lose.ensures.sits
+
+pub returns-then-is_named-clause-same : goal.returns-then-is_named-clause-same
+returns-then-is_named-clause-same g c =
+    let sent = c.requires.sent in
+    let left : c.sent.new.self ≡ cleared c.args.cluster.now = c.sent.ensures ∙ clears sent.0 c.args.cluster.now sent.1 (g.P.Port.bus c.args.port.now) sent.2 in
+    record { system = ap (λ (v : ClusterView). v.system) left; number = ap (λ (v : ClusterView). v.number) left }
 
 pub lose-requires-clause-before : goal.lose-requires-clause-before
 lose-requires-clause-before g c =
@@ -47,7 +60,25 @@ returns-clause-posting g c goes =
     sent_posting sent.0 c.args.cluster.now c.sent.new.self sent.1 (g.P.Port.bus c.args.port.now) sent.2 c.sent.ensures (g.P.Port.shows c.args.port.now) (g.P.Port.from c.args.port.now) c.take_next.new.cluster
     c.requires.shows c.requires.from c.requires.sound (c.is_named.ensures.unnamed c.if-is_named.false) (c.in_ok-take_next.ensures.taken c.if-branch.false)
 
+pub returns-clause-same : goal.returns-clause-same
+returns-clause-same g c =
+    let b = g.P.Port.bus c.args.port.now in
+    let sent = c.requires.sent in
+    let takes = c.in_ok-take_next.ensures.taken c.if-branch.false in
+    record {
+      system = sent_system sent.0 c.args.cluster.now sent.1 b sent.2 c.sent.new.self c.take_next.new.cluster c.sent.ensures takes;
+      number = sent_number sent.0 c.args.cluster.now sent.1 b sent.2 c.sent.new.self c.take_next.new.cluster c.sent.ensures takes;
+    }
+
 -- ---- a call of its disk fails at that
+
+pub returns-then-branch-clause-sits : goal.returns-then-branch-clause-sits
+returns-then-branch-clause-sits g c =
+    let b = g.P.Port.bus c.args.port.now in
+    let sent = c.requires.sent in
+    let same = next_same b.log c.sent.new.self c.take_next.new.cluster (c.in_ok-take_next.ensures.failed c.if-branch.true) in
+    let number : c.take_next.new.cluster.number ≡ c.args.cluster.now.number = same.number ∙ ap (λ (v : ClusterView). v.number) (c.sent.ensures ∙ clears sent.0 c.args.cluster.now sent.1 b sent.2) in
+    subst (λ (k : ClusterNo). g.P.Port.sits k c.lose-then-branch.new.self) number c.in_ok-lose-2.ensures.sits
 
 pub lose-requires-then-branch-clause-before : goal.lose-requires-then-branch-clause-before
 lose-requires-then-branch-clause-before g c =
