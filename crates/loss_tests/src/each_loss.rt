@@ -1,11 +1,16 @@
-//! Each loss of a conversation and of a ring of four, by `sim`, and losses at random by `run`. What is wanted stands in the two
-//! systems: the ring has one order alone, and in the conversation the asker hears two answers, in either order.
+//! Each loss of a talk of two, of a conversation of three and of a ring of four, by `sim`, and losses at random by `run`, where
+//! processes synchronise after each letter that they read, and where they do so seldom. What is wanted stands in the
+//! systems: the talk and the ring have one order alone, and in the conversation the asker hears two answers, in either order.
 use program_calls::answer;
+use std::alloc::Global;
 use std::sync::Wait;
 use std::test::Fail;
 use std::thread::Threads;
 use test_asserts::same;
-use test_systems::{CONVERSATION, RING};
+use test_systems::{CONVERSATION, RING, TALK};
+
+// What a report of the talk begins with.
+const SAID: &str = "tty 0 2\nx\n\npid 16 exit 0\npid 17 exit 0\n";
 
 // What a report of the conversation begins with, by which of the two answers the asker hears first.
 const FIRST_FIRST: &str =
@@ -17,29 +22,72 @@ const SECOND_FIRST: &str =
 const ROUND: &str =
     "tty 0 6\nd\nh\nl\n\ntty 1 6\na\ne\ni\n\ntty 2 6\nb\nf\nj\n\ntty 3 6\nc\ng\nk\n\npid 16 exit 0\npid 17 exit 0\npid 18 exit 0\npid 19 exit 0\n";
 
-// A system, what its report begins with, how many clusters it has, and at how many places, steps or disk calls, more than its
-// runs have, each is lost.
+// A system, how many letters a process of it may read between two synchronisations, what its report begins with, how many
+// clusters it has, and more places and steps than any of them has.
 struct Case {
     text: &'static str,
+    reads: u32,
     fronts: [&'static str; 2],
     clusters: u32,
     most: u32,
 }
 
-static CASES: [Case; 2] = [
+static CASES: [Case; 6] = [
+    Case {
+        text: TALK,
+        reads: 1,
+        fronts: [SAID, SAID],
+        clusters: 2,
+        most: 24,
+    },
+    Case {
+        text: TALK,
+        reads: 32,
+        fronts: [SAID, SAID],
+        clusters: 2,
+        most: 18,
+    },
     Case {
         text: CONVERSATION,
+        reads: 1,
+        fronts: [FIRST_FIRST, SECOND_FIRST],
+        clusters: 3,
+        most: 60,
+    },
+    Case {
+        text: CONVERSATION,
+        reads: 32,
         fronts: [FIRST_FIRST, SECOND_FIRST],
         clusters: 3,
         most: 40,
     },
     Case {
         text: RING,
+        reads: 1,
+        fronts: [ROUND, ROUND],
+        clusters: 4,
+        most: 130,
+    },
+    Case {
+        text: RING,
+        reads: 32,
         fronts: [ROUND, ROUND],
         clusters: 4,
         most: 90,
     },
 ];
+
+// The system of a case, with its number of letters in the place of that in the text.
+fn system(alloc: Global, case: &Case) -> Result<Vec<u8>, Fail> {
+    let old = format!(in alloc; "clusters {}\npager 0 1\nsyncreads 32\n", case.clusters)?;
+    let Some(rest) = case.text.as_bytes().strip_prefix(old.as_bytes()) else {
+        return Err(Fail::new("another header"));
+    };
+    let new = format!(in alloc; "clusters {}\npager 0 1\nsyncreads {}\n", case.clusters, case.reads)?;
+    let mut text = new.as_bytes().to_vec(alloc)?;
+    text.extend_from_slice(rest)?;
+    Ok(text)
+}
 
 // The part of a report behind a front.
 fn behind<'a>(report: &'a [u8], fronts: &[&str; 2]) -> Option<&'a [u8]> {
@@ -63,7 +111,8 @@ fn assert_lost<R: AllocGlobal + Threads + Wait + Sync>(
     line: &[u8],
     case: &Case,
 ) -> Result<(), Fail> {
-    let (status, report) = answer(rt, line, case.text.as_bytes())?;
+    let mut text = system(rt.alloc(), case)?;
+    let (status, report) = answer(rt, line, text.as_slice())?;
     same("the status", &status, &0)?;
     let Some(rest) = behind(report.as_slice(), &case.fronts) else {
         return Err(Fail::new("another front"));
@@ -71,19 +120,22 @@ fn assert_lost<R: AllocGlobal + Threads + Wait + Sync>(
     let Some(schedule) = schedule_in(rest) else {
         return Err(Fail::new("no schedule"));
     };
-    let mut text = case.text.as_bytes().to_vec(rt.alloc())?;
     text.extend_from_slice(schedule)?;
     let (_, plain) = answer(rt, b"plain", text.as_slice())?;
     let begins = report.strip_suffix(rest).unwrap_or(b"".as_slice());
     same("what plain prints", &plain.as_slice(), &begins)
 }
 
-fn assert_each<R: AllocGlobal + Threads + Wait + Sync>(rt: &R, at: &str) -> Result<(), Fail> {
+fn assert_each<R: AllocGlobal + Threads + Wait + Sync>(
+    rt: &R,
+    pick: u32,
+    at: &str,
+) -> Result<(), Fail> {
     for case in &CASES {
         for number in 0..case.clusters * case.most {
             let k = number % case.clusters;
             let n = number / case.clusters;
-            let line = format!(in rt.alloc(); "sim crash:{k}@{at}:{n}")?;
+            let line = format!(in rt.alloc(); "sim --pick {pick} crash:{k}@{at}:{n}")?;
             assert_lost(rt, line.as_bytes(), case)?;
         }
     }
@@ -92,22 +144,33 @@ fn assert_each<R: AllocGlobal + Threads + Wait + Sync>(rt: &R, at: &str) -> Resu
 
 #[test]
 fn a_loss_at_each_place(rt: HostRuntime) -> Result<(), Fail> {
-    assert_each(&rt, "bus")
+    assert_each(&rt, 0, "bus")
+}
+
+#[test]
+fn a_loss_at_each_place_in_another_order(rt: HostRuntime) -> Result<(), Fail> {
+    assert_each(&rt, 1, "bus")
 }
 
 #[test]
 fn a_loss_before_each_step(rt: HostRuntime) -> Result<(), Fail> {
-    assert_each(&rt, "step")
+    assert_each(&rt, 0, "step")
 }
 
-// The page servers are the first two clusters of both systems.
+#[test]
+fn a_loss_before_each_step_in_another_order(rt: HostRuntime) -> Result<(), Fail> {
+    assert_each(&rt, 1, "step")
+}
+
+// The page servers are the first two clusters of each system.
 #[test]
 fn a_loss_by_each_disk_call(rt: HostRuntime) -> Result<(), Fail> {
     for case in &CASES {
-        for number in 0..16 {
+        for number in 0..80 {
             let k = number % 2;
-            let n = number / 2;
-            let line = format!(in rt.alloc(); "sim disk:{k}@{n}")?;
+            let pick = number / 2 % 2;
+            let n = number / 4;
+            let line = format!(in rt.alloc(); "sim --pick {pick} disk:{k}@{n}")?;
             assert_lost(&rt, line.as_bytes(), case)?;
         }
     }
@@ -119,12 +182,12 @@ fn losses_at_random_on_threads(rt: HostRuntime) -> Result<(), Fail> {
     let mut seed: u32 = 1;
     for round in 0..100 {
         seed = seed.wrapping_mul(1103515245).wrapping_add(12345);
-        let case = &CASES[round % 2];
+        let case = &CASES[round % 6];
         let k = (seed >> 16) % case.clusters;
         let n = (seed >> 8) % case.most;
         let line = match (seed >> 6) & 3 {
             0 => format!(in rt.alloc(); "run crash:{k}@bus:{n}")?,
-            1 => format!(in rt.alloc(); "run disk:{}@{}", k % 2, n % 6)?,
+            1 => format!(in rt.alloc(); "run disk:{}@{}", k % 2, n % 20)?,
             _ => format!(in rt.alloc(); "run crash:{k}@step:{n}")?,
         };
         assert_lost(&rt, line.as_bytes(), case)?;

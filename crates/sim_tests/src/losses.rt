@@ -2,7 +2,7 @@
 //! are those of the run without a loss.
 use program_calls::assert_answer;
 use std::test::Fail;
-use test_systems::{CUT, HI, TWO};
+use test_systems::{CHANNEL, CUT, HI, TWO};
 
 // What stands before the lines of the losses and of the bus, and what stands behind them.
 type Around = (&'static str, &'static str);
@@ -16,6 +16,26 @@ const HI_AROUND: Around = (
     "tty 0 3\nhi\n\npid 16 exit 0\n",
     "schedule 2\nrun 16 6\nrun 16 4\n",
 );
+
+// The reader synchronises once it has read the letter.
+const CHANNEL_AROUND: Around = (
+    "tty 0 2\nx\n\npid 16 exit 0\npid 17 exit 0\n",
+    "schedule 7\nrun 17 6\nrun 17 4\nrun 16 6\nrun 17 1\nrun 16 4\nrun 16 4\nrun 16 1\n",
+);
+
+// Where the reader's cluster is lost between its page and its `sync`, its backup synchronises in its place, once the writer has ended.
+const CHANNEL_LATE: Around = (
+    "tty 0 2\nx\n\npid 16 exit 0\npid 17 exit 0\n",
+    "schedule 7\nrun 17 6\nrun 17 4\nrun 17 1\nrun 16 6\nrun 16 4\nrun 16 4\nrun 16 1\n",
+);
+
+const CHANNEL_NONE: &str = "crash none\nbus 9 syncs 1 withheld 0\n";
+
+const CHANNEL_AT_3: &str = "crash 0 at 3\nbus 13 syncs 1 withheld 0\n";
+
+const CHANNEL_AT_4: &str = "crash 0 at 4\nbus 12 syncs 1 withheld 0\n";
+
+const CHANNEL_AT_6: &str = "crash 0 at 6\nbus 12 syncs 1 withheld 1\n";
 
 const TWO_NONE: &str = "crash none\nbus 4 syncs 0 withheld 0\n";
 
@@ -36,7 +56,7 @@ const HI_BACKUP: &str = "crash 1 at 1\nbus 4 syncs 0 withheld 0\n";
 
 const HI_BACKUP_FIRST: &str = "crash 1 at 0\nbus 4 syncs 0 withheld 0\n";
 
-static LOSSES: [(&[u8], &str, Around, &str); 29] = [
+static LOSSES: [(&[u8], &str, Around, &str); 33] = [
     (b"sim", TWO, TWO_AROUND, TWO_NONE),
     (b"sim crash:0@bus:0", TWO, TWO_AROUND, TWO_AT_0),
     (b"sim crash:0@bus:1", TWO, TWO_AROUND, TWO_AT_1),
@@ -68,6 +88,11 @@ static LOSSES: [(&[u8], &str, Around, &str); 29] = [
     (b"sim disk:1@0 --pick 1", HI, HI_AROUND, HI_BACKUP_FIRST),
     (b"sim disk:0@1", HI, HI_AROUND, HI_NONE),
     (b"run disk:1@4294967295", HI, HI_AROUND, HI_NONE),
+    // After a page of a synchronisation, directly after its `sync`, and after what was written behind it.
+    (b"sim", CHANNEL, CHANNEL_AROUND, CHANNEL_NONE),
+    (b"sim crash:0@bus:3", CHANNEL, CHANNEL_LATE, CHANNEL_AT_3),
+    (b"sim crash:0@bus:4", CHANNEL, CHANNEL_AROUND, CHANNEL_AT_4),
+    (b"sim crash:0@bus:6", CHANNEL, CHANNEL_AROUND, CHANNEL_AT_6),
 ];
 
 #[test]
@@ -79,16 +104,32 @@ fn a_run_goes_on_after_a_loss(rt: HostRuntime) -> Result<(), Fail> {
     Ok(())
 }
 
-// What stands behind the report of the second loss above, with its log: after the loss the other cluster asks for the
+// What stands behind the report of the second loss of the first system, with its log: after the loss the other cluster asks for the
 // one page, answers as the page server that is left, and then sends.
-const LOG_AT_1: &str =
+const TWO_LOG: &str =
     "log 7\n0 0 mail 16 at 6 out 0 tty 0 610a\n1 bus crash 0 place\n2 1 fetch 16 0\n3 1 pageis 16 0\n4 1 mail 16 at 9 out 0 tty 0 620a\n5 1 exit 16 at 13 exit 0\n6 bus done\n";
+
+// And those of the last system: its synchronisation, after 6 steps, is a page and a `sync`.
+const CHANNEL_LOG: &str =
+    "log 9\n0 1 mail 17 at 6 out 1 to 16 end 1 780a\n1 1 mail 17 at 10 out 1 to 16 end 1 eof\n2 0 page 16 at 6 0\n3 0 sync 16 at 6 plain\n4 1 exit 17 at 11 exit 0\n5 0 mail 16 at 10 out 0 tty 0 780a\n6 0 mail 16 at 14 out 1 to 17 end 1 eof\n7 0 exit 16 at 15 exit 0\n8 bus done\n";
+
+// The page that came before the loss is not used: the backup sends its own.
+const CHANNEL_LATE_LOG: &str =
+    "log 13\n0 1 mail 17 at 6 out 1 to 16 end 1 780a\n1 1 mail 17 at 10 out 1 to 16 end 1 eof\n2 0 page 16 at 6 0\n3 bus crash 0 place\n4 1 fetch 16 0\n5 1 pageis 16 0\n6 1 exit 17 at 11 exit 0\n7 1 page 16 at 6 0\n8 1 sync 16 at 6 plain\n9 1 mail 16 at 10 out 0 tty 0 780a\n10 1 mail 16 at 14 out 1 to 17 end 1 eof\n11 1 exit 16 at 15 exit 0\n12 bus done\n";
+
+static LOGS: [(&[u8], &str, Around, &str, &str); 3] = [
+    (b"sim --log crash:0@bus:1", TWO, TWO_AROUND, TWO_AT_1, TWO_LOG),
+    (b"sim --log", CHANNEL, CHANNEL_AROUND, CHANNEL_NONE, CHANNEL_LOG),
+    (b"sim --log crash:0@bus:3", CHANNEL, CHANNEL_LATE, CHANNEL_AT_3, CHANNEL_LATE_LOG),
+];
 
 #[test]
 fn a_loss_stands_in_the_log(rt: HostRuntime) -> Result<(), Fail> {
-    let (before, behind) = TWO_AROUND;
-    let report = format!(in rt.alloc(); "{before}{TWO_AT_1}{behind}{LOG_AT_1}")?;
-    assert_answer(&rt, b"sim --log crash:0@bus:1", TWO, 0, report.as_str())
+    for (line, text, (before, behind), lost, log) in LOGS {
+        let report = format!(in rt.alloc(); "{before}{lost}{behind}{log}")?;
+        assert_answer(&rt, line, text, 0, report.as_str())?;
+    }
+    Ok(())
 }
 
 // A cluster that the system lacks is usage once the text was read, and a script that is not built is usage before.
