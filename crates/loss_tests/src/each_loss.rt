@@ -83,7 +83,10 @@ fn system(alloc: Global, case: &Case) -> Result<Vec<u8>, Fail> {
     let Some(rest) = case.text.as_bytes().strip_prefix(old.as_bytes()) else {
         return Err(Fail::new("another header"));
     };
-    let new = format!(in alloc; "clusters {}\npager 0 1\nsyncreads {}\n", case.clusters, case.reads)?;
+    let new = format!(in alloc;
+        "clusters {}\npager 0 1\nsyncreads {}\n",
+        case.clusters, case.reads
+    )?;
     let mut text = new.as_bytes().to_vec(alloc)?;
     text.extend_from_slice(rest)?;
     Ok(text)

@@ -118,9 +118,27 @@ const CHANNEL_LATE_LOG: &str =
     "log 13\n0 1 mail 17 at 6 out 1 to 16 end 1 780a\n1 1 mail 17 at 10 out 1 to 16 end 1 eof\n2 0 page 16 at 6 0\n3 bus crash 0 place\n4 1 fetch 16 0\n5 1 pageis 16 0\n6 1 exit 17 at 11 exit 0\n7 1 page 16 at 6 0\n8 1 sync 16 at 6 plain\n9 1 mail 16 at 10 out 0 tty 0 780a\n10 1 mail 16 at 14 out 1 to 17 end 1 eof\n11 1 exit 16 at 15 exit 0\n12 bus done\n";
 
 static LOGS: [(&[u8], &str, Around, &str, &str); 3] = [
-    (b"sim --log crash:0@bus:1", TWO, TWO_AROUND, TWO_AT_1, TWO_LOG),
-    (b"sim --log", CHANNEL, CHANNEL_AROUND, CHANNEL_NONE, CHANNEL_LOG),
-    (b"sim --log crash:0@bus:3", CHANNEL, CHANNEL_LATE, CHANNEL_AT_3, CHANNEL_LATE_LOG),
+    (
+        b"sim --log crash:0@bus:1",
+        TWO,
+        TWO_AROUND,
+        TWO_AT_1,
+        TWO_LOG,
+    ),
+    (
+        b"sim --log",
+        CHANNEL,
+        CHANNEL_AROUND,
+        CHANNEL_NONE,
+        CHANNEL_LOG,
+    ),
+    (
+        b"sim --log crash:0@bus:3",
+        CHANNEL,
+        CHANNEL_LATE,
+        CHANNEL_AT_3,
+        CHANNEL_LATE_LOG,
+    ),
 ];
 
 #[test]
