@@ -42,6 +42,9 @@ pub mod Following
 pub mod Owning
 mod Catching
 mod FirstServer
+mod LimitStubs
+pub mod Within
+mod KeptLimits
 mod BeginSync
 pub mod Working
 mod Answering

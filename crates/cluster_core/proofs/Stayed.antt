@@ -33,7 +33,7 @@ use Rattle.mark_laws.specs.Sent.{SentUpto, is_later_page}
 use Rattle.mark_laws.proofs.SentPages.{sent_on}
 use Rattle.batch_laws.specs.Between.{ComesBetween}
 use Rattle.batch_laws.specs.Underway.{BatchMay, posts_left}
-use Rattle.batch_laws.proofs.EntryBetween.{batch_found}
+use Rattle.batch_laws.proofs.EntryBetween.{batch_found, limits_found}
 use Rattle.batch_laws.proofs.OtherSenders.{others_between}
 use Rattle.record_laws.proofs.Standing.{built_stands}
 use Rattle.cluster_core.specs.View.{ClusterView, Held, Runs, arrived, arrived_held, held_at, held_of, page_held}
@@ -191,6 +191,7 @@ module _ (c : ClusterView) (log : List Entry) (e : Entry) (y : Synchronises c.sy
         indices = y.indices;
         posts = queue ∙ y.posts ∙ same_posts c.number p (state_of y.process) (state_of r.now) y.read y.indices (sym r.small) (ap (λ ram. ram.bytes) (sym r.ram)) ∙ ap (λ k. posts_left k p (state_of r.now) y.read y.indices) (sym number);
         there = there;
+        within = limits_found c.system log e c.number p (state_of y.process) y.read y.indices between y.may (state_of r.now) reached y.within;
         may = subst (λ k. BatchMay c.system later k p (state_of r.now) y.read y.indices) (sym number) may;
         unread = r.read ∙ y.unread;
         since = r.since ∙ y.since ∙ ap (λ (s : SmallState). s.steps) (sym r.small);

@@ -1,0 +1,38 @@
+-- scratch: laws of limit_laws that are still to come
+use Rattle.std.proofs.Common.{◌≡◌, ℕ, List, [], ◌∷◌, ◌++◌, Bool, true, false, Option, Some}
+use Rattle.t32_base.specs.declared.process.Pid.{Pid}
+use Rattle.t32_base.specs.declared.process.ClusterNo.{ClusterNo}
+use Rattle.t32_base.specs.declared.process.Counts.{Counts}
+use Rattle.sys_text.specs.declared.system.System.{System}
+use Rattle.sys_text.specs.Valid.{is_system}
+use Rattle.proc_state.specs.declared.process.Process.{Process}
+use Rattle.proc_state.specs.State.{ProcState, state_of}
+use Rattle.sys_calls.proofs.RunLemma.{all_delivered}
+use Rattle.bus_msg.specs.declared.entry.Entry.{Entry}
+use Rattle.bus_msg.specs.PlacedAfter.{what}
+use Rattle.cert_sched.specs.Appended.{entry_of}
+use Rattle.cert_sched.specs.Built.{BuiltMayFollow}
+use Rattle.cert_sched.specs.Deeds.{arrived_count, letter_for, starts}
+use Rattle.cert_sched.specs.Legal.{IsLegalBy, Stands}
+use Rattle.cert_sched.specs.Rules.{keeps_limits}
+use Rattle.cert_sched.specs.Simulation.{IsUnended}
+use Rattle.roll_forward.specs.Advancing.{going, rolled_on}
+use Rattle.roll_forward.specs.RunsOut.{RunsOut}
+use Rattle.recovery_laws.specs.Behind.{RollsBehind}
+use Rattle.batch_laws.specs.Underway.{BatchMay, page_left, posts_left}
+use Rattle.limit_laws.specs.Within.{AllKeepLimits}
+
+pub keeps_stay : (system : System) (log : List Entry) (e : Entry) (p : Pid) (s : ProcState) → is_system system ≡ true → IsLegalBy Stands system log → Stands system log e → IsUnended system log p → starts p e ≡ false → s.next ≡ arrived_count log p → keeps_limits system log p s ≡ true
+    → keeps_limits system (log ++ e ∷ []) p (all_delivered s (letter_for p (what e))) ≡ true
+keeps_stay = ?
+
+pub rest_keeps_limits : (system : System) (log : List Entry) (k : ClusterNo) (p : Pid) (s : ProcState) (read indices : List ℕ) → is_system system ≡ true → IsLegalBy Stands system log → BatchMay system log k p s read indices → keeps_limits system log p s ≡ true
+    → AllKeepLimits system log (posts_left k p s read indices)
+rest_keeps_limits = ?
+
+pub page_keeps : (system : System) (log : List Entry) (k : ClusterNo) (p : Pid) (s : ProcState) (i : ℕ) → keeps_limits system log p s ≡ true → keeps_limits system (log ++ entry_of system log (page_left k p s i) ∷ []) p s ≡ true
+page_keeps = ?
+
+pub caught_limits : (system : System) (log : List Entry) (p : Pid) (process q : Process) (counts left : Counts) (births unborn : List Pid) (n : ℕ) → is_system system ≡ true → IsLegalBy BuiltMayFollow system log → IsUnended system log p
+    → RollsBehind system log p (state_of process) counts births → RunsOut (state_of process) counts births n → rolled_on n (going process counts births) ≡ Some (going q left unborn) → keeps_limits system log p (state_of q) ≡ true
+caught_limits = ?
