@@ -1,5 +1,5 @@
 -- An entry that comes between the posts of a batch: the process is where it was, with the letters that the entry brings it, and what is left may still be sent.
-use Rattle.std.proofs.Common.{◌≡◌, ℕ, zero, suc, ◌+◌, ◌-◌, ◌<◌, refl, sym, ◌∙◌, ap, subst, arith, List, [], ◌∷◌, ◌++◌, length, Bool, true, false, cond, not, ◌||◌, ltb, Option, Some, None, is_some, true≢false, ◌&&◌}
+use Rattle.std.proofs.Common.{◌≡◌, ℕ, zero, suc, ◌+◌, ◌-◌, ◌<◌, refl, sym, ◌∙◌, ap, subst, arith, List, [], ◌∷◌, ◌++◌, length, Bool, true, false, cond, not, ◌||◌, ltb, Option, Some, None, is_some, true≢false}
 use Rattle.std.specs.Prelude.{max, nat_le, option_and_then}
 use Rattle.std.specs.List.{list_all}
 use Rattle.std.specs.Option.{option_map_or}
@@ -29,7 +29,7 @@ use Rattle.cert_sched.specs.Deeds.{deeds_in, is_birth_of, is_cut, letter_for, nu
 use Rattle.cert_sched.specs.Scripted.{is_done}
 use Rattle.cert_sched.specs.Simulation.{IsUnended}
 use Rattle.cert_sched.specs.Steps.{numbers_read, page_count, saved_of, silent_upto}
-use Rattle.cert_sched.specs.Rules.{ends_run, keeps_limits}
+use Rattle.cert_sched.specs.Rules.{ends_run}
 use Rattle.cert_sched.specs.Legal.{IsLegalBy, Stands}
 use Rattle.cert_sched.proofs.BuiltCuts.{by_home_there}
 use Rattle.cert_sched.proofs.CameLaws.{Came, went_on, was_cut, was_born, came}
@@ -225,17 +225,6 @@ module _ (system : System) (log : List Entry) (e : Entry) (k : ClusterNo) (p : P
 
   pub batch_found : (t : ProcState) → silent_upto system (log ++ e ∷ []) p (s.small).steps ≡ Some t → BatchMay system (log ++ e ∷ []) k p t read indices
   batch_found t is = subst (λ x. BatchMay system (log ++ e ∷ []) k p x read indices) (some_same (with_letters s letters) t (sym batch_reached ∙ is)) batch_stays
-
-  -- ---- the limits
-
-  -- it is within the limits as before
-  limits_stay : keeps_limits system (log ++ e ∷ []) p with_mail ≡ keeps_limits system log p s
-  limits_stay = λ j. nat_le ((s.small).steps - steps_stay system log e p comes.leaves j) system.syncsteps && nat_le (length (reads_stay j)) system.syncreads
-
-  pub limits_found : (t : ProcState) → silent_upto system (log ++ e ∷ []) p (s.small).steps ≡ Some t → keeps_limits system log p s ≡ true → keeps_limits system (log ++ e ∷ []) p t ≡ true
-  limits_found t is keeps =
-      let same : with_mail ≡ t = some_same with_mail t (sym (reached ∙ ap Some (all_delivered-is s letters)) ∙ is) in
-      subst (λ x. keeps_limits system (log ++ e ∷ []) p x ≡ true) same (limits_stay ∙ keeps)
 
 -- ---- the posts
 

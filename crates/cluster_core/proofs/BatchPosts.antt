@@ -88,7 +88,7 @@ module _ (k : ClusterNo) (p : Pid) (s : ProcState) (read : List ℕ) where
     -- The posts of a process that has its pages and is within the limits may follow, one after the other.
     pub batch_legal : (log : List Entry) (indices : List ℕ) → is_system system ≡ true → IsLegalBy Stands system log → has_its_pages system log p ≡ true → keeps_limits system log p s ≡ true → BatchMay system log k p s read indices → IsQueueLegal UnlostMayFollow system log (posts_left k p s read indices)
     batch_legal log indices valid legal has keeps b =
-        legal_so log indices has (rest_stands system log k p s read indices valid legal b) (rest_is_new system log k p s read indices b) (rest_keeps_limits system log k p s read indices valid legal b keeps)
+        legal_so log indices has (rest_stands system log k p s read indices valid legal b) (rest_is_new system log k p s read indices b) (rest_keeps_limits system log k p s read indices b keeps)
 
     module _ (log : List Entry) (indices : List ℕ) (valid : is_system system ≡ true) (legal : IsLegalBy Stands system log) (b : BatchMay system log k p s read indices) where
       -- Another process to which no more letters came than the log has for it carries with the posts the marks that it carried without,

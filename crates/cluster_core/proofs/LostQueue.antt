@@ -44,7 +44,9 @@ use Rattle.cluster_core.proofs.HasPages.{waits_after}
 use Rattle.cert_sched.specs.Deeds.{is_birth_of, is_cut, letter_for}
 use Rattle.sys_calls.proofs.RunLemma.{all_delivered}
 use Rattle.record_laws.proofs.Standing.{built_stands}
-use Rattle.cluster_core.proofs.KeptLimits.{by_home_unended, sent_stays, told_within}
+use Rattle.cert_sched.proofs.BuiltCuts.{by_home_there}
+use Rattle.cluster_core.proofs.KeptLimits.{told_within}
+use Rattle.cluster_core.proofs.LimitStubs.{sent_stays}
 
 -- the home of a process sends the fetches of its pages
 fetched_home : (places : Places) (by : By) (p : Pid) (i : ℕ) (w : What) → (tells_or_closes w ≡ true) ⊎ (is_of_page w ≡ true) → is_fetch p i w ≡ true → is_by_right places by w ≡ true → is_by by (home_at places p) ≡ true
@@ -131,7 +133,7 @@ module _ (system : System) (valid : is_system system ≡ true) (log : List Entry
       keeps : keeps_limits system later u.pid u.after ≡ true
       keeps =
           subst (λ s. keeps_limits system later u.pid s ≡ true) no_letter
-          (sent_stays system log e u.pid u.at u.emission u.after valid (built_stands system log n.legal) (IsLegal-last BuiltMayFollow system log e n.more).stands (by_home_unended system log post.by u.pid u.by_home)
+          (sent_stays system log e u.pid u.at u.emission u.after valid (built_stands system log n.legal) (by_home_there (placement system log) post.by u.pid u.by_home)
           (ap (λ w. is_cut u.pid w || is_birth_of u.pid w) n.same) u.is (told_within system log u.pid u.at u.emission u.after u.is post.what u.tells may.limits))
 
       halves : (is_living places post.by ≡ true) × (is_by post.by (home_at places u.pid) ≡ true)

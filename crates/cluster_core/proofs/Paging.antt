@@ -71,7 +71,9 @@ use Rattle.recovery.specs.Begun.{begun}
 use Rattle.roll_forward.specs.RunsOut.{nothing_left}
 use Rattle.std.specs.Option.{option_map_or}
 use Rattle.cluster_core.proofs.Within.{start_within}
-use Rattle.cluster_core.proofs.KeptLimits.{by_home_unended, sent_stays, told_within}
+use Rattle.cert_sched.proofs.BuiltCuts.{by_home_there}
+use Rattle.cluster_core.proofs.KeptLimits.{told_within}
+use Rattle.cluster_core.proofs.LimitStubs.{sent_stays}
 
 -- ---- what is here then
 
@@ -212,7 +214,7 @@ module _ (system : System) (valid : is_system system ≡ true) (log : List Entry
       keeps : keeps_limits system later u.pid u.after ≡ true
       keeps =
           subst (λ s. keeps_limits system later u.pid s ≡ true) no_letter
-          (sent_stays system log e u.pid u.at u.emission u.after valid (built_stands system log now.0) (IsLegal-last BuiltMayFollow system log e next.0).stands (by_home_unended system log post.by u.pid u.by_home) quiet u.is
+          (sent_stays system log e u.pid u.at u.emission u.after valid (built_stands system log now.0) (by_home_there (placement system log) post.by u.pid u.by_home) quiet u.is
           (told_within system log u.pid u.at u.emission u.after u.is post.what u.tells may.limits))
 
   queue_stays : (k : ClusterNo) (q : Queued) → AreTogether q → is_by_cluster k e ≡ false → list_all (λ (post : Post). is_from k post.by) (posts_of q) ≡ true → IsQueueLegal UnlostMayFollow system log (posts_of q) → IsQueueLegal UnlostMayFollow system later (posts_of q)

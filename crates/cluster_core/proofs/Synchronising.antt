@@ -83,7 +83,9 @@ use Rattle.cert_sched.specs.Account.{is_exit_of}
 use Rattle.cert_sched.specs.Told.{cluster_lost, is_moved}
 use Rattle.mark_laws.specs.Beside.{is_some_page}
 use Rattle.cert_sched.specs.Simulation.{IsUnended}
-use Rattle.cluster_core.proofs.KeptLimits.{by_home_unended, sent_stays, told_within}
+use Rattle.cert_sched.proofs.BuiltCuts.{by_home_there}
+use Rattle.cluster_core.proofs.KeptLimits.{told_within}
+use Rattle.cluster_core.proofs.LimitStubs.{sent_stays}
 
 -- ---- what an entry leaves of a process
 
@@ -266,7 +268,7 @@ module _ (system : System) (valid : is_system system ≡ true) (log : List Entry
       keeps : keeps_limits system later u.pid u.after ≡ true
       keeps =
           subst (λ s. keeps_limits system later u.pid s ≡ true) no_letter
-          (sent_stays system log e u.pid u.at u.emission u.after valid (built_stands system log now.0) stands (by_home_unended system log post.by u.pid u.by_home) (λ i. no_cut u.pid other i || no_birth i) u.is
+          (sent_stays system log e u.pid u.at u.emission u.after valid (built_stands system log now.0) (by_home_there (placement system log) post.by u.pid u.by_home) (λ i. no_cut u.pid other i || no_birth i) u.is
           (told_within system log u.pid u.at u.emission u.after u.is post.what u.tells may.limits))
 
   queue_stays : (k : ClusterNo) (q : Queued) → AreTogether q → is_by_cluster k e ≡ false → list_all (λ (post : Post). is_from k post.by) (posts_of q) ≡ true → IsQueueLegal UnlostMayFollow system log (posts_of q) → IsQueueLegal UnlostMayFollow system later (posts_of q)
