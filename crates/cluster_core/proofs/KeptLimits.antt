@@ -13,6 +13,7 @@ use Rattle.sys_calls.specs.declared.steps.Emission.TheVariants.{Mail as Sent, Ex
 use Rattle.sys_calls.proofs.RunLemma.{all_delivered}
 use Rattle.bus_msg.specs.declared.entry.What.{What}
 use Rattle.bus_msg.specs.declared.entry.Entry.{Entry}
+use Rattle.bus_msg.specs.Places.{same_pid}
 use Rattle.cert_sched.specs.Built.{KeepsLimits}
 use Rattle.cert_sched.specs.Deeds.{is_end_of, letter_for, to_process}
 use Rattle.cert_sched.specs.Rules.{keeps_limits}
@@ -60,6 +61,6 @@ arrival_brings w q at (Sent letter) p s tells = by_to letter.to ∙ ap (λ w. al
     by_pid false = refl
 
     by_to : (to : To) → cond (is_end_of p to) (delivered s letter) s ≡ all_delivered s (to_process p letter to)
-    by_to (Proc r end) = by_pid _
+    by_to (Proc r end) = by_pid (same_pid r p)
     by_to (Tty t) = refl
 arrival_brings w q at (Ended end) p s tells = ap (λ w. all_delivered s (letter_for p w)) (sym tells)
