@@ -30,7 +30,7 @@ use Rattle.batch_laws.proofs.QueuedBatch.{queued_before, queued_kept, queued_oth
 use Rattle.batch_laws.proofs.RestMarks.{rest_marks}
 use Rattle.batch_laws.proofs.RestStands.{rest_is_new, rest_stands}
 use Rattle.limit_laws.specs.Within.{AllKeepLimits}
-use Rattle.cluster_core.proofs.LimitStubs.{rest_keeps_limits}
+use Rattle.limit_laws.proofs.RestLimits.{rest_keeps_limits}
 use Rattle.cluster_core.specs.Queue.{IsQueueLegal, move_of, with_queue}
 use Rattle.cluster_core.specs.Holds.{CarriesMarks, MarkedIfThere, is_fetch_queued}
 use Rattle.cluster_core.proofs.Counted.{count_by-snoc}

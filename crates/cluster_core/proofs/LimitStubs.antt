@@ -25,21 +25,6 @@ use Rattle.cert_sched.specs.Steps.{emission_at}
 use Rattle.batch_laws.specs.Underway.{BatchMay, page_left, posts_left, with_letters}
 use Rattle.limit_laws.specs.Within.{AllKeepLimits}
 
-pub sent_stays : (system : System) (log : List Entry) (e : Entry) (p : Pid) (at : ℕ) (m : Emission) (t : ProcState) → is_system system ≡ true → IsLegalBy Stands system log → IsUnended system log p → starts p e ≡ false
-    → emission_at system log p at ≡ Some (m, t) → keeps_limits system log p t ≡ true → keeps_limits system (log ++ e ∷ []) p (all_delivered t (letter_for p (what e))) ≡ true
-sent_stays = ?
-
-pub page_keeps : (system : System) (log : List Entry) (k : ClusterNo) (p : Pid) (s : ProcState) (i : ℕ) → keeps_limits system (log ++ entry_of system log (page_left k p s i) ∷ []) p s ≡ keeps_limits system log p s
-page_keeps = ?
-
-pub rest_keeps_limits : (system : System) (log : List Entry) (k : ClusterNo) (p : Pid) (s : ProcState) (read indices : List ℕ) → BatchMay system log k p s read indices → keeps_limits system log p s ≡ true
-    → AllKeepLimits system log (posts_left k p s read indices)
-rest_keeps_limits = ?
-
-pub between_keeps : (system : System) (log : List Entry) (e : Entry) (k : ClusterNo) (p : Pid) (s : ProcState) (read indices : List ℕ) → ComesBetween system log e k p → BatchMay system log k p s read indices
-    → keeps_limits system log p s ≡ true → keeps_limits system (log ++ e ∷ []) p (with_letters s (letter_for p (what e))) ≡ true
-between_keeps = ?
-
 pub caught_limits : (system : System) (log : List Entry) (p : Pid) (process q : Process) (counts left : Counts) (births unborn : List Pid) (n : ℕ) → is_system system ≡ true → IsLegalBy BuiltMayFollow system log → IsUnended system log p
     → RollsBehind system log p (state_of process) counts births → RunsOut (state_of process) counts births n → rolled_on n (going process counts births) ≡ Some (going q left unborn) → keeps_limits system log p (state_of q) ≡ true
 caught_limits = ?

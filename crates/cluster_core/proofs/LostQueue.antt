@@ -46,7 +46,7 @@ use Rattle.sys_calls.proofs.RunLemma.{all_delivered}
 use Rattle.record_laws.proofs.Standing.{built_stands}
 use Rattle.cert_sched.proofs.BuiltCuts.{by_home_there}
 use Rattle.cluster_core.proofs.KeptLimits.{told_within}
-use Rattle.cluster_core.proofs.LimitStubs.{sent_stays}
+use Rattle.limit_laws.proofs.StayingLimits.{sent_stays}
 
 -- the home of a process sends the fetches of its pages
 fetched_home : (places : Places) (by : By) (p : Pid) (i : ℕ) (w : What) → (tells_or_closes w ≡ true) ⊎ (is_of_page w ≡ true) → is_fetch p i w ≡ true → is_by_right places by w ≡ true → is_by by (home_at places p) ≡ true

@@ -49,7 +49,7 @@ use Rattle.cluster_core.proofs.Served.{accounts_on, ahead_after, brought}
 use Rattle.cluster_core.proofs.Synchronising.{s as tells, differ, held_still, loses_none, pids_same, records_stay, stands, sync_taken, synced_in}
 use Rattle.cluster_core.proofs.Telling.{at_once}
 use Rattle.cluster_core.proofs.Waiting.{queued_alike}
-use Rattle.cluster_core.proofs.LimitStubs.{page_keeps}
+use Rattle.limit_laws.proofs.RestLimits.{page_keeps}
 
 -- ---- what a batch leaves of the other processes
 

@@ -73,7 +73,7 @@ use Rattle.std.specs.Option.{option_map_or}
 use Rattle.cluster_core.proofs.Within.{start_within}
 use Rattle.cert_sched.proofs.BuiltCuts.{by_home_there}
 use Rattle.cluster_core.proofs.KeptLimits.{told_within}
-use Rattle.cluster_core.proofs.LimitStubs.{sent_stays}
+use Rattle.limit_laws.proofs.StayingLimits.{sent_stays}
 
 -- ---- what is here then
 

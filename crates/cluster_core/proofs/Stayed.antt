@@ -36,7 +36,7 @@ use Rattle.batch_laws.specs.Underway.{BatchMay, posts_left, with_letters}
 use Rattle.batch_laws.proofs.EntryBetween.{batch_found, batch_reached}
 use Rattle.batch_laws.proofs.OtherSenders.{others_between}
 use Rattle.plain_kernel.proofs.Entries.{some_same}
-use Rattle.cluster_core.proofs.LimitStubs.{between_keeps}
+use Rattle.limit_laws.proofs.RestLimits.{between_keeps}
 use Rattle.record_laws.proofs.Standing.{built_stands}
 use Rattle.cluster_core.specs.View.{ClusterView, Held, Runs, arrived, arrived_held, held_at, held_of, page_held}
 use Rattle.cluster_core.specs.Residents.{pids_in}

@@ -85,7 +85,7 @@ use Rattle.mark_laws.specs.Beside.{is_some_page}
 use Rattle.cert_sched.specs.Simulation.{IsUnended}
 use Rattle.cert_sched.proofs.BuiltCuts.{by_home_there}
 use Rattle.cluster_core.proofs.KeptLimits.{told_within}
-use Rattle.cluster_core.proofs.LimitStubs.{sent_stays}
+use Rattle.limit_laws.proofs.StayingLimits.{sent_stays}
 
 -- ---- what an entry leaves of a process
 
