@@ -27,11 +27,10 @@ use Rattle.limit_laws.proofs.StayingLimits.{left_keeps}
 -- a page of the process changes neither its start nor the letters that it has read
 pub page_keeps : (system : System) (log : List Entry) (k : ClusterNo) (p : Pid) (s : ProcState) (i : ℕ) → keeps_limits system (log ++ entry_of system log (page_left k p s i) ∷ []) p s ≡ keeps_limits system log p s
 page_keeps system log k p s i =
-    λ j. leb ((s.small).steps - option_map_or (λ (q : ProcState). (q.small).steps) (page_start system log page p (s.small).steps i (page_at s.memory i) refl p j) 0) system.syncsteps
-    && leb (length (numbers_read (page_saved system log page p (s.small).steps i (page_at s.memory i) refl p j) s.mail)) system.syncreads
-  where
-    abbrev page : Entry
-    page = entry_of system log (page_left k p s i)
+    let page = entry_of system log (page_left k p s i) in
+    let start = page_start system log page p (s.small).steps i (page_at s.memory i) refl p in
+    let saved = page_saved system log page p (s.small).steps i (page_at s.memory i) refl p in
+    λ j. leb ((s.small).steps - option_map_or (λ (q : ProcState). (q.small).steps) (start j) 0) system.syncsteps && leb (length (numbers_read (saved j) s.mail)) system.syncreads
 
 -- the posts that are left of a batch keep the limits, post by post, where the process does
 pub rest_keeps_limits : (system : System) (log : List Entry) (k : ClusterNo) (p : Pid) (s : ProcState) (read indices : List ℕ) → BatchMay system log k p s read indices → keeps_limits system log p s ≡ true
