@@ -42,7 +42,6 @@ pub mod Following
 pub mod Owning
 mod Catching
 mod FirstServer
-mod LimitStubs
 pub mod Within
 mod KeptLimits
 mod BeginSync

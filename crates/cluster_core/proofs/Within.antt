@@ -33,7 +33,8 @@ use Rattle.limit_laws.proofs.OwnCounts.{own_limits}
 use Rattle.cluster_core.specs.View.{Held, Runs, Rolls, Waits, IsHeldWithin, limits_of}
 use Rattle.cluster_core.specs.Quantum.{RollsTo}
 use Rattle.cluster_core.specs.Holds.{CarriesMarks, IsHeldAs, MarkedIfThere, unended_process}
-use Rattle.cluster_core.proofs.LimitStubs.{caught_limits}
+use Rattle.recovery_cost.proofs.CaughtLimits.{caught_limits}
+use Rattle.cluster_core.specs.Follows.{IsOpen}
 
 -- ---- a process that runs
 
@@ -99,7 +100,7 @@ synced_within system process = start_within (limits_of system) (synced process) 
 
 -- ---- steps of roll-forward
 
-module _ (system : System) (log : List Entry) (p : Pid) (valid : is_system system ≡ true) (legal : IsLegalBy BuiltMayFollow system log) (unended : IsUnended system log p) where
+module _ (system : System) (log : List Entry) (p : Pid) (valid : is_system system ≡ true) (open_log : IsOpen BuiltMayFollow system log) (unended : IsUnended system log p) where
   -- one that has just caught up is within its limits
   caught_within : (n : ℕ) (s : Process) (counts : Counts) (births : List Pid) (q : Process) → RollsBehind system log p (state_of s) counts births → RollsTo n (Rolls s counts births) (Runs q) → IsHeldAs system log [] p (Runs q)
       → MarkedIfThere CarriesMarks system log p (unended_process (Runs q)) → is_within (limits_of system) q ≡ true
@@ -108,9 +109,9 @@ module _ (system : System) (log : List Entry) (p : Pid) (valid : is_system syste
       let unborn = rolls.1 in
       let on = rolls.2 in
       let count : n + 0 ≡ n = omega arith in
-      let all = built_stands system log legal in
+      let all = built_stands system log open_log.0 in
       sym (own_within system log p q (runs_marked system log p q valid held all unended (carried system log p q valid held all unended marks)))
-      ∙ caught_limits system log p s q counts left births unborn n valid legal unended behind (subst (RunsOut (state_of s) counts births) count on.runs_out) on.rolled
+      ∙ caught_limits system log p s q counts left births unborn n valid open_log.0 open_log.1 unended behind (subst (RunsOut (state_of s) counts births) count on.runs_out) on.rolled
 
   -- so steps that are withheld leave a process within its limits
   pub rolled_within : (n : ℕ) (was between : Held) → IsHeldAs system log [] p was → RollsTo n was between → IsHeldAs system log [] p between → MarkedIfThere CarriesMarks system log p (unended_process between)

@@ -340,7 +340,7 @@ module _ (c : ClusterView) (p : Pid) (was : Held) (empty : c.queue ≡ []) (ther
   -- steps that are withheld leave it within its limits
   pub within_between : (n : ℕ) (between : Held) → RollsTo n was between → IsHeldWithin (limits_of c.system) between
   within_between n between rolls =
-      rolled_within c.system log p valid now.0 (ap is_some home_of_it.found) n was between (subst (λ ps. IsHeldAs c.system log ps p was) empty ((f.processes).held p was there)) rolls
+      rolled_within c.system log p valid now (ap is_some home_of_it.found) n was between (subst (λ ps. IsHeldAs c.system log ps p was) empty ((f.processes).held p was there)) rolls
       (held_between n between rolls) (marked_between n between rolls) (f.limits p was there)
 
   pub moved_marked : (new : Held) → Moves (limits_of c.system) 64 was new → MarkedIfThere CarriesMarks c.system log p (unended_process new)
