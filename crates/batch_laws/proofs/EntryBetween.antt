@@ -88,7 +88,7 @@ not_done places (Done rests) goes_on = goes_on
 not_done places _ goes_on = refl
 
 -- letters that come, in one step
-as_delivered : (s : ProcState) (letters : List Letter) → with_letters s letters ≡ all_delivered s letters
+pub as_delivered : (s : ProcState) (letters : List Letter) → with_letters s letters ≡ all_delivered s letters
 as_delivered s [] = refl
 as_delivered s (l ∷ letters) = as_delivered (delivered s l) letters
 

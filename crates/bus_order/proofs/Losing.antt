@@ -40,6 +40,7 @@ crash_may_follow system log k cause legal goes_on lives = record {
     kind = lives;
   };
   built = refl;
+  limits = refl;
   new_page = refl;
   pages = refl;
 }

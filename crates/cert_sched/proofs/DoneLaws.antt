@@ -148,6 +148,7 @@ done_may_follow system log rests valid legal goes_on rest =
         };
       };
       built = refl;
+      limits = refl;
       new_page = refl;
       pages = refl;
     }

@@ -29,10 +29,11 @@ use Rattle.roll_forward.specs.Replay.{replayed}
 use Rattle.roll_forward.specs.RunsOut.{RunsOut}
 use Rattle.cert_sched.specs.Rolling.{refilled}
 use Rattle.cert_sched.specs.Record.{backup_record}
-use Rattle.cert_sched.specs.Steps.{process_of, after_items, steps_since, reads_since, start_steps, saved_of}
-use Rattle.cert_sched.specs.Rules.{holds_of, is_limited, is_within_limits, keeps_limits}
+use Rattle.cert_sched.specs.Steps.{after_items, steps_since, reads_since, start_steps, saved_of}
+use Rattle.cert_sched.specs.Rules.{is_within_limits, keeps_limits}
 use Rattle.cert_sched.specs.Kinds.{KindHolds}
-use Rattle.cert_sched.specs.Legal.{IsLegalBy, IsLegal, MayFollow}
+use Rattle.cert_sched.specs.Legal.{Stands, IsLegalBy, IsLegal, MayFollow}
+use Rattle.cert_sched.specs.Built.{BuiltMayFollow, KeepsLimits}
 use Rattle.cert_sched.specs.Simulation.{RecordLeads}
 use Rattle.cert_sched.proofs.LogLaws.{IsLegal-snoc}
 use Rattle.cert_sched.proofs.RecordLaws.{start_of-snoc, since-snoc, saved_letters-start}
@@ -42,7 +43,7 @@ use Rattle.cert_sched.proofs.MailLaws.{received, process_after-sender, boot_arri
 use Rattle.cert_sched.proofs.EndedLaws.{letter_told}
 use Rattle.cert_sched.proofs.ReplayLaws.{Replays, Sharp, replays_on, replays_none, replays_all_delivered, replays_goes_on, replays_counts, replays_computes, sharp_replays, sharp_on, sharp_last, sharp_all_delivered, all_delivered-is, first_is}
 use Rattle.cert_sched.proofs.ReadLaws.{read_count, reads_more, reads_none}
-use Rattle.cert_sched.proofs.CameLaws.{Goes, Came, went_on, was_cut, was_born, came, received-all}
+use Rattle.cert_sched.proofs.CameLaws.{IsStandingRule, Goes, Came, went_on, was_cut, was_born, came, received-all}
 use Rattle.cert_sched.proofs.RollLaws.{Rolls, rolls_next, all_roll, two_apart, refilled_more, goes_not_ended}
 use Rattle.cert_sched.proofs.RunsOutLaws.{replays_fine, sharp_runs_out, runs_out_once, record_of, start_ends}
 
@@ -117,7 +118,7 @@ module _ (system : System) (log : List Entry) (e : Entry) where
           subst (Limit (Exit q at end)) pid sent
       by_pid false apart = λ now there. inl (ap (λ b. cond b (Sends (Ended end) ∷ []) []) apart)
 
-  limit_by : (w : What) → what e ≡ w → is_some (plain_after system (log ++ e ∷ [])) ≡ true → KindHolds system log e w → holds_of (is_limited w) (process_of w) (is_within_limits system log w) ≡ true → (p : Pid) → Limit w p
+  limit_by : (w : What) → what e ≡ w → is_some (plain_after system (log ++ e ∷ [])) ≡ true → KindHolds system log e w → KeepsLimits system log w → (p : Pid) → Limit w p
   limit_by (Mail at letter) is applies kind limits p = mail_limit at letter is kind limits p
   limit_by (Birth parent at child end) is applies kind limits p = absurd (no_birth system log e parent at child end is applies)
   limit_by (Exit q at end) is applies kind limits p = exit_limit q at end is kind limits p
@@ -147,11 +148,11 @@ pub record Limited (system : System) (log : List Entry) (p : Pid) (now : ProcSta
   pub reads : read_count (saved_letters log p start) there.mail ≤ system.syncreads
 
 -- the steps and the reads of a state that keeps the limits
-record Bounds (system : System) (log : List Entry) (p : Pid) (start s : ProcState) : Type 0 where
+pub record Bounds (system : System) (log : List Entry) (p : Pid) (start s : ProcState) : Type 0 where
   pub steps : (s.small).steps ≤ (start.small).steps + system.syncsteps
   pub reads : read_count (saved_letters log p start) s.mail ≤ system.syncreads
 
-bounds_of : (system : System) (log : List Entry) (p : Pid) (start s : ProcState) → start_of system log p ≡ Some start → keeps_limits system log p s ≡ true → Bounds system log p start s
+pub bounds_of : (system : System) (log : List Entry) (p : Pid) (start s : ProcState) → start_of system log p ≡ Some start → keeps_limits system log p s ≡ true → Bounds system log p start s
 bounds_of system log p start s started keeps =
     let both = and_parts (leb (steps_since system log p s) system.syncsteps) (leb (reads_since system log p s) system.syncreads) keeps in
     let at : start_steps system log p ≡ (start.small).steps = ap (λ o. option_map_or (λ (s : ProcState). (s.small).steps) o 0) started in
@@ -184,11 +185,12 @@ module _ (system : System) (log : List Entry) (e : Entry) (p : Pid) where
         reads = subst (λ ls. read_count ls now.mail ≤ system.syncreads) (sym mail) (omega (arith, none));
       }
 
-  started_same : (start : ProcState) → starts p e ≡ false → start_of system log p ≡ Some start → start_of system (log ++ e ∷ []) p ≡ Some start
+  -- an entry that starts it not anew leaves where it started
+  pub started_same : (start : ProcState) → starts p e ≡ false → start_of system log p ≡ Some start → start_of system (log ++ e ∷ []) p ≡ Some start
   started_same start quiet started = start_of-snoc system log e p ∙ ap (λ b. cond b (process_after system (log ++ e ∷ []) p) (start_of system log p)) quiet ∙ started
 
   -- the letters of the entry are read by none
-  reads_on : (start s : ProcState) → all_delivered (refilled log p start) (letter_for p (what e)) ≡ refilled (log ++ e ∷ []) p start → s.next ≡ arrived_count log p → read_count (saved_letters log p start) s.mail ≤ system.syncreads
+  pub reads_on : (start s : ProcState) → all_delivered (refilled log p start) (letter_for p (what e)) ≡ refilled (log ++ e ∷ []) p start → s.next ≡ arrived_count log p → read_count (saved_letters log p start) s.mail ≤ system.syncreads
       → read_count (saved_letters (log ++ e ∷ []) p start) (all_delivered s (letter_for p (what e))).mail ≤ system.syncreads
   reads_on start s more next within =
       let letters = letter_for p (what e) in
@@ -275,12 +277,13 @@ module _ (system : System) (log : List Entry) (e : Entry) (p : Pid) where
 
 -- ---- the whole
 
-abbrev AllLimited : System → List Entry → Type 0
+-- in a log each process that has not ended is within the limits of its last cut
+abbrev pub AllLimited : System → List Entry → Type 0
 AllLimited system log = (p : Pid) (now : ProcState) → process_after system log p ≡ Some now → has_ended (now.small).status ≡ false → Limited system log p now
 
-record Both (system : System) (log : List Entry) : Type 0 where
-  pub legal : IsLegal system log
-  pub limited : AllLimited system log
+-- by this rule an entry stands, and keeps the limits between two cuts
+abbrev pub IsLimitingRule : (System → List Entry → Entry → Type 0) → Type 0
+IsLimitingRule May = (system : System) (log : List Entry) (e : Entry) → May system log e → Stands system log e × KeepsLimits system log (what e)
 
 at_boot : (system : System) → AllLimited system []
 unfolding plain_after
@@ -299,37 +302,67 @@ at_boot system p now there goes_on =
       reads = subst (λ ls. read_count ls now.mail ≤ system.syncreads) (sym (append-nil now.mail)) (omega (arith, none));
     }
 
-both_more : (system : System) → is_system system ≡ true → (log : List Entry) (e : Entry) → Both system log → MayFollow system log e → Both system (log ++ e ∷ [])
-both_more system valid log e both may = record {
-  legal = legal;
-  limited = λ p now there goes_on.
-      let before = all_roll MayFollow (λ system log e may. may.stands) system log valid both.legal in
-      let after = all_roll MayFollow (λ system log e may. may.stands) system (log ++ e ∷ []) valid legal in
-      limited_more system log e p now there goes_on (came system log e may.stands (two_apart system log before) p now there goes_on)
-      (limit_by system log e (what e) refl (may.stands).applies (may.stands).kind may.limits p now there) (after.rolls p now there goes_on) (before.rolls p) (both.limited p);
-}
-  where
-    legal : IsLegal system (log ++ e ∷ [])
-    legal = IsLegal-snoc MayFollow system log e both.legal may
+module _ (May : System → List Entry → Entry → Type 0) (limiting : IsLimitingRule May) where
+  record Both (system : System) (log : List Entry) : Type 0 where
+    pub legal : IsLegalBy May system log
+    pub limited : AllLimited system log
 
-none_legal : (system : System) → IsLegal system []
-unfolding IsLegalBy
-none_legal system = tt
+  none_both : (system : System) → Both system []
+  unfolding IsLegalBy
+  none_both system = record { legal = tt; limited = at_boot system }
+
+  both_more : (system : System) → is_system system ≡ true → (log : List Entry) (e : Entry) → Both system log → May system log e → Both system (log ++ e ∷ [])
+  both_more system valid log e both may = record {
+    legal = legal;
+    limited = λ p now there goes_on.
+        let before = all_roll May standing system log valid both.legal in
+        let after = all_roll May standing system (log ++ e ∷ []) valid legal in
+        limited_more system log e p now there goes_on (came system log e keeps.0 (two_apart system log before) p now there goes_on)
+        (limit_by system log e (what e) refl (keeps.0).applies (keeps.0).kind keeps.1 p now there) (after.rolls p now there goes_on) (before.rolls p) (both.limited p);
+  }
+    where
+      standing : IsStandingRule May
+      standing system log e may = (limiting system log e may).0
+
+      keeps : Stands system log e × KeepsLimits system log (what e)
+      keeps = limiting system log e may
+
+      legal : IsLegalBy May system (log ++ e ∷ [])
+      legal = IsLegal-snoc May system log e both.legal may
+
+-- By a rule that keeps the limits each process that has not ended is within those of its last cut.
+pub all_limited_by : (May : System → List Entry → Entry → Type 0) → IsLimitingRule May → (system : System) (log : List Entry) → is_system system ≡ true → IsLegalBy May system log → AllLimited system log
+all_limited_by May limiting system log valid legal =
+    (legal_induction May system (Both May limiting system) (none_both May limiting system) (both_more May limiting system valid) log legal).limited
+
+-- by the rules of a legal log each entry keeps the limits
+pub legal_limits : IsLimitingRule MayFollow
+legal_limits system log e may = (may.stands, may.limits)
+
+-- and by those of what is built
+pub built_limits : IsLimitingRule BuiltMayFollow
+built_limits system log e may = (may.stands, may.limits)
 
 -- in a legal log each process that has not ended is within the limits of its last cut
 pub all_limited : (system : System) (log : List Entry) → is_system system ≡ true → IsLegal system log → AllLimited system log
-all_limited system log valid legal =
-    (legal_induction MayFollow system (Both system) (record { legal = none_legal system; limited = at_boot system }) (both_more system valid) log legal).limited
+all_limited = all_limited_by MayFollow legal_limits
 
--- its record leads to its last deed
-record Ahead (system : System) (log : List Entry) (p : Pid) (r : BackRec) (leads_start leads_there : ProcState) (ahead : ℕ) : Type 0 where
+-- and in a log of what is built
+pub built_limited : (system : System) (log : List Entry) → is_system system ≡ true → IsLegalBy BuiltMayFollow system log → AllLimited system log
+built_limited = all_limited_by BuiltMayFollow built_limits
+
+-- ---- its record
+
+-- The record of a process leads to its last deed: the counts and births of the record run out within the steps between two cuts, and on the way
+-- the process reads no more letters than between two cuts.
+pub record Ahead (system : System) (r : BackRec) (leads_there : ProcState) (ahead : ℕ) : Type 0 where
   pub within : ahead ≤ system.syncsteps
-  pub reads : read_count (saved_letters log p leads_start) leads_there.mail ≤ system.syncreads
+  pub reads : read_count r.saved leads_there.mail ≤ system.syncreads
 
-ahead_of : (system : System) (log : List Entry) (p : Pid) (now : ProcState) (r : BackRec) → is_system system ≡ true → IsLegal system log → process_after system log p ≡ Some now → has_ended (now.small).status ≡ false
-    → (leads : RecordLeads system log p r now) → backup_record system log p ≡ Some r → Ahead system log p r leads.start leads.there leads.ahead
-ahead_of system log p now r valid legal there goes_on leads is =
-    let l = all_limited system log valid legal p now there goes_on in
+-- where a process is within the limits of its last cut, its record leads so
+pub ahead_of : (system : System) (log : List Entry) (p : Pid) (now : ProcState) (r : BackRec) → Limited system log p now → has_ended (now.small).status ≡ false → (leads : RecordLeads system log p r now) → backup_record system log p ≡ Some r
+    → Ahead system r leads.there leads.ahead
+ahead_of system log p now r l goes_on leads is =
     let same : l.start ≡ leads.start = some_same l.start leads.start (sym l.started ∙ leads.started) in
     let record_is = record_of system log p l.start r l.started is in
     let s = refilled log p l.start in
@@ -345,16 +378,22 @@ ahead_of system log p now r valid legal there goes_on leads is =
     let within = l.within in
     record {
       within = omega (arith, one, within);
-      reads = subst (λ (x : ProcState). read_count (saved_letters log p leads.start) x.mail ≤ system.syncreads) (sym to) (subst (λ x. read_count (saved_letters log p x) (l.there).mail ≤ system.syncreads) same l.reads);
+      reads =
+          subst (λ ls. read_count ls (leads.there).mail ≤ system.syncreads) leads.saved
+          (subst (λ (x : ProcState). read_count (saved_letters log p leads.start) x.mail ≤ system.syncreads) (sym to) (subst (λ x. read_count (saved_letters log p x) (l.there).mail ≤ system.syncreads) same l.reads));
     }
 
--- so the counts and births of its record run out within the steps between two cuts
-pub record_within : (system : System) (log : List Entry) (p : Pid) (now : ProcState) (r : BackRec) → is_system system ≡ true → IsLegal system log → process_after system log p ≡ Some now → has_ended (now.small).status ≡ false
-    → (leads : RecordLeads system log p r now) → backup_record system log p ≡ Some r → leads.ahead ≤ system.syncsteps
-record_within system log p now r valid legal there goes_on leads is = (ahead_of system log p now r valid legal there goes_on leads is).within
+-- so it is by a rule that keeps the limits
+pub record_ahead_by : (May : System → List Entry → Entry → Type 0) → IsLimitingRule May → (system : System) (log : List Entry) (p : Pid) (now : ProcState) (r : BackRec) → is_system system ≡ true → IsLegalBy May system log
+    → process_after system log p ≡ Some now → has_ended (now.small).status ≡ false → (leads : RecordLeads system log p r now) → backup_record system log p ≡ Some r → Ahead system r leads.there leads.ahead
+record_ahead_by May limiting system log p now r valid legal there goes_on = ahead_of system log p now r (all_limited_by May limiting system log valid legal p now there goes_on) goes_on
 
--- and on the way it reads no more letters than between two cuts
-pub record_reads : (system : System) (log : List Entry) (p : Pid) (now : ProcState) (r : BackRec) → is_system system ≡ true → IsLegal system log → process_after system log p ≡ Some now → has_ended (now.small).status ≡ false
-    → (leads : RecordLeads system log p r now) → backup_record system log p ≡ Some r → read_count r.saved (leads.there).mail ≤ system.syncreads
-record_reads system log p now r valid legal there goes_on leads is =
-    subst (λ ls. read_count ls (leads.there).mail ≤ system.syncreads) leads.saved (ahead_of system log p now r valid legal there goes_on leads is).reads
+-- in a legal log
+pub record_ahead : (system : System) (log : List Entry) (p : Pid) (now : ProcState) (r : BackRec) → is_system system ≡ true → IsLegal system log → process_after system log p ≡ Some now → has_ended (now.small).status ≡ false
+    → (leads : RecordLeads system log p r now) → backup_record system log p ≡ Some r → Ahead system r leads.there leads.ahead
+record_ahead = record_ahead_by MayFollow legal_limits
+
+-- and in a log of what is built
+pub built_record_ahead : (system : System) (log : List Entry) (p : Pid) (now : ProcState) (r : BackRec) → is_system system ≡ true → IsLegalBy BuiltMayFollow system log → process_after system log p ≡ Some now
+    → has_ended (now.small).status ≡ false → (leads : RecordLeads system log p r now) → backup_record system log p ≡ Some r → Ahead system r leads.there leads.ahead
+built_record_ahead = record_ahead_by BuiltMayFollow built_limits

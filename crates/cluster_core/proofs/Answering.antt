@@ -85,6 +85,7 @@ module _ (c : ClusterView) (served : Option PagerState) (post : Post) (owed : ow
       kind = page_holds c.system log a.was a.pid a.index a.bytes (subst (KeepsIfThere c.system log) a.old_is (f.accounts).keeps) a.waits a.page;
     };
     built = refl;
+    limits = refl;
     new_page = refl;
     pages = refl;
   }
@@ -118,6 +119,7 @@ module _ (c : ClusterView) (served : Option PagerState) (post : Post) (owed : ow
     };
     queued = inl (record { queued = One post; posts = refl; together = ap (λ (p : Post). is_lone p.what) a.post_is });
     steps = record { counted = λ kept. more_counted (least_steps log log c.number + cond c.tried 1 0) c.steps ((f.steps).counted kept) };
+    limits = f.limits;
     pages = f.pages;
     marks = λ q h there.
         marks_queued c log post valid empty go f (ap (λ (p : Post). is_lone p.what) a.post_is) (ap (λ (p : Post). is_from c.number p.by) a.post_is ∙ eq-eqb (c.number).0 (c.number).0 refl) (may_then log go f) q h there (held_then log empty f q h there)

@@ -19,7 +19,7 @@ use Rattle.cert_sched.specs.Built.{UnlostMayFollow}
 use Rattle.cert_sched.specs.Deeds.{arrived_count}
 use Rattle.cert_sched.specs.Legal.{IsLegalBy, Stands}
 use Rattle.cert_sched.specs.Losses.{is_by_cluster, is_from, is_page_is_entry, least_calls}
-use Rattle.cert_sched.specs.Rules.{has_its_pages}
+use Rattle.cert_sched.specs.Rules.{has_its_pages, keeps_limits}
 use Rattle.cert_sched.specs.Simulation.{IsUnended}
 use Rattle.page_laws.proofs.Keeping.{pages_kept}
 use Rattle.page_laws.proofs.OneEntry.{moves_none}
@@ -29,6 +29,8 @@ use Rattle.batch_laws.specs.Underway.{BatchMay, page_left, posts_left, sync_left
 use Rattle.batch_laws.proofs.QueuedBatch.{queued_before, queued_kept, queued_others, queued_own, queued_sent_before}
 use Rattle.batch_laws.proofs.RestMarks.{rest_marks}
 use Rattle.batch_laws.proofs.RestStands.{rest_is_new, rest_stands}
+use Rattle.limit_laws.specs.Within.{AllKeepLimits}
+use Rattle.limit_laws.proofs.RestLimits.{rest_keeps_limits}
 use Rattle.cluster_core.specs.Queue.{IsQueueLegal, move_of, with_queue}
 use Rattle.cluster_core.specs.Holds.{CarriesMarks, MarkedIfThere, is_fetch_queued}
 use Rattle.cluster_core.proofs.Counted.{count_by-snoc}
@@ -73,18 +75,20 @@ module _ (k : ClusterNo) (p : Pid) (s : ProcState) (read : List ℕ) where
     batch_calls heard log j (i ∷ js) =
         batch_calls heard (log ++ entry_of system log (page_left k p s i) ∷ []) j js ∙ calls_still heard log (entry_of system log (page_left k p s i)) j refl
 
-    -- the posts of a process that has its pages may follow where they stand and are new
-    legal_so : (log : List Entry) (indices : List ℕ) → has_its_pages system log p ≡ true → AllStand system log (posts_left k p s read indices) → AllNew system log (posts_left k p s read indices) → IsQueueLegal UnlostMayFollow system log (posts_left k p s read indices)
-    legal_so log [] has stand new = (record { stands = stand.0; built = refl; new_page = new.0; pages = has }, tt)
-    legal_so log (i ∷ js) has stand new =
-        let e : Entry = entry_of system log (page_left k p s i) in (
-          record { stands = stand.0; built = refl; new_page = new.0; pages = has },
-          legal_so (log ++ e ∷ []) js (pages_kept system log e p stand.0 (moves_none system log e refl p) has) stand.1 new.1,
+    -- the posts of a process that has its pages may follow where they stand, are new and keep the limits
+    legal_so : (log : List Entry) (indices : List ℕ) → has_its_pages system log p ≡ true → AllStand system log (posts_left k p s read indices) → AllNew system log (posts_left k p s read indices) → AllKeepLimits system log (posts_left k p s read indices) → IsQueueLegal UnlostMayFollow system log (posts_left k p s read indices)
+    legal_so log [] has stand new keep = (record { stands = stand.0; built = refl; limits = keep.0; new_page = new.0; pages = has }, tt)
+    legal_so log (i ∷ js) has stand new keep =
+        let e : Entry = entry_of system log (page_left k p s i) in
+        (
+          record { stands = stand.0; built = refl; limits = keep.0; new_page = new.0; pages = has },
+          legal_so (log ++ e ∷ []) js (pages_kept system log e p stand.0 (moves_none system log e refl p) has) stand.1 new.1 keep.1,
         )
 
-    -- The posts of a process that has its pages may follow, one after the other.
-    pub batch_legal : (log : List Entry) (indices : List ℕ) → is_system system ≡ true → IsLegalBy Stands system log → has_its_pages system log p ≡ true → BatchMay system log k p s read indices → IsQueueLegal UnlostMayFollow system log (posts_left k p s read indices)
-    batch_legal log indices valid legal has b = legal_so log indices has (rest_stands system log k p s read indices valid legal b) (rest_is_new system log k p s read indices b)
+    -- The posts of a process that has its pages and is within the limits may follow, one after the other.
+    pub batch_legal : (log : List Entry) (indices : List ℕ) → is_system system ≡ true → IsLegalBy Stands system log → has_its_pages system log p ≡ true → keeps_limits system log p s ≡ true → BatchMay system log k p s read indices → IsQueueLegal UnlostMayFollow system log (posts_left k p s read indices)
+    batch_legal log indices valid legal has keeps b =
+        legal_so log indices has (rest_stands system log k p s read indices valid legal b) (rest_is_new system log k p s read indices b) (rest_keeps_limits system log k p s read indices b keeps)
 
     module _ (log : List Entry) (indices : List ℕ) (valid : is_system system ≡ true) (legal : IsLegalBy Stands system log) (b : BatchMay system log k p s read indices) where
       -- Another process to which no more letters came than the log has for it carries with the posts the marks that it carried without,

@@ -97,6 +97,7 @@ module _ (system : System) (log : List Entry) (c : ClusterView) (y : Synchronise
     queue = record { own = refl; legal = tt };
     queued = record { queued = Nothing; posts = refl; together = tt };
     steps = record { counted = (f.steps).counted };
+    limits = f.limits;
     pages = f.pages;
     marks = marks;
     records = f.records;
@@ -144,10 +145,11 @@ module _ (system : System) (log : List Entry) (c : ClusterView) (y : Synchronise
     processes = record { held = held; each_once = (f.processes).each_once };
     queue = record {
       own = ap (λ ps. list_all_own ps) y.posts ∙ batch_own c.number p s y.read y.indices;
-      legal = subst (IsQueueLegal UnlostMayFollow system log) (sym y.posts) (batch_legal c.number p s y.read system log y.indices valid legal (f.pages p (Runs y.process) y.there refl) y.may);
+      legal = subst (IsQueueLegal UnlostMayFollow system log) (sym y.posts) (batch_legal c.number p s y.read system log y.indices valid legal (f.pages p (Runs y.process) y.there refl) y.within y.may);
     };
     queued = inr y;
     steps = record { counted = (f.steps).counted };
+    limits = f.limits;
     pages = f.pages;
     marks = marks;
     records = f.records;

@@ -6,29 +6,22 @@ use Rattle.t32_base.specs.declared.process.Pid.{Pid}
 use Rattle.sys_text.specs.declared.system.System.{System}
 use Rattle.sys_text.specs.Valid.{is_system}
 use Rattle.proc_state.specs.declared.process.Process.{Process}
-use Rattle.proc_state.specs.State.{state_of, has_ended}
-use Rattle.plain_kernel.specs.Kernel.{process_at}
+use Rattle.proc_state.specs.State.{state_of}
 use Rattle.bus_msg.specs.declared.entry.By.TheVariants.{Cluster}
 use Rattle.bus_msg.specs.declared.entry.Entry.{Entry}
 use Rattle.bus_msg.specs.Places.{same_pid}
 use Rattle.cert_sched.specs.Parts.{rising}
-use Rattle.cert_sched.specs.Schedule.{done, placement, process_after}
+use Rattle.cert_sched.specs.Schedule.{placement}
 use Rattle.cert_sched.specs.Steps.{silent_upto}
 use Rattle.cert_sched.specs.Legal.{IsLegalBy, Stands}
 use Rattle.cert_sched.specs.Built.{BuiltMayFollow}
 use Rattle.cert_sched.specs.Losses.{capped, least_calls, least_steps}
 use Rattle.cert_sched.specs.Rules.{has_its_pages}
-use Rattle.cert_sched.specs.Simulation.{IsUnended}
-use Rattle.cert_sched.proofs.MailLaws.{silent_upto-ends}
-use Rattle.cert_sched.proofs.OpenLaws.{unended_open}
-use Rattle.cert_sched.proofs.StepLaws.{SilentFrom, silent_from}
-use Rattle.page_laws.proofs.SizesStay.{process_sized}
-use Rattle.record_laws.proofs.Standing.{built_stands, itself}
+use Rattle.record_laws.proofs.Standing.{built_stands}
 use Rattle.sync_point.specs.Batch.{batch, marked_pages, synced}
 use Rattle.quanta.specs.Limited.{is_due}
 use Rattle.sync_laws.specs.Running.{RunsMarked}
 use Rattle.sync_laws.specs.Sending.{MaySend}
-use Rattle.sync_laws.proofs.SilentSizes.{silent_sizes}
 use Rattle.batch_laws.specs.Underway.{BatchMay, posts_left}
 use Rattle.batch_laws.proofs.BatchBegins.{batch_begins, batch_posts}
 use Rattle.batch_laws.proofs.NoBirths.{no_children}
@@ -44,7 +37,8 @@ use Rattle.cluster_core.proofs.Here.{found_changed, is_among, pids_changed, same
 use Rattle.cluster_core.proofs.Homes.{HomeHere, differ_built, home_here, home_lives}
 use Rattle.cluster_core.proofs.Batching.{all_but, unqueued, with_batch}
 use Rattle.cluster_core.proofs.Beside.{FollowsBeside}
-use Rattle.cluster_core.proofs.Working.{held_beside, home_by, more_counted, pages_beside, turned}
+use Rattle.cluster_core.proofs.Within.{carried, own_within, runs_marked, synced_within}
+use Rattle.cluster_core.proofs.Working.{held_beside, home_by, limits_beside, more_counted, pages_beside, turned}
 
 -- ---- a process that runs
 
@@ -62,24 +56,6 @@ changed_there p now (e ∷ here) was there = by_test (same_pid e.0 p) refl there
         → option_map (λ (e : Pid × Held). e.1) (find (λ (e : Pid × Held). same_pid e.0 p) (cond b (p, now) e ∷ with_changed p now here)) ≡ Some now
     by_test true is at more = first (same_pid p p) (same_itself p)
     by_test false is at more = ap (λ b. option_map (λ (e : Pid × Held). e.1) (cond b (Some e) (find (λ (e : Pid × Held). same_pid e.0 p) (with_changed p now here)))) is ∙ more at
-
--- a process to which silent steps lead
-module _ (system : System) (log : List Entry) (p : Pid) (process : Process) (valid : is_system system ≡ true) (reached : silent_upto system log p (process.small).steps ≡ Some (state_of process)) where
-  from : SilentFrom system log p (process.small).steps (state_of process)
-  from = silent_from system log p (process.small).steps (state_of process) reached
-
-  was_there : process_after system log p ≡ Some from.was
-  was_there = ap (option_and_then (λ k. process_at k p)) from.before ∙ from.there
-
-  -- it has not ended, where it has not in the log
-  still_runs : IsLegalBy Stands system log → IsUnended system log p → has_ended (process.small).status ≡ false
-  still_runs legal unended = silent_upto-ends system log p (process.small).steps from.was (state_of process) was_there reached ∙ unended_open Stands itself system log p valid legal unended from.was was_there
-
-  -- its memory has its pages
-  still_sized : length (process.ram).bytes ≡ 256 * (process.small).pages
-  still_sized =
-      let same = silent_sizes ((process.small).steps - done from.kernel p) from.was (state_of process) from.silent in
-      same.bytes ∙ process_sized system log p from.was valid was_there ∙ ap (λ n. 256 * n) (sym same.pages)
 
 -- ---- a process of a cluster that follows a log, where nothing is queued and the process is due
 
@@ -103,24 +79,14 @@ module _ (c : ClusterView) (p : Pid) (process : Process) (valid : is_system c.sy
   reached : silent_upto c.system log p (process.small).steps ≡ Some (state_of process)
   reached = held_so p (Runs process) there
 
-  runs : has_ended (process.small).status ≡ false
-  runs = still_runs c.system log p process valid reached legal (ap is_some home.found)
-
   has : has_its_pages c.system log p ≡ true
   has = f.pages p (Runs process) there refl
 
   carries : CarriesMarks c.system log p process
-  carries = subst (λ b. MarkedIfThere CarriesMarks c.system log p (cond b None (Some process))) runs (marked_so p (Runs process) (f.marks p (Runs process) there))
+  carries = carried c.system log p process valid reached legal (ap is_some home.found) (marked_so p (Runs process) (f.marks p (Runs process) there))
 
   marked : RunsMarked c.system log p process
-  marked = record {
-    valid = valid;
-    legal = legal;
-    reached = reached;
-    runs = runs;
-    sized = still_sized c.system log p process valid reached ∙ ap (λ n. 256 * n) carries.pages;
-    marked = carries.marked;
-  }
+  marked = runs_marked c.system log p process valid reached legal (ap is_some home.found) carries
 
   may_send : MaySend c.system log (Cluster c.number) p (state_of process)
   may_send = record { goes_on = go.1; by_home = home_by (placement c.system log) c.number p (home_lives c.system log p c.number valid go.0 go.1 home) home; reached = reached }
@@ -145,6 +111,7 @@ module _ (c : ClusterView) (p : Pid) (process : Process) (valid : is_system c.sy
     indices = marked_pages process;
     posts = posts;
     there = changed_there p (Runs (synced process)) c.here (Runs process) there;
+    within = own_within c.system log p process marked ∙ f.limits p (Runs process) there;
     may = begins;
     unread = refl;
     since = refl;
@@ -167,6 +134,7 @@ module _ (c : ClusterView) (p : Pid) (process : Process) (valid : is_system c.sy
     queue = record { own = refl; legal = tt };
     queued = record { queued = Nothing; posts = refl; together = tt };
     steps = record { counted = λ kept. more_counted (least_steps log log c.number + cond c.tried 1 0) c.steps ((f.steps).counted kept) };
+    limits = limits_beside c p (Runs (synced process)) f.limits (synced_within c.system process);
     pages = pages_beside c log p (Runs (synced process)) f.pages (λ some. has);
     marks = others_marked;
     records = f.records;

@@ -7,7 +7,7 @@ use Rattle.bus_msg.specs.declared.entry.Entry.{Entry}
 use Rattle.cert_sched.specs.Built.{UnlostMayFollow}
 use Rattle.cluster_core.specs.View.{ClusterView, Held, held_at}
 use Rattle.cluster_core.specs.Queue.{IsQueued, with_queue}
-use Rattle.cluster_core.specs.Holds.{CarriesMarks, HasNotFailed, HoldsAccounts, HoldsLog, HoldsPages, HoldsProcesses, HoldsQueue, HoldsRecords, HoldsSteps, MarkedIfThere, unended_process}
+use Rattle.cluster_core.specs.Holds.{CarriesMarks, HasNotFailed, HoldsAccounts, HoldsLimits, HoldsLog, HoldsPages, HoldsProcesses, HoldsQueue, HoldsRecords, HoldsSteps, MarkedIfThere, unended_process}
 use Rattle.cluster_core.specs.Follows.{FollowsBuilt}
 
 -- those of the processes that pass a test are marked as the log says
@@ -20,6 +20,7 @@ pub record FollowsBeside (which : Pid → Bool) (system : System) (entries : Lis
   pub queue : HoldsQueue UnlostMayFollow system entries c
   pub queued : IsQueued c.queue
   pub steps : HoldsSteps entries c
+  pub limits : HoldsLimits system c
   pub pages : HoldsPages system entries c
   pub marks : HoldsMarksOf which system entries c
   pub records : HoldsRecords system entries c
@@ -38,6 +39,7 @@ beside_of system log c f queued = record {
   queue = f.queue;
   queued = queued;
   steps = f.steps;
+  limits = f.limits;
   pages = f.pages;
   marks = λ p h there all. f.marks p h there;
   records = f.records;
@@ -52,6 +54,7 @@ built_of system log c f = record {
   queue = f.queue;
   queued = inl f.queued;
   steps = f.steps;
+  limits = f.limits;
   pages = f.pages;
   marks = λ p h there. f.marks p h there refl;
   records = f.records;

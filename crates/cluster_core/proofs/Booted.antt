@@ -43,13 +43,14 @@ use Rattle.cluster_core.specs.Holds.{IsHeldAs, CarriesMarks, MarkedIfThere, unen
 use Rattle.cluster_core.specs.Parts.{AllOwn, IsHeldOwn, IsOwn}
 use Rattle.cluster_core.specs.Queue.{Nothing}
 use Rattle.cluster_core.specs.Residents.{pids_in}
-use Rattle.cluster_core.specs.View.{ClusterView, Held, Runs, held_at, held_of}
+use Rattle.cluster_core.specs.View.{ClusterView, Held, Runs, held_at, held_of, IsHeldWithin, limits_of}
 use Rattle.cluster_core.proofs.Here.{is_among}
 use Rattle.cluster_core.proofs.Passing.{found_passing, passing, passing_apart, pids_pass, pids_under, process_is}
 use Rattle.cluster_core.proofs.Telling.{at_once}
 use Rattle.mark_laws.proofs.BootMarks.{boot_marks}
 use Rattle.mark_laws.proofs.SentPages.{sent_none}
 use Rattle.std.proofs.lemmas.List.{length-replicate}
+use Rattle.cluster_core.proofs.Within.{start_within}
 
 -- ---- the kernel at boot
 
@@ -216,6 +217,13 @@ marks_at_boot system number here is valid p h at =
       sent = sent_none system p (s.small).steps;
     }
 
+-- and is within its limits
+limits_at_boot : (system : System) (number : ClusterNo) (here : List (Pid × Held)) → AreBooted system number here → (p : Pid) (h : Held) → held_of here p ≡ Some h → IsHeldWithin (limits_of system) h
+limits_at_boot system number here is p h at =
+    let one = here_booted system number here is p h at in
+    let fresh = one.fresh in
+    subst (IsHeldWithin (limits_of system)) (sym one.is) (start_within (limits_of system) one.process fresh.unread (fresh.synced ∙ sym fresh.steps))
+
 -- a cluster at boot follows the empty log, where no call of its disk failed
 pub boot_follows : (system : System) (number : ClusterNo) (here : List (Pid × Held)) (recs : List BackRec) (server : Option PagerState) (failed : Option ℕ) → is_system system ≡ true → AreBooted system number here → KeepsRecords system [] number recs
     → is_some server ≡ is_server system number → BeginsToServe system server → (failed ≡ None) × IsAheadThere server → FollowsBuilt system [] (boot_view system number here recs server failed)
@@ -225,6 +233,7 @@ boot_follows system number here recs server failed valid is kept there begins so
   queue = record { own = refl; legal = tt };
   queued = inl (record { queued = Nothing; posts = refl; together = tt });
   steps = record { counted = λ lost. omega arith };
+  limits = limits_at_boot system number here is;
   pages = λ p h at some. pages_at_boot system p;
   marks = marks_at_boot system number here is valid;
   records = kept;

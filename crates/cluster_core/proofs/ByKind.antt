@@ -118,7 +118,7 @@ page_built = by_page (λ w. is_built w ≡ true) (λ pid index. refl) (λ pid in
 
 -- a post that may follow and tells of steps, as one that tells
 pub told_may : (system : System) (log : List Entry) (e : Entry) → UnlostMayFollow system log e → tells_or_closes (what e) ≡ true → TellingMayFollow system log e
-told_may system log e may tells = record { stands = may.stands; built = tells; pages = may.pages }
+told_may system log e may tells = record { stands = may.stands; built = tells; limits = may.limits; pages = may.pages }
 
 pub may_told : (system : System) (log : List Entry) (e : Entry) → TellingMayFollow system log e → UnlostMayFollow system log e
-may_told system log e may = record { stands = may.stands; built = telling_unlost (what e) may.built; new_page = telling_sends_no_page system log (what e) may.built; pages = may.pages }
+may_told system log e may = record { stands = may.stands; built = telling_unlost (what e) may.built; limits = may.limits; new_page = telling_sends_no_page system log (what e) may.built; pages = may.pages }

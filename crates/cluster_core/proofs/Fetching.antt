@@ -28,7 +28,7 @@ use Rattle.cluster_core.proofs.Here.{pids_changed, same_itself}
 use Rattle.cluster_core.proofs.Homes.{home_lives}
 use Rattle.cluster_core.proofs.Served.{accounts_queued}
 use Rattle.cluster_core.proofs.Waiting.{queued_alike}
-use Rattle.cluster_core.proofs.Working.{held_beside, home_by, home_of_it, more_counted, pages_beside, turned, marks_beside, marks_queued}
+use Rattle.cluster_core.proofs.Working.{held_beside, home_by, home_of_it, limits_beside, more_counted, pages_beside, turned, marks_beside, marks_queued}
 
 -- ---- the fetch
 
@@ -100,6 +100,7 @@ module _ (c : ClusterView) (p : Pid) (index : ℕ) (waiting : WaitingState) (emp
         kind = next_fetch c.system log p waiting waits index next;
       };
       built = refl;
+      limits = refl;
       new_page = refl;
       pages = refl;
     }
@@ -114,6 +115,7 @@ module _ (c : ClusterView) (p : Pid) (index : ℕ) (waiting : WaitingState) (emp
       queue = record { own = fetch_own c.number p index; legal = (fetch_follows, tt) };
       queued = inl (record { queued = One (fetch_post c.number p index); posts = refl; together = refl });
       steps = record { counted = λ kept. more_counted (least_steps log log c.number + cond c.tried 1 0) c.steps ((f.steps).counted kept) };
+      limits = limits_beside c p asked f.limits tt;
       pages = pages_beside c log p asked f.pages (λ some. absurd (true≢false (sym some)));
       marks = marks_beside c log p asked (fetch_post c.number p index ∷ []) f tt
           (λ q h other at. marks_queued c log (fetch_post c.number p index) valid empty go f refl (eq-eqb (c.number).0 (c.number).0 refl) fetch_follows q h at (others log q h other ((f.processes).held q h at)));

@@ -19,7 +19,8 @@ use Rattle.cert_sched.specs.Built.{tells_or_closes}
 use Rattle.cert_sched.specs.Deeds.{is_end_of, letter_for, to_process}
 use Rattle.cert_sched.proofs.StepLaws.{Tells}
 use Rattle.cert_sched.proofs.MailLaws.{with_arrival}
-use Rattle.cluster_core.specs.View.{Held, Runs, Rolls, arrived, arrived_held, held_of}
+use Rattle.quanta.specs.declared.limits.Limits.{Limits}
+use Rattle.cluster_core.specs.View.{Held, Runs, Rolls, Waits, IsHeldWithin, arrived, arrived_held, held_of}
 use Rattle.cluster_core.specs.Residents.{pids_in, with_changed}
 use Rattle.cluster_core.specs.Calls.{here_after, with_letter}
 use Rattle.cluster_core.proofs.ByKind.{by_kind}
@@ -161,6 +162,19 @@ arrival_small w p s = by_kind (λ w. (arrival_in w p s).small ≡ s.small) (λ a
     by_test : (letter : Letter) (b : Bool) → (cond b (arrived s letter) s).small ≡ s.small
     by_test letter true = refl
     by_test letter false = refl
+
+-- a letter changes neither its steps nor what it has read
+pub arrival_within : (limits : Limits) (w : What) (p : Pid) (h : Held) → tells_or_closes w ≡ true → IsHeldWithin limits h → IsHeldWithin limits (arrival_at w p h)
+arrival_within limits w p h tells within = by_kind (λ w. IsHeldWithin limits (arrival_at w p h)) (λ at letter. by_end letter (is_end_of p letter.to)) (λ pid at end. within) (λ rests. within) within w tells
+  where
+    by_held : (letter : Letter) (h : Held) → IsHeldWithin limits h → IsHeldWithin limits (arrived_held h letter)
+    by_held letter (Runs s) within = within
+    by_held letter (Rolls s counts births) within = tt
+    by_held letter (Waits waiting) within = tt
+
+    by_end : (letter : Letter) (b : Bool) → IsHeldWithin limits (cond b (arrived_held h letter) h)
+    by_end letter true = by_held letter h within
+    by_end letter false = within
 
 -- ---- one process has changed
 

@@ -42,6 +42,8 @@ pub mod Following
 pub mod Owning
 mod Catching
 mod FirstServer
+pub mod Within
+mod KeptLimits
 mod BeginSync
 pub mod Working
 mod Answering

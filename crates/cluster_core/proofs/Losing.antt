@@ -43,7 +43,7 @@ use Rattle.recovery.specs.Begun.{number_of}
 use Rattle.recovery_laws.specs.Behind.{RollsBehind}
 use Rattle.recovery_laws.proofs.KeepingBehind.{behind_standing}
 use Rattle.recovery_laws.proofs.ByRule.{built_stands as standing}
-use Rattle.cluster_core.specs.View.{ClusterView, Held, Runs, Rolls, Waits, held_of, next_count, with_server}
+use Rattle.cluster_core.specs.View.{ClusterView, Held, Runs, Rolls, Waits, held_of, next_count, with_server, IsHeldWithin, limits_of}
 use Rattle.cluster_core.specs.Residents.{pids_in}
 use Rattle.cluster_core.specs.Parts.{AllOwn}
 use Rattle.cluster_core.specs.Queue.{AreTogether, Queued, posts_of, IsQueueLegal, move_of, with_queue}
@@ -333,6 +333,7 @@ module _ (system : System) (valid : is_system system ≡ true) (log : List Entry
     };
     queued = f.queued;
     steps = record { counted = λ kept. counted_foreign c log e (ap (λ k. is_by_cluster k e) number_is ∙ foreign) ((f.steps).counted (lost_before log e c.number kept)) };
+    limits = limits;
     pages = pages;
     marks = marks;
     records = subst (λ k. KeepsRecords system later k (filter (stays places lost k) c.records)) (sym number_is) (loss_kept system log e lost k cause c.records valid (built_stands system later n.more) n.same apart keeps);
@@ -427,6 +428,13 @@ module _ (system : System) (valid : is_system system ≡ true) (log : List Entry
           by_either : (held_of c.here p ≡ Some h) ⊎ Recovery (λ r. Moves c.records r.pid r) p h → MarkedIfThere CarriesMarks system (with_queue system later (posts_of q)) p (unended_process h)
           by_either (inl there) = marks_still p h among there (held_still q p h (f.queued).together (home_of p h there) (subst (λ ps. IsHeldAs system log ps p h) queue_is ((f.processes).held p h there)))
           by_either (inr y) = subst (λ x. MarkedIfThere CarriesMarks system (with_queue system later (posts_of q)) p (unended_process x)) (sym y.is) tt
+
+      limits : (p : Pid) (h : Held) → held_of (with_all_waiting moved c.here) p ≡ Some h → IsHeldWithin (limits_of system) h
+      limits p h at = by_either (found p h at)
+        where
+          by_either : (held_of c.here p ≡ Some h) ⊎ Recovery (λ r. Moves c.records r.pid r) p h → IsHeldWithin (limits_of system) h
+          by_either (inl there) = f.limits p h there
+          by_either (inr y) = subst (IsHeldWithin (limits_of system)) (sym y.is) tt
 
       pages : (p : Pid) (h : Held) → held_of (with_all_waiting moved c.here) p ≡ Some h → is_some (process_in h) ≡ true → has_its_pages system later p ≡ true
       pages p h at runs = by_either (found p h at)

@@ -23,7 +23,7 @@ use Rattle.cert_sched.specs.Built.{BuiltMayFollow, TellingMayFollow, tells_or_cl
 use Rattle.cert_sched.specs.Legal.{IsLegalBy}
 use Rattle.cert_sched.specs.Losses.{is_by_cluster, is_from, is_crash_of}
 use Rattle.cert_sched.specs.Appended.{entry_of}
-use Rattle.cert_sched.specs.Rules.{is_over, is_by, is_living, is_by_home, home_at, is_by_right}
+use Rattle.cert_sched.specs.Rules.{is_over, is_by, is_living, is_by_home, home_at, is_by_right, keeps_limits}
 use Rattle.cert_sched.specs.Schedule.{items_of, placement}
 use Rattle.cert_sched.proofs.CoverLaws.{lives_on}
 use Rattle.cert_sched.proofs.LogLaws.{IsLegal-last, placement-snoc}
@@ -41,6 +41,12 @@ use Rattle.cert_sched.specs.Moved.{is_fetch}
 use Rattle.cluster_core.specs.Holds.{is_fetch_queued}
 use Rattle.cluster_core.proofs.PagePosts.{page_post_stays}
 use Rattle.cluster_core.proofs.HasPages.{waits_after}
+use Rattle.cert_sched.specs.Deeds.{is_birth_of, is_cut, letter_for}
+use Rattle.sys_calls.proofs.RunLemma.{all_delivered}
+use Rattle.record_laws.proofs.Standing.{built_stands}
+use Rattle.cert_sched.proofs.BuiltCuts.{by_home_there}
+use Rattle.cluster_core.proofs.KeptLimits.{told_within}
+use Rattle.limit_laws.proofs.StayingLimits.{sent_stays}
 
 -- the home of a process sends the fetches of its pages
 fetched_home : (places : Places) (by : By) (p : Pid) (i : ℕ) (w : What) → (tells_or_closes w ≡ true) ⊎ (is_of_page w ≡ true) → is_fetch p i w ≡ true → is_by_right places by w ≡ true → is_by by (home_at places p) ≡ true
@@ -115,11 +121,20 @@ module _ (system : System) (valid : is_system system ≡ true) (log : List Entry
   -- a post of a cluster that lives on and tells of steps may follow after the loss
   told_stays : (post : Post) → is_from k post.by ≡ true → TellingMayFollow system log (entry_of system log post) → TellingMayFollow system later (entry_of system later post)
   told_stays post own may =
-      post_may system later post u.pid u.at u.emission u.after n.more n.goes_on may.built u.tells (emission_same system log e none u.pid u.at ∙ u.is) at_home
+      post_may system later post u.pid u.at u.emission u.after n.more n.goes_on may.built u.tells (emission_same system log e none u.pid u.at ∙ u.is) at_home keeps
       (waits_after system log e k post (IsLegal-last BuiltMayFollow system log e n.more).stands (differ_built system log valid n.legal) not_here_lost may.built (ap (is_by_home places post.by) u.process ∙ u.by_home) own may.pages)
     where
       u : Telling system log (entry_of system log post)
       u = telling system log (entry_of system log post) may (no_end k places post.by post.what may.built own (may.stands).by_right)
+
+      no_letter : all_delivered u.after (letter_for u.pid (what e)) ≡ u.after
+      no_letter = ap (λ w. all_delivered u.after (letter_for u.pid w)) n.same
+
+      keeps : keeps_limits system later u.pid u.after ≡ true
+      keeps =
+          subst (λ s. keeps_limits system later u.pid s ≡ true) no_letter
+          (sent_stays system log e u.pid u.at u.emission u.after valid (built_stands system log n.legal) (by_home_there (placement system log) post.by u.pid u.by_home)
+          (ap (λ w. is_cut u.pid w || is_birth_of u.pid w) n.same) u.is (told_within system log u.pid u.at u.emission u.after u.is post.what u.tells may.limits))
 
       halves : (is_living places post.by ≡ true) × (is_by post.by (home_at places u.pid) ≡ true)
       halves = and_parts (is_living places post.by) (is_by post.by (home_at places u.pid)) u.by_home

@@ -49,6 +49,7 @@ use Rattle.cluster_core.proofs.Served.{accounts_on, ahead_after, brought}
 use Rattle.cluster_core.proofs.Synchronising.{s as tells, differ, held_still, loses_none, pids_same, records_stay, stands, sync_taken, synced_in}
 use Rattle.cluster_core.proofs.Telling.{at_once}
 use Rattle.cluster_core.proofs.Waiting.{queued_alike}
+use Rattle.limit_laws.proofs.RestLimits.{page_keeps}
 
 -- ---- what a batch leaves of the other processes
 
@@ -146,6 +147,7 @@ module _ (system : System) (valid : is_system system ≡ true) (log : List Entry
     };
     queued = queued;
     steps = record { counted = λ kept. counted_own system log e b.number b.tried b.steps tried ((f.steps).counted (lost_before log e b.number kept)) };
+    limits = f.limits;
     pages = λ q h at runs. pages_after system log e q b.number (stands system valid log e of now next) (differ system valid log e of now next) (home q h at) (loses_none system valid log e of now next b.number) (f.pages q h at runs);
     marks = λ q h at. subst (λ whole. MarkedIfThere CarriesMarks system whole q (unended_process h)) same_whole (f.marks q h at);
     records = records_stay system valid log e of now next b.number b.records f.records;
@@ -202,6 +204,7 @@ follows_own_batch c log e server valid own now next s y serves = by_indices y.in
           indices = indices;
           posts = refl;
           there = y.there;
+          within = page_keeps system log b.number y.pid state i ∙ y.within;
           may = sent;
           unread = y.unread;
           since = y.since;

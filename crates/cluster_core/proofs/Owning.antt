@@ -146,8 +146,8 @@ own_after_silent cursor pid m (Rolls p counts births) now own runs = subst (IsHe
 own_after_silent cursor pid m (Waits kept) now own runs = absurd runs
 
 -- so is one that had a quantum
-pub own_quantum : (cursor : ℕ) (pid : Pid) (was now : Held) → IsHeldOwn cursor pid was → Moves 64 was now → IsHeldOwn cursor pid now
-own_quantum cursor pid was now own m = own_after_silent cursor pid m.silent m.between now (own_between cursor pid m.rolled was m.between own m.rolls) m.runs
+pub own_quantum : (limits : Limits) (cursor : ℕ) (pid : Pid) (was now : Held) → IsHeldOwn cursor pid was → Moves limits 64 was now → IsHeldOwn cursor pid now
+own_quantum limits cursor pid was now own m = own_after_silent cursor pid m.silent m.between now (own_between cursor pid m.rolled was m.between own m.rolls) m.runs
 
 pub own_before_sent : (limits : Limits) (cursor : ℕ) (pid : Pid) (was : Held) (sending : Sending) (new : Held) → IsHeldOwn cursor pid was → (s : Sends limits 64 was sending new) → IsOwn cursor pid s.between
 own_before_sent limits cursor pid was sending new own s = own_between cursor pid s.rolled was (Runs s.between) own s.rolls

@@ -27,7 +27,7 @@ use Rattle.cert_sched.specs.Legal.{IsLegalBy, Stands}
 use Rattle.cert_sched.specs.Losses.{is_by_cluster, is_crash_of, is_from}
 use Rattle.cert_sched.specs.Moved.{is_fetch, is_page_is, waiting_fetches}
 use Rattle.cert_sched.specs.Parts.{first_of}
-use Rattle.cert_sched.specs.Rules.{awaits_pages, has_its_pages, holds_of, home_at, is_by, is_by_home, is_by_right, is_new_page}
+use Rattle.cert_sched.specs.Rules.{awaits_pages, has_its_pages, holds_of, home_at, is_by, is_by_home, is_by_right, is_new_page, is_limited, is_within_limits}
 use Rattle.cert_sched.specs.Schedule.{items_of, placement, plain_after}
 use Rattle.cert_sched.specs.Steps.{process_of}
 use Rattle.cert_sched.proofs.FamilyLaws.{exit_elsewhere}
@@ -222,6 +222,7 @@ module _ (system : System) (valid : is_system system ≡ true) (log : List Entry
         kind = subst (KindHolds system later (entry_of system later post)) (sym is) (fetch_kept system log e p i may_e.stands (no_fetch p i here) (home_not_moved system log e p k differ here away) holds);
       };
       built = may.built;
+      limits = ap (λ w. holds_of (is_limited w) (process_of w) (is_within_limits system later w)) is;
       new_page = ap (is_new_page system later) is;
       pages = ap (λ w. holds_of (awaits_pages w) (process_of w) (has_its_pages system later)) is;
     }
@@ -245,6 +246,7 @@ module _ (system : System) (valid : is_system system ≡ true) (log : List Entry
             (answer_kept system log e p i bytes (no_cut p (waited_has_not system log p i (built_stands system log now.0) waited)) (wait_stays post.by p i from server waited) holds);
       };
       built = may.built;
+      limits = ap (λ w. holds_of (is_limited w) (process_of w) (is_within_limits system later w)) is;
       new_page = ap (is_new_page system later) is;
       pages = ap (λ w. holds_of (awaits_pages w) (process_of w) (has_its_pages system later)) is;
     }

@@ -7,7 +7,7 @@ use Rattle.t32_base.specs.declared.process.ClusterNo.{ClusterNo}
 use Rattle.t32_base.specs.declared.letter.BackRec.{BackRec}
 use Rattle.sys_text.specs.declared.system.System.{System}
 use Rattle.sys_text.specs.Valid.{is_system}
-use Rattle.proc_state.specs.State.{state_of}
+use Rattle.proc_state.specs.State.{state_of, ProcState}
 use Rattle.sys_calls.proofs.RunLemma.{all_delivered}
 use Rattle.plain_kernel.specs.Kernel.{Kernel}
 use Rattle.bus_msg.specs.declared.entry.What.{What}
@@ -17,11 +17,11 @@ use Rattle.bus_msg.specs.Places.{Places, unended_at, same_pid}
 use Rattle.bus_msg.specs.PlacedAfter.{what, placed_after}
 use Rattle.cert_sched.specs.Appended.{entry_of}
 use Rattle.cert_sched.specs.Built.{tells_or_closes, BuiltMayFollow, TellingMayFollow, UnlostMayFollow}
-use Rattle.cert_sched.specs.Deeds.{deeds_in, is_cut, letter_for}
+use Rattle.cert_sched.specs.Deeds.{deeds_in, is_cut, letter_for, is_birth_of, starts}
 use Rattle.cert_sched.specs.Losses.{is_by_cluster, is_from, is_crash_of}
 use Rattle.cert_sched.specs.Parts.{rising}
 use Rattle.cert_sched.specs.Rests.{home_pids}
-use Rattle.cert_sched.specs.Rules.{is_by_home, has_its_pages, home_at, is_by, is_by_right}
+use Rattle.cert_sched.specs.Rules.{is_by_home, has_its_pages, home_at, is_by, is_by_right, keeps_limits}
 use Rattle.cert_sched.specs.Schedule.{items_of, placement}
 use Rattle.cert_sched.proofs.LogLaws.{IsLegal-last, placement-snoc}
 use Rattle.backup_records.specs.Records.{records_after}
@@ -31,11 +31,11 @@ use Rattle.record_laws.proofs.Standing.{built_stands}
 use Rattle.recovery_laws.specs.Behind.{RollsBehind}
 use Rattle.recovery_laws.proofs.KeepingBehind.{behind_standing}
 use Rattle.recovery_laws.proofs.ByRule.{built_stands as standing}
-use Rattle.cluster_core.specs.View.{page_held, ClusterView, Held, Runs, Rolls, Waits, next_count, with_server, held_of}
+use Rattle.cluster_core.specs.View.{page_held, ClusterView, Held, Runs, Rolls, Waits, next_count, with_server, held_of, IsHeldWithin, limits_of, rolling_held}
 use Rattle.cluster_core.specs.Residents.{pids_in}
 use Rattle.cluster_core.specs.Queue.{AreTogether, Queued, Nothing, One, posts_of, IsQueueLegal, move_of, state_by, state_now, with_queue}
 use Rattle.cluster_core.specs.Recovered.{left_by, moved_by, with_all_waiting}
-use Rattle.cluster_core.specs.Holds.{IsHeldAs, is_fetch_queued, process_in, CarriesMarks, MarkedIfThere, unended_process}
+use Rattle.cluster_core.specs.Holds.{IsHeldAs, is_fetch_queued, process_in, CarriesMarks, MarkedIfThere, unended_process, HoldsLimits}
 use Rattle.cluster_core.specs.Follows.{FollowsBuilt, IsOpen}
 use Rattle.cluster_core.specs.Calls.{absorbed, here_after, with_page_come}
 use Rattle.cluster_core.proofs.ByKind.{by_page, is_of_page, lone_is, may_told, page_unlost, told_may}
@@ -51,7 +51,7 @@ use Rattle.cluster_core.specs.Serving.{IsAheadThere, Serves}
 use Rattle.page_server.specs.Account.{PagerState}
 use Rattle.cluster_core.proofs.Unmoved.{emission_same, state_same, silent_same}
 use Rattle.cert_sched.specs.Simulation.{IsUnended}
-use Rattle.page_waits.specs.Waiting.{WaitingState}
+use Rattle.page_waits.specs.Waiting.{WaitingState, is_whole, rolling_of, start_of, with_page}
 use Rattle.cluster_core.proofs.Waiting.{has_come, queued_alike, waits_page, waits_come, come_marked}
 use Rattle.cert_sched.specs.Moved.{is_fetch, is_page_is}
 use Rattle.channel_table.specs.Changes.{pids_differ}
@@ -65,6 +65,15 @@ use Rattle.proc_state.specs.declared.process.Process.{Process}
 use Rattle.t32_base.specs.declared.process.Counts.{Counts}
 use Rattle.cert_sched.specs.Account.{is_exit_of}
 use Rattle.cluster_core.proofs.Marking.{marked_after, page_leaves, queue_tells}
+use Rattle.quanta.specs.declared.limits.Limits.{Limits}
+use Rattle.t32_base.specs.Small.{SmallState}
+use Rattle.recovery.specs.Begun.{begun}
+use Rattle.roll_forward.specs.RunsOut.{nothing_left}
+use Rattle.std.specs.Option.{option_map_or}
+use Rattle.cluster_core.proofs.Within.{start_within}
+use Rattle.cert_sched.proofs.BuiltCuts.{by_home_there}
+use Rattle.cluster_core.proofs.KeptLimits.{told_within}
+use Rattle.limit_laws.proofs.StayingLimits.{sent_stays}
 
 -- ---- what is here then
 
@@ -78,6 +87,31 @@ pub record WasPaged (w : What) (here : List (Pid × Held)) (p : Pid) (h : Held) 
   pub was : Held
   pub there : held_of here p ≡ Some was
   pub same : h ≡ page_at w p was
+
+-- who goes on once all its pages have come has read nothing and made no step since its start
+pub page_within : (limits : Limits) (w : What) (p : Pid) (h : Held) → is_of_page w ≡ true → IsHeldWithin limits h → IsHeldWithin limits (page_at w p h)
+page_within limits w p h of within = by_page (λ w. IsHeldWithin limits (page_at w p h)) (λ pid index. within) (λ pid index bytes. by_pid index bytes (same_pid pid p)) w of
+  where
+    begins : (start : ProcState) (r : BackRec) (b : Bool) → IsHeldWithin limits (cond b (Runs (begun start r).process) (Rolls (begun start r).process r.counts r.births))
+    begins start r true = start_within limits (begun start r).process refl refl
+    begins start r false = tt
+
+    goes : (w : WaitingState) (o : Option SmallState) → IsHeldWithin limits (option_map_or rolling_held (option_map (λ (small : SmallState). begun (start_of w small) w.kept) o) (Waits w))
+    goes w None = tt
+    goes w (Some small) = begins (start_of w small) w.kept (nothing_left (w.kept).counts (w.kept).births)
+
+    comes : (w : WaitingState) (b : Bool) → IsHeldWithin limits (cond b (option_map_or rolling_held (rolling_of w) (Waits w)) (Waits w))
+    comes w true = goes w (w.kept).state
+    comes w false = tt
+
+    by_held : (index : ℕ) (bytes : List ℕ) (h : Held) → IsHeldWithin limits h → IsHeldWithin limits (page_held index bytes h)
+    by_held index bytes (Runs s) within = within
+    by_held index bytes (Rolls s counts births) within = tt
+    by_held index bytes (Waits waiting) within = comes (with_page index bytes waiting) (is_whole (with_page index bytes waiting))
+
+    by_pid : (index : ℕ) (bytes : List ℕ) (b : Bool) → IsHeldWithin limits (cond b (page_held index bytes h) h)
+    by_pid index bytes true = by_held index bytes h within
+    by_pid index bytes false = within
 
 abbrev PageFound : Pid → ℕ → List ℕ → List (Pid × Held) → Pid → Type 0
 PageFound q i bytes here p = held_of (with_page_come q i bytes here) p ≡ option_map (λ (h : Held). cond (same_pid q p) (page_held i bytes h) h) (held_of here p)
@@ -165,11 +199,23 @@ module _ (system : System) (valid : is_system system ≡ true) (log : List Entry
   -- a post of the cluster that tells may follow after it
   post_stays : (k : ClusterNo) (post : Post) → is_from k post.by ≡ true → TellingMayFollow system log (entry_of system log post) → TellingMayFollow system later (entry_of system later post)
   post_stays k post own may =
-      post_may system later post u.pid u.at u.emission u.after next.0 next.1 may.built u.tells (emission_same system log e none u.pid u.at ∙ u.is) (ap (λ (places : Places). is_by_home places post.by (Some u.pid)) places_same ∙ u.by_home)
+      post_may system later post u.pid u.at u.emission u.after next.0 next.1 may.built u.tells (emission_same system log e none u.pid u.at ∙ u.is) (ap (λ (places : Places). is_by_home places post.by (Some u.pid)) places_same ∙ u.by_home) keeps
       (waits_after system log e k post (IsLegal-last BuiltMayFollow system log e next.0).stands differ (loses_none k) may.built (ap (is_by_home (placement system log) post.by) u.process ∙ u.by_home) own may.pages)
     where
       u : Telling system log (entry_of system log post)
       u = telling system log (entry_of system log post) may (no_end k (placement system log) post.by post.what may.built own (may.stands).by_right)
+
+      no_letter : all_delivered u.after (letter_for u.pid (what e)) ≡ u.after
+      no_letter = by_page (λ w. all_delivered u.after (letter_for u.pid w) ≡ u.after) (λ pid index. refl) (λ pid index bytes. refl) (what e) of
+
+      quiet : starts u.pid e ≡ false
+      quiet = by_page (λ w. (is_cut u.pid w || is_birth_of u.pid w) ≡ false) (λ pid index. refl) (λ pid index bytes. refl) (what e) of
+
+      keeps : keeps_limits system later u.pid u.after ≡ true
+      keeps =
+          subst (λ s. keeps_limits system later u.pid s ≡ true) no_letter
+          (sent_stays system log e u.pid u.at u.emission u.after valid (built_stands system log now.0) (by_home_there (placement system log) post.by u.pid u.by_home) quiet u.is
+          (told_within system log u.pid u.at u.emission u.after u.is post.what u.tells may.limits))
 
   queue_stays : (k : ClusterNo) (q : Queued) → AreTogether q → is_by_cluster k e ≡ false → list_all (λ (post : Post). is_from k post.by) (posts_of q) ≡ true → IsQueueLegal UnlostMayFollow system log (posts_of q) → IsQueueLegal UnlostMayFollow system later (posts_of q)
   queue_stays k Nothing together foreign own legal = tt
@@ -317,6 +363,11 @@ module _ (system : System) (valid : is_system system ≡ true) (log : List Entry
   once_stays : (k : ClusterNo) (here : List (Pid × Held)) → rising (pids_in here) ≡ rising (home_pids system log k) → rising (pids_in (here_after (what e) here)) ≡ rising (home_pids system later k)
   once_stays k here once = ap rising (pids_paged (what e) here of) ∙ once ∙ ap (λ (places : Places). rising (pids_home k places.placed)) (sym places_same)
 
+  limits_after : (c : ClusterView) → HoldsLimits system c → (p : Pid) (h : Held) → held_of (here_after (what e) c.here) p ≡ Some h → IsHeldWithin (limits_of system) h
+  limits_after c limits p h at =
+      let before = was_paged (what e) c.here p h of at in
+      subst (IsHeldWithin (limits_of system)) (sym before.same) (page_within (limits_of system) (what e) p before.was of (limits p before.was before.there))
+
   places_after : (places : Places) → places ≡ placement system log → placed_after places (what e) ≡ placement system later
   places_after places same = ap (λ places. placed_after places (what e)) same ∙ sym (placement-snoc system log e)
 
@@ -337,6 +388,7 @@ module _ (system : System) (valid : is_system system ≡ true) (log : List Entry
     };
     queued = f.queued;
     steps = record { counted = λ kept. counted_foreign c log e foreign ((f.steps).counted (lost_before log e c.number kept)) };
+    limits = limits_after c f.limits;
     pages = pages;
     marks = marks;
     records = records_stay c.number c.records f.records;
@@ -405,6 +457,7 @@ module _ (system : System) (valid : is_system system ≡ true) (log : List Entry
     };
     queued = inl (record { queued = Nothing; posts = empty; together = tt });
     steps = record { counted = counted_left c log e l };
+    limits = limits_after c (subst (λ hs. (p : Pid) (h : Held) → held_of hs p ≡ Some h → IsHeldWithin (limits_of system) h) here f.limits);
     pages = pages;
     marks = λ p h at. subst (λ ps. MarkedIfThere CarriesMarks system (with_queue system later ps) p (unended_process h)) (sym empty) (marks p h at);
     records = records_stay c.number c.records (subst (λ recs. KeepsRecords system log c.number recs) (sym (ap (λ (d : ClusterView). d.records) l.same)) (subst (λ k. KeepsRecords system log k (l.before).records) number f.records));

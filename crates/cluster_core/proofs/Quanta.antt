@@ -64,8 +64,8 @@ pub record MovedAlone (most : ℕ) (p : Process) (new : Held) : Type 0 where
   pub is : new ≡ Runs now
 
 -- so moves one that runs
-pub moved_alone : (most : ℕ) (p : Process) (new : Held) → Moves most (Runs p) new → MovedAlone most p new
-moved_alone most p new m = by_parts m.between new m.rolls m.runs
+pub moved_alone : (limits : Limits) (most : ℕ) (p : Process) (new : Held) → Moves limits most (Runs p) new → MovedAlone most p new
+moved_alone limits most p new m = by_parts m.between new m.rolls m.runs
   where
     by_parts : (b h : Held) → RollsTo m.rolled (Runs p) b → RunsTo m.silent b h → MovedAlone most p h
     by_parts (Runs q) (Runs r) rolls runs =
@@ -90,8 +90,8 @@ step_acts : (limits : Limits) (p : Process) → has_step (next_step (state_of p)
 step_acts limits p has = or_left (has_step (next_step (state_of p))) (is_due limits p) has
 
 -- who moved could act
-pub moves_can : (limits : Limits) (most : ℕ) (old new : Held) → Moves most old new → can_act limits old ≡ true
-moves_can limits most (Runs p) new m = let a = moved_alone most p new m in step_acts limits p (some_has a.steps (state_of p) (state_of a.now) a.some (a.silent).silent)
+pub moves_can : (limits : Limits) (most : ℕ) (old new : Held) → Moves limits most old new → can_act limits old ≡ true
+moves_can limits most (Runs p) new m = let a = moved_alone limits most p new m in step_acts limits p (some_has a.steps (state_of p) (state_of a.now) a.some (a.silent).silent)
 moves_can limits most (Rolls p counts births) new m = refl
 moves_can limits most (Waits waiting) new m = absurd m.rolls
 

@@ -18,12 +18,12 @@ use Rattle.bus_msg.specs.declared.placed.Placed.{Placed}
 use Rattle.bus_msg.specs.Places.{Places, is_at_home, same_cluster, same_pid, unended_at}
 use Rattle.bus_msg.specs.PlacedAfter.{what}
 use Rattle.cert_sched.specs.Built.{BuiltMayFollow, tells_or_closes}
-use Rattle.cert_sched.specs.Deeds.{is_end_of}
+use Rattle.cert_sched.specs.Deeds.{is_end_of, letter_for}
 use Rattle.cert_sched.specs.Legal.{Stands}
 use Rattle.cert_sched.specs.Losses.{is_by_cluster}
 use Rattle.cert_sched.specs.Parts.{rising}
 use Rattle.cert_sched.specs.Rests.{home_pids}
-use Rattle.cert_sched.specs.Rules.{home_at, is_by_home}
+use Rattle.cert_sched.specs.Rules.{home_at, is_by_home, keeps_limits}
 use Rattle.cert_sched.specs.Schedule.{placement}
 use Rattle.cert_sched.specs.Steps.{silent_upto}
 use Rattle.cert_sched.proofs.LogLaws.{IsLegal-last}
@@ -32,9 +32,11 @@ use Rattle.mark_laws.specs.Beside.{is_some_page}
 use Rattle.mark_laws.specs.Sent.{SentUpto, is_later_page}
 use Rattle.mark_laws.proofs.SentPages.{sent_on}
 use Rattle.batch_laws.specs.Between.{ComesBetween}
-use Rattle.batch_laws.specs.Underway.{BatchMay, posts_left}
-use Rattle.batch_laws.proofs.EntryBetween.{batch_found}
+use Rattle.batch_laws.specs.Underway.{BatchMay, posts_left, with_letters}
+use Rattle.batch_laws.proofs.EntryBetween.{batch_found, batch_reached}
 use Rattle.batch_laws.proofs.OtherSenders.{others_between}
+use Rattle.plain_kernel.proofs.Entries.{some_same}
+use Rattle.limit_laws.proofs.RestLimits.{between_keeps}
 use Rattle.record_laws.proofs.Standing.{built_stands}
 use Rattle.cluster_core.specs.View.{ClusterView, Held, Runs, arrived, arrived_held, held_at, held_of, page_held}
 use Rattle.cluster_core.specs.Residents.{pids_in}
@@ -183,6 +185,14 @@ module _ (c : ClusterView) (log : List Entry) (e : Entry) (y : Synchronises c.sy
       may : BatchMay c.system later c.number p (state_of r.now) y.read y.indices
       may = batch_found c.system log e c.number p (state_of y.process) y.read y.indices between y.may (state_of r.now) reached
 
+      -- the letters that came are not read
+      within : keeps_limits c.system later p (state_of r.now) ≡ true
+      within =
+          let s = state_of y.process in
+          let letters = letter_for p (what e) in
+          let same : with_letters s letters ≡ state_of r.now = some_same (with_letters s letters) (state_of r.now) (sym (batch_reached c.system log e c.number p s y.read y.indices between y.may) ∙ reached) in
+          subst (λ t. keeps_limits c.system later p t ≡ true) same (between_keeps c.system log e c.number p s y.read y.indices between y.may y.within)
+
       still : Synchronises c.system later new
       still = record {
         pid = p;
@@ -191,6 +201,7 @@ module _ (c : ClusterView) (log : List Entry) (e : Entry) (y : Synchronises c.sy
         indices = y.indices;
         posts = queue ∙ y.posts ∙ same_posts c.number p (state_of y.process) (state_of r.now) y.read y.indices (sym r.small) (ap (λ ram. ram.bytes) (sym r.ram)) ∙ ap (λ k. posts_left k p (state_of r.now) y.read y.indices) (sym number);
         there = there;
+        within = within;
         may = subst (λ k. BatchMay c.system later k p (state_of r.now) y.read y.indices) (sym number) may;
         unread = r.read ∙ y.unread;
         since = r.since ∙ y.since ∙ ap (λ (s : SmallState). s.steps) (sym r.small);

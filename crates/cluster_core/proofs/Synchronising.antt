@@ -36,7 +36,7 @@ use Rattle.cert_sched.specs.Losses.{is_by_cluster, is_from, is_crash_of}
 use Rattle.cert_sched.specs.Moved.{is_fetch, is_page_is}
 use Rattle.cert_sched.specs.Parts.{rising}
 use Rattle.cert_sched.specs.Rests.{home_pids}
-use Rattle.cert_sched.specs.Rules.{home_at, is_by, is_by_home, is_by_right, is_living}
+use Rattle.cert_sched.specs.Rules.{home_at, is_by, is_by_home, is_by_right, is_living, keeps_limits}
 use Rattle.cert_sched.specs.Schedule.{done_after, items_of, placement, process_after, run_upto}
 use Rattle.cert_sched.specs.Scripted.{is_done}
 use Rattle.cert_sched.specs.Steps.{after_items, emission_at, process_of, silent_upto}
@@ -83,6 +83,9 @@ use Rattle.cert_sched.specs.Account.{is_exit_of}
 use Rattle.cert_sched.specs.Told.{cluster_lost, is_moved}
 use Rattle.mark_laws.specs.Beside.{is_some_page}
 use Rattle.cert_sched.specs.Simulation.{IsUnended}
+use Rattle.cert_sched.proofs.BuiltCuts.{by_home_there}
+use Rattle.cluster_core.proofs.KeptLimits.{told_within}
+use Rattle.limit_laws.proofs.StayingLimits.{sent_stays}
 
 -- ---- what an entry leaves of a process
 
@@ -244,7 +247,7 @@ module _ (system : System) (valid : is_system system ≡ true) (log : List Entry
   -- a post of the cluster that tells may follow after it
   post_stays : (k : ClusterNo) (post : Post) → is_from k post.by ≡ true → is_by_cluster k e ≡ false → TellingMayFollow system log (entry_of system log post) → TellingMayFollow system later (entry_of system later post)
   post_stays k post own foreign may =
-      post_may system later post u.pid u.at u.emission u.after next.0 next.1 may.built u.tells (s.emission u.pid other u.at ∙ u.is) ((λ i. living_same post.by i && is_by post.by (home_same u.pid i)) ∙ u.by_home)
+      post_may system later post u.pid u.at u.emission u.after next.0 next.1 may.built u.tells (s.emission u.pid other u.at ∙ u.is) ((λ i. living_same post.by i && is_by post.by (home_same u.pid i)) ∙ u.by_home) keeps
       (waits_after system log e k post stands differ (loses_none k) may.built (ap (is_by_home places post.by) u.process ∙ u.by_home) own may.pages)
     where
       u : Telling system log (entry_of system log post)
@@ -255,6 +258,18 @@ module _ (system : System) (valid : is_system system ≡ true) (log : List Entry
           let by_u : is_by post.by (home_at places u.pid) ≡ true = by_home_of places post.by u.pid u.by_home in
           let by_e : is_by (e.post).by (home_at places s.pid) ≡ true = by_home_of places (e.post).by s.pid s.by_home in
           true≢false (sym (by_one k post.by (e.post).by (home_at places u.pid) by_u (subst (λ p. is_by (e.post).by (home_at places p) ≡ true) (sym (pid_same u.pid s.pid is)) by_e) own) ∙ foreign)
+
+      no_letter : all_delivered u.after (letter_for u.pid (what e)) ≡ u.after
+      no_letter = by_sync (λ w. all_delivered u.after (letter_for u.pid w) ≡ u.after) (λ pid at index bytes. refl) (λ pid small read. refl) (what e) of
+
+      no_birth : is_birth_of u.pid (what e) ≡ false
+      no_birth = by_sync (λ w. is_birth_of u.pid w ≡ false) (λ pid at index bytes. refl) (λ pid small read. refl) (what e) of
+
+      keeps : keeps_limits system later u.pid u.after ≡ true
+      keeps =
+          subst (λ s. keeps_limits system later u.pid s ≡ true) no_letter
+          (sent_stays system log e u.pid u.at u.emission u.after valid (built_stands system log now.0) (by_home_there (placement system log) post.by u.pid u.by_home) (λ i. no_cut u.pid other i || no_birth i) u.is
+          (told_within system log u.pid u.at u.emission u.after u.is post.what u.tells may.limits))
 
   queue_stays : (k : ClusterNo) (q : Queued) → AreTogether q → is_by_cluster k e ≡ false → list_all (λ (post : Post). is_from k post.by) (posts_of q) ≡ true → IsQueueLegal UnlostMayFollow system log (posts_of q) → IsQueueLegal UnlostMayFollow system later (posts_of q)
   queue_stays k Nothing together foreign own legal = tt
@@ -340,6 +355,7 @@ module _ (system : System) (valid : is_system system ≡ true) (log : List Entry
     };
     queued = f.queued;
     steps = record { counted = λ kept. counted_foreign c log e foreign ((f.steps).counted (lost_before log e c.number kept)) };
+    limits = f.limits;
     pages = λ p h at runs. pages_after system log e p c.number stands differ (home_of p h at) (loses_none c.number) (f.pages p h at runs);
     marks = marks;
     records = records_stay c.number c.records f.records;

@@ -98,7 +98,7 @@ module _ (c : ClusterView) (empty : c.queue ≡ []) (own : AllOwn c.cursor c.her
   took_moved pid here nothing takes = subst (λ hs. Works c Moved hs c.server []) (sym takes.here) (record {
     goes_on = subst (λ ps. GoesOn c (record (moved_view c (with_changed pid takes.now c.here)) { queue = ps })) empty (moved_goes_on c pid takes.was takes.now valid empty takes.there takes.ran);
     work = subst (λ ps. WorkIs c Moved (record (moved_view c (with_changed pid takes.now c.here)) { queue = ps })) empty (moved_work c pid takes.was takes.now nothing takes.there takes.ran);
-    residents = own_changed c.cursor pid takes.now c.here own (own_quantum c.cursor pid takes.was takes.now (own_at c.cursor c.here pid takes.was own takes.there) takes.ran);
+    residents = own_changed c.cursor pid takes.now c.here own (own_quantum (limits_of c.system) c.cursor pid takes.was takes.now (own_at c.cursor c.here pid takes.was own takes.there) takes.ran);
     own = refl;
     built = refl;
   })

@@ -22,7 +22,7 @@ use Rattle.bus_msg.specs.Places.{Places, same_pid, same_cluster}
 use Rattle.cert_sched.specs.Parts.{rising}
 use Rattle.cert_sched.specs.Schedule.{placement, process_after, done_after}
 use Rattle.cert_sched.specs.Steps.{silent_upto, emission_at, after_items}
-use Rattle.cert_sched.specs.Rules.{has_its_pages, is_by, is_living, is_by_home, is_by_right, is_new_page, home_at}
+use Rattle.cert_sched.specs.Rules.{has_its_pages, keeps_limits, is_by, is_living, is_by_home, is_by_right, is_new_page, home_at}
 use Rattle.cert_sched.specs.Kinds.{KindHolds}
 use Rattle.cert_sched.specs.Legal.{IsLegalBy, Stands}
 use Rattle.cert_sched.specs.Built.{is_unlost, BuiltMayFollow, KeepsWaits, UnlostMayFollow}
@@ -33,12 +33,12 @@ use Rattle.cert_sched.proofs.StepLaws.{Tells, sent_applies}
 use Rattle.cluster_core.specs.declared.worked.Worked.TheVariants.{Moved, Queued}
 use Rattle.quanta.specs.declared.limits.Limits.{Limits}
 use Rattle.quanta.specs.Limited.{is_due}
-use Rattle.cluster_core.specs.View.{ClusterView, Held, Runs, Rolls, Waits, can_act, held_at, held_of, limits_of, next_count, counted_once, tried_once}
+use Rattle.cluster_core.specs.View.{ClusterView, Held, Runs, Rolls, Waits, IsHeldWithin, can_act, held_at, held_of, limits_of, next_count, counted_once, tried_once}
 use Rattle.cluster_core.specs.Residents.{pids_in, with_changed}
 use Rattle.cluster_core.specs.Parts.{IsOwn}
 use Rattle.cluster_core.proofs.Served.{accounts_queued}
 use Rattle.cluster_core.specs.Queue.{IsQueued, IsQueueLegal, Nothing, One, is_lone, move_of, taken_by, state_by, state_now, with_queue}
-use Rattle.cluster_core.specs.Holds.{CarriesMarks, HoldsPages, IsHeldAs, MarkedIfThere, is_fetch_queued, process_in, unended_process}
+use Rattle.cluster_core.specs.Holds.{CarriesMarks, HoldsLimits, HoldsPages, IsHeldAs, MarkedIfThere, is_fetch_queued, process_in, unended_process}
 use Rattle.cluster_core.specs.Syncing.{Synchronises}
 use Rattle.cluster_core.specs.Follows.{FollowsBuilt, IsOpen}
 use Rattle.cluster_core.specs.Calls.{GoesOn, OwesNothing, WorkIs, is_at_rest, are_at_rest}
@@ -48,6 +48,9 @@ use Rattle.cluster_core.proofs.Here.{FoundChanged, found_changed, is_among, pid_
 use Rattle.cluster_core.proofs.Telling.{done_is}
 use Rattle.cluster_core.proofs.Quanta.{moves_can, sends_can}
 use Rattle.cluster_core.proofs.Catching.{rolled_held}
+use Rattle.limit_laws.proofs.SendingLimits.{sent_keeps}
+use Rattle.cluster_core.proofs.Within.{carried, rolled_within, runs_marked}
+use Rattle.cluster_core.proofs.KeptLimits.{told_keeps}
 use Rattle.cluster_core.proofs.Waiting.{queued_alike}
 use Rattle.cluster_core.proofs.Marking.{marked_queued, queue_tells}
 use Rattle.cluster_core.proofs.RunMarks.{marked_ran, marked_rolled, marked_runs, marked_sends}
@@ -143,6 +146,7 @@ still_queued system log c tried steps (inr batch) = inr (record {
   unread = batch.unread;
   since = batch.since;
   unmarked = batch.unmarked;
+  within = batch.within;
 })
 
 -- ---- nothing can move
@@ -154,6 +158,7 @@ goes_on_rested c log now f = record {
   queue = record { own = (f.queue).own; legal = (f.queue).legal };
   queued = still_queued c.system log c c.tried (next_count c.steps) f.queued;
   steps = record { counted = λ kept. more_counted (least_steps log log c.number + cond c.tried 1 0) c.steps ((f.steps).counted kept) };
+  limits = f.limits;
   pages = f.pages;
   marks = f.marks;
   records = f.records;
@@ -175,6 +180,7 @@ follows_tried c log f = record {
   queue = record { own = (f.queue).own; legal = (f.queue).legal };
   queued = still_queued c.system log c true (next_count c.steps) f.queued;
   steps = record { counted = λ kept. more_tried (least_steps log log c.number) c.steps c.tried ((f.steps).counted kept) };
+  limits = f.limits;
   pages = f.pages;
   marks = f.marks;
   records = f.records;
@@ -220,7 +226,7 @@ some_moves limits (e ∷ here) p h there can = by_test (same_pid e.0 p) there (s
         first (is_at_rest limits e.1) (are_at_rest limits here) (ap (is_at_rest limits) (sym same) ∙ moves h can)
     by_test false is more = none (is_at_rest limits e.1) (are_at_rest limits here) (more is can)
 
-pub moved_work : (c : ClusterView) (p : Pid) (was now : Held) → OwesNothing c → held_at c p ≡ Some was → Moves 64 was now → WorkIs c Moved (moved_view c (with_changed p now c.here))
+pub moved_work : (c : ClusterView) (p : Pid) (was now : Held) → OwesNothing c → held_at c p ≡ Some was → Moves (limits_of c.system) 64 was now → WorkIs c Moved (moved_view c (with_changed p now c.here))
 moved_work c p was now nothing there moves = (
   nothing,
   some_moves (limits_of c.system) c.here p was there (moves_can (limits_of c.system) 64 was now moves),
@@ -262,6 +268,17 @@ pages_beside c log p now pages mine q h at = by_pid (same_pid q p) refl
     by_pid true own some = ap (has_its_pages c.system log) (pid_same q p (eqb-true q.0 p.0 own)) ∙ mine (ap (λ x. is_some (process_in x)) (sym (w.is.0 own)) ∙ some)
     by_pid false other some = pages q w.was w.there (ap (λ x. is_some (process_in x)) (sym (w.is.1 other)) ∙ some)
 
+-- the others are within their limits as before
+pub limits_beside : (c : ClusterView) (p : Pid) (now : Held) → HoldsLimits c.system c → IsHeldWithin (limits_of c.system) now → (q : Pid) (h : Held) → held_of (with_changed p now c.here) q ≡ Some h → IsHeldWithin (limits_of c.system) h
+limits_beside c p now limits mine q h at = by_pid (same_pid q p) refl
+  where
+    w : FoundChanged p now c.here q h
+    w = found_changed p now c.here q h at
+
+    by_pid : (b : Bool) → same_pid q p ≡ b → IsHeldWithin (limits_of c.system) h
+    by_pid true own = subst (IsHeldWithin (limits_of c.system)) (sym (w.is.0 own)) mine
+    by_pid false other = subst (IsHeldWithin (limits_of c.system)) (sym (w.is.1 other)) (limits q w.was w.there)
+
 -- the others are marked as before
 pub marks_beside : (c : ClusterView) (log : List Entry) (p : Pid) (now : Held) (queue : List Post) → FollowsBuilt c.system log c → MarkedIfThere CarriesMarks c.system (with_queue c.system log queue) p (unended_process now)
     → ((q : Pid) (h : Held) → same_pid q p ≡ false → held_at c q ≡ Some h → MarkedIfThere CarriesMarks c.system (with_queue c.system log c.queue) q (unended_process h) → MarkedIfThere CarriesMarks c.system (with_queue c.system log queue) q (unended_process h))
@@ -299,7 +316,7 @@ module _ (c : ClusterView) (p : Pid) (was : Held) (empty : c.queue ≡ []) (ther
       (subst (λ ps. IsHeldAs c.system log ps p was) empty ((f.processes).held p was there)) rolls
 
   -- and after silent ones
-  pub held_moved : (new : Held) → Moves 64 was new → IsHeldAs c.system log [] p new
+  pub held_moved : (new : Held) → Moves (limits_of c.system) 64 was new → IsHeldAs c.system log [] p new
   held_moved new m = by_parts m.between new (held_between m.rolled m.between m.rolls) m.runs
     where
       by_parts : (between new : Held) → IsHeldAs c.system log [] p between → RunsTo m.silent between new → IsHeldAs c.system log [] p new
@@ -320,11 +337,17 @@ module _ (c : ClusterView) (p : Pid) (was : Held) (empty : c.queue ≡ []) (ther
   marked_between n between rolls =
       marked_rolled c.system log p valid legal_now (ap is_some home_of_it.found) n was between (subst (λ ps. IsHeldAs c.system log ps p was) empty ((f.processes).held p was there)) rolls marked_now
 
-  pub moved_marked : (new : Held) → Moves 64 was new → MarkedIfThere CarriesMarks c.system log p (unended_process new)
+  -- steps that are withheld leave it within its limits
+  pub within_between : (n : ℕ) (between : Held) → RollsTo n was between → IsHeldWithin (limits_of c.system) between
+  within_between n between rolls =
+      rolled_within c.system log p valid now (ap is_some home_of_it.found) n was between (subst (λ ps. IsHeldAs c.system log ps p was) empty ((f.processes).held p was there)) rolls
+      (held_between n between rolls) (marked_between n between rolls) (f.limits p was there)
+
+  pub moved_marked : (new : Held) → Moves (limits_of c.system) 64 was new → MarkedIfThere CarriesMarks c.system log p (unended_process new)
   moved_marked new m =
       marked_runs c.system log p valid legal_now (ap is_some home_of_it.found) m.silent m.between new (held_between m.rolled m.between m.rolls) m.runs (marked_between m.rolled m.between m.rolls)
 
-pub moved_goes_on : (c : ClusterView) (p : Pid) (was new : Held) → is_system c.system ≡ true → c.queue ≡ [] → held_at c p ≡ Some was → Moves 64 was new → GoesOn c (moved_view c (with_changed p new c.here))
+pub moved_goes_on : (c : ClusterView) (p : Pid) (was new : Held) → is_system c.system ≡ true → c.queue ≡ [] → held_at c p ≡ Some was → Moves (limits_of c.system) 64 was new → GoesOn c (moved_view c (with_changed p new c.here))
 moved_goes_on c p was new valid empty there moves log go f = record {
   log = record { cursor = (f.log).cursor; places = (f.log).places };
   processes = record {
@@ -334,6 +357,7 @@ moved_goes_on c p was new valid empty there moves log go f = record {
   queue = record { own = (f.queue).own; legal = (f.queue).legal };
   queued = inl (record { queued = Nothing; posts = empty; together = tt });
   steps = record { counted = λ kept. more_counted (least_steps log log c.number + cond c.tried 1 0) c.steps ((f.steps).counted kept) };
+  limits = limits_beside c p new f.limits (moves.within (within_between c p was empty there valid log go f moves.rolled moves.between moves.rolls));
   pages = pages_beside c log p new f.pages (λ some. f.pages p was there (can_in (limits_of c.system) was (moves_can (limits_of c.system) 64 was new moves)));
   marks = marks_beside c log p new c.queue f (subst (λ ps. MarkedIfThere CarriesMarks c.system (with_queue c.system log ps) p (unended_process new)) (sym empty) (moved_marked c p was empty there valid log go f new moves)) (λ q h other held m. m);
   records = f.records;
@@ -443,6 +467,25 @@ module _ (c : ClusterView) (p : Pid) (was : Held) (sending : Sending) (new : Hel
     emission_is : emission_at c.system log p at ≡ Some (e, state_of s.now)
     emission_is = ahead_sent c.system log p (state_of s.between) (state_of s.before) (state_of s.now) s.silent e (held_between c p was empty there valid log go f s.rolled (Runs s.between) s.rolls) (s.runs).silent s.sends
 
+    -- before it sent that it ran, with its marks
+    reached_before : silent_upto c.system log p ((s.before).small).steps ≡ Some (state_of s.before)
+    reached_before = ahead_moved c.system log p (state_of s.between) (state_of s.before) s.silent (held_between c p was empty there valid log go f s.rolled (Runs s.between) s.rolls) (s.runs).silent
+
+    marked_before : MarkedIfThere CarriesMarks c.system log p (unended_process (Runs s.before))
+    marked_before =
+        let home = home_of_it c p was empty there valid log go f in
+        let legal = built_stands c.system log go.0 in
+        marked_ran c.system log p valid legal (ap is_some home.found) s.silent s.between s.before (held_between c p was empty there valid log go f s.rolled (Runs s.between) s.rolls) s.runs
+        (marked_between c p was empty there valid log go f s.rolled (Runs s.between) s.rolls)
+
+    -- and was not due, so that it keeps the limits of the log
+    keeps : keeps_limits c.system log p (state_of s.now) ≡ true
+    keeps =
+        let unended = ap is_some (home_of_it c p was empty there valid log go f).found in
+        let legal = built_stands c.system log go.0 in
+        let marked = runs_marked c.system log p s.before valid reached_before legal unended (carried c.system log p s.before valid reached_before legal unended marked_before) in
+        sent_keeps c.system log p s.before e (state_of s.now) marked s.undue s.sends
+
     may_follow : UnlostMayFollow c.system log (entry_of c.system log (post_told c.number p at e))
     may_follow = record {
       stands = record {
@@ -454,6 +497,7 @@ module _ (c : ClusterView) (p : Pid) (was : Held) (sending : Sending) (new : Hel
         kind = kind_of_post c.system log c.number p at e (state_of s.now) tells emission_is go.0;
       };
       built = built_of p at e;
+      limits = told_keeps c.system log p at e (state_of s.now) emission_is (told_of p at e) tells keeps;
       new_page = changed_none c.system log p at e;
       pages = waits_of_post c.system log p at c.number e tells (f.pages p was there (can_in (limits_of c.system) was (sends_can (limits_of c.system) 64 was sending new s)));
     }
@@ -463,9 +507,7 @@ module _ (c : ClusterView) (p : Pid) (was : Held) (sending : Sending) (new : Hel
     sent_alone =
         let home = home_of_it c p was empty there valid log go f in
         let legal = built_stands c.system log go.0 in
-        marked_sends c.system log p valid legal (ap is_some home.found) s.before s.now e s.sends s.touches
-        (marked_ran c.system log p valid legal (ap is_some home.found) s.silent s.between s.before (held_between c p was empty there valid log go f s.rolled (Runs s.between) s.rolls) s.runs
-        (marked_between c p was empty there valid log go f s.rolled (Runs s.between) s.rolls))
+        marked_sends c.system log p valid legal (ap is_some home.found) s.before s.now e s.sends s.touches marked_before
 
     -- the others are held as before, since the post moves none of them
     others : (q : Pid) (h : Held) → same_pid q p ≡ false → IsHeldAs c.system log c.queue q h → IsHeldAs c.system log (post ∷ []) q h
@@ -512,6 +554,7 @@ module _ (c : ClusterView) (p : Pid) (was : Held) (sending : Sending) (new : Hel
     };
     queued = inl (record { queued = One post; posts = refl; together = lone_post valid has log go f });
     steps = record { counted = λ kept. more_counted (least_steps log log c.number + cond c.tried 1 0) c.steps ((f.steps).counted kept) };
+    limits = limits_beside c p (Runs s.now) f.limits (s.within (within_between c p was empty there valid log go f s.rolled (Runs s.between) s.rolls));
     pages = pages_beside c log p (Runs s.now) f.pages (λ some. f.pages p was there (can_in (limits_of c.system) was (sends_can (limits_of c.system) 64 was sending new s)));
     marks = marks_beside c log p (Runs s.now) (post ∷ []) f (sent_marked valid has log go f) (others_marked valid has log go f);
     records = f.records;

@@ -136,7 +136,7 @@ pub record MovedOne (old new : ClusterView) : Type 0 where
   pub was : Held
   pub now : Held
   pub there : held_at old pid ≡ Some was
-  pub moves : Moves 64 was now
+  pub moves : Moves (limits_of old.system) 64 was now
   pub rest : new ≡ record old { here = with_changed pid now old.here; steps = next_count old.steps }
 
 -- one process made 1 to 64 steps, of which the last alone sent something that was not withheld, and this is the one post to be sent

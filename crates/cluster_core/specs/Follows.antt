@@ -9,7 +9,7 @@ use Rattle.cluster_core.specs.View.{ClusterView, head_of, after_sent}
 use Rattle.cert_sched.specs.Appended.{entry_of}
 use Rattle.cluster_core.specs.Queue.{IsQueued}
 use Rattle.cluster_core.specs.Syncing.{Synchronises}
-use Rattle.cluster_core.specs.Holds.{HoldsLog, HoldsProcesses, HoldsQueue, HoldsSteps, HoldsPages, HoldsMarks, IsMarked, CarriesMarks, HoldsRecords, HoldsAccounts, HasNotFailed}
+use Rattle.cluster_core.specs.Holds.{HoldsLog, HoldsProcesses, HoldsQueue, HoldsSteps, HoldsLimits, HoldsPages, HoldsMarks, IsMarked, CarriesMarks, HoldsRecords, HoldsAccounts, HasNotFailed}
 
 -- all that a cluster holds
 pub record Follows (system : System) (entries : List Entry) (c : ClusterView) : Type 0 where
@@ -29,6 +29,7 @@ pub record FollowsBuilt (system : System) (entries : List Entry) (c : ClusterVie
   pub queue : HoldsQueue UnlostMayFollow system entries c
   pub queued : IsQueued c.queue ⊎ Synchronises system entries c
   pub steps : HoldsSteps entries c
+  pub limits : HoldsLimits system c
   pub pages : HoldsPages system entries c
   pub marks : HoldsMarks CarriesMarks system entries c
   pub records : HoldsRecords system entries c

@@ -21,12 +21,12 @@ use Rattle.sync_point.specs.Batch.{batch, synced}
 use Rattle.quanta.specs.declared.limits.Limits.{Limits}
 use Rattle.quanta.specs.declared.quantum.Ran.{Ran}
 use Rattle.quanta.specs.declared.quantum.Ran.TheVariants.{Moved as RanOn, Refused, Sent as RanSending, Stuck as RanStuck}
-use Rattle.quanta.specs.Limited.{is_due}
+use Rattle.quanta.specs.Limited.{is_due, is_within}
 use Rattle.quanta.specs.Quantum.{RunsOn, Moves as MovesAlone, Sends as SendsAlone}
 use Rattle.cluster_core.specs.declared.quantum.Sending.{Sending}
 use Rattle.cluster_core.specs.declared.quantum.Quantum.{Quantum}
 use Rattle.cluster_core.specs.declared.quantum.Quantum.TheVariants.{Moved, Sent, Synced, Stuck}
-use Rattle.cluster_core.specs.View.{Held, Runs, Rolls, Waits, can_act}
+use Rattle.cluster_core.specs.View.{Held, Runs, Rolls, Waits, IsHeldWithin, can_act}
 
 -- ---- what is withheld
 
@@ -56,8 +56,8 @@ RunsTo m (Runs p) (Waits waiting) = ⊥
 RunsTo m (Rolls p counts births) new = (m ≡ 0) × (new ≡ Rolls p counts births)
 RunsTo m (Waits waiting) new = ⊥
 
--- steps that are withheld, and then silent ones, one at least of both together
-pub record Moves (most : ℕ) (old new : Held) : Type 0 where
+-- steps that are withheld, and then silent ones, one at least of both together, none of which leads beyond the limits
+pub record Moves (limits : Limits) (most : ℕ) (old new : Held) : Type 0 where
   pub rolled : ℕ
   pub silent : ℕ
   pub between : Held
@@ -65,6 +65,7 @@ pub record Moves (most : ℕ) (old new : Held) : Type 0 where
   pub few : rolled + silent ≤ most
   pub rolls : RollsTo rolled old between
   pub runs : RunsTo silent between new
+  pub within : IsHeldWithin limits between → IsHeldWithin limits new
 
 -- steps that are withheld, and then silent ones and one of a process that is not due, which sends something and touches the state alone
 pub record Sends (limits : Limits) (most : ℕ) (old : Held) (sending : Sending) (new : Held) : Type 0 where
@@ -79,6 +80,7 @@ pub record Sends (limits : Limits) (most : ℕ) (old : Held) (sending : Sending)
   pub undue : is_due limits before ≡ false
   pub sends : next_step (state_of before) ≡ Emits sending.emission (state_of now)
   pub touches : now ≡ record before { small = now.small }
+  pub within : is_within limits between ≡ true → is_within limits now ≡ true
   pub new_is : new ≡ Runs now
   pub pid_is : sending.pid ≡ (now.small).pid
   pub at_is : sending.at ≡ (now.small).steps
@@ -93,7 +95,7 @@ pub record Syncs (limits : Limits) (by : ClusterNo) (old : Held) (posts : List P
 
 -- in a cluster it moved, or sent something, or synchronised, or could not move; after want of memory nothing has changed
 abbrev pub RunsQuantum : Limits → ClusterNo → ℕ → Held → Result Quantum NoMemory → Held → Type 0
-RunsQuantum limits by most old (Ok Moved) new = Moves most old new
+RunsQuantum limits by most old (Ok Moved) new = Moves limits most old new
 RunsQuantum limits by most old (Ok (Sent sending)) new = Sends limits most old sending new
 RunsQuantum limits by most old (Ok (Synced posts)) new = Syncs limits by old posts new
 RunsQuantum limits by most old (Ok Stuck) new = (can_act limits old ≡ false) × (new ≡ old)
@@ -108,14 +110,21 @@ quantum_of small Refused = Moved
 quantum_of small (RanSending emission) = Sent (record { pid = small.pid; at = small.steps; emission = emission })
 quantum_of small RanStuck = Stuck
 
+-- silent steps, none of which leads beyond the limits
+pub record RestMoves (limits : Limits) (most made : ℕ) (old new : Process) : Type 0 where
+  pub moves : MovesAlone most made old new
+  pub within : is_within limits old ≡ true → is_within limits new ≡ true
+
+-- silent steps and one that sends something, none of which leads beyond the limits
 pub record RestSends (limits : Limits) (most made : ℕ) (old : Process) (sending : Sending) (new : Process) : Type 0 where
   pub sends : SendsAlone limits most made old sending.emission new
+  pub within : is_within limits old ≡ true → is_within limits new ≡ true
   pub pid_is : sending.pid ≡ (new.small).pid
   pub at_is : sending.at ≡ (new.small).steps
 
 -- the rest of a turn after so many steps: where there were none, it may be due and synchronise, or have no step, or no memory for the first
 abbrev pub ActsOn : Limits → ClusterNo → ℕ → ℕ → Process → Result Quantum NoMemory → Process → Type 0
-ActsOn limits by most made old (Ok Moved) new = MovesAlone most made old new
+ActsOn limits by most made old (Ok Moved) new = RestMoves limits most made old new
 ActsOn limits by most made old (Ok (Sent sending)) new = RestSends limits most made old sending new
 ActsOn limits by most made old (Ok (Synced posts)) new = (made ≡ 0) × (is_due limits old ≡ true) × (posts ≡ batch old by) × (new ≡ synced old)
 ActsOn limits by most made old (Ok Stuck) new = (made ≡ 0) × (is_due limits old ≡ false) × (has_step (next_step (state_of old)) ≡ false) × (new ≡ old)

@@ -1,5 +1,5 @@
 -- What a cluster holds, as contracts see it.
-use Rattle.std.specs.Prelude.{ℕ, ◌+◌, ◌-◌, ◌*◌, ◌^◌, min, Bool, true, false, ◌==◌, ◌&&◌, ◌||◌, nat_lt, if◌then◌else◌, List, [], ◌∷◌, ◌++◌, map, find, length, Option, Some, None, option_map}
+use Rattle.std.specs.Prelude.{ℕ, ◌≡◌, ◌+◌, ◌-◌, ◌*◌, ◌^◌, min, Bool, true, false, ◌==◌, ◌&&◌, ◌||◌, nat_lt, if◌then◌else◌, List, [], ◌∷◌, ◌++◌, map, find, length, Option, Some, None, option_map, ⊤}
 use Rattle.std.specs.List.{sum_by}
 use Rattle.std.specs.Option.{option_map_or}
 use Rattle.t32_base.specs.declared.process.Pid.{Pid}
@@ -18,7 +18,7 @@ use Rattle.bus_msg.specs.declared.entry.What.TheVariants.{Rebackup}
 use Rattle.bus_msg.specs.Places.{Places, same_pid}
 use Rattle.sync_point.specs.Batch.{synced}
 use Rattle.quanta.specs.declared.limits.Limits.{Limits}
-use Rattle.quanta.specs.Limited.{is_due}
+use Rattle.quanta.specs.Limited.{is_due, is_within}
 use Rattle.page_server.specs.Account.{Account, PagerState, account, no_pages}
 use Rattle.backup_records.specs.Records.{with_saved}
 use Rattle.roll_forward.specs.Rolling.{RollingState}
@@ -65,6 +65,12 @@ abbrev pub can_act : Limits → Held → Bool
 can_act limits (Runs p) = has_step (next_step (state_of p)) || is_due limits p
 can_act limits (Rolls p counts births) = true
 can_act limits (Waits waiting) = false
+
+-- one that runs made no more steps since its last synchronisation, and read no more letters
+abbrev pub IsHeldWithin : Limits → Held → Type 0
+IsHeldWithin limits (Runs p) = is_within limits p ≡ true
+IsHeldWithin limits (Rolls p counts births) = ⊤
+IsHeldWithin limits (Waits waiting) = ⊤
 
 -- it waits for its pages
 abbrev pub is_waiting : Held → Bool

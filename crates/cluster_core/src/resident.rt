@@ -144,7 +144,8 @@ impl Resident {
     /// steps. One that rolls forward does again what it did, and withholds what it
     /// sent; where nothing is left to withhold it runs, and the same quantum goes on. One that runs goes up to a
     /// step that sends something, up to a read that waits, or until it is due. A later step for which memory is refused is not
-    /// made; where it is the first, nothing has changed.
+    /// made; where it is the first, nothing has changed. No step that is not withheld leads one beyond these limits that is within
+    /// them.
     pub fn run_quantum(
         &mut self,
         alloc: Global,

@@ -2,4 +2,6 @@ pub mod OwnCounts
 pub mod StepLimits
 pub mod SendingLimits
 pub mod SyncLimits
+pub mod StayingLimits
+pub mod RestLimits
 mod WorkedLimits

@@ -2,6 +2,8 @@
 #![tactic(auto)]
 
 pub mod own;
+pub mod rest;
 pub mod sending;
+pub mod staying;
 pub mod steps;
 pub mod syncs;

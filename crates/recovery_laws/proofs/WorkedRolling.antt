@@ -54,8 +54,8 @@ log = letter ∷ loss ∷ []
 legal : IsLegalBy BuiltMayFollow named_system log
 unfolding boot one_step steps silently plain_after placement told is_over emission_at IsLegalBy
 legal = (
-  record { stands = record { placed = (refl, refl, refl); by_right = refl; applies = refl; kind = refl }; built = refl; new_page = refl; pages = refl },
-  (record { stands = record { placed = (refl, refl, refl); by_right = refl; applies = refl; kind = refl }; built = refl; new_page = refl; pages = refl }, tt),
+  record { stands = record { placed = (refl, refl, refl); by_right = refl; applies = refl; kind = refl }; built = refl; limits = refl; new_page = refl; pages = refl },
+  (record { stands = record { placed = (refl, refl, refl); by_right = refl; applies = refl; kind = refl }; built = refl; limits = refl; new_page = refl; pages = refl }, tt),
 )
 
 -- ---- its way

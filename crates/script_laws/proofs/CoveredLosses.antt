@@ -65,6 +65,7 @@ crashless_unlost system log legal =
     IsLegal-snoc UnlostMayFollow system log e (before (omega (arith, none, more))) (record {
       stands = may.stands;
       built = no_loss_unlost (what e) may.built (uncounted (is_loss (what e)) (omega (arith, none, more)));
+      limits = may.limits;
       new_page = may.new_page;
       pages = may.pages;
     })) log legal

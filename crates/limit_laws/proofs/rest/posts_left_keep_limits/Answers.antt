@@ -1,0 +1,11 @@
+use Rattle.limit_laws.proofs.RestLimits.{rest_keeps_limits, page_keeps, between_keeps}
+use Rattle.limit_laws.proofs.rest.posts_left_keep_limits.Goals as goal
+
+pub returns-clause-posts : goal.returns-clause-posts
+returns-clause-posts c = rest_keeps_limits
+
+pub returns-clause-page : goal.returns-clause-page
+returns-clause-page c = page_keeps
+
+pub returns-clause-between : goal.returns-clause-between
+returns-clause-between c = between_keeps

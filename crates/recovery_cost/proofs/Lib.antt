@@ -1,0 +1,2 @@
+pub mod CaughtLimits
+pub mod RecordCost
