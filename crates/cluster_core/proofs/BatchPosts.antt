@@ -79,8 +79,7 @@ module _ (k : ClusterNo) (p : Pid) (s : ProcState) (read : List ℕ) where
     legal_so : (log : List Entry) (indices : List ℕ) → has_its_pages system log p ≡ true → AllStand system log (posts_left k p s read indices) → AllNew system log (posts_left k p s read indices) → AllKeepLimits system log (posts_left k p s read indices) → IsQueueLegal UnlostMayFollow system log (posts_left k p s read indices)
     legal_so log [] has stand new keep = (record { stands = stand.0; built = refl; limits = keep.0; new_page = new.0; pages = has }, tt)
     legal_so log (i ∷ js) has stand new keep =
-        let e : Entry = entry_of system log (page_left k p s i) in
-        (
+        let e : Entry = entry_of system log (page_left k p s i) in (
           record { stands = stand.0; built = refl; limits = keep.0; new_page = new.0; pages = has },
           legal_so (log ++ e ∷ []) js (pages_kept system log e p stand.0 (moves_none system log e refl p) has) stand.1 new.1 keep.1,
         )
