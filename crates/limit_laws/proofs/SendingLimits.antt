@@ -1,5 +1,5 @@
 -- What a process sends that is not due keeps the limits.
-use Rattle.std.proofs.Common.{◌≡◌, ℕ, suc, ◌-◌, refl, sym, ◌∙◌, ap, subst, arith, List, length, Bool, true, false, ◌&&◌, leb, Option, Some, None}
+use Rattle.std.proofs.Common.{◌≡◌, ℕ, suc, ◌-◌, refl, sym, ◌∙◌, ap, subst, arith, List, length, true, false, ◌&&◌, leb, Option, Some, None}
 use Rattle.std.specs.Prelude.{option_and_then, option_map}
 use Rattle.std.specs.Option.{option_map_or}
 use Rattle.t32_base.specs.declared.process.Pid.{Pid}

@@ -1,9 +1,8 @@
 -- A synchronisation of a process that is within its limits keeps them, and so does each post of its batch.
-use Rattle.std.proofs.Common.{◌≡◌, ℕ, ◌-◌, refl, sym, ◌∙◌, ap, subst, List, [], ◌∷◌, ◌++◌, map, length, Bool, true, false, ◌&&◌, leb, Option, None}
+use Rattle.std.proofs.Common.{◌≡◌, ℕ, ◌-◌, refl, sym, ◌∙◌, ap, subst, List, [], ◌∷◌, ◌++◌, map, length, true, false, ◌&&◌, leb, Option, None}
 use Rattle.std.specs.Option.{option_map_or}
 use Rattle.t32_base.specs.declared.process.Pid.{Pid}
 use Rattle.t32_base.specs.declared.process.ClusterNo.{ClusterNo}
-use Rattle.t32_base.specs.declared.letter.Arrived.{Arrived}
 use Rattle.sys_text.specs.declared.system.System.{System}
 use Rattle.rv_mem.specs.Memory.{page_at}
 use Rattle.proc_state.specs.declared.process.Process.{Process}

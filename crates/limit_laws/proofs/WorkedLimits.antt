@@ -1,5 +1,5 @@
 -- Worked counts at the limits and one beyond them, and a letter that the sixth step of a process sends.
-use Rattle.std.proofs.Common.{◌≡◌, ℕ, List, refl, [], ◌∷◌, Bool, true, false}
+use Rattle.std.proofs.Common.{◌≡◌, ℕ, List, refl, [], ◌∷◌, true, false}
 use Rattle.t32_base.specs.declared.process.Pid.{Pid}
 use Rattle.t32_base.specs.declared.process.Mode.TheVariants.{Quarter}
 use Rattle.t32_base.specs.declared.letter.Letter.{Letter}
