@@ -147,6 +147,7 @@ module _ (c : ClusterView) (p : Pid) (process : Process) (valid : is_system c.sy
   }
 
   follows_batch : FollowsBuilt c.system log new
+  unfolding synchronises
   follows_batch = with_batch c.system log new synchronises valid go beside carries.sent
 
 -- Where nothing is queued and a process that runs here is due, a cluster goes on with the process synchronised and its batch queued.
