@@ -1,9 +1,8 @@
 -- A process that is due synchronises: with its batch queued a cluster goes on to follow each log that it followed.
-use Rattle.std.proofs.Common.{◌≡◌, ◌+◌, ◌-◌, ◌*◌, ◌≤◌, refl, sym, ◌∙◌, ap, subst, List, [], ◌∷◌, length, Bool, true, false, cond, Some, None, is_some, true≢false}
-use Rattle.std.specs.Prelude.{find, option_and_then, option_map, replicate}
+use Rattle.std.proofs.Common.{◌≡◌, ◌+◌, ◌-◌, ◌*◌, ◌≤◌, refl, sym, ◌∙◌, ap, subst, List, [], ◌∷◌, Bool, true, false, cond, Some, is_some, true≢false}
+use Rattle.std.specs.Prelude.{find, option_map, replicate}
 use Rattle.std.proofs.lemmas.Bool.{not-true}
 use Rattle.t32_base.specs.declared.process.Pid.{Pid}
-use Rattle.sys_text.specs.declared.system.System.{System}
 use Rattle.sys_text.specs.Valid.{is_system}
 use Rattle.proc_state.specs.declared.process.Process.{Process}
 use Rattle.proc_state.specs.State.{state_of}

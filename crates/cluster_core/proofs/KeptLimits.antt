@@ -1,9 +1,8 @@
 -- What is posted leaves its process within the limits of the log.
-use Rattle.std.proofs.Common.{◌≡◌, ℕ, refl, sym, ◌∙◌, ap, subst, List, [], ◌∷◌, Bool, true, false, cond, Option, Some}
+use Rattle.std.proofs.Common.{◌≡◌, ℕ, refl, sym, ◌∙◌, ap, subst, List, [], ◌∷◌, Bool, true, false, cond, Some}
 use Rattle.std.specs.Prelude.{option_map}
 use Rattle.std.specs.Option.{option_map_or}
 use Rattle.t32_base.specs.declared.process.Pid.{Pid}
-use Rattle.t32_base.specs.declared.letter.Letter.{Letter}
 use Rattle.t32_base.specs.declared.letter.To.{To}
 use Rattle.t32_base.specs.declared.letter.To.TheVariants.{Proc, Tty}
 use Rattle.sys_text.specs.declared.system.System.{System}

@@ -1,7 +1,6 @@
 -- How far a run has come: what is left to do, and who rests.
 use Rattle.std.specs.Prelude.{ℕ, ◌≡◌, ◌≢◌, ◌-◌, ◌≤◌, ◌<◌, ◌⊎◌, true, false, List, [], length, Some, is_some}
 use Rattle.std.specs.List.{sum_by}
-use Rattle.sys_text.specs.declared.system.System.{System}
 use Rattle.bus_msg.specs.declared.entry.Entry.{Entry}
 use Rattle.bus_msg.specs.Places.{cluster_no, servers_in}
 use Rattle.cert_sched.specs.Moved.{waiting_fetches}
