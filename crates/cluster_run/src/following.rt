@@ -114,7 +114,8 @@ fn has_grown(lock: &LogLock<SharedBus>, seat: &mut LogSeat<SharedBus>, cluster: 
     lock.length_now(seat) != cluster.cursor()
 }
 
-// Sleeps until woken, unless the log has grown since the cluster looked at it.
+// Sleeps until the log has grown since the cluster looked at it. One that is woken before makes no kernel step: it has told
+// that nothing can move in it, and another may end the log on that.
 fn sleep<R: Wait>(
     rt: &R,
     lock: &LogLock<SharedBus>,
@@ -126,8 +127,27 @@ fn sleep<R: Wait>(
     ensures of { IsOf lock.now seat.new }
     ensures same { view_of seat.new ≡ retold (view_of seat.old) (told seat.new) }
 {
+    for _ in rt.forever() {
+        if !naps(rt, lock, seat, cluster, sleepers) {
+            return;
+        }
+    }
+}
+
+// Sleeps until woken, unless the log has grown since the cluster looked at it. Answers whether it slept.
+fn naps<R: Wait>(
+    rt: &R,
+    lock: &LogLock<SharedBus>,
+    seat: &mut LogSeat<SharedBus>,
+    cluster: &Member,
+    sleepers: &Sleepers,
+) -> bool
+    requires of { IsOf lock.now seat.old }
+    ensures of { IsOf lock.now seat.new }
+    ensures same { view_of seat.new ≡ retold (view_of seat.old) (told seat.new) }
+{
     if has_grown(lock, seat, cluster) {
-        return;
+        return false;
     }
     let number = cluster.number();
     sleepers.lie_down(number);
@@ -135,4 +155,5 @@ fn sleep<R: Wait>(
         sleepers.sleep(rt, number);
     }
     sleepers.get_up(number);
+    true
 }
