@@ -14,11 +14,12 @@ use Rattle.sys_calls.proofs.Counting.{last_letter_is_own}
 use Rattle.plain_kernel.specs.declared.item.Item.{Item}
 use Rattle.plain_kernel.specs.declared.item.Item.TheVariants.{Run, Fork, Take}
 use Rattle.plain_kernel.specs.Kernel.{Kernel, boot, process_at, with_process, emitted}
-use Rattle.plain_kernel.specs.Apply.{one_step, steps, apply_all}
+use Rattle.plain_kernel.specs.Apply.{one_step, steps, fork_step, apply_all}
 use Rattle.plain_kernel.proofs.Entries.{some_same}
 use Rattle.plain_kernel.proofs.Laws.{process_at-same}
+use Rattle.plain_kernel.proofs.Unforked.{never_forks}
 use Rattle.plain_kernel.proofs.AtBoot.{boot-own, boot-pids, boot-steps}
-use Rattle.plain_kernel.proofs.Others.{small_at, steps-here, steps-other, steps-small, steps-sent, is_outward, process_at-outward, process_at-other, apply_all-keeps, silently-made, silently-here, silently-other}
+use Rattle.plain_kernel.proofs.Others.{small_at, steps-here, steps-other, steps-small, steps-sent, is_outward, process_at-outward, process_at-other, items_keep, silently-made, silently-here, silently-other}
 use Rattle.plain_kernel.proofs.Pids.{HasOwnPids, HasPids, one_step-own, one_step-pids, pids_in}
 use Rattle.bus_msg.specs.declared.entry.What.{What}
 use Rattle.bus_msg.specs.declared.entry.What.TheVariants.{Mail, Birth, Exit, Page, Sync, Fetch, PageIs, Crash, Return, Rebackup, Done, Stop}
@@ -98,14 +99,19 @@ applied system log e can = by_old (plain_after system log) refl (ap is_some (sym
 pub done_kernel : (system : System) (log : List Entry) (k : Kernel) (p : Pid) → plain_after system log ≡ Some k → done_after system log p ≡ done k p
 done_kernel system log k p is = ap (λ o. option_map_or (λ k. done k p) o 0) is
 
--- no process forks and none is sent a signal yet, so such an item is not applied
+-- no process forks yet, so such an item is not applied
 no_fork : (run : List Item) (p c : Pid) (k j : Kernel) → apply_all (run ++ Fork p c ∷ []) k ≡ Some j → ⊥
 no_fork run p c k j made = by_case (apply_all run k) (sym (apply_all-append run (Fork p c ∷ []) k) ∙ made)
   where
+    by_fork : (i : Kernel) (o : Option Kernel) → fork_step p c i ≡ o → option_and_then (λ j. Some j) o ≡ Some j → ⊥
+    by_fork i None is e = true≢false (sym (ap is_some e))
+    by_fork i (Some l) is e = never_forks p c i l is
+
     by_case : (o : Option Kernel) → option_and_then (apply_all (Fork p c ∷ [])) o ≡ Some j → ⊥
     by_case None e = true≢false (sym (ap is_some e))
-    by_case (Some i) e = true≢false (sym (ap is_some e))
+    by_case (Some i) e = by_fork i (fork_step p c i) refl e
 
+-- none is sent a signal yet, so such an item is not applied
 no_take : (run : List Item) (p : Pid) (k j : Kernel) → apply_all (run ++ Take p ∷ []) k ≡ Some j → ⊥
 no_take run p k j made = by_case (apply_all run k) (sym (apply_all-append run (Take p ∷ []) k) ∙ made)
   where
@@ -179,22 +185,28 @@ pub done_after-none : (system : System) (p : Pid) → done_after system [] p ≡
 unfolding plain_after
 done_after-none system p = boot-steps system p
 
-entry_keeps : (P : Kernel → Type 0) → ((p : Pid) (k j : Kernel) → P k → one_step p k ≡ Some j → P j) → (o : Option Kernel) (e : Entry) → IfSome o P → IfSome (after_entry o e) P
-entry_keeps P one None e has = tt
-entry_keeps P one (Some k) e has = by_case (apply_all (items_of k (what e)) k) refl
-  where
-    by_case : (r : Option Kernel) → apply_all (items_of k (what e)) k ≡ r → IfSome r P
-    by_case None is = tt
-    by_case (Some j) is = apply_all-keeps P one (items_of k (what e)) k j has is
+-- what holds at the start and is kept by each step and each fork
+module _ (P : Kernel → Type 0) (one : (p : Pid) (k j : Kernel) → P k → one_step p k ≡ Some j → P j) (fork : (p c : Pid) (k j : Kernel) → P k → fork_step p c k ≡ Some j → P j) where
+  entry_keeps : (o : Option Kernel) (e : Entry) → IfSome o P → IfSome (after_entry o e) P
+  entry_keeps None e has = tt
+  entry_keeps (Some k) e has = by_case (apply_all (items_of k (what e)) k) refl
+    where
+      by_case : (r : Option Kernel) → apply_all (items_of k (what e)) k ≡ r → IfSome r P
+      by_case None is = tt
+      by_case (Some j) is = items_keep P one fork (items_of k (what e)) k j has is
 
-log_keeps : (P : Kernel → Type 0) → ((p : Pid) (k j : Kernel) → P k → one_step p k ≡ Some j → P j) → (o : Option Kernel) (log : List Entry) → IfSome o P → IfSome (fold after_entry o log) P
-log_keeps P one o [] has = has
-log_keeps P one o (e ∷ log) has = log_keeps P one (after_entry o e) log (entry_keeps P one o e has)
+  log_keeps : (o : Option Kernel) (log : List Entry) → IfSome o P → IfSome (fold after_entry o log) P
+  log_keeps o [] has = has
+  log_keeps o (e ∷ log) has = log_keeps (after_entry o e) log (entry_keeps o e has)
 
--- what holds at the start and is kept by each step holds after a log
+  -- holds after a log
+  pub log_keeps_all : (system : System) (log : List Entry) (k : Kernel) → P (boot system) → plain_after system log ≡ Some k → P k
+  unfolding plain_after
+  log_keeps_all system log k start is = subst (λ o. IfSome o P) is (log_keeps (Some (boot system)) log start)
+
+-- the same of what a step keeps, since no process forks yet
 pub plain_after-keeps : (P : Kernel → Type 0) → ((p : Pid) (k j : Kernel) → P k → one_step p k ≡ Some j → P j) → (system : System) (log : List Entry) (k : Kernel) → P (boot system) → plain_after system log ≡ Some k → P k
-unfolding plain_after
-plain_after-keeps P one system log k start is = subst (λ o. IfSome o P) is (log_keeps P one (Some (boot system)) log start)
+plain_after-keeps P one system log k start is = log_keeps_all P one (λ p c k j has forks. absurd (never_forks p c k j forks)) system log k start is
 
 -- so the processes rise, and have the pids of the start
 pub plain_after-pids : (system : System) (log : List Entry) (k : Kernel) → plain_after system log ≡ Some k → HasPids (pids_in (boot system)) k

@@ -10,6 +10,7 @@ mod StartPages
 pub mod Starts
 mod Ready
 mod Turns
+pub mod Unforked
 pub mod Others
 pub mod Spending
 mod Ahead

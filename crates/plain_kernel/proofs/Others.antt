@@ -19,10 +19,11 @@ use Rattle.sys_calls.specs.Calls.{Next, Silent, Blocked, Forks, Emits, Over}
 use Rattle.sys_calls.specs.Next.{next_step, silently, last_emission}
 use Rattle.sys_calls.proofs.Counting.{CountsOne, silent_counts, emits_counts, last_sent}
 use Rattle.plain_kernel.specs.Kernel.{Kernel, pid_cmp, process_at, with_process, letter_put, letter_to, deliver, emitted}
-use Rattle.plain_kernel.specs.Apply.{after_step, one_step, steps, apply, apply_all}
+use Rattle.plain_kernel.specs.Apply.{after_step, one_step, steps, fork_step, apply, apply_all}
 use Rattle.plain_kernel.specs.declared.item.Item.{Item}
 use Rattle.plain_kernel.specs.declared.item.Item.TheVariants.{Run, Fork, Take}
 use Rattle.plain_kernel.proofs.Entries.{some_same}
+use Rattle.plain_kernel.proofs.Unforked.{never_forks}
 use Rattle.plain_kernel.proofs.Laws.{pid_cmp_total, process_at-with_process, process_at-same, with_process-twice, last_silent, no_silent, one_silent}
 
 -- ---- one process is put
@@ -269,20 +270,26 @@ pub steps-keep : (P : Kernel → Type 0) → ((p : Pid) (k j : Kernel) → P k �
 steps-keep P one zero p k j has made = subst P (no_step p k j made) has
 steps-keep P one (suc n) p k j has made = let l = last_step n p k j made in one p l.before j (steps-keep P one n p k l.before has l.earlier) l.last
 
-item_keeps : (P : Kernel → Type 0) → ((p : Pid) (k j : Kernel) → P k → one_step p k ≡ Some j → P j) → (i : Item) (k j : Kernel) → P k → apply k i ≡ Some j → P j
-item_keeps P one (Run p n) k j has made = by_count (eqb n 0) made
-  where
-    by_count : (b : Bool) → cond b None (steps n p k) ≡ Some j → P j
-    by_count true e = cc
-    by_count false e = steps-keep P one n p k j has e
-item_keeps P one (Fork p c) k j has made = cc
-item_keeps P one (Take p) k j has made = cc
+-- what a step and a fork of any process keep
+module _ (P : Kernel → Type 0) (one : (p : Pid) (k j : Kernel) → P k → one_step p k ≡ Some j → P j) (fork : (p c : Pid) (k j : Kernel) → P k → fork_step p c k ≡ Some j → P j) where
+  item_keeps : (i : Item) (k j : Kernel) → P k → apply k i ≡ Some j → P j
+  item_keeps (Run p n) k j has made = by_count (eqb n 0) made
+    where
+      by_count : (b : Bool) → cond b None (steps n p k) ≡ Some j → P j
+      by_count true e = cc
+      by_count false e = steps-keep P one n p k j has e
+  item_keeps (Fork p c) k j has made = fork p c k j has made
+  item_keeps (Take p) k j has made = cc
 
--- and so do items that are applied: no process forks yet, and none is sent a signal
+  -- items that are applied keep as well: no process is sent a signal yet
+  pub items_keep : (is : List Item) (k j : Kernel) → P k → apply_all is k ≡ Some j → P j
+  items_keep [] k j has made = subst P (some_same k j made) has
+  items_keep (i ∷ is) k j has made = by_case (apply k i) refl made (λ l. items_keep is l j)
+    where
+      by_case : (o : Option Kernel) → apply k i ≡ o → option_and_then (apply_all is) o ≡ Some j → ((l : Kernel) → P l → apply_all is l ≡ Some j → P j) → P j
+      by_case None is_o e ih = cc
+      by_case (Some l) is_o e ih = ih l (item_keeps i k l has is_o) e
+
+-- the same of what a step keeps, since no process forks yet
 pub apply_all-keeps : (P : Kernel → Type 0) → ((p : Pid) (k j : Kernel) → P k → one_step p k ≡ Some j → P j) → (is : List Item) (k j : Kernel) → P k → apply_all is k ≡ Some j → P j
-apply_all-keeps P one [] k j has made = subst P (some_same k j made) has
-apply_all-keeps P one (i ∷ is) k j has made = by_case (apply k i) refl made (λ l. apply_all-keeps P one is l j)
-  where
-    by_case : (o : Option Kernel) → apply k i ≡ o → option_and_then (apply_all is) o ≡ Some j → ((l : Kernel) → P l → apply_all is l ≡ Some j → P j) → P j
-    by_case None is_o e ih = cc
-    by_case (Some l) is_o e ih = ih l (item_keeps P one i k l has is_o) e
+apply_all-keeps P one is k j has made = items_keep P one (λ p c k j has forks. absurd (never_forks p c k j forks)) is k j has made

@@ -2,8 +2,10 @@
 use Rattle.std.specs.Prelude.{ℕ, zero, suc, ◌==◌, if◌then◌else◌, List, [], ◌∷◌, Option, Some, None, option_and_then}
 use Rattle.t32_base.specs.declared.process.Pid.{Pid}
 use Rattle.sys_text.specs.declared.system.System.{System}
+use Rattle.proc_state.specs.State.{ProcState}
 use Rattle.sys_calls.specs.Calls.{Next, Silent, Blocked, Forks, Emits, Over}
 use Rattle.sys_calls.specs.Next.{next_step}
+use Rattle.sys_calls.specs.Fork.{fork_child, fork_parent}
 use Rattle.plain_kernel.specs.declared.item.Item.{Item}
 use Rattle.plain_kernel.specs.declared.item.Item.TheVariants.{Run, Fork, Take}
 use Rattle.plain_kernel.specs.Kernel.{Kernel, process_at, with_process, boot, emitted}
@@ -25,10 +27,23 @@ unfoldable pub steps : ℕ → Pid → Kernel → Option Kernel
 steps zero p k = Some k
 steps (suc n) p k = option_and_then (one_step p) (steps n p k)
 
--- an item, where it can be applied. No process forks and none is sent a signal yet
+-- the fork of a process, where its next step is one and the child's pid is not there yet
+abbrev pub after_fork : Kernel → Pid → Pid → ProcState → Next → Option ProcState → Option Kernel
+after_fork k p c s Forks None = Some (with_process (with_process k p (fork_parent s c)) c (fork_child s c))
+after_fork k p c s Forks (Some child) = None
+after_fork k p c s (Silent t) o = None
+after_fork k p c s Blocked o = None
+after_fork k p c s (Emits e t) o = None
+after_fork k p c s Over o = None
+
+-- the fork step of a process that is there
+unfoldable pub fork_step : Pid → Pid → Kernel → Option Kernel
+fork_step p c k = option_and_then (λ s. after_fork k p c s (next_step s) (process_at k c)) (process_at k p)
+
+-- an item, where it can be applied. No process is sent a signal yet
 abbrev pub apply : Kernel → Item → Option Kernel
 apply k (Run p n) = if n == 0 then None else steps n p k
-apply k (Fork p c) = None
+apply k (Fork p c) = fork_step p c k
 apply k (Take p) = None
 
 -- items in order, where each can be applied
