@@ -43,7 +43,7 @@ none_kept test keep (b ∷ bs) none =
     by (keep b) parts.0 (none_kept test keep bs parts.1)
   where
     by : (k : Bool) → test b ≡ false → list_any test (filter keep bs) ≡ false → list_any test (cond k (b ∷ filter keep bs) (filter keep bs)) ≡ false
-    by true here rest i = here i || rest i
+    by true here rest = λ i. here i || rest i
     by false here rest = rest
 
 pub births_kept : (keep : Pid × Pid → Bool) (births : List (Pid × Pid)) → are_births births ≡ true → are_births (filter keep births) ≡ true

@@ -1,7 +1,7 @@
 -- The lowest of some pids: with one more, and that it is one of them.
-use Rattle.std.proofs.Common.{◌≡◌, ℕ, ◌<◌, ◌≤◌, Bool, true, false, ◌&&◌, ◌||◌, cond, List, [], ◌∷◌, ◌++◌, map, filter, length, Option, None, Some, refl, sym, ◌∙◌, ap, arith, eqb, nat_lt}
+use Rattle.std.proofs.Common.{◌≡◌, ℕ, ◌+◌, ◌<◌, ◌≤◌, Bool, true, false, ◌&&◌, ◌||◌, cond, List, [], ◌∷◌, ◌++◌, map, filter, take, get_or, length, Option, None, Some, refl, sym, ◌∙◌, ap, arith, eqb, eq-eqb, nat_lt}
 use Rattle.std.specs.List.{list_any}
-use Rattle.std.proofs.lemmas.List.{map-append}
+use Rattle.std.proofs.lemmas.List.{map-append, take_more}
 use Rattle.std.proofs.lemmas.List.Elements.{filter-append}
 use Rattle.std.proofs.lemmas.Bool.Decides.{nat_tests}
 use Rattle.t32_base.specs.declared.process.Pid.{Pid}
@@ -58,6 +58,18 @@ lowest-other births b parent is =
     ap lowest
     (children-push births b parent ∙ ap (λ t. children_of births parent ++ map (λ (x : Pid × Pid). x.1) (cond t (b ∷ []) [])) is ∙ append_none (children_of births parent))
 
+differs : (m n : ℕ) → (m ≡ n → ⊥) → eqb m n ≡ false
+differs m n other = grind (arith, nat_tests)
+
+-- the children among the first births, with one more of them
+pub lowest-more : (births : List (Pid × Pid)) (i : ℕ) (d : Pid × Pid) (parent : Pid) → i < length births → ((get_or births i d).0).0 ≡ parent.0
+    → lowest (children_of (take (i + 1) births) parent) ≡ Some (lower (get_or births i d).1 (lowest (children_of (take i births) parent)))
+lowest-more births i d parent within is = ap (λ l. lowest (children_of l parent)) (take_more births i d within) ∙ lowest-child (take i births) (get_or births i d) parent (eq-eqb ((get_or births i d).0).0 parent.0 is)
+
+pub lowest-no_more : (births : List (Pid × Pid)) (i : ℕ) (d : Pid × Pid) (parent : Pid) → i < length births → (((get_or births i d).0).0 ≡ parent.0 → ⊥)
+    → lowest (children_of (take (i + 1) births) parent) ≡ lowest (children_of (take i births) parent)
+lowest-no_more births i d parent within is = ap (λ l. lowest (children_of l parent)) (take_more births i d within) ∙ lowest-other (take i births) (get_or births i d) parent (differs ((get_or births i d).0).0 parent.0 is)
+
 -- ---- it is one of them
 
 same_self : (p : Pid) → same_pid p p ≡ true
@@ -72,7 +84,7 @@ or_right false b h = h
 
 pub lowest-in : (ps : List Pid) (c : Pid) → lowest ps ≡ Some c → list_any (λ p. same_pid p c) ps ≡ true
 lowest-in [] c found = cc
-lowest-in (p ∷ ps) c found = by (lowest ps) refl found
+lowest-in (p ∷ ps) c found = by (lowest ps) refl found (λ here. lowest-in ps c here)
   where
     here : p ≡ c → list_any (λ q. same_pid q c) (p ∷ ps) ≡ true
     here same = or_left (same_pid p c) (list_any (λ q. same_pid q c) ps) (ap (λ q. same_pid q c) same ∙ same_self c)
@@ -81,9 +93,9 @@ lowest-in (p ∷ ps) c found = by (lowest ps) refl found
     pick q true rest found = let same : q ≡ c = cc in or_right (same_pid p c) (list_any (λ q. same_pid q c) ps) (rest same)
     pick q false rest found = let same : p ≡ c = cc in here same
 
-    by : (o : Option Pid) → lowest ps ≡ o → Some (lower p o) ≡ Some c → list_any (λ q. same_pid q c) (p ∷ ps) ≡ true
-    by None is found = let same : p ≡ c = cc in here same
-    by (Some q) is found = pick q (nat_lt q.0 p.0) (λ same. lowest-in ps c (is ∙ ap Some same)) found
+    by : (o : Option Pid) → lowest ps ≡ o → Some (lower p o) ≡ Some c → (lowest ps ≡ Some c → list_any (λ q. same_pid q c) ps ≡ true) → list_any (λ q. same_pid q c) (p ∷ ps) ≡ true
+    by None is found rest = let same : p ≡ c = cc in here same
+    by (Some q) is found rest = pick q (nat_lt q.0 p.0) (λ same. rest (is ∙ ap Some same)) found
 
 any_child : (births : List (Pid × Pid)) (parent c : Pid) → list_any (λ p. same_pid p c) (children_of births parent) ≡ list_any (λ (b : Pid × Pid). is_of parent b && same_pid b.1 c) births
 any_child [] parent c = refl

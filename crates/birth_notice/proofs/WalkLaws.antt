@@ -1,6 +1,6 @@
 -- The way down to the child that is to be synchronised first: it ends within as many steps as there are births, so it is what the rule says.
 use Rattle.std.proofs.Common.{◌≡◌, ℕ, zero, suc, ◌<◌, ◌≤◌, Bool, true, false, not, ◌&&◌, ◌||◌, cond, List, [], ◌∷◌, length, Option, None, Some, refl, sym, ◌∙◌, ap, subst, arith, eqb}
-use Rattle.std.specs.Option.{option_map, unwrap_or, IfSome}
+use Rattle.std.specs.Option.{option_map, unwrap_or}
 use Rattle.std.specs.List.{list_any}
 use Rattle.std.proofs.lemmas.Bool.Decides.{nat_tests}
 use Rattle.t32_base.specs.declared.process.Pid.{Pid}
@@ -33,11 +33,12 @@ left-most births p = left_most (length births) births p (omega arith)
 -- of a child in these births
 left_child : (d : ℕ) (births : List (Pid × Pid)) (c : Pid) → list_any (λ (b : Pid × Pid). same_pid b.1 c) births ≡ true → left_from d births c < length births
 left_child d [] c is = cc
-left_child d (b ∷ bs) c is = by (same_pid b.1 c) is
+left_child d (b ∷ bs) c is = by (same_pid b.1 c) is (λ rest. left_child d bs c rest)
   where
-    by : (t : Bool) → (t || list_any (λ (b : Pid × Pid). same_pid b.1 c) bs) ≡ true → cond t (length bs) (left_from d bs c) < suc (length bs)
-    by true is = omega arith
-    by false is = let rest = left_child d bs c is in omega arith
+    by : (t : Bool) → (t || list_any (λ (b : Pid × Pid). same_pid b.1 c) bs) ≡ true → (list_any (λ (b : Pid × Pid). same_pid b.1 c) bs ≡ true → left_from d bs c < length bs)
+        → cond t (length bs) (left_from d bs c) < suc (length bs)
+    by true is more = omega arith
+    by false is more = let rest = more is in omega arith
 
 -- of a process that was born in none
 left_absent : (d : ℕ) (births : List (Pid × Pid)) (p : Pid) → list_any (λ (b : Pid × Pid). same_pid b.1 p) births ≡ false → left_from d births p ≡ d
@@ -50,7 +51,7 @@ left_absent d (b ∷ bs) p none =
 
 weaker : (f g : Pid × Pid → Bool) (births : List (Pid × Pid)) → ((b : Pid × Pid) → g b ≡ true → f b ≡ true) → list_any g births ≡ true → list_any f births ≡ true
 weaker f g [] more is = cc
-weaker f g (b ∷ bs) more is = by (g b) refl is
+weaker f g (b ∷ bs) more is = by (g b) refl is (λ rest. weaker f g bs more rest)
   where
     left_or : (a b : Bool) → a ≡ true → (a || b) ≡ true
     left_or a b h i = h i || b
@@ -59,9 +60,9 @@ weaker f g (b ∷ bs) more is = by (g b) refl is
     right_or true b h = refl
     right_or false b h = h
 
-    by : (t : Bool) → g b ≡ t → (t || list_any g bs) ≡ true → (f b || list_any f bs) ≡ true
-    by true here is = left_or (f b) (list_any f bs) (more b here)
-    by false here is = right_or (f b) (list_any f bs) (weaker f g bs more is)
+    by : (t : Bool) → g b ≡ t → (t || list_any g bs) ≡ true → (list_any g bs ≡ true → list_any f bs ≡ true) → (f b || list_any f bs) ≡ true
+    by true here is rest = left_or (f b) (list_any f bs) (more b here)
+    by false here is rest = right_or (f b) (list_any f bs) (rest is)
 
 weaker_none : (f g : Pid × Pid → Bool) (births : List (Pid × Pid)) → ((b : Pid × Pid) → g b ≡ true → f b ≡ true) → list_any f births ≡ false → list_any g births ≡ false
 weaker_none f g births more none = by (list_any g births) refl
@@ -116,7 +117,8 @@ below d (b ∷ bs) p c ok is h =
 
         by_c : (t : Bool) → same_pid b.1 c ≡ t → cond t (length bs) (left_from d bs c) < left_from d (b ∷ bs) p
         by_c true same =
-            let absent = weaker_none (λ (x : Pid × Pid). stands_in x.1 b) (λ (x : Pid × Pid). same_pid x.1 c) bs (λ x h. as_child x.1 c b same h) none in
+            let absent : list_any (λ (x : Pid × Pid). same_pid x.1 c) bs ≡ false = weaker_none (λ (x : Pid × Pid). stands_in x.1 b) (λ (x : Pid × Pid). same_pid x.1 c) bs (λ x h. as_child x.1 c b same h) none in
+            let wrong : true ≡ false = sym is_child ∙ absent in
             cc
         by_c false other = by_p (same_pid b.1 p)
 
@@ -224,9 +226,5 @@ module _ (births : List (Pid × Pid)) (ok : are_births births ≡ true) where
           let same : unwrap_or (first_unsynced births c) c ≡ f = cc in
           of_child c (first_unsynced births c) refl same (more c (omega arith))
 
-  pub first-childless : (p : Pid) → IfSome (first_unsynced births p) (λ f. children_of births f ≡ [])
-  first-childless p = at (first_unsynced births p) refl
-    where
-      at : (o : Option Pid) → first_unsynced births p ≡ o → IfSome o (λ f. children_of births f ≡ [])
-      at None is = tt
-      at (Some f) is = childless (length births) p f (left-most births p) is
+  pub first-childless : (p f : Pid) → first_unsynced births p ≡ Some f → children_of births f ≡ []
+  first-childless p f found = childless (length births) p f (left-most births p) found

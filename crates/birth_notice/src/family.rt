@@ -4,7 +4,7 @@ ghost use Rattle.std.specs.Option.{IfSome, unwrap_or};
 ghost use Rattle.std.specs.List.{list_any};
 ghost use Rattle.t32_base.specs.declared.process.Pid.{Pid};
 ghost use Rattle.bus_msg.specs.Places.{same_pid};
-ghost use Rattle.birth_notice.specs.Family.{stands_in, are_births, is_of, children_of, lowest, first_unsynced, IsByRule};
+ghost use Rattle.birth_notice.specs.Family.{stands_in, are_births, is_of, children_of, lower, lowest, first_unsynced, IsByRule};
 
 use std::alloc::Global;
 use std::marker::Model;
@@ -18,7 +18,7 @@ pub struct Family {
 }
 
 impl Model for Family {
-    ghost use Rattle.std.specs.Prelude.{List};
+    ghost use Rattle.std.specs.Prelude.{◌≡◌, true, List};
     ghost use Rattle.std.specs.Coded.{coded_list};
     ghost use Rattle.t32_base.specs.declared.process.Pid.{Pid};
     ghost use Rattle.birth_notice.specs.Family.{are_births};
