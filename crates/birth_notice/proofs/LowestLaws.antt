@@ -1,8 +1,9 @@
 -- The lowest of some pids: with one more, and that it is one of them.
-use Rattle.std.proofs.Common.{◌≡◌, ℕ, ◌+◌, ◌<◌, ◌≤◌, Bool, true, false, ◌&&◌, ◌||◌, cond, List, [], ◌∷◌, ◌++◌, map, filter, take, get_or, length, Option, None, Some, refl, sym, ◌∙◌, ap, arith, eqb, eq-eqb, nat_lt}
+use Rattle.std.proofs.Common.{◌≡◌, ℕ, ◌+◌, ◌<◌, Bool, true, false, ◌&&◌, ◌||◌, cond, List, [], ◌∷◌, ◌++◌, map, filter, take, get_or, length, Option, None, Some, refl, sym, ◌∙◌, ap, arith, eq-eqb, nat_lt}
 use Rattle.std.specs.List.{list_any}
 use Rattle.std.proofs.lemmas.List.{map-append, take_more}
 use Rattle.std.proofs.lemmas.List.Elements.{filter-append}
+use Rattle.std.proofs.lemmas.Bool.{ne_eqb}
 use Rattle.std.proofs.lemmas.Bool.Decides.{nat_tests}
 use Rattle.t32_base.specs.declared.process.Pid.{Pid}
 use Rattle.bus_msg.specs.Places.{same_pid}
@@ -58,9 +59,6 @@ lowest-other births b parent is =
     ap lowest
     (children-push births b parent ∙ ap (λ t. children_of births parent ++ map (λ (x : Pid × Pid). x.1) (cond t (b ∷ []) [])) is ∙ append_none (children_of births parent))
 
-differs : (m n : ℕ) → (m ≡ n → ⊥) → eqb m n ≡ false
-differs m n other = grind (arith, nat_tests)
-
 -- the children among the first births, with one more of them
 pub lowest-more : (births : List (Pid × Pid)) (i : ℕ) (d : Pid × Pid) (parent : Pid) → i < length births → ((get_or births i d).0).0 ≡ parent.0
     → lowest (children_of (take (i + 1) births) parent) ≡ Some (lower (get_or births i d).1 (lowest (children_of (take i births) parent)))
@@ -68,7 +66,7 @@ lowest-more births i d parent within is = ap (λ l. lowest (children_of l parent
 
 pub lowest-no_more : (births : List (Pid × Pid)) (i : ℕ) (d : Pid × Pid) (parent : Pid) → i < length births → (((get_or births i d).0).0 ≡ parent.0 → ⊥)
     → lowest (children_of (take (i + 1) births) parent) ≡ lowest (children_of (take i births) parent)
-lowest-no_more births i d parent within is = ap (λ l. lowest (children_of l parent)) (take_more births i d within) ∙ lowest-other (take i births) (get_or births i d) parent (differs ((get_or births i d).0).0 parent.0 is)
+lowest-no_more births i d parent within is = ap (λ l. lowest (children_of l parent)) (take_more births i d within) ∙ lowest-other (take i births) (get_or births i d) parent (ne_eqb ((get_or births i d).0).0 parent.0 is)
 
 -- ---- it is one of them
 

@@ -1,5 +1,5 @@
 -- What `retain` keeps is what its closure answers true for.
-use Rattle.std.proofs.Common.{◌≡◌, ◌∙◌, ap, rules, Bool, not, filter}
+use Rattle.std.proofs.Common.{◌∙◌, ap, rules, Bool, not, filter}
 use Rattle.std.proofs.lemmas.Fn.{filter_same}
 use Rattle.t32_base.specs.declared.process.Pid.{Pid}
 use Rattle.bus_msg.specs.Places.{same_pid}
