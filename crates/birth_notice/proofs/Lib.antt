@@ -1,0 +1,4 @@
+pub mod BirthLaws
+mod Examples
+pub mod LowestLaws
+pub mod WalkLaws

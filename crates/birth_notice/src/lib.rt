@@ -1,0 +1,6 @@
+//! What a cluster knows of the children that never synchronised. No cluster calls it yet.
+#![tactic(auto)]
+
+pub mod family;
+#[cfg(test)]
+mod tests;
