@@ -21,6 +21,7 @@ use Rattle.proc_state.specs.declared.process.Process.{Process}
 use Rattle.proc_state.specs.Ends.{leads_at}
 use Rattle.proc_state.specs.State.{ProcState, state_of, with_small}
 use Rattle.sys_calls.specs.Small.{spent, lowest_linked}
+use Rattle.sys_calls.proofs.Quiet.{no_fork as never_fork}
 use Rattle.sys_calls.specs.declared.reading.Reading.{Reading}
 use Rattle.sys_calls.specs.declared.reading.Reading.TheVariants.{Refused, AtEnd, Wants}
 use Rattle.sys_calls.specs.Calls.{Next, Silent, Blocked, Forks, Emits, Over, Call, ExitCall, Write, Read, ReadAny, GetPid, Close, Unknown, called, call_of, close_to, first_wanted, read_any_checked, read_call, read_checked, read_found, write_to, arg}
@@ -33,7 +34,7 @@ use Rattle.plain_kernel.specs.declared.item.NotApplied.TheVariants.{Disabled, No
 use Rattle.plain_kernel.specs.Answers.{Applies, StopsAt, runs_pid}
 use Rattle.std.proofs.lemmas.Bool.Decides.{nat_tests}
 use Rattle.plain_kernel.specs.Apply.{after_step, one_step, steps, apply}
-use Rattle.plain_kernel.specs.Still.{can_act, lowest, default_item, default_step, default_after, Reaches}
+use Rattle.plain_kernel.specs.Still.{can_act, lowest, item_of_step, default_item, default_step, default_after, Reaches}
 use Rattle.plain_kernel.specs.Maps.{at_key, pid_of, processes_of, kernel_of, total_load, Changes, RunsAt, Advances, lowest_of, IsTurn, RunsSteps, Turns}
 use Rattle.plain_kernel.proofs.Entries.{some_same, tied, later_no_key, later_above, lookup_state, put_state, written_same, found_after, put_after, load_after}
 use Rattle.plain_kernel.proofs.Laws.{steps_one, steps_joined, steps_more, steps_stuck, one_silent, silent_steps, last_silent, no_silent, default_joined, default_one, default_none}
@@ -118,7 +119,7 @@ pub over : (es : List (ℕ × Process)) (ts : List (ℕ × List ℕ)) → IsTurn
 unfolding default_item
 over es ts e = by_case (lowest_of es) refl e
   where
-    by_case : (o : Option (ℕ × Process)) → lowest_of es ≡ o → None ≡ option_map (λ (e : ℕ × Process). e.0) o → option_map (λ (e : Pid × ProcState). Run e.0 1) (find can_act (processes_of es)) ≡ None
+    by_case : (o : Option (ℕ × Process)) → lowest_of es ≡ o → None ≡ option_map (λ (e : ℕ × Process). e.0) o → option_map (λ (e : Pid × ProcState). item_of_step (kernel_of es ts) e.0 (next_step e.1)) (find can_act (processes_of es)) ≡ None
     by_case None is f = rw (lowest_states es, is) refl
     by_case (Some x) is f = cc
 
@@ -196,9 +197,20 @@ had_step k j p Over e = cc
 
 -- ---- the steps of the process that has the turn are items of the default schedule
 
+-- no step is a fork yet, so the item is a run of one
+runs_one : (k : Kernel) (p : Pid) (t : ProcState) → item_of_step k p (next_step t) ≡ Run p 1
+runs_one k p t = by_next (next_step t) refl
+  where
+    by_next : (next : Next) → next_step t ≡ next → item_of_step k p next ≡ Run p 1
+    by_next (Silent s) is = refl
+    by_next Blocked is = refl
+    by_next Forks is = absurd (never_fork t is)
+    by_next (Emits what s) is = refl
+    by_next Over is = refl
+
 one_default : (k : Kernel) (p : Pid) (t : ProcState) → lowest k ≡ Some (p, t) → default_step k ≡ one_step p k
 unfolding default_step default_item
-one_default k p t e = rw e (steps_one p k)
+one_default k p t e = rw e (ap (apply k) (runs_one k p t) ∙ steps_one p k)
 
 same_kernel : (es : List (ℕ × Process)) (ts : List (ℕ × List ℕ)) (pid : ℕ) (v : Process) → IsStrictlySortedBy nat_cmp (keys es) → lookup (at_key pid) es ≡ Some v → with_process (kernel_of es ts) (pid_of pid) (state_of v) ≡ kernel_of es ts
 same_kernel es ts pid v s found =
