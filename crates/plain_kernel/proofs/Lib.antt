@@ -11,6 +11,8 @@ pub mod Starts
 mod Ready
 mod Turns
 pub mod Unforked
+pub mod Forking
+pub mod ForkPids
 pub mod Others
 pub mod Spending
 mod Ahead
