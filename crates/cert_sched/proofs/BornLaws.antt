@@ -25,7 +25,7 @@ use Rattle.cert_sched.proofs.MadeLaws.{BirthMade}
 use Rattle.cert_sched.proofs.BirthLaws.{birth_made}
 
 -- a run, and then a fork
-record RunAndFork (run : List Item) (p c : Pid) (k j : Kernel) : Type 0 where
+pub record RunAndFork (run : List Item) (p c : Pid) (k j : Kernel) : Type 0 where
   pub to : Kernel
   pub ran : apply_all run k ≡ Some to
   pub forks : fork_step p c to ≡ Some j
@@ -37,7 +37,7 @@ one_fork p c k = whole (fork_step p c k)
     whole None = refl
     whole (Some j) = refl
 
-run_and_fork : (run : List Item) (p c : Pid) (k j : Kernel) → apply_all (run ++ Fork p c ∷ []) k ≡ Some j → RunAndFork run p c k j
+pub run_and_fork : (run : List Item) (p c : Pid) (k j : Kernel) → apply_all (run ++ Fork p c ∷ []) k ≡ Some j → RunAndFork run p c k j
 run_and_fork run p c k j made = by_run (apply_all run k) refl (sym (apply_all-append run (Fork p c ∷ []) k) ∙ made)
   where
     by_run : (o : Option Kernel) → apply_all run k ≡ o → option_and_then (apply_all (Fork p c ∷ [])) o ≡ Some j → RunAndFork run p c k j

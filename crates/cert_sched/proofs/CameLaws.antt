@@ -40,6 +40,7 @@ use Rattle.cert_sched.proofs.PidLaws.{placed_pids, apart_fewer}
 use Rattle.cert_sched.proofs.RunsLaws.{rest_pids, led, led-silent_upto, after_runs, runs_made}
 use Rattle.cert_sched.proofs.StepLaws.{applied, is_sent, sent_from, silent_from, no_birth, no_signal_taken, process_after-silent, process_after-beside}
 use Rattle.cert_sched.proofs.MailLaws.{received, received-ended, received-goes_on, process_after-sender, process_after-receiver, silently_ends}
+use Rattle.cert_sched.proofs.BirthKind.{is_birth}
 use Rattle.cert_sched.proofs.MadeLaws.{BirthMade, TakeMade, apart_from}
 use Rattle.cert_sched.proofs.BornLaws.{birth_applied}
 use Rattle.cert_sched.proofs.ReplayLaws.{Replays, replays_last, replays_silently, replays_forked}
@@ -82,15 +83,11 @@ received-all letter p s goes_on = received-goes_on (Sent letter) p s goes_on ∙
 pub same_of : (p q : Pid) → same_pid p q ≡ true → p ≡ q
 same_of p q is i = record { 0 = eqb-true p.0 q.0 is i }
 
--- an entry that tells of no emission, and one that tells of a birth
+-- an entry that tells of no emission
 abbrev pub is_silent : What → Bool
 is_silent (Mail at letter) = false
 is_silent (Exit pid at end) = false
 is_silent _ = true
-
-abbrev pub is_birth : What → Bool
-is_birth (Birth parent at child end) = true
-is_birth _ = false
 
 -- no birth can be applied yet
 pub not_birth : (system : System) (log : List Entry) (e : Entry) → is_some (plain_after system (log ++ e ∷ [])) ≡ true → (w : What) → what e ≡ w → is_birth w ≡ false

@@ -13,7 +13,9 @@ use Rattle.cert_sched.specs.Account.{is_exit_of}
 use Rattle.cert_sched.specs.Deeds.{deeds_in}
 use Rattle.cert_sched.proofs.ExitLaws.{exited, unended_exit}
 use Rattle.cert_sched.proofs.UnendedLaws.{Keeps, unended_map, sync_keeps, backup_keeps, loss_keeps}
-use Rattle.cert_sched.proofs.CameLaws.{is_birth, apart_from, same_of}
+use Rattle.cert_sched.proofs.BirthKind.{is_birth}
+use Rattle.cert_sched.proofs.MadeLaws.{apart_from}
+use Rattle.cert_sched.proofs.CameLaws.{same_of}
 
 -- an entry that tells of no deed of a process is not its exit
 pub no_deed_no_exit : (p : Pid) (w : What) → deeds_in p w ≡ [] → is_exit_of p w ≡ false

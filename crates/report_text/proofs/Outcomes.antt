@@ -27,7 +27,8 @@ use Rattle.cert_sched.specs.Steps.{emission_at}
 use Rattle.cert_sched.specs.Kinds.{KindHolds}
 use Rattle.cert_sched.specs.Legal.{IsLegalBy, Stands}
 use Rattle.cert_sched.proofs.Induction.{legal_induction}
-use Rattle.cert_sched.proofs.CameLaws.{IsStandingRule, is_birth, is_silent, not_birth}
+use Rattle.cert_sched.proofs.BirthKind.{is_birth}
+use Rattle.cert_sched.proofs.CameLaws.{IsStandingRule, is_silent, not_birth}
 use Rattle.cert_sched.proofs.EndedLaws.{letter_told}
 use Rattle.cert_sched.proofs.FreshLaws.{Numbered, numbered_at_boot, numbered_more}
 use Rattle.cert_sched.proofs.MailLaws.{sender_goes_on}
