@@ -13,11 +13,13 @@ use Rattle.plain_kernel.proofs.Entries.{some_same}
 use Rattle.plain_kernel.proofs.Laws.{apply_all-append}
 use Rattle.plain_kernel.proofs.Others.{small_at}
 use Rattle.plain_kernel.proofs.Forking.{fork_made, fork-apart}
-use Rattle.bus_msg.specs.declared.entry.What.TheVariants.{Birth}
+use Rattle.bus_msg.specs.declared.entry.What.{What}
+use Rattle.bus_msg.specs.declared.entry.What.TheVariants.{Mail, Birth, Exit, Page, Sync, Fetch, PageIs, Crash, Return, Rebackup, Done, Stop}
 use Rattle.bus_msg.specs.declared.entry.Entry.{Entry}
 use Rattle.bus_msg.specs.Places.{same_pid}
 use Rattle.bus_msg.specs.PlacedAfter.{what}
 use Rattle.cert_sched.specs.Schedule.{after_entry, items_of, plain_after, process_after, run_upto}
+use Rattle.cert_sched.specs.Deeds.{is_birth_of}
 use Rattle.cert_sched.specs.Steps.{before_fork_at}
 use Rattle.cert_sched.proofs.LogLaws.{plain_after-snoc}
 use Rattle.cert_sched.proofs.StepLaws.{applied, run_upto-small}
@@ -95,3 +97,27 @@ module _ (system : System) (log : List Entry) (e : Entry) (parent : Pid) (at : �
   -- and the child was not there before
   pub child_absent : process_after system log child ≡ None
   child_absent = is_new.absent
+
+-- a process that was there before an entry is not born by it
+pub there_not_born : (system : System) (log : List Entry) (e : Entry) (p : Pid) (was : ProcState) → is_some (plain_after system (log ++ e ∷ [])) ≡ true → process_after system log p ≡ Some was → is_birth_of p (what e) ≡ false
+there_not_born system log e p was applies there = by_what (what e) refl
+  where
+    by_pid : (parent : Pid) (at : ℕ) (child : Pid) (end : ℕ) → what e ≡ Birth parent at child end → (b : Bool) → same_pid child p ≡ b → b ≡ false
+    by_pid parent at child end is true same =
+        let pid : child ≡ p = λ i. record { 0 = eqb-true child.0 p.0 same i } in
+        absurd (true≢false (ap is_some (sym there ∙ ap (process_after system log) (sym pid) ∙ child_absent system log e parent at child end is applies)))
+    by_pid parent at child end is false other = refl
+
+    by_what : (w : What) → what e ≡ w → is_birth_of p w ≡ false
+    by_what (Birth parent at child end) is = by_pid parent at child end is (same_pid child p) refl
+    by_what (Mail at letter) is = refl
+    by_what (Exit pid at end) is = refl
+    by_what (Page pid at index bytes) is = refl
+    by_what (Sync pid small read took) is = refl
+    by_what (Fetch pid index) is = refl
+    by_what (PageIs pid index bytes) is = refl
+    by_what (Crash k cause) is = refl
+    by_what (Return k) is = refl
+    by_what (Rebackup to fresh recs) is = refl
+    by_what (Done rests) is = refl
+    by_what Stop is = refl

@@ -83,9 +83,10 @@ received-all letter p s goes_on = received-goes_on (Sent letter) p s goes_on ∙
 pub same_of : (p q : Pid) → same_pid p q ≡ true → p ≡ q
 same_of p q is i = record { 0 = eqb-true p.0 q.0 is i }
 
--- an entry that tells of no emission
+-- an entry that tells of no emission and no birth
 abbrev pub is_silent : What → Bool
 is_silent (Mail at letter) = false
+is_silent (Birth parent at child end) = false
 is_silent (Exit pid at end) = false
 is_silent _ = true
 
@@ -300,7 +301,7 @@ module _ (system : System) (log : List Entry) (e : Entry) where
   pub went_silently : (w : What) → what e ≡ w → is_silent w ≡ true → is_some (plain_after system (log ++ e ∷ [])) ≡ true → KindHolds system log e w → NoTwo (placed_pids (placement system log).placed)
       → (p : Pid) (now : ProcState) → process_after system (log ++ e ∷ []) p ≡ Some now → Silently p now
   went_silently (Mail at letter) is quiet applies kind two p now there = absurd (true≢false (sym quiet))
-  went_silently (Birth parent at child end) is quiet applies kind two p now there = absurd (no_birth system log e parent at child end is applies)
+  went_silently (Birth parent at child end) is quiet applies kind two p now there = absurd (true≢false (sym quiet))
   went_silently (Exit q at end) is quiet applies kind two p now there = absurd (true≢false (sym quiet))
   went_silently (Page q at index bytes) is quiet applies kind two p now there = still (Page q at index bytes) p now is (λ k. refl) there
   went_silently (Sync q small read took) is quiet applies kind two p now there = sync_silently q small read took is applies kind p now there
