@@ -12,5 +12,7 @@ mod Ready
 mod Turns
 pub mod Unforked
 pub mod Others
+pub mod Forking
+pub mod ForkPids
 pub mod Spending
 mod Ahead
