@@ -193,8 +193,8 @@ halved births some = omega (arith, some)
 pub fork_lightens : (s : ProcState) (child : Pid) → CanFork s → weight_with_children (fork_parent s child).small + weight_with_children (fork_child s child).small + 2 ≤ weight_with_children s.small
 fork_lightens s child can =
     let base = shared (s.small).births (s.small).left ((s.small).left - 1) (count_by is_unshut (s.small).ends) (count_by is_unshut ((fork_parent s child).small).ends) (count_by is_unshut ((fork_child s child).small).ends)
-        ((s.small).births - 1 - child_births (s.small).births) (child_births (s.small).births) (halved (s.small).births can.births) (omega (arith, can.some))
-        (linked_no_more (s.small).ends (position is_never (s.small).ends) child refl can.end) (count_by-le-length is_unshut ((fork_child s child).small).ends) in
+    ((s.small).births - 1 - child_births (s.small).births) (child_births (s.small).births) (halved (s.small).births can.births) (omega (arith, can.some))
+    (linked_no_more (s.small).ends (position is_never (s.small).ends) child refl can.end) (count_by-le-length is_unshut ((fork_child s child).small).ends) in
     omega (arith, base, ap stages can.live)
 
 -- ---- a letter that arrives

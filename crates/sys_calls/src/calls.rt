@@ -58,7 +58,7 @@ pub fn call(alloc: Global, p: &mut Process) -> Result<Step, NoMemory>
             let reading = read_any_checked(p);
             read_step(make_read(p, reading))
         }
-        FORK if forks_are_built() => Ok(fork(p)),
+        FORK if forks_are_built() => Ok(fork_call(p)),
         6 => {
             let pid = p.small.pid.0;
             answer(&mut p.small, pid);
@@ -160,7 +160,7 @@ fn close_end(p: &mut Process) -> Step
 }
 
 /// fork(): refused where no birth or no end is left; else the fork is the next step, and the call changes nothing.
-fn fork(p: &mut Process) -> Step
+fn fork_call(p: &mut Process) -> Step
     requires some { 0 < p.old.small.left }
     ensures makes { Makes (fork_call (with_small (state_of p.old) (spent p.old.small))) (Ok result) (state_of p.old) (state_of p.new) }
     ensures marks { p.new.ram.dirty ≡ p.old.ram.dirty }
