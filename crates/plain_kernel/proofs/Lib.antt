@@ -14,5 +14,10 @@ pub mod Unforked
 pub mod Forking
 pub mod ForkPids
 pub mod Others
+pub mod Forking
+pub mod ForkPids
+pub mod NextChild
+mod Forked
+mod PidRoom
 pub mod Spending
 mod Ahead
