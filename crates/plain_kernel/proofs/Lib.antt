@@ -11,8 +11,6 @@ pub mod Starts
 mod Ready
 mod Turns
 pub mod Unforked
-pub mod Forking
-pub mod ForkPids
 pub mod Others
 pub mod Forking
 pub mod ForkPids

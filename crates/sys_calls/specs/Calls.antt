@@ -1,5 +1,5 @@
 -- The system calls that are built: their numbers, what each checks, in this order, and what each does.
-use Rattle.std.specs.Prelude.{◌≡◌, ℕ, ◌<◌, true, ◌+◌, ◌-◌, ◌%◌, ◌^◌, min, Bool, not, ◌||◌, ◌==◌, nat_lt, if◌then◌else◌, List, [], length, take, find, Option, Some, None, option_and_then}
+use Rattle.std.specs.Prelude.{◌≡◌, ℕ, ◌<◌, true, false, ◌+◌, ◌-◌, ◌%◌, ◌^◌, min, Bool, not, ◌&&◌, ◌||◌, ◌==◌, nat_lt, if◌then◌else◌, List, [], length, take, find, Option, Some, None, option_and_then}
 use Rattle.std.specs.List.{list_any}
 use Rattle.std.specs.Option.{option_map_or}
 use Rattle.t32_base.specs.declared.process.End.TheVariants.{Exit}
@@ -15,7 +15,7 @@ use Rattle.t32_base.specs.declared.letter.To.TheVariants.{Proc, Tty}
 use Rattle.t32_base.specs.Small.{SmallState}
 use Rattle.rv_mem.specs.Memory.{is_inside, bytes_at, with_bytes, touched}
 use Rattle.rv_cpu.specs.Exec.{reg, onward}
-use Rattle.proc_state.specs.Ends.{is_open_at, is_unfinished, is_unfinished_at, finished_at, leads_at}
+use Rattle.proc_state.specs.Ends.{free_end, is_open_at, is_unfinished, is_unfinished_at, finished_at, leads_at}
 use Rattle.proc_state.specs.Mail.{end_of, is_on, is_on_linked, without_first}
 use Rattle.proc_state.specs.State.{ProcState, with_small}
 use Rattle.sys_calls.specs.Small.{answered, both_answered, with_end, with_ends, with_status, with_regs}
@@ -34,11 +34,16 @@ pub data Next : Type 0 where
   Emits : (what : Emission) (after : ProcState) → Next
   Over : Next
 
+-- Whether the call that forks is built. As long as clusters carry no children it is not, and its number is that of no call.
+unfoldable pub forks_are_built : Bool
+forks_are_built = false
+
 pub data Call : Type 0 where
   ExitCall : Call
   Write : Call
   Read : Call
   ReadAny : Call
+  ForkCall : Call
   GetPid : Call
   Close : Call
   Unknown : Call
@@ -47,7 +52,7 @@ pub data Call : Type 0 where
 abbrev pub call_of : ℕ → Call
 call_of n =
     if n == 1 then ExitCall else if n == 2 then Write else if n == 3 then Read else if n == 4 then ReadAny
-    else if n == 6 then GetPid else if n == 10 then Close else Unknown
+    else if n == 5 && forks_are_built then ForkCall else if n == 6 then GetPid else if n == 10 then Close else Unknown
 
 -- ---- what a call is made of; p is the process after its instruction was spent
 
@@ -163,6 +168,15 @@ read_call p (Refused error) = refused p error
 read_call p AtEnd = Silent (answers p 0)
 read_call p (Wants wanted ptr room) = read_found p wanted ptr room (first_wanted p wanted)
 
+-- ---- fork
+
+-- fork(): a birth is left, and an end that was never linked; the fork itself is a step of its own kind
+abbrev pub fork_call : ProcState → Next
+fork_call p =
+    if (p.small).births == 0 then refused p 11
+    else if not (nat_lt (free_end (p.small).ends) 32) then refused p 24
+    else Forks
+
 -- ---- the calls
 
 -- p makes the call
@@ -171,6 +185,7 @@ called ExitCall p = Silent (with_small p (with_regs (with_status p.small (Closin
 called Write p = write_call p (arg p 0) (arg p 1) (arg p 2)
 called Read p = read_call p (read_checked p)
 called ReadAny p = read_call p (read_any_checked p)
+called ForkCall p = fork_call p
 called GetPid p = Silent (answers p ((p.small).pid).0)
 called Close p = close_call p (arg p 0)
 called Unknown p = refused p 22
@@ -181,6 +196,7 @@ reading_of ExitCall p = None
 reading_of Write p = None
 reading_of Read p = Some (read_checked p)
 reading_of ReadAny p = Some (read_any_checked p)
+reading_of ForkCall p = None
 reading_of GetPid p = None
 reading_of Close p = None
 reading_of Unknown p = None

@@ -46,6 +46,13 @@ has_step Forks = true
 has_step (Emits e p) = true
 has_step Over = false
 
+abbrev pub is_fork : Next → Bool
+is_fork (Silent p) = false
+is_fork Blocked = false
+is_fork Forks = true
+is_fork (Emits e p) = false
+is_fork Over = false
+
 abbrev pub is_blocked : Next → Bool
 is_blocked (Silent p) = false
 is_blocked Blocked = true

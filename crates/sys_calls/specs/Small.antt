@@ -1,5 +1,5 @@
 -- How the state of a process changes by a step, but for its memory and its mailbox.
-use Rattle.std.specs.Prelude.{ℕ, ◌+◌, ◌-◌, List, [], ◌∷◌, slice_set, Option, Some, None}
+use Rattle.std.specs.Prelude.{ℕ, ◌+◌, ◌-◌, ◌*◌, List, [], ◌∷◌, slice_set, Option, Some, None}
 use Rattle.t32_base.specs.declared.process.Status.{Status}
 use Rattle.t32_base.specs.declared.process.EndState.{EndState}
 use Rattle.t32_base.specs.declared.process.EndState.TheVariants.{Never, Tty, Linked, Shut}
@@ -60,3 +60,7 @@ shut_at (Some found) s = stepped (with_end s found.0 Shut)
 -- at most so many steps are left: instructions, end letters, and the changes of status
 abbrev pub weight : SmallState → ℕ
 weight s = steps_left s.left s.ends s.status
+
+-- the most steps that a process and the children that it may still fork can make: a child has 32 ends, and two changes of status to come
+abbrev pub weight_with_children : SmallState → ℕ
+weight_with_children s = weight s + s.births * (s.left + 34)
