@@ -26,13 +26,13 @@ with_pid c (p ∷ ps) = by_order (pid_cmp c p) (c ∷ p ∷ ps) (p ∷ ps) (p �
 
 pub put_with_pid : (c : Pid) (s : ProcState) (es : List (Pid × ProcState)) → map (λ (e : Pid × ProcState). e.0) (put pid_cmp c s es) ≡ with_pid c (map (λ (e : Pid × ProcState). e.0) es)
 put_with_pid c s [] = refl
-put_with_pid c s (e ∷ es) = by_case (pid_cmp c e.0)
+put_with_pid c s (e ∷ es) = by_case (pid_cmp c e.0) (put_with_pid c s es)
   where
-    by_case : (o : Ordering) → map (λ (e : Pid × ProcState). e.0) (by_order o ((c, s) ∷ e ∷ es) ((e.0, s) ∷ es) (e ∷ put pid_cmp c s es))
+    by_case : (o : Ordering) → map (λ (e : Pid × ProcState). e.0) (put pid_cmp c s es) ≡ with_pid c (map (λ (e : Pid × ProcState). e.0) es) → map (λ (e : Pid × ProcState). e.0) (by_order o ((c, s) ∷ e ∷ es) ((e.0, s) ∷ es) (e ∷ put pid_cmp c s es))
         ≡ by_order o (c ∷ e.0 ∷ map (λ (e : Pid × ProcState). e.0) es) (e.0 ∷ map (λ (e : Pid × ProcState). e.0) es) (e.0 ∷ with_pid c (map (λ (e : Pid × ProcState). e.0) es))
-    by_case Less = refl
-    by_case Equal = refl
-    by_case Greater = ap (λ ps. e.0 ∷ ps) (put_with_pid c s es)
+    by_case Less more = refl
+    by_case Equal more = refl
+    by_case Greater more = ap (λ ps. e.0 ∷ ps) more
 
 -- a kernel in which one more process is put
 pub put_more : (pids : List Pid) (k : Kernel) (c : Pid) (s : ProcState) → HasPids pids k → HasPids (with_pid c pids) (with_process k c s)
@@ -51,7 +51,7 @@ fork_step-rising p c k j rising made = (fork_step-pids (pids_in k) p c k j (reco
 -- it is among them, and all that were
 pub with_pid-any : (t : Pid → Bool) (c : Pid) (pids : List Pid) → ((p : Pid) → pid_cmp c p ≡ Equal → t p ≡ t c) → list_any t (with_pid c pids) ≡ (t c || list_any t pids)
 with_pid-any t c [] alike = refl
-with_pid-any t c (p ∷ ps) alike = by_case (pid_cmp c p) refl
+with_pid-any t c (p ∷ ps) alike = by_case (pid_cmp c p) refl (with_pid-any t c ps alike)
   where
     twice : (a b : Bool) → (a || b) ≡ (a || (a || b))
     twice true b = refl
@@ -62,10 +62,10 @@ with_pid-any t c (p ∷ ps) alike = by_case (pid_cmp c p) refl
     swapped true false d = refl
     swapped false b d = refl
 
-    by_case : (o : Ordering) → pid_cmp c p ≡ o → list_any t (by_order o (c ∷ p ∷ ps) (p ∷ ps) (p ∷ with_pid c ps)) ≡ (t c || (t p || list_any t ps))
-    by_case Less is = refl
-    by_case Equal is = ap (λ b. b || list_any t ps) (alike p is) ∙ twice (t c) (list_any t ps) ∙ ap (λ b. t c || (b || list_any t ps)) (sym (alike p is))
-    by_case Greater is = ap (λ b. t p || b) (with_pid-any t c ps alike) ∙ swapped (t p) (t c) (list_any t ps)
+    by_case : (o : Ordering) → pid_cmp c p ≡ o → list_any t (with_pid c ps) ≡ (t c || list_any t ps) → list_any t (by_order o (c ∷ p ∷ ps) (p ∷ ps) (p ∷ with_pid c ps)) ≡ (t c || (t p || list_any t ps))
+    by_case Less is more = refl
+    by_case Equal is more = ap (λ b. b || list_any t ps) (alike p is) ∙ twice (t c) (list_any t ps) ∙ ap (λ b. t c || (b || list_any t ps)) (sym (alike p is))
+    by_case Greater is more = ap (λ b. t p || b) more ∙ swapped (t p) (t c) (list_any t ps)
 
 -- ---- each process has the pid under which it stands
 
