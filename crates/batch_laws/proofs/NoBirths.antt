@@ -13,7 +13,8 @@ use Rattle.cert_sched.specs.Schedule.{placement}
 use Rattle.cert_sched.specs.Family.{born, births_of, is_unsynced}
 use Rattle.cert_sched.specs.Kinds.{ChildrenSynced}
 use Rattle.cert_sched.specs.Legal.{IsLegalBy, Stands}
-use Rattle.cert_sched.proofs.CameLaws.{is_birth, not_birth}
+use Rattle.cert_sched.proofs.BirthKind.{is_birth}
+use Rattle.cert_sched.proofs.CameLaws.{not_birth}
 use Rattle.cert_sched.proofs.Induction.{legal_induction}
 
 none_born : (w : What) → is_birth w ≡ false → born w ≡ []

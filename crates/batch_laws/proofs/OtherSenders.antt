@@ -20,7 +20,8 @@ use Rattle.cert_sched.specs.Account.{is_exit_of}
 use Rattle.cert_sched.specs.Losses.{is_by_cluster, is_from}
 use Rattle.cert_sched.specs.Rules.{home_at, is_by, is_by_home, is_by_right, is_living, is_over}
 use Rattle.cert_sched.specs.Legal.{IsLegalBy, Stands}
-use Rattle.cert_sched.proofs.CameLaws.{is_birth, not_birth, same_of}
+use Rattle.cert_sched.proofs.BirthKind.{is_birth}
+use Rattle.cert_sched.proofs.CameLaws.{not_birth, same_of}
 use Rattle.page_laws.specs.Next.{moves_next}
 use Rattle.mark_laws.specs.Beside.{LeavesMarks, is_some_page}
 use Rattle.batch_laws.specs.Between.{ComesBetween}

@@ -13,7 +13,8 @@ use Rattle.bus_msg.specs.Places.{Places, unended_at}
 use Rattle.cert_sched.specs.Deeds.{is_cut, is_birth_of, is_first}
 use Rattle.cert_sched.specs.Steps.{process_of}
 use Rattle.cert_sched.specs.Rules.{is_by, is_living, is_by_home, is_by_right}
-use Rattle.cert_sched.proofs.CameLaws.{is_birth, same_of}
+use Rattle.cert_sched.proofs.BirthKind.{is_birth}
+use Rattle.cert_sched.proofs.CameLaws.{same_of}
 
 -- an entry that tells of no birth is the birth of no process
 pub bears_none : (p : Pid) (w : What) → is_birth w ≡ false → is_birth_of p w ≡ false

@@ -40,6 +40,9 @@ use Rattle.cert_sched.proofs.PidLaws.{placed_pids, apart_fewer}
 use Rattle.cert_sched.proofs.RunsLaws.{rest_pids, led, led-silent_upto, after_runs, runs_made}
 use Rattle.cert_sched.proofs.StepLaws.{applied, is_sent, sent_from, silent_from, no_birth, no_signal_taken, process_after-silent, process_after-beside}
 use Rattle.cert_sched.proofs.MailLaws.{received, received-ended, received-goes_on, process_after-sender, process_after-receiver, silently_ends}
+use Rattle.cert_sched.proofs.BirthKind.{is_birth}
+use Rattle.cert_sched.proofs.MadeLaws.{BirthMade, TakeMade, apart_from}
+use Rattle.cert_sched.proofs.BornLaws.{birth_applied}
 use Rattle.cert_sched.proofs.ReplayLaws.{Replays, replays_last, replays_silently, replays_forked}
 
 -- ---- rules by which an entry stands
@@ -80,18 +83,12 @@ received-all letter p s goes_on = received-goes_on (Sent letter) p s goes_on ∙
 pub same_of : (p q : Pid) → same_pid p q ≡ true → p ≡ q
 same_of p q is i = record { 0 = eqb-true p.0 q.0 is i }
 
-pub apart_from : (p q : Pid) → same_pid p q ≡ false → q.0 ≢ p.0
-apart_from p q is same = true≢false (sym (eq-eqb p.0 q.0 (sym same)) ∙ is)
-
--- an entry that tells of no emission, and one that tells of a birth
+-- an entry that tells of no emission and no birth
 abbrev pub is_silent : What → Bool
 is_silent (Mail at letter) = false
+is_silent (Birth parent at child end) = false
 is_silent (Exit pid at end) = false
 is_silent _ = true
-
-abbrev pub is_birth : What → Bool
-is_birth (Birth parent at child end) = true
-is_birth _ = false
 
 -- no birth can be applied yet
 pub not_birth : (system : System) (log : List Entry) (e : Entry) → is_some (plain_after system (log ++ e ∷ [])) ≡ true → (w : What) → what e ≡ w → is_birth w ≡ false
@@ -304,7 +301,7 @@ module _ (system : System) (log : List Entry) (e : Entry) where
   pub went_silently : (w : What) → what e ≡ w → is_silent w ≡ true → is_some (plain_after system (log ++ e ∷ [])) ≡ true → KindHolds system log e w → NoTwo (placed_pids (placement system log).placed)
       → (p : Pid) (now : ProcState) → process_after system (log ++ e ∷ []) p ≡ Some now → Silently p now
   went_silently (Mail at letter) is quiet applies kind two p now there = absurd (true≢false (sym quiet))
-  went_silently (Birth parent at child end) is quiet applies kind two p now there = absurd (no_birth system log e parent at child end is applies)
+  went_silently (Birth parent at child end) is quiet applies kind two p now there = absurd (true≢false (sym quiet))
   went_silently (Exit q at end) is quiet applies kind two p now there = absurd (true≢false (sym quiet))
   went_silently (Page q at index bytes) is quiet applies kind two p now there = still (Page q at index bytes) p now is (λ k. refl) there
   went_silently (Sync q small read took) is quiet applies kind two p now there = sync_silently q small read took is applies kind p now there
@@ -338,39 +335,13 @@ module _ (system : System) (log : List Entry) (e : Entry) where
       let none = silent_no_deed w p quiet other in
       silent_came w p now none.0 none.1 none.2 (went_silently w is quiet applies kind two p now there)
 
-  came_by : (w : What) → what e ≡ w → is_some (plain_after system (log ++ e ∷ [])) ≡ true → KindHolds system log e w → NoTwo (placed_pids (placement system log).placed) → (p : Pid) → Here w p
-  came_by (Mail at letter) is applies kind two p = let sent = is_sent system log letter.from at (Sent letter) kind in mail_came at letter sent.after p sent.is is
-  came_by (Birth parent at child end) is applies kind two p = absurd (no_birth system log e parent at child end is applies)
-  came_by (Exit q at end) is applies kind two p = let sent = is_sent system log q at (Ended end) kind.0 in exit_came q at end sent.after p sent.is is
-  came_by (Page q at index bytes) is applies kind two p = came_silently (Page q at index bytes) is refl refl applies kind two p
-  came_by (Sync q small read took) is applies kind two p = came_silently (Sync q small read took) is refl refl applies kind two p
-  came_by (Fetch q index) is applies kind two p = came_silently (Fetch q index) is refl refl applies kind two p
-  came_by (PageIs q index bytes) is applies kind two p = came_silently (PageIs q index bytes) is refl refl applies kind two p
-  came_by (Crash k cause) is applies kind two p = came_silently (Crash k cause) is refl refl applies kind two p
-  came_by (Return k) is applies kind two p = came_silently (Return k) is refl refl applies kind two p
-  came_by (Rebackup to fresh recs) is applies kind two p = came_silently (Rebackup to fresh recs) is refl refl applies kind two p
-  came_by (Done rests) is applies kind two p = came_silently (Done rests) is refl refl applies kind two p
-  came_by Stop is applies kind two p = came_silently Stop is refl refl applies kind two p
-
   -- ---- births and takes, where a kernel makes them
-
-  -- the kernel makes a birth: silent steps lead the parent to its fork; it and the child are as the fork leaves them, and every other process is as it was
-  pub record BirthMade (parent child : Pid) : Type 0 where
-    pub was : ProcState
-    pub there : process_after system log parent ≡ Some was
-    pub made : ℕ
-    pub before : ProcState
-    pub forks : before_fork made was ≡ Some before
-    pub parent_is : process_after system (log ++ e ∷ []) parent ≡ Some (fork_parent before child)
-    pub child_is : process_after system (log ++ e ∷ []) child ≡ Some (fork_child before child)
-    pub apart : same_pid child parent ≡ false
-    pub others : (p : Pid) → same_pid parent p ≡ false → same_pid child p ≡ false → process_after system (log ++ e ∷ []) p ≡ process_after system log p
 
   stays : (w : What) (p : Pid) (now : ProcState) → process_after system (log ++ e ∷ []) p ≡ process_after system log p → process_after system (log ++ e ∷ []) p ≡ Some now → deeds_in p w ≡ [] → letter_for p w ≡ [] → is_birth_of p w ≡ false → Came system log w p now
   stays w p now same there deeds letters birth = silent_came w p now deeds letters birth (record { was = now; there = sym same ∙ there; made = 0; silent = none_made now })
 
   -- then the parent goes on by its fork, which bears the child, and the child is born there, with no letter
-  pub birth_came : (parent : Pid) (at : ℕ) (child : Pid) (end : ℕ) → BirthMade parent child → (p : Pid) (now : ProcState) → process_after system (log ++ e ∷ []) p ≡ Some now → Came system log (Birth parent at child end) p now
+  pub birth_came : (parent : Pid) (at : ℕ) (child : Pid) (end : ℕ) → BirthMade system log e parent child → (p : Pid) (now : ProcState) → process_after system (log ++ e ∷ []) p ≡ Some now → Came system log (Birth parent at child end) p now
   birth_came parent at child end b p now there = by_parent (same_pid parent p) refl
     where
       forked : (p : Pid) → parent ≡ p → process_after system (log ++ e ∷ []) p ≡ Some now → Came system log (Birth parent at child end) p now
@@ -394,19 +365,8 @@ module _ (system : System) (log : List Entry) (e : Entry) where
       by_parent true is = forked p (same_of parent p is) there
       by_parent false is = by_child is (same_pid child p) refl
 
-  -- the kernel makes a take: silent steps lead the process to it, it has not ended, and the signal is taken; every other process is as it was
-  pub record TakeMade (q : Pid) : Type 0 where
-    pub was : ProcState
-    pub there : process_after system log q ≡ Some was
-    pub made : ℕ
-    pub before : ProcState
-    pub silent : silently made was ≡ Some before
-    pub open_still : has_ended ((before).small).status ≡ false
-    pub after : process_after system (log ++ e ∷ []) q ≡ Some (taken before)
-    pub others : (p : Pid) → same_pid q p ≡ false → process_after system (log ++ e ∷ []) p ≡ process_after system log p
-
   -- then the process is cut there, and no letter arrived
-  pub take_came : (q : Pid) (small : SmallState) (read : List ℕ) (g : ℕ) → TakeMade q → (p : Pid) (now : ProcState) → process_after system (log ++ e ∷ []) p ≡ Some now → Came system log (Sync q small read (Some g)) p now
+  pub take_came : (q : Pid) (small : SmallState) (read : List ℕ) (g : ℕ) → TakeMade system log e q → (p : Pid) (now : ProcState) → process_after system (log ++ e ∷ []) p ≡ Some now → Came system log (Sync q small read (Some g)) p now
   take_came q small read g t p now there = by_pid (same_pid q p) refl
     where
       cut : (p : Pid) → q ≡ p → process_after system (log ++ e ∷ []) p ≡ Some now → Came system log (Sync q small read (Some g)) p now
@@ -418,6 +378,23 @@ module _ (system : System) (log : List Entry) (e : Entry) where
       by_pid : (b : Bool) → same_pid q p ≡ b → Came system log (Sync q small read (Some g)) p now
       by_pid true is = cut p (same_of q p is) there
       by_pid false is = stays (Sync q small read (Some g)) p now (t.others p is) there refl refl refl
+
+  -- ---- every kind
+
+  came_by : (w : What) → what e ≡ w → is_some (plain_after system (log ++ e ∷ [])) ≡ true → KindHolds system log e w → NoTwo (placed_pids (placement system log).placed) → (p : Pid) → Here w p
+  unfolding Here
+  came_by (Mail at letter) is applies kind two p = let sent = is_sent system log letter.from at (Sent letter) kind in mail_came at letter sent.after p sent.is is
+  came_by (Birth parent at child end) is applies kind two p = λ now there goes_on. birth_came parent at child end (birth_applied system log e parent at child end is applies kind.end_is) p now there
+  came_by (Exit q at end) is applies kind two p = let sent = is_sent system log q at (Ended end) kind.0 in exit_came q at end sent.after p sent.is is
+  came_by (Page q at index bytes) is applies kind two p = came_silently (Page q at index bytes) is refl refl applies kind two p
+  came_by (Sync q small read took) is applies kind two p = came_silently (Sync q small read took) is refl refl applies kind two p
+  came_by (Fetch q index) is applies kind two p = came_silently (Fetch q index) is refl refl applies kind two p
+  came_by (PageIs q index bytes) is applies kind two p = came_silently (PageIs q index bytes) is refl refl applies kind two p
+  came_by (Crash k cause) is applies kind two p = came_silently (Crash k cause) is refl refl applies kind two p
+  came_by (Return k) is applies kind two p = came_silently (Return k) is refl refl applies kind two p
+  came_by (Rebackup to fresh recs) is applies kind two p = came_silently (Rebackup to fresh recs) is refl refl applies kind two p
+  came_by (Done rests) is applies kind two p = came_silently (Done rests) is refl refl applies kind two p
+  came_by Stop is applies kind two p = came_silently Stop is refl refl applies kind two p
 
 -- each process that has not ended after an entry that stands came there so
 pub came : (system : System) (log : List Entry) (e : Entry) → Stands system log e → NoTwo (placed_pids (placement system log).placed)

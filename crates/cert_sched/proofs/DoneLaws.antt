@@ -28,7 +28,7 @@ use Rattle.cert_sched.specs.Built.{BuiltMayFollow}
 use Rattle.cert_sched.specs.Appended.{entry_of}
 use Rattle.cert_sched.proofs.ListLaws.{list_all-weaker}
 use Rattle.cert_sched.proofs.LogLaws.{plain_after-snoc}
-use Rattle.cert_sched.proofs.StepLaws.{plain_after-pids}
+use Rattle.cert_sched.proofs.StepLaws.{plain_after-rising}
 use Rattle.cert_sched.proofs.RisingLaws.{NoTwo, rising-any, rising-apart}
 use Rattle.cert_sched.proofs.PidLaws.{placed_pids, apart_fewer}
 use Rattle.cert_sched.proofs.FreshLaws.{numbered}
@@ -115,7 +115,7 @@ done_kernel system log rests valid legal rest = by_kernel (plain_after system lo
 
 done_still : (system : System) (log : List Entry) (rests : List (Pid × ℕ)) → IsLegalBy BuiltMayFollow system log → is_over system log ≡ false → AllRest system log rests → (d : DoneKernel system log rests) → is_still (d.runs).to ≡ true
 done_still system log rests legal goes_on rest d =
-    still_where_none_acts (d.runs).to (plain_after-pids system (log ++ done_entry system log rests ∷ []) (d.runs).to d.after).rising none_moves
+    still_where_none_acts (d.runs).to (plain_after-rising system (log ++ done_entry system log rests ∷ []) (d.runs).to d.after) none_moves
   where
     told : EndsTold system log
     told = built_ended system log legal goes_on

@@ -30,7 +30,7 @@ use Rattle.cert_sched.proofs.LogLaws.{placement-snoc}
 use Rattle.cert_sched.proofs.Induction.{legal_induction}
 use Rattle.cert_sched.proofs.RisingLaws.{NoTwo, rising-parts, rising_one_more, with_one}
 use Rattle.cert_sched.proofs.PidLaws.{placed_pids}
-use Rattle.cert_sched.proofs.CameLaws.{not_birth}
+use Rattle.cert_sched.proofs.BirthKind.{built_none_born}
 use Rattle.cert_sched.proofs.FreshLaws.{same_length}
 use Rattle.cert_sched.proofs.ThereLaws.{found_among}
 use Rattle.cert_sched.proofs.LiveLaws.{homes_live}
@@ -47,7 +47,7 @@ built_clusters-length system log legal =
     (length-map-range_with_len (boot_cluster (map placed_root (roots_of system))) 0 system.clusters)
     (λ log e same may.
     ap (λ (p : Places). length p.clusters) (placement-snoc system log e)
-    ∙ same_length (what e) (not_birth system log e (may.stands).applies (what e) refl) (placement system log) ∙ same) log legal
+    ∙ same_length (what e) (built_none_born (what e) may.built) (placement system log) ∙ same) log legal
 
 -- a cluster that lives is one of them
 pub lives_within : (places : Places) (k : ClusterNo) → lives_in places k ≡ true → k.0 < length places.clusters

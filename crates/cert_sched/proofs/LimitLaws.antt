@@ -1,5 +1,5 @@
 -- The limits between two cuts: what a process did since it started, it did within so many steps.
-use Rattle.std.proofs.Common.{◌≡◌, ℕ, ◌+◌, ◌-◌, ◌≤◌, refl, sym, ◌∙◌, ap, subst, arith, inl, inr, ◌⊎◌, List, [], ◌∷◌, ◌++◌, append-nil, Bool, true, false, cond, ◌||◌, leb, eq-eqb, eqb-true, Option, Some, is_some}
+use Rattle.std.proofs.Common.{◌≡◌, ℕ, ◌+◌, ◌-◌, ◌≤◌, refl, sym, ◌∙◌, ap, subst, arith, inl, inr, ◌⊎◌, List, [], ◌∷◌, ◌++◌, append-nil, Bool, true, false, cond, ◌||◌, leb, eq-eqb, eqb-true, Option, Some, None, is_some}
 use Rattle.std.specs.Prelude.{option_and_then, option_map}
 use Rattle.std.specs.Option.{option_map_or}
 use Rattle.std.proofs.lemmas.Bool.{and_parts}
@@ -23,13 +23,14 @@ use Rattle.bus_msg.specs.declared.entry.Entry.{Entry}
 use Rattle.bus_msg.specs.Places.{same_pid}
 use Rattle.bus_msg.specs.PlacedAfter.{what}
 use Rattle.cert_sched.specs.Schedule.{done, plain_after, process_after}
-use Rattle.roll_forward.specs.Deeds.{Deed, Sends}
+use Rattle.sys_calls.specs.Fork.{fork_parent, next_end}
+use Rattle.roll_forward.specs.Deeds.{Deed, Sends, Bears}
 use Rattle.cert_sched.specs.Deeds.{starts, is_cut, is_birth_of, start_of, since, deeds_in, letter_for, numbered, arrived_count, saved_letters}
 use Rattle.roll_forward.specs.Replay.{replayed}
 use Rattle.roll_forward.specs.RunsOut.{RunsOut}
 use Rattle.cert_sched.specs.Rolling.{refilled}
 use Rattle.cert_sched.specs.Record.{backup_record}
-use Rattle.cert_sched.specs.Steps.{after_items, steps_since, reads_since, start_steps, saved_of}
+use Rattle.cert_sched.specs.Steps.{before_fork_at, after_items, steps_since, reads_since, start_steps, saved_of}
 use Rattle.cert_sched.specs.Rules.{is_within_limits, keeps_limits}
 use Rattle.cert_sched.specs.Kinds.{KindHolds}
 use Rattle.cert_sched.specs.Legal.{Stands, IsLegalBy, IsLegal, MayFollow}
@@ -38,11 +39,12 @@ use Rattle.cert_sched.specs.Simulation.{RecordLeads}
 use Rattle.cert_sched.proofs.LogLaws.{IsLegal-snoc}
 use Rattle.cert_sched.proofs.RecordLaws.{start_of-snoc, since-snoc, saved_letters-start}
 use Rattle.cert_sched.proofs.Induction.{legal_induction}
-use Rattle.cert_sched.proofs.StepLaws.{is_sent, sent_from, no_birth}
+use Rattle.cert_sched.proofs.StepLaws.{is_sent, sent_from}
 use Rattle.cert_sched.proofs.MailLaws.{received, process_after-sender, boot_arrived}
 use Rattle.cert_sched.proofs.EndedLaws.{letter_told}
-use Rattle.cert_sched.proofs.ReplayLaws.{Replays, Sharp, replays_on, replays_none, replays_all_delivered, replays_goes_on, replays_counts, replays_computes, sharp_replays, sharp_on, sharp_last, sharp_all_delivered, all_delivered-is, first_is}
+use Rattle.cert_sched.proofs.ReplayLaws.{Replays, Sharp, replays_on, replays_none, replays_all_delivered, replays_goes_on, replays_counts, replays_computes, sharp_replays, sharp_on, sharp_last, sharp_forked, sharp_all_delivered, all_delivered-is, first_is}
 use Rattle.cert_sched.proofs.ReadLaws.{read_count, reads_more, reads_none}
+use Rattle.cert_sched.proofs.BornLaws.{birth_from}
 use Rattle.cert_sched.proofs.CameLaws.{IsStandingRule, Goes, Came, went_on, was_cut, was_born, came, received-all}
 use Rattle.cert_sched.proofs.RollLaws.{Rolls, rolls_next, all_roll, two_apart, refilled_more, goes_not_ended}
 use Rattle.cert_sched.proofs.RunsOutLaws.{replays_fine, sharp_runs_out, runs_out_once, record_of, start_ends}
@@ -118,9 +120,39 @@ module _ (system : System) (log : List Entry) (e : Entry) where
           subst (Limit (Exit q at end)) pid sent
       by_pid false apart = λ now there. inl (ap (λ b. cond b (Sends (Ended end) ∷ []) []) apart)
 
+  birth_limit : (parent : Pid) (at : ℕ) (child : Pid) (end : ℕ) → what e ≡ Birth parent at child end → is_some (plain_after system (log ++ e ∷ [])) ≡ true → KindHolds system log e (Birth parent at child end)
+      → is_within_limits system log (Birth parent at child end) parent ≡ true → (p : Pid) → Limit (Birth parent at child end) p
+  birth_limit parent at child end is applies kind limits p = by_pid (same_pid parent p) refl
+    where
+      forked : (q : ProcState) → before_fork_at system log parent at ≡ Some q → Limit (Birth parent at child end) parent
+      forked q before now there =
+          let from = birth_from system log e parent at child end is applies q before in
+          let b = from.0 in
+          inr (record {
+            was = b.was;
+            there = b.there;
+            made = b.made + 1;
+            to = fork_parent b.before child;
+            deed = Bears child;
+            deeds_are = ap (λ (b : Bool). cond b (Bears child ∷ []) []) (eq-eqb parent.0 parent.0 refl);
+            sharp = sharp_forked b.made b.was b.before child b.forks;
+            arrives = some_same now (fork_parent b.before child) (sym there ∙ b.parent_is);
+            keeps = keeps_of (Birth parent at child end) parent (fork_parent b.before child) (ap (option_map (λ s. fork_parent s child)) (before ∙ ap Some (sym from.1))) limits;
+          })
+
+      by_fork : (o : Option ProcState) → before_fork_at system log parent at ≡ o → option_map next_end o ≡ Some end → Limit (Birth parent at child end) parent
+      by_fork None before ends = cc
+      by_fork (Some q) before ends = forked q before
+
+      by_pid : (b : Bool) → same_pid parent p ≡ b → Limit (Birth parent at child end) p
+      by_pid true same =
+          let pid : parent ≡ p = λ i. record { 0 = eqb-true parent.0 p.0 same i } in
+          subst (Limit (Birth parent at child end)) pid (by_fork (before_fork_at system log parent at) refl kind.end_is)
+      by_pid false apart = λ now there. inl (ap (λ b. cond b (Bears child ∷ []) []) apart)
+
   limit_by : (w : What) → what e ≡ w → is_some (plain_after system (log ++ e ∷ [])) ≡ true → KindHolds system log e w → KeepsLimits system log w → (p : Pid) → Limit w p
   limit_by (Mail at letter) is applies kind limits p = mail_limit at letter is kind limits p
-  limit_by (Birth parent at child end) is applies kind limits p = absurd (no_birth system log e parent at child end is applies)
+  limit_by (Birth parent at child end) is applies kind limits p = birth_limit parent at child end is applies kind limits p
   limit_by (Exit q at end) is applies kind limits p = exit_limit q at end is kind limits p
   limit_by (Page q at index bytes) is applies kind limits p = λ now there. inl refl
   limit_by (Sync q small read took) is applies kind limits p = λ now there. inl refl

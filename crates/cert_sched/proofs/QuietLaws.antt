@@ -23,7 +23,7 @@ use Rattle.cert_sched.proofs.ListLaws.{list_all-weaker}
 use Rattle.cert_sched.proofs.RisingLaws.{NoTwo, rising-apart}
 use Rattle.cert_sched.proofs.PidLaws.{placed_pids, apart_fewer}
 use Rattle.cert_sched.proofs.LogLaws.{plain_after-snoc}
-use Rattle.cert_sched.proofs.StepLaws.{no_birth, no_signal_taken}
+use Rattle.cert_sched.proofs.StepLaws.{no_signal_taken}
 use Rattle.cert_sched.proofs.RunsLaws.{Quietly, Same, led, led-silent_upto, rest_pids, run_made, runs_made}
 use Rattle.cert_sched.proofs.CameLaws.{is_silent}
 use Rattle.cert_sched.proofs.LogLaws.{no_items}
@@ -60,7 +60,7 @@ module _ (system : System) (log : List Entry) (e : Entry) (k j : Kernel) (before
 
   pub went_quietly : (w : What) → what e ≡ w → is_silent w ≡ true → KindHolds system log e w → NoTwo (placed_pids (placement system log).placed) → Quietly j k
   went_quietly (Mail at letter) is quiet kind two = absurd (true≢false (sym quiet))
-  went_quietly (Birth parent at child end) is quiet kind two = absurd (no_birth system log e parent at child end is (ap is_some after))
+  went_quietly (Birth parent at child end) is quiet kind two = absurd (true≢false (sym quiet))
   went_quietly (Exit q at end) is quiet kind two = absurd (true≢false (sym quiet))
   went_quietly (Page q at index bytes) is quiet kind two = nothing (λ i. ap (items_of i) is)
   went_quietly (Sync q small read took) is quiet kind two = cut_quietly q small read took is kind

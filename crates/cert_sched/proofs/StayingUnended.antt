@@ -1,19 +1,23 @@
--- Which processes have not ended after one more entry that is no birth.
+-- Which processes have not ended after one more entry.
 use Rattle.std.proofs.Common.{◌≡◌, refl, sym, ◌∙◌, ap, [], ◌∷◌, map, Bool, true, false, cond, not, ◌&&◌, Option, Some, None, is_some, true≢false}
 use Rattle.std.specs.Prelude.{find, option_map}
+use Rattle.std.specs.Option.{option_or}
+use Rattle.std.proofs.lemmas.List.Folds.{find-append}
 use Rattle.t32_base.specs.declared.process.Pid.{Pid}
 use Rattle.bus_msg.specs.declared.entry.What.{What}
 use Rattle.bus_msg.specs.declared.entry.What.TheVariants.{Mail, Birth, Exit, Page, Sync, Fetch, PageIs, Crash, Return, Rebackup, Done, Stop}
 use Rattle.bus_msg.specs.declared.placed.Placed.{Placed}
-use Rattle.bus_msg.specs.Places.{Places, same_pid, unended_at}
-use Rattle.bus_msg.specs.PlacedAfter.{placed_after, after_exit, after_sync, after_loss, after_rebackup}
+use Rattle.bus_msg.specs.Places.{Places, same_pid, placed_at, unended_at}
+use Rattle.bus_msg.specs.PlacedAfter.{placed_after, with_birth, child_of, after_exit, after_sync, after_loss, after_rebackup}
 use Rattle.sys_calls.specs.declared.steps.Emission.TheVariants.{Exit as Ended}
 use Rattle.roll_forward.specs.Deeds.{Sends}
 use Rattle.cert_sched.specs.Account.{is_exit_of}
 use Rattle.cert_sched.specs.Deeds.{deeds_in}
 use Rattle.cert_sched.proofs.ExitLaws.{exited, unended_exit}
 use Rattle.cert_sched.proofs.UnendedLaws.{Keeps, unended_map, sync_keeps, backup_keeps, loss_keeps}
-use Rattle.cert_sched.proofs.CameLaws.{is_birth, apart_from, same_of}
+use Rattle.cert_sched.proofs.BirthKind.{is_birth}
+use Rattle.cert_sched.proofs.MadeLaws.{apart_from}
+use Rattle.cert_sched.proofs.CameLaws.{same_of}
 
 -- an entry that tells of no deed of a process is not its exit
 pub no_deed_no_exit : (p : Pid) (w : What) → deeds_in p w ≡ [] → is_exit_of p w ≡ false
@@ -72,3 +76,30 @@ unended_before w no_birth places p there = by_what w no_birth there
     by_what (Rebackup to fresh recs) other there = (refl, sym (mapped places p (after_rebackup to fresh recs) (backup_keeps to fresh recs) (placed_after places (Rebackup to fresh recs)) refl) ∙ there)
     by_what (Done rests) other there = (refl, there)
     by_what Stop other there = (refl, there)
+
+-- ---- births too
+
+-- who has not ended stays so over a birth
+birth_stays : (p child : Pid) (places : Places) (o : Option Placed) → is_some (unended_at places p) ≡ true → is_some (unended_at (with_birth places child o) p) ≡ true
+birth_stays p child places None there = there
+birth_stays p child places (Some q) there =
+    ap is_some (find-append (λ (q : Placed). same_pid q.pid p && not q.ended) places.placed (child_of q child ∷ [])) ∙ by_found (unended_at places p) there
+  where
+    by_found : (o : Option Placed) → is_some o ≡ true → is_some (option_or o (find (λ (q : Placed). same_pid q.pid p && not q.ended) (child_of q child ∷ []))) ≡ true
+    by_found None h = absurd (true≢false (sym h))
+    by_found (Some r) h = refl
+
+-- who has not ended stays so over every entry but its exit
+pub stays_unended : (w : What) (places : Places) (p : Pid) → is_exit_of p w ≡ false → is_some (unended_at places p) ≡ true → is_some (unended_at (placed_after places w) p) ≡ true
+stays_unended (Birth parent at child end) places p no_exit there = birth_stays p child places (placed_at places parent) there
+stays_unended (Mail at letter) places p no_exit there = unended_stays (Mail at letter) refl places p no_exit there
+stays_unended (Exit q at end) places p no_exit there = unended_stays (Exit q at end) refl places p no_exit there
+stays_unended (Page q at index bytes) places p no_exit there = unended_stays (Page q at index bytes) refl places p no_exit there
+stays_unended (Sync q small read took) places p no_exit there = unended_stays (Sync q small read took) refl places p no_exit there
+stays_unended (Fetch q index) places p no_exit there = unended_stays (Fetch q index) refl places p no_exit there
+stays_unended (PageIs q index bytes) places p no_exit there = unended_stays (PageIs q index bytes) refl places p no_exit there
+stays_unended (Crash k cause) places p no_exit there = unended_stays (Crash k cause) refl places p no_exit there
+stays_unended (Return k) places p no_exit there = unended_stays (Return k) refl places p no_exit there
+stays_unended (Rebackup to fresh recs) places p no_exit there = unended_stays (Rebackup to fresh recs) refl places p no_exit there
+stays_unended (Done rests) places p no_exit there = unended_stays (Done rests) refl places p no_exit there
+stays_unended Stop places p no_exit there = unended_stays Stop refl places p no_exit there

@@ -18,9 +18,10 @@ use Rattle.plain_kernel.specs.Apply.{one_step, steps, fork_step, apply_all}
 use Rattle.plain_kernel.proofs.Entries.{some_same}
 use Rattle.plain_kernel.proofs.Laws.{process_at-same}
 use Rattle.plain_kernel.proofs.Unforked.{never_forks}
+use Rattle.plain_kernel.proofs.ForkPids.{fork_step-own, fork_step-rising}
 use Rattle.plain_kernel.proofs.AtBoot.{boot-own, boot-pids, boot-steps}
 use Rattle.plain_kernel.proofs.Others.{small_at, steps-here, steps-other, steps-small, steps-sent, is_outward, process_at-outward, process_at-other, items_keep, silently-made, silently-here, silently-other}
-use Rattle.plain_kernel.proofs.Pids.{HasOwnPids, HasPids, one_step-own, one_step-pids, pids_in}
+use Rattle.plain_kernel.proofs.Pids.{HasOwnPids, HasPids, IsRising, one_step-own, one_step-pids, pids_in}
 use Rattle.bus_msg.specs.declared.entry.What.{What}
 use Rattle.bus_msg.specs.declared.entry.What.TheVariants.{Mail, Birth, Exit, Page, Sync, Fetch, PageIs, Crash, Return, Rebackup, Done, Stop}
 use Rattle.bus_msg.specs.declared.entry.Entry.{Entry}
@@ -212,13 +213,18 @@ plain_after-keeps P one system log k start is = log_keeps_all P one (λ p c k j 
 pub plain_after-pids : (system : System) (log : List Entry) (k : Kernel) → plain_after system log ≡ Some k → HasPids (pids_in (boot system)) k
 plain_after-pids system log k is = plain_after-keeps (HasPids (pids_in (boot system))) (one_step-pids (pids_in (boot system))) system log k (boot-pids system) is
 
+-- they rise, whatever forks
+pub plain_after-rising : (system : System) (log : List Entry) (k : Kernel) → plain_after system log ≡ Some k → IsRising k
+plain_after-rising system log k is =
+    log_keeps_all IsRising (λ p k j rising made. (one_step-pids (pids_in k) p k j (record { rising = rising; are = refl }) made).rising) fork_step-rising system log k (boot-pids system).rising is
+
 -- and each has the pid under which it stands
 pub process_after-own : (system : System) (log : List Entry) (p : Pid) (s : ProcState) → process_after system log p ≡ Some s → (s.small).pid ≡ p
 process_after-own system log p s there = by_kernel (plain_after system log) refl there
   where
     by_kernel : (o : Option Kernel) → plain_after system log ≡ o → option_and_then (λ k. process_at k p) o ≡ Some s → (s.small).pid ≡ p
     by_kernel None is e = cc
-    by_kernel (Some k) is e = plain_after-keeps HasOwnPids one_step-own system log k (boot-own system) is p s.small (ap (option_map (λ (s : ProcState). s.small)) e)
+    by_kernel (Some k) is e = log_keeps_all HasOwnPids one_step-own fork_step-own system log k (boot-own system) is p s.small (ap (option_map (λ (s : ProcState). s.small)) e)
 
 -- ---- a step that sends something
 

@@ -33,7 +33,8 @@ use Rattle.cert_sched.specs.Simulation.{IsUnended}
 use Rattle.cert_sched.proofs.LogLaws.{placement-snoc}
 use Rattle.cert_sched.proofs.RecordLaws.{has_state-snoc, start_of-snoc}
 use Rattle.cert_sched.proofs.Induction.{legal_induction}
-use Rattle.cert_sched.proofs.CameLaws.{IsStandingRule, is_birth, not_birth}
+use Rattle.cert_sched.proofs.BirthKind.{is_birth}
+use Rattle.cert_sched.proofs.CameLaws.{IsStandingRule, not_birth}
 use Rattle.cert_sched.proofs.StayingUnended.{unended_stays}
 use Rattle.cert_sched.proofs.BuiltCuts.{bears_none, cut_is_of}
 use Rattle.cert_sched.proofs.OpenLaws.{unended_open}

@@ -1,9 +1,11 @@
 -- A process that runs up to something, among the others.
-use Rattle.std.proofs.Common.{◌≡◌, ℕ, ◌+◌, ◌*◌, ◌-◌, ◌<◌, ◌≤◌, Bool, true, false, cond, ◌||◌, refl, sym, ap, subst, ◌∙◌, ◌⊎◌, inl, inr, arith, List, length, map, Option, Some, None, Result, Ok}
+use Rattle.std.proofs.Common.{◌≡◌, ℕ, ◌+◌, ◌*◌, ◌-◌, ◌^◌, ◌<◌, ◌≤◌, Bool, true, false, cond, ◌||◌, refl, sym, ap, subst, ◌∙◌, ◌⊎◌, inl, inr, arith, List, length, map, Option, Some, None, option_map, Result, Ok}
 use Rattle.std.specs.List.{list_any}
 use Rattle.std.specs.List.Sorted.{IsStrictlySortedBy}
 use Rattle.std.specs.Map.{lookup, set_value}
 use Rattle.std.specs.Ordering.{nat_cmp}
+use Rattle.std.specs.Option.{option_map_or}
+use Rattle.t32_base.specs.declared.process.Pid.{Pid}
 use Rattle.t32_base.specs.declared.letter.Letter.{Letter}
 use Rattle.t32_base.specs.declared.process.End.{End}
 use Rattle.proc_state.specs.declared.process.Process.{Process}
@@ -12,14 +14,20 @@ use Rattle.sys_calls.specs.declared.steps.Step.{Step}
 use Rattle.sys_calls.specs.declared.steps.Step.TheVariants.{Silent as WasSilent, Blocked as WasBlocked, Forks as WouldFork, Emit, Over as WasOver}
 use Rattle.sys_calls.specs.declared.steps.Emission.TheVariants.{Mail, Exit}
 use Rattle.sys_calls.specs.Steps.{RunsOn}
+use Rattle.sys_calls.specs.Calls.{Forks}
+use Rattle.sys_calls.specs.Next.{has_step, is_fork, next_step}
+use Rattle.sys_calls.proofs.Bearing.{silently_lightens}
 use Rattle.sys_calls.proofs.Counting.{silently_counts}
-use Rattle.plain_kernel.specs.Kernel.{deliver}
-use Rattle.plain_kernel.specs.Apply.{one_step}
-use Rattle.plain_kernel.specs.Maps.{at_key, kernel_of, pid_of, total_load, Advances, Changes, Covers, GoesTo, IsFirst, RunsAndSteps, RunsIfThere, SameBut, Turns}
-use Rattle.plain_kernel.proofs.Entries.{found_after, ordered_after, written_again}
-use Rattle.plain_kernel.proofs.Delivery.{less_to_send, lighter_by, stepped_alone, stepped_exit, stepped_mail, stepped_silent, stepped_two, stuck_blocked, stuck_forks, stuck_over}
+use Rattle.plain_kernel.specs.Kernel.{deliver, process_at}
+use Rattle.plain_kernel.specs.Apply.{fork_step}
+use Rattle.plain_kernel.specs.Still.{next_child}
+use Rattle.plain_kernel.specs.Maps.{at_key, forks_at, kernel_of, pid_of, total_load, Advances, Changes, Covers, ForksAt, GoesTo, IsFirst, PidsFit, RunsAndSteps, RunsAt, RunsIfThere, SameBut, Turns}
+use Rattle.plain_kernel.proofs.Entries.{changed_back, found_after, lookup_state, ordered_after, same_keys, some_same, still_there, written_again}
+use Rattle.plain_kernel.proofs.Forked.{child_within, fork_fits, fork_lighter, fork_others, forked, load_to_fork, there_to_fork}
+use Rattle.plain_kernel.proofs.NextChild.{next_child-absent}
+use Rattle.plain_kernel.proofs.Delivery.{less_to_send, lighter_by, stepped_alone, stepped_exit, stepped_mail, stepped_silent, stepped_two}
 use Rattle.plain_kernel.proofs.Ready.{covers_nobody, covers_sent, covers_stuck, covers_went, turn_of, HasOneMore}
-use Rattle.plain_kernel.proofs.Turns.{able_first, able_ran, less, none_stuck, turns, turns_nobody, turns_stuck}
+use Rattle.plain_kernel.proofs.Turns.{able, able_first, able_ran, less, turns, turns_forked, turns_nobody, turns_stuck}
 
 pub runs_and_steps : (old new : List (ℕ × Process)) (pid : ℕ) (was now : Process) (step : Step) → Changes old new pid was now → RunsOn step was now → RunsAndSteps old new pid step
 runs_and_steps old new pid was now step c r =
@@ -33,7 +41,7 @@ runs_and_steps old new pid was now step c r =
         now = r.before;
         changes = first;
         silent = r.silent;
-        lighter = omega (arith, r.lighter, (silently_counts r.steps (state_of was) (state_of r.before) r.silent).next);
+        lighter = omega (arith, silently_lightens r.steps (state_of was) (state_of r.before) r.silent, (silently_counts r.steps (state_of was) (state_of r.before) r.silent).next);
       };
       steps = record {
         was = r.before;
@@ -45,7 +53,7 @@ runs_and_steps old new pid was now step c r =
         };
         makes = r.makes;
         touches = r.touches;
-        lighter = lighter_by (Ok step) r.before now r.makes r.shorter;
+        lighter = lighter_by (Ok step) r.before now r.makes;
       };
     }
 
@@ -58,13 +66,25 @@ keys_of es = map (λ (e : ℕ × Process). e.0) es
 pub record Leaves (ps rs : List (ℕ × Process)) (ts us : List (ℕ × List ℕ)) (ready left : List ℕ) : Type 0 where
   pub turns : Turns ps rs ts us ready left
   pub covers : Covers rs left
+  pub fits : PidsFit ps → PidsFit rs
+
+-- the pids fit still where there are as many, and no more is to come
+fits_by : (ps rs : List (ℕ × Process)) → keys_of rs ≡ keys_of ps → total_load rs ≤ total_load ps → PidsFit ps → PidsFit rs
+fits_by ps rs same lighter fits q there = omega (arith, fits q (still_there q rs ps (sym same) there), lighter)
+
+ran_keys : (ps qs : List (ℕ × Process)) (pid n : ℕ) → RunsAt ps qs pid n → keys_of qs ≡ keys_of ps
+ran_keys ps qs pid n r = ap keys_of (r.changes).entries ∙ same_keys (at_key pid) ps r.now
 
 module _ (ps qs : List (ℕ × Process)) (ready : List ℕ) (pid : ℕ) (ordered : IsStrictlySortedBy nat_cmp (keys_of ps)) (first : IsFirst pid ready) (covers : Covers ps ready) where
   -- it had a step, and changed no other process
   went : (step : Step) (ts us : List (ℕ × List ℕ)) (rs : List (ℕ × Process)) (x : RunsAndSteps ps qs pid step) → Advances pid x.between rs ts us → SameBut (at_key pid) x.between rs → Leaves ps rs ts us ready ready
   went step ts us rs x a same =
-      let turn = turn_of ps x.between ready pid x.count ordered first covers x.runs (able_first ps x.between rs ts us pid x.count x.runs a) in
-      record { turns = turns ps x.between rs ts us ready ready pid x.count turn x.runs a (omega arith); covers = covers_went ps x.between rs ready pid x.count ordered turn x.runs same covers }
+      let turn = turn_of ps x.between ready pid x.count ordered first covers x.runs (able_first ps x.between pid x.count x.runs (able ps x.between rs ts us pid x.count x.runs a)) in
+      record {
+        turns = turns ps x.between rs ts us ready ready pid x.count turn x.runs a (omega arith);
+        covers = covers_went ps x.between rs ready pid x.count ordered turn x.runs same covers;
+        fits = fits_by ps rs (a.keys ∙ ran_keys ps x.between pid x.count x.runs) (omega (arith, less ps x.between pid x.count x.runs, a.lighter));
+      }
 
   pub went_silently : (ts : List (ℕ × List ℕ)) → RunsAndSteps ps qs pid WasSilent → Leaves ps qs ts ts ready ready
   went_silently ts x = let s = stepped_silent x.between qs ts pid x.steps in went WasSilent ts ts qs x s.0 s.1
@@ -83,29 +103,86 @@ module _ (ps qs : List (ℕ × Process)) (ready : List ℕ) (pid : ℕ) (ordered
       → total_load rs ≤ total_load qs + 1 → keys_of rs ≡ keys_of qs → GoesTo (Some to) qs rs → HasOneMore to ready left → list_any (at_key to) left ≡ true → length left ≤ length ready + 1 → Leaves ps rs ts us ready left
   sent_to ts us rs letter to left x sent more keys goes puts receiver longer =
       let a = stepped_mail x.between qs rs ts us pid letter x.steps sent more keys in
-      let turn = turn_of ps x.between ready pid x.count ordered first covers x.runs (able_first ps x.between rs ts us pid x.count x.runs a) in
+      let turn = turn_of ps x.between ready pid x.count ordered first covers x.runs (able_first ps x.between pid x.count x.runs (able ps x.between rs ts us pid x.count x.runs a)) in
       record {
         turns = turns ps x.between rs ts us ready left pid x.count turn x.runs a longer;
         covers = covers_sent ps x.between rs ready left pid to x.count ordered turn x.runs (stepped_two x.between qs rs pid to (Ok (Emit (Mail letter))) x.steps goes) puts receiver covers;
+        fits = fits_by ps rs (a.keys ∙ ran_keys ps x.between pid x.count x.runs) (omega (arith, less ps x.between pid x.count x.runs, a.lighter));
       }
 
   pub room_to_send : (letter : Letter) (bound : ℕ) → RunsAndSteps ps qs pid (Emit (Mail letter)) → total_load ps < bound → total_load qs < bound - 1
   room_to_send letter bound x room = omega (arith, less_to_send x.between qs pid letter x.steps, less ps x.between pid x.count x.runs, room)
 
-  -- it has no step, and is taken out
-  stuck : (step : Step) (ts : List (ℕ × List ℕ)) (left : List ℕ) (x : RunsAndSteps ps qs pid step) → (one_step (pid_of pid) (kernel_of x.between ts) ≡ None) × (qs ≡ x.between) × (ts ≡ ts)
-      → ((q : ℕ) → at_key pid q ≡ false → list_any (at_key q) left ≡ list_any (at_key q) ready) → length left < length ready → Leaves ps qs ts ts ready left
-  stuck step ts left x is keeps fewer = record {
-    turns = turns_stuck ps x.between qs ts ts ready left pid x.count (λ some. turn_of ps x.between ready pid x.count ordered first covers x.runs (able_ran ps x.between pid x.count x.runs some)) x.runs is.1 refl fewer;
-    covers = covers_stuck ps x.between qs ready left pid x.count first x.runs (none_stuck ps x.between ts pid x.count x.runs is.0) is.1 keeps covers;
-  }
+  -- it forked, and its child may have a step
+  pub forks_next : RunsAndSteps ps qs pid WouldFork → forks_at qs pid ≡ true
+  forks_next x =
+      let s = x.steps in
+      ap (λ o. option_map_or (λ (p : Process). is_fork (next_step (state_of p))) o false) (found_after x.between qs pid s.was s.now s.changes) ∙ ap (λ (p : Process). is_fork (next_step (state_of p))) s.touches ∙ ap is_fork s.makes.0
 
-  pub taken_out : (step : Step) (ts : List (ℕ × List ℕ)) (left : List ℕ) → (step ≡ WasBlocked) ⊎ (step ≡ WouldFork) ⊎ (step ≡ WasOver) → RunsAndSteps ps qs pid step
+  -- where its next step was none of those that are made, it is as it was
+  stands : (step : Step) (x : RunsAndSteps ps qs pid step) → (x.steps).now ≡ (x.steps).was → qs ≡ x.between
+  stands step x same = let s = x.steps in changed_back x.between qs pid s.was s.now s.changes same
+
+  same_state : (step : Step) (x : RunsAndSteps ps qs pid step) → (x.runs).now ≡ (x.steps).was
+  same_state step x = some_same (x.runs).now (x.steps).was (sym (found_after ps x.between pid (x.runs).was (x.runs).now (x.runs).changes) ∙ (x.steps).changes.found)
+
+  pub child_absent : (ts : List (ℕ × List ℕ)) (child : Pid) → child ≡ next_child (kernel_of qs ts) (pid_of pid) → lookup (at_key child.0) qs ≡ None
+  child_absent ts child is =
+      by_case (lookup (at_key child.0) qs) (sym (lookup_state child.0 qs) ∙ ap (process_at (kernel_of qs ts)) is ∙ next_child-absent (kernel_of qs ts) (pid_of pid))
+    where
+      by_case : (o : Option Process) → option_map state_of o ≡ None → o ≡ None
+      by_case None e = refl
+      by_case (Some p) e = cc
+
+  -- the child's pid fits a number
+  pub child_fits : (ts : List (ℕ × List ℕ)) (x : RunsAndSteps ps qs pid WouldFork) → PidsFit ps → (next_child (kernel_of qs ts) (pid_of pid)).0 < 2 ^ 32
+  child_fits ts x fits =
+      let here : PidsFit qs = fits_by ps qs (ap keys_of (stands WouldFork x (x.steps).touches) ∙ ran_keys ps x.between pid x.count x.runs) (omega (arith, ap total_load (stands WouldFork x (x.steps).touches), less ps x.between pid x.count x.runs)) fits in
+      let forks = forks_next x in
+      let p = (x.steps).now in
+      let found = found_after x.between qs pid (x.steps).was (x.steps).now (x.steps).changes in
+      let within = child_within qs ts pid here (there_to_fork qs pid forks) in
+      let enough = load_to_fork qs pid p found forks in
+      omega (arith, within, enough)
+
+  pub forked_off : (ts : List (ℕ × List ℕ)) (rs : List (ℕ × Process)) (child : Pid) (left : List ℕ) (x : RunsAndSteps ps qs pid WouldFork) → child ≡ next_child (kernel_of qs ts) (pid_of pid) → ForksAt qs rs pid child
+      → HasOneMore child.0 ready left → list_any (at_key child.0) left ≡ true → length left ≤ length ready + 1 → Leaves ps rs ts ts ready left
+  forked_off ts rs child left x is f puts receiver longer =
+      let same : qs ≡ x.between = stands WouldFork x (x.steps).touches in
+      let forks = forks_next x in
+      let absent = child_absent ts child is in
+      let made : next_step (state_of (x.runs).now) ≡ Forks = ap (λ (p : Process). next_step (state_of p)) (same_state WouldFork x) ∙ (x.steps).makes.0 in
+      let lighter : total_load rs + 4 ≤ total_load x.between = omega (arith, fork_lighter qs rs pid child forks absent f, ap total_load same) in
+      let turn = turn_of ps x.between ready pid x.count ordered first covers x.runs (able_first ps x.between pid x.count x.runs (ap has_step made)) in
+      let step : fork_step (pid_of pid) (next_child (kernel_of x.between ts) (pid_of pid)) (kernel_of x.between ts) ≡ Some (kernel_of rs ts) =
+          subst (λ es. fork_step (pid_of pid) (next_child (kernel_of es ts) (pid_of pid)) (kernel_of es ts) ≡ Some (kernel_of rs ts)) same
+          (subst (λ c. fork_step (pid_of pid) c (kernel_of qs ts) ≡ Some (kernel_of rs ts)) is (forked qs rs pid child forks absent f ts)) in
+      record {
+        turns = turns_forked ps x.between rs ts ready left pid x.count turn x.runs made step lighter longer;
+        covers = covers_sent ps x.between rs ready left pid child.0 x.count ordered turn x.runs (subst (λ es. SameBut (λ q. at_key pid q || at_key child.0 q) es rs) same (fork_others qs rs pid child forks absent f)) puts receiver covers;
+        fits = λ fits. fork_fits qs rs pid child forks absent f ts is (fits_by ps qs (ap keys_of same ∙ ran_keys ps x.between pid x.count x.runs) (omega (arith, ap total_load same, less ps x.between pid x.count x.runs)) fits);
+      }
+
+  -- it has no step, and is taken out
+  stuck : (step : Step) (ts : List (ℕ × List ℕ)) (left : List ℕ) (x : RunsAndSteps ps qs pid step) → has_step (next_step (state_of (x.steps).was)) ≡ false → (x.steps).now ≡ (x.steps).was
       → ((q : ℕ) → at_key pid q ≡ false → list_any (at_key q) left ≡ list_any (at_key q) ready) → length left < length ready → Leaves ps qs ts ts ready left
-  taken_out step ts left (inl is) x keeps fewer = let y : RunsAndSteps ps qs pid WasBlocked = subst (RunsAndSteps ps qs pid) is x in stuck WasBlocked ts left y (stuck_blocked y.between qs ts pid y.steps) keeps fewer
-  taken_out step ts left (inr (inl is)) x keeps fewer = let y : RunsAndSteps ps qs pid WouldFork = subst (RunsAndSteps ps qs pid) is x in stuck WouldFork ts left y (stuck_forks y.between qs ts pid y.steps) keeps fewer
-  taken_out step ts left (inr (inr is)) x keeps fewer = let y : RunsAndSteps ps qs pid WasOver = subst (RunsAndSteps ps qs pid) is x in stuck WasOver ts left y (stuck_over y.between qs ts pid y.steps) keeps fewer
+  stuck step ts left x none kept keeps fewer =
+      let same : qs ≡ x.between = stands step x kept in
+      record {
+        turns = turns_stuck ps x.between qs ts ts ready left pid x.count (λ some. turn_of ps x.between ready pid x.count ordered first covers x.runs (able_ran ps x.between pid x.count x.runs some)) x.runs same refl fewer;
+        covers = covers_stuck ps x.between qs ready left pid x.count first x.runs (ap (λ (p : Process). has_step (next_step (state_of p))) (same_state step x) ∙ none) same keeps covers;
+        fits = fits_by ps qs (ap keys_of same ∙ ran_keys ps x.between pid x.count x.runs) (omega (arith, ap total_load same, less ps x.between pid x.count x.runs));
+      }
+
+  pub taken_out : (step : Step) (ts : List (ℕ × List ℕ)) (left : List ℕ) → (step ≡ WasBlocked) ⊎ (step ≡ WasOver) → RunsAndSteps ps qs pid step
+      → ((q : ℕ) → at_key pid q ≡ false → list_any (at_key q) left ≡ list_any (at_key q) ready) → length left < length ready → Leaves ps qs ts ts ready left
+  taken_out step ts left (inl is) x keeps fewer = let y : RunsAndSteps ps qs pid WasBlocked = subst (RunsAndSteps ps qs pid) is x in stuck WasBlocked ts left y (ap has_step (y.steps).makes.0) (y.steps).touches keeps fewer
+  taken_out step ts left (inr is) x keeps fewer = let y : RunsAndSteps ps qs pid WasOver = subst (RunsAndSteps ps qs pid) is x in stuck WasOver ts left y (ap has_step (y.steps).makes.0) (y.steps).touches keeps fewer
 
   -- one that is not there is taken out
   pub nobody : (ts : List (ℕ × List ℕ)) (left : List ℕ) → RunsIfThere None ps qs pid → ((q : ℕ) → at_key pid q ≡ false → list_any (at_key q) left ≡ list_any (at_key q) ready) → length left < length ready → Leaves ps qs ts ts ready left
-  nobody ts left none keeps fewer = record { turns = turns_nobody ps qs ts ts ready left none.1 refl fewer; covers = covers_nobody ps qs ready left pid none.0 none.1 keeps covers }
+  nobody ts left none keeps fewer = record {
+    turns = turns_nobody ps qs ts ts ready left none.1 refl fewer;
+    covers = covers_nobody ps qs ready left pid none.0 none.1 keeps covers;
+    fits = fits_by ps qs (ap keys_of none.1) (omega (arith, ap total_load none.1));
+  }

@@ -14,7 +14,8 @@ use Rattle.sys_calls.specs.declared.steps.Step.{Step}
 use Rattle.sys_calls.specs.declared.steps.Step.TheVariants.{Silent as WasSilent, Blocked as WasBlocked, Forks as WouldFork, Emit, Over as WasOver}
 use Rattle.sys_calls.specs.Calls.{Next, Blocked, Forks, Over}
 use Rattle.sys_calls.specs.Next.{next_step}
-use Rattle.sys_calls.specs.Steps.{Makes, Shorter}
+use Rattle.sys_calls.specs.Steps.{Makes}
+use Rattle.sys_calls.proofs.Bearing.{emits_lightens, silent_lightens}
 use Rattle.sys_calls.proofs.Counting.{silent_counts, emits_counts}
 use Rattle.plain_kernel.specs.Kernel.{pid_cmp, deliver, letter_put, with_process}
 use Rattle.plain_kernel.specs.Apply.{after_step, one_step}
@@ -55,13 +56,13 @@ nobody letter old pid none = rw (lookup_state pid old, none) refl
 -- ---- a step
 
 -- a step that was made leaves less to come
-pub lighter_by : (r : Result Step NoMemory) (was now : Process) → Makes (next_step (state_of was)) r (state_of was) (state_of now) → Shorter r was.small now.small → Lighter r was now
-lighter_by (Ok WasSilent) was now makes shorter = omega (arith, shorter.0, (silent_counts (state_of was) (state_of now) makes).next)
-lighter_by (Ok (Emit e)) was now makes shorter = omega (arith, shorter.0, (emits_counts (state_of was) (state_of now) e makes).next)
-lighter_by (Ok WasBlocked) was now makes shorter = tt
-lighter_by (Ok WouldFork) was now makes shorter = tt
-lighter_by (Ok WasOver) was now makes shorter = tt
-lighter_by (Err e) was now makes shorter = tt
+pub lighter_by : (r : Result Step NoMemory) (was now : Process) → Makes (next_step (state_of was)) r (state_of was) (state_of now) → Lighter r was now
+lighter_by (Ok WasSilent) was now makes = omega (arith, silent_lightens (state_of was) (state_of now) makes, (silent_counts (state_of was) (state_of now) makes).next)
+lighter_by (Ok (Emit e)) was now makes = omega (arith, emits_lightens (state_of was) (state_of now) e makes, (emits_counts (state_of was) (state_of now) e makes).next)
+lighter_by (Ok WasBlocked) was now makes = tt
+lighter_by (Ok WouldFork) was now makes = tt
+lighter_by (Ok WasOver) was now makes = tt
+lighter_by (Err e) was now makes = tt
 
 by_next : (ps qs : List (ℕ × Process)) (ts : List (ℕ × List ℕ)) (pid : ℕ) (was now : Process) (next : Next) → Changes ps qs pid was now → next_step (state_of was) ≡ next
     → one_step (pid_of pid) (kernel_of ps ts) ≡ after_step (kernel_of ps ts) (pid_of pid) next

@@ -8,11 +8,13 @@ use Rattle.std.proofs.lemmas.Map.Views.{IfSome-lookup_from_All}
 use Rattle.std.specs.Option.{IfSome}
 use Rattle.std.proofs.lemmas.Bool.Decides.{nat_tests}
 use Rattle.std.proofs.lemmas.Bool.{false≢true}
-use Rattle.std.specs.Ordering.{nat_cmp, is_eq}
+use Rattle.std.specs.BTreeMap.{insert_entry}
+use Rattle.std.specs.Ordering.{nat_cmp, is_eq, match_ordering}
 use Rattle.std.specs.declared.cmp.Ordering.{Ordering}
 use Rattle.std.specs.declared.cmp.Ordering.TheVariants.{Less, Equal, Greater}
 use Rattle.std.specs.Map.{lookup, set_value, values_of}
 use Rattle.std.specs.FinMap.{put}
+use Rattle.std.specs.FinMap.Entries.{by_order as in_order}
 use Rattle.std.specs.FinMap as finmap
 use Rattle.std.proofs.lemmas.Cmp.{nat_cmp_total}
 use Rattle.std.specs.Cmp.{tied_itself}
@@ -80,6 +82,17 @@ pub put_state : (k : ℕ) (w : Process) (es : List (ℕ × Process)) → IsStric
     → processes_of (set_value (at_key k) es w) ≡ put pid_cmp (pid_of k) (state_of w) (processes_of es)
 put_state k w es s h = put_seen state_of k w es s h
 
+-- one that is inserted is put, seen by pid
+pub insert_seen : {X : Type 0} → (f : X → ProcState) (k : ℕ) (w : X) (es : List (ℕ × X)) → map (λ (e : ℕ × X). (pid_of e.0, f e.1)) (insert_entry nat_cmp es k w) ≡ put pid_cmp (pid_of k) (f w) (map (λ (e : ℕ × X). (pid_of e.0, f e.1)) es)
+insert_seen f k w [] = refl
+insert_seen {X = X} f k w (e ∷ es) =
+    elim (nat_cmp k e.0) as (λ o. map (λ (e : ℕ × X). (pid_of e.0, f e.1)) (match_ordering o ((k, w) ∷ e ∷ es) ((e.0, w) ∷ es) (e ∷ insert_entry nat_cmp es k w))
+    ≡ in_order o ((pid_of k, f w) ∷ map (λ (e : ℕ × X). (pid_of e.0, f e.1)) (e ∷ es)) ((pid_of e.0, f w) ∷ map (λ (e : ℕ × X). (pid_of e.0, f e.1)) es) ((pid_of e.0, f e.1) ∷ put pid_cmp (pid_of k) (f w) (map (λ (e : ℕ × X). (pid_of e.0, f e.1)) es))) [
+      | Less ↦ refl
+      | Equal ↦ refl
+      | Greater ↦ ap (λ r. (pid_of e.0, f e.1) ∷ r) (insert_seen f k w es)
+    ]
+
 -- the look-up of a map is that of the finite map
 pub lookup_find : {X : Type 0} → (k : ℕ) (es : List (ℕ × X)) → lookup (at_key k) es ≡ finmap.find nat_cmp k es
 lookup_find k [] = refl
@@ -144,6 +157,28 @@ written_other k q (e ∷ es) w other = by_test (at_key k e.0) refl (written_othe
 pub same_keys : {X : Type 0} → (t : ℕ → Bool) (es : List (ℕ × X)) (w : X) → keys (set_value t es w) ≡ keys es
 same_keys t [] w = refl
 same_keys t (e ∷ es) w = elim (t e.0) as (λ b. keys (cond b ((e.0, w) ∷ es) (e ∷ set_value t es w)) ≡ e.0 ∷ keys es) [ true ↦ refl | false ↦ ap (λ r. e.0 ∷ r) (same_keys t es w) ]
+
+-- a process is there where its map has the same keys
+pub still_there : {X : Type 0} → (k : ℕ) (es fs : List (ℕ × X)) → keys fs ≡ keys es → IsSome (lookup (at_key k) es) → IsSome (lookup (at_key k) fs)
+still_there k [] [] same there = there
+still_there k [] (f ∷ fs) same there = absurd (false≢true there)
+still_there k (e ∷ es) [] same there = cc
+still_there k (e ∷ es) (f ∷ fs) same there =
+    let first : f.0 ≡ e.0 = ap (head f.0) same in
+    let rest : keys fs ≡ keys es = ap tail same in
+    by_test (at_key k e.0) refl first there (still_there k es fs rest)
+  where
+    head : ℕ → List ℕ → ℕ
+    head d [] = d
+    head d (n ∷ ns) = n
+
+    tail : List ℕ → List ℕ
+    tail [] = []
+    tail (n ∷ ns) = ns
+
+    by_test : (b : Bool) → at_key k e.0 ≡ b → f.0 ≡ e.0 → IsSome (cond b (Some e.1) (lookup (at_key k) es)) → (IsSome (lookup (at_key k) es) → IsSome (lookup (at_key k) fs)) → IsSome (lookup (at_key k) (f ∷ fs))
+    by_test true is first there ih = rw (first, is) refl
+    by_test false is first there ih = rw (first, is) (ih there)
 
 -- ---- a number among those that a sum adds
 

@@ -1,5 +1,5 @@
 -- Laws of the kernel without failures.
-use Rattle.std.proofs.Common.{◌≡◌, ℕ, zero, suc, ◌+◌, refl, sym, ◌∙◌, ap, arith, List, [], ◌∷◌, ◌++◌, ◌-◌, ◌<◌, length, take, get_or, cond, Option, Some, None, add-suc, add-zero}
+use Rattle.std.proofs.Common.{◌≡◌, ℕ, zero, suc, ◌+◌, refl, sym, ◌∙◌, ap, arith, List, [], ◌∷◌, ◌++◌, ◌-◌, ◌<◌, length, take, get_or, cond, Option, Some, None, true≢false, add-suc, add-zero}
 use Rattle.std.specs.Prelude.{option_and_then}
 use Rattle.std.specs.declared.cmp.Ordering.TheVariants.{Less, Equal, Greater}
 use Rattle.std.specs.Ordering.{eq_by_cmp}
@@ -10,12 +10,13 @@ use Rattle.std.specs.FinMap.Entries.{by_order, find-put}
 use Rattle.t32_base.specs.declared.process.Pid.{Pid}
 use Rattle.proc_state.specs.State.{ProcState}
 use Rattle.sys_calls.specs.Calls.{Next, Silent, Blocked, Forks, Emits, Over}
-use Rattle.sys_calls.specs.Next.{next_step, silent_of, silently}
+use Rattle.sys_calls.specs.Next.{is_fork, next_step, silent_of, silently}
 use Rattle.plain_kernel.specs.Kernel.{Kernel, pid_cmp, process_at, with_process}
-use Rattle.plain_kernel.specs.Apply.{after_step, one_step, steps, apply, apply_all}
+use Rattle.plain_kernel.specs.Apply.{after_step, fork_step, one_step, steps, apply, apply_all}
 use Rattle.plain_kernel.specs.declared.item.Item.{Item}
+use Rattle.plain_kernel.specs.declared.item.Item.TheVariants.{Run}
 use Rattle.std.proofs.lemmas.List.{take_more}
-use Rattle.plain_kernel.specs.Still.{default_step, default_after}
+use Rattle.plain_kernel.specs.Still.{default_item, default_step, default_after, item_of_step, lowest, next_child}
 use Rattle.plain_kernel.proofs.Entries.{some_same}
 
 pub pid_cmp_total : IsTotalOrder pid_cmp
@@ -86,6 +87,22 @@ default_joined n m k j i first second = default-plus n m k ∙ ap (option_and_th
 pub default_one : (k j : Kernel) → default_step k ≡ Some j → default_after 1 k ≡ Some j
 unfolding default_after
 default_one k j e = e
+
+-- the next step of the process that has the turn is one item, and so is its fork
+pub default_steps : (k : Kernel) (p : Pid) (t : ProcState) → lowest k ≡ Some (p, t) → is_fork (next_step t) ≡ false → default_step k ≡ one_step p k
+unfolding default_step default_item
+default_steps k p t e other = rw e (ap (apply k) (is_run (next_step t) other) ∙ steps_one p k)
+  where
+    is_run : (next : Next) → is_fork next ≡ false → item_of_step k p next ≡ Run p 1
+    is_run (Silent s) no = refl
+    is_run Blocked no = refl
+    is_run Forks no = absurd (true≢false no)
+    is_run (Emits what s) no = refl
+    is_run Over no = refl
+
+pub default_forks : (k : Kernel) (p : Pid) (t : ProcState) → lowest k ≡ Some (p, t) → next_step t ≡ Forks → default_step k ≡ fork_step p (next_child k p) k
+unfolding default_step default_item
+default_forks k p t e is = rw e (ap (λ next. apply k (item_of_step k p next)) is)
 
 pub default_none : (k : Kernel) → default_after 0 k ≡ Some k
 unfolding default_after

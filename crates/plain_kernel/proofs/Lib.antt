@@ -12,5 +12,10 @@ mod Ready
 mod Turns
 pub mod Unforked
 pub mod Others
+pub mod Forking
+pub mod ForkPids
+pub mod NextChild
+mod Forked
+mod PidRoom
 pub mod Spending
 mod Ahead

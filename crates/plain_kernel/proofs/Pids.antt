@@ -123,7 +123,7 @@ HasOwnPids k = (p : Pid) (s : SmallState) → small_at k p ≡ Some s → s.pid 
 pub tied_pids : (q p : Pid) → pid_cmp q p ≡ Equal → q ≡ p
 tied_pids q p tied = let same : q.0 ≡ p.0 = nat_cmp-IsAntisymmetric q.0 p.0 tied in λ i. record { 0 = same i }
 
-put_own : (k : Kernel) (p : Pid) (s : ProcState) → (s.small).pid ≡ p → HasOwnPids k → HasOwnPids (with_process k p s)
+pub put_own : (k : Kernel) (p : Pid) (s : ProcState) → (s.small).pid ≡ p → HasOwnPids k → HasOwnPids (with_process k p s)
 put_own k p s is own q t there = by_order (pid_cmp q p) refl (sym (ap (option_map (λ (s : ProcState). s.small)) (process_at-with_process k p s q)) ∙ there)
   where
     by_order : (o : Ordering) → pid_cmp q p ≡ o → option_map (λ (s : ProcState). s.small) (cond (is_eq o) (Some s) (process_at k q)) ≡ Some t → t.pid ≡ q

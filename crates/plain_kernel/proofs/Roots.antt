@@ -11,6 +11,7 @@ use Rattle.std.specs.FinMap.Entries.{by_order}
 use Rattle.t32_base.specs.declared.process.Mode.TheVariants.{Quarter}
 use Rattle.std.proofs.lemmas.Cmp.{nat_cmp_total}
 use Rattle.std.proofs.lemmas.List.{take_more}
+use Rattle.std.proofs.lemmas.Nat.{mul-le}
 use Rattle.std.proofs.lemmas.List.Sums.{fold-append}
 use Rattle.std.proofs.lemmas.Map.Entries.{sum_by-insert_entry}
 use Rattle.std.proofs.lemmas.Option.{slice_get-get_or}
@@ -24,6 +25,7 @@ use Rattle.sys_text.proofs.Bounds.{root_bounds, root_image, system_bounds}
 use Rattle.plain_kernel.specs.Kernel.{Kernel, pid_cmp, boot, boot_roots, with_chan, with_root, empty, root_process}
 use Rattle.plain_kernel.specs.Maps.{pid_of, booted_processes, booted_ttys, linked_processes, CanBoot}
 use Rattle.plain_kernel.specs.Starts.{starts_in, starts_load, state_load}
+use Rattle.plain_kernel.proofs.Entries.{insert_seen}
 
 -- ---- an entry that is inserted is put
 
@@ -37,14 +39,7 @@ insert_put k v (e ∷ es) =
     ]
 
 insert_state : (k : ℕ) (v : ProcState) (es : List (ℕ × ProcState)) → starts_in (insert_entry nat_cmp es k v) ≡ put pid_cmp (pid_of k) v (starts_in es)
-insert_state k v [] = refl
-insert_state k v (e ∷ es) =
-    elim (nat_cmp k e.0) as (λ o. starts_in (match_ordering o ((k, v) ∷ e ∷ es) ((e.0, v) ∷ es) (e ∷ insert_entry nat_cmp es k v))
-    ≡ by_order o ((pid_of k, v) ∷ starts_in (e ∷ es)) ((pid_of e.0, v) ∷ starts_in es) ((pid_of e.0, e.1) ∷ put pid_cmp (pid_of k) v (starts_in es))) [
-      | Less ↦ refl
-      | Equal ↦ refl
-      | Greater ↦ ap (λ r. (pid_of e.0, e.1) ∷ r) (insert_state k v es)
-    ]
+insert_state k v es = insert_seen (λ s. s) k v es
 
 -- ---- one root more
 
@@ -96,10 +91,14 @@ can_boot s n d root valid within is =
       is_image = record { at = i.at; least = (i.bounds).least; pages = (i.bounds).pages; fits = (i.bounds).fits };
       number = omega (arith, b.image_number);
       limit = b.limit;
+      births = b.births;
     }
 
-pub light : (v : ProcState) (limit : ℕ) → state_load v ≡ 2 * (limit + 34) → limit ≤ 100000 → state_load v ≤ 200068
-light v limit e h = omega arith
+-- what a root and its children may make, of which there are 31 at most
+pub light : (v : ProcState) (limit births : ℕ) → state_load v ≡ 2 * (limit + 34 + births * (limit + 34)) → limit ≤ 100000 → births ≤ 31 → state_load v ≤ 6402176
+light v limit births e h few =
+    let children : births * (limit + 34) ≤ 31 * 100034 = mul-le births (limit + 34) 31 100034 few (omega (arith, h)) in
+    omega (arith, children, e, h)
 
 pub root_home : (s : System) (n : ℕ) (d root : Root) → is_system s ≡ true → n < length s.roots → root ≡ get_or s.roots n d → (root.home).0 < 16
 root_home s n d root valid within is =

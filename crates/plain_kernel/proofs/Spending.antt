@@ -33,7 +33,7 @@ use Rattle.plain_kernel.proofs.Others.{small_at, small_at-other, small_at-emitte
 abbrev pub EachSmall : (Pid → SmallState → Type 0) → Kernel → Type 0
 EachSmall Q k = (p : Pid) (small : SmallState) → small_at k p ≡ Some small → Q p small
 
-put_small : (Q : Pid → SmallState → Type 0) (k : Kernel) (p : Pid) (t : ProcState) → EachSmall Q k → Q p t.small → EachSmall Q (with_process k p t)
+pub put_small : (Q : Pid → SmallState → Type 0) (k : Kernel) (p : Pid) (t : ProcState) → EachSmall Q k → Q p t.small → EachSmall Q (with_process k p t)
 put_small Q k p t each has q x there = by_pid (eqb q.0 p.0) refl
   where
     by_pid : (b : Bool) → eqb q.0 p.0 ≡ b → Q q x
@@ -44,7 +44,7 @@ put_small Q k p t each has q x there = by_pid (eqb q.0 p.0) refl
         subst (λ (r : Pid). Q r x) same (subst (Q p) at has)
     by_pid false is = each q x (sym (small_at-other k p t q (λ e. true≢false (sym (eq-eqb q.0 p.0 e) ∙ is))) ∙ there)
 
-found_small : (k : Kernel) (p : Pid) (s : ProcState) → process_at k p ≡ Some s → small_at k p ≡ Some s.small
+pub found_small : (k : Kernel) (p : Pid) (s : ProcState) → process_at k p ≡ Some s → small_at k p ≡ Some s.small
 found_small k p s there = ap (option_map (λ (s : ProcState). s.small)) there
 
 -- ---- a step

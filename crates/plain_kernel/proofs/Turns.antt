@@ -1,7 +1,5 @@
 -- The process that has the turn in the default schedule.
-use Rattle.std.proofs.lemmas.Bool.{false≢true}
 use Rattle.std.proofs.Common.{◌≡◌, ℕ, zero, suc, ◌+◌, ◌*◌, ◌<◌, ◌≤◌, Bool, true, false, cond, not, ◌||◌, eqb, List, [], ◌∷◌, map, find, length, refl, sym, ap, ◌∙◌, subst, arith, Option, Some, None, Result, Ok, Err, inl, inr, IsSome, is_some, option_map, option_and_then}
-use Rattle.std.specs.Prelude.{nat_lt}
 use Rattle.std.specs.Ordering.{nat_cmp}
 use Rattle.std.specs.declared.cmp.Ordering.TheVariants.{Less, Equal}
 use Rattle.std.specs.List.{AllByRecursion, list_any}
@@ -9,22 +7,10 @@ use Rattle.std.specs.List.Sorted.{IsStrictlySortedBy}
 use Rattle.std.specs.Map.{lookup, set_value}
 use Rattle.std.specs.FinMap.{put}
 use Rattle.t32_base.specs.declared.process.Pid.{Pid}
-use Rattle.t32_base.specs.declared.process.End.{End}
-use Rattle.t32_base.specs.declared.process.Status.{Status}
-use Rattle.t32_base.specs.declared.process.Status.TheVariants.{Live, Closing, Ended}
-use Rattle.t32_base.specs.declared.letter.Arrived.{Arrived}
-use Rattle.t32_base.specs.declared.letter.To.{To}
-use Rattle.t32_base.specs.declared.letter.To.TheVariants.{Proc, Tty}
-use Rattle.rv_mem.specs.Memory.{is_inside}
-use Rattle.rv_cpu.specs.Exec.{Executed, Steps, Calls, Traps, exec, reg}
 use Rattle.proc_state.specs.declared.process.Process.{Process}
-use Rattle.proc_state.specs.Ends.{leads_at}
-use Rattle.proc_state.specs.State.{ProcState, state_of, with_small}
-use Rattle.sys_calls.specs.Small.{spent, lowest_linked}
-use Rattle.sys_calls.specs.declared.reading.Reading.{Reading}
-use Rattle.sys_calls.specs.declared.reading.Reading.TheVariants.{Refused, AtEnd, Wants}
-use Rattle.sys_calls.specs.Calls.{Next, Silent, Blocked, Forks, Emits, Over, Call, ExitCall, Write, Read, ReadAny, GetPid, Close, Unknown, called, call_of, close_to, first_wanted, read_any_checked, read_call, read_checked, read_found, write_to, arg}
-use Rattle.sys_calls.specs.Next.{next_step, has_step, step_by, live_step, after_exec, closing_step, silently}
+use Rattle.proc_state.specs.State.{ProcState, state_of}
+use Rattle.sys_calls.specs.Calls.{Next, Silent, Blocked, Forks, Emits, Over}
+use Rattle.sys_calls.specs.Next.{next_step, has_step, is_fork, silently}
 use Rattle.plain_kernel.specs.Kernel.{Kernel, pid_cmp, with_process}
 use Rattle.plain_kernel.specs.declared.item.Item.{Item}
 use Rattle.plain_kernel.specs.declared.item.Item.TheVariants.{Run}
@@ -32,11 +18,11 @@ use Rattle.plain_kernel.specs.declared.item.NotApplied.{NotApplied}
 use Rattle.plain_kernel.specs.declared.item.NotApplied.TheVariants.{Disabled, NoMemory as NoStepMemory}
 use Rattle.plain_kernel.specs.Answers.{Applies, StopsAt, runs_pid}
 use Rattle.std.proofs.lemmas.Bool.Decides.{nat_tests}
-use Rattle.plain_kernel.specs.Apply.{after_step, one_step, steps, apply}
-use Rattle.plain_kernel.specs.Still.{can_act, lowest, default_item, default_step, default_after, Reaches}
+use Rattle.plain_kernel.specs.Apply.{after_step, fork_step, one_step, steps, apply}
+use Rattle.plain_kernel.specs.Still.{can_act, lowest, item_of_step, next_child, default_item, default_step, default_after, Reaches}
 use Rattle.plain_kernel.specs.Maps.{at_key, pid_of, processes_of, kernel_of, total_load, Changes, RunsAt, Advances, lowest_of, IsTurn, RunsSteps, Turns}
 use Rattle.plain_kernel.proofs.Entries.{some_same, tied, later_no_key, later_above, lookup_state, put_state, written_same, found_after, put_after, load_after}
-use Rattle.plain_kernel.proofs.Laws.{steps_one, steps_joined, steps_more, steps_stuck, one_silent, silent_steps, last_silent, no_silent, default_joined, default_one, default_none}
+use Rattle.plain_kernel.proofs.Laws.{steps_one, steps_joined, steps_more, steps_stuck, one_silent, silent_steps, last_silent, no_silent, default_joined, default_one, default_none, default_steps, default_forks}
 
 abbrev keys : {X : Type 0} → List (ℕ × X) → List ℕ
 keys es = map (λ e. e.0) es
@@ -118,74 +104,11 @@ pub over : (es : List (ℕ × Process)) (ts : List (ℕ × List ℕ)) → IsTurn
 unfolding default_item
 over es ts e = by_case (lowest_of es) refl e
   where
-    by_case : (o : Option (ℕ × Process)) → lowest_of es ≡ o → None ≡ option_map (λ (e : ℕ × Process). e.0) o → option_map (λ (e : Pid × ProcState). Run e.0 1) (find can_act (processes_of es)) ≡ None
+    by_case : (o : Option (ℕ × Process)) → lowest_of es ≡ o → None ≡ option_map (λ (e : ℕ × Process). e.0) o → option_map (λ (e : Pid × ProcState). item_of_step (kernel_of es ts) e.0 (next_step e.1)) (find can_act (processes_of es)) ≡ None
     by_case None is f = rw (lowest_states es, is) refl
     by_case (Some x) is f = cc
 
--- ---- a process with a step makes one; none forks yet
-
-abbrev is_fork : Next → Bool
-is_fork (Silent p) = false
-is_fork Blocked = false
-is_fork Forks = true
-is_fork (Emits e p) = false
-is_fork Over = false
-
-either : (b : Bool) (x y : Next) → is_fork x ≡ false → is_fork y ≡ false → is_fork (cond b x y) ≡ false
-either true x y p q = p
-either false x y p q = q
-
-write_no_fork : (p : ProcState) (e ptr len : ℕ) (o : Option To) → is_fork (write_to p e ptr len o) ≡ false
-write_no_fork p e ptr len None = refl
-write_no_fork p e ptr len (Some to) = either (nat_lt 256 len) _ _ refl (either (not (is_inside p.memory ptr len)) _ _ refl (either (eqb len 0) _ _ refl refl))
-
-close_no_fork : (p : ProcState) (e : ℕ) (o : Option To) → is_fork (close_to p e o) ≡ false
-close_no_fork p e None = refl
-close_no_fork p e (Some (Tty t)) = refl
-close_no_fork p e (Some (Proc peer far)) = refl
-
-read_no_fork : (p : ProcState) (reading : Reading) → is_fork (read_call p reading) ≡ false
-read_no_fork p (Refused error) = refl
-read_no_fork p AtEnd = refl
-read_no_fork p (Wants wanted ptr room) = found (first_wanted p wanted)
-  where
-    found : (o : Option Arrived) → is_fork (read_found p wanted ptr room o) ≡ false
-    found None = refl
-    found (Some a) = refl
-
-call_no_fork : (c : Call) (p : ProcState) → is_fork (called c p) ≡ false
-call_no_fork ExitCall p = refl
-call_no_fork Write p = write_no_fork p (arg p 0) (arg p 1) (arg p 2) _
-call_no_fork Read p = read_no_fork p (read_checked p)
-call_no_fork ReadAny p = read_no_fork p (read_any_checked p)
-call_no_fork GetPid p = refl
-call_no_fork Close p = close_no_fork p (arg p 0) (leads_at (p.small).ends (arg p 0))
-call_no_fork Unknown p = refl
-
-exec_no_fork : (x : Executed) (p : ProcState) → is_fork (after_exec x p) ≡ false
-exec_no_fork (Steps regs bytes) p = refl
-exec_no_fork Calls p = call_no_fork (call_of (reg (p.small).regs 17)) p
-exec_no_fork (Traps code) p = refl
-
-live_no_fork : (b : Bool) (p : ProcState) → is_fork (live_step b p) ≡ false
-live_no_fork true p = refl
-live_no_fork false p = exec_no_fork (exec (p.small).regs p.memory) (with_small p (spent p.small))
-
-closing_no_fork : (o : Option (ℕ × To)) (end : End) (p : ProcState) → is_fork (closing_step o end p) ≡ false
-closing_no_fork None end p = refl
-closing_no_fork (Some found) end p = refl
-
-no_fork : (s : Status) (p : ProcState) → is_fork (step_by s p) ≡ false
-no_fork Live p = live_no_fork (eqb (p.small).left 0) p
-no_fork (Closing end) p = closing_no_fork (lowest_linked (p.small).ends) end p
-no_fork (Ended end) p = refl
-
-some_step : (k : Kernel) (p : Pid) (next : Next) → has_step next ≡ true → is_fork next ≡ false → after_step k p next ≡ None → ⊥
-some_step k p (Silent s) h f e = cc
-some_step k p Blocked h f e = cc
-some_step k p Forks h f e = cc
-some_step k p (Emits what s) h f e = cc
-some_step k p Over h f e = cc
+-- ---- a process that made a step, or is stuck
 
 had_step : (k j : Kernel) (p : Pid) (next : Next) → after_step k p next ≡ Some j → has_step next ≡ true
 had_step k j p (Silent s) e = refl
@@ -194,11 +117,15 @@ had_step k j p Forks e = cc
 had_step k j p (Emits what s) e = refl
 had_step k j p Over e = cc
 
--- ---- the steps of the process that has the turn are items of the default schedule
+-- a step that is made is no fork
+not_forked : (k j : Kernel) (p : Pid) (next : Next) → after_step k p next ≡ Some j → is_fork next ≡ false
+not_forked k j p (Silent s) e = refl
+not_forked k j p Blocked e = refl
+not_forked k j p Forks e = cc
+not_forked k j p (Emits what s) e = refl
+not_forked k j p Over e = refl
 
-one_default : (k : Kernel) (p : Pid) (t : ProcState) → lowest k ≡ Some (p, t) → default_step k ≡ one_step p k
-unfolding default_step default_item
-one_default k p t e = rw e (steps_one p k)
+-- ---- the steps of the process that has the turn are items of the default schedule
 
 same_kernel : (es : List (ℕ × Process)) (ts : List (ℕ × List ℕ)) (pid : ℕ) (v : Process) → IsStrictlySortedBy nat_cmp (keys es) → lookup (at_key pid) es ≡ Some v → with_process (kernel_of es ts) (pid_of pid) (state_of v) ≡ kernel_of es ts
 same_kernel es ts pid v s found =
@@ -212,7 +139,7 @@ default_silent zero pid v es ts t s first e =
 default_silent (suc n) pid v es ts t s first e =
     let last = last_silent n (state_of v) t e in
     ap (option_and_then default_step) (default_silent n pid v es ts last.before s first last.made)
-    ∙ one_default (with_process (kernel_of es ts) (pid_of pid) last.before) (pid_of pid) last.before (lowest_put pid v last.before es s first (ap has_step last.last))
+    ∙ default_steps (with_process (kernel_of es ts) (pid_of pid) last.before) (pid_of pid) last.before (lowest_put pid v last.before es s first (ap has_step last.last)) (ap is_fork last.last)
     ∙ one_silent (kernel_of es ts) (pid_of pid) last.before t last.last
 
 same_process : (ps qs : List (ℕ × Process)) (pid : ℕ) (was now : Process) (h : HasTurn pid ps) → Changes ps qs pid was now → h.process ≡ was
@@ -235,14 +162,25 @@ next_of : (ps qs : List (ℕ × Process)) (ts : List (ℕ × List ℕ)) (pid : �
 unfolding one_step
 next_of ps qs ts pid was now c = rw (lookup_state pid qs, found_after ps qs pid was now c) refl
 
-able : (ps qs rs : List (ℕ × Process)) (ts us : List (ℕ × List ℕ)) (pid n : ℕ) (r : RunsAt ps qs pid n) → Advances pid qs rs ts us → has_step (next_step (state_of r.now)) ≡ true
+pub able : (ps qs rs : List (ℕ × Process)) (ts us : List (ℕ × List ℕ)) (pid n : ℕ) (r : RunsAt ps qs pid n) → Advances pid qs rs ts us → has_step (next_step (state_of r.now)) ≡ true
 able ps qs rs ts us pid n r a = had_step _ _ (pid_of pid) _ (sym (next_of ps qs ts pid r.was r.now r.changes) ∙ a.one)
+
+-- the kernel in which it has the turn still
+lowest_stays : (ps qs : List (ℕ × Process)) (ts : List (ℕ × List ℕ)) (pid n : ℕ) → IsTurn (Some pid) ps → (r : RunsAt ps qs pid n) → has_step (next_step (state_of r.now)) ≡ true → lowest (kernel_of qs ts) ≡ Some (pid_of pid, state_of r.now)
+lowest_stays ps qs ts pid n turn r steps = lowest_states qs ∙ ap (option_map (λ (e : ℕ × Process). (pid_of e.0, state_of e.1))) (keeps_turn ps qs pid r.was r.now turn r.changes steps)
 
 advanced : (ps qs rs : List (ℕ × Process)) (ts us : List (ℕ × List ℕ)) (pid n : ℕ) → IsTurn (Some pid) ps → RunsAt ps qs pid n → Advances pid qs rs ts us → default_after (n + 1) (kernel_of ps ts) ≡ Some (kernel_of rs us)
 advanced ps qs rs ts us pid n turn r a =
-    let first = keeps_turn ps qs pid r.was r.now turn r.changes (able ps qs rs ts us pid n r a) in
-    let lowest_is : lowest (kernel_of qs ts) ≡ Some (pid_of pid, state_of r.now) = lowest_states qs ∙ ap (option_map (λ (e : ℕ × Process). (pid_of e.0, state_of e.1))) first in
-    default_joined n 1 _ _ _ (ran ps qs ts pid n turn r) (default_one _ _ (one_default (kernel_of qs ts) (pid_of pid) (state_of r.now) lowest_is ∙ a.one))
+    let lowest_is = lowest_stays ps qs ts pid n turn r (able ps qs rs ts us pid n r a) in
+    let other : is_fork (next_step (state_of r.now)) ≡ false = not_forked _ _ (pid_of pid) _ (sym (next_of ps qs ts pid r.was r.now r.changes) ∙ a.one) in
+    default_joined n 1 _ _ _ (ran ps qs ts pid n turn r) (default_one _ _ (default_steps (kernel_of qs ts) (pid_of pid) (state_of r.now) lowest_is other ∙ a.one))
+
+-- a fork is an item too, whose child is the next
+forked_on : (ps qs rs : List (ℕ × Process)) (ts : List (ℕ × List ℕ)) (pid n : ℕ) → IsTurn (Some pid) ps → (r : RunsAt ps qs pid n) → next_step (state_of r.now) ≡ Forks
+    → fork_step (pid_of pid) (next_child (kernel_of qs ts) (pid_of pid)) (kernel_of qs ts) ≡ Some (kernel_of rs ts) → default_after (n + 1) (kernel_of ps ts) ≡ Some (kernel_of rs ts)
+forked_on ps qs rs ts pid n turn r is forks =
+    let lowest_is = lowest_stays ps qs ts pid n turn r (ap has_step is) in
+    default_joined n 1 _ _ _ (ran ps qs ts pid n turn r) (default_one _ _ (default_forks (kernel_of qs ts) (pid_of pid) (state_of r.now) lowest_is is ∙ forks))
 
 pub less : (ps qs : List (ℕ × Process)) (pid n : ℕ) → RunsAt ps qs pid n → total_load qs + 2 * n ≤ total_load ps
 less ps qs pid n r = omega (arith, load_after ps qs pid r.was r.now r.changes, r.lighter)
@@ -254,6 +192,16 @@ turns ps qs rs ts us ready left pid n turn r a one_more = record {
   made = advanced ps qs rs ts us pid n turn r a;
   lighter = omega (arith, less ps qs pid n r, a.lighter);
   less = omega (arith, less ps qs pid n r, a.lighter, one_more);
+}
+
+-- a fork was made
+pub turns_forked : (ps qs rs : List (ℕ × Process)) (ts : List (ℕ × List ℕ)) (ready left : List ℕ) (pid n : ℕ) → IsTurn (Some pid) ps → (r : RunsAt ps qs pid n) → next_step (state_of r.now) ≡ Forks
+    → fork_step (pid_of pid) (next_child (kernel_of qs ts) (pid_of pid)) (kernel_of qs ts) ≡ Some (kernel_of rs ts) → total_load rs + 4 ≤ total_load qs → length left ≤ length ready + 1 → Turns ps rs ts ts ready left
+turns_forked ps qs rs ts ready left pid n turn r is forks lighter one_more = record {
+  items = n + 1;
+  made = forked_on ps qs rs ts pid n turn r is forks;
+  lighter = omega (arith, less ps qs pid n r, lighter);
+  less = omega (arith, less ps qs pid n r, lighter, one_more);
 }
 
 -- a process that makes silent steps had a step
@@ -268,17 +216,9 @@ able_before (suc (suc n)) s t e some = let last = last_silent (suc n) s t e in a
 pub able_ran : (ps qs : List (ℕ × Process)) (pid n : ℕ) (r : RunsAt ps qs pid n) → 1 ≤ n → has_step (next_step (state_of r.was)) ≡ true
 able_ran ps qs pid n r some = able_before n (state_of r.was) (state_of r.now) r.silent some
 
-pub able_first : (ps qs rs : List (ℕ × Process)) (ts us : List (ℕ × List ℕ)) (pid n : ℕ) (r : RunsAt ps qs pid n) → Advances pid qs rs ts us → has_step (next_step (state_of r.was)) ≡ true
-able_first ps qs rs ts us pid zero r a = ap (λ s. has_step (next_step s)) (no_silent (state_of r.was) (state_of r.now) r.silent) ∙ able ps qs rs ts us pid zero r a
-able_first ps qs rs ts us pid (suc n) r a = able_ran ps qs pid (suc n) r (omega arith)
-
--- one that is stuck has none
-pub none_stuck : (ps qs : List (ℕ × Process)) (ts : List (ℕ × List ℕ)) (pid n : ℕ) (r : RunsAt ps qs pid n) → one_step (pid_of pid) (kernel_of qs ts) ≡ None → has_step (next_step (state_of r.now)) ≡ false
-none_stuck ps qs ts pid n r none = by_test (has_step (next_step (state_of r.now))) refl
-  where
-    by_test : (b : Bool) → has_step (next_step (state_of r.now)) ≡ b → b ≡ false
-    by_test true is = absurd (some_step (kernel_of qs ts) (pid_of pid) (next_step (state_of r.now)) is (no_fork ((r.now).small).status (state_of r.now)) (sym (next_of ps qs ts pid r.was r.now r.changes) ∙ none))
-    by_test false is = refl
+pub able_first : (ps qs : List (ℕ × Process)) (pid n : ℕ) (r : RunsAt ps qs pid n) → has_step (next_step (state_of r.now)) ≡ true → has_step (next_step (state_of r.was)) ≡ true
+able_first ps qs pid zero r steps = ap (λ s. has_step (next_step s)) (no_silent (state_of r.was) (state_of r.now) r.silent) ∙ steps
+able_first ps qs pid (suc n) r steps = able_ran ps qs pid (suc n) r (omega arith)
 
 -- ---- a run to the end
 
@@ -338,28 +278,6 @@ turns_nobody ps rs ts us ready left same same_ttys shorter = record {
   lighter = omega (arith, ap total_load same);
   less = omega (arith, ap total_load same, shorter);
 }
-
--- a process is there where its map has the same keys
-pub still_there : {X : Type 0} → (k : ℕ) (es fs : List (ℕ × X)) → keys fs ≡ keys es → IsSome (lookup (at_key k) es) → IsSome (lookup (at_key k) fs)
-still_there k [] [] same there = there
-still_there k [] (f ∷ fs) same there = absurd (false≢true there)
-still_there k (e ∷ es) [] same there = cc
-still_there k (e ∷ es) (f ∷ fs) same there =
-    let first : f.0 ≡ e.0 = ap (head f.0) same in
-    let rest : keys fs ≡ keys es = ap tail same in
-    by_test (at_key k e.0) refl first there (still_there k es fs rest)
-  where
-    head : ℕ → List ℕ → ℕ
-    head d [] = d
-    head d (n ∷ ns) = n
-
-    tail : List ℕ → List ℕ
-    tail [] = []
-    tail (n ∷ ns) = ns
-
-    by_test : (b : Bool) → at_key k e.0 ≡ b → f.0 ≡ e.0 → IsSome (cond b (Some e.1) (lookup (at_key k) es)) → (IsSome (lookup (at_key k) es) → IsSome (lookup (at_key k) fs)) → IsSome (lookup (at_key k) (f ∷ fs))
-    by_test true is first there ih = rw (first, is) refl
-    by_test false is first there ih = rw (first, is) (ih there)
 
 -- ---- what the calls of a kernel answer
 

@@ -1,9 +1,11 @@
 -- The maps that hold a kernel, and what of it is still to come.
-use Rattle.std.specs.Prelude.{ℕ, ◌≡◌, ◌+◌, ◌*◌, ◌^◌, ◌≤◌, ◌<◌, Bool, true, false, ◌||◌, if◌then◌else◌, List, [], fold, find, length, map, slice_get, option_map, Option, Some, None, Result, Ok, Err, All}
+use Rattle.std.specs.Prelude.{ℕ, ◌≡◌, ◌+◌, ◌*◌, ◌^◌, ◌%◌, ◌==◌, ◌≤◌, ◌<◌, max, Bool, true, false, ◌||◌, if◌then◌else◌, List, [], fold, find, length, map, slice_get, option_map, Option, Some, None, IsSome, Result, Ok, Err, All}
 use Rattle.std.specs.Ordering.{nat_cmp, is_eq, is_gt}
 use Rattle.std.specs.List.Sorted.{IsStrictlySortedBy}
 use Rattle.std.specs.List.{list_any, sum_by}
 use Rattle.std.specs.Map.{values_of, lookup, set_value}
+use Rattle.std.specs.BTreeMap.{insert_entry}
+use Rattle.std.specs.Option.{option_map_or}
 use Rattle.t32_base.specs.declared.process.Pid.{Pid}
 use Rattle.proc_state.specs.declared.process.Process.{Process}
 use Rattle.t32_base.specs.declared.letter.Letter.{Letter}
@@ -11,8 +13,9 @@ use Rattle.proc_state.specs.State.{ProcState, IsFresh, delivered, has_ended, sta
 use Rattle.t32_base.specs.declared.streams.NoMemory.{NoMemory}
 use Rattle.sys_calls.specs.declared.steps.Step.{Step}
 use Rattle.sys_calls.specs.declared.steps.Step.TheVariants.{Silent, Blocked, Forks, Emit, Over}
-use Rattle.sys_calls.specs.Small.{weight}
-use Rattle.sys_calls.specs.Next.{has_step, next_step, silently}
+use Rattle.sys_calls.specs.Small.{weight_with_children}
+use Rattle.sys_calls.specs.Fork.{fork_child, fork_parent}
+use Rattle.sys_calls.specs.Next.{has_step, is_fork, next_step, silently}
 use Rattle.sys_calls.specs.Steps.{Makes, Touches}
 use Rattle.t32_base.specs.Small.{SmallState}
 use Rattle.plain_kernel.specs.declared.sending.Made.{Made}
@@ -42,9 +45,9 @@ kernel_of processes ttys = record { processes = processes_of processes; ttys = t
 abbrev pub AreFresh : List (ℕ × Process) → Type 0
 AreFresh es = All IsFresh (values_of es)
 
--- a step uses up two, and the letter that it sends adds one
+-- a step uses up two, and the letter that it sends adds one; what a child uses up is part of its parent's until then
 abbrev pub load : Process → ℕ
-load p = 2 * weight p.small + (p.mail).next
+load p = 2 * weight_with_children p.small + (p.mail).next
 
 -- so no process is ever sent more letters than a number holds, and each run ends
 abbrev pub total_load : List (ℕ × Process) → ℕ
@@ -136,6 +139,43 @@ RunsSteps (Err (Disabled done)) pid most ps qs ts us =
     (steps done (pid_of pid) (kernel_of ps ts) ≡ Some (kernel_of qs us)) × (total_load qs ≤ total_load ps) × (done < most) × (one_step (pid_of pid) (kernel_of qs us) ≡ None)
 RunsSteps (Err (NoStepMemory done)) pid most ps qs ts us = (steps done (pid_of pid) (kernel_of ps ts) ≡ Some (kernel_of qs us)) × (total_load qs ≤ total_load ps) × (done < most)
 
+-- ---- a fork
+
+-- the process with a pid is there, and its next step is a fork
+abbrev pub forks_at : List (ℕ × Process) → ℕ → Bool
+forks_at es pid = option_map_or (λ (p : Process). is_fork (next_step (state_of p))) (lookup (at_key pid) es) false
+
+-- the process with a pid forked in its place, and its child is made
+pub record Splits (old new : List (ℕ × Process)) (pid : ℕ) (child : Pid) (made : Process) : Type 0 where
+  pub was : Process
+  pub now : Process
+  pub changes : Changes old new pid was now
+  pub parent : state_of now ≡ fork_parent (state_of was) child
+  pub born : state_of made ≡ fork_child (state_of was) child
+  pub rest : now ≡ record was { small = now.small }
+
+-- after want of memory nothing is changed
+abbrev pub SplitsAt : Result Process NoMemory → List (ℕ × Process) → List (ℕ × Process) → ℕ → Pid → Type 0
+SplitsAt (Ok made) old new pid child = Splits old new pid child made
+SplitsAt (Err e) old new pid child = new ≡ old
+
+-- the process with a pid forked, and the child stands at its own
+pub record ForksAt (old new : List (ℕ × Process)) (pid : ℕ) (child : Pid) : Type 0 where
+  pub made : Process
+  pub between : List (ℕ × Process)
+  pub splits : Splits old between pid child made
+  pub entries : new ≡ insert_entry nat_cmp between child.0 made
+
+-- the highest pid of a cluster among keys and a number
+abbrev pub higher_key : ℕ → ℕ → ℕ → ℕ
+higher_key pid highest key = if key % 16 == pid % 16 then max highest key else highest
+
+-- a pid fits a number, with those of all children that may still be made: each uses up four, and its pid is at most 16 above the highest
+abbrev pub PidsFit : List (ℕ × Process) → Type 0
+PidsFit es = (q : ℕ) → IsSome (lookup (at_key q) es) → q + 4 * total_load es < 2 ^ 32
+
+-- ---- turns
+
 -- the process with the lowest pid that has a step, if one has
 abbrev pub lowest_of : List (ℕ × Process) → Option (ℕ × Process)
 lowest_of es = find (λ (e : ℕ × Process). has_step (next_step (state_of e.1))) es
@@ -197,3 +237,4 @@ pub record CanBoot (system : System) (root : Root) : Type 0 where
   pub is_image : IsImageOf system root image
   pub number : root.image < 2 ^ 64
   pub limit : root.limit ≤ 100000
+  pub births : root.births ≤ 31

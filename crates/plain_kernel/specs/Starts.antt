@@ -5,7 +5,7 @@ use Rattle.std.specs.Map.{values_of}
 use Rattle.t32_base.specs.declared.process.Pid.{Pid}
 use Rattle.t32_base.specs.Small.{SmallState}
 use Rattle.proc_state.specs.State.{ProcState}
-use Rattle.sys_calls.specs.Small.{weight}
+use Rattle.sys_calls.specs.Small.{weight_with_children}
 use Rattle.sys_text.specs.declared.system.Image.{Image}
 use Rattle.sys_text.specs.Boot.{bytes_of_words}
 use Rattle.plain_kernel.specs.Kernel.{with_end_linked}
@@ -29,7 +29,7 @@ starts_in es = map (λ (e : ℕ × ProcState). (pid_of e.0, e.1)) es
 
 -- what is still to come of a process, as its map reckons it (`load` of `Maps`)
 abbrev pub state_load : ProcState → ℕ
-state_load s = 2 * weight s.small + s.next
+state_load s = 2 * weight_with_children s.small + s.next
 
 -- what is still to come of all of them
 abbrev pub starts_load : List (ℕ × ProcState) → ℕ

@@ -23,7 +23,7 @@ pub fn starts_of<'a>(
 ) -> Result<BTreeMap<u32, Start<'a>>, NoMemory>
     requires { is_system system.now ≡ true }
     ensures states { IfOk result (λ starts. starts_in starts.entries ≡ linked_processes system.now) }
-    ensures room { IfOk result (λ starts. starts_load starts.entries < 2 ^ 64) }
+    ensures room { IfOk result (λ starts. starts_load starts.entries < 2 ^ 28) }
 {
     let mut starts = roots_by_pid(alloc, system)?;
     let chans = system.chans.as_slice();
@@ -37,7 +37,7 @@ pub fn starts_of<'a>(
 fn roots_by_pid<'a>(alloc: Global, system: &'a System) -> Result<BTreeMap<u32, Start<'a>>, NoMemory>
     requires { is_system system.now ≡ true }
     ensures states { IfOk result (λ starts. starts_in starts.entries ≡ booted_processes system.now (roots_of system.now)) }
-    ensures room { IfOk result (λ starts. starts_load starts.entries < 2 ^ 64) }
+    ensures room { IfOk result (λ starts. starts_load starts.entries < 2 ^ 28) }
 {
     let mut starts = BTreeMap::new(alloc);
     let roots = system.roots.as_slice();
@@ -53,7 +53,7 @@ pub fn processes_of(alloc: Global, system: &System) -> Result<BTreeMap<u32, Proc
     requires { is_system system.now ≡ true }
     ensures states { IfOk result (λ processes. states_of processes.entries ≡ linked_processes system.now) }
     ensures fresh { IfOk result (λ processes. AreFresh processes.entries) }
-    ensures room { IfOk result (λ processes. total_load processes.entries < 2 ^ 64) }
+    ensures room { IfOk result (λ processes. total_load processes.entries < 2 ^ 28) }
 {
     let starts = starts_of(alloc, system)?;
     with_memories(alloc, starts)

@@ -1,6 +1,7 @@
 //! The kernel without clusters, backups, counts or pages: what every run is compared with.
 #![tactic(auto)]
 
+mod births;
 pub mod booting;
 pub mod item;
 mod linking;

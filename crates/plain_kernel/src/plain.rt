@@ -8,6 +8,7 @@ ghost use Rattle.plain_kernel.specs.Still.{IsDefaultRun, is_still};
 ghost use Rattle.plain_kernel.specs.Answers.{Applies, Runs};
 
 use crate::booting::{processes_of, ttys_of};
+use crate::births::{fork_at, stands_at_fork};
 use crate::item::{Item, NotApplied, RunRefused};
 use crate::processes::{lowest, pids_of};
 use crate::running::{run_steps, run_to_end};
@@ -65,7 +66,7 @@ impl Plain {
     {
         match item {
             Item::Run(pid, most) => self.run_process(*pid, *most),
-            Item::Fork(_, _) => Err(NotApplied::Disabled { done: 0 }),
+            Item::Fork(pid, child) => self.fork_process(*pid, *child),
             Item::Take(_) => Err(NotApplied::Disabled { done: 0 }),
         }
     }
@@ -81,6 +82,22 @@ impl Plain {
             return Err(NotApplied::Disabled { done: 0 });
         }
         run_steps(self.alloc, &mut self.processes, &mut self.ttys, pid.0, most)
+    }
+
+    // A process whose next step is a fork makes it, where the child's pid is no process's.
+    fn fork_process(&mut self, pid: Pid, child: Pid) -> Result<(), NotApplied>
+        ensures { Applies (Item.Fork pid child) result self.old self.new }
+    {
+        if !stands_at_fork(&self.processes, pid.0) {
+            return Err(NotApplied::Disabled { done: 0 });
+        }
+        if self.processes.contains_key(&child.0) {
+            return Err(NotApplied::Disabled { done: 0 });
+        }
+        match fork_at(self.alloc, &mut self.processes, pid.0, child) {
+            Ok(()) => Ok(()),
+            Err(NoMemory) => Err(NotApplied::NoMemory { done: 0 }),
+        }
     }
 
     /// Whether a process has a step. Takes no memory.

@@ -2,9 +2,10 @@
 ghost use Rattle.std.specs.Prelude.{◌≤◌, ◌<◌, ◌^◌, IsSome, OnOk};
 ghost use Rattle.std.specs.BTreeMap.{get};
 ghost use Rattle.std.specs.Ordering.{nat_cmp};
-ghost use Rattle.plain_kernel.specs.Maps.{kernel_of, total_load, Covers, IsFirst, RunsSteps, Turns};
+ghost use Rattle.plain_kernel.specs.Maps.{kernel_of, total_load, Covers, IsFirst, PidsFit, RunsSteps, Turns};
 ghost use Rattle.plain_kernel.specs.Still.{Reaches};
 
+use crate::births::{child_after, fork_at};
 use crate::item::NotApplied;
 use crate::processes::{pid_set, run_at, run_if_there};
 use crate::sending::{Made, make_step, send};
@@ -52,13 +53,14 @@ fn at_most(count: u64) -> u32
 /// Makes the steps of the default schedule until none is left. After want of memory nothing is said.
 ///
 /// A process that was stuck is not tried again before a letter comes to it, so no turn walks over the
-/// processes that wait, and none is asked for a step before it makes it.
+/// processes that wait, and none is asked for a step before it makes it. A child is tried as soon as it has the turn.
 pub fn run_to_end(
     alloc: Global,
     processes: &mut BTreeMap<u32, Process>,
     ttys: &mut BTreeMap<u8, Bytes>,
 ) -> Result<(), NoMemory>
-    requires { total_load processes.old.entries < 2 ^ 64 }
+    requires room { total_load processes.old.entries < 2 ^ 64 }
+    requires fits { PidsFit processes.old.entries }
     ensures reaches { OnOk result (Reaches (kernel_of processes.old.entries ttys.old.entries) (kernel_of processes.new.entries ttys.new.entries)) }
     ensures room { OnOk result (total_load processes.new.entries < 2 ^ 64) }
 {
@@ -72,7 +74,8 @@ pub fn run_to_end(
 }
 
 // The first of those that may have a step runs up to a step that is not silent, so it had the turn, and its letter is
-// delivered: one to which it sent may have a step then. Or it is stuck, and is taken out.
+// delivered: one to which it sent may have a step then. Or it forks, and its child may have a step. Or it is stuck, and is
+// taken out.
 fn take_turn(
     alloc: Global,
     processes: &mut BTreeMap<u32, Process>,
@@ -82,9 +85,11 @@ fn take_turn(
 ) -> Result<(), NoMemory>
     requires first { IsFirst pid ready.old.keys }
     requires room { total_load processes.old.entries < 2 ^ 64 }
+    requires fits { PidsFit processes.old.entries }
     requires covers { Covers processes.old.entries ready.old.keys }
     ensures turns { OnOk result (Turns processes.old.entries processes.new.entries ttys.old.entries ttys.new.entries ready.old.keys ready.new.keys) }
     ensures covers { OnOk result (Covers processes.new.entries ready.new.keys) }
+    ensures fits { OnOk result (PidsFit processes.new.entries) }
 {
     // A map tells with its length that its keys are in order.
     let _count = processes.len();
@@ -100,7 +105,12 @@ fn take_turn(
         }
         Step::Emit(Emission::Exit(_)) => {}
         Step::Silent => {}
-        Step::Blocked | Step::Forks | Step::Over => {
+        Step::Forks => {
+            let child = child_after(processes, pid);
+            fork_at(alloc, processes, pid, child)?;
+            ready.insert(child.0)?;
+        }
+        Step::Blocked | Step::Over => {
             ready.remove(&pid);
         }
     }

@@ -74,8 +74,8 @@ fn go_on(
     }
 }
 
-// A copy of the state of a process, to which a failed delivery goes back.
-fn small_at(processes: &BTreeMap<u32, Process>, pid: u32) -> Small
+/// A copy of the state of a process, to which a failed delivery goes back, and a failed fork. Takes no memory.
+pub fn small_at(processes: &BTreeMap<u32, Process>, pid: u32) -> Small
     requires { IsSome (get nat_cmp processes.now pid) }
     ensures { option_map (λ p. p.small) (get nat_cmp processes.now pid) ≡ Some result }
 {
@@ -85,8 +85,8 @@ fn small_at(processes: &BTreeMap<u32, Process>, pid: u32) -> Small
     }
 }
 
-// Puts the state of a process back.
-fn restore(processes: &mut BTreeMap<u32, Process>, pid: u32, before: Small)
+/// Puts the state of a process back. Takes no memory.
+pub fn restore(processes: &mut BTreeMap<u32, Process>, pid: u32, before: Small)
     requires { IsSome (get nat_cmp processes.old pid) }
     ensures { Restores processes.old.entries processes.new.entries pid before }
 {

@@ -41,7 +41,7 @@ impl<'a> Start<'a> {
     pub fn of_root(system: &'a System, pid: Pid, root: Root) -> Start<'a>
         requires { CanBoot system.now root }
         ensures state { result ≡ root_process system.now pid root }
-        ensures load { state_load result ≡ 2 * (root.limit + 34) }
+        ensures load { state_load result ≡ 2 * (root.limit + 34 + root.births * (root.limit + 34)) }
     {
         let image = image_of(system, root);
         Start {

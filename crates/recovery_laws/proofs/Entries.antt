@@ -28,7 +28,8 @@ use Rattle.cert_sched.proofs.RecordLaws.{start_of-snoc, since-snoc, arrived_coun
 use Rattle.cert_sched.proofs.Induction.{legal_induction}
 use Rattle.cert_sched.proofs.MailLaws.{boot_arrived}
 use Rattle.cert_sched.proofs.ReplayLaws.{Replays, replays_all_delivered}
-use Rattle.cert_sched.proofs.CameLaws.{IsStandingRule, is_birth, not_birth}
+use Rattle.cert_sched.proofs.BirthKind.{is_birth}
+use Rattle.cert_sched.proofs.CameLaws.{IsStandingRule, not_birth}
 use Rattle.cert_sched.proofs.StayingUnended.{unended_stays}
 use Rattle.cert_sched.proofs.BuiltCuts.{bears_none, cut_unended}
 use Rattle.cert_sched.proofs.RollLaws.{Rolls, all_roll, refilled_more}

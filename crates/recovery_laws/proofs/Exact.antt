@@ -33,7 +33,8 @@ use Rattle.cert_sched.proofs.StepLaws.{is_sent, sent_from, no_birth, no_signal_t
 use Rattle.cert_sched.proofs.MailLaws.{sender_goes_on, received, received-ended, process_after-sender, process_after-receiver, boot_arrived}
 use Rattle.cert_sched.proofs.EndedLaws.{letter_told}
 use Rattle.cert_sched.proofs.ReplayLaws.{Replays, Sharp, sharp_replays, sharp_on, sharp_last, sharp_all_delivered}
-use Rattle.cert_sched.proofs.CameLaws.{IsStandingRule, received-all, same_of, apart_from, not_birth}
+use Rattle.cert_sched.proofs.MadeLaws.{apart_from}
+use Rattle.cert_sched.proofs.CameLaws.{IsStandingRule, received-all, same_of, not_birth}
 use Rattle.cert_sched.proofs.BuiltCuts.{bears_none}
 use Rattle.cert_sched.proofs.OpenLaws.{unended_open}
 use Rattle.cert_sched.proofs.RollLaws.{Rolls, AllRoll, all_at_boot, all_more, rolls_steps, refilled_more}

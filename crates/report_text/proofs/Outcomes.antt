@@ -27,12 +27,12 @@ use Rattle.cert_sched.specs.Steps.{emission_at}
 use Rattle.cert_sched.specs.Kinds.{KindHolds}
 use Rattle.cert_sched.specs.Legal.{IsLegalBy, Stands}
 use Rattle.cert_sched.proofs.Induction.{legal_induction}
-use Rattle.cert_sched.proofs.CameLaws.{IsStandingRule, is_birth, is_silent, not_birth}
+use Rattle.cert_sched.proofs.CameLaws.{IsStandingRule, is_silent}
 use Rattle.cert_sched.proofs.EndedLaws.{letter_told}
 use Rattle.cert_sched.proofs.FreshLaws.{Numbered, numbered_at_boot, numbered_more}
 use Rattle.cert_sched.proofs.MailLaws.{sender_goes_on}
 use Rattle.cert_sched.proofs.QuietLaws.{went_quietly}
-use Rattle.cert_sched.proofs.StepLaws.{applied, is_sent, plain_after-pids, plain_after-sent, sent_from}
+use Rattle.cert_sched.proofs.StepLaws.{applied, is_sent, no_birth, plain_after-pids, plain_after-sent, sent_from}
 use Rattle.report_text.specs.Outcome.{Outcome, ends_of, none_told, outcome_of, told_after}
 use Rattle.report_text.proofs.Told.{numbered, open_standing, put_standing, standing, told_by, told_ended, told_letter, told_quietly, told_same}
 
@@ -67,11 +67,11 @@ boot_told system =
 -- ---- one more entry
 
 -- an entry that tells of no emission and no birth adds nothing
-silent_adds : (w : What) → is_silent w ≡ true → is_birth w ≡ false → (o : Outcome) → told_after w o ≡ o
-silent_adds (Mail at letter) quiet other o = absurd (true≢false (sym quiet))
-silent_adds (Birth parent at child end) quiet other o = absurd (true≢false other)
-silent_adds (Exit pid at end) quiet other o = absurd (true≢false (sym quiet))
-silent_adds _ quiet other o = refl
+silent_adds : (w : What) → is_silent w ≡ true → (o : Outcome) → told_after w o ≡ o
+silent_adds (Mail at letter) quiet o = absurd (true≢false (sym quiet))
+silent_adds (Birth parent at child end) quiet o = absurd (true≢false (sym quiet))
+silent_adds (Exit pid at end) quiet o = absurd (true≢false (sym quiet))
+silent_adds _ quiet o = refl
 
 module _ (system : System) (log : List Entry) (e : Entry) (k j : Kernel) (before : plain_after system log ≡ Some k) (after : plain_after system (log ++ e ∷ []) ≡ Some j) where
   has : HasPids (pids_in (boot system)) k
@@ -102,12 +102,13 @@ module _ (system : System) (log : List Entry) (e : Entry) (k j : Kernel) (before
       quietly : (w : What) → what e ≡ w → KindHolds system log e w → is_silent w ≡ true → told_by j ≡ told_after w (told_by k)
       quietly w is kind quiet =
           told_quietly (pids_in (boot system)) k j has (went_quietly system log e k j before after w is quiet kind numbers.two)
-          ∙ sym (silent_adds w quiet (not_birth system log e stands.applies w is) (told_by k))
+          ∙ sym (silent_adds w quiet (told_by k))
 
       by_silence : (w : What) (b : Bool) → is_silent w ≡ b → what e ≡ w → KindHolds system log e w → told_by j ≡ told_after w (told_by k)
       by_silence w true quiet is kind = quietly w is kind quiet
       by_silence (Mail at letter) false loud is kind = let sent = is_sent system log letter.from at (Sent letter) kind in mail_told at letter sent.after is sent.is
       by_silence (Exit p at end) false loud is kind = let sent = is_sent system log p at (Ended end) kind.0 in exit_told p at end sent.after is sent.is
+      by_silence (Birth parent at child end) false loud is kind = absurd (no_birth system log e parent at child end is stands.applies)
       by_silence _ false loud is kind = absurd (true≢false loud)
 
       by_what : (w : What) → what e ≡ w → KindHolds system log e w → told_by j ≡ told_after w (told_by k)

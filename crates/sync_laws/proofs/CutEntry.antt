@@ -23,7 +23,7 @@ use Rattle.cert_sched.specs.CertAfter.{count_in}
 use Rattle.cert_sched.proofs.LogLaws.{placement-snoc}
 use Rattle.cert_sched.proofs.RecordLaws.{start_of-snoc, since-snoc, saved_letters-start, arrived_count-other, backup_record-other, backup_record-cut}
 use Rattle.cert_sched.proofs.Induction.{is_over-snoc}
-use Rattle.cert_sched.proofs.CameLaws.{apart_from}
+use Rattle.cert_sched.proofs.MadeLaws.{apart_from}
 use Rattle.cert_sched.proofs.StepLaws.{silent_applies, process_after-silent, process_after-beside, done_after-other}
 use Rattle.sync_laws.specs.Cut.{CutsAt, cut_record}
 use Rattle.sync_laws.proofs.Beside.{start_stays, since_stays, saved_stay}

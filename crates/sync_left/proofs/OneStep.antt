@@ -19,7 +19,7 @@ use Rattle.plain_kernel.proofs.Pids.{HasPids, one_step-pids}
 use Rattle.bus_msg.specs.declared.placed.Placed.{Placed}
 use Rattle.bus_msg.specs.Places.{same_pid}
 use Rattle.cert_sched.specs.Schedule.{done}
-use Rattle.cert_sched.proofs.CameLaws.{apart_from}
+use Rattle.cert_sched.proofs.MadeLaws.{apart_from}
 use Rattle.cert_sched.proofs.RisingLaws.{NoTwo}
 use Rattle.cert_sched.proofs.PidLaws.{placed_pids}
 use Rattle.page_laws.proofs.Leaving.{one_if}

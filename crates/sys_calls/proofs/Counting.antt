@@ -10,12 +10,12 @@ use Rattle.t32_base.specs.declared.letter.To.{To}
 use Rattle.t32_base.specs.declared.letter.To.TheVariants.{Proc, Tty}
 use Rattle.rv_mem.specs.Memory.{is_inside, bytes_at}
 use Rattle.rv_cpu.specs.Exec.{Executed, Steps, Calls, Traps, exec, reg}
-use Rattle.proc_state.specs.Ends.{leads_at}
+use Rattle.proc_state.specs.Ends.{free_end, leads_at}
 use Rattle.proc_state.specs.State.{ProcState, with_small, has_ended}
 use Rattle.sys_calls.specs.Small.{spent, lowest_linked}
 use Rattle.sys_calls.specs.declared.steps.Emission.{Emission}
 use Rattle.sys_calls.specs.declared.steps.Emission.TheVariants.{Mail, Exit}
-use Rattle.sys_calls.specs.Calls.{Next, Silent, Blocked, Forks, Emits, Over, Call, ExitCall, Write, Read, ReadAny, GetPid, Close, Unknown, arg, answers, refused, letter_to, called, call_of, close_to, first_wanted, read_any_checked, read_call, read_checked, read_found, write_to}
+use Rattle.sys_calls.specs.Calls.{Next, Silent, Blocked, Forks, Emits, Over, Call, ExitCall, Write, Read, ReadAny, ForkCall, GetPid, Close, Unknown, arg, answers, refused, letter_to, called, call_of, close_to, first_wanted, read_any_checked, read_call, read_checked, read_found, write_to}
 use Rattle.sys_calls.specs.declared.reading.Reading.{Reading}
 use Rattle.sys_calls.specs.declared.reading.Reading.TheVariants.{Refused, AtEnd, Wants}
 use Rattle.sys_calls.specs.declared.reading.Wanted.{Wanted}
@@ -75,11 +75,17 @@ module _ (s p : ProcState) (one : CountsOne s p) (open_still : has_ended (p.smal
   read AtEnd = (record { steps = one.steps; pid = one.pid; next = one.next }, open_still)
   read (Wants wanted ptr room) = found wanted ptr room (first_wanted p wanted)
 
+  forked : (none full : Bool) → Counts s (cond none (refused p 11) (cond full (refused p 24) Forks))
+  forked true full = (record { steps = one.steps; pid = one.pid; next = one.next }, open_still)
+  forked false true = (record { steps = one.steps; pid = one.pid; next = one.next }, open_still)
+  forked false false = tt
+
   called_counts : (c : Call) → Counts s (called c p)
   called_counts ExitCall = (record { steps = one.steps; pid = one.pid; next = one.next }, refl)
   called_counts Write = written (arg p 0) (arg p 1) (arg p 2) (leads_at (p.small).ends (arg p 0))
   called_counts Read = read (read_checked p)
   called_counts ReadAny = read (read_any_checked p)
+  called_counts ForkCall = forked (eqb (p.small).births 0) (not (ltb (free_end (p.small).ends) 32))
   called_counts Close = closed_to (arg p 0) (leads_at (p.small).ends (arg p 0))
   called_counts GetPid = (record { steps = one.steps; pid = one.pid; next = one.next }, open_still)
   called_counts Unknown = (record { steps = one.steps; pid = one.pid; next = one.next }, open_still)

@@ -11,5 +11,6 @@ pub mod Taking
 pub mod Clean
 pub mod ForkLaws
 pub mod Weighing
+pub mod Bearing
 mod Ahead
 mod Passing

@@ -1,5 +1,5 @@
 -- No call sends a signal yet, so none waits where none waited; and no step is a fork.
-use Rattle.std.proofs.Common.{◌≡◌, ℕ, zero, suc, refl, ◌∙◌, ap, subst, List, [], ◌∷◌, Bool, true, false, cond, not, ◌&&◌, ◌||◌, eqb, ltb, Option, Some, None, option_and_then, is_none, is_some, true≢false}
+use Rattle.std.proofs.Common.{◌≡◌, ℕ, zero, suc, refl, sym, ◌∙◌, ap, subst, List, [], ◌∷◌, Bool, true, false, cond, not, ◌&&◌, ◌||◌, eqb, ltb, Option, Some, None, option_and_then, is_none, is_some, true≢false}
 use Rattle.std.specs.Prelude.{find}
 use Rattle.std.specs.List.{list_any}
 use Rattle.std.proofs.lemmas.List.Folds.{list_any-append}
@@ -13,17 +13,18 @@ use Rattle.t32_base.specs.declared.letter.To.{To}
 use Rattle.t32_base.specs.declared.letter.To.TheVariants.{Proc, Tty}
 use Rattle.rv_mem.specs.Memory.{is_inside, bytes_at}
 use Rattle.rv_cpu.specs.Exec.{Executed, Steps, Calls, Traps, exec, reg}
-use Rattle.proc_state.specs.Ends.{leads_at}
+use Rattle.proc_state.specs.Ends.{free_end, leads_at}
 use Rattle.proc_state.specs.Mail.{carries_signal, is_signal, signal_of, without_first}
 use Rattle.proc_state.specs.State.{ProcState, with_small, can_take, delivered, is_live}
 use Rattle.sys_calls.specs.Small.{spent, lowest_linked}
 use Rattle.sys_calls.specs.declared.steps.Emission.{Emission}
 use Rattle.sys_calls.specs.declared.steps.Emission.TheVariants.{Mail, Exit}
-use Rattle.sys_calls.specs.Calls.{Next, Silent, Blocked, Forks, Emits, Over, Call, ExitCall, Write, Read, ReadAny, GetPid, Close, Unknown, arg, answers, refused, letter_to, called, call_of, close_to, first_wanted, is_wanted, read_any_checked, read_call, read_checked, read_found, write_to}
+use Rattle.sys_calls.specs.Calls.{Next, Silent, Blocked, Forks, Emits, Over, Call, ExitCall, Write, Read, ReadAny, ForkCall, GetPid, Close, Unknown, arg, answers, refused, letter_to, called, call_of, close_to, first_wanted, forks_are_built, is_wanted, read_any_checked, read_call, read_checked, read_found, write_to}
 use Rattle.sys_calls.specs.declared.reading.Reading.{Reading}
 use Rattle.sys_calls.specs.declared.reading.Reading.TheVariants.{Refused, AtEnd, Wants}
 use Rattle.sys_calls.specs.declared.reading.Wanted.{Wanted}
 use Rattle.sys_calls.specs.Next.{next_step, step_by, live_step, after_exec, closing_step, silent_of, silently}
+use Rattle.sys_calls.proofs.ForkLaws.{forks_built}
 
 -- no signal waits in a mailbox
 abbrev pub no_signal : List Arrived → Type 0
@@ -38,7 +39,7 @@ sends_none (Exit end) = Unit {0}
 abbrev pub Quiet : ProcState → Next → Type 0
 Quiet s (Silent t) = no_signal s.mail → no_signal t.mail
 Quiet s Blocked = Unit {0}
-Quiet s Forks = ⊥
+Quiet s Forks = Unit {0}
 Quiet s (Emits e t) = (no_signal s.mail → no_signal t.mail) × sends_none e
 Quiet s Over = Unit {0}
 
@@ -85,11 +86,17 @@ module _ (s p : ProcState) (same : no_signal s.mail → no_signal p.mail) where
   read AtEnd = same
   read (Wants wanted ptr room) = found wanted ptr room (first_wanted p wanted)
 
+  forked : (none full : Bool) → Quiet s (cond none (refused p 11) (cond full (refused p 24) Forks))
+  forked true full = same
+  forked false true = same
+  forked false false = tt
+
   called_quiet : (c : Call) → Quiet s (called c p)
   called_quiet ExitCall = same
   called_quiet Write = written (arg p 0) (arg p 1) (arg p 2) (leads_at (p.small).ends (arg p 0))
   called_quiet Read = read (read_checked p)
   called_quiet ReadAny = read (read_any_checked p)
+  called_quiet ForkCall = forked (eqb (p.small).births 0) (not (ltb (free_end (p.small).ends) 32))
   called_quiet Close = closed_to (arg p 0) (leads_at (p.small).ends (arg p 0))
   called_quiet GetPid = same
   called_quiet Unknown = same
@@ -126,8 +133,10 @@ emits_quiet s t e is = (subst (Quiet s) is (next_quiet s)).0
 pub sends_no_signal : (s t : ProcState) (e : Emission) → next_step s ≡ Emits e t → sends_none e
 sends_no_signal s t e is = (subst (Quiet s) is (next_quiet s)).1
 
+-- the call that forks is not built yet
 pub no_fork : (s : ProcState) → next_step s ≡ Forks → ⊥
-no_fork s is = subst (Quiet s) is (next_quiet s)
+unfolding forks_are_built
+no_fork s is = true≢false (sym (forks_built s is))
 
 pub silently_quiet : (n : ℕ) (s t : ProcState) → silently n s ≡ Some t → no_signal s.mail → no_signal t.mail
 unfolding silently

@@ -12,7 +12,7 @@ use Rattle.t32_base.specs.declared.letter.To.{To}
 use Rattle.t32_base.specs.declared.letter.To.TheVariants.{Proc, Tty}
 use Rattle.rv_mem.specs.Memory.{is_inside}
 use Rattle.rv_cpu.specs.Exec.{Executed, Steps, Calls, Traps, exec, exec_marks, reg}
-use Rattle.proc_state.specs.Ends.{leads_at}
+use Rattle.proc_state.specs.Ends.{free_end, leads_at}
 use Rattle.proc_state.specs.Mail.{without_first}
 use Rattle.proc_state.specs.State.{ProcState, delivered, with_small}
 use Rattle.sys_calls.specs.Small.{lowest_linked, spent}
@@ -21,7 +21,7 @@ use Rattle.sys_calls.specs.declared.reading.Reading.{Reading}
 use Rattle.sys_calls.specs.declared.reading.Reading.TheVariants.{Refused, AtEnd, Wants}
 use Rattle.sys_calls.specs.declared.reading.Wanted.{Wanted}
 use Rattle.sys_calls.specs.declared.reading.Wanted.TheVariants.{On, AnyLinked}
-use Rattle.sys_calls.specs.Calls.{Next, Silent, Blocked, Forks, Emits, Over, Call, ExitCall, Write, Read, ReadAny, GetPid, Close, Unknown, called, call_of, close_to, first_wanted, is_wanted, letter_read, read_any_checked, read_call, read_checked, read_found, write_to, arg, letter_called, marks_called, marks_found, marks_read, wanted_letter}
+use Rattle.sys_calls.specs.Calls.{Next, Silent, Blocked, Forks, Emits, Over, Call, ExitCall, Write, Read, ReadAny, ForkCall, GetPid, Close, Unknown, called, call_of, close_to, first_wanted, is_wanted, letter_read, read_any_checked, read_call, read_checked, read_found, write_to, arg, letter_called, marks_called, marks_found, marks_read, wanted_letter}
 use Rattle.sys_calls.specs.Next.{letter_by, letter_executed, letter_live, letter_taken, marks_by, marks_executed, marks_live, step_marks, Marked, silent_step, silently_marked, next_step, step_by, live_step, after_exec, closing_step, is_blocked, silently, silent_of, emission_of, last_emission}
 
 -- a step with the process after it changed
@@ -90,6 +90,7 @@ called-delivered l ExitCall p = λ _. refl
 called-delivered l Write p = write-delivered l p (arg p 0) (arg p 1) (arg p 2) (leads_at (p.small).ends (arg p 0))
 called-delivered l Read p = read-delivered l p (read_checked p)
 called-delivered l ReadAny p = read-delivered l p (read_any_checked p)
+called-delivered l ForkCall p = either l (eqb (p.small).births 0) _ _ _ _ (λ _. refl) (either l (not (ltb (free_end (p.small).ends) 32)) _ _ _ _ (λ _. refl) (λ _. refl))
 called-delivered l GetPid p = λ _. refl
 called-delivered l Close p = close-delivered l p (arg p 0) (leads_at (p.small).ends (arg p 0))
 called-delivered l Unknown p = λ _. refl
@@ -139,6 +140,7 @@ letter-called l ExitCall p h = refl
 letter-called l Write p h = refl
 letter-called l Read p h = letter-read l p (read_checked p) h
 letter-called l ReadAny p h = letter-read l p (read_any_checked p) h
+letter-called l ForkCall p h = refl
 letter-called l GetPid p h = refl
 letter-called l Close p h = refl
 letter-called l Unknown p h = refl
@@ -148,6 +150,7 @@ marks-called l ExitCall p dirty h = refl
 marks-called l Write p dirty h = refl
 marks-called l Read p dirty h = marks-read l p dirty (read_checked p) h
 marks-called l ReadAny p dirty h = marks-read l p dirty (read_any_checked p) h
+marks-called l ForkCall p dirty h = refl
 marks-called l GetPid p dirty h = refl
 marks-called l Close p dirty h = refl
 marks-called l Unknown p dirty h = refl

@@ -5,12 +5,12 @@ use Rattle.t32_base.specs.declared.letter.To.{To}
 use Rattle.t32_base.specs.declared.letter.To.TheVariants.{Proc, Tty}
 use Rattle.rv_mem.specs.Memory.{is_inside}
 use Rattle.rv_cpu.specs.Exec.{Executed, Steps, Calls, Traps, exec, is_call, reg}
-use Rattle.proc_state.specs.Ends.{leads_at}
+use Rattle.proc_state.specs.Ends.{free_end, leads_at}
 use Rattle.proc_state.specs.State.{ProcState, with_small}
 use Rattle.sys_calls.specs.Small.{spent}
 use Rattle.sys_calls.specs.declared.reading.Reading.{Reading}
 use Rattle.sys_calls.specs.declared.reading.Reading.TheVariants.{Refused, AtEnd, Wants}
-use Rattle.sys_calls.specs.Calls.{Next, Call, ExitCall, Write, Read, ReadAny, GetPid, Close, Unknown, arg, call_of, called, close_to, first_wanted, read_any_checked, read_call, read_checked, read_found, reading_of, write_to}
+use Rattle.sys_calls.specs.Calls.{Next, Call, ExitCall, Write, Read, ReadAny, ForkCall, GetPid, Close, Unknown, arg, call_of, called, close_to, first_wanted, read_any_checked, read_call, read_checked, read_found, reading_of, write_to}
 use Rattle.sys_calls.specs.Next.{after_exec, is_blocked, live_step}
 
 -- whether an instruction was spent makes no difference to whether a read waits
@@ -50,6 +50,7 @@ no_read p ExitCall e = refl
 no_read p Write e = writes (with_small p (spent p.small)) (arg p 0) (arg p 1) (arg p 2) (leads_at (p.small).ends (arg p 0))
 no_read p Read e = cc
 no_read p ReadAny e = cc
+no_read p ForkCall e = either (eqb (p.small).births 0) _ _ refl (either (not (ltb (free_end (p.small).ends) 32)) _ _ refl refl)
 no_read p GetPid e = refl
 no_read p Close e = closes (with_small p (spent p.small)) (arg p 0) (leads_at (p.small).ends (arg p 0))
 no_read p Unknown e = refl
@@ -63,6 +64,7 @@ a_read p ExitCall reading e = cc
 a_read p Write reading e = cc
 a_read p Read reading e = ap (λ r. is_blocked (read_call p r)) (sym (some_same (read_checked p) reading e)) ∙ alike p (read_checked p)
 a_read p ReadAny reading e = ap (λ r. is_blocked (read_call p r)) (sym (some_same (read_any_checked p) reading e)) ∙ alike p (read_any_checked p)
+a_read p ForkCall reading e = cc
 a_read p GetPid reading e = cc
 a_read p Close reading e = cc
 a_read p Unknown reading e = cc
@@ -102,6 +104,7 @@ reads_called p ExitCall reading e = cc
 reads_called p Write reading e = cc
 reads_called p Read reading e = ap (λ r. read_call (with_small p (spent p.small)) r) (some_same (read_checked p) reading e)
 reads_called p ReadAny reading e = ap (λ r. read_call (with_small p (spent p.small)) r) (some_same (read_any_checked p) reading e)
+reads_called p ForkCall reading e = cc
 reads_called p GetPid reading e = cc
 reads_called p Close reading e = cc
 reads_called p Unknown reading e = cc

@@ -18,7 +18,7 @@ use Rattle.t32_base.specs.declared.letter.To.TheVariants.{Proc, Tty}
 use Rattle.t32_base.specs.Small.{is_unshut, stages}
 use Rattle.rv_mem.specs.Memory.{is_inside, bytes_at}
 use Rattle.rv_cpu.specs.Exec.{Executed, Steps, Calls, Traps, exec, reg}
-use Rattle.proc_state.specs.Ends.{finished_at, finished_end, leads_at}
+use Rattle.proc_state.specs.Ends.{finished_at, finished_end, free_end, leads_at}
 use Rattle.proc_state.specs.Mail.{end_of}
 use Rattle.proc_state.specs.State.{ProcState, with_small}
 use Rattle.sys_calls.specs.Small.{linked_from, lowest_linked, spent, weight}
@@ -28,7 +28,7 @@ use Rattle.sys_calls.specs.declared.reading.Reading.{Reading}
 use Rattle.sys_calls.specs.declared.reading.Reading.TheVariants.{Refused, AtEnd, Wants}
 use Rattle.sys_calls.specs.declared.reading.Wanted.{Wanted}
 use Rattle.sys_calls.specs.declared.reading.Wanted.TheVariants.{On, AnyLinked}
-use Rattle.sys_calls.specs.Calls.{Next, Silent, Blocked, Forks, Emits, Over, Call, ExitCall, Write, Read, ReadAny, GetPid, Close, Unknown, answers, arg, call_of, called, close_to, ends_after, first_wanted, letter_to, read_any_checked, read_call, read_checked, read_found, refused, write_to}
+use Rattle.sys_calls.specs.Calls.{Next, Silent, Blocked, Forks, Emits, Over, Call, ExitCall, Write, Read, ReadAny, ForkCall, GetPid, Close, Unknown, answers, arg, call_of, called, close_to, ends_after, first_wanted, letter_to, read_any_checked, read_call, read_checked, read_found, refused, write_to}
 use Rattle.sys_calls.specs.Next.{after_exec, closing_step, live_step, next_step, silent_of, silently, step_by}
 
 -- ---- the ends that are not shut
@@ -138,11 +138,17 @@ module _ (s p : ProcState) (one : weight p.small + 1 ≤ weight s.small) (lives 
   read AtEnd = one
   read (Wants wanted ptr room) = found wanted ptr room (first_wanted p wanted)
 
+  forked : (none full : Bool) → Leaves s (cond none (refused p 11) (cond full (refused p 24) Forks))
+  forked true full = one
+  forked false true = one
+  forked false false = tt
+
   call_leaves : (c : Call) → Leaves s (called c p)
   call_leaves ExitCall = omega (arith, one, ap stages lives)
   call_leaves Write = written (arg p 0) (arg p 1) (arg p 2) (leads_at (p.small).ends (arg p 0))
   call_leaves Read = read (read_checked p)
   call_leaves ReadAny = read (read_any_checked p)
+  call_leaves ForkCall = forked (eqb (p.small).births 0) (not (ltb (free_end (p.small).ends) 32))
   call_leaves Close = closed_to (arg p 0) (leads_at (p.small).ends (arg p 0))
   call_leaves GetPid = one
   call_leaves Unknown = one

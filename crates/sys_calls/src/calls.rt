@@ -4,12 +4,13 @@ ghost use Rattle.rv_cpu.specs.Exec.{reg};
 ghost use Rattle.proc_state.specs.Ends.{leads_to};
 ghost use Rattle.proc_state.specs.State.{state_of, with_small};
 ghost use Rattle.sys_calls.specs.Small.{spent};
-ghost use Rattle.sys_calls.specs.Calls.{call_of, called, close_call, letter_called, marks_called, write_call, ExitCall};
+ghost use Rattle.sys_calls.specs.Calls.{call_of, called, close_call, fork_call, forks_are_built, letter_called, marks_called, write_call, ExitCall};
+ghost use Rattle.sys_calls.specs.Next.{is_fork};
 ghost use Rattle.sys_calls.specs.Steps.{Makes, Marks, SameCount, Shorter, Took, Touches, step_of_read, taken_by};
 
 use crate::ends::{destination, shut};
 use crate::reading::{make_read, read_any_checked, read_checked};
-use crate::refusal::{BAD_ADDRESS, BAD_ARGUMENT, BAD_END, refuse};
+use crate::refusal::{BAD_ADDRESS, BAD_ARGUMENT, BAD_END, NO_BIRTH, NO_END, refuse};
 use crate::small::{answer, close, go_on};
 use crate::steps::{Emission, Step};
 use proc_state::process::Process;
@@ -22,6 +23,19 @@ use t32_base::streams::NoMemory;
 
 /// The most bytes of one letter.
 const MOST: u32 = 256;
+
+/// The number of the call that forks.
+const FORK: u32 = 5;
+
+/// The ends of a process.
+const ENDS: u8 = 32;
+
+// Whether the call that forks is built.
+fn forks_are_built() -> bool
+    ensures { result ≡ forks_are_built }
+{
+    false
+}
 
 /// The process makes the call whose number is in a7.
 pub fn call(alloc: Global, p: &mut Process) -> Result<Step, NoMemory>
@@ -44,6 +58,7 @@ pub fn call(alloc: Global, p: &mut Process) -> Result<Step, NoMemory>
             let reading = read_any_checked(p);
             read_step(make_read(p, reading))
         }
+        FORK if forks_are_built() => Ok(fork_call(p)),
         6 => {
             let pid = p.small.pid.0;
             answer(&mut p.small, pid);
@@ -142,4 +157,32 @@ fn close_end(p: &mut Process) -> Step
             body: Body::EndOf,
         })),
     }
+}
+
+/// fork(): refused where no birth or no end is left; else the fork is the next step, and the call changes nothing.
+fn fork_call(p: &mut Process) -> Step
+    requires some { 0 < p.old.small.left }
+    ensures makes { Makes (fork_call (with_small (state_of p.old) (spent p.old.small))) (Ok result) (state_of p.old) (state_of p.new) }
+    ensures marks { p.new.ram.dirty ≡ p.old.ram.dirty }
+    ensures count { SameCount p.old p.new }
+    ensures shorter { Shorter (Ok result) p.old.small p.new.small }
+    ensures touches { Touches (Ok result) p.old p.new }
+{
+    if p.small.births == 0 {
+        return refuse(p, NO_BIRTH);
+    }
+    if p.free_end() >= ENDS {
+        return refuse(p, NO_END);
+    }
+    Step::Forks
+}
+
+/// Whether the call whose number is in a7 would fork. Takes no memory.
+pub fn would_fork(p: &Process) -> bool
+    ensures { result ≡ is_fork (called (call_of (reg p.now.small.regs 17)) (with_small (state_of p.now) (spent p.now.small))) }
+{
+    if read(&p.small.regs, 17) != FORK || !forks_are_built() {
+        return false;
+    }
+    p.small.births != 0 && p.free_end() < ENDS
 }

@@ -12,11 +12,17 @@ use proc_state::process::Process;
 /// The number of the error: the end is not open, or it is not one for this call.
 pub const BAD_END: u32 = 9;
 
+/// The number of the error: no birth is left.
+pub const NO_BIRTH: u32 = 11;
+
 /// The number of the error: a byte lies outside the memory.
 pub const BAD_ADDRESS: u32 = 14;
 
 /// The number of the error: an argument, or the number of the call.
 pub const BAD_ARGUMENT: u32 = 22;
+
+/// The number of the error: no end is left that was never linked.
+pub const NO_END: u32 = 24;
 
 /// A check refuses the call: minus the error's number is the answer.
 pub fn refuse(p: &mut Process, error: u32) -> Step

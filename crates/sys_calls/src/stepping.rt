@@ -3,12 +3,12 @@ ghost use Rattle.std.specs.Prelude.{◌≡◌, ◌<◌, ◌≤◌, ◌+◌, ◌=
 ghost use Rattle.rv_cpu.specs.Run.{machine_of, ran, Stops};
 ghost use Rattle.rv_cpu.specs.Exec.{bytes_after, did_of, exec, exec_marks, is_call, regs_after};
 ghost use Rattle.proc_state.specs.State.{state_of};
-ghost use Rattle.sys_calls.specs.Next.{closing_step, has_step, is_blocked, letter_live, letter_taken, live_step, marks_live, next_step, silently_marked, step_marks};
+ghost use Rattle.sys_calls.specs.Next.{closing_step, has_step, is_blocked, is_fork, letter_live, letter_taken, live_step, marks_live, next_step, silently_marked, step_marks};
 ghost use Rattle.sys_calls.specs.Small.{after_instructions, lowest_linked, weight, with_regs};
 ghost use Rattle.sys_calls.specs.Passing.{IsAtCall, Passes, PassesCall};
 ghost use Rattle.sys_calls.specs.Steps.{is_silent, marked, was_silent, Makes, Marks, RunsOn, SameCount, Shorter, Took, Touches, taken_by};
 
-use crate::calls::call;
+use crate::calls::{call, would_fork};
 use crate::reading::{make_read, reading_next, waits};
 use crate::small::{
     at_most, close, finish, instructions_left, is_live, is_spent_up, run_out, shut_lowest, spend,
@@ -193,6 +193,28 @@ pub fn can_step(p: &Process) -> bool
         Status::Closing(_) => true,
         Status::Live => !waits_next(p),
     }
+}
+
+/// Whether `step` would answer `Forks`. Takes no memory.
+pub fn forks_next(p: &Process) -> bool
+    ensures { result ≡ is_fork (next_step (state_of p.now)) }
+{
+    match p.small.status {
+        Status::Ended(_) => false,
+        Status::Closing(_) => false,
+        Status::Live => forks_live(p),
+    }
+}
+
+// Whether a live process's next instruction is a call that forks.
+fn forks_live(p: &Process) -> bool
+    requires live { p.now.small.status ≡ Status.Live }
+    ensures { result ≡ is_fork (live_step (p.now.small.left == 0) (state_of p.now)) }
+{
+    if is_spent_up(&p.small) || !stands_at_call(p) {
+        return false;
+    }
+    would_fork(p)
 }
 
 // Whether a live process's next instruction is a read that waits.

@@ -15,5 +15,5 @@ loop-number-preserved c =
     let boots : CanBoot c.args.system.now root = rw c.as_slice-roots.ensures (can_boot c.args.system.now c.loop-number.number no_root (get_or c.args.system.now.roots c.loop-number.number no_root) c.requires (omega (arith, size)) refl) in
     record {
       states = booted_more c.args.system.now c.as_slice-roots.result.now c.loop-number.number no_root root c.of_root.result _ _ c.pid_after-pid.result (omega arith) refl c.loop-number.invariant.states c.in_ok-insert.ensures.entries c.pid_after-pid.ensures c.of_root.ensures.state;
-      load = omega (arith, load_more _ _ _ c.of_root.result 200068 c.insert.ensures.was_ordered c.in_ok-insert.ensures.entries (light c.of_root.result root.limit c.of_root.ensures.load boots.limit), c.loop-number.invariant.load);
+      load = omega (arith, load_more _ _ _ c.of_root.result 6402176 c.insert.ensures.was_ordered c.in_ok-insert.ensures.entries (light c.of_root.result root.limit root.births c.of_root.ensures.load boots.limit boots.births), c.loop-number.invariant.load);
     }

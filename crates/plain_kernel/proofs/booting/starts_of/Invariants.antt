@@ -8,5 +8,5 @@ use Rattle.plain_kernel.proofs.booting.starts_of.Given as goal
 abbrev pub invariant-loop-chan : goal.invariant-loop-chan
 invariant-loop-chan l = record {
   states : starts_in l.starts.entries ≡ fold (with_chan l.system) (booted_processes l.system (roots_of l.system)) (take l.chan-index l.chans);
-  room : starts_load l.starts.entries < 2 ^ 64;
+  room : starts_load l.starts.entries < 2 ^ 28;
 }

@@ -2,8 +2,12 @@ use Rattle.std.proofs.Common.{◌∙◌, ap, subst}
 use Rattle.plain_kernel.specs.Kernel.{Kernel}
 use Rattle.plain_kernel.specs.Still.{Reaches}
 use Rattle.plain_kernel.specs.Maps.{booted_ttys, kernel_of}
+use Rattle.plain_kernel.proofs.PidRoom.{boot_fits}
 use Rattle.plain_kernel.proofs.Roots.{booted}
 use Rattle.plain_kernel.proofs.plain.default_run.Goals as goal
+
+pub run_to_end-requires-clause-fits : goal.run_to_end-requires-clause-fits
+run_to_end-requires-clause-fits c = boot_fits c.args.system.now c.processes.entries c.requires c.in_ok-processes.ensures.states c.in_ok-processes.ensures.room
 
 pub returns : goal.returns
 returns c =

@@ -11,5 +11,5 @@ returns c =
       changes = record { found = sym c.in-Some.ensures.value; entries = h.0; ordered = c.get_mut.ensures.ordered };
       makes = c.step.ensures.makes;
       touches = c.step.ensures.touches;
-      lighter = lighter_by c.step.result c.in-Some.process.now c.step.new.p c.step.ensures.makes c.step.ensures.shorter;
+      lighter = lighter_by c.step.result c.in-Some.process.now c.step.new.p c.step.ensures.makes;
     }

@@ -1,7 +1,7 @@
 use Rattle.std.proofs.Common.{arith, ap}
 use Rattle.plain_kernel.specs.Maps.{total_load}
-use Rattle.plain_kernel.proofs.Entries.{there_after}
-use Rattle.plain_kernel.proofs.Turns.{less, more_ran, more_made, no_steps, still_there, stood, stuck_there}
+use Rattle.plain_kernel.proofs.Entries.{still_there, there_after}
+use Rattle.plain_kernel.proofs.Turns.{less, more_ran, more_made, no_steps, stood, stuck_there}
 use Rattle.plain_kernel.proofs.running.run_steps.Goals as goal
 
 pub steps-init : goal.steps-init
