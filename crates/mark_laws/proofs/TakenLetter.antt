@@ -12,7 +12,7 @@ use Rattle.rv_mem.specs.Memory.{is_inside, bytes_at}
 use Rattle.rv_mem.proofs.MarkLemmas.{length-touched}
 use Rattle.rv_cpu.specs.Exec.{Executed, Steps, Calls, Traps, exec, exec_marks, reg}
 use Rattle.rv_cpu.proofs.Marks.{length-exec_marks}
-use Rattle.proc_state.specs.Ends.{leads_at}
+use Rattle.proc_state.specs.Ends.{free_end, leads_at}
 use Rattle.proc_state.specs.Mail.{without_first}
 use Rattle.proc_state.specs.State.{ProcState, with_small}
 use Rattle.sys_calls.specs.Small.{spent, lowest_linked}
@@ -20,7 +20,7 @@ use Rattle.sys_calls.specs.declared.steps.Emission.TheVariants.{Mail}
 use Rattle.sys_calls.specs.declared.reading.Reading.{Reading}
 use Rattle.sys_calls.specs.declared.reading.Reading.TheVariants.{Refused, AtEnd, Wants}
 use Rattle.sys_calls.specs.declared.reading.Wanted.{Wanted}
-use Rattle.sys_calls.specs.Calls.{Next, Silent, Blocked, Forks, Emits, Over, Call, ExitCall, Write, Read, ReadAny, GetPid, Close, Unknown, answers, arg, called, call_of, close_to, first_wanted, is_wanted, letter_called, letter_to, marks_called, marks_found, marks_read, read_any_checked, read_call, read_checked, read_found, refused, said_within, wanted_letter, write_to}
+use Rattle.sys_calls.specs.Calls.{Next, Silent, Blocked, Forks, Emits, Over, Call, ExitCall, Write, Read, ReadAny, ForkCall, GetPid, Close, Unknown, answers, arg, called, call_of, close_to, first_wanted, is_wanted, letter_called, letter_to, marks_called, marks_found, marks_read, read_any_checked, read_call, read_checked, read_found, refused, said_within, wanted_letter, write_to}
 use Rattle.sys_calls.specs.Next.{next_step, step_by, live_step, after_exec, closing_step, letter_by, letter_executed, letter_live, letter_taken, marks_by, marks_executed, marks_live, step_marks}
 
 -- the letter is the first that passes a test, and the others are left
@@ -80,11 +80,17 @@ read s (Refused error) = refl
 read s AtEnd = refl
 read s (Wants wanted ptr room) = found s (with_small s (spent s.small)) refl wanted ptr room (first_wanted s wanted) refl
 
+forked : (s p : ProcState) → p.mail ≡ s.mail → (none full : Bool) → Takes s (cond none (refused p 11) (cond full (refused p 24) Forks)) None
+forked s p same true full = same
+forked s p same false true = same
+forked s p same false false = tt
+
 called_takes : (s : ProcState) (c : Call) → Takes s (called c (with_small s (spent s.small))) (letter_called c s)
 called_takes s ExitCall = refl
 called_takes s Write = let p = with_small s (spent s.small) in written s p refl (arg p 0) (arg p 1) (arg p 2) (leads_at (p.small).ends (arg p 0))
 called_takes s Read = read s (read_checked s)
 called_takes s ReadAny = read s (read_any_checked s)
+called_takes s ForkCall = let p = with_small s (spent s.small) in forked s p refl (eqb (p.small).births 0) (not (ltb (free_end (p.small).ends) 32))
 called_takes s GetPid = refl
 called_takes s Close = let p = with_small s (spent s.small) in closed_to s p refl (arg p 0) (leads_at (p.small).ends (arg p 0))
 called_takes s Unknown = refl
@@ -128,6 +134,7 @@ length-called s dirty ExitCall = refl
 length-called s dirty Write = refl
 length-called s dirty Read = length-read s dirty (read_checked s)
 length-called s dirty ReadAny = length-read s dirty (read_any_checked s)
+length-called s dirty ForkCall = refl
 length-called s dirty GetPid = refl
 length-called s dirty Close = refl
 length-called s dirty Unknown = refl

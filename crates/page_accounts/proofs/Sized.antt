@@ -20,7 +20,7 @@ use Rattle.rv_insn.specs.declared.Insn.{Insn}
 use Rattle.rv_insn.specs.declared.Insn.TheVariants.{Jal, Jalr, Beq, Bne, Blt, Bge, Bltu, Bgeu, Lb, Lh, Lw, Lbu, Lhu, Sb, Sh, Sw}
 use Rattle.rv_insn.specs.Table.{decoded}
 use Rattle.rv_cpu.specs.Exec.{Executed, Steps, Calls, Traps, branches, bytes_after, exec, exec_decoded, exec_fetched, executed, fetched, loads, onward, plus, reg, set_reg, to_target, unless_refused, widened, word}
-use Rattle.proc_state.specs.Ends.{is_open_at, is_unfinished, is_unfinished_at, leads_at}
+use Rattle.proc_state.specs.Ends.{free_end, is_open_at, is_unfinished, is_unfinished_at, leads_at}
 use Rattle.proc_state.specs.State.{ProcState, with_small}
 use Rattle.sys_calls.specs.Small.{spent, lowest_linked}
 use Rattle.sys_calls.specs.declared.steps.Emission.TheVariants.{Mail}
@@ -28,7 +28,7 @@ use Rattle.sys_calls.specs.declared.reading.Reading.{Reading}
 use Rattle.sys_calls.specs.declared.reading.Reading.TheVariants.{Refused, AtEnd, Wants}
 use Rattle.sys_calls.specs.declared.reading.Wanted.{Wanted}
 use Rattle.sys_calls.specs.declared.reading.Wanted.TheVariants.{On, AnyLinked}
-use Rattle.sys_calls.specs.Calls.{Next, Silent, Blocked, Forks, Emits, Over, Call, ExitCall, Write, Read, ReadAny, GetPid, Close, Unknown, answers, arg, called, call_of, close_to, first_wanted, letter_to, read_any_checked, read_call, read_checked, read_found, refused, room, said_within, write_to}
+use Rattle.sys_calls.specs.Calls.{Next, Silent, Blocked, Forks, Emits, Over, Call, ExitCall, Write, Read, ReadAny, ForkCall, GetPid, Close, Unknown, answers, arg, called, call_of, close_to, first_wanted, letter_to, read_any_checked, read_call, read_checked, read_found, refused, room, said_within, write_to}
 use Rattle.sys_calls.specs.Next.{next_step, step_by, live_step, after_exec, closing_step}
 
 -- ---- bytes put into a memory leave its length
@@ -185,11 +185,17 @@ read_big p (Refused error) space = record { memory = refl; pages = refl }
 read_big p AtEnd space = record { memory = refl; pages = refl }
 read_big p (Wants wanted ptr room) space = found p wanted ptr room space (first_wanted p wanted)
 
+forked : (p : ProcState) (none full : Bool) → AsBig p (cond none (refused p 11) (cond full (refused p 24) Forks))
+forked p true full = record { memory = refl; pages = refl }
+forked p false true = record { memory = refl; pages = refl }
+forked p false false = tt
+
 called_big : (p : ProcState) (c : Call) → AsBig p (called c p)
 called_big p ExitCall = record { memory = refl; pages = refl }
 called_big p Write = written p (arg p 0) (arg p 1) (arg p 2) (leads_at (p.small).ends (arg p 0))
 called_big p Read = read_big p (read_checked p) (room_of_read p)
 called_big p ReadAny = read_big p (read_any_checked p) (room_of_read_any p)
+called_big p ForkCall = forked p (eqb (p.small).births 0) (not (ltb (free_end (p.small).ends) 32))
 called_big p GetPid = record { memory = refl; pages = refl }
 called_big p Close = closed_to p (arg p 0) (leads_at (p.small).ends (arg p 0))
 called_big p Unknown = record { memory = refl; pages = refl }

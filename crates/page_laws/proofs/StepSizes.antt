@@ -12,11 +12,11 @@ use Rattle.t32_base.specs.declared.letter.To.TheVariants.{Proc, Tty}
 use Rattle.rv_mem.specs.Memory.{is_inside, bytes_at, with_bytes}
 use Rattle.rv_mem.proofs.PageLaws.{less_inside}
 use Rattle.rv_cpu.specs.Exec.{Executed, Steps, Calls, Traps, exec, reg}
-use Rattle.proc_state.specs.Ends.{is_open_at, is_unfinished, is_unfinished_at, leads_at}
+use Rattle.proc_state.specs.Ends.{free_end, is_open_at, is_unfinished, is_unfinished_at, leads_at}
 use Rattle.proc_state.specs.State.{ProcState, with_small}
 use Rattle.sys_calls.specs.Small.{spent, lowest_linked}
 use Rattle.sys_calls.specs.declared.steps.Emission.TheVariants.{Mail}
-use Rattle.sys_calls.specs.Calls.{Next, Silent, Blocked, Forks, Emits, Over, Call, ExitCall, Write, Read, ReadAny, GetPid, Close, Unknown, arg, answers, refused, room, letter_to, called, call_of, close_to, first_wanted, said_within, read_any_checked, read_call, read_checked, read_found, write_to}
+use Rattle.sys_calls.specs.Calls.{Next, Silent, Blocked, Forks, Emits, Over, Call, ExitCall, Write, Read, ReadAny, ForkCall, GetPid, Close, Unknown, arg, answers, refused, room, letter_to, called, call_of, close_to, first_wanted, said_within, read_any_checked, read_call, read_checked, read_found, write_to}
 use Rattle.sys_calls.specs.declared.reading.Reading.{Reading}
 use Rattle.sys_calls.specs.declared.reading.Reading.TheVariants.{Refused, AtEnd, Wants}
 use Rattle.sys_calls.specs.declared.reading.Wanted.{Wanted}
@@ -109,11 +109,17 @@ module _ (s p : ProcState) (pages : (p.small).pages ≡ (s.small).pages) (bytes 
   read AtEnd inside = record { pages = pages; bytes = bytes }
   read (Wants wanted ptr room) inside = found wanted ptr room inside (first_wanted p wanted)
 
+  forked : (none full : Bool) → Keeps s (cond none (refused p 11) (cond full (refused p 24) Forks))
+  forked true full = record { pages = pages; bytes = bytes }
+  forked false true = record { pages = pages; bytes = bytes }
+  forked false false = tt
+
   called_keeps : (c : Call) → Keeps s (called c p)
   called_keeps ExitCall = record { pages = pages; bytes = bytes }
   called_keeps Write = written (arg p 0) (arg p 1) (arg p 2) (leads_at (p.small).ends (arg p 0))
   called_keeps Read = read (read_checked p) (room_of_read p)
   called_keeps ReadAny = read (read_any_checked p) (room_of_read_any p)
+  called_keeps ForkCall = forked (eqb (p.small).births 0) (not (ltb (free_end (p.small).ends) 32))
   called_keeps Close = closed_to (arg p 0) (leads_at (p.small).ends (arg p 0))
   called_keeps GetPid = record { pages = pages; bytes = bytes }
   called_keeps Unknown = record { pages = pages; bytes = bytes }

@@ -19,13 +19,13 @@ use Rattle.t32_base.specs.declared.letter.To.TheVariants.{Proc, Tty}
 use Rattle.sys_text.specs.declared.system.System.{System}
 use Rattle.rv_mem.specs.Memory.{is_inside, bytes_at}
 use Rattle.rv_cpu.specs.Exec.{Executed, Steps, Calls, Traps, exec, reg}
-use Rattle.proc_state.specs.Ends.{leads_at}
+use Rattle.proc_state.specs.Ends.{free_end, leads_at}
 use Rattle.proc_state.specs.Mail.{without_first}
 use Rattle.proc_state.specs.State.{ProcState, with_small, delivered, has_ended}
 use Rattle.sys_calls.specs.Small.{spent, lowest_linked}
 use Rattle.sys_calls.specs.declared.steps.Emission.{Emission}
 use Rattle.sys_calls.specs.declared.steps.Emission.TheVariants.{Mail, Exit}
-use Rattle.sys_calls.specs.Calls.{Next, Silent, Blocked, Forks, Emits, Over, Call, ExitCall, Write, Read, ReadAny, GetPid, Close, Unknown, arg, answers, refused, letter_to, called, call_of, close_to, first_wanted, is_wanted, read_any_checked, read_call, read_checked, read_found, write_to}
+use Rattle.sys_calls.specs.Calls.{Next, Silent, Blocked, Forks, Emits, Over, Call, ExitCall, Write, Read, ReadAny, ForkCall, GetPid, Close, Unknown, arg, answers, refused, letter_to, called, call_of, close_to, first_wanted, is_wanted, read_any_checked, read_call, read_checked, read_found, write_to}
 use Rattle.sys_calls.specs.declared.reading.Reading.{Reading}
 use Rattle.sys_calls.specs.declared.reading.Reading.TheVariants.{Refused, AtEnd, Wants}
 use Rattle.sys_calls.specs.declared.reading.Wanted.{Wanted}
@@ -146,11 +146,17 @@ module _ (p : ProcState) (numbered : IsNumbered p) where
   read AtEnd = numbered
   read (Wants wanted ptr room) = found wanted ptr room (first_wanted p wanted)
 
+  forked : (none full : Bool) → KeepsNumbers (cond none (refused p 11) (cond full (refused p 24) Forks))
+  forked true full = numbered
+  forked false true = numbered
+  forked false false = tt
+
   called_numbered : (c : Call) → KeepsNumbers (called c p)
   called_numbered ExitCall = numbered
   called_numbered Write = written (arg p 0) (arg p 1) (arg p 2) (leads_at (p.small).ends (arg p 0))
   called_numbered Read = read (read_checked p)
   called_numbered ReadAny = read (read_any_checked p)
+  called_numbered ForkCall = forked (eqb (p.small).births 0) (not (ltb (free_end (p.small).ends) 32))
   called_numbered Close = closed_to (arg p 0) (leads_at (p.small).ends (arg p 0))
   called_numbered GetPid = numbered
   called_numbered Unknown = numbered

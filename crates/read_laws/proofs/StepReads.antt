@@ -13,7 +13,7 @@ use Rattle.t32_base.specs.declared.letter.To.{To}
 use Rattle.t32_base.specs.declared.letter.To.TheVariants.{Proc, Tty}
 use Rattle.rv_mem.specs.Memory.{is_inside, bytes_at}
 use Rattle.rv_cpu.specs.Exec.{Executed, Steps, Calls, Traps, exec, reg}
-use Rattle.proc_state.specs.Ends.{is_linked, is_open_at, is_unfinished, is_unfinished_at, leads_at}
+use Rattle.proc_state.specs.Ends.{free_end, is_linked, is_open_at, is_unfinished, is_unfinished_at, leads_at}
 use Rattle.proc_state.specs.Mail.{is_on, is_on_linked, without_first}
 use Rattle.proc_state.specs.State.{ProcState, with_small}
 use Rattle.proc_state.proofs.LinkedLaws.{end_of_letter, find_passes, found_on}
@@ -24,7 +24,7 @@ use Rattle.sys_calls.specs.declared.reading.Reading.{Reading}
 use Rattle.sys_calls.specs.declared.reading.Reading.TheVariants.{Refused, AtEnd, Wants}
 use Rattle.sys_calls.specs.declared.reading.Wanted.{Wanted}
 use Rattle.sys_calls.specs.declared.reading.Wanted.TheVariants.{On, AnyLinked}
-use Rattle.sys_calls.specs.Calls.{Next, Silent, Blocked, Forks, Emits, Over, Call, ExitCall, Write, Read, ReadAny, GetPid, Close, Unknown, arg, answers, refused, letter_to, called, call_of, close_to, first_wanted, read_any_checked, read_call, read_checked, read_found, room, write_to}
+use Rattle.sys_calls.specs.Calls.{Next, Silent, Blocked, Forks, Emits, Over, Call, ExitCall, Write, Read, ReadAny, ForkCall, GetPid, Close, Unknown, arg, answers, refused, letter_to, called, call_of, close_to, first_wanted, read_any_checked, read_call, read_checked, read_found, room, write_to}
 use Rattle.sys_calls.specs.Next.{next_step, step_by, live_step, after_exec, closing_step}
 
 -- the mailbox stayed, or the first letter for one of so many ends was taken out
@@ -112,11 +112,17 @@ module _ (p : ProcState) where
   read AtEnd asks = none refl
   read (Wants wanted ptr count) asks = found wanted ptr count (first_wanted p wanted) asks refl
 
+  forked : (few full : Bool) → StepReads p (cond few (refused p 11) (cond full (refused p 24) Forks))
+  forked true full = none refl
+  forked false true = none refl
+  forked false false = tt
+
   called_reads : (c : Call) → StepReads p (called c p)
   called_reads ExitCall = none refl
   called_reads Write = written (arg p 0) (arg p 1) (arg p 2) (leads_at (p.small).ends (arg p 0))
   called_reads Read = read (read_checked p) read_asks
   called_reads ReadAny = read (read_any_checked p) any_asks
+  called_reads ForkCall = forked (eqb (p.small).births 0) (not (ltb (free_end (p.small).ends) 32))
   called_reads Close = closed_to (arg p 0) (leads_at (p.small).ends (arg p 0))
   called_reads GetPid = none refl
   called_reads Unknown = none refl
