@@ -1,6 +1,6 @@
 -- Each step leaves fewer steps to a process and the children that it may still fork, and a fork leaves fewer to the two.
-use Rattle.std.proofs.Common.{◌≡◌, ℕ, zero, suc, ◌+◌, ◌-◌, ◌*◌, ◌/◌, ◌<◌, ◌≤◌, refl, sym, ◌∙◌, ap, subst, arith, List, [], ◌∷◌, length, get_or, Bool, true, false, cond, eqb, ltb, not, position, Option, Some, None, option_and_then, replicate, unwrap_or}
-use Rattle.std.specs.Prelude.{slice_get, slice_set}
+use Rattle.std.proofs.Common.{◌≡◌, ℕ, zero, suc, ◌+◌, ◌-◌, ◌*◌, ◌/◌, ◌<◌, ◌≤◌, refl, ◌∙◌, ap, subst, arith, List, get_or, Bool, true, false, cond, eqb, ltb, not, position, Option, Some, None, option_and_then, unwrap_or}
+use Rattle.std.specs.Prelude.{slice_set}
 use Rattle.std.specs.List.{count_by}
 use Rattle.std.proofs.lemmas.Nat.{mul-le}
 use Rattle.std.proofs.lemmas.List.Sums.{count_by-le-length, sum_by-set}
@@ -30,7 +30,7 @@ use Rattle.sys_calls.specs.declared.reading.Wanted.{Wanted}
 use Rattle.sys_calls.specs.declared.reading.Wanted.TheVariants.{On, AnyLinked}
 use Rattle.sys_calls.specs.Calls.{Next, Silent, Blocked, Forks, Emits, Over, Call, ExitCall, Write, Read, ReadAny, ForkCall, GetPid, Close, Unknown, answers, arg, call_of, called, close_to, first_wanted, letter_to, read_any_checked, read_call, read_checked, read_found, refused, write_to}
 use Rattle.sys_calls.specs.Next.{after_exec, closing_step, live_step, next_step, silent_of, silently, step_by}
-use Rattle.sys_calls.specs.Fork.{CanFork, child_births, fork_child, fork_parent, next_end}
+use Rattle.sys_calls.specs.Fork.{CanFork, child_births, fork_child, fork_parent}
 use Rattle.sys_calls.proofs.Weighing.{emits_leaves, next_leaves, Leaves}
 
 -- ---- one step
