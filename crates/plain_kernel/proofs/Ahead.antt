@@ -155,8 +155,8 @@ module _ (ps qs : List (ℕ × Process)) (ready : List ℕ) (pid : ℕ) (ordered
       let lighter : total_load rs + 4 ≤ total_load x.between = omega (arith, fork_lighter qs rs pid child forks absent f, ap total_load same) in
       let turn = turn_of ps x.between ready pid x.count ordered first covers x.runs (able_first ps x.between pid x.count x.runs (ap has_step made)) in
       let step : fork_step (pid_of pid) (next_child (kernel_of x.between ts) (pid_of pid)) (kernel_of x.between ts) ≡ Some (kernel_of rs ts) =
-          subst (λ es. fork_step (pid_of pid) (next_child (kernel_of es ts) (pid_of pid)) (kernel_of es ts) ≡ Some (kernel_of rs ts)) same
-          (subst (λ c. fork_step (pid_of pid) c (kernel_of qs ts) ≡ Some (kernel_of rs ts)) is (forked qs rs pid child forks absent f ts)) in
+      subst (λ es. fork_step (pid_of pid) (next_child (kernel_of es ts) (pid_of pid)) (kernel_of es ts) ≡ Some (kernel_of rs ts)) same
+      (subst (λ c. fork_step (pid_of pid) c (kernel_of qs ts) ≡ Some (kernel_of rs ts)) is (forked qs rs pid child forks absent f ts)) in
       record {
         turns = turns_forked ps x.between rs ts ready left pid x.count turn x.runs made step lighter longer;
         covers = covers_sent ps x.between rs ready left pid child.0 x.count ordered turn x.runs (subst (λ es. SameBut (λ q. at_key pid q || at_key child.0 q) es rs) same (fork_others qs rs pid child forks absent f)) puts receiver covers;

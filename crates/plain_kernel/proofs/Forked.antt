@@ -36,11 +36,11 @@ use Rattle.plain_kernel.proofs.NextChild.{next_child-absent, next_child-within}
 -- ---- a process that forks next
 
 pub fork_next : (next : Next) → is_fork next ≡ true → next ≡ Forks
-fork_next (Silent s) is = cc
-fork_next Blocked is = cc
+fork_next (Silent s) is = absurd (false≢true is)
+fork_next Blocked is = absurd (false≢true is)
 fork_next Forks is = refl
-fork_next (Emits what s) is = cc
-fork_next Over is = cc
+fork_next (Emits what s) is = absurd (false≢true is)
+fork_next Over is = absurd (false≢true is)
 
 pub forks_next_at : (es : List (ℕ × Process)) (pid : ℕ) (p : Process) → lookup (at_key pid) es ≡ Some p → forks_at es pid ≡ true → next_step (state_of p) ≡ Forks
 forks_next_at es pid p found forks = fork_next (next_step (state_of p)) (ap (λ o. option_map_or (λ (p : Process). is_fork (next_step (state_of p))) o false) (sym found) ∙ forks)
@@ -163,10 +163,10 @@ module _ (ps qs : List (ℕ × Process)) (pid : ℕ) (child : Pid) (forks : fork
       let s = f.splits in
       let was : ProcState = state_of s.was in
       let entries : processes_of qs ≡ put pid_cmp child (fork_child was child) (put pid_cmp (pid_of pid) (fork_parent was child) (processes_of ps)) =
-          ap processes_of f.entries ∙ insert_seen state_of child.0 f.made f.between
-          ∙ ap (λ l. put pid_cmp child (state_of f.made) l) (put_after ps f.between pid s.was s.now s.changes)
-          ∙ ap (λ t. put pid_cmp child t (put pid_cmp (pid_of pid) (state_of s.now) (processes_of ps))) s.born
-          ∙ ap (λ t. put pid_cmp child (fork_child was child) (put pid_cmp (pid_of pid) t (processes_of ps))) s.parent in
+      ap processes_of f.entries ∙ insert_seen state_of child.0 f.made f.between
+      ∙ ap (λ l. put pid_cmp child (state_of f.made) l) (put_after ps f.between pid s.was s.now s.changes)
+      ∙ ap (λ t. put pid_cmp child t (put pid_cmp (pid_of pid) (state_of s.now) (processes_of ps))) s.born
+      ∙ ap (λ t. put pid_cmp child (fork_child was child) (put pid_cmp (pid_of pid) t (processes_of ps))) s.parent in
       fork_makes (pid_of pid) child (kernel_of ps ts) was (state_before ps f.between pid s.was s.now s.changes) (forks_next_at ps pid s.was (s.changes).found forks) (absent_state ps child absent)
       ∙ ap (λ l. Some (record { processes = l; ttys = ts })) (sym entries)
 

@@ -60,5 +60,5 @@ boot_fits system es valid states room q there = by_process (lookup (at_key q) es
     by_process None is some = absurd (false≢true some)
     by_process (Some p) is some =
         let at : small_at (boot system) (pid_of q) ≡ Some p.small =
-            ap (λ k. small_at k (pid_of q)) (sym whole) ∙ ap (option_map (λ (s : ProcState). s.small)) (lookup_state q es ∙ ap (option_map state_of) is) in
+        ap (λ k. small_at k (pid_of q)) (sym whole) ∙ ap (option_map (λ (s : ProcState). s.small)) (lookup_state q es ∙ ap (option_map state_of) is) in
         omega (arith, boot_low system valid (pid_of q) p.small at, room)

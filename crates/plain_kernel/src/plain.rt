@@ -7,8 +7,8 @@ ghost use Rattle.plain_kernel.specs.Kernel.{boot as boot_of, process_at, tty_at}
 ghost use Rattle.plain_kernel.specs.Still.{IsDefaultRun, is_still};
 ghost use Rattle.plain_kernel.specs.Answers.{Applies, Runs};
 
-use crate::booting::{processes_of, ttys_of};
 use crate::births::{fork_at, stands_at_fork};
+use crate::booting::{processes_of, ttys_of};
 use crate::item::{Item, NotApplied, RunRefused};
 use crate::processes::{lowest, pids_of};
 use crate::running::{run_steps, run_to_end};

@@ -3,8 +3,8 @@ use Rattle.t32_base.specs.declared.process.Pid.{Pid}
 use Rattle.plain_kernel.proofs.Forked.{highest_key}
 use Rattle.plain_kernel.proofs.births.child_after.Goals as goal
 
-pub overflow_add-Pid : goal.overflow_add-Pid
-overflow_add-Pid c = omega (arith, c.highest_of-highest.ensures, highest_key c.args.pid c.args.pid c.args.processes.now.entries, c.requires)
+pub overflow_add-result : goal.overflow_add-result
+overflow_add-result c = omega (arith, c.highest_of-highest.ensures, highest_key c.args.pid c.args.pid c.args.processes.now.entries, c.requires)
 
 pub returns : goal.returns
 returns c =

@@ -1,5 +1,5 @@
 use Rattle.std.proofs.Common.{arith, refl}
-use Rattle.plain_kernel.proofs.Delivery.{stepped_silent, stepped_exit, stepped_mail, stepped_alone, stepped_two, less_to_send, not_sent, not_made, stuck_blocked, stuck_over}
+use Rattle.plain_kernel.proofs.Delivery.{stepped_silent, stepped_exit, stepped_mail, stepped_alone, stepped_two, less_to_send, not_sent, not_made, stuck_blocked, stuck_forks, stuck_over}
 use Rattle.plain_kernel.proofs.sending.go_on.Goals as goal
 
 pub send-requires : goal.send-requires
@@ -31,6 +31,9 @@ returns-in-Err-send c =
 
 pub returns-in-Ok-Blocked : goal.returns-in-Ok-Blocked
 returns-in-Ok-Blocked c = stuck_blocked _ _ _ c.args.pid (rw (c.in-Ok-Blocked.is, c.in-Ok-Blocked.field-0-is) at c.step_at.ensures)
+
+pub returns-in-Ok-Forks : goal.returns-in-Ok-Forks
+returns-in-Ok-Forks c = stuck_forks _ _ _ c.args.pid (rw (c.in-Ok-Forks.is, c.in-Ok-Forks.field-0-is) at c.step_at.ensures)
 
 pub returns-in-Ok-Over : goal.returns-in-Ok-Over
 returns-in-Ok-Over c = stuck_over _ _ _ c.args.pid (rw (c.in-Ok-Over.is, c.in-Ok-Over.field-0-is) at c.step_at.ensures)
