@@ -4,6 +4,7 @@ ghost use Rattle.std.specs.Option.{option_copied};
 ghost use Rattle.bus_msg.specs.Places.{lives_in};
 ghost use Rattle.bus_order.specs.View.{is_awaited, mark_in, no_marks};
 
+use bus_msg::shared::Shared;
 use channel_table::placement::Placement;
 use std::alloc::Global;
 use t32_base::lists::List;
@@ -11,10 +12,11 @@ use t32_base::process::{ClusterNo, Pid};
 use t32_base::streams::NoMemory;
 
 /// What a cluster told when nothing could move in it: each process at home there that has not ended, rising,
-/// with its count of steps; and the kernel steps and the disk calls that the cluster has made.
+/// with its count of steps; and the kernel steps and the disk calls that the cluster has made. The cluster may keep the same
+/// list, and tell it again.
 #[derive(Drop)]
 pub struct Mark {
-    pub rests: List<(Pid, u64)>,
+    pub rests: Shared<List<(Pid, u64)>>,
     pub steps: u64,
     pub calls: u64,
 }

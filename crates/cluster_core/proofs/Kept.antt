@@ -432,6 +432,10 @@ next_above t ready last n same first = sym (ap (λ o. option_or o (first_of read
 pub next_around : (t : ℕ → Bool) (ready : List ℕ) (last : ℕ) → ((m : ℕ) → t m ≡ ltb last m) → first_of (filter t ready) ≡ None → first_of ready ≡ next_ready ready last
 next_around t ready last same first = sym (ap (λ o. option_or o (first_of ready)) (sym (first_filtered t (λ m. ltb last m) same ready) ∙ first))
 
+pub none_where_empty : (ready : List ℕ) (last : ℕ) → length ready ≡ 0 → next_ready ready last ≡ None
+none_where_empty [] last empty = refl
+none_where_empty (n ∷ ready) last empty = cc
+
 pub none_next : (limits : Limits) (slots : Slab Held) (keys : List (ℕ × ℕ)) (ready asking : List ℕ) (last : ℕ) → IsKept limits slots keys ready asking → next_ready ready last ≡ None → are_stuck limits (stands_in slots keys) ≡ true
 none_next limits slots keys ready asking last kept none = all_stuck limits slots asking keys (subst (λ ready. AllByRecursion (IsSlot limits slots ready asking) keys) (none_ready ready last none) kept.each)
 

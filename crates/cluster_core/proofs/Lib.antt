@@ -4,6 +4,7 @@ pub mod Quanta
 pub mod Here
 pub mod Slots
 pub mod Kept
+pub mod Told
 pub mod Choosing
 pub mod Asking
 pub mod Coming

@@ -14,3 +14,4 @@ pub mod Calls
 pub mod Booting
 pub mod Slots
 pub mod Absorbing
+pub mod Told

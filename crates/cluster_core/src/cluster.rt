@@ -20,6 +20,7 @@ use crate::work::work_on;
 use crate::worked::Worked;
 use backup_records::records::Records;
 use bus_msg::entry::{Entry, Post};
+use bus_msg::shared::Shared;
 use cert_sched::start::placement_at_boot;
 use channel_table::placement::Placement;
 use page_server::disk::PageDisk;
@@ -274,7 +275,7 @@ impl<D: PageDisk + Drop> Cluster<D> {
     }
 
     /// Each process here with its steps: None exactly where something here can move or waits for a page.
-    pub fn rests(&self) -> Result<Option<List<(Pid, u64)>>, NoMemory>
+    pub fn rests(&self) -> Result<Option<Shared<List<(Pid, u64)>>>, NoMemory>
         ensures rests { IfOk result (λ rests. rests ≡ (if is_resting self.now then Some (rests_of self.now) else None)) }
         ensures idle { IfOk result (λ rests. IfSome rests (RestsIn self.now)) }
     {

@@ -13,6 +13,7 @@ ghost use Rattle.cluster_core.specs.Work.{AsksNext, any_lacks, any_waits, is_low
 
 use crate::quantum::Quantum;
 use crate::resident::Resident;
+use bus_msg::shared::Shared;
 use quanta::limits::Limits;
 use slab::Slab;
 use std::alloc::Global;
@@ -25,7 +26,8 @@ use t32_base::process::{ClusterNo, Pid};
 use t32_base::streams::NoMemory;
 
 /// The processes at home in a cluster, by pid. One that cannot move, but may get a step by a letter or a page, is
-/// not asked again before one comes to it. Nor is one whose pages were all asked for.
+/// not asked again before one comes to it. Nor is one whose pages were all asked for. What they tell where none can move
+/// is kept until one changes, so that it is told again without a look at them.
 #[derive(Drop)]
 pub struct Residents {
     limits: Limits,
@@ -35,17 +37,19 @@ pub struct Residents {
     // Of these processes some may have pages to ask for.
     asking: BTreeSet<u32>,
     last: u32,
+    told: Option<Shared<List<(Pid, u64)>>>,
 }
 
 impl Model for Residents {
     ghost use Rattle.cluster_core.specs.Residents.{ResidentsView};
     ghost use Rattle.cluster_core.specs.Slots.{stands_in, IsKept};
+    ghost use Rattle.cluster_core.specs.Told.{IsTold};
 
     ghost Value = { ResidentsView };
 
     ghost view = { λ r. record { limits = r.limits; here = stands_in r.residents r.keys.entries; ready = r.ready.keys; asking = r.asking.keys; last = r.last } };
 
-    ghost invariant = { λ r. IsKept r.limits r.residents r.keys.entries r.ready.keys r.asking.keys };
+    ghost invariant = { λ r. IsKept r.limits r.residents r.keys.entries r.ready.keys r.asking.keys × IsTold r.limits (stands_in r.residents r.keys.entries) r.told };
 }
 
 impl Residents {
@@ -62,6 +66,7 @@ impl Residents {
             ready: BTreeSet::new(alloc),
             asking: BTreeSet::new(alloc),
             last: 0,
+            told: None,
         }
     }
 
@@ -80,6 +85,7 @@ impl Residents {
         ensures last { OnOk result (self.new.last ≡ self.old.last) }
         ensures limits { self.new.limits ≡ self.old.limits }
     {
+        self.told = None;
         self.ready.insert(pid.0)?;
         self.asking.insert(pid.0)?;
         let key = self.residents.insert(resident)?;
@@ -112,6 +118,9 @@ impl Residents {
         ensures stuck { result ≡ None → are_stuck self.now.limits self.now.here ≡ true }
         ensures able { (pid : ℕ) → result ≡ Some pid → NextAble pid self.now }
     {
+        if self.ready.is_empty() {
+            return None;
+        }
         let above = (Bound::Excluded(self.last), Bound::Unbounded);
         match self.ready.range(above).next() {
             Some(pid) => Some(*pid),
@@ -127,6 +136,7 @@ impl Residents {
         ensures last { self.new.last ≡ self.old.last }
         ensures limits { self.new.limits ≡ self.old.limits }
     {
+        self.told = None;
         match self.keys.get(&pid) {
             Some(key) => match self.residents.get_mut(*key) {
                 Some(resident) => resident.run_quantum(alloc, by, self.limits),
@@ -183,6 +193,7 @@ impl Residents {
         match self.keys.get(&pid.0) {
             Some(key) => {
                 self.ready.insert(pid.0)?;
+                self.told = None;
                 match self.residents.get_mut(*key) {
                     Some(resident) => resident.deliver(letter.copy()?),
                     None => unreachable!(),
@@ -209,6 +220,7 @@ impl Residents {
         match self.keys.get(&pid.0) {
             Some(key) => {
                 self.ready.insert(pid.0)?;
+                self.told = None;
                 match self.residents.get_mut(*key) {
                     Some(resident) => {
                         resident.come(alloc, index, page);
@@ -254,6 +266,7 @@ impl Residents {
         ensures last { self.new.last ≡ self.old.last }
         ensures limits { self.new.limits ≡ self.old.limits }
     {
+        self.told = None;
         match self.keys.get(&pid) {
             Some(key) => match self.residents.get_mut(*key) {
                 Some(resident) => resident.ask(),
@@ -279,6 +292,16 @@ impl Residents {
     pub fn waits(&self) -> bool
         ensures { result ≡ any_waits self.now.here }
     {
+        if self.told.is_some() {
+            return false;
+        }
+        self.any_waits()
+    }
+
+    // The same, where each is asked. Takes no memory.
+    fn any_waits(&self) -> bool
+        ensures { result ≡ any_waits self.now.here }
+    {
         for (_, key) in &self.keys {
             match self.residents.get(*key) {
                 Some(resident) => {
@@ -299,16 +322,48 @@ impl Residents {
         ensures limits { self.new.limits ≡ self.old.limits }
     {
         if let Some(key) = self.keys.remove(&pid.0) {
+            self.told = None;
             self.ready.remove(&pid.0);
             self.asking.remove(&pid.0);
             clear(&mut self.residents, key);
         }
     }
 
-    /// Each process with its steps, by rising pid: None exactly where one of them can move or waits for a page.
-    pub fn rests(&self, alloc: Global) -> Result<Option<List<(Pid, u64)>>, NoMemory>
+    /// Each process with its steps, by rising pid: None exactly where one of them can move or waits for a page. Where that is
+    /// kept no process is asked.
+    pub fn rests(&self, alloc: Global) -> Result<Option<Shared<List<(Pid, u64)>>>, NoMemory>
         ensures rests { IfOk result (λ rests. rests ≡ (if are_settled self.now.limits self.now.here then Some (rests_in self.now.here) else None)) }
         ensures ordered { are_rising (pids_in self.now.here) ≡ true }
+    {
+        match &self.told {
+            Some(told) => Ok(Some(told.copy()?)),
+            None => self.settled(alloc),
+        }
+    }
+
+    /// Keeps what they tell until one of them changes. Contracts see no change.
+    pub fn keep_told(&mut self, alloc: Global) -> Result<(), NoMemory>
+        ensures { self.new ≡ self.old }
+    {
+        if self.told.is_none() {
+            self.told = self.settled(alloc)?;
+        }
+        Ok(())
+    }
+
+    // What they have to tell, where each is asked.
+    fn settled(&self, alloc: Global) -> Result<Option<Shared<List<(Pid, u64)>>>, NoMemory>
+        ensures { IfOk result (λ rests. rests ≡ (if are_settled self.now.limits self.now.here then Some (rests_in self.now.here) else None)) }
+    {
+        match self.listed(alloc)? {
+            Some(rests) => Ok(Some(Shared::new(alloc, rests)?)),
+            None => Ok(None),
+        }
+    }
+
+    // The same as a list.
+    fn listed(&self, alloc: Global) -> Result<Option<List<(Pid, u64)>>, NoMemory>
+        ensures { IfOk result (λ rests. rests ≡ (if are_settled self.now.limits self.now.here then Some (rests_in self.now.here) else None)) }
     {
         let mut rests = List::new(alloc);
         for (pid, key) in &self.keys {

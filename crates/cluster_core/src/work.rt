@@ -85,19 +85,20 @@ fn run_next(
             *queue = VecDeque::from_vec(posts.into_vec());
             Ok(Worked::Queued)
         }
-        Quantum::Stuck => Ok(stuck(here)),
+        Quantum::Stuck => stuck(alloc, here),
     }
 }
 
-// Nothing can move: a process waits for its pages, or all rest.
-fn stuck(here: &Residents) -> Worked
-    ensures { result ≡ (if any_waits here.now.here then Worked.Waits else Worked.Rests) }
+// Nothing can move: a process waits for its pages, or all rest, and what they tell is kept.
+fn stuck(alloc: Global, here: &mut Residents) -> Result<Worked, NoMemory>
+    ensures worked { IfOk result (λ worked. worked ≡ (if any_waits here.old.here then Worked.Waits else Worked.Rests)) }
+    ensures same { here.new ≡ here.old }
 {
     if here.waits() {
-        Worked::Waits
-    } else {
-        Worked::Rests
+        return Ok(Worked::Waits);
     }
+    here.keep_told(alloc)?;
+    Ok(Worked::Rests)
 }
 
 // The fetch of a page by the cluster with a number. Takes no memory.

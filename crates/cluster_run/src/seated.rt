@@ -105,7 +105,7 @@ fn doze(
     ensures of { IsOf lock.now seat.new }
     ensures same { view_of seat.new ≡ retold (view_of seat.old) (told seat.new) }
 {
-    if mark.rests.is_empty() {
+    if mark.rests.get().is_empty() {
         return;
     }
     let another_is_up = sleepers.lie_down(number);

@@ -1,4 +1,4 @@
-use Rattle.std.proofs.Common.{◌∙◌, ap, sym, is_some, refl, subst}
+use Rattle.std.proofs.Common.{◌∙◌, ap, sym, is_some, subst}
 use Rattle.std.specs.List.{list_any}
 use Rattle.slab.specs.Slab.{with_value}
 use Rattle.slab.proofs.SlabLemmas.{Updates-with_value}
@@ -12,26 +12,30 @@ use Rattle.cluster_core.proofs.Asking.{lacks_listed, ran_lacks}
 use Rattle.cluster_core.proofs.residents.Residents.give_turn.Goals as goal
 
 pub unreachable-requires : goal.unreachable-requires
-unreachable-requires c = never_empty c.self.inside.limits c.self.inside.residents c.args.pid c.in-Some.key.now c.self.inside.keys.entries c.self.inside.ready.keys c.self.inside.asking.keys c.self.invariant (sym c.in-Some.ensures.value) (sym c.in-None-get_mut.ensures.value)
+unreachable-requires c = never_empty c.self.inside.limits c.self.inside.residents c.args.pid c.in-Some.key.now c.self.inside.keys.entries c.self.inside.ready.keys c.self.inside.asking.keys c.self.invariant.0 (sym c.in-Some.ensures.value) (sym c.in-None-get_mut.ensures.value)
 
 pub invariant_of-self : goal.invariant_of-self
-invariant_of-self c =
-    kept_written c.self.inside.limits c.self.inside.residents (with_value c.self.inside.residents c.in-Some.key.now c.run_quantum.new.self) c.args.pid c.in-Some.key.now c.run_quantum.new.self c.self.inside.keys.entries c.self.inside.ready.keys c.self.inside.asking.keys
-    (λ acts. ap (λ (v : ResidentsView). list_any (at_key c.args.pid) v.ready) c.self.view_is ∙ c.requires)
-    (λ some.
-    lacks_listed c.self.inside.limits c.self.inside.residents c.self.inside.ready.keys c.self.inside.asking.keys c.args.pid c.in-Some.key.now c.in-Some-get_mut.resident.now c.self.inside.keys.entries (sym c.in-Some.ensures.value) (sym c.in-Some-get_mut.ensures.value) c.self.invariant.each
-    (ran_lacks c.self.inside.limits c.args.by c.in-Some-get_mut.resident.now c.run_quantum.new.self c.run_quantum.result c.run_quantum.ensures some))
-    (sym c.in-Some.ensures.value)
-    (Updates-with_value c.self.inside.residents c.in-Some.key.now c.run_quantum.new.self (ap is_some (sym c.in-Some-get_mut.ensures.value))) c.self.invariant
+invariant_of-self c = (
+  kept_written c.self.inside.limits c.self.inside.residents (with_value c.self.inside.residents c.in-Some.key.now c.run_quantum.new.self) c.args.pid c.in-Some.key.now c.run_quantum.new.self c.self.inside.keys.entries c.self.inside.ready.keys c.self.inside.asking.keys
+      (λ acts. ap (λ (v : ResidentsView). list_any (at_key c.args.pid) v.ready) c.self.view_is ∙ c.requires)
+      (λ some.
+      lacks_listed c.self.inside.limits c.self.inside.residents c.self.inside.ready.keys c.self.inside.asking.keys c.args.pid c.in-Some.key.now c.in-Some-get_mut.resident.now c.self.inside.keys.entries (sym c.in-Some.ensures.value) (sym c.in-Some-get_mut.ensures.value) (c.self.invariant.0).each
+      (ran_lacks c.self.inside.limits c.args.by c.in-Some-get_mut.resident.now c.run_quantum.new.self c.run_quantum.result c.run_quantum.ensures some))
+      (sym c.in-Some.ensures.value)
+      (Updates-with_value c.self.inside.residents c.in-Some.key.now c.run_quantum.new.self (ap is_some (sym c.in-Some-get_mut.ensures.value))) c.self.invariant.0,
+  tt,
+)
 
 pub returns-in-Some-get_mut-clause-turn : goal.returns-in-Some-get_mut-clause-turn
 returns-in-Some-get_mut-clause-turn c =
     subst (λ (limits : Limits). GivenTurnIs limits c.args.by (pid_of c.args.pid) c.args.self.now.here c.run_quantum.result (stands_in (with_value c.self.inside.residents c.in-Some.key.now c.run_quantum.new.self) c.self.inside.keys.entries))
     (ap (λ (v : ResidentsView). v.limits) c.self.view_is)
     (given_turn c.self.inside.limits c.args.by c.self.inside.residents (with_value c.self.inside.residents c.in-Some.key.now c.run_quantum.new.self) c.args.pid c.in-Some.key.now c.self.inside.keys.entries c.self.inside.ready.keys c.self.inside.asking.keys
-    c.in-Some-get_mut.resident.now c.run_quantum.new.self c.args.self.now.here c.self.invariant (sym c.in-Some.ensures.value) (sym c.in-Some-get_mut.ensures.value)
+    c.in-Some-get_mut.resident.now c.run_quantum.new.self c.args.self.now.here c.self.invariant.0 (sym c.in-Some.ensures.value) (sym c.in-Some-get_mut.ensures.value)
     (Updates-with_value c.self.inside.residents c.in-Some.key.now c.run_quantum.new.self (ap is_some (sym c.in-Some-get_mut.ensures.value))) (ap (λ (v : ResidentsView). v.here) c.self.view_is) c.run_quantum.result c.run_quantum.ensures)
 
 pub returns-in-None-clause-turn : goal.returns-in-None-clause-turn
-returns-in-None-clause-turn c =
-    (ap (λ (v : ResidentsView). is_stuck_at v.limits (pid_of c.args.pid) v.here) (sym c.self.view_is) ∙ nobody_fails (λ h. is_stuck c.self.inside.limits h) c.self.inside.residents c.args.pid c.self.inside.keys.entries (no_entry c.args.pid c.self.inside.keys.entries (sym c.in-None.ensures.value)), refl)
+returns-in-None-clause-turn c = (
+  ap (λ (v : ResidentsView). is_stuck_at v.limits (pid_of c.args.pid) v.here) (sym c.self.view_is) ∙ nobody_fails (λ h. is_stuck c.self.inside.limits h) c.self.inside.residents c.args.pid c.self.inside.keys.entries (no_entry c.args.pid c.self.inside.keys.entries (sym c.in-None.ensures.value)),
+  ap (λ (v : ResidentsView). v.here) c.self.view_is,
+)

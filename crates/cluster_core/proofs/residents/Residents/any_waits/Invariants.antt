@@ -2,7 +2,7 @@ use Rattle.std.proofs.Common.{◌≡◌}
 use Rattle.std.specs.List.{AllByRecursion}
 use Rattle.cluster_core.specs.Slots.{stands_in, IsSlot}
 use Rattle.cluster_core.specs.Work.{any_waits}
-use Rattle.cluster_core.proofs.residents.Residents.waits.Given as goal
+use Rattle.cluster_core.proofs.residents.Residents.any_waits.Given as goal
 
 -- of those that are still to come one waits where one of all waits, and each of them is in its slot
 abbrev pub invariant-loop-key : goal.invariant-loop-key
