@@ -1,5 +1,6 @@
 //! A line by itself.
 ghost use Rattle.std.specs.Prelude.{◌≡◌, IfOk};
+ghost use Rattle.std.specs.Result.{ForOk};
 ghost use Rattle.std.specs.Option.{option_copied};
 ghost use Rattle.rv_asm.specs.Line.{label_of};
 ghost use Rattle.rv_asm.specs.View.{seen, seen_result, FieldsFit};
@@ -11,23 +12,26 @@ use crate::quoted::text_len;
 use crate::refusal::Rule;
 use crate::statement::{Statement, read_statement};
 
-/// What stands in a line.
+/// A line and what stands in it.
 #[derive(Clone, Copy)]
 pub struct Parsed<'a> {
+    pub line: &'a [u8],
     /// What stands before the colon.
     pub label: Option<&'a [u8]>,
     /// The statement, or which of the rules on its form it breaks.
     pub statement: Result<Statement<'a>, Rule>,
+    pub ghost label_is: { option_copied label ≡ label_of line.now },
+    pub ghost statement_is: { seen_result statement ≡ own_code line.now },
+    pub ghost fits: { ForOk statement FieldsFit },
 }
 
 /// The parts of a line, each looked at by itself.
 pub fn parse_line(line: &[u8]) -> Parsed<'_>
-    ensures label { option_copied result.label ≡ label_of line.now }
-    ensures statement { seen_result result.statement ≡ own_code line.now }
-    ensures fits { IfOk result.statement FieldsFit }
+    ensures { result.line.now ≡ line.now }
 {
     let parts = cut_line(line);
     Parsed {
+        line,
         label: parts.label,
         statement: read_statement(parts.statement),
     }
