@@ -10,7 +10,7 @@ ghost use Rattle.rv_asm.specs.Parsed.{texts_of};
 ghost use Rattle.rv_asm.specs.RuleByRule.{AreWordsOf, HasCause};
 
 use crate::labels::{Labels, Place};
-use crate::parsed::{Parsed, defined, parse_line, size_of_statement, statement_or_nothing};
+use crate::parsed::{Parsed, parse_line, size_of_statement, statement_or_nothing};
 use crate::refusal::AsmRefused;
 use crate::rules::broken_rule;
 use crate::words::push_words;
@@ -45,7 +45,7 @@ fn add_label<'a>(
     ensures memory { IsOkUnless result AsmRefused.NoMemory }
 {
     let size = size_of_statement(statement_or_nothing(parsed.statement)) as u64;
-    if let Some(name) = defined(parsed.label) {
+    if let Some(name) = parsed.defines {
         let place = Place {
             line: number,
             words,

@@ -7,9 +7,7 @@ ghost use Rattle.rv_asm.specs.View.{seen};
 ghost use Rattle.rv_asm.specs.Program.{address_after, is_near, reaches as reaches_in, defined_before as is_defined_before, broken_target, broken_by};
 
 use crate::labels::{Labels, Place};
-use crate::parsed::{
-    Parsed, breaks_rule, defined, is_bad_label, size_of_statement, statement_or_nothing, target,
-};
+use crate::parsed::{Parsed, breaks_rule, size_of_statement, statement_or_nothing, target};
 use crate::refusal::Rule;
 use crate::statement::Statement;
 use text_parts::are_printable;
@@ -89,11 +87,11 @@ pub fn broken_rule<'a>(
         Some(Rule::ForeignByte)
     } else if breaks_rule(parsed.statement, Rule::UnknownWord) {
         Some(Rule::UnknownWord)
-    } else if is_bad_label(parsed.label) || breaks_rule(parsed.statement, Rule::BadForm) {
+    } else if parsed.has_bad_label || breaks_rule(parsed.statement, Rule::BadForm) {
         Some(Rule::BadForm)
     } else if breaks_rule(parsed.statement, Rule::NumberRange) {
         Some(Rule::NumberRange)
-    } else if defined_before(labels, number, words, defined(parsed.label)) {
+    } else if defined_before(labels, number, words, parsed.defines) {
         Some(Rule::DefinedTwice)
     } else if let Some(rule) = broken_target(labels, statement, words) {
         Some(rule)

@@ -1,4 +1,4 @@
-use Rattle.std.proofs.Common.{◌≡◌, ℕ, ◌+◌, ◌++◌, List, None, length, drop, refl, sym, ◌∙◌, ap, rules}
+use Rattle.std.proofs.Common.{◌≡◌, ℕ, ◌+◌, ◌++◌, None, length, drop, refl, sym, ◌∙◌, ap, rules}
 use Rattle.rv_asm.specs.Labels.{labels_of, line_code}
 use Rattle.rv_asm.specs.Parsed.{texts_of}
 use Rattle.rv_asm.specs.Program.{reading_of, broken_by, words_at, address_after}
