@@ -7,3 +7,4 @@ pub mod QuotedTexts
 pub mod Reading
 pub mod WordLines
 pub mod Refusing
+mod ParsedLines

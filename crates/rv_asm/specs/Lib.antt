@@ -15,3 +15,4 @@ pub mod Program
 pub mod RuleByRule
 pub mod Answers
 pub mod Printing
+pub mod Parsed

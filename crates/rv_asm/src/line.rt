@@ -5,7 +5,7 @@ ghost use Rattle.std.specs.Option.{option_copied};
 ghost use Rattle.text_parts.specs.Lines.{before, from};
 ghost use Rattle.rv_asm.specs.Line.{after, starts_comment, before_comment, ends_label, is_label, is_label_byte, label_of, statement_of, word_of, operands_of};
 
-use text_parts::{cut_at, trim, trim_start};
+use text_parts::{cut_at, cut_far, trim, trim_start};
 
 /// Where a byte of a line stands.
 #[derive(Clone, Copy, Debug, PartialEq, Eq)]
@@ -52,6 +52,22 @@ impl Quoting {
 
 /// The line before its comment.
 fn without_comment(line: &[u8]) -> &[u8]
+    ensures { result.now ≡ before_comment Quoting.Outside line.now }
+{
+    // Most lines have no number sign, or no quote before it.
+    let (front, comment) = cut_far(line, b'#');
+    if comment.is_empty() {
+        return line;
+    }
+    let (_, quoted) = cut_far(front, b'"');
+    if quoted.is_empty() {
+        return front;
+    }
+    before_comment(line)
+}
+
+/// The same, byte by byte.
+fn before_comment(line: &[u8]) -> &[u8]
     ensures { result.now ≡ before_comment Quoting.Outside line.now }
 {
     let mut quoting = Quoting::Outside;

@@ -1,9 +1,10 @@
 //! A line by itself.
 ghost use Rattle.std.specs.Prelude.{◌≡◌, IfOk};
+ghost use Rattle.std.specs.Result.{ForOk};
 ghost use Rattle.std.specs.Option.{option_copied};
 ghost use Rattle.rv_asm.specs.Line.{label_of};
 ghost use Rattle.rv_asm.specs.View.{seen, seen_result, FieldsFit};
-ghost use Rattle.rv_asm.specs.Labels.{own_code, code_or_nothing, if_label, size_of};
+ghost use Rattle.rv_asm.specs.Labels.{own_code, code_or_nothing, if_label, defined_in, size_of};
 ghost use Rattle.rv_asm.specs.Program.{bad_label, is_rule, target_of};
 
 use crate::line::{cut_line, is_label};
@@ -11,24 +12,31 @@ use crate::quoted::text_len;
 use crate::refusal::Rule;
 use crate::statement::{Statement, read_statement};
 
-/// What stands in a line.
+/// A line and what stands in it.
 #[derive(Clone, Copy)]
 pub struct Parsed<'a> {
-    /// What stands before the colon.
-    pub label: Option<&'a [u8]>,
+    pub line: &'a [u8],
+    /// The label that the line defines: what stands before the colon, if it is well formed.
+    pub defines: Option<&'a [u8]>,
+    pub has_bad_label: bool,
     /// The statement, or which of the rules on its form it breaks.
     pub statement: Result<Statement<'a>, Rule>,
+    pub ghost defines_is: { option_copied defines ≡ defined_in line.now },
+    pub ghost bad_label_is: { has_bad_label ≡ bad_label (label_of line.now) },
+    pub ghost statement_is: { seen_result statement ≡ own_code line.now },
+    pub ghost fits: { ForOk statement FieldsFit },
 }
 
 /// The parts of a line, each looked at by itself.
 pub fn parse_line(line: &[u8]) -> Parsed<'_>
-    ensures label { option_copied result.label ≡ label_of line.now }
-    ensures statement { seen_result result.statement ≡ own_code line.now }
-    ensures fits { IfOk result.statement FieldsFit }
+    ensures { result.line.now ≡ line.now }
 {
     let parts = cut_line(line);
+    let defines = defined(parts.label);
     Parsed {
-        label: parts.label,
+        line,
+        defines,
+        has_bad_label: is_bad_label(parts.label, defines),
         statement: read_statement(parts.statement),
     }
 }
@@ -55,7 +63,7 @@ pub fn breaks_rule(statement: Result<Statement<'_>, Rule>, rule: Rule) -> bool
 }
 
 /// The label, if it is well formed.
-pub fn defined(label: Option<&[u8]>) -> Option<&[u8]>
+fn defined(label: Option<&[u8]>) -> Option<&[u8]>
     ensures { option_copied result ≡ if_label (option_copied label.entry) }
 {
     match label {
@@ -64,12 +72,13 @@ pub fn defined(label: Option<&[u8]>) -> Option<&[u8]>
     }
 }
 
-/// Is the label malformed?
-pub fn is_bad_label(label: Option<&[u8]>) -> bool
+/// Is the label malformed, of which this is what it defines?
+fn is_bad_label(label: Option<&[u8]>, defines: Option<&[u8]>) -> bool
+    requires { option_copied defines ≡ if_label (option_copied label) }
     ensures { result ≡ bad_label (option_copied label.entry) }
 {
     match label {
-        Some(name) => !is_label(name),
+        Some(_) => defines.is_none(),
         None => false,
     }
 }

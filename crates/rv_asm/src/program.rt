@@ -3,13 +3,14 @@ ghost use Rattle.std.specs.Prelude.{◌≡◌, ◌+◌, ◌++◌, ◌≤◌, ◌
 ghost use Rattle.text_parts.specs.Lines.{lines_of};
 ghost use Rattle.std.specs.List.{All, Contains};
 ghost use Rattle.text_parts.specs.Table.{FindSame, rows_of};
-ghost use Rattle.rv_asm.specs.Labels.{labels_of, entry_at, defined_in, line_size, line_code};
+ghost use Rattle.rv_asm.specs.Labels.{labels_from, entry_at, defined_in, line_size, line_code};
 ghost use Rattle.rv_asm.specs.Program.{reading_of, broken_by, words_at, address_after};
 ghost use Rattle.rv_asm.specs.Answers.{Answers, LineAnswers};
+ghost use Rattle.rv_asm.specs.Parsed.{texts_of};
 ghost use Rattle.rv_asm.specs.RuleByRule.{AreWordsOf, HasCause};
 
 use crate::labels::{Labels, Place};
-use crate::parsed::{defined, parse_line, size_of_statement, statement_or_nothing};
+use crate::parsed::{Parsed, parse_line, size_of_statement, statement_or_nothing};
 use crate::refusal::AsmRefused;
 use crate::rules::broken_rule;
 use crate::words::push_words;
@@ -17,20 +18,34 @@ use std::alloc::Global;
 use t32_base::lists::List;
 use text_parts::first_line;
 
+/// The lines of a text, each parsed once.
+fn parse_lines(alloc: Global, text: &[u8]) -> Result<Vec<Parsed<'_>>, AsmRefused>
+    ensures lines { IfOk result (λ lines. texts_of lines.items ≡ lines_of text.now) }
+    ensures memory { IsOkUnless result AsmRefused.NoMemory }
+{
+    let mut lines = Vec::new(alloc);
+    let mut rest = text;
+    while !rest.is_empty() {
+        let (line, after) = first_line(rest);
+        lines.push(parse_line(line))?;
+        rest = after;
+    }
+    Ok(lines)
+}
+
 /// Adds the label that a line defines, and counts its words.
 fn add_label<'a>(
     rows: &mut Vec<(&'a [u8], Place)>,
     number: u64,
     words: u64,
-    line: &'a [u8],
+    parsed: &Parsed<'a>,
 ) -> Result<u64, AsmRefused>
-    ensures label { OnOk result (rows_of rows.new.items ≡ rows_of rows.old.items ++ entry_at number words (defined_in line.now)) }
-    ensures words { IfOk result (λ after. after ≡ words + line_size line.now) }
+    ensures label { OnOk result (rows_of rows.new.items ≡ rows_of rows.old.items ++ entry_at number words (defined_in parsed.now.line.now)) }
+    ensures words { IfOk result (λ after. after ≡ words + line_size parsed.now.line.now) }
     ensures memory { IsOkUnless result AsmRefused.NoMemory }
 {
-    let parsed = parse_line(line);
     let size = size_of_statement(statement_or_nothing(parsed.statement)) as u64;
-    if let Some(name) = defined(parsed.label) {
+    if let Some(name) = parsed.defines {
         let place = Place {
             line: number,
             words,
@@ -41,21 +56,18 @@ fn add_label<'a>(
     words.checked_add(size).ok_or(AsmRefused::NoMemory)
 }
 
-/// The labels of a text.
-fn label_table(alloc: Global, text: &[u8]) -> Result<Labels<'_>, AsmRefused>
-    ensures labels { IfOk result (λ labels. FindSame labels (labels_of text.now)) }
-    ensures each { IfOk result (λ labels. All (Contains labels) (labels_of text.now)) }
+/// The labels of lines, which are counted from 1.
+fn label_table<'a>(alloc: Global, lines: &[Parsed<'a>]) -> Result<Labels<'a>, AsmRefused>
+    ensures labels { IfOk result (λ labels. FindSame labels (labels_from 1 0 (texts_of lines.now))) }
+    ensures each { IfOk result (λ labels. All (Contains labels) (labels_from 1 0 (texts_of lines.now))) }
     ensures memory { IsOkUnless result AsmRefused.NoMemory }
 {
     let mut rows = Vec::new(alloc);
-    let mut rest = text;
     let mut number = 1u64;
     let mut words = 0u64;
-    while !rest.is_empty() {
-        let (line, after) = first_line(rest);
-        words = add_label(&mut rows, number, words, line)?;
+    for parsed in lines {
+        words = add_label(&mut rows, number, words, parsed)?;
         number += 1;
-        rest = after;
     }
     let labels = Labels::sorted(rows)?;
     Ok(labels)
@@ -66,16 +78,15 @@ fn assemble_line<'a>(
     alloc: Global,
     labels: &Labels<'a>,
     number: u64,
-    line: &'a [u8],
+    parsed: &Parsed<'a>,
     words: &mut List<u32>,
 ) -> Result<(), AsmRefused>
     requires room { length words.old ≤ 16384 }
-    requires own { All (Contains labels.now) (entry_at number (length words.old) (defined_in line.now)) }
-    ensures answer { LineAnswers result number (broken_by labels.now number (length words.old) line.now) }
-    ensures words { OnOk result (words.new ≡ words.old ++ words_at labels.now (address_after (length words.old)) (line_code line.now)) }
+    requires own { All (Contains labels.now) (entry_at number (length words.old) (defined_in parsed.now.line.now)) }
+    ensures answer { LineAnswers result number (broken_by labels.now number (length words.old) parsed.now.line.now) }
+    ensures words { OnOk result (words.new ≡ words.old ++ words_at labels.now (address_after (length words.old)) (line_code parsed.now.line.now)) }
 {
-    let parsed = parse_line(line);
-    if let Some(rule) = broken_rule(labels, number, words.len() as u64, line, parsed) {
+    if let Some(rule) = broken_rule(labels, number, words.len() as u64, parsed) {
         return Err(AsmRefused::Line {
             line: number,
             rule: rule.number(),
@@ -89,15 +100,13 @@ fn assemble_line<'a>(
 fn read_program(alloc: Global, text: &[u8]) -> Result<List<u32>, AsmRefused>
     ensures { Answers result (reading_of text.now) }
 {
-    let labels = label_table(alloc, text)?;
+    let lines = parse_lines(alloc, text)?;
+    let labels = label_table(alloc, &lines)?;
     let mut words = List::new(alloc);
-    let mut rest = text;
     let mut number = 1u64;
-    while !rest.is_empty() {
-        let (line, after) = first_line(rest);
-        assemble_line(alloc, &labels, number, line, &mut words)?;
+    for parsed in &lines {
+        assemble_line(alloc, &labels, number, parsed, &mut words)?;
         number += 1;
-        rest = after;
     }
     Ok(words)
 }

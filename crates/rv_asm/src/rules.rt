@@ -1,16 +1,13 @@
 //! The rules that a line may break.
 ghost use Rattle.std.specs.Prelude.{◌≡◌, ◌+◌, ◌<◌, ◌≤◌, ◌^◌, IsTrue, IsFalse};
 ghost use Rattle.std.specs.Option.{option_copied};
-ghost use Rattle.rv_asm.specs.Line.{label_of};
-ghost use Rattle.rv_asm.specs.Labels.{own_code, entry_at, defined_in};
+ghost use Rattle.rv_asm.specs.Labels.{entry_at, defined_in};
 ghost use Rattle.std.specs.List.{All, Contains};
-ghost use Rattle.rv_asm.specs.View.{seen, seen_result};
+ghost use Rattle.rv_asm.specs.View.{seen};
 ghost use Rattle.rv_asm.specs.Program.{address_after, is_near, reaches as reaches_in, defined_before as is_defined_before, broken_target, broken_by};
 
 use crate::labels::{Labels, Place};
-use crate::parsed::{
-    Parsed, breaks_rule, defined, is_bad_label, size_of_statement, statement_or_nothing, target,
-};
+use crate::parsed::{Parsed, breaks_rule, size_of_statement, statement_or_nothing, target};
 use crate::refusal::Rule;
 use crate::statement::Statement;
 use text_parts::are_printable;
@@ -79,25 +76,22 @@ pub fn broken_rule<'a>(
     labels: &Labels<'a>,
     number: u64,
     words: u64,
-    line: &[u8],
-    parsed: Parsed<'a>,
+    parsed: &Parsed<'a>,
 ) -> Option<Rule>
     requires room { words ≤ 16384 }
-    requires own { All (Contains labels.now) (entry_at number words (defined_in line.now)) }
-    requires label { option_copied parsed.label ≡ label_of line.now }
-    requires statement { seen_result parsed.statement ≡ own_code line.now }
-    ensures { result ≡ broken_by labels.now number words line.now }
+    requires own { All (Contains labels.now) (entry_at number words (defined_in parsed.now.line.now)) }
+    ensures { result ≡ broken_by labels.now number words parsed.now.line.now }
 {
     let statement = statement_or_nothing(parsed.statement);
-    if !are_printable(line) {
+    if !are_printable(parsed.line) {
         Some(Rule::ForeignByte)
     } else if breaks_rule(parsed.statement, Rule::UnknownWord) {
         Some(Rule::UnknownWord)
-    } else if is_bad_label(parsed.label) || breaks_rule(parsed.statement, Rule::BadForm) {
+    } else if parsed.has_bad_label || breaks_rule(parsed.statement, Rule::BadForm) {
         Some(Rule::BadForm)
     } else if breaks_rule(parsed.statement, Rule::NumberRange) {
         Some(Rule::NumberRange)
-    } else if defined_before(labels, number, words, defined(parsed.label)) {
+    } else if defined_before(labels, number, words, parsed.defines) {
         Some(Rule::DefinedTwice)
     } else if let Some(rule) = broken_target(labels, statement, words) {
         Some(rule)

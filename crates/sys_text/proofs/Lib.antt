@@ -25,3 +25,4 @@ mod Taking
 mod Words
 mod WordFields
 mod WordLines
+mod HexDigits

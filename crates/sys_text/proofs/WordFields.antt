@@ -1,5 +1,5 @@
 -- Eight fields of words, one behind the other.
-use Rattle.std.proofs.Common.{◌≡◌, ℕ, ◌≤◌, ◌<◌, List, [], ◌∷◌, ◌++◌, length, get_or, refl, arith}
+use Rattle.std.proofs.Common.{◌≡◌, ℕ, ◌≤◌, ◌<◌, List, [], ◌∷◌, length, get_or, refl, arith}
 use Rattle.std.specs.List.{flat_map}
 use Rattle.sys_text.specs.Text.{word_text}
 

@@ -1,23 +1,21 @@
 -- A line of words, field by field.
-use Rattle.std.proofs.Common.{◌≡◌, ℕ, zero, suc, ◌+◌, ◌*◌, ◌<◌, ◌≤◌, Bool, true, false, ltb, leb, List, [], ◌∷◌, ◌++◌, length, Option, Some, None, Ok, Err, Result, refl, sym, ap, ◌∙◌, arith, append_assoc}
-use Rattle.std.specs.Prelude.{not, ◌&&◌, is_some, codes, nat_le, OnOk, IfErr}
-use Rattle.std.specs.List.{list_all, filter_map, find}
+use Rattle.std.proofs.Common.{◌≡◌, ℕ, zero, suc, ◌+◌, ◌*◌, ◌<◌, ◌≤◌, Bool, true, false, List, [], ◌∷◌, ◌++◌, length, Option, Some, None, Ok, Err, Result, refl, sym, ap, ◌∙◌, arith, append_assoc}
+use Rattle.std.specs.Prelude.{◌&&◌, nat_le, OnOk, IfErr}
+use Rattle.std.specs.List.{list_all}
 use Rattle.std.proofs.lemmas.Bool.{le-leb, lt-leb}
 use Rattle.std.proofs.lemmas.List.{append-nil, length-append}
 use Rattle.std.proofs.lemmas.List.Elements.{filter_map-append}
 use Rattle.std.proofs.lemmas.List.Folds.{list_all-append}
-use Rattle.text_parts.specs.Lines.{are_printable, fields_of}
+use Rattle.text_parts.specs.Lines.{fields_of}
 use Rattle.text_parts.specs.Numbers.{word_of}
 use Rattle.sys_text.specs.declared.stage.Kind.TheVariants.{Word}
-use Rattle.sys_text.specs.declared.stage.Stage.TheVariants.{InImage}
 use Rattle.sys_text.specs.declared.stage.Keyword.TheVariants.{Words}
-use Rattle.sys_text.specs.declared.refusal.Rule.{Rule}
 use Rattle.sys_text.specs.declared.refusal.Rule.TheVariants.{FieldCount, FieldKind, Room}
 use Rattle.sys_text.specs.declared.refusal.SystemRefused.{SystemRefused}
 use Rattle.sys_text.specs.declared.refusal.SystemRefused.TheVariants as refusals
 use Rattle.sys_text.specs.declared.state.State.{State}
-use Rattle.sys_text.specs.Kinds.{is_kind, keeps_limit}
-use Rattle.sys_text.specs.Rules.{words_in, fit_pages, broken_by, add, HasRoom}
+use Rattle.sys_text.specs.Kinds.{is_kind}
+use Rattle.sys_text.specs.Rules.{words_in, broken_by, add, HasRoom}
 use Rattle.sys_text.specs.Reading.{Goes, Outside, kept, step_outside}
 use Rattle.sys_text.specs.Answers.{RefusesStep, ClosesBlock}
 use Rattle.sys_text.specs.WordLines.{IsWordsLine, lowest_of_words, RefusesBy}

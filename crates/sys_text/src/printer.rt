@@ -1,8 +1,8 @@
 //! Prints a system as its canonical text.
-ghost use Rattle.std.specs.Prelude.{◌≡◌, ◌+◌, ◌<◌, ◌++◌, ◌∷◌, [], OnOk, IfOk, codes, map, take, drop};
+ghost use Rattle.std.specs.Prelude.{◌≡◌, ◌+◌, ◌/◌, ◌%◌, ◌++◌, ◌∷◌, [], OnOk, IfOk, codes, map, take, drop};
 ghost use Rattle.std.specs.List.{flat_map};
 ghost use Rattle.std.specs.Fmt.{decimal};
-ghost use Rattle.sys_text.specs.Text.{hex_digit as hex_digit_of, word_text, words_line, words_lines, line_text, lines_text, header_lines, image_lines, root_line, image_name, mode_text, chan_line, system_text as system_text_of};
+ghost use Rattle.sys_text.specs.Text.{hex_digit, word_text, words_line, words_lines, line_text, lines_text, header_lines, image_lines, root_line, image_name, mode_text, chan_line, system_text as system_text_of};
 
 use crate::system::{Image, Root, System};
 use std::alloc::Global;
@@ -133,39 +133,68 @@ fn put_fields(text: &mut Text, words: &[u32]) -> Result<(), NoMemory>
 }
 
 /// A space, and a word as eight hexadecimal digits.
-#[tactic(auto, unfolding(crate::specs::Text::word_text))]
 fn word_field(word: u32) -> [u8; 9]
     ensures { result ≡ 32 ∷ word_text word }
 {
-    let b = word / 16;
-    let c = b / 16;
-    let d = c / 16;
-    let e = d / 16;
-    let f = e / 16;
-    let g = f / 16;
-    let h = g / 16;
+    let a = (word / 0x100_0000) as u8;
+    let b = (word / 0x1_0000 % 0x100) as u8;
+    let c = (word / 0x100 % 0x100) as u8;
+    let d = (word % 0x100) as u8;
     [
         b' ',
-        hex_digit(h % 16),
-        hex_digit(g % 16),
-        hex_digit(f % 16),
-        hex_digit(e % 16),
-        hex_digit(d % 16),
-        hex_digit(c % 16),
-        hex_digit(b % 16),
-        hex_digit(word % 16),
+        high_digit(a),
+        low_digit(a),
+        high_digit(b),
+        low_digit(b),
+        high_digit(c),
+        low_digit(c),
+        high_digit(d),
+        low_digit(d),
     ]
 }
 
-fn hex_digit(digit: u32) -> u8
-    requires { digit < 16 }
-    ensures { result ≡ hex_digit_of digit }
+// The upper hexadecimal digit of each byte.
+const HIGH_DIGITS: [u8; 256] = [
+    48, 48, 48, 48, 48, 48, 48, 48, 48, 48, 48, 48, 48, 48, 48, 48, 49, 49, 49, 49, 49, 49, 49, 49,
+    49, 49, 49, 49, 49, 49, 49, 49, 50, 50, 50, 50, 50, 50, 50, 50, 50, 50, 50, 50, 50, 50, 50, 50,
+    51, 51, 51, 51, 51, 51, 51, 51, 51, 51, 51, 51, 51, 51, 51, 51, 52, 52, 52, 52, 52, 52, 52, 52,
+    52, 52, 52, 52, 52, 52, 52, 52, 53, 53, 53, 53, 53, 53, 53, 53, 53, 53, 53, 53, 53, 53, 53, 53,
+    54, 54, 54, 54, 54, 54, 54, 54, 54, 54, 54, 54, 54, 54, 54, 54, 55, 55, 55, 55, 55, 55, 55, 55,
+    55, 55, 55, 55, 55, 55, 55, 55, 56, 56, 56, 56, 56, 56, 56, 56, 56, 56, 56, 56, 56, 56, 56, 56,
+    57, 57, 57, 57, 57, 57, 57, 57, 57, 57, 57, 57, 57, 57, 57, 57, 97, 97, 97, 97, 97, 97, 97, 97,
+    97, 97, 97, 97, 97, 97, 97, 97, 98, 98, 98, 98, 98, 98, 98, 98, 98, 98, 98, 98, 98, 98, 98, 98,
+    99, 99, 99, 99, 99, 99, 99, 99, 99, 99, 99, 99, 99, 99, 99, 99, 100, 100, 100, 100, 100, 100,
+    100, 100, 100, 100, 100, 100, 100, 100, 100, 100, 101, 101, 101, 101, 101, 101, 101, 101, 101,
+    101, 101, 101, 101, 101, 101, 101, 102, 102, 102, 102, 102, 102, 102, 102, 102, 102, 102, 102,
+    102, 102, 102, 102,
+];
+
+// The lower one.
+const LOW_DIGITS: [u8; 256] = [
+    48, 49, 50, 51, 52, 53, 54, 55, 56, 57, 97, 98, 99, 100, 101, 102, 48, 49, 50, 51, 52, 53, 54,
+    55, 56, 57, 97, 98, 99, 100, 101, 102, 48, 49, 50, 51, 52, 53, 54, 55, 56, 57, 97, 98, 99, 100,
+    101, 102, 48, 49, 50, 51, 52, 53, 54, 55, 56, 57, 97, 98, 99, 100, 101, 102, 48, 49, 50, 51,
+    52, 53, 54, 55, 56, 57, 97, 98, 99, 100, 101, 102, 48, 49, 50, 51, 52, 53, 54, 55, 56, 57, 97,
+    98, 99, 100, 101, 102, 48, 49, 50, 51, 52, 53, 54, 55, 56, 57, 97, 98, 99, 100, 101, 102, 48,
+    49, 50, 51, 52, 53, 54, 55, 56, 57, 97, 98, 99, 100, 101, 102, 48, 49, 50, 51, 52, 53, 54, 55,
+    56, 57, 97, 98, 99, 100, 101, 102, 48, 49, 50, 51, 52, 53, 54, 55, 56, 57, 97, 98, 99, 100,
+    101, 102, 48, 49, 50, 51, 52, 53, 54, 55, 56, 57, 97, 98, 99, 100, 101, 102, 48, 49, 50, 51,
+    52, 53, 54, 55, 56, 57, 97, 98, 99, 100, 101, 102, 48, 49, 50, 51, 52, 53, 54, 55, 56, 57, 97,
+    98, 99, 100, 101, 102, 48, 49, 50, 51, 52, 53, 54, 55, 56, 57, 97, 98, 99, 100, 101, 102, 48,
+    49, 50, 51, 52, 53, 54, 55, 56, 57, 97, 98, 99, 100, 101, 102, 48, 49, 50, 51, 52, 53, 54, 55,
+    56, 57, 97, 98, 99, 100, 101, 102,
+];
+
+fn high_digit(byte: u8) -> u8
+    ensures { result ≡ hex_digit (byte / 16) }
 {
-    if digit < 10 {
-        48 + digit as u8
-    } else {
-        87 + digit as u8
-    }
+    HIGH_DIGITS[usize::from(byte)]
+}
+
+fn low_digit(byte: u8) -> u8
+    ensures { result ≡ hex_digit (byte % 16) }
+{
+    LOW_DIGITS[usize::from(byte)]
 }
 
 fn put_roots(

@@ -17,7 +17,7 @@ use crate::adding::{add_line, empty_image};
 use crate::block::take_block;
 use crate::kinds::fields;
 use crate::refusal::{Rule, SystemRefused};
-use crate::rules::{begins_comment, broken_rule, keyword_in_stage};
+use crate::rules::{begins_comment, broken_at_front, broken_rule, keyword_in_stage};
 use crate::stage::{Keyword, Stage};
 use crate::state::{Reader, State};
 use crate::system::System;
@@ -104,6 +104,13 @@ fn take_line<'a>(
             Ok(()) => Ok(false),
             Err(refused) => Err(refused),
         };
+    }
+    // A line of very many fields is mostly refused by its first one, before a list of them is made.
+    if let Some(rule) = broken_at_front(&reader.state, line) {
+        return Err(SystemRefused::BadLine {
+            line: number,
+            rule: rule.number(),
+        });
     }
     let fields = fields(alloc, line)?;
     match broken_rule(reader, line, &fields) {

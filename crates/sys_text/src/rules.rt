@@ -1,5 +1,5 @@
 //! The rules that a line may break, by what the lines before it said.
-ghost use Rattle.std.specs.Prelude.{◌≡◌, ◌≤◌, ◌+◌, length, nat_lt, nat_le, ◌||◌};
+ghost use Rattle.std.specs.Prelude.{◌≡◌, ◌≤◌, ◌+◌, Some, IfSome, length, nat_lt, nat_le, ◌||◌};
 ghost use Rattle.text_parts.specs.Lines.{fields_of};
 ghost use Rattle.sys_text.specs.Kinds.{texts};
 ghost use Rattle.sys_text.specs.Valid.{births_of};
@@ -12,7 +12,7 @@ use crate::stage::{Keyword, Stage};
 use crate::state::{Reader, State};
 use crate::system::System;
 use crate::valid::{births, links};
-use text_parts::are_printable;
+use text_parts::{are_printable, first_field};
 
 /// May a line with this first field come next?
 fn may_stand(stage: Stage, keyword: Keyword) -> bool
@@ -149,6 +149,23 @@ pub fn begins_comment(field: &[u8]) -> bool
     match field {
         [b'#', ..] => true,
         _ => false,
+    }
+}
+
+/// The rule that a line outside assembler blocks breaks by its bytes or its first field, whatever its other fields are.
+pub fn broken_at_front(state: &State, line: &[u8]) -> Option<Rule>
+    ensures { IfSome result (λ rule. broken_by state.now line.now ≡ Some rule) }
+{
+    if !are_printable(line) {
+        return Some(Rule::ForeignByte);
+    }
+    let (first, _) = first_field(line)?;
+    if begins_comment(first) {
+        return None;
+    }
+    match keyword_in_stage(state.stage, first) {
+        None => Some(Rule::Misplaced),
+        Some(_) => None,
     }
 }
 

@@ -14,7 +14,10 @@ use text_parts::{are_printable, first_field, word};
 fn is_words(field: &[u8]) -> bool
     ensures { result ≡ bytes_eq field.now (codes "words") }
 {
-    field == b"words".as_slice()
+    match field {
+        [b'w', b'o', b'r', b'd', b's'] => true,
+        _ => false,
+    }
 }
 
 /// What stands after `words`, where the line is one of words in an open image.

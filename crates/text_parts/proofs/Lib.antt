@@ -4,3 +4,4 @@ pub mod Tables
 pub mod Parting
 pub mod NameTables
 pub mod HexTable
+pub mod EightDigits

@@ -9,8 +9,8 @@ mod table;
 mod tests;
 
 pub use lines::{
-    are_printable, cut_at, first_field, first_line, is_printable, split_lines, trim, trim_end,
-    trim_start,
+    are_printable, cut_at, cut_far, first_field, first_line, is_printable, split_lines, trim,
+    trim_end, trim_start,
 };
 pub use names::{Names, front_of};
 pub use numbers::{MOST, number, numbers_read_back, numeral, word};

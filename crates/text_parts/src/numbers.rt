@@ -1,8 +1,7 @@
 //! Numbers in a text.
-ghost use Rattle.std.specs.Prelude.{ℕ, ◌≡◌, ◌<◌, ◌≤◌, ◌^◌, min, decimal, MatchOption};
-ghost use Rattle.std.specs.Char.{digit_value};
+ghost use Rattle.std.specs.Prelude.{ℕ, ◌≡◌, ◌*◌, ◌<◌, ◌≤◌, ◌^◌, [], ◌∷◌, min, decimal};
 ghost use Rattle.std.specs.Option.{option_map};
-ghost use Rattle.text_parts.specs.Numbers.{numeral_of, number_of, word_of};
+ghost use Rattle.text_parts.specs.Numbers.{numeral_of, number_of, word_of, digit_or_more, digits_or_more_after};
 
 /// What a numeral stands for at most: one that stands for more is read as this.
 pub const MOST: u64 = 0x100_0000_0000;
@@ -35,60 +34,59 @@ pub fn number(text: &[u8]) -> Option<u64>
     numeral(text, 10)
 }
 
-// What each byte stands for as a hexadecimal digit of either case, or 255.
-const HEX_DIGITS: [u8; 256] = [
-    255, 255, 255, 255, 255, 255, 255, 255, 255, 255, 255, 255, 255, 255, 255, 255, 255, 255, 255,
-    255, 255, 255, 255, 255, 255, 255, 255, 255, 255, 255, 255, 255, 255, 255, 255, 255, 255, 255,
-    255, 255, 255, 255, 255, 255, 255, 255, 255, 255, 0, 1, 2, 3, 4, 5, 6, 7, 8, 9, 255, 255, 255,
-    255, 255, 255, 255, 10, 11, 12, 13, 14, 15, 255, 255, 255, 255, 255, 255, 255, 255, 255, 255,
-    255, 255, 255, 255, 255, 255, 255, 255, 255, 255, 255, 255, 255, 255, 255, 255, 10, 11, 12, 13,
-    14, 15, 255, 255, 255, 255, 255, 255, 255, 255, 255, 255, 255, 255, 255, 255, 255, 255, 255,
-    255, 255, 255, 255, 255, 255, 255, 255, 255, 255, 255, 255, 255, 255, 255, 255, 255, 255, 255,
-    255, 255, 255, 255, 255, 255, 255, 255, 255, 255, 255, 255, 255, 255, 255, 255, 255, 255, 255,
-    255, 255, 255, 255, 255, 255, 255, 255, 255, 255, 255, 255, 255, 255, 255, 255, 255, 255, 255,
-    255, 255, 255, 255, 255, 255, 255, 255, 255, 255, 255, 255, 255, 255, 255, 255, 255, 255, 255,
-    255, 255, 255, 255, 255, 255, 255, 255, 255, 255, 255, 255, 255, 255, 255, 255, 255, 255, 255,
-    255, 255, 255, 255, 255, 255, 255, 255, 255, 255, 255, 255, 255, 255, 255, 255, 255, 255, 255,
-    255, 255, 255, 255, 255, 255, 255, 255, 255, 255, 255, 255, 255, 255, 255, 255, 255, 255, 255,
-    255, 255, 255,
+/// What a byte that is no digit counts as: more than any eight digits stand for.
+const MORE: u64 = 0x8_0000_0000;
+
+// What each byte counts as among hexadecimal digits of either case.
+const HEX_DIGITS: [u64; 256] = [
+    MORE, MORE, MORE, MORE, MORE, MORE, MORE, MORE, MORE, MORE, MORE, MORE, MORE, MORE, MORE, MORE,
+    MORE, MORE, MORE, MORE, MORE, MORE, MORE, MORE, MORE, MORE, MORE, MORE, MORE, MORE, MORE, MORE,
+    MORE, MORE, MORE, MORE, MORE, MORE, MORE, MORE, MORE, MORE, MORE, MORE, MORE, MORE, MORE, MORE,
+    0, 1, 2, 3, 4, 5, 6, 7, 8, 9, MORE, MORE, MORE, MORE, MORE, MORE, MORE, 10, 11, 12, 13, 14, 15,
+    MORE, MORE, MORE, MORE, MORE, MORE, MORE, MORE, MORE, MORE, MORE, MORE, MORE, MORE, MORE, MORE,
+    MORE, MORE, MORE, MORE, MORE, MORE, MORE, MORE, MORE, MORE, 10, 11, 12, 13, 14, 15, MORE, MORE,
+    MORE, MORE, MORE, MORE, MORE, MORE, MORE, MORE, MORE, MORE, MORE, MORE, MORE, MORE, MORE, MORE,
+    MORE, MORE, MORE, MORE, MORE, MORE, MORE, MORE, MORE, MORE, MORE, MORE, MORE, MORE, MORE, MORE,
+    MORE, MORE, MORE, MORE, MORE, MORE, MORE, MORE, MORE, MORE, MORE, MORE, MORE, MORE, MORE, MORE,
+    MORE, MORE, MORE, MORE, MORE, MORE, MORE, MORE, MORE, MORE, MORE, MORE, MORE, MORE, MORE, MORE,
+    MORE, MORE, MORE, MORE, MORE, MORE, MORE, MORE, MORE, MORE, MORE, MORE, MORE, MORE, MORE, MORE,
+    MORE, MORE, MORE, MORE, MORE, MORE, MORE, MORE, MORE, MORE, MORE, MORE, MORE, MORE, MORE, MORE,
+    MORE, MORE, MORE, MORE, MORE, MORE, MORE, MORE, MORE, MORE, MORE, MORE, MORE, MORE, MORE, MORE,
+    MORE, MORE, MORE, MORE, MORE, MORE, MORE, MORE, MORE, MORE, MORE, MORE, MORE, MORE, MORE, MORE,
+    MORE, MORE, MORE, MORE, MORE, MORE, MORE, MORE, MORE, MORE, MORE, MORE, MORE, MORE, MORE, MORE,
+    MORE, MORE, MORE, MORE, MORE, MORE, MORE,
 ];
 
-/// A hexadecimal digit, either case.
-fn hex_digit(byte: u8) -> Option<u64>
-    ensures { MatchOption result (16 ≤ digit_value byte) (λ digit. (digit_value byte < 16) × (digit ≡ digit_value byte)) }
+/// What a byte counts as among hexadecimal digits.
+fn hex_digit(byte: u8) -> u64
+    ensures value { result ≡ digit_or_more byte }
+    ensures small { result ≤ 2 ^ 35 }
 {
-    let digit = HEX_DIGITS[usize::from(byte)];
-    if digit < 16 {
-        Some(u64::from(digit))
-    } else {
-        None
-    }
+    HEX_DIGITS[usize::from(byte)]
 }
 
-/// The number that hexadecimal digits stand for, of which there are any number; `MOST` where it is more.
-fn hexadecimal(text: &[u8]) -> Option<u64>
-    ensures { result ≡ option_map (min MOST) (numeral_of 16 text.now) }
+/// What four bytes count as together.
+fn four_digits(a: u8, b: u8, c: u8, d: u8) -> u64
+    ensures value { result ≡ digits_or_more_after 0 (a ∷ b ∷ c ∷ d ∷ []) }
+    ensures small { result ≤ 2 ^ 35 * 4369 }
 {
-    if text.is_empty() {
-        return None;
-    }
-    let mut value = 0;
-    for b in text {
-        let digit = hex_digit(*b)?;
-        value = (value * 16 + digit).min(MOST);
-    }
-    Some(value)
+    ((hex_digit(a) * 16 + hex_digit(b)) * 16 + hex_digit(c)) * 16 + hex_digit(d)
 }
 
 /// A word: eight hexadecimal digits, either case.
 pub fn word(text: &[u8]) -> Option<u32>
     ensures { result ≡ word_of text.now }
 {
-    if text.len() != 8 {
+    let [a, b, c, d, e, f, g, h] = text else {
         return None;
+    };
+    // One test for the eight: a byte that is no digit makes the sum too large.
+    let value = four_digits(*a, *b, *c, *d) * 0x1_0000 + four_digits(*e, *f, *g, *h);
+    if value < 0x1_0000_0000 {
+        Some(value as u32)
+    } else {
+        None
     }
-    let value = hexadecimal(text)?;
-    Some(value as u32)
 }
 
 /// A law and no code: a number is read again as it is printed.

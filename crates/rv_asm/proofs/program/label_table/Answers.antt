@@ -1,17 +1,23 @@
-use Rattle.std.proofs.Common.{◌≡◌, length, arith, rules}
-use Rattle.text_parts.specs.Lines.{lines_of}
+use Rattle.std.proofs.Common.{◌+◌, ℕ, drop, ap}
 use Rattle.text_parts.specs.Table.{rows_of}
-use Rattle.rv_asm.specs.Labels.{labels_of}
-use Rattle.rv_asm.proofs.LabelTables.{label_step, label_end}
+use Rattle.rv_asm.specs.Labels.{labels_from}
+use Rattle.rv_asm.specs.Parsed.{texts_of}
+use Rattle.rv_asm.proofs.LabelTables.{label_step}
+use Rattle.rv_asm.proofs.ParsedLines.{at_line, past_lines, labels_end}
 use Rattle.rv_asm.proofs.program.label_table.Goals as goal
 
-pub loop-rest-preserved : goal.loop-rest-preserved
-loop-rest-preserved c = record {
-  labels = label_step (rows_of c.loop-rest.rows.items) (rows_of c.add_label.new.rows.items) (labels_of c.args.text.now) c.loop-rest.number c.loop-rest.words c.in_ok-words.words c.first_line.result.0.now (lines_of c.loop-rest.rest.now) (lines_of c.first_line.result.1.now) c.first_line.ensures.lines c.in_ok-words.ensures.words c.loop-rest.invariant.labels c.in_ok-words.ensures.label;
-  number = omega (arith, c.first_line.ensures.shorter, c.loop-rest.invariant.number);
-}
+pub loop-parsed-preserved : goal.loop-parsed-preserved
+loop-parsed-preserved c =
+    let lines = c.args.lines.now in
+    let i = c.loop-parsed.parsed-index in
+    let left = at_line lines i c.parsed-item.result c.loop-parsed-test.true c.parsed-item.is in
+    record {
+      labels = label_step (rows_of c.loop-parsed.rows.items) (rows_of c.add_label.new.rows.items) (labels_from 1 0 (texts_of lines)) c.loop-parsed.number c.loop-parsed.words c.in_ok-words.words c.parsed-item.result.line.now (texts_of (drop i lines)) (texts_of (drop (i + 1) lines)) left c.in_ok-words.ensures.words c.loop-parsed.invariant.labels c.in_ok-words.ensures.label;
+      number = ap (λ (k : ℕ). k + 1) c.loop-parsed.invariant.number;
+    }
 
 pub returns-clause-each : goal.returns-clause-each
 returns-clause-each c =
-    let none : length c.loop-rest.rest.now ≡ 0 = search (rules, c.loop-rest-test.ensures) in
-    rw (← label_end (rows_of c.loop-rest.rows.items) (labels_of c.args.text.now) c.loop-rest.number c.loop-rest.words c.loop-rest.rest.now none c.loop-rest.invariant.labels) c.in_ok-labels.ensures.each
+    let lines = c.args.lines.now in
+    let none = past_lines lines c.loop-parsed.parsed-index c.loop-parsed-test.false in
+    rw (← labels_end (rows_of c.loop-parsed.rows.items) (labels_from 1 0 (texts_of lines)) c.loop-parsed.number c.loop-parsed.words (texts_of (drop c.loop-parsed.parsed-index lines)) none c.loop-parsed.invariant.labels) c.in_ok-labels.ensures.each

@@ -1,4 +1,4 @@
-use Rattle.std.proofs.Common.{◌≡◌, [], length, rules, arith, sym, ◌∙◌}
+use Rattle.std.proofs.Common.{◌≡◌, [], rules, arith, ◌∙◌}
 use Rattle.text_parts.specs.Lines.{fields_of}
 use Rattle.sys_text.proofs.WordLines.{Read, so_far_more, read_all, no_fields, no_room, in_room}
 use Rattle.sys_text.proofs.word_lines.read_words.Goals as goal
