@@ -24,6 +24,8 @@ use Rattle.sys_calls.specs.Fork.{CanFork, fork_child, fork_parent}
 use Rattle.sys_calls.proofs.Bearing.{fork_lightens}
 use Rattle.sys_calls.proofs.ForkLaws.{forks_can}
 use Rattle.plain_kernel.specs.Kernel.{Kernel, pid_cmp, process_at, with_process}
+use Rattle.plain_kernel.specs.declared.item.Item.TheVariants.{Fork}
+use Rattle.plain_kernel.specs.Answers.{Applies, fork_answer}
 use Rattle.plain_kernel.specs.Apply.{after_fork, fork_step}
 use Rattle.plain_kernel.specs.Still.{higher, next_child}
 use Rattle.plain_kernel.specs.Maps.{at_key, forks_at, higher_key, kernel_of, load, pid_of, processes_of, total_load, Changes, ChangesSmall, ForksAt, PidsFit, Restores, SameBut, Splits, SplitsAt}
@@ -32,6 +34,7 @@ use Rattle.plain_kernel.proofs.Delivery.{there_small, undone}
 use Rattle.plain_kernel.proofs.Forking.{fork_makes}
 use Rattle.plain_kernel.proofs.Roots.{insert_put}
 use Rattle.plain_kernel.proofs.NextChild.{next_child-absent, next_child-within}
+use Rattle.plain_kernel.proofs.Turns.{no_steps}
 
 -- ---- a process that forks next
 
@@ -214,3 +217,24 @@ module _ (ps qs : List (ℕ × Process)) (pid : ℕ) (child : Pid) (forks : fork
           let s = f.splits in
           let same : keys ps ≡ keys f.between = sym (ap keys (s.changes).entries ∙ same_keys (at_key pid) ps s.now) in
           omega (arith, fits q (still_there q f.between ps same now), fork_lighter)
+
+-- ---- what the call answers
+
+pub absent_at : (es : List (ℕ × Process)) (k : ℕ) → is_some (lookup (at_key k) es) ≡ false → lookup (at_key k) es ≡ None
+absent_at es k none = by_case (lookup (at_key k) es) none
+  where
+    by_case : (o : Option Process) → is_some o ≡ false → o ≡ None
+    by_case None e = refl
+    by_case (Some p) e = absurd (true≢false e)
+
+-- there is room as before
+pub kept_room : (r : Result (Unit {0}) NoMemory) (ps qs : List (ℕ × Process)) (pid : ℕ) (child : Pid) → forks_at ps pid ≡ true → lookup (at_key child.0) ps ≡ None → OnOk r (ForksAt ps qs pid child) → OnErr r (qs ≡ ps)
+    → total_load ps < 2 ^ 64 → total_load qs < 2 ^ 64
+kept_room (Ok all) ps qs pid child forks absent ok err room = let less = fork_lighter ps qs pid child forks absent ok in omega (arith, less, room)
+kept_room (Err e) ps qs pid child forks absent ok err room = omega (arith, ap total_load err, room)
+
+-- the item is applied, or nothing has changed
+pub applies_fork : (r : Result (Unit {0}) NoMemory) (ps qs : List (ℕ × Process)) (ts : List (ℕ × List ℕ)) (pid : ℕ) (child : Pid) → forks_at ps pid ≡ true → lookup (at_key child.0) ps ≡ None → OnOk r (ForksAt ps qs pid child) → OnErr r (qs ≡ ps)
+    → Applies (Fork (pid_of pid) child) (fork_answer r) (kernel_of ps ts) (kernel_of qs ts)
+applies_fork (Ok all) ps qs ts pid child forks absent ok err = forked ps qs pid child forks absent ok ts
+applies_fork (Err e) ps qs ts pid child forks absent ok err = (no_steps (pid_of pid) (kernel_of ps ts) ∙ ap (λ es. Some (kernel_of es ts)) (sym err), refl)

@@ -1,5 +1,5 @@
 -- Laws of the kernel without failures.
-use Rattle.std.proofs.Common.{◌≡◌, ℕ, zero, suc, ◌+◌, refl, sym, ◌∙◌, ap, arith, List, [], ◌∷◌, ◌++◌, ◌-◌, ◌<◌, length, take, get_or, cond, Option, Some, None, true≢false, add-suc, add-zero}
+use Rattle.std.proofs.Common.{◌≡◌, ℕ, zero, suc, ◌+◌, refl, sym, ◌∙◌, ap, arith, List, [], ◌∷◌, ◌++◌, ◌-◌, ◌<◌, length, take, get_or, cond, false, Option, Some, None, true≢false, add-suc, add-zero}
 use Rattle.std.specs.Prelude.{option_and_then}
 use Rattle.std.specs.declared.cmp.Ordering.TheVariants.{Less, Equal, Greater}
 use Rattle.std.specs.Ordering.{eq_by_cmp}
@@ -94,11 +94,11 @@ unfolding default_step default_item
 default_steps k p t e other = rw e (ap (apply k) (is_run (next_step t) other) ∙ steps_one p k)
   where
     is_run : (next : Next) → is_fork next ≡ false → item_of_step k p next ≡ Run p 1
-    is_run (Silent s) no = refl
-    is_run Blocked no = refl
-    is_run Forks no = absurd (true≢false no)
-    is_run (Emits what s) no = refl
-    is_run Over no = refl
+    is_run (Silent s) none = refl
+    is_run Blocked none = refl
+    is_run Forks none = absurd (true≢false none)
+    is_run (Emits what s) none = refl
+    is_run Over none = refl
 
 pub default_forks : (k : Kernel) (p : Pid) (t : ProcState) → lowest k ≡ Some (p, t) → next_step t ≡ Forks → default_step k ≡ fork_step p (next_child k p) k
 unfolding default_step default_item

@@ -18,11 +18,11 @@ module _ (p : Pid) where
   -- the highest is at least what it was
   higher_least : (n : ℕ) (es : List (Pid × ProcState)) → n ≤ fold (higher p) n es
   higher_least n [] = omega arith
-  higher_least n (e ∷ es) = by_test (same_cluster e.0 p)
+  higher_least n (e ∷ es) = by_test (same_cluster e.0 p) (λ m. higher_least m es)
     where
-      by_test : (b : Bool) → n ≤ fold (higher p) (cond b (max n (e.0).0) n) es
-      by_test true = omega (arith, le-max_left n (e.0).0, higher_least (max n (e.0).0) es)
-      by_test false = higher_least n es
+      by_test : (b : Bool) → ((m : ℕ) → m ≤ fold (higher p) m es) → n ≤ fold (higher p) (cond b (max n (e.0).0) n) es
+      by_test true more = omega (arith, le-max_left n (e.0).0, more (max n (e.0).0))
+      by_test false more = more n
 
   -- and at least each pid of the cluster
   higher_all : (n : ℕ) (es : List (Pid × ProcState)) (q : Pid) (s : ProcState) → find pid_cmp q es ≡ Some s → q.0 % 16 ≡ p.0 % 16 → q.0 ≤ fold (higher p) n es
@@ -40,11 +40,11 @@ module _ (p : Pid) where
   -- it is of the cluster
   higher_cluster : (n : ℕ) (es : List (Pid × ProcState)) → n % 16 ≡ p.0 % 16 → fold (higher p) n es % 16 ≡ p.0 % 16
   higher_cluster n [] same = same
-  higher_cluster n (e ∷ es) same = by_test (same_cluster e.0 p) refl
+  higher_cluster n (e ∷ es) same = by_test (same_cluster e.0 p) refl (λ m is. higher_cluster m es is)
     where
-      by_test : (b : Bool) → same_cluster e.0 p ≡ b → fold (higher p) (cond b (max n (e.0).0) n) es % 16 ≡ p.0 % 16
-      by_test true is = higher_cluster (max n (e.0).0) es (of_max n (e.0).0 (p.0 % 16) same (eqb-true ((e.0).0 % 16) (p.0 % 16) is))
-      by_test false is = higher_cluster n es same
+      by_test : (b : Bool) → same_cluster e.0 p ≡ b → ((m : ℕ) → m % 16 ≡ p.0 % 16 → fold (higher p) m es % 16 ≡ p.0 % 16) → fold (higher p) (cond b (max n (e.0).0) n) es % 16 ≡ p.0 % 16
+      by_test true is more = more (max n (e.0).0) (of_max n (e.0).0 (p.0 % 16) same (eqb-true ((e.0).0 % 16) (p.0 % 16) is))
+      by_test false is more = more n same
 
   -- and within what each pid is within
   higher_within : (n more bound : ℕ) (es : List (Pid × ProcState)) → n + more < bound → ((q : Pid) (s : ProcState) → find pid_cmp q es ≡ Some s → q.0 + more < bound) → fold (higher p) n es + more < bound

@@ -1,6 +1,7 @@
 -- What the calls of the kernel answer.
 use Rattle.std.specs.Prelude.{ℕ, ◌≡◌, ◌<◌, ◌⊎◌, List, take, slice_get, Some, None, Result, Ok, Err}
 use Rattle.t32_base.specs.declared.process.Pid.{Pid}
+use Rattle.t32_base.specs.declared.streams.NoMemory.{NoMemory as RefusedMemory}
 use Rattle.sys_text.specs.declared.system.System.{System}
 use Rattle.plain_kernel.specs.declared.item.Item.{Item}
 use Rattle.plain_kernel.specs.declared.item.Item.TheVariants.{Run, Fork, Take}
@@ -34,6 +35,11 @@ abbrev pub Applies : Item → Result (Unit {0}) NotApplied → Kernel → Kernel
 Applies item (Ok all) old new = apply old item ≡ Some new
 Applies item (Err (Disabled done)) old new = (apply old item ≡ None) × (steps done (runs_pid item) old ≡ Some new) × StopsAt item done new
 Applies item (Err (NoMemory done)) old new = (steps done (runs_pid item) old ≡ Some new) × IsWithin item done
+
+-- what a fork comes to: the item is applied whole, or memory was refused before it
+abbrev pub fork_answer : Result (Unit {0}) RefusedMemory → Result (Unit {0}) NotApplied
+fork_answer (Ok all) = Ok all
+fork_answer (Err e) = Err (NoMemory 0)
 
 -- the items before this one apply, and it does not
 pub record BadAt (system : System) (items : List Item) (index : ℕ) : Type 0 where

@@ -5,7 +5,7 @@ ghost use Rattle.proc_state.specs.State.{state_of};
 ghost use Rattle.sys_text.specs.Valid.{is_system};
 ghost use Rattle.plain_kernel.specs.Kernel.{boot as boot_of, process_at, tty_at};
 ghost use Rattle.plain_kernel.specs.Still.{IsDefaultRun, is_still};
-ghost use Rattle.plain_kernel.specs.Answers.{Applies, Runs};
+ghost use Rattle.plain_kernel.specs.Answers.{Applies, Runs, fork_answer};
 
 use crate::births::{fork_at, stands_at_fork};
 use crate::booting::{processes_of, ttys_of};
@@ -94,10 +94,7 @@ impl Plain {
         if self.processes.contains_key(&child.0) {
             return Err(NotApplied::Disabled { done: 0 });
         }
-        match fork_at(self.alloc, &mut self.processes, pid.0, child) {
-            Ok(()) => Ok(()),
-            Err(NoMemory) => Err(NotApplied::NoMemory { done: 0 }),
-        }
+        fork_answer(fork_at(self.alloc, &mut self.processes, pid.0, child))
     }
 
     /// Whether a process has a step. Takes no memory.
@@ -129,6 +126,16 @@ impl Plain {
             Some(text) => Some(text.as_slice()),
             None => None,
         }
+    }
+}
+
+// A fork is applied whole, or memory was refused before it.
+fn fork_answer(forked: Result<(), NoMemory>) -> Result<(), NotApplied>
+    ensures { result ≡ fork_answer forked }
+{
+    match forked {
+        Ok(()) => Ok(()),
+        Err(NoMemory) => Err(NotApplied::NoMemory { done: 0 }),
     }
 }
 

@@ -7,7 +7,7 @@ use Rattle.plain_kernel.proofs.Roots.{booted}
 use Rattle.plain_kernel.proofs.plain.default_run.Goals as goal
 
 pub run_to_end-requires-clause-fits : goal.run_to_end-requires-clause-fits
-run_to_end-requires-clause-fits c = boot_fits c.args.system.now c.processes.entries c.requires c.in_ok-processes.ensures.states c.in_ok-processes.ensures.room
+run_to_end-requires-clause-fits c = boot_fits c.args.system.now c.in_ok-processes.processes.entries c.requires c.in_ok-processes.ensures.states c.in_ok-processes.ensures.room
 
 pub returns : goal.returns
 returns c =

@@ -129,18 +129,18 @@ returns-in_ok-insert-in-Forks-clause-turns c =
     let x = rw (c.in-Some.is, c.in-Forks.is) at c.in_ok-step.ensures in
     let put = c.in_ok-insert-in-Forks.ensures.updates in
     let longer = one_more c.in_ok-insert-in-Forks.field-0 (length c.args.ready.now.keys) (length c.insert-in-Forks.new.self.keys) c.in_ok-insert-in-Forks.ensures.len in
-    (forked_off c.args.processes.now.entries c.run_if_there.new.processes.entries c.args.ready.now.keys c.args.pid c.len-count.ensures.ordered c.requires.first c.requires.covers c.args.ttys.now.entries c.fork_at.new.processes.entries c.child_after-child.result c.insert-in-Forks.new.self.keys x c.child_after-child.ensures c.in_ok-fork_at.ensures.ok put.0 put.1 longer).turns
+    (forked_off c.args.processes.now.entries c.run_if_there.new.processes.entries c.args.ready.now.keys c.args.pid c.len-count.ensures.ordered c.requires.first c.requires.covers c.args.ttys.now.entries c.fork_at.new.processes.entries c.child_after-child.result c.insert-in-Forks.new.self.keys x c.child_after-child.ensures c.in_ok-fork_at-in-Forks.ensures.ok put.0 put.1 longer).turns
 
 pub returns-in_ok-insert-in-Forks-clause-covers : goal.returns-in_ok-insert-in-Forks-clause-covers
 returns-in_ok-insert-in-Forks-clause-covers c =
     let x = rw (c.in-Some.is, c.in-Forks.is) at c.in_ok-step.ensures in
     let put = c.in_ok-insert-in-Forks.ensures.updates in
     let longer = one_more c.in_ok-insert-in-Forks.field-0 (length c.args.ready.now.keys) (length c.insert-in-Forks.new.self.keys) c.in_ok-insert-in-Forks.ensures.len in
-    (forked_off c.args.processes.now.entries c.run_if_there.new.processes.entries c.args.ready.now.keys c.args.pid c.len-count.ensures.ordered c.requires.first c.requires.covers c.args.ttys.now.entries c.fork_at.new.processes.entries c.child_after-child.result c.insert-in-Forks.new.self.keys x c.child_after-child.ensures c.in_ok-fork_at.ensures.ok put.0 put.1 longer).covers
+    (forked_off c.args.processes.now.entries c.run_if_there.new.processes.entries c.args.ready.now.keys c.args.pid c.len-count.ensures.ordered c.requires.first c.requires.covers c.args.ttys.now.entries c.fork_at.new.processes.entries c.child_after-child.result c.insert-in-Forks.new.self.keys x c.child_after-child.ensures c.in_ok-fork_at-in-Forks.ensures.ok put.0 put.1 longer).covers
 
 pub returns-in_ok-insert-in-Forks-clause-fits : goal.returns-in_ok-insert-in-Forks-clause-fits
 returns-in_ok-insert-in-Forks-clause-fits c =
     let x = rw (c.in-Some.is, c.in-Forks.is) at c.in_ok-step.ensures in
     let put = c.in_ok-insert-in-Forks.ensures.updates in
     let longer = one_more c.in_ok-insert-in-Forks.field-0 (length c.args.ready.now.keys) (length c.insert-in-Forks.new.self.keys) c.in_ok-insert-in-Forks.ensures.len in
-    (forked_off c.args.processes.now.entries c.run_if_there.new.processes.entries c.args.ready.now.keys c.args.pid c.len-count.ensures.ordered c.requires.first c.requires.covers c.args.ttys.now.entries c.fork_at.new.processes.entries c.child_after-child.result c.insert-in-Forks.new.self.keys x c.child_after-child.ensures c.in_ok-fork_at.ensures.ok put.0 put.1 longer).fits c.requires.fits
+    (forked_off c.args.processes.now.entries c.run_if_there.new.processes.entries c.args.ready.now.keys c.args.pid c.len-count.ensures.ordered c.requires.first c.requires.covers c.args.ttys.now.entries c.fork_at.new.processes.entries c.child_after-child.result c.insert-in-Forks.new.self.keys x c.child_after-child.ensures c.in_ok-fork_at-in-Forks.ensures.ok put.0 put.1 longer).fits c.requires.fits
