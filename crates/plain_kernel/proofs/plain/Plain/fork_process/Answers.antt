@@ -27,7 +27,7 @@ invariant_of-self c =
 pub returns : goal.returns
 returns c =
     let applies = applies_fork c.fork_at.result c.self.inside.processes.entries c.fork_at.new.processes.entries c.self.inside.ttys.entries c.args.pid.0 c.args.child
-        (sym c.stands_at_fork.ensures ∙ c.if-not-stands_at_fork.false) (absent_at c.self.inside.processes.entries c.args.child.0 (sym c.contains_key.ensures ∙ c.if-contains_key.false)) c.fork_at.ensures.ok c.fork_at.ensures.err in
+    (sym c.stands_at_fork.ensures ∙ c.if-not-stands_at_fork.false) (absent_at c.self.inside.processes.entries c.args.child.0 (sym c.contains_key.ensures ∙ c.if-contains_key.false)) c.fork_at.ensures.ok c.fork_at.ensures.err in
     let answer : Result (Unit {0}) NotApplied → Type 0 = λ r. Applies (Fork c.args.pid c.args.child) r (kernel_of c.self.inside.processes.entries c.self.inside.ttys.entries) (kernel_of c.fork_at.new.processes.entries c.self.inside.ttys.entries) in
     let family : Kernel → Type 0 = λ k. Applies (Fork c.args.pid c.args.child) c.fork_answer.result k (kernel_of c.fork_at.new.processes.entries c.self.inside.ttys.entries) in
     subst family c.self.view_is (subst answer (sym c.fork_answer.ensures) applies)
