@@ -7,12 +7,14 @@ use Rattle.sys_text.specs.Valid.{is_system}
 use Rattle.proc_state.specs.State.{ProcState, delivered, has_ended}
 use Rattle.sys_calls.specs.declared.steps.Emission.{Emission}
 use Rattle.sys_calls.specs.declared.steps.Emission.TheVariants.{Mail as Sent, Exit as Ended}
+use Rattle.sys_calls.specs.Fork.{fork_child, fork_parent}
 use Rattle.sys_calls.proofs.Counting.{last_counts, silently_counts}
 use Rattle.plain_kernel.specs.Kernel.{process_at}
 use Rattle.plain_kernel.proofs.Entries.{some_same}
 use Rattle.bus_msg.specs.declared.entry.What.{What}
 use Rattle.bus_msg.specs.declared.entry.What.TheVariants.{Mail, Birth, Exit, Page, Sync, Fetch, PageIs, Crash, Return, Rebackup, Done, Stop}
 use Rattle.bus_msg.specs.declared.entry.Entry.{Entry}
+use Rattle.bus_msg.specs.Places.{same_pid}
 use Rattle.bus_msg.specs.PlacedAfter.{what}
 use Rattle.cert_sched.specs.Schedule.{done, plain_after, process_after}
 use Rattle.cert_sched.specs.Deeds.{is_end_of}
@@ -22,6 +24,9 @@ use Rattle.cert_sched.specs.Legal.{IsLegalBy, Stands}
 use Rattle.cert_sched.proofs.Induction.{legal_induction}
 use Rattle.cert_sched.proofs.StepLaws.{Tells, is_sent, sent_from}
 use Rattle.cert_sched.proofs.MailLaws.{received, process_after-sender, process_after-receiver, boot_arrived}
+use Rattle.cert_sched.proofs.MadeLaws.{BirthMade}
+use Rattle.cert_sched.proofs.BornLaws.{birth_applied}
+use Rattle.cert_sched.proofs.ReplayLaws.{fork_after}
 use Rattle.cert_sched.proofs.CameLaws.{IsStandingRule, is_silent, went_silently}
 use Rattle.cert_sched.proofs.RollLaws.{AllRoll, all_at_boot, all_more, two_apart}
 
@@ -85,6 +90,32 @@ entry_within system log e n all stands within = by_what (what e) refl stands.kin
         let same = (silently_counts went.made went.was s went.silent).next in
         omega (arith, before, same)
 
+    -- a fork brings its process no letter, and its child has none
+    born : (parent : Pid) (at : ℕ) (child : Pid) (end : ℕ) → what e ≡ Birth parent at child end → KindHolds system log e (Birth parent at child end) → ArrivedWithin system (log ++ e ∷ []) (n + 1)
+    born parent at child end is kind q s there = by_parent (same_pid parent q) refl
+      where
+        made : BirthMade system log e parent child
+        made = birth_applied system log e parent at child end is stands.applies kind.end_is
+
+        same_pids : (p : Pid) → same_pid p q ≡ true → p ≡ q
+        same_pids p same i = record { 0 = eqb-true p.0 q.0 same i }
+
+        by_child : same_pid parent q ≡ false → (b : Bool) → same_pid child q ≡ b → s.next ≤ n + 1
+        by_child other true same =
+            let to : fork_child made.before child ≡ s = some_same (fork_child made.before child) s (sym made.child_is ∙ ap (process_after system (log ++ e ∷ [])) (same_pids child same) ∙ there) in
+            omega (arith, ap (λ (x : ProcState). x.next) to)
+        by_child other false apart =
+            let before : s.next ≤ n = within q s (sym (made.others q other apart) ∙ there) in
+            omega (arith, before)
+
+        by_parent : (b : Bool) → same_pid parent q ≡ b → s.next ≤ n + 1
+        by_parent true same =
+            let to : fork_parent made.before child ≡ s = some_same (fork_parent made.before child) s (sym made.parent_is ∙ ap (process_after system (log ++ e ∷ [])) (same_pids parent same) ∙ there) in
+            let before : (made.was).next ≤ n = within parent made.was made.there in
+            let silent = (silently_counts made.made made.was made.before (fork_after made.made made.was made.before made.forks).silent).next in
+            omega (arith, ap (λ (x : ProcState). x.next) to, before, silent)
+        by_parent false other = by_child other (same_pid child q) refl
+
     by_what : (w : What) → what e ≡ w → KindHolds system log e w → ArrivedWithin system (log ++ e ∷ []) (n + 1)
     by_what (Mail at letter) is kind =
         let sent = is_sent system log letter.from at (Sent letter) kind in
@@ -92,7 +123,7 @@ entry_within system log e n all stands within = by_what (what e) refl stands.kin
     by_what (Exit pid at end) is kind =
         let sent = is_sent system log pid at (Ended end) kind.0 in
         sent_within system log e pid at (Ended end) sent.after n sent.is is within
-    by_what (Birth parent at child end) is kind = quiet (Birth parent at child end) is refl kind
+    by_what (Birth parent at child end) is kind = born parent at child end is kind
     by_what (Page pid at index bytes) is kind = quiet (Page pid at index bytes) is refl kind
     by_what (Sync pid small read took) is kind = quiet (Sync pid small read took) is refl kind
     by_what (Fetch pid index) is kind = quiet (Fetch pid index) is refl kind
