@@ -38,7 +38,8 @@ use Rattle.cert_sched.proofs.PidLaws.{placed_pids}
 use Rattle.cert_sched.proofs.Induction.{legal_induction}
 use Rattle.cert_sched.proofs.StepLaws.{applied, Applied}
 use Rattle.cert_sched.proofs.RunItems.{forkless_keep, items_forkless, is_no_fork, run_forkless}
-use Rattle.cert_sched.proofs.BornLaws.{run_and_fork, child_absent}
+use Rattle.cert_sched.proofs.RunAndFork.{run_and_fork}
+use Rattle.cert_sched.proofs.BirthPlaces.{parent_unended, unended_placed}
 use Rattle.cert_sched.proofs.CameLaws.{IsStandingRule}
 use Rattle.cert_sched.proofs.FreshLaws.{same_pids}
 
@@ -83,19 +84,6 @@ module _ (system : System) (log : List Entry) (e : Entry) where
       }
 
   -- a birth puts the child into both
-  placed_there : (p : Pid) (qs : List Placed) → is_some (find (λ (q : Placed). same_pid q.pid p && not q.ended) qs) ≡ true → is_some (find (λ (q : Placed). same_pid q.pid p) qs) ≡ true
-  placed_there p [] there = there
-  placed_there p (q ∷ qs) there = by_pid (same_pid q.pid p) there (placed_there p qs)
-    where
-      by_pid : (b : Bool) → is_some (cond (b && not q.ended) (Some q) (find (λ (q : Placed). same_pid q.pid p && not q.ended) qs)) ≡ true
-          → (is_some (find (λ (q : Placed). same_pid q.pid p && not q.ended) qs) ≡ true → is_some (find (λ (q : Placed). same_pid q.pid p) qs) ≡ true) → is_some (cond b (Some q) (find (λ (q : Placed). same_pid q.pid p) qs)) ≡ true
-      by_pid true h more = refl
-      by_pid false h more = more h
-
-  parent_placed : (o : Option Placed) (child : Pid) → option_map (next_child_at (placement system log)) o ≡ Some child → is_some o ≡ true
-  parent_placed None child is = cc
-  parent_placed (Some q) child is = refl
-
   born_pids : (child p : Pid) (o : Option Placed) → is_some o ≡ true → in_places (with_birth (placement system log) child o) p ≡ (eqb child.0 p.0 || in_places (placement system log) p)
   born_pids child p None there = absurd (true≢false (sym there))
   born_pids child p (Some q) there =
@@ -120,7 +108,7 @@ module _ (system : System) (log : List Entry) (e : Entry) where
             ∙ with_pid-any (λ (q : Pid). eqb q.0 p.0) child (pids_in k) (λ q tied. ap (λ (x : Pid). eqb x.0 p.0) (sym (tied_pids child q tied)))
             ∙ ap (λ b. eqb child.0 p.0 || b) (sym (of_pids k p) ∙ a.among p)
             ∙ sym (ap (λ places. in_places places p) (placement-snoc system log e ∙ ap (placed_after (placement system log)) is)
-            ∙ born_pids child p (placed_at (placement system log) parent) (placed_there parent (placement system log).placed (parent_placed (unended_at (placement system log) parent) child kind.child_is)));
+            ∙ born_pids child p (placed_at (placement system log) parent) (unended_placed parent (placement system log).placed (parent_unended (placement system log) parent child kind.child_is)));
       }
 
   alike_more : Stands system log e → ((k : Kernel) → plain_after system log ≡ Some k → Alike system log k) → (j : Kernel) → plain_after system (log ++ e ∷ []) ≡ Some j → Alike system (log ++ e ∷ []) j

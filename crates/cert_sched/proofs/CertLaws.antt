@@ -22,7 +22,7 @@ use Rattle.cert_sched.specs.Rules.{ends_run, is_over}
 use Rattle.cert_sched.specs.CertAfter.{CertView, StartsSchedule, KeepsSchedule, steps_of, added, count_in, raised, raised_at, cert_after}
 use Rattle.cert_sched.proofs.ListLaws.{last_of-snoc}
 use Rattle.cert_sched.proofs.LogLaws.{schedule_of-snoc, told-snoc, told_last}
-use Rattle.cert_sched.proofs.StepLaws.{applied, done_kernel, done_after-snoc, done_after-none, raised_same}
+use Rattle.cert_sched.proofs.StepLaws.{applied, done_kernel, done_after-raised, done_after-none, kind_later, raised_same}
 use Rattle.cert_sched.proofs.Induction.{is_over-snoc}
 
 -- ---- the items
@@ -97,7 +97,7 @@ after_keeps c e system log is stands =
           ∙ sym (schedule_of-snoc system log e);
       steps = λ over p.
           raised_done (count_in (what e)) c.done p ∙ raised_same (count_in (what e)) (steps_of c.done) (done_after system log) p counts
-          ∙ sym (done_after-snoc system log e p (ends_by_done (placement system log) (what e) (sym (is_over-snoc system log e) ∙ over)) stands.applies);
+          ∙ sym (done_after-raised system log e p (ends_by_done (placement system log) (what e) (sym (is_over-snoc system log e) ∙ over)) (kind_later system log e (what e) stands.kind) stands.applies);
     }
 
 -- a call that leaves the items and the counts of the cert with one more entry
