@@ -1,43 +1,35 @@
 -- In a legal log the kernel without failures has the processes that the placement has, those that were born among them; and a child that is born is none of them.
-use Rattle.std.proofs.Common.{◌≡◌, ℕ, ◌-◌, refl, sym, ◌∙◌, ap, subst, arith, List, [], ◌∷◌, ◌++◌, map, Bool, true, false, cond, not, ◌&&◌, ◌||◌, eqb, eqb-true, eq-eqb, Option, Some, None, is_some, true≢false}
-use Rattle.std.specs.Prelude.{find, option_and_then, option_map}
+use Rattle.std.proofs.Common.{◌≡◌, ℕ, ◌-◌, refl, sym, ◌∙◌, ap, subst, List, [], ◌∷◌, ◌++◌, map, Bool, true, false, ◌||◌, eqb, Option, Some, None, is_some, true≢false}
 use Rattle.std.specs.List.{list_any}
-use Rattle.std.specs.Ordering.{nat_cmp, is_eq}
-use Rattle.std.specs.FinMap.{find as find_in}
-use Rattle.std.proofs.lemmas.Bool.Decides.{nat_tests}
 use Rattle.std.proofs.lemmas.List.{map-append}
 use Rattle.std.proofs.lemmas.List.Folds.{list_any-append}
-use Rattle.std.specs.declared.cmp.Ordering.TheVariants.{Equal}
 use Rattle.t32_base.specs.declared.process.Pid.{Pid}
 use Rattle.sys_text.specs.declared.system.System.{System}
 use Rattle.sys_text.specs.Valid.{is_system}
 use Rattle.sys_text.specs.Boot.{roots_of}
-use Rattle.proc_state.specs.State.{ProcState}
-use Rattle.plain_kernel.specs.Kernel.{Kernel, boot, pid_cmp, process_at}
-use Rattle.plain_kernel.specs.Apply.{apply_all, one_step}
+use Rattle.plain_kernel.specs.Kernel.{Kernel, boot}
+use Rattle.plain_kernel.specs.Apply.{apply_all}
 use Rattle.plain_kernel.proofs.Entries.{some_same}
 use Rattle.plain_kernel.proofs.AtBoot.{boot-pids}
 use Rattle.plain_kernel.proofs.Pids.{HasPids, IsRising, one_step-pids, pids_in, tied_pids}
-use Rattle.plain_kernel.proofs.ForkPids.{fork_step-pids, with_pid, with_pid-any}
+use Rattle.plain_kernel.proofs.ForkPids.{fork_step-pids, with_pid-any}
 use Rattle.bus_msg.specs.declared.entry.What.{What}
 use Rattle.bus_msg.specs.declared.entry.What.TheVariants.{Mail, Birth, Exit, Page, Sync, Fetch, PageIs, Crash, Return, Rebackup, Done, Stop}
 use Rattle.bus_msg.specs.declared.entry.Entry.{Entry}
 use Rattle.bus_msg.specs.declared.placed.Placed.{Placed}
-use Rattle.bus_msg.specs.Places.{Places, same_pid, placed_at, unended_at}
+use Rattle.bus_msg.specs.Places.{Places, placed_at}
 use Rattle.bus_msg.specs.PlacedAfter.{what, placed_after, with_birth, child_of}
-use Rattle.cert_sched.specs.Schedule.{done, items_of, run_upto, plain_after, process_after, placement, places_at_boot}
-use Rattle.cert_sched.specs.Deeds.{is_birth_of}
-use Rattle.cert_sched.specs.Kinds.{KindHolds, next_child_at}
+use Rattle.cert_sched.specs.Schedule.{done, items_of, run_upto, plain_after, placement}
+use Rattle.cert_sched.specs.Kinds.{KindHolds}
 use Rattle.cert_sched.specs.Legal.{IsLegalBy, Stands}
-use Rattle.cert_sched.specs.Simulation.{IsUnended}
 use Rattle.cert_sched.proofs.LogLaws.{placement-snoc}
 use Rattle.cert_sched.proofs.BirthKind.{is_birth}
 use Rattle.cert_sched.proofs.BootPids.{state_pids, root_pids, boot_numbers, numbers_are}
 use Rattle.cert_sched.proofs.RisingLaws.{rising-any}
 use Rattle.cert_sched.proofs.PidLaws.{placed_pids}
 use Rattle.cert_sched.proofs.Induction.{legal_induction}
-use Rattle.cert_sched.proofs.StepLaws.{applied, Applied}
-use Rattle.cert_sched.proofs.RunItems.{forkless_keep, items_forkless, is_no_fork, run_forkless}
+use Rattle.cert_sched.proofs.StepLaws.{applied}
+use Rattle.cert_sched.proofs.RunItems.{forkless_keep, items_forkless, run_forkless}
 use Rattle.cert_sched.proofs.RunAndFork.{run_and_fork}
 use Rattle.cert_sched.proofs.BirthPlaces.{parent_unended, unended_placed}
 use Rattle.cert_sched.proofs.CameLaws.{IsStandingRule}

@@ -1,5 +1,5 @@
 -- A birth that stands, in the kernel without failures: silent steps lead the parent to its fork, and the child, which was not there, is as it was forked.
-use Rattle.std.proofs.Common.{◌≡◌, ℕ, ◌-◌, refl, sym, ◌∙◌, ap, subst, List, [], ◌∷◌, ◌++◌, Bool, true, false, eqb-true, Option, Some, None, is_some, true≢false}
+use Rattle.std.proofs.Common.{◌≡◌, ℕ, ◌-◌, refl, sym, ◌∙◌, ap, List, [], ◌∷◌, ◌++◌, Bool, true, false, eqb-true, Option, Some, None, is_some, true≢false}
 use Rattle.std.specs.Prelude.{◌≢◌, option_and_then, option_map}
 use Rattle.t32_base.specs.declared.process.Pid.{Pid}
 use Rattle.sys_text.specs.declared.system.System.{System}
@@ -8,7 +8,6 @@ use Rattle.sys_calls.specs.Fork.{next_end}
 use Rattle.plain_kernel.specs.declared.item.Item.TheVariants.{Fork}
 use Rattle.plain_kernel.specs.Kernel.{Kernel, process_at}
 use Rattle.plain_kernel.specs.Apply.{fork_step, apply_all}
-use Rattle.plain_kernel.proofs.Entries.{some_same}
 use Rattle.plain_kernel.proofs.Laws.{apply_all-append}
 use Rattle.plain_kernel.proofs.Others.{small_at}
 use Rattle.plain_kernel.proofs.Forking.{fork_made, fork-apart}

@@ -1,5 +1,5 @@
 -- To the parent itself a fork leaves one step less at least.
-use Rattle.std.proofs.Common.{◌≡◌, ℕ, ◌+◌, ◌<◌, ◌≤◌, refl, arith, List, get_or, Bool, true, cond, position, false, Option, Some, None, unwrap_or}
+use Rattle.std.proofs.Common.{◌≡◌, ℕ, ◌+◌, ◌<◌, ◌≤◌, refl, arith, List, get_or, true, cond, position, false, Option, Some, None, unwrap_or}
 use Rattle.std.specs.Prelude.{slice_set}
 use Rattle.std.specs.List.{count_by}
 use Rattle.std.proofs.lemmas.List.Sums.{sum_by-set}

@@ -1,11 +1,11 @@
 -- What each step and each fork lowers in sum over the processes of a kernel is never more after a log than at boot, nor after an entry than before it.
-use Rattle.std.proofs.Common.{◌≡◌, ℕ, ◌+◌, ◌-◌, ◌≤◌, refl, sym, ◌∙◌, ap, subst, arith, List, [], ◌∷◌, ◌++◌, Some}
+use Rattle.std.proofs.Common.{◌≡◌, ℕ, ◌+◌, ◌-◌, ◌≤◌, refl, sym, ◌∙◌, ap, arith, List, [], ◌∷◌, ◌++◌, Some}
 use Rattle.t32_base.specs.declared.process.Pid.{Pid}
 use Rattle.t32_base.specs.Small.{SmallState}
 use Rattle.sys_text.specs.declared.system.System.{System}
 use Rattle.proc_state.specs.State.{ProcState}
 use Rattle.sys_calls.specs.declared.steps.Emission.{Emission}
-use Rattle.sys_calls.specs.Calls.{Next, Silent, Forks, Emits}
+use Rattle.sys_calls.specs.Calls.{Silent, Forks, Emits}
 use Rattle.sys_calls.specs.Next.{next_step}
 use Rattle.sys_calls.specs.Small.{weight_with_children}
 use Rattle.sys_calls.specs.Fork.{fork_child, fork_parent}

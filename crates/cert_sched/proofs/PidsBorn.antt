@@ -1,6 +1,6 @@
 -- The pids after a log: those at boot, and those of the children that the log bears.
-use Rattle.std.proofs.Common.{◌≡◌, ℕ, ◌-◌, refl, sym, ◌∙◌, ap, subst, List, [], ◌∷◌, ◌++◌, map, Bool, true, false, ◌||◌, eqb, append-nil, append_assoc, Option, Some, None, is_some}
-use Rattle.std.specs.Prelude.{IfSome, fold, option_and_then}
+use Rattle.std.proofs.Common.{◌≡◌, ℕ, ◌-◌, refl, sym, ◌∙◌, ap, subst, List, [], ◌∷◌, ◌++◌, map, Bool, true, ◌||◌, eqb, append-nil, append_assoc, Option, Some, None, is_some}
+use Rattle.std.specs.Prelude.{IfSome, fold}
 use Rattle.std.specs.List.{list_any}
 use Rattle.std.proofs.lemmas.List.{map-append}
 use Rattle.std.proofs.lemmas.List.Folds.{list_any-append}
@@ -15,7 +15,7 @@ use Rattle.plain_kernel.proofs.AtBoot.{boot-pids}
 use Rattle.plain_kernel.proofs.ForkPids.{fork_step-pids, with_pid}
 use Rattle.plain_kernel.proofs.Pids.{HasPids, one_step-pids, pids_in}
 use Rattle.bus_msg.specs.declared.entry.What.{What}
-use Rattle.bus_msg.specs.declared.entry.What.TheVariants.{Mail, Birth, Exit, Page, Sync, Fetch, PageIs, Crash, Return, Rebackup, Done, Stop}
+use Rattle.bus_msg.specs.declared.entry.What.TheVariants.{Birth}
 use Rattle.bus_msg.specs.declared.entry.Entry.{Entry}
 use Rattle.bus_msg.specs.declared.placed.Placed.{Placed}
 use Rattle.bus_msg.specs.Places.{Places, same_pid, placed_at}

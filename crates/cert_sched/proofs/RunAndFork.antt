@@ -1,15 +1,15 @@
 -- A run of a process and then a fork of it: the kernel between the two, and what both leave of the counts.
-use Rattle.std.proofs.Common.{◌≡◌, ℕ, ◌+◌, refl, sym, ◌∙◌, ap, List, [], ◌∷◌, ◌++◌, Bool, true, false, eqb-true, Option, Some, None}
+use Rattle.std.proofs.Common.{◌≡◌, refl, sym, ◌∙◌, ap, List, [], ◌∷◌, ◌++◌, Bool, true, false, eqb-true, Option, Some, None}
 use Rattle.std.specs.Prelude.{◌≢◌, option_and_then}
 use Rattle.std.specs.Option.{option_map_or}
 use Rattle.t32_base.specs.declared.process.Pid.{Pid}
 use Rattle.proc_state.specs.State.{ProcState}
 use Rattle.plain_kernel.specs.declared.item.Item.{Item}
 use Rattle.plain_kernel.specs.declared.item.Item.TheVariants.{Fork}
-use Rattle.plain_kernel.specs.Kernel.{Kernel, process_at}
+use Rattle.plain_kernel.specs.Kernel.{Kernel}
 use Rattle.plain_kernel.specs.Apply.{fork_step, apply_all}
 use Rattle.plain_kernel.proofs.Laws.{apply_all-append}
-use Rattle.plain_kernel.proofs.Forking.{ForkMade, fork_made, fork-apart, fork-steps_child, fork-steps_other}
+use Rattle.plain_kernel.proofs.Forking.{ForkMade, fork_made, fork-steps_child, fork-steps_other}
 use Rattle.bus_msg.specs.Places.{same_pid}
 use Rattle.cert_sched.specs.Schedule.{done}
 use Rattle.cert_sched.proofs.MadeLaws.{apart_from}

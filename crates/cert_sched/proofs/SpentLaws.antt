@@ -1,8 +1,6 @@
 -- After any log no process has made more steps than it had left at boot, or a child at its birth, which is far from the greatest number.
-use Rattle.std.proofs.Common.{◌≡◌, ℕ, ◌+◌, ◌-◌, ◌<◌, ◌≤◌, ◌^◌, refl, sym, ◌∙◌, ap, subst, arith, List, [], ◌++◌, length, true, Option, Some, None}
+use Rattle.std.proofs.Common.{◌≡◌, ℕ, ◌+◌, ◌-◌, ◌<◌, ◌≤◌, ◌^◌, ap, subst, arith, List, [], true, Some}
 use Rattle.std.specs.Prelude.{option_map}
-use Rattle.std.specs.List.{count_by}
-use Rattle.std.specs.Option.{option_map_or}
 use Rattle.std.proofs.lemmas.List.Sums.{count_by-le-length}
 use Rattle.t32_base.specs.declared.process.Pid.{Pid}
 use Rattle.t32_base.specs.Small.{is_unshut}
@@ -10,15 +8,13 @@ use Rattle.sys_text.specs.declared.system.System.{System}
 use Rattle.sys_text.specs.Valid.{is_system}
 use Rattle.proc_state.specs.State.{ProcState}
 use Rattle.sys_calls.specs.Small.{weight}
-use Rattle.sys_calls.specs.Calls.{Next, Silent, Forks, Emits}
-use Rattle.sys_calls.specs.Next.{next_step}
-use Rattle.sys_calls.specs.Fork.{fork_child, fork_parent}
+use Rattle.sys_calls.specs.Fork.{fork_child}
 use Rattle.sys_calls.proofs.Bearing.{Bears, next_bears}
 use Rattle.sys_calls.proofs.Counting.{silent_counts, emits_counts}
 use Rattle.sys_calls.proofs.ForkLaws.{forks_can}
 use Rattle.sys_calls.proofs.Weighing.{Leaves, emits_leaves, next_leaves}
 use Rattle.plain_kernel.specs.Kernel.{boot, process_at}
-use Rattle.plain_kernel.proofs.AtBoot.{Each, boot-each}
+use Rattle.plain_kernel.proofs.AtBoot.{Each}
 use Rattle.plain_kernel.proofs.Spending.{boot_weight, boot_weight-few, boot-within}
 use Rattle.bus_msg.specs.declared.entry.Entry.{Entry}
 use Rattle.cert_sched.specs.Schedule.{plain_after, process_after}
