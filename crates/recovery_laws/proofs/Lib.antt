@@ -1,3 +1,5 @@
+pub mod StartedThere
+pub mod Bearing
 pub mod Replaying
 pub mod Beginning
 pub mod Entries
