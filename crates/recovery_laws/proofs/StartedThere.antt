@@ -19,11 +19,12 @@ use Rattle.plain_kernel.proofs.Others.{items_keep}
 use Rattle.plain_kernel.proofs.Forking.{fork_made}
 use Rattle.bus_msg.specs.declared.entry.Entry.{Entry}
 use Rattle.bus_msg.specs.PlacedAfter.{what}
+use Rattle.cert_sched.specs.Parts.{upto_last}
 use Rattle.cert_sched.specs.Schedule.{items_of, plain_after, process_after}
 use Rattle.cert_sched.specs.Deeds.{starts, is_birth_of, start_of}
 use Rattle.cert_sched.specs.Legal.{IsLegalBy, Stands}
+use Rattle.cert_sched.proofs.ListLaws.{upto_last-snoc}
 use Rattle.cert_sched.proofs.Induction.{legal_induction}
-use Rattle.cert_sched.proofs.RecordLaws.{start_of-snoc}
 use Rattle.cert_sched.proofs.StepLaws.{applied}
 use Rattle.cert_sched.proofs.MailLaws.{received, process_at-emitted}
 use Rattle.cert_sched.proofs.BornLaws.{there_not_born}
@@ -78,22 +79,24 @@ there_stays system log e p applies there =
     ap (λ o. is_some (option_and_then (λ k. process_at k p) o)) a.after
     ∙ items_keep (IsThere p) (step_there p) (fork_there p) (items_of a.old (what e)) a.old a.new (sym (ap (λ o. is_some (option_and_then (λ k. process_at k p) o)) a.before) ∙ there) a.made
 
--- who started is there
-pub started_there : (May : System → List Entry → Entry → Type 0) → IsStandingRule May → (system : System) (log : List Entry) (p : Pid) → IsLegalBy May system log → is_some (start_of system log p) ≡ true → is_some (process_after system log p) ≡ true
-started_there May standing system log p legal =
-    legal_induction May system (λ log. is_some (start_of system log p) ≡ true → is_some (process_after system log p) ≡ true) (λ started. started) (λ log e before may. more log e before (standing system log e may)) log legal
+-- so who was there after the last entry of some kind is there
+pub upto_there : (May : System → List Entry → Entry → Type 0) → IsStandingRule May → (system : System) (test : Entry → Bool) (log : List Entry) (p : Pid) → IsLegalBy May system log → is_some (process_after system (upto_last test log) p) ≡ true
+    → is_some (process_after system log p) ≡ true
+upto_there May standing system test log p legal =
+    legal_induction May system (λ log. is_some (process_after system (upto_last test log) p) ≡ true → is_some (process_after system log p) ≡ true) (λ there. there) (λ log e before may. more log e before (standing system log e may)) log legal
   where
-    more : (log : List Entry) (e : Entry) → (is_some (start_of system log p) ≡ true → is_some (process_after system log p) ≡ true) → Stands system log e → is_some (start_of system (log ++ e ∷ []) p) ≡ true → is_some (process_after system (log ++ e ∷ []) p) ≡ true
-    more log e before stands started = by_start (starts p e) (sym (ap is_some (start_of-snoc system log e p)) ∙ started)
+    more : (log : List Entry) (e : Entry) → (is_some (process_after system (upto_last test log) p) ≡ true → is_some (process_after system log p) ≡ true) → Stands system log e → is_some (process_after system (upto_last test (log ++ e ∷ [])) p) ≡ true
+        → is_some (process_after system (log ++ e ∷ []) p) ≡ true
+    more log e before stands there = by_test (test e) (sym (ap (λ l. is_some (process_after system l p)) (upto_last-snoc test log e)) ∙ there)
       where
-        by_start : (b : Bool) → is_some (cond b (process_after system (log ++ e ∷ []) p) (start_of system log p)) ≡ true → is_some (process_after system (log ++ e ∷ []) p) ≡ true
-        by_start true there = there
-        by_start false there = there_stays system log e p stands.applies (before there)
+        by_test : (b : Bool) → is_some (process_after system (cond b (log ++ e ∷ []) (upto_last test log)) p) ≡ true → is_some (process_after system (log ++ e ∷ []) p) ≡ true
+        by_test true there = there
+        by_test false there = there_stays system log e p stands.applies (before there)
 
 -- so no entry bears who started before it
 pub started_not_born : (May : System → List Entry → Entry → Type 0) → IsStandingRule May → (system : System) (log : List Entry) (e : Entry) (p : Pid) (start : ProcState) → IsLegalBy May system log → Stands system log e → start_of system log p ≡ Some start
     → is_birth_of p (what e) ≡ false
-started_not_born May standing system log e p start legal stands started = by_process (process_after system log p) refl (started_there May standing system log p legal (ap is_some started))
+started_not_born May standing system log e p start legal stands started = by_process (process_after system log p) refl (upto_there May standing system (starts p) log p legal (ap is_some started))
   where
     by_process : (o : Option ProcState) → process_after system log p ≡ o → is_some o ≡ true → is_birth_of p (what e) ≡ false
     by_process None here there = absurd (true≢false (sym there))

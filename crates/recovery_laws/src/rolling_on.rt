@@ -17,7 +17,7 @@ ghost use Rattle.bus_msg.specs.Places.{unended_at};
 ghost use Rattle.bus_msg.specs.PlacedAfter.{what};
 ghost use Rattle.roll_forward.specs.Deeds.{letters_in, births_in};
 ghost use Rattle.roll_forward.specs.RunsOut.{RunsOut, RunsOn, nothing_left};
-ghost use Rattle.roll_forward.specs.Rolling.{CanRoll, RollingState, started};
+ghost use Rattle.roll_forward.specs.Rolling.{CanRoll, RollingState, started, with_saved};
 ghost use Rattle.roll_forward.specs.Advancing.{Advances, Going, rolled_on};
 ghost use Rattle.roll_forward.specs.declared.rolled.Rolled.{Rolled};
 ghost use Rattle.cert_sched.specs.Schedule.{placement, process_after};
@@ -41,9 +41,12 @@ pub fn rolling_begins()
     ensures behind { (system : System) (log : List Entry) (p : Pid) (start : ProcState) (kept : BackRec) (small : SmallState) (ram : Memory) → is_system system ≡ true → IsLegalBy Stands system log → IsUnended system log p → start_of system log p ≡ Some start → backup_record system log p ≡ Some kept → kept.state ≡ Some small → ram.bytes ≡ start.memory → RollsBehind system log p (started small ram kept.saved kept.next) kept.counts kept.births }
     // Its record has a state where it is a root or was cut, and nowhere else;
     ensures has_state { (system : System) (log : List Entry) (p : Pid) (kept : BackRec) → backup_record system log p ≡ Some kept → is_some kept.state ≡ has_state system log p }
-    // that is the state of its start, and with the memory of its start it rolls forward.
+    // that is the state of its start.
     ensures stated { (system : System) (log : List Entry) (p : Pid) (start : ProcState) (kept : BackRec) → has_state system log p ≡ true → start_of system log p ≡ Some start → backup_record system log p ≡ Some kept → kept.state ≡ Some start.small }
-    ensures from_start { (system : System) (log : List Entry) (p : Pid) (start : ProcState) (kept : BackRec) (ram : Memory) → is_system system ≡ true → IsLegalBy Stands system log → IsUnended system log p → has_state system log p ≡ true → start_of system log p ≡ Some start → backup_record system log p ≡ Some kept → ram.bytes ≡ start.memory → RollsBehind system log p (started start.small ram kept.saved kept.next) kept.counts kept.births }
+    // From its start each process rolls forward, with the saved letters of its record,
+    ensures from_kept { (system : System) (log : List Entry) (p : Pid) (start : ProcState) (kept : BackRec) → is_system system ≡ true → IsLegalBy Stands system log → IsUnended system log p → start_of system log p ≡ Some start → backup_record system log p ≡ Some kept → RollsBehind system log p (with_saved start kept.saved kept.next) kept.counts kept.births }
+    // and so with its state and the memory of its start.
+    ensures from_start { (system : System) (log : List Entry) (p : Pid) (start : ProcState) (kept : BackRec) (ram : Memory) → is_system system ≡ true → IsLegalBy Stands system log → IsUnended system log p → start_of system log p ≡ Some start → backup_record system log p ≡ Some kept → ram.bytes ≡ start.memory → RollsBehind system log p (started start.small ram kept.saved kept.next) kept.counts kept.births }
 {}
 
 /// A law and no code: what the log brings to a process that rolls forward.
