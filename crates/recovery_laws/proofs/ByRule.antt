@@ -1,5 +1,5 @@
 -- The laws of a process that rolls forward, by the rules under which they are promised.
-use Rattle.std.proofs.Common.{◌≡◌, ℕ, arith, ◌<◌, ◌≤◌, ◌^◌, sym, ◌∙◌, subst, List, [], ◌∷◌, ◌++◌, true, false, Some}
+use Rattle.std.proofs.Common.{◌≡◌, ℕ, arith, ◌<◌, ◌≤◌, ◌^◌, sym, subst, List, [], ◌∷◌, ◌++◌, true, false, Some}
 use Rattle.std.specs.Prelude.{fold}
 use Rattle.t32_base.specs.declared.process.Pid.{Pid}
 use Rattle.t32_base.specs.declared.process.Counts.{Counts}

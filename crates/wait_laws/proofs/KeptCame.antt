@@ -16,7 +16,7 @@ use Rattle.bus_msg.specs.Places.{same_pid}
 use Rattle.bus_msg.specs.PlacedAfter.{what}
 use Rattle.cert_sched.specs.Told.{told, moves}
 use Rattle.cert_sched.specs.Deeds.{is_cut}
-use Rattle.cert_sched.specs.Account.{Account, no_pages, committed, reverted, image_pages, page_in, page_put, account_after, account_at_boot, is_exit_of}
+use Rattle.cert_sched.specs.Account.{Account, no_pages, committed, reverted, image_pages, page_in, page_put, account_after, is_exit_of}
 use Rattle.cert_sched.specs.Moved.{any_since_moved, is_page_is}
 use Rattle.cert_sched.specs.Legal.{IsLegalBy, Stands}
 use Rattle.cert_sched.specs.Simulation.{IsUnended}
