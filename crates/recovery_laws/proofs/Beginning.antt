@@ -10,7 +10,7 @@ use Rattle.write_count.specs.Counting.{counts_of}
 use Rattle.plain_kernel.proofs.Entries.{some_same}
 use Rattle.bus_msg.specs.declared.entry.Entry.{Entry}
 use Rattle.roll_forward.specs.Deeds.{letters_in, births_in}
-use Rattle.roll_forward.specs.Rolling.{started}
+use Rattle.roll_forward.specs.Rolling.{started, with_saved}
 use Rattle.cert_sched.specs.Deeds.{start_of, since}
 use Rattle.cert_sched.specs.Record.{has_state, backup_record}
 use Rattle.cert_sched.specs.Rolling.{refilled, RollsAs}
@@ -48,5 +48,14 @@ rolls_from_record system log p start kept small ram is kept_is stated bytes =
     let state = state_of_record system log p start kept small is kept_is stated in
     let there : refilled log p start ≡ started small ram kept.saved kept.next =
     λ i. record { small = sym state i; memory = sym bytes i; mail = (same i).saved; next = (same i).next } in
+    subst (λ s. RollsAs system log p s kept.counts kept.births) there
+    (subst (λ (r : BackRec). RollsAs system log p (refilled log p start) r.counts r.births) same (rolls_from_start system log p start is))
+
+-- So has the process of its start with the saved letters of its record, whether that has a state or not.
+pub rolls_from_kept : (system : System) (log : List Entry) (p : Pid) (start : ProcState) (kept : BackRec) → start_of system log p ≡ Some start → backup_record system log p ≡ Some kept
+    → RollsAs system log p (with_saved start kept.saved kept.next) kept.counts kept.births
+rolls_from_kept system log p start kept is kept_is =
+    let same = record_of system log p start kept is kept_is in
+    let there : refilled log p start ≡ with_saved start kept.saved kept.next = λ i. record start { mail = (same i).saved; next = (same i).next } in
     subst (λ s. RollsAs system log p s kept.counts kept.births) there
     (subst (λ (r : BackRec). RollsAs system log p (refilled log p start) r.counts r.births) same (rolls_from_start system log p start is))

@@ -1,5 +1,5 @@
 -- The laws of a process that rolls forward, by the rules under which they are promised.
-use Rattle.std.proofs.Common.{◌≡◌, ℕ, arith, ◌<◌, ◌≤◌, ◌^◌, sym, ◌∙◌, subst, List, [], ◌∷◌, ◌++◌, true, false, Some}
+use Rattle.std.proofs.Common.{◌≡◌, ℕ, arith, ◌<◌, ◌≤◌, ◌^◌, sym, subst, List, [], ◌∷◌, ◌++◌, true, false, Some}
 use Rattle.std.specs.Prelude.{fold}
 use Rattle.t32_base.specs.declared.process.Pid.{Pid}
 use Rattle.t32_base.specs.declared.process.Counts.{Counts}
@@ -14,7 +14,7 @@ use Rattle.sys_calls.specs.Next.{next_step, is_blocked}
 use Rattle.bus_msg.specs.declared.entry.Entry.{Entry}
 use Rattle.bus_msg.specs.PlacedAfter.{what}
 use Rattle.roll_forward.specs.RunsOut.{RunsOut, RunsOn, nothing_left}
-use Rattle.roll_forward.specs.Rolling.{CanRoll, RollingState, started}
+use Rattle.roll_forward.specs.Rolling.{CanRoll, RollingState, started, with_saved}
 use Rattle.roll_forward.specs.Advancing.{Advances, Going, rolled_on}
 use Rattle.roll_forward.specs.declared.rolled.Rolled.{Rolled}
 use Rattle.cert_sched.specs.Schedule.{process_after}
@@ -36,7 +36,7 @@ use Rattle.recovery_laws.proofs.Stepping.{rolls_on, went_on, behind_on, rolls_ad
 use Rattle.recovery_laws.proofs.RunningOut.{runs_ahead, can_roll}
 use Rattle.recovery_laws.proofs.NotEnded.{rolls_not_ended, rolls_not_blocked}
 use Rattle.recovery_laws.proofs.KeepingBehind.{behind_from_record, behind_standing}
-use Rattle.recovery_laws.proofs.FromStart.{stated_at_start, behind_from_start}
+use Rattle.recovery_laws.proofs.FromStart.{behind_from_kept, behind_from_start}
 use Rattle.recovery_laws.proofs.Exact.{exact_unended}
 use Rattle.recovery_laws.proofs.CaughtUp.{standing_caught_up, caught_up_after, caught_up_from, ends_exactly, silent_here}
 
@@ -53,11 +53,12 @@ begins_behind system log p start kept small ram valid legal unended =
     let l = led_there Stands itself system log p valid legal unended in
     behind_from_record system log p l.now start kept small ram l.led
 
--- its record has the state of its start, and with the memory of its start it rolls forward
-pub standing_stated : (system : System) (log : List Entry) (p : Pid) (start : ProcState) (kept : BackRec) → IsLegalBy Stands system log → IsUnended system log p → start_of system log p ≡ Some start → backup_record system log p ≡ Some kept
-    → kept.state ≡ Some start.small
-standing_stated = stated_at_start Stands itself
+-- from its start each rolls forward, with the saved letters of its record,
+pub standing_from_kept : (system : System) (log : List Entry) (p : Pid) (start : ProcState) (kept : BackRec) → is_system system ≡ true → IsLegalBy Stands system log → IsUnended system log p → start_of system log p ≡ Some start → backup_record system log p ≡ Some kept
+    → RollsBehind system log p (with_saved start kept.saved kept.next) kept.counts kept.births
+standing_from_kept = behind_from_kept Stands itself
 
+-- and so with its state and the memory of its start
 pub standing_from_start : (system : System) (log : List Entry) (p : Pid) (start : ProcState) (kept : BackRec) (ram : Memory) → is_system system ≡ true → IsLegalBy Stands system log → IsUnended system log p → start_of system log p ≡ Some start
     → backup_record system log p ≡ Some kept → ram.bytes ≡ start.memory → RollsBehind system log p (started start.small ram kept.saved kept.next) kept.counts kept.births
 standing_from_start = behind_from_start Stands itself

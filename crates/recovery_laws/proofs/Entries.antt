@@ -24,18 +24,19 @@ use Rattle.cert_sched.specs.Legal.{IsLegalBy, Stands}
 use Rattle.cert_sched.specs.Simulation.{IsUnended}
 use Rattle.cert_sched.proofs.ListLaws.{after_last-snoc}
 use Rattle.cert_sched.proofs.LogLaws.{placement-snoc, IsLegal-before, IsLegal-last, IsLegal-snoc}
-use Rattle.cert_sched.proofs.RecordLaws.{start_of-snoc, since-snoc, arrived_count-other}
+use Rattle.cert_sched.proofs.RecordLaws.{start_of-snoc, since-snoc, arrived_count-other, letters_started}
 use Rattle.cert_sched.proofs.Induction.{legal_induction}
 use Rattle.cert_sched.proofs.MailLaws.{boot_arrived}
 use Rattle.cert_sched.proofs.ReplayLaws.{Replays, replays_all_delivered}
-use Rattle.cert_sched.proofs.BirthKind.{is_birth}
-use Rattle.cert_sched.proofs.CameLaws.{IsStandingRule, not_birth}
-use Rattle.cert_sched.proofs.StayingUnended.{unended_stays}
-use Rattle.cert_sched.proofs.BuiltCuts.{bears_none, cut_unended}
+use Rattle.cert_sched.proofs.CameLaws.{IsStandingRule}
+use Rattle.cert_sched.proofs.StayingUnended.{stays_unended}
+use Rattle.cert_sched.proofs.BuiltCuts.{cut_unended}
 use Rattle.cert_sched.proofs.RollLaws.{Rolls, all_roll, refilled_more}
 use Rattle.cert_sched.proofs.OpenLaws.{unended_open}
 use Rattle.cert_sched.proofs.ThereLaws.{unended_there}
+use Rattle.recovery_laws.proofs.Bearing.{born_without_letters}
 use Rattle.recovery_laws.proofs.Replaying.{rolling_of, rolls_as}
+use Rattle.recovery_laws.proofs.StartedThere.{started_not_born}
 
 -- ---- the letters that came to a process
 
@@ -98,6 +99,20 @@ counts_at_boot : (system : System) (p : Pid) → CountsLetters system [] p
 unfolding plain_after
 counts_at_boot system p start started = let none : start.next ≡ 0 = boot_arrived system p start started in omega (arith, none)
 
+or_true : (b : Bool) → (b || true) ≡ true
+or_true true = refl
+or_true false = refl
+
+-- a process that an entry bears has no letters to count
+counts_born : (system : System) (log : List Entry) (e : Entry) (p : Pid) → Stands system log e → is_birth_of p (what e) ≡ true → CountsLetters system (log ++ e ∷ []) p
+counts_born system log e p stands birth start started =
+    let starting : starts p e ≡ true = ap (λ b. is_cut p (what e) || b) birth ∙ or_true (is_cut p (what e)) in
+    let there : process_after system (log ++ e ∷ []) p ≡ Some start = sym (start_of-snoc system log e p ∙ ap (λ b. cond b (process_after system (log ++ e ∷ []) p) (start_of system log p)) starting) ∙ started in
+    let first : start.next ≡ 0 = born_without_letters system log e p start stands birth there in
+    let none : length (letters_to p (after_last (starts p) (log ++ e ∷ []))) ≡ 0 = ap length (letters_started (starts p) log e p starting) in
+    let count : arrived_count (log ++ e ∷ []) p ≡ 0 = ap length (letters_started (λ f. is_birth_of p (what f)) log e p birth) in
+    omega (arith, first, none, count)
+
 -- in a legal log each process counts them so
 pub all_count : (May : System → List Entry → Entry → Type 0) → IsStandingRule May → (system : System) (log : List Entry) (p : Pid) → is_system system ≡ true → IsLegalBy May system log → CountsLetters system log p
 all_count May standing system log p valid legal =
@@ -105,18 +120,16 @@ all_count May standing system log p valid legal =
     (λ log e both may. (IsLegal-snoc Stands system log e both.0 (standing system log e may), more log e both.0 (standing system log e may) both.1)) log legal).1
   where
     more : (log : List Entry) (e : Entry) → IsLegalBy Stands system log → Stands system log e → CountsLetters system log p → CountsLetters system (log ++ e ∷ []) p
-    more log e legal stands counts = by_cut (is_cut p (what e)) refl
+    more log e legal stands counts = by_kind (is_cut p (what e)) (is_birth_of p (what e)) refl refl
       where
-        no_birth : is_birth (what e) ≡ false
-        no_birth = not_birth system log e stands.applies (what e) refl
-
-        by_cut : (b : Bool) → is_cut p (what e) ≡ b → CountsLetters system (log ++ e ∷ []) p
-        by_cut true cut =
+        by_kind : (cut born : Bool) → is_cut p (what e) ≡ cut → is_birth_of p (what e) ≡ born → CountsLetters system (log ++ e ∷ []) p
+        by_kind true born cut birth =
             let unended : IsUnended system (log ++ e ∷ []) p =
             ap (λ places. is_some (unended_at places p)) (placement-snoc system log e)
-            ∙ unended_stays (what e) no_birth (placement system log) p (cut_no_exit p (what e) cut) (cut_unended (placement system log) (e.post).by p (what e) stands.by_right cut) in
+            ∙ stays_unended (what e) (placement system log) p (cut_no_exit p (what e) cut) (cut_unended (placement system log) (e.post).by p (what e) stands.by_right cut) in
             unended_counts Stands (λ system log e stands. stands) system (log ++ e ∷ []) p valid (IsLegal-snoc Stands system log e legal stands) unended
-        by_cut false no_cut = counts_more system log e p no_cut (bears_none p (what e) no_birth) counts
+        by_kind false true no_cut birth = counts_born system log e p stands birth
+        by_kind false false no_cut unborn = counts_more system log e p no_cut unborn counts
 
 -- ---- one entry more
 
@@ -149,8 +162,9 @@ module _ (system : System) (log : List Entry) (e : Entry) (p : Pid) where
   pub rolls_entry_standing : (May : System → List Entry → Entry → Type 0) → IsStandingRule May → (s : ProcState) (counts : Counts) (births : List Pid) → is_system system ≡ true → IsLegalBy May system (log ++ e ∷ []) → is_cut p (what e) ≡ false
       → deeds_in p (what e) ≡ [] → RollsAs system log p s counts births → RollsAs system (log ++ e ∷ []) p (all_delivered s (letter_for p (what e))) counts births
   rolls_entry_standing May standing s counts births valid legal no_cut none rolls =
+      let before = IsLegal-before May system log e legal in
       let stands = standing system log e (IsLegal-last May system log e legal) in
-      rolls_entry s counts births (all_count May standing system log p valid (IsLegal-before May system log e legal)) no_cut (bears_none p (what e) (not_birth system log e stands.applies (what e) refl)) none rolls
+      rolls_entry s counts births (all_count May standing system log p valid before) no_cut (started_not_born May standing system log e p rolls.start before stands rolls.started) none rolls
 
   -- a letter to it arrives, sent by another
   pub rolls_letter : (May : System → List Entry → Entry → Type 0) → IsStandingRule May → (s : ProcState) (counts : Counts) (births : List Pid) (letter : Letter) → is_system system ≡ true → IsLegalBy May system (log ++ e ∷ []) → is_cut p (what e) ≡ false

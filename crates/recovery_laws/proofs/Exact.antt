@@ -8,6 +8,7 @@ use Rattle.sys_text.specs.declared.system.System.{System}
 use Rattle.sys_text.specs.Valid.{is_system}
 use Rattle.proc_state.specs.State.{ProcState, has_ended}
 use Rattle.sys_calls.specs.declared.steps.Emission.TheVariants.{Mail as Sent, Exit as Ended}
+use Rattle.sys_calls.specs.Fork.{fork_parent}
 use Rattle.sys_calls.proofs.Counting.{last_sent, exit_ends}
 use Rattle.sys_calls.proofs.RunLemma.{all_delivered}
 use Rattle.plain_kernel.specs.Kernel.{Kernel, process_at}
@@ -17,7 +18,7 @@ use Rattle.bus_msg.specs.declared.entry.What.TheVariants.{Mail, Birth, Exit, Pag
 use Rattle.bus_msg.specs.declared.entry.Entry.{Entry}
 use Rattle.bus_msg.specs.Places.{same_pid}
 use Rattle.bus_msg.specs.PlacedAfter.{what}
-use Rattle.roll_forward.specs.Deeds.{Deed, Sends}
+use Rattle.roll_forward.specs.Deeds.{Deed, Sends, Bears}
 use Rattle.cert_sched.specs.Schedule.{done, items_of, run_upto, steps_in, plain_after, process_after, placement}
 use Rattle.cert_sched.specs.Deeds.{starts, is_cut, is_birth_of, start_of, since, deeds_in, letter_for}
 use Rattle.cert_sched.specs.Steps.{silent_upto, after_items}
@@ -29,15 +30,15 @@ use Rattle.cert_sched.specs.Simulation.{IsUnended}
 use Rattle.cert_sched.proofs.LogLaws.{process_after-quiet}
 use Rattle.cert_sched.proofs.RecordLaws.{start_of-snoc, since-snoc}
 use Rattle.cert_sched.proofs.Induction.{legal_induction, is_over-snoc}
-use Rattle.cert_sched.proofs.StepLaws.{is_sent, sent_from, no_birth, no_signal_taken, process_after-beside}
+use Rattle.cert_sched.proofs.StepLaws.{is_sent, sent_from, no_signal_taken, process_after-beside}
 use Rattle.cert_sched.proofs.MailLaws.{sender_goes_on, received, received-ended, process_after-sender, process_after-receiver, boot_arrived}
 use Rattle.cert_sched.proofs.EndedLaws.{letter_told}
-use Rattle.cert_sched.proofs.ReplayLaws.{Replays, Sharp, sharp_replays, sharp_on, sharp_last, sharp_all_delivered}
-use Rattle.cert_sched.proofs.MadeLaws.{apart_from}
-use Rattle.cert_sched.proofs.CameLaws.{IsStandingRule, received-all, same_of, not_birth}
-use Rattle.cert_sched.proofs.BuiltCuts.{bears_none}
+use Rattle.cert_sched.proofs.ReplayLaws.{Replays, Sharp, replays_forked, replays_goes_on, sharp_replays, sharp_on, sharp_last, sharp_forked, sharp_all_delivered}
+use Rattle.cert_sched.proofs.MadeLaws.{BirthMade, apart_from}
+use Rattle.cert_sched.proofs.CameLaws.{IsStandingRule, received-all, same_of}
 use Rattle.cert_sched.proofs.OpenLaws.{unended_open}
 use Rattle.cert_sched.proofs.RollLaws.{Rolls, AllRoll, all_at_boot, all_more, rolls_steps, refilled_more}
+use Rattle.recovery_laws.proofs.Bearing.{stands_made}
 use Rattle.recovery_laws.proofs.Entries.{CountsLetters, rolls_count, quiet_of, same_start}
 
 -- ---- what an entry makes of a process
@@ -163,29 +164,51 @@ module _ (system : System) (log : List Entry) (e : Entry) where
       by_silent None silent some = absurd (true≢false (sym some))
       by_silent (Some t) silent some = left_did w p (process_after-beside system log e q at t p silent (λ k. ap (items_of k) is ∙ items k) (apart_from q p apart))
 
+  -- a birth: the parent made its fork by the last step, and every other that was there stays as it was
+  birth_did : (parent : Pid) (at : ℕ) (child : Pid) (end : ℕ) → BirthMade system log e parent child → (p : Pid) → same_pid child p ≡ false → Here (Birth parent at child end) p
+  birth_did parent at child end b p apart = by_pid (same_pid parent p) refl
+    where
+      forks : Here (Birth parent at child end) parent
+      forks now there goes_on =
+          let to : now ≡ fork_parent b.before child = some_same now (fork_parent b.before child) (sym there ∙ b.parent_is) in
+          let open_still : has_ended ((fork_parent b.before child).small).status ≡ false = ap (λ (s : ProcState). has_ended (s.small).status) (sym to) ∙ goes_on in
+          record {
+            was = b.was;
+            there = b.there;
+            open_still = replays_goes_on (b.made + 1) b.was (fork_parent b.before child) (Bears child ∷ []) (replays_forked b.made b.was b.before child b.forks) open_still;
+            made = b.made + 1;
+            to = fork_parent b.before child;
+            sharp = subst (λ ds. Sharp (b.made + 1) b.was ds (fork_parent b.before child)) (sym (ap (λ (x : Bool). cond x (Bears child ∷ []) []) (eq-eqb parent.0 parent.0 refl))) (sharp_forked b.made b.was b.before child b.forks);
+            arrives = to;
+          }
+
+      by_pid : (x : Bool) → same_pid parent p ≡ x → Here (Birth parent at child end) p
+      by_pid true same = subst (Here (Birth parent at child end)) (same_of parent p same) forks
+      by_pid false other = left_did (Birth parent at child end) p (b.others p other apart) (ap (λ (x : Bool). cond x (Bears child ∷ []) []) other) refl
+
   mapped_some : {A : Type 0} (f : ProcState → A) (o : Option ProcState) (x : A) → option_map f o ≡ Some x → is_some o ≡ true
   mapped_some f None x is = cc
   mapped_some f (Some s) x is = refl
 
-  -- an entry that does not cut the process
-  did : (w : What) → what e ≡ w → Stands system log e → KindHolds system log e w → ends_run (placement system log) w ≡ false → (p : Pid) → is_cut p w ≡ false → Here w p
-  did (Mail at letter) is stands kind goes_on p no_cut = mail_did at letter is kind p
-  did (Birth parent at child end) is stands kind goes_on p no_cut = absurd (no_birth system log e parent at child end is stands.applies)
-  did (Exit q at end) is stands kind goes_on p no_cut = exit_did q at end is kind p
-  did (Page q at index bytes) is stands kind goes_on p no_cut = quiet_did (Page q at index bytes) p is (λ k. refl) refl refl
-  did (Sync q small read None) is stands kind goes_on p no_cut =
+  -- an entry that neither cuts nor bears the process
+  did : (w : What) → what e ≡ w → Stands system log e → KindHolds system log e w → ends_run (placement system log) w ≡ false → (p : Pid) → is_cut p w ≡ false → is_birth_of p w ≡ false → Here w p
+  did (Mail at letter) is stands kind goes_on p no_cut unborn = mail_did at letter is kind p
+  did (Birth parent at child end) is stands kind goes_on p no_cut unborn = birth_did parent at child end (stands_made system log e parent at child end stands is) p unborn
+  did (Exit q at end) is stands kind goes_on p no_cut unborn = exit_did q at end is kind p
+  did (Page q at index bytes) is stands kind goes_on p no_cut unborn = quiet_did (Page q at index bytes) p is (λ k. refl) refl refl
+  did (Sync q small read None) is stands kind goes_on p no_cut unborn =
       beside_did (Sync q small read None) q small.steps p is (λ k. append-nil (run_upto k q small.steps)) (mapped_some (λ s. (after_take None s).small) (silent_upto system log q small.steps) small kind.state) no_cut refl refl
-  did (Sync q small read (Some g)) is stands kind goes_on p no_cut = absurd (no_signal_taken system log e q small read g is stands.applies)
-  did (Fetch q index) is stands kind goes_on p no_cut = quiet_did (Fetch q index) p is (λ k. refl) refl refl
-  did (PageIs q index bytes) is stands kind goes_on p no_cut = quiet_did (PageIs q index bytes) p is (λ k. refl) refl refl
-  did (Crash k cause) is stands kind goes_on p no_cut = quiet_did (Crash k cause) p is (λ n. refl) refl refl
-  did (Return k) is stands kind goes_on p no_cut = quiet_did (Return k) p is (λ n. refl) refl refl
-  did (Rebackup to true []) is stands kind goes_on p no_cut = absurd kind
-  did (Rebackup to true (r ∷ rs)) is stands kind goes_on p no_cut =
+  did (Sync q small read (Some g)) is stands kind goes_on p no_cut unborn = absurd (no_signal_taken system log e q small read g is stands.applies)
+  did (Fetch q index) is stands kind goes_on p no_cut unborn = quiet_did (Fetch q index) p is (λ k. refl) refl refl
+  did (PageIs q index bytes) is stands kind goes_on p no_cut unborn = quiet_did (PageIs q index bytes) p is (λ k. refl) refl refl
+  did (Crash k cause) is stands kind goes_on p no_cut unborn = quiet_did (Crash k cause) p is (λ n. refl) refl refl
+  did (Return k) is stands kind goes_on p no_cut unborn = quiet_did (Return k) p is (λ n. refl) refl refl
+  did (Rebackup to true []) is stands kind goes_on p no_cut unborn = absurd kind
+  did (Rebackup to true (r ∷ rs)) is stands kind goes_on p no_cut unborn =
       beside_did (Rebackup to true (r ∷ rs)) r.pid (steps_in r.state) p is (λ k. refl) (ap (λ w. is_some (after_items system log w)) (sym is) ∙ kind.silent) no_cut refl refl
-  did (Rebackup to false recs) is stands kind goes_on p no_cut = quiet_did (Rebackup to false recs) p is (λ k. refl) refl refl
-  did (Done rests) is stands kind goes_on p no_cut = absurd (true≢false goes_on)
-  did Stop is stands kind goes_on p no_cut = absurd (true≢false goes_on)
+  did (Rebackup to false recs) is stands kind goes_on p no_cut unborn = quiet_did (Rebackup to false recs) p is (λ k. refl) refl refl
+  did (Done rests) is stands kind goes_on p no_cut unborn = absurd (true≢false goes_on)
+  did Stop is stands kind goes_on p no_cut unborn = absurd (true≢false goes_on)
 
 -- ---- the invariant
 
@@ -261,17 +284,18 @@ exact_at_boot system goes_on p now there open_still =
 
 both_more : (system : System) (log : List Entry) (e : Entry) → Both system log → Stands system log e → Both system (log ++ e ∷ [])
 unfolding AllExact
-both_more system log e both stands = record { all = all; exact = λ goes_on p now there open_still. by_cut p now there open_still goes_on (is_cut p (what e)) refl }
+both_more system log e both stands = record { all = all; exact = λ goes_on p now there open_still. by_kind p now there open_still goes_on (is_cut p (what e)) (is_birth_of p (what e)) refl refl }
   where
     all : AllRoll system (log ++ e ∷ [])
     all = all_more system log e both.all stands
 
-    by_cut : (p : Pid) (now : ProcState) → process_after system (log ++ e ∷ []) p ≡ Some now → has_ended (now.small).status ≡ false → is_over system (log ++ e ∷ []) ≡ false → (b : Bool) → is_cut p (what e) ≡ b → IsExact system (log ++ e ∷ []) p now
-    by_cut p now there open_still goes_on true cut = exact_started system log e p now there (ap (λ b. b || is_birth_of p (what e)) cut) (all.rolls p now there open_still)
-    by_cut p now there open_still goes_on false no_cut =
-        let d = did system log e (what e) refl stands stands.kind (sym (is_over-snoc system log e) ∙ goes_on) p no_cut now there open_still in
-        exact_more system log e p now no_cut (bears_none p (what e) (not_birth system log e stands.applies (what e) refl))
-        (rolls_count system log p d.was (both.all.rolls p d.was d.there d.open_still)) d (both.exact (stands.placed).2 p d.was d.there d.open_still)
+    by_kind : (p : Pid) (now : ProcState) → process_after system (log ++ e ∷ []) p ≡ Some now → has_ended (now.small).status ≡ false → is_over system (log ++ e ∷ []) ≡ false → (cut born : Bool) → is_cut p (what e) ≡ cut → is_birth_of p (what e) ≡ born
+        → IsExact system (log ++ e ∷ []) p now
+    by_kind p now there open_still goes_on true born cut birth = exact_started system log e p now there (ap (λ b. b || is_birth_of p (what e)) cut) (all.rolls p now there open_still)
+    by_kind p now there open_still goes_on false true no_cut birth = exact_started system log e p now there (ap (λ b. b || is_birth_of p (what e)) no_cut ∙ birth) (all.rolls p now there open_still)
+    by_kind p now there open_still goes_on false false no_cut unborn =
+        let d = did system log e (what e) refl stands stands.kind (sym (is_over-snoc system log e) ∙ goes_on) p no_cut unborn now there open_still in
+        exact_more system log e p now no_cut unborn (rolls_count system log p d.was (both.all.rolls p d.was d.there d.open_still)) d (both.exact (stands.placed).2 p d.was d.there d.open_still)
 
 -- In a legal log that is not over, each process that has not ended is just where its last deed led it, or at its start.
 pub exact_open : (May : System → List Entry → Entry → Type 0) → IsStandingRule May → (system : System) (log : List Entry) (p : Pid) (now : ProcState) → is_system system ≡ true → IsLegalBy May system log → is_over system log ≡ false

@@ -17,16 +17,15 @@ use Rattle.roll_forward.specs.Rolling.{started}
 use Rattle.cert_sched.specs.Schedule.{process_after, done_after, placement}
 use Rattle.cert_sched.specs.Deeds.{is_cut, is_birth_of, start_of, deeds_in, letter_for}
 use Rattle.cert_sched.specs.Record.{backup_record}
-use Rattle.cert_sched.specs.Legal.{IsLegalBy, Stands}
+use Rattle.cert_sched.specs.Legal.{IsLegalBy}
 use Rattle.cert_sched.specs.Simulation.{IsUnended}
 use Rattle.cert_sched.proofs.LogLaws.{placement-snoc, IsLegal-before, IsLegal-last}
 use Rattle.cert_sched.proofs.ReplayLaws.{replays_counts, all_delivered-is}
-use Rattle.cert_sched.proofs.CameLaws.{IsStandingRule, Came, went_on, was_cut, was_born, came, not_birth}
-use Rattle.cert_sched.proofs.StayingUnended.{no_deed_no_exit, unended_stays}
-use Rattle.cert_sched.proofs.BuiltCuts.{bears_none}
+use Rattle.cert_sched.proofs.CameLaws.{IsStandingRule, Came, went_on, was_cut, was_born, came}
+use Rattle.cert_sched.proofs.StayingUnended.{no_deed_no_exit, stays_unended}
 use Rattle.cert_sched.proofs.RollLaws.{all_roll, two_apart}
 use Rattle.cert_sched.proofs.OpenLaws.{unended_open}
-use Rattle.cert_sched.proofs.ThereLaws.{unended_there}
+use Rattle.cert_sched.proofs.ThereLaws.{unended_not_born, unended_there}
 use Rattle.recovery_laws.specs.Behind.{RollsBehind}
 use Rattle.recovery_laws.proofs.Beginning.{rolls_from_record, state_of_record}
 use Rattle.recovery_laws.proofs.Entries.{rolls_entry_standing}
@@ -71,17 +70,17 @@ module _ (system : System) (log : List Entry) (e : Entry) (p : Pid) where
           came_from now is (came system log e (standing system log e (IsLegal-last May system log e legal)) two p now is (unended_open May standing system (log ++ e ∷ []) p valid legal unended now is))
 
   -- an entry that tells of none of its deeds does not end it
-  pub still_unended : Stands system log e → deeds_in p (what e) ≡ [] → IsUnended system log p → IsUnended system (log ++ e ∷ []) p
-  still_unended stands none unended =
+  pub still_unended : deeds_in p (what e) ≡ [] → IsUnended system log p → IsUnended system (log ++ e ∷ []) p
+  still_unended none unended =
       ap (λ places. is_some (unended_at places p)) (placement-snoc system log e)
-      ∙ unended_stays (what e) (not_birth system log e stands.applies (what e) refl) (placement system log) p (no_deed_no_exit p (what e) none) unended
+      ∙ stays_unended (what e) (placement system log) p (no_deed_no_exit p (what e) none) unended
 
   -- such an entry, where it does not cut it, brings it its letters, and leaves what is left and that it is not beyond
   pub behind_standing : (May : System → List Entry → Entry → Type 0) → IsStandingRule May → (s : ProcState) (counts : Counts) (births : List Pid) → is_system system ≡ true → IsLegalBy May system (log ++ e ∷ []) → IsUnended system log p
       → is_cut p (what e) ≡ false → deeds_in p (what e) ≡ [] → RollsBehind system log p s counts births → RollsBehind system (log ++ e ∷ []) p (all_delivered s (letter_for p (what e))) counts births
   behind_standing May standing s counts births valid legal unended no_cut none rolls =
       let stands = standing system log e (IsLegal-last May system log e legal) in
-      let kept = steps_kept May standing valid legal (still_unended stands none unended) no_cut (bears_none p (what e) (not_birth system log e stands.applies (what e) refl)) in
+      let kept = steps_kept May standing valid legal (still_unended none unended) no_cut (unended_not_born May standing system log e p valid (IsLegal-before May system log e legal) stands unended) in
       let same : ((all_delivered s (letter_for p (what e))).small).steps ≡ (s.small).steps = ap (λ (x : ProcState). (x.small).steps) (all_delivered-is s (letter_for p (what e))) in
       let behind = rolls.behind in
       record { rolls = rolls_entry_standing system log e p May standing s counts births valid legal no_cut none rolls.rolls; behind = omega (arith, kept, same, behind) }

@@ -1,3 +1,10 @@
+pub mod StartedThere
+pub mod Bearing
+pub mod BirthStates
+pub mod BornLists
+pub mod ForkedPids
+pub mod ForkedStates
+pub mod ForkedAgain
 pub mod Replaying
 pub mod Beginning
 pub mod Entries

@@ -1,5 +1,5 @@
 //! A process that rolls forward, from its start until it has caught up.
-ghost use Rattle.std.specs.Prelude.{ℕ, ◌≡◌, ◌^◌, ◌<◌, ◌≤◌, true, false, List, [], ◌∷◌, ◌++◌, fold, Some};
+ghost use Rattle.std.specs.Prelude.{ℕ, ◌≡◌, ◌^◌, ◌<◌, ◌≤◌, true, false, List, [], ◌∷◌, ◌++◌, fold, Some, is_some};
 ghost use Rattle.t32_base.specs.declared.process.Pid.{Pid};
 ghost use Rattle.t32_base.specs.declared.process.Counts.{Counts};
 ghost use Rattle.t32_base.specs.declared.letter.BackRec.{BackRec};
@@ -17,14 +17,14 @@ ghost use Rattle.bus_msg.specs.Places.{unended_at};
 ghost use Rattle.bus_msg.specs.PlacedAfter.{what};
 ghost use Rattle.roll_forward.specs.Deeds.{letters_in, births_in};
 ghost use Rattle.roll_forward.specs.RunsOut.{RunsOut, RunsOn, nothing_left};
-ghost use Rattle.roll_forward.specs.Rolling.{CanRoll, RollingState, started};
+ghost use Rattle.roll_forward.specs.Rolling.{CanRoll, RollingState, started, with_saved};
 ghost use Rattle.roll_forward.specs.Advancing.{Advances, Going, rolled_on};
 ghost use Rattle.roll_forward.specs.declared.rolled.Rolled.{Rolled};
 ghost use Rattle.cert_sched.specs.Schedule.{placement, process_after};
 ghost use Rattle.cert_sched.specs.Deeds.{is_cut, start_of, since, deeds_in, letter_for, arrived_count};
 ghost use Rattle.cert_sched.specs.Steps.{silent_upto};
 ghost use Rattle.cert_sched.specs.Losses.{is_from};
-ghost use Rattle.cert_sched.specs.Record.{backup_record};
+ghost use Rattle.cert_sched.specs.Record.{backup_record, has_state};
 ghost use Rattle.cert_sched.specs.Rules.{is_over};
 ghost use Rattle.cert_sched.specs.Legal.{IsLegalBy, Stands};
 ghost use Rattle.cert_sched.specs.Simulation.{IsUnended};
@@ -39,8 +39,13 @@ pub fn rolling_begins()
     ensures recorded { (system : System) (log : List Entry) (p : Pid) (start : ProcState) (kept : BackRec) (small : SmallState) (ram : Memory) → start_of system log p ≡ Some start → backup_record system log p ≡ Some kept → kept.state ≡ Some small → ram.bytes ≡ start.memory → RollsAs system log p (started small ram kept.saved kept.next) kept.counts kept.births }
     // Where it has not ended it is not beyond where it was.
     ensures behind { (system : System) (log : List Entry) (p : Pid) (start : ProcState) (kept : BackRec) (small : SmallState) (ram : Memory) → is_system system ≡ true → IsLegalBy Stands system log → IsUnended system log p → start_of system log p ≡ Some start → backup_record system log p ≡ Some kept → kept.state ≡ Some small → ram.bytes ≡ start.memory → RollsBehind system log p (started small ram kept.saved kept.next) kept.counts kept.births }
-    // Its record has the state of its start, and with the memory of its start it rolls forward.
-    ensures stated { (system : System) (log : List Entry) (p : Pid) (start : ProcState) (kept : BackRec) → IsLegalBy Stands system log → IsUnended system log p → start_of system log p ≡ Some start → backup_record system log p ≡ Some kept → kept.state ≡ Some start.small }
+    // Its record has a state where it is a root or was cut, and nowhere else;
+    ensures has_state { (system : System) (log : List Entry) (p : Pid) (kept : BackRec) → backup_record system log p ≡ Some kept → is_some kept.state ≡ has_state system log p }
+    // that is the state of its start.
+    ensures stated { (system : System) (log : List Entry) (p : Pid) (start : ProcState) (kept : BackRec) → has_state system log p ≡ true → start_of system log p ≡ Some start → backup_record system log p ≡ Some kept → kept.state ≡ Some start.small }
+    // From its start each process rolls forward, with the saved letters of its record,
+    ensures from_kept { (system : System) (log : List Entry) (p : Pid) (start : ProcState) (kept : BackRec) → is_system system ≡ true → IsLegalBy Stands system log → IsUnended system log p → start_of system log p ≡ Some start → backup_record system log p ≡ Some kept → RollsBehind system log p (with_saved start kept.saved kept.next) kept.counts kept.births }
+    // and so with its state and the memory of its start.
     ensures from_start { (system : System) (log : List Entry) (p : Pid) (start : ProcState) (kept : BackRec) (ram : Memory) → is_system system ≡ true → IsLegalBy Stands system log → IsUnended system log p → start_of system log p ≡ Some start → backup_record system log p ≡ Some kept → ram.bytes ≡ start.memory → RollsBehind system log p (started start.small ram kept.saved kept.next) kept.counts kept.births }
 {}
 

@@ -1,7 +1,6 @@
 -- A process that a crash moves waits for all its pages from then on.
 use Rattle.std.proofs.Common.{◌≡◌, ℕ, zero, suc, ◌<◌, ◌≤◌, refl, sym, ◌∙◌, ap, subst, arith, List, [], ◌∷◌, ◌++◌, length, Bool, true, false, cond, ◌||◌, Option, Some, None, slice_get, true≢false}
 use Rattle.std.specs.Prelude.{nat_lt, replicate}
-use Rattle.std.specs.List.{list_any}
 use Rattle.std.specs.Option.{option_map_or}
 use Rattle.std.proofs.lemmas.Bool.Decides.{nat_tests}
 use Rattle.std.proofs.lemmas.List.{length-replicate}
@@ -24,14 +23,14 @@ use Rattle.cert_sched.specs.Built.{BuiltMayFollow}
 use Rattle.cert_sched.specs.Legal.{IsLegalBy, Stands}
 use Rattle.cert_sched.specs.Simulation.{IsUnended}
 use Rattle.cert_sched.proofs.LogLaws.{IsLegal-before, IsLegal-last}
-use Rattle.recovery_laws.proofs.FromStart.{unended_is_root}
+use Rattle.cert_sched.proofs.ThereLaws.{unended_there}
 use Rattle.record_laws.proofs.Standing.{built_stands, itself}
 use Rattle.page_laws.specs.Next.{moves_next}
 use Rattle.page_laws.proofs.OneEntry.{any_since-snoc, moved_with_state-snoc}
-use Rattle.page_laws.proofs.PagesStay.{page_count-snoc}
 use Rattle.page_waits.specs.Waiting.{page_count as pages_of}
-use Rattle.wait_laws.specs.Waits.{WaitsAs, first_wait, none_queued, page_come}
+use Rattle.wait_laws.specs.Waits.{WaitsAs, first_wait, none_queued}
 use Rattle.wait_laws.proofs.BootPages.{HasPages, has_pages_so}
+use Rattle.wait_laws.proofs.PageCounts.{count_stays}
 use Rattle.wait_laws.proofs.Records.{record_next, loss_leaves}
 
 pub none_below : (i : ℕ) → nat_lt i 0 ≡ false
@@ -47,12 +46,12 @@ loss_cuts_none : (p : Pid) (w : What) (moved : ClusterNo → Bool) → option_ma
 loss_cuts_none p (Crash k cause) moved moves = refl
 loss_cuts_none p w moved moves = absurd (true≢false (sym moves))
 
-pub begins_so : (system : System) (log : List Entry) (e : Entry) (p : Pid) (kept : BackRec) → is_system system ≡ true → IsLegalBy Stands system (log ++ e ∷ []) → IsUnended system log p → moves_next system log e p ≡ true
-    → backup_record system log p ≡ Some kept → WaitsAs system (log ++ e ∷ []) p none_queued (first_wait kept)
-begins_so system log e p kept valid legal unended moves is = record {
+pub begins_so : (system : System) (log : List Entry) (e : Entry) (p : Pid) (kept : BackRec) → is_system system ≡ true → IsLegalBy Stands system (log ++ e ∷ []) → IsUnended system log p → has_state system log p ≡ true
+    → moves_next system log e p ≡ true → backup_record system log p ≡ Some kept → WaitsAs system (log ++ e ∷ []) p none_queued (first_wait kept)
+begins_so system log e p kept valid legal unended stated moves is = record {
   kept = record_next system log e p kept valid legal (loss_cuts_none p (what e) (is_moved p (placement system log)) moves) unended is ∙ ap Some (loss_leaves (what e) (is_moved p (placement system log)) kept moves);
   moved = moved_with_state-snoc system log e p ∙ (λ i. cond (moves i) (has_state system log p) (moved_with_state system log p)) ∙ stated;
-  pages = many ∙ pages.same ∙ sym (page_count-snoc system log e p (IsLegal-last Stands system log e legal).applies);
+  pages = many ∙ pages.same ∙ sym (count_stays system log e p (IsLegal-last Stands system log e legal).applies (unended_there Stands itself system log p valid before unended));
   some = omega (arith, many, least);
   at_most = omega (arith, many, most);
   asked = λ i within. none_below i ∙ sym (ap (λ b. b || false) (none_since (is_fetch p i)));
@@ -65,7 +64,7 @@ begins_so system log e p kept valid legal unended moves is = record {
     before = IsLegal-before Stands system log e legal
 
     pages : HasPages system log p kept
-    pages = has_pages_so system log p kept valid before unended is
+    pages = has_pages_so system log p kept valid before unended stated is
 
     least : 1 ≤ pages_of kept
     least = pages.some
@@ -76,13 +75,10 @@ begins_so system log e p kept valid legal unended moves is = record {
     many : length (replicate {A = Option (List ℕ)} (pages_of kept) None) ≡ pages_of kept
     many = length-replicate (pages_of kept) None
 
-    stated : has_state system log p ≡ true
-    stated = ap (λ b. b || list_any (λ (f : Entry). is_cut p (what f)) log) (unended_is_root Stands itself system log p before unended)
-
     none_since : (test : What → Bool) → any_since_moved system (log ++ e ∷ []) p test ≡ false
     none_since test = any_since-snoc system log e p test ∙ ap (λ b. cond b false (any_since_moved system log p test || test (what e))) moves
 
 -- in a log of the entries that are built so far
-pub begins : (system : System) (log : List Entry) (e : Entry) (p : Pid) (kept : BackRec) → is_system system ≡ true → IsLegalBy BuiltMayFollow system (log ++ e ∷ []) → IsUnended system log p → moves_next system log e p ≡ true
-    → backup_record system log p ≡ Some kept → WaitsAs system (log ++ e ∷ []) p none_queued (first_wait kept)
+pub begins : (system : System) (log : List Entry) (e : Entry) (p : Pid) (kept : BackRec) → is_system system ≡ true → IsLegalBy BuiltMayFollow system (log ++ e ∷ []) → IsUnended system log p → has_state system log p ≡ true
+    → moves_next system log e p ≡ true → backup_record system log p ≡ Some kept → WaitsAs system (log ++ e ∷ []) p none_queued (first_wait kept)
 begins system log e p kept valid legal = begins_so system log e p kept valid (built_stands system (log ++ e ∷ []) legal)

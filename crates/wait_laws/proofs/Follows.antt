@@ -1,5 +1,5 @@
 -- What an entry that tells of no deed of a process makes of its wait.
-use Rattle.std.proofs.Common.{◌≡◌, ℕ, ◌<◌, ◌≤◌, refl, sym, ◌∙◌, ap, subst, List, [], ◌∷◌, ◌++◌, length, set, Bool, true, false, cond, ◌&&◌, ◌||◌, eqb, eqb-true, eq-eqb, ne_eqb, Option, Some, None, slice_get, true≢false}
+use Rattle.std.proofs.Common.{◌≡◌, ℕ, ◌<◌, ◌≤◌, refl, sym, ◌∙◌, ap, subst, List, [], ◌∷◌, ◌++◌, length, set, Bool, true, false, cond, ◌&&◌, ◌||◌, eqb, eqb-true, eq-eqb, Some, None, is_some, slice_get, true≢false}
 use Rattle.std.proofs.lemmas.List.{length-set}
 use Rattle.t32_base.specs.declared.process.Pid.{Pid}
 use Rattle.sys_text.specs.declared.system.System.{System}
@@ -9,6 +9,7 @@ use Rattle.bus_msg.specs.declared.entry.What.TheVariants.{PageIs}
 use Rattle.bus_msg.specs.declared.entry.Entry.{Entry}
 use Rattle.bus_msg.specs.Places.{same_pid}
 use Rattle.bus_msg.specs.PlacedAfter.{what}
+use Rattle.cert_sched.specs.Schedule.{process_after}
 use Rattle.cert_sched.specs.Account.{account_after, page_in, is_exit_of}
 use Rattle.cert_sched.specs.Built.{BuiltMayFollow}
 use Rattle.cert_sched.specs.Deeds.{deeds_in, is_cut}
@@ -18,16 +19,17 @@ use Rattle.cert_sched.specs.Simulation.{IsUnended}
 use Rattle.cert_sched.specs.Told.{cluster_lost}
 use Rattle.cert_sched.proofs.LogLaws.{IsLegal-before, IsLegal-last}
 use Rattle.cert_sched.proofs.StayingUnended.{no_deed_no_exit}
-use Rattle.record_laws.proofs.Standing.{built_stands}
+use Rattle.cert_sched.proofs.ThereLaws.{unended_there}
+use Rattle.record_laws.proofs.Standing.{built_stands, itself}
 use Rattle.backup_records.specs.Records.{record_after}
 use Rattle.page_laws.specs.Next.{moves_next}
 use Rattle.page_laws.proofs.Keeping.{kept_still}
 use Rattle.page_laws.proofs.OneEntry.{any_since-goes_on, moved-goes_on, moves_none}
-use Rattle.page_laws.proofs.PagesStay.{page_count-snoc}
 use Rattle.page_laws.proofs.Waiting.{came_waited, page_is_holds, waited_lacks}
 use Rattle.page_waits.specs.Waiting.{WaitingState, with_page}
 use Rattle.page_waits.proofs.OnePage.{others_same, written_there}
 use Rattle.wait_laws.specs.Waits.{WaitsAs, page_come}
+use Rattle.wait_laws.proofs.PageCounts.{count_stays}
 use Rattle.wait_laws.proofs.Records.{record_next}
 
 or_nothing : (b : Bool) → (b || false) ≡ b
@@ -50,6 +52,9 @@ module _ (system : System) (log : List Entry) (e : Entry) (p : Pid) (queued : �
   stands : Stands system log e
   stands = IsLegal-last Stands system log e legal
 
+  there : IsUnended system log p → is_some (process_after system log p) ≡ true
+  there = unended_there Stands itself system log p valid (IsLegal-before Stands system log e legal)
+
   -- what was kept of it at its last cut is kept still
   still : is_exit_of p (what e) ≡ false → is_cut p (what e) ≡ false → (account_after system (log ++ e ∷ []) p).kept ≡ (account_after system log p).kept
   still = kept_still system log e p
@@ -68,7 +73,7 @@ module _ (system : System) (log : List Entry) (e : Entry) (p : Pid) (queued : �
   other_so unended stays no_cut none no_page waits = record {
     kept = record_next system log e p w.kept valid legal no_cut unended waits.kept;
     moved = moved-goes_on system log e p stays ∙ waits.moved;
-    pages = waits.pages ∙ sym (page_count-snoc system log e p stands.applies);
+    pages = waits.pages ∙ sym (count_stays system log e p stands.applies (there unended));
     some = waits.some;
     at_most = waits.at_most;
     asked = λ i within.
@@ -124,7 +129,7 @@ module _ (system : System) (log : List Entry) (e : Entry) (p : Pid) (queued : �
         record {
           kept = record_next system log e p w.kept valid legal no_cut unended waits.kept ∙ ap (λ (x : What). Some (record_after x w.kept)) is;
           moved = moved-goes_on system log e p stays ∙ waits.moved;
-          pages = many ∙ waits.pages ∙ sym (page_count-snoc system log e p stands.applies);
+          pages = many ∙ waits.pages ∙ sym (count_stays system log e p stands.applies (there unended));
           some = subst (λ n. 1 ≤ n) (sym many) waits.some;
           at_most = subst (λ n. n ≤ 256) (sym many) waits.at_most;
           asked = λ j within.

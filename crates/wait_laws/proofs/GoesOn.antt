@@ -6,11 +6,13 @@ use Rattle.sys_text.specs.Valid.{is_system}
 use Rattle.roll_forward.specs.Rolling.{with_saved}
 use Rattle.recovery.specs.Begun.{begun, BeginsFrom}
 use Rattle.bus_msg.specs.declared.entry.Entry.{Entry}
+use Rattle.cert_sched.specs.Record.{has_state}
 use Rattle.cert_sched.specs.Built.{BuiltMayFollow}
 use Rattle.cert_sched.specs.Legal.{IsLegalBy, Stands}
 use Rattle.cert_sched.specs.Simulation.{IsUnended}
 use Rattle.recovery_laws.specs.Behind.{RollsBehind}
-use Rattle.recovery_laws.proofs.ByRule.{itself, standing_always, standing_from_start, standing_stated}
+use Rattle.recovery_laws.proofs.ByRule.{itself, standing_always, standing_from_start}
+use Rattle.recovery_laws.proofs.FromStart.{stated_at_start}
 use Rattle.recovery_laws.proofs.Reaching.{LedThere, led_there}
 use Rattle.record_laws.proofs.Standing.{built_stands}
 use Rattle.page_laws.proofs.SizesStay.{start_sized}
@@ -19,12 +21,17 @@ use Rattle.page_waits.specs.Pages.{AreAllPages}
 use Rattle.page_waits.specs.Waiting.{CanGoOn, WaitingState, is_whole}
 use Rattle.page_waits.proofs.Started.{can_from, rolls_from}
 use Rattle.wait_laws.specs.Waits.{GoesOnAs, WaitsAs}
+use Rattle.wait_laws.proofs.MovedStated.{moved_stated}
 use Rattle.wait_laws.proofs.PagesCame.{as_kept}
 
 module _ (system : System) (log : List Entry) (p : Pid) (queued : ℕ → Bool) (w : WaitingState) (valid : is_system system ≡ true) (legal : IsLegalBy Stands system log) (unended : IsUnended system log p) (waits : WaitsAs system log p queued w)
     (whole : is_whole w ≡ true) where
   there : LedThere system log p
   there = led_there Stands itself system log p valid legal unended
+
+  -- its record has a state
+  stated : has_state system log p ≡ true
+  stated = moved_stated system log p legal waits.moved
 
   -- the pages are those of the memory with which it started
   all_pages : AreAllPages ((there.led).start).memory w.come
@@ -43,7 +50,7 @@ module _ (system : System) (log : List Entry) (p : Pid) (queued : ℕ → Bool) 
 
   begins : BeginsFrom (there.led).start w.kept
   begins = record {
-    state = standing_stated system log p (there.led).start w.kept legal unended (there.led).started waits.kept;
+    state = stated_at_start system log p (there.led).start w.kept stated (there.led).started waits.kept;
     rolls = standing_always system log p (with_saved (there.led).start (w.kept).saved (w.kept).next) (w.kept).counts (w.kept).births valid legal unended rolls.rolls;
   }
 

@@ -12,22 +12,21 @@ use Rattle.plain_kernel.specs.Kernel.{boot, process_at}
 use Rattle.bus_msg.specs.declared.entry.What.{What}
 use Rattle.bus_msg.specs.declared.entry.What.TheVariants.{Page}
 use Rattle.bus_msg.specs.declared.entry.Entry.{Entry}
-use Rattle.bus_msg.specs.Places.{same_pid, unended_at}
+use Rattle.bus_msg.specs.Places.{same_pid}
 use Rattle.bus_msg.specs.PlacedAfter.{what}
-use Rattle.cert_sched.specs.Schedule.{placement}
 use Rattle.cert_sched.specs.Told.{told, moves}
 use Rattle.cert_sched.specs.Deeds.{is_cut}
-use Rattle.cert_sched.specs.Account.{Account, no_pages, committed, reverted, image_pages, page_in, page_put, account_after, account_at_boot, is_exit_of}
+use Rattle.cert_sched.specs.Account.{Account, no_pages, committed, reverted, image_pages, page_in, page_put, account_after, is_exit_of}
 use Rattle.cert_sched.specs.Moved.{any_since_moved, is_page_is}
 use Rattle.cert_sched.specs.Legal.{IsLegalBy, Stands}
 use Rattle.cert_sched.specs.Simulation.{IsUnended}
-use Rattle.cert_sched.proofs.LogLaws.{account_after-snoc, placement-snoc}
+use Rattle.cert_sched.proofs.LogLaws.{account_after-snoc}
 use Rattle.cert_sched.proofs.Induction.{legal_induction}
-use Rattle.cert_sched.proofs.CameLaws.{not_birth}
+use Rattle.cert_sched.proofs.RisingLaws.{either_not}
 use Rattle.page_laws.specs.Next.{next_told, moves_next}
 use Rattle.page_laws.proofs.OneEntry.{any_since-snoc}
-use Rattle.cert_sched.proofs.StayingUnended.{unended_before}
 use Rattle.page_laws.proofs.Waiting.{page_came, page_is_holds}
+use Rattle.wait_laws.proofs.NotExited.{has_exited, has_exited-snoc, unended_not_exited}
 
 -- an account has the page i
 abbrev Has : List (ℕ × List ℕ) → ℕ → Type 0
@@ -101,14 +100,14 @@ module _ (system : System) (log : List Entry) (e : Entry) (p : Pid) (i : ℕ) (s
         ∙ kept_after (is_exit_of p (what e)) (is_cut p (what e)) (moves p (next_told system log e)) (account_after system log p) (page_put p (what e) (account_after system log p).now) i stays before.both (kept_before seen);
   }
 
-keeps_in : (system : System) (log : List Entry) (p : Pid) (i : ℕ) → IsLegalBy Stands system log → IsUnended system log p → Keeps system log p i
-keeps_in system log p i legal = legal_induction Stands system (λ log. IsUnended system log p → Keeps system log p i) (λ unended. keeps_at_boot system p i) next log legal
+keeps_in : (system : System) (log : List Entry) (p : Pid) (i : ℕ) → IsLegalBy Stands system log → has_exited log p ≡ false → Keeps system log p i
+keeps_in system log p i legal = legal_induction Stands system (λ log. has_exited log p ≡ false → Keeps system log p i) (λ stays. keeps_at_boot system p i) next log legal
   where
-    next : (log : List Entry) (e : Entry) → (IsUnended system log p → Keeps system log p i) → Stands system log e → IsUnended system (log ++ e ∷ []) p → Keeps system (log ++ e ∷ []) p i
-    next log e before stands unended =
-        let was = unended_before (what e) (not_birth system log e stands.applies (what e) refl) (placement system log) p (sym (ap (λ places. is_some (unended_at places p)) (placement-snoc system log e)) ∙ unended) in
-        keeps_after system log e p i stands was.0 (before was.1)
+    next : (log : List Entry) (e : Entry) → (has_exited log p ≡ false → Keeps system log p i) → Stands system log e → has_exited (log ++ e ∷ []) p ≡ false → Keeps system (log ++ e ∷ []) p i
+    next log e before stands stays =
+        let both = either_not (has_exited log p) (is_exit_of p (what e)) (sym (has_exited-snoc log e p) ∙ stays) in
+        keeps_after system log e p i stands both.1 (before both.0)
 
 -- a page that came is kept
 pub came_kept : (system : System) (log : List Entry) (p : Pid) (i : ℕ) → IsLegalBy Stands system log → IsUnended system log p → any_since_moved system log p (is_page_is p i) ≡ true → is_some (page_in (account_after system log p).kept i) ≡ true
-came_kept system log p i legal unended = (keeps_in system log p i legal unended).came
+came_kept system log p i legal unended = (keeps_in system log p i legal (unended_not_exited system log p legal unended)).came

@@ -1,3 +1,6 @@
+pub mod PageCounts
+pub mod NotExited
+pub mod MovedStated
 pub mod BootPages
 pub mod Records
 pub mod Begins

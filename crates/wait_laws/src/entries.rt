@@ -10,20 +10,20 @@ ghost use Rattle.bus_msg.specs.PlacedAfter.{what};
 ghost use Rattle.cert_sched.specs.Deeds.{deeds_in, is_cut};
 ghost use Rattle.cert_sched.specs.Legal.{IsLegalBy, Stands};
 ghost use Rattle.cert_sched.specs.Moved.{is_fetch, is_page_is};
-ghost use Rattle.cert_sched.specs.Record.{backup_record};
+ghost use Rattle.cert_sched.specs.Record.{backup_record, has_state};
 ghost use Rattle.cert_sched.specs.Simulation.{IsUnended};
 ghost use Rattle.backup_records.specs.Records.{record_after};
 ghost use Rattle.page_laws.specs.Next.{moves_next};
 ghost use Rattle.page_waits.specs.Waiting.{page_count as pages_of, with_page, WaitingState};
 ghost use Rattle.wait_laws.specs.Waits.{first_wait, none_queued, WaitsAs};
 
-/// A law and no code: a process that a crash moves waits for all its pages from then on.
+/// A law and no code: a process that a crash moves with a state waits for all its pages from then on.
 pub fn waits_begin()
-    // Its record has a state of 1 to 256 pages,
-    ensures some { (system : System) (log : List Entry) (p : Pid) (kept : BackRec) → is_system system ≡ true → IsLegalBy Stands system log → IsUnended system log p → backup_record system log p ≡ Some kept → 1 ≤ pages_of kept }
-    ensures at_most { (system : System) (log : List Entry) (p : Pid) (kept : BackRec) → is_system system ≡ true → IsLegalBy Stands system log → IsUnended system log p → backup_record system log p ≡ Some kept → pages_of kept ≤ 256 }
+    // Its record has 1 to 256 pages,
+    ensures some { (system : System) (log : List Entry) (p : Pid) (kept : BackRec) → is_system system ≡ true → IsLegalBy Stands system log → IsUnended system log p → has_state system log p ≡ true → backup_record system log p ≡ Some kept → 1 ≤ pages_of kept }
+    ensures at_most { (system : System) (log : List Entry) (p : Pid) (kept : BackRec) → is_system system ≡ true → IsLegalBy Stands system log → IsUnended system log p → has_state system log p ≡ true → backup_record system log p ≡ Some kept → pages_of kept ≤ 256 }
     // and none of them was asked for.
-    ensures begins { (system : System) (log : List Entry) (e : Entry) (p : Pid) (kept : BackRec) → is_system system ≡ true → IsLegalBy Stands system (log ++ e ∷ []) → IsUnended system log p → moves_next system log e p ≡ true → backup_record system log p ≡ Some kept → WaitsAs system (log ++ e ∷ []) p none_queued (first_wait kept) }
+    ensures begins { (system : System) (log : List Entry) (e : Entry) (p : Pid) (kept : BackRec) → is_system system ≡ true → IsLegalBy Stands system (log ++ e ∷ []) → IsUnended system log p → has_state system log p ≡ true → moves_next system log e p ≡ true → backup_record system log p ≡ Some kept → WaitsAs system (log ++ e ∷ []) p none_queued (first_wait kept) }
 {}
 
 /// A law and no code: what an entry that tells of no deed of the process, and is no cut of it and no crash that moves it, makes of its wait.

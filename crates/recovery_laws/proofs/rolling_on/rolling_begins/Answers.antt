@@ -1,5 +1,6 @@
 use Rattle.recovery_laws.proofs.Beginning.{rolls_from_start, rolls_from_record}
-use Rattle.recovery_laws.proofs.ByRule.{begins_behind, standing_stated, standing_from_start}
+use Rattle.recovery_laws.proofs.ByRule.{begins_behind, standing_from_kept, standing_from_start}
+use Rattle.recovery_laws.proofs.FromStart.{record_stated, stated_at_start}
 use Rattle.recovery_laws.proofs.rolling_on.rolling_begins.Goals as goal
 
 pub returns-clause-start : goal.returns-clause-start
@@ -11,8 +12,14 @@ returns-clause-recorded c = rolls_from_record
 pub returns-clause-behind : goal.returns-clause-behind
 returns-clause-behind c = begins_behind
 
+pub returns-clause-has_state : goal.returns-clause-has_state
+returns-clause-has_state c = record_stated
+
 pub returns-clause-stated : goal.returns-clause-stated
-returns-clause-stated c = standing_stated
+returns-clause-stated c = stated_at_start
+
+pub returns-clause-from_kept : goal.returns-clause-from_kept
+returns-clause-from_kept c = standing_from_kept
 
 pub returns-clause-from_start : goal.returns-clause-from_start
 returns-clause-from_start c = standing_from_start
