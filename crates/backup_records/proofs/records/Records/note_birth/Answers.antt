@@ -4,7 +4,7 @@ use Rattle.std.proofs.lemmas.Result.{on_err_weaker}
 use Rattle.t32_base.specs.declared.letter.BackRec.{BackRec}
 use Rattle.bus_msg.specs.Places.{same_pid}
 use Rattle.backup_records.specs.Records.{record_of_child, with_record}
-use Rattle.backup_records.proofs.RecordLaws.{put_goes}
+use Rattle.backup_records.proofs.BirthLaws.{put_goes}
 use Rattle.backup_records.proofs.records.Records.note_birth.Goals as goal
 
 -- the child's record, which was put, goes again
