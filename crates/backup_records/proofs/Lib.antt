@@ -1,2 +1,3 @@
 pub mod ByPidLaws
 pub mod RecordLaws
+pub mod BirthLaws

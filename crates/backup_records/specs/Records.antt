@@ -1,5 +1,5 @@
 -- The records that a cluster keeps of the processes whose backup it has, by rising pid, and what an entry makes of them.
-use Rattle.std.specs.Prelude.{ℕ, ◌≡◌, ◌+◌, ◌-◌, ◌^◌, ◌<◌, Bool, true, false, not, ◌&&◌, nat_lt, if◌then◌else◌, List, [], ◌∷◌, map, filter, find, Option, Some}
+use Rattle.std.specs.Prelude.{ℕ, ◌≡◌, ◌+◌, ◌-◌, ◌^◌, ◌<◌, Bool, true, false, not, ◌&&◌, nat_lt, if◌then◌else◌, List, [], ◌∷◌, ◌++◌, map, filter, find, Option, Some, None, is_some}
 use Rattle.std.specs.List.{list_all}
 use Rattle.t32_base.specs.declared.process.Pid.{Pid}
 use Rattle.t32_base.specs.declared.letter.Letter.{Letter}
@@ -53,6 +53,24 @@ saved_by_receiver letter r = if is_receiver r.pid letter.to then with_saved lett
 abbrev pub counted_by_sender : Letter → BackRec → BackRec
 counted_by_sender letter r = if same_pid letter.from r.pid then with_counted letter r else r
 
+-- ---- a birth
+
+-- a child is born last
+abbrev pub with_child : Pid → BackRec → BackRec
+with_child child r = record r { births = r.births ++ child ∷ [] }
+
+-- it is born by its parent
+abbrev pub with_child_of : Pid → Pid → BackRec → BackRec
+with_child_of parent child r = if same_pid parent r.pid then with_child child r else r
+
+-- the record of a child that was born: it has no state, nothing was saved, and it has done nothing
+abbrev pub record_of_child : Pid → BackRec
+record_of_child child = record { pid = child; state = None; saved = []; next = 0; counts = no_counts; births = [] }
+
+-- where the record of its parent is here, that has the child last in its births, and the child has a record of its own
+abbrev pub with_birth : Pid → Pid → List BackRec → List BackRec
+with_birth parent child recs = if is_some (record_in recs parent) then map (with_child_of parent child) (with_record (record_of_child child) recs) else recs
+
 -- ---- a synchronisation
 
 -- a record is cut: the state is the one of the synchronisation, the letters that were read go, and nothing was sent and no child born since
@@ -72,16 +90,17 @@ CanCut p read recs = (r : BackRec) → record_in recs p ≡ Some r → AreFronts
 -- what an entry makes of the record of a process that goes on
 abbrev pub record_after : What → BackRec → BackRec
 record_after (Mail at letter) r = counted_by_sender letter (saved_by_receiver letter r)
+record_after (Birth parent at child end) r = with_child_of parent child r
 record_after (Sync pid small read took) r = cut_of_synced pid small read r
 record_after w r = r
 
--- What an entry makes of the records: a letter is saved and counted, a synchronisation cuts the record of its process, and the record of a process
--- that ended is there no more. The other kinds that change records leave them as they are here: births and new backups, which no cluster sends yet, and
+-- What an entry makes of the records: a letter is saved and counted, a child is born, a synchronisation cuts the record of its process, and the record of
+-- a process that ended is there no more. The other kinds that change records leave them as they are here: new backups, which no cluster sends yet, and
 -- losses, at which records leave.
 abbrev pub records_after : What → List BackRec → List BackRec
 records_after (Mail at letter) recs = map (record_after (Mail at letter)) recs
 records_after (Exit pid at end) recs = filter (λ (r : BackRec). not (same_pid r.pid pid)) recs
-records_after (Birth parent at child end) recs = recs
+records_after (Birth parent at child end) recs = with_birth parent child recs
 records_after (Page pid at index bytes) recs = recs
 records_after (Sync pid small read took) recs = map (record_after (Sync pid small read took)) recs
 records_after (Fetch pid index) recs = recs
@@ -102,8 +121,9 @@ CanSave letter recs = (p : Pid) (r : BackRec) → is_receiver p letter.to ≡ tr
 abbrev pub CanCount : Letter → List BackRec → Type 0
 CanCount letter recs = (r : BackRec) → record_in recs letter.from ≡ Some r → (letter.out < 32) × (count_for r.counts letter < 2 ^ 32 - 1)
 
--- Of a letter both. Of a synchronisation: its process read the letters of its record from the fronts of its ends.
+-- Of a letter both. Of a birth: the child has no record yet. Of a synchronisation: its process read the letters of its record from the fronts of its ends.
 abbrev pub CanNote : What → List BackRec → Type 0
 CanNote (Mail at letter) recs = CanSave letter recs × CanCount letter recs
+CanNote (Birth parent at child end) recs = record_in recs child ≡ None
 CanNote (Sync pid small read took) recs = CanCut pid read recs
 CanNote w recs = Unit {0}

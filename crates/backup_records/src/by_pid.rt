@@ -6,7 +6,7 @@ ghost use Rattle.std.specs.Ordering.{nat_cmp};
 ghost use Rattle.t32_base.specs.declared.letter.BackRec.{BackRec};
 ghost use Rattle.write_count.specs.Counting.{count_for};
 ghost use Rattle.crash_notice.specs.Splitting.{moves_here};
-ghost use Rattle.backup_records.specs.Records.{with_saved, with_counted, with_cut};
+ghost use Rattle.backup_records.specs.Records.{with_child, with_counted, with_cut, with_saved};
 ghost use Rattle.backup_queue.specs.Fronts.{AreFronts, AreOnEnds};
 ghost use Rattle.backup_records.specs.ByPid.{changed_at, left_after, taken_at};
 
@@ -17,7 +17,7 @@ use std::alloc::Global;
 use std::collections::{BTreeMap, VecDeque};
 use t32_base::letter::Letter;
 use t32_base::lists::List;
-use t32_base::process::{ClusterNo, Small};
+use t32_base::process::{ClusterNo, Pid, Small};
 use t32_base::streams::NoMemory;
 
 /// The record of a process saves a letter, if it is there. The letter's bytes are shared. After want of memory no
@@ -44,6 +44,17 @@ pub fn count_at(records: &mut BTreeMap<u32, Record>, pid: u32, letter: &Letter)
 {
     if let Some(record) = records.get_mut(&pid) {
         record.count(letter);
+    }
+}
+
+/// The record of a process gets a child last in its births, if it is there. After want of memory no record has changed.
+pub fn bear_at(records: &mut BTreeMap<u32, Record>, pid: u32, child: Pid) -> Result<(), NoMemory>
+    ensures ok { OnOk result (records.new.entries ≡ changed_at pid (with_child child) records.old.entries) }
+    ensures err { OnErr result (records.new.entries ≡ records.old.entries) }
+{
+    match records.get_mut(&pid) {
+        Some(record) => record.add_birth(child),
+        None => Ok(()),
     }
 }
 

@@ -1,12 +1,12 @@
 //! The records of a cluster, and what an entry changes in them.
-ghost use Rattle.std.specs.Prelude.{◌≡◌, ◌-◌, ◌^◌, ◌<◌, Some, [], IfOk, OnOk, OnErr, filter, length, map, not, true, if◌then◌else◌};
+ghost use Rattle.std.specs.Prelude.{◌≡◌, ◌-◌, ◌^◌, ◌<◌, None, Some, [], IfOk, OnOk, OnErr, filter, length, map, not, true, if◌then◌else◌};
 ghost use Rattle.std.specs.Option.{option_copied};
 ghost use Rattle.t32_base.specs.declared.letter.BackRec.{BackRec};
 ghost use Rattle.bus_msg.specs.Places.{same_pid};
 ghost use Rattle.crash_notice.specs.Splitting.{moves_here, stays};
-ghost use Rattle.backup_records.specs.Records.{CanCount, CanCut, CanNote, CanSave, are_rising, counted_by_sender, cut_of_synced, record_in, records_after, saved_by_receiver, with_record, with_saved};
+ghost use Rattle.backup_records.specs.Records.{CanCount, CanCut, CanNote, CanSave, are_rising, counted_by_sender, cut_of_synced, record_in, records_after, saved_by_receiver, with_birth, with_child_of, with_record, with_saved};
 
-use crate::by_pid::{count_at, cut_at, moved_pids, save_at, take_out};
+use crate::by_pid::{bear_at, count_at, cut_at, moved_pids, save_at, take_out};
 use backup_queue::record::Record;
 use bus_msg::entry::What;
 use channel_table::placement::Placement;
@@ -18,10 +18,12 @@ use t32_base::lists::List;
 use t32_base::process::{ClusterNo, Pid, Small};
 use t32_base::streams::NoMemory;
 
-/// The records that a cluster keeps of the processes whose backup it has, by rising pid.
+/// The records that a cluster keeps of the processes whose backup it has, by rising pid; and the memory for those of
+/// children.
 #[derive(Drop)]
 pub struct Records {
     by_pid: BTreeMap<u32, Record>,
+    alloc: Global,
 }
 
 impl Model for Records {
@@ -44,6 +46,7 @@ impl Records {
     {
         Records {
             by_pid: BTreeMap::new(alloc),
+            alloc,
         }
     }
 
@@ -74,7 +77,8 @@ impl Records {
     }
 
     /// What an entry changes: a letter is saved by the record of its receiver and counted by that of its
-    /// sender, the record of a process that synchronised is cut, and that of one that ended goes. A cluster calls
+    /// sender, a child gets a record where that of its parent is here, which then has it last in its births, the
+    /// record of a process that synchronised is cut, and that of one that ended goes. A cluster calls
     /// it for each entry that goes to it. After want of memory the records are as they were.
     pub fn note(&mut self, what: &What) -> Result<(), NoMemory>
         requires { CanNote what.now self.old }
@@ -87,8 +91,7 @@ impl Records {
                 self.let_go(*pid);
                 Ok(())
             }
-            // The parent's record gets the child, and the child a record of its own.
-            What::Birth { .. } => Ok(()),
+            What::Birth { parent, child, .. } => self.note_birth(*parent, *child),
             What::Sync {
                 pid,
                 small,
@@ -149,6 +152,32 @@ impl Records {
         self.save(letter)?;
         self.count(letter);
         Ok(())
+    }
+
+    // A child is born: where the record of its parent is here, the child gets one too, and is last in the births of
+    // that. Where the parent's is refused memory, the child's goes again.
+    fn note_birth(&mut self, parent: Pid, child: Pid) -> Result<(), NoMemory>
+        requires { record_in self.old child ≡ None }
+        ensures ok { OnOk result (self.new ≡ with_birth parent child self.old) }
+        ensures err { OnErr result (self.new ≡ self.old) }
+    {
+        if self.get(parent).is_none() {
+            return Ok(());
+        }
+        self.add(Record::new(self.alloc, child, None))?;
+        let born = self.bear(parent, child);
+        if born.is_err() {
+            self.let_go(child);
+        }
+        born
+    }
+
+    // The record of a parent has a child last in its births.
+    fn bear(&mut self, parent: Pid, child: Pid) -> Result<(), NoMemory>
+        ensures ok { OnOk result (self.new ≡ map (with_child_of parent child) self.old) }
+        ensures err { OnErr result (self.new ≡ self.old) }
+    {
+        bear_at(&mut self.by_pid, parent.0, child)
     }
 
     // The record of its receiver saves a letter.

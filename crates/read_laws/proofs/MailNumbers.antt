@@ -29,17 +29,19 @@ use Rattle.sys_calls.specs.Calls.{Next, Silent, Blocked, Forks, Emits, Over, Cal
 use Rattle.sys_calls.specs.declared.reading.Reading.{Reading}
 use Rattle.sys_calls.specs.declared.reading.Reading.TheVariants.{Refused, AtEnd, Wants}
 use Rattle.sys_calls.specs.declared.reading.Wanted.{Wanted}
+use Rattle.sys_calls.specs.Fork.{fork_child, fork_parent}
 use Rattle.sys_calls.specs.Next.{next_step, step_by, live_step, after_exec, closing_step}
 use Rattle.plain_kernel.specs.Kernel.{Kernel, pid_cmp, process_at, with_process, boot, emitted}
-use Rattle.plain_kernel.specs.Apply.{after_step, one_step}
+use Rattle.plain_kernel.specs.Apply.{after_step, fork_step, one_step}
 use Rattle.plain_kernel.proofs.AtBoot.{boot-each}
 use Rattle.plain_kernel.proofs.Entries.{some_same}
+use Rattle.plain_kernel.proofs.Forking.{fork_made}
 use Rattle.plain_kernel.proofs.Laws.{process_at-with_process}
 use Rattle.bus_msg.specs.declared.entry.Entry.{Entry}
 use Rattle.cert_sched.specs.Schedule.{plain_after, process_after}
 use Rattle.cert_sched.specs.Deeds.{is_end_of}
 use Rattle.cert_sched.proofs.MailLaws.{received, process_at-emitted}
-use Rattle.cert_sched.proofs.StepLaws.{plain_after-keeps}
+use Rattle.cert_sched.proofs.StepLaws.{log_keeps_all}
 use Rattle.read_laws.specs.Numbered.{are_above, are_below, are_in_order, are_numbered}
 
 abbrev pub IsNumbered : ProcState → Type 0
@@ -233,6 +235,13 @@ one_step-numbered p k j all made = by_process (process_at k p) refl made
     by_process None there e = cc
     by_process (Some s) there e = by_next (next_step s) (next_numbered s (all p s there)) e
 
+-- a fork leaves the mailbox of the parent, and that of the child is empty
+fork_step-numbered : (p c : Pid) (k j : Kernel) → AllNumbered k → fork_step p c k ≡ Some j → AllNumbered j
+unfolding AllNumbered
+fork_step-numbered p c k j all made =
+    let f = fork_made p c k j made in
+    subst AllNumbered f.after (put_numbered (with_process k p (fork_parent f.was c)) c (fork_child f.was c) (put_numbered k p (fork_parent f.was c) all (all p f.was f.there)) refl)
+
 -- ---- after a log
 
 pub process_numbered : (system : System) (log : List Entry) (p : Pid) (s : ProcState) → process_after system log p ≡ Some s → IsNumbered s
@@ -241,4 +250,4 @@ process_numbered system log p s there = by_kernel (plain_after system log) refl 
   where
     by_kernel : (o : Option Kernel) → plain_after system log ≡ o → option_and_then (λ k. process_at k p) o ≡ Some s → IsNumbered s
     by_kernel None is e = cc
-    by_kernel (Some k) is e = plain_after-keeps AllNumbered one_step-numbered system log k (boot_numbered system) is p s e
+    by_kernel (Some k) is e = log_keeps_all AllNumbered one_step-numbered fork_step-numbered system log k (boot_numbered system) is p s e

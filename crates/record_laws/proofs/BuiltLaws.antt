@@ -1,4 +1,4 @@
--- The entries that are built so far beside the records of a cluster. No process is born in such a log, so none makes more steps than it has left at boot.
+-- The entries that are built so far beside the records of a cluster: no process makes so many steps that its letters could not be counted.
 use Rattle.std.proofs.Common.{◌≡◌, ℕ, ◌-◌, ◌<◌, ◌^◌, refl, sym, arith, List, [], ◌∷◌, ◌++◌, length, true, Option, Some, None, is_some, true≢false}
 use Rattle.t32_base.specs.declared.process.ClusterNo.{ClusterNo}
 use Rattle.t32_base.specs.declared.letter.Letter.{Letter}

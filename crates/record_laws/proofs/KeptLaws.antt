@@ -44,6 +44,8 @@ use Rattle.cert_sched.specs.Deeds.{saved_letters, since}
 use Rattle.cert_sched.specs.Rolling.{refilled}
 use Rattle.cert_sched.specs.Steps.{saved_of, start_steps, steps_since}
 use Rattle.read_laws.proofs.SyncReads.{sync_ends, sync_fronts}
+use Rattle.record_laws.proofs.Backed.{with_backup_unended}
+use Rattle.record_laws.proofs.BirthRecords.{births_kept, none_yet}
 use Rattle.record_laws.proofs.Counts.{count_below, next_fits, starts_from}
 use Rattle.record_laws.proofs.OneRecord.{letter_out, noted_unrenewed, record_follows}
 use Rattle.record_laws.proofs.Standing.{itself, legal_stands}
@@ -99,14 +101,6 @@ others_found p q (r ∷ rest) apart = by_test (same_pid r.pid p) refl (others_fo
     by_test false is more = ap (cond (same_pid r.pid q) (Some r)) more
 
 -- ---- one more entry
-
--- a process that has a backup there has not ended
-pub with_backup_unended : (system : System) (log : List Entry) (k : ClusterNo) (p : Pid) → has_backup_in system log k p ≡ true → IsUnended system log p
-with_backup_unended system log k p has = by_placed (unended_at (placement system log) p) has
-  where
-    by_placed : (o : Option Placed) → option_map_or (λ (q : Placed). is_cluster q.backup k) o false ≡ true → is_some o ≡ true
-    by_placed None h = absurd (true≢false (sym h))
-    by_placed (Some q) h = refl
 
 module _ (system : System) (log : List Entry) (e : Entry) (k : ClusterNo) (recs : List BackRec) (valid : is_system system ≡ true) (legal : IsLegalBy Stands system (log ++ e ∷ [])) (keeps : KeepsRecords system log k recs) where
   abbrev backed : Option Placed → Bool
@@ -181,7 +175,7 @@ module _ (system : System) (log : List Entry) (e : Entry) (k : ClusterNo) (recs 
 
   by_kind : (w : What) → what e ≡ w → changes_in_place w ≡ true → KeepsRecords system (log ++ e ∷ []) k (records_after w recs)
   by_kind (Mail at letter) is h = in_place (Mail at letter) is refl (λ p. refl) (λ p. record_mapped (record_after (Mail at letter)) (letter_pid letter) recs p)
-  by_kind (Birth parent at child end) is h = absurd (true≢false (sym h))
+  by_kind (Birth parent at child end) is h = births_kept system log e valid legal parent at child end is k recs keeps
   by_kind (Exit q at end) is h = after_end q at end is
   by_kind (Page pid at index bytes) is h = in_place (Page pid at index bytes) is refl (λ p. refl) (λ p. all_same recs p)
   by_kind (Sync q small read took) is h = in_place (Sync q small read took) is refl (synced_backed q small read took) (λ p. record_mapped (record_after (Sync q small read took)) (cut_pid q small read) recs p)
@@ -304,7 +298,7 @@ note_by system log e k recs valid legal room keeps can = by_what (what e) refl
 
     by_what : (w : What) → what e ≡ w → CanNote w recs
     by_what (Mail at letter) is = letter_fits at letter is
-    by_what (Birth parent at child end) is = tt
+    by_what (Birth parent at child end) is = none_yet system log e valid legal parent at child end is k recs keeps
     by_what (Exit q at end) is = tt
     by_what (Page pid at index bytes) is = tt
     by_what (Sync q small read None) is = cut_fits q small read is

@@ -1,6 +1,8 @@
 pub mod OneRecord
 pub mod Standing
 pub mod Counts
+pub mod Backed
+pub mod BirthRecords
 pub mod KeptLaws
 pub mod LossLaws
 pub mod BuiltLaws

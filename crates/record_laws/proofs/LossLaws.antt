@@ -24,7 +24,7 @@ use Rattle.cert_sched.proofs.RollLaws.{all_roll, two_apart}
 use Rattle.crash_notice.specs.Splitting.{is_moved_here, stays}
 use Rattle.backup_records.specs.Records.{record_in, record_after}
 use Rattle.record_laws.specs.Kept.{KeepsRecords, has_backup_in, is_renewed}
-use Rattle.record_laws.proofs.KeptLaws.{with_backup_unended}
+use Rattle.record_laws.proofs.Backed.{with_backup_unended}
 use Rattle.record_laws.proofs.OneRecord.{record_follows}
 use Rattle.record_laws.proofs.Standing.{itself}
 

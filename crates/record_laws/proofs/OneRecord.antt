@@ -27,7 +27,7 @@ use Rattle.bus_msg.specs.declared.entry.What.TheVariants.{Mail, Birth, Exit, Pag
 use Rattle.bus_msg.specs.declared.entry.Entry.{Entry}
 use Rattle.bus_msg.specs.Places.{same_pid}
 use Rattle.bus_msg.specs.PlacedAfter.{what}
-use Rattle.roll_forward.specs.Deeds.{Deed, Sends, letter_in, child_in, letters_in, births_in}
+use Rattle.roll_forward.specs.Deeds.{Bears, Deed, Sends, letter_in, child_in, letters_in, births_in}
 use Rattle.cert_sched.specs.Parts.{after_last}
 use Rattle.cert_sched.specs.Schedule.{done, items_of, process_after, run_upto}
 use Rattle.cert_sched.specs.Deeds.{starts, is_cut, is_birth_of, start_of, since, deeds_in, letter_for, to_process, letters_to, numbered, arrived_count, saved_letters}
@@ -37,15 +37,16 @@ use Rattle.cert_sched.specs.Legal.{IsLegalBy, Stands}
 use Rattle.cert_sched.specs.Simulation.{IsUnended}
 use Rattle.cert_sched.proofs.LogLaws.{IsLegal-before, IsLegal-last}
 use Rattle.cert_sched.proofs.RecordLaws.{arrived_count-other, backup_record-cut, backup_record-other, backup_record-goes_on}
-use Rattle.cert_sched.proofs.StepLaws.{is_sent, no_birth, no_signal_taken, process_after-silent, sent_from}
+use Rattle.cert_sched.proofs.StepLaws.{is_sent, no_signal_taken, process_after-silent, sent_from}
 use Rattle.cert_sched.proofs.EndsLaws.{process_after-ends}
+use Rattle.cert_sched.proofs.BornLaws.{there_not_born}
 use Rattle.cert_sched.proofs.CameLaws.{IsStandingRule, same_of}
 use Rattle.cert_sched.proofs.RollLaws.{Rolls, all_roll}
 use Rattle.cert_sched.proofs.OpenLaws.{unended_open}
 use Rattle.cert_sched.proofs.ThereLaws.{unended_there}
 use Rattle.read_laws.proofs.SyncReads.{sync_left, synced}
 use Rattle.backup_queue.specs.Queue.{unread}
-use Rattle.backup_records.specs.Records.{record_after, saved_by_receiver, counted_by_sender, is_receiver, with_cut, with_saved, with_counted}
+use Rattle.backup_records.specs.Records.{record_after, saved_by_receiver, counted_by_sender, is_receiver, with_child, with_cut, with_saved, with_counted}
 use Rattle.record_laws.specs.Kept.{is_noted, is_renewed}
 use Rattle.record_laws.proofs.Standing.{legal_stands}
 
@@ -124,6 +125,27 @@ record_told at letter p stated saved next deeds start out =
     ∙ ap (λ x. cond sends (with_counted letter x) x) (receiver_more receives letter p stated saved next deeds start)
     ∙ sym (told_by receives sends letter r refl refl)
 
+-- ---- a birth
+
+letters_same : (deeds : List Deed) (child : Pid) → letters_in (deeds ++ Bears child ∷ []) ≡ letters_in deeds
+letters_same deeds child = flat_map-append letter_in deeds (Bears child ∷ []) ∙ append-nil (letters_in deeds)
+
+births_more : (deeds : List Deed) (child : Pid) → births_in (deeds ++ Bears child ∷ []) ≡ births_in deeds ++ child ∷ []
+births_more deeds child = flat_map-append child_in deeds (Bears child ∷ [])
+
+-- a record that has a deed more, where its process bore the child, has the child last in its births
+child_told : (bears : Bool) (child p : Pid) (stated : Bool) (saved : List Arrived) (next : ℕ) (deeds : List Deed) (start : ProcState)
+    → record_with p stated (saved ++ []) (next + 0) (deeds ++ cond bears (Bears child ∷ []) []) start ≡ cond bears (with_child child (record_with p stated saved next deeds start)) (record_with p stated saved next deeds start)
+child_told true child p stated saved next deeds start = λ i. record {
+  pid = p;
+  state = (record_with p stated saved next deeds start).state;
+  saved = append-nil saved i;
+  next = add-zero next i;
+  counts = counts_of (letters_same deeds child i);
+  births = births_more deeds child i;
+}
+child_told false child p stated saved next deeds start = λ i. record_with p stated (append-nil saved i) (add-zero next i) (append-nil deeds i) start
+
 -- ---- one more entry
 
 -- an entry that does not cut the process is no such new backup,
@@ -191,6 +213,24 @@ module _ (system : System) (log : List Entry) (e : Entry) (p : Pid) (valid : is_
             births = exit_births (same_pid q p) end (since log p) i;
           }))
 
+  -- a birth of another process
+  after_birth_of : (parent : Pid) (at : ℕ) (child : Pid) (end : ℕ) → what e ≡ Birth parent at child end → is_birth_of p (what e) ≡ false
+      → backup_record system (log ++ e ∷ []) p ≡ option_map (record_after (Birth parent at child end)) (backup_record system log p)
+  unfolding backup_record
+  after_birth_of parent at child end is other =
+      backup_record-goes_on system log e p (ap (is_cut p) is) other
+      ∙ by_start (start_of system log p)
+    where
+      by_start : (o : Option ProcState) → option_map (λ (s : ProcState). record_with p (has_state system log p)
+          (saved_letters log p s ++ numbered (s.next + length (letters_to p (after_last (starts p) log))) (letter_for p (what e)))
+          (arrived_count log p + length (letter_for p (what e)))
+          (since log p ++ deeds_in p (what e)) s) o ≡ option_map (record_after (Birth parent at child end)) (option_map (record_from system log p) o)
+      by_start None = refl
+      by_start (Some s) =
+          let next : ℕ = s.next + length (letters_to p (after_last (starts p) log)) in
+          ap (λ w. Some (record_with p (has_state system log p) (saved_letters log p s ++ numbered next (letter_for p w)) (arrived_count log p + length (letter_for p w)) (since log p ++ deeds_in p w) s)) is
+          ∙ ap Some (child_told (same_pid parent p) child p (has_state system log p) (saved_letters log p s) (arrived_count log p) (since log p) s)
+
   others_after : (w : What) → what e ≡ w → is_cut p w ≡ false → is_birth_of p w ≡ false → deeds_in p w ≡ [] → letter_for p w ≡ [] → backup_record system (log ++ e ∷ []) p ≡ backup_record system log p
   others_after w is cut birth deeds letters =
       backup_record-other system log e p (ap (is_cut p) is ∙ cut) (ap (is_birth_of p) is ∙ birth) (ap (deeds_in p) is ∙ deeds) (ap (letter_for p) is ∙ letters)
@@ -239,20 +279,20 @@ module _ (system : System) (log : List Entry) (e : Entry) (p : Pid) (valid : is_
 
   -- ---- each kind
 
-  by_kind : (now : ProcState) → Stands system log e → Rolls system log p now → (w : What) → what e ≡ w → is_renewed p w ≡ false → backup_record system (log ++ e ∷ []) p ≡ option_map (record_after w) (backup_record system log p)
-  by_kind now stands rolls (Mail at letter) is none = after_letter at letter now is stands rolls
-  by_kind now stands rolls (Birth parent at child end) is none = absurd (no_birth system log e parent at child end is stands.applies)
-  by_kind now stands rolls (Exit q at end) is none = after_exit_of q at end is ∙ kept_by (record_after (Exit q at end)) (λ r. refl) (backup_record system log p)
-  by_kind now stands rolls (Page pid at index bytes) is none = others_after (Page pid at index bytes) is refl refl refl refl ∙ kept_by (record_after (Page pid at index bytes)) (λ r. refl) (backup_record system log p)
-  by_kind now stands rolls (Sync q small read (Some g)) is none = absurd (no_signal_taken system log e q small read g is stands.applies)
-  by_kind now stands rolls (Sync q small read None) is none = after_sync q small read now is stands rolls
-  by_kind now stands rolls (Fetch pid index) is none = others_after (Fetch pid index) is refl refl refl refl ∙ kept_by (record_after (Fetch pid index)) (λ r. refl) (backup_record system log p)
-  by_kind now stands rolls (PageIs pid index bytes) is none = others_after (PageIs pid index bytes) is refl refl refl refl ∙ kept_by (record_after (PageIs pid index bytes)) (λ r. refl) (backup_record system log p)
-  by_kind now stands rolls (Crash k cause) is none = others_after (Crash k cause) is refl refl refl refl ∙ kept_by (record_after (Crash k cause)) (λ r. refl) (backup_record system log p)
-  by_kind now stands rolls (Return k) is none = others_after (Return k) is refl refl refl refl ∙ kept_by (record_after (Return k)) (λ r. refl) (backup_record system log p)
-  by_kind now stands rolls (Rebackup to fresh recs) is none = others_after (Rebackup to fresh recs) is none refl refl refl ∙ kept_by (record_after (Rebackup to fresh recs)) (λ r. refl) (backup_record system log p)
-  by_kind now stands rolls (Done rests) is none = others_after (Done rests) is refl refl refl refl ∙ kept_by (record_after (Done rests)) (λ r. refl) (backup_record system log p)
-  by_kind now stands rolls Stop is none = others_after Stop is refl refl refl refl ∙ kept_by (record_after Stop) (λ r. refl) (backup_record system log p)
+  by_kind : (now : ProcState) → Stands system log e → is_birth_of p (what e) ≡ false → Rolls system log p now → (w : What) → what e ≡ w → is_renewed p w ≡ false → backup_record system (log ++ e ∷ []) p ≡ option_map (record_after w) (backup_record system log p)
+  by_kind now stands other rolls (Mail at letter) is none = after_letter at letter now is stands rolls
+  by_kind now stands other rolls (Birth parent at child end) is none = after_birth_of parent at child end is other
+  by_kind now stands other rolls (Exit q at end) is none = after_exit_of q at end is ∙ kept_by (record_after (Exit q at end)) (λ r. refl) (backup_record system log p)
+  by_kind now stands other rolls (Page pid at index bytes) is none = others_after (Page pid at index bytes) is refl refl refl refl ∙ kept_by (record_after (Page pid at index bytes)) (λ r. refl) (backup_record system log p)
+  by_kind now stands other rolls (Sync q small read (Some g)) is none = absurd (no_signal_taken system log e q small read g is stands.applies)
+  by_kind now stands other rolls (Sync q small read None) is none = after_sync q small read now is stands rolls
+  by_kind now stands other rolls (Fetch pid index) is none = others_after (Fetch pid index) is refl refl refl refl ∙ kept_by (record_after (Fetch pid index)) (λ r. refl) (backup_record system log p)
+  by_kind now stands other rolls (PageIs pid index bytes) is none = others_after (PageIs pid index bytes) is refl refl refl refl ∙ kept_by (record_after (PageIs pid index bytes)) (λ r. refl) (backup_record system log p)
+  by_kind now stands other rolls (Crash k cause) is none = others_after (Crash k cause) is refl refl refl refl ∙ kept_by (record_after (Crash k cause)) (λ r. refl) (backup_record system log p)
+  by_kind now stands other rolls (Return k) is none = others_after (Return k) is refl refl refl refl ∙ kept_by (record_after (Return k)) (λ r. refl) (backup_record system log p)
+  by_kind now stands other rolls (Rebackup to fresh recs) is none = others_after (Rebackup to fresh recs) is none refl refl refl ∙ kept_by (record_after (Rebackup to fresh recs)) (λ r. refl) (backup_record system log p)
+  by_kind now stands other rolls (Done rests) is none = others_after (Done rests) is refl refl refl refl ∙ kept_by (record_after (Done rests)) (λ r. refl) (backup_record system log p)
+  by_kind now stands other rolls Stop is none = others_after Stop is refl refl refl refl ∙ kept_by (record_after Stop) (λ r. refl) (backup_record system log p)
 
 -- an entry that is no new backup for a process after it has run makes of its record, where it has not ended, what `record_after` makes of it
 pub record_follows : (May : System → List Entry → Entry → Type 0) → IsStandingRule May → (system : System) (log : List Entry) (e : Entry) (p : Pid) → is_system system ≡ true → IsLegalBy May system (log ++ e ∷ []) → is_renewed p (what e) ≡ false → IsUnended system log p
@@ -265,5 +305,6 @@ record_follows May standing system log e p valid legal none unended = by_process
     by_process : (o : Option ProcState) → process_after system log p ≡ o → is_some o ≡ true → backup_record system (log ++ e ∷ []) p ≡ option_map (record_after (what e)) (backup_record system log p)
     by_process None there some = absurd (true≢false (sym some))
     by_process (Some now) there some =
-        by_kind system log e p valid (legal_stands May standing system log before) unended now (standing system log e (IsLegal-last May system log e legal))
+        let stands = standing system log e (IsLegal-last May system log e legal) in
+        by_kind system log e p valid (legal_stands May standing system log before) unended now stands (there_not_born system log e p now stands.applies there)
         ((all_roll May standing system log valid before).rolls p now there (unended_open May standing system log p valid before unended now there)) (what e) refl none

@@ -9,7 +9,7 @@ use Rattle.write_count.specs.Counting.{no_counts}
 use Rattle.proc_state.specs.State.{ProcState}
 use Rattle.plain_kernel.specs.Kernel.{boot}
 use Rattle.bus_msg.specs.declared.entry.What.{What}
-use Rattle.bus_msg.specs.declared.entry.What.TheVariants.{Birth, Crash, Rebackup}
+use Rattle.bus_msg.specs.declared.entry.What.TheVariants.{Crash, Rebackup}
 use Rattle.bus_msg.specs.declared.entry.Entry.{Entry}
 use Rattle.bus_msg.specs.declared.placed.Placed.{Placed}
 use Rattle.bus_msg.specs.Places.{is_cluster, unended_at}
@@ -38,9 +38,8 @@ boot_records_of system k processes = map record_at_boot (filter (λ (e : Pid × 
 abbrev pub records_at_boot : System → ClusterNo → List BackRec
 records_at_boot system k = boot_records_of system k (boot system).processes
 
--- the kinds whose change of the record of a process that goes on is what `record_after` makes of it: all but births and new backups
+-- the kinds whose change of the record of a process that goes on is what `record_after` makes of it: all but new backups
 abbrev pub is_noted : What → Bool
-is_noted (Birth parent at child end) = false
 is_noted (Rebackup to fresh recs) = false
 is_noted w = true
 

@@ -8,7 +8,7 @@ ghost use Rattle.sys_text.specs.declared.system.System.{System};
 ghost use Rattle.sys_text.specs.Valid.{is_system};
 ghost use Rattle.proc_state.specs.State.{ProcState};
 ghost use Rattle.write_count.specs.Counting.{count_for};
-ghost use Rattle.bus_msg.specs.declared.entry.What.TheVariants.{Crash, Mail};
+ghost use Rattle.bus_msg.specs.declared.entry.What.TheVariants.{Birth, Crash, Mail};
 ghost use Rattle.bus_msg.specs.declared.entry.Cause.{Cause};
 ghost use Rattle.bus_msg.specs.Places.{same_cluster};
 ghost use Rattle.bus_msg.specs.declared.entry.Entry.{Entry};
@@ -20,7 +20,7 @@ ghost use Rattle.cert_sched.specs.Legal.{IsLegal, IsLegalBy, Stands};
 ghost use Rattle.cert_sched.specs.Built.{BuiltMayFollow};
 ghost use Rattle.cert_sched.specs.Record.{backup_record};
 ghost use Rattle.cert_sched.specs.Simulation.{IsUnended};
-ghost use Rattle.backup_records.specs.Records.{CanNote, record_after, record_in, records_after};
+ghost use Rattle.backup_records.specs.Records.{CanNote, record_after, record_in, record_of_child, records_after};
 ghost use Rattle.record_laws.specs.Kept.{KeepsRecords, changes_in_place, is_renewed};
 
 /// A law and no code: in a legal log each entry stands, and so it does in one of the entries that are built so far.
@@ -36,9 +36,14 @@ pub fn records_follow()
 {}
 
 /// A law and no code: where the records of a cluster are those of the log, what an entry makes of them are those
-/// of the log with it, if it is no birth, no new backup and no loss.
+/// of the log with it, if it is no new backup and no loss.
 pub fn records_are_kept()
     ensures { (system : System) (log : List Entry) (e : Entry) (k : ClusterNo) (recs : List BackRec) → is_system system ≡ true → IsLegalBy Stands system (log ++ e ∷ []) → changes_in_place (what e) ≡ true → KeepsRecords system log k recs → KeepsRecords system (log ++ e ∷ []) k (records_after (what e) recs) }
+{}
+
+/// A law and no code: a child that was born has a record without a state, in which nothing was saved and counted.
+pub fn children_begin()
+    ensures { (system : System) (log : List Entry) (e : Entry) (parent : Pid) (at : ℕ) (child : Pid) (end : ℕ) → is_system system ≡ true → IsLegalBy Stands system (log ++ e ∷ []) → what e ≡ Birth parent at child end → backup_record system (log ++ e ∷ []) child ≡ Some (record_of_child child) }
 {}
 
 /// A law and no code: where the records of a cluster are those of the log, those that stay at the loss of another

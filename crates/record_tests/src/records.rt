@@ -7,6 +7,7 @@ ghost use Rattle.t32_base.specs.declared.letter.BackRec.{BackRec};
 ghost use Rattle.t32_base.specs.declared.letter.To.TheVariants.{Proc};
 ghost use Rattle.t32_base.specs.declared.letter.Body.TheVariants.{EndOf};
 
+use backup_queue::reading::{reads_are_fronts, reads_are_on_ends};
 use backup_queue::record::Record;
 use backup_records::records::Records;
 use bus_msg::entry::What;
@@ -364,4 +365,106 @@ fn a_synchronisation_that_is_noted_cuts_the_record(rt: HostRuntime) -> Result<()
         &cut_by_entry(rt.alloc())?,
         &(Some((1000, 2, 0)), Some(1)),
     )
+}
+
+// The process 16 bears 80, which may be noted in these tests.
+fn note_birth(records: &mut Records) -> Result<(), Fail> {
+    if records.get(Pid(80)).is_some() {
+        return Err("the birth may not be noted".into());
+    }
+    records.note(&What::Birth {
+        parent: Pid(16),
+        at: 1,
+        child: Pid(80),
+        end: 1,
+    })?;
+    Ok(())
+}
+
+// The synchronisation of 80, which has read no letter.
+fn none_read(alloc: Global) -> Result<What, NoMemory>
+    ensures { IfOk result (λ what. (recs : List BackRec) → CanNote what recs) }
+{
+    reads_are_fronts();
+    reads_are_on_ends();
+    Ok(What::Sync {
+        pid: Pid(80),
+        small: Shared::new(alloc, fresh_state(alloc)?)?,
+        read: List::new(alloc),
+        took: None,
+    })
+}
+
+// Whether the record of 80 has a state, and how many letters it has saved.
+fn child_told(records: &Records) -> Option<(bool, u64)> {
+    let record = records.get(Pid(80))?;
+    Some((record.state().is_some(), record.next()))
+}
+
+// Records of 17 and 16, of which 16 bears 80; 17 sends 80 a letter, and 80 synchronises.
+fn with_child(alloc: Global) -> Result<(Records, [Option<(bool, u64)>; 3]), Fail> {
+    let mut kept = records(alloc, &[17, 16])?;
+    note_birth(&mut kept)?;
+    let born = child_told(&kept);
+    let letter = line(alloc, 17, To::Proc(Pid(80), 1))?;
+    note(&mut kept, letter)?;
+    let sent = child_told(&kept);
+    kept.note(&none_read(alloc)?)?;
+    let told = [born, sent, child_told(&kept)];
+    Ok((kept, told))
+}
+
+const CHILD: Placed = Placed {
+    pid: Pid(80),
+    ..FIRST
+};
+
+// The records that move at the loss of cluster 0, the home of 16 and 80.
+fn family_moved(alloc: Global, kept: &mut Records) -> Result<List<Record>, NoMemory> {
+    let before = Placement::boot(
+        alloc,
+        3,
+        (ClusterNo(0), ClusterNo(1)),
+        &[FIRST, AWAY, CHILD],
+    )?;
+    kept.take_moved(alloc, ClusterNo(0), ClusterNo(1), &before)
+}
+
+// The only child that the first of these records has.
+fn first_birth(records: &List<Record>) -> Option<u32> {
+    match records.as_slice().first()?.births() {
+        [child] => Some(child.0),
+        _ => None,
+    }
+}
+
+// What is told of the child as it goes on; the two that move, the child of the first, and the letter of the last.
+type Family = (
+    [Option<(bool, u64)>; 3],
+    Option<(u32, u32)>,
+    Option<u32>,
+    Option<(u64, Option<[u8; 3]>)>,
+);
+
+fn family(alloc: Global) -> Result<Family, Fail> {
+    let (mut kept, told) = with_child(alloc)?;
+    let moved = family_moved(alloc, &mut kept)?;
+    let pids = two_pids(&moved);
+    let child = first_birth(&moved);
+    let letter = saved_last(moved);
+    Ok((told, pids, child, letter.as_ref().map(said)))
+}
+
+const FAMILY: Family = (
+    [Some((false, 0)), Some((false, 1)), Some((true, 1))],
+    Some((16, 80)),
+    Some(80),
+    Some((0, Some(*b"ok\n"))),
+);
+
+#[test]
+fn a_child_that_is_born_has_a_record_and_moves_with_its_parent(
+    rt: HostRuntime,
+) -> Result<(), Fail> {
+    same("the child and its parent", &family(rt.alloc())?, &FAMILY)
 }
