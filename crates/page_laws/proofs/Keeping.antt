@@ -1,5 +1,5 @@
 -- What a process has got it keeps, and what may be asked or answered may still be.
-use Rattle.std.proofs.Common.{◌≡◌, ℕ, ◌<◌, refl, sym, ◌∙◌, ap, subst, List, [], ◌∷◌, ◌++◌, Bool, true, false, cond, not, ◌||◌, Some, true≢false}
+use Rattle.std.proofs.Common.{◌≡◌, ℕ, refl, ◌∙◌, ap, List, [], ◌∷◌, ◌++◌, Bool, true, false, cond, not, ◌||◌, Some, true≢false}
 use Rattle.std.specs.Prelude.{filter, option_map}
 use Rattle.std.specs.List.{list_all, range_with_len}
 use Rattle.t32_base.specs.declared.process.Pid.{Pid}
@@ -8,7 +8,7 @@ use Rattle.bus_msg.specs.declared.entry.Entry.{Entry}
 use Rattle.bus_msg.specs.PlacedAfter.{what}
 use Rattle.cert_sched.specs.Parts.{first_of}
 use Rattle.cert_sched.specs.Told.{moves}
-use Rattle.cert_sched.specs.Deeds.{is_cut}
+use Rattle.cert_sched.specs.Deeds.{is_birth_of, is_cut}
 use Rattle.cert_sched.specs.Account.{Account, no_pages, page_in, account_after, page_put, is_exit_of}
 use Rattle.cert_sched.specs.Moved.{any_since_moved, moved_with_state, waiting_fetches, fetched, is_page_is, is_fetch}
 use Rattle.cert_sched.specs.Rules.{has_its_pages}
@@ -20,7 +20,7 @@ use Rattle.cert_sched.proofs.LogLaws.{account_after-snoc}
 use Rattle.page_laws.specs.Next.{next_told, moves_next, ends_wait_next}
 use Rattle.page_laws.specs.Waited.{is_wait_for}
 use Rattle.page_laws.proofs.OneEntry.{any_since-goes_on, any_since-kept, moved-goes_on, waiting-snoc, goes_on, added, wait_is}
-use Rattle.page_laws.proofs.PagesStay.{page_count-snoc}
+use Rattle.page_laws.proofs.PagesStay.{page_count-snoc, page_count-within}
 
 none_of_three : (a b c : Bool) → (a || b || c) ≡ false → (a ≡ false) × (b ≡ false) × (c ≡ false)
 none_of_three true b c h = absurd (true≢false h)
@@ -41,23 +41,23 @@ wait_goes_on system log e p i goes =
 
 -- ---- pages that came
 
--- a process that has its pages has them after an entry that does not move it
-pub pages_kept : (system : System) (log : List Entry) (e : Entry) (p : Pid) → Stands system log e → moves_next system log e p ≡ false → has_its_pages system log p ≡ true → has_its_pages system (log ++ e ∷ []) p ≡ true
-pages_kept system log e p stands stays has = by_moved (moved_with_state system log p) refl has
+-- a process that has its pages has them after an entry that neither bears it nor moves it
+pub pages_kept : (system : System) (log : List Entry) (e : Entry) (p : Pid) → Stands system log e → is_birth_of p (what e) ≡ false → moves_next system log e p ≡ false → has_its_pages system log p ≡ true → has_its_pages system (log ++ e ∷ []) p ≡ true
+pages_kept system log e p stands no_birth stays has = by_moved (moved_with_state system log p) refl has
   where
     by_moved : (b : Bool) → moved_with_state system log p ≡ b → (not b || list_all (λ i. any_since_moved system log p (is_page_is p i)) (range_with_len 0 (page_count system log p))) ≡ true
         → (not (moved_with_state system (log ++ e ∷ []) p) || list_all (λ i. any_since_moved system (log ++ e ∷ []) p (is_page_is p i)) (range_with_len 0 (page_count system (log ++ e ∷ []) p))) ≡ true
     by_moved false is all = ap (λ b. not b || list_all (λ i. any_since_moved system (log ++ e ∷ []) p (is_page_is p i)) (range_with_len 0 (page_count system (log ++ e ∷ []) p))) (moved-goes_on system log e p stays ∙ is)
     by_moved true is all =
         ap (λ b. not b || list_all (λ i. any_since_moved system (log ++ e ∷ []) p (is_page_is p i)) (range_with_len 0 (page_count system (log ++ e ∷ []) p))) (moved-goes_on system log e p stays ∙ is)
-        ∙ ap (λ n. list_all (λ i. any_since_moved system (log ++ e ∷ []) p (is_page_is p i)) (range_with_len 0 n)) (page_count-snoc system log e p stands.applies)
+        ∙ ap (λ n. list_all (λ i. any_since_moved system (log ++ e ∷ []) p (is_page_is p i)) (range_with_len 0 n)) (page_count-snoc system log e p no_birth stands.applies)
         ∙ list_all-weaker (λ i. any_since_moved system log p (is_page_is p i)) (λ i. any_since_moved system (log ++ e ∷ []) p (is_page_is p i)) (λ i seen. any_since-kept system log e p (is_page_is p i) stays seen) (range_with_len 0 (page_count system log p)) all
 
 -- ---- what may be asked
 
 pub fetch_kept : (system : System) (log : List Entry) (e : Entry) (p : Pid) (i : ℕ) → Stands system log e → is_fetch p i (what e) ≡ false → moves_next system log e p ≡ false → FetchHolds system log p i → FetchHolds system (log ++ e ∷ []) p i
 fetch_kept system log e p i stands other stays holds = record {
-  within = subst (λ n. i < n) (sym (page_count-snoc system log e p stands.applies)) holds.within;
+  within = page_count-within system log e p i holds.within stands.applies;
   moved = moved-goes_on system log e p stays ∙ holds.moved;
   unasked = any_since-goes_on system log e p (is_fetch p i) stays ∙ (λ j. holds.unasked j || other j);
 }

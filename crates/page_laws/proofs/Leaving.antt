@@ -18,6 +18,7 @@ use Rattle.bus_msg.specs.Places.{Places, same_pid, unended_at, unended_in}
 use Rattle.bus_msg.specs.PlacedAfter.{what, placed_after, after_exit}
 use Rattle.cert_sched.specs.Schedule.{placement}
 use Rattle.cert_sched.specs.Told.{cluster_lost}
+use Rattle.cert_sched.specs.Deeds.{is_birth_of}
 use Rattle.cert_sched.specs.Moved.{any_since_moved, moved_with_state, waiting_fetches, is_fetch}
 use Rattle.cert_sched.specs.Rules.{is_by_right, is_living, is_by, home_at}
 use Rattle.cert_sched.specs.Steps.{page_count}
@@ -88,11 +89,11 @@ fewer true b = omega arith
 fewer false true = omega arith
 fewer false false = omega arith
 
-module _ (system : System) (log : List Entry) (e : Entry) (stands : Stands system log e) (r : Pid) (stays : moves_next system log e r ≡ false) where
+module _ (system : System) (log : List Entry) (e : Entry) (stands : Stands system log e) (r : Pid) (no_birth : is_birth_of r (what e) ≡ false) (stays : moves_next system log e r ≡ false) where
   unasked_of-snoc : unasked_of system (log ++ e ∷ []) r ≡ cond (moved_with_state system log r) (count_by (unasked_then system log e r) (range_with_len 0 (page_count system log r))) 0
-  unasked_of-snoc k = cond (moved-goes_on system log e r stays k) (count_by (λ j. not (any_since-goes_on system log e r (is_fetch r j) stays k)) (range_with_len 0 (page_count-snoc system log e r stands.applies k))) 0
+  unasked_of-snoc k = cond (moved-goes_on system log e r stays k) (count_by (λ j. not (any_since-goes_on system log e r (is_fetch r j) stays k)) (range_with_len 0 (page_count-snoc system log e r no_birth stands.applies k))) 0
 
-  unasked_of-most : unasked_of system (log ++ e ∷ []) r ≤ unasked_of system log r
+  pub unasked_of-most : unasked_of system (log ++ e ∷ []) r ≤ unasked_of system log r
   unasked_of-most = subst (λ n. n ≤ unasked_of system log r) (sym unasked_of-snoc) (by_moved (moved_with_state system log r))
     where
       by_moved : (b : Bool) → cond b (count_by (unasked_then system log e r) (range_with_len 0 (page_count system log r))) 0 ≤ cond b (count_by (is_unasked system log r) (range_with_len 0 (page_count system log r))) 0
@@ -105,7 +106,7 @@ module _ (system : System) (log : List Entry) (e : Entry) (stands : Stands syste
 fetch-less : (system : System) (log : List Entry) (e : Entry) (p : Pid) (i : ℕ) → Stands system log e → what e ≡ Fetch p i → moves_next system log e p ≡ false → unasked_of system (log ++ e ∷ []) p + 1 ≤ unasked_of system log p
 fetch-less system log e p i stands is stays =
     let now : unasked_of system (log ++ e ∷ []) p ≡ count_by (unasked_then system log e p) (range_with_len 0 (page_count system log p)) =
-    unasked_of-snoc system log e stands p stays ∙ ap (λ b. cond b (count_by (unasked_then system log e p) (range_with_len 0 (page_count system log p))) 0) holds.moved in
+    unasked_of-snoc system log e stands p (ap (is_birth_of p) is) stays ∙ ap (λ b. cond b (count_by (unasked_then system log e p) (range_with_len 0 (page_count system log p))) 0) holds.moved in
     let was : unasked_of system log p ≡ count_by (is_unasked system log p) (range_with_len 0 (page_count system log p)) = ap (λ b. cond b (count_by (is_unasked system log p) (range_with_len 0 (page_count system log p))) 0) holds.moved in
     omega (arith, now, was, less)
   where
@@ -168,10 +169,10 @@ asker_is_there system log e p i stands is = from_home (unended_at (placement sys
 asker_unended : (system : System) (log : List Entry) (e : Entry) (p : Pid) (i : ℕ) → Stands system log e → what e ≡ Fetch p i → list_any (λ (q : Placed). same_pid q.pid p) (unended_in (placement system log)) ≡ true
 asker_unended system log e p i stands is = unended_there p (placement system log).placed (asker_is_there system log e p i stands is)
 
-module _ (system : System) (log : List Entry) (e : Entry) (stands : Stands system log e) (none : (r : Pid) → moves_next system log e r ≡ false) where
+module _ (system : System) (log : List Entry) (e : Entry) (stands : Stands system log e) (no_birth : (r : Pid) → is_birth_of r (what e) ≡ false) (none : (r : Pid) → moves_next system log e r ≡ false) where
   -- over the same processes no more is unasked
   pub most_over : (qs : List Placed) → sum_by (λ (q : Placed). unasked_of system (log ++ e ∷ []) q.pid) qs ≤ sum_by (λ (q : Placed). unasked_of system log q.pid) qs
-  most_over qs = sum_by-le-each (λ (q : Placed). unasked_of system (log ++ e ∷ []) q.pid) (λ (q : Placed). unasked_of system log q.pid) (λ q. unasked_of-most system log e stands q.pid (none q.pid)) qs
+  most_over qs = sum_by-le-each (λ (q : Placed). unasked_of system (log ++ e ∷ []) q.pid) (λ (q : Placed). unasked_of system log q.pid) (λ q. unasked_of-most system log e stands q.pid (no_birth q.pid) (none q.pid)) qs
 
   unasked-most : placement system (log ++ e ∷ []) ≡ placement system log → unasked system (log ++ e ∷ []) ≤ unasked system log
   unasked-most same =
@@ -182,7 +183,7 @@ unasked-less system log e p i stands is =
     subst (λ (places : Places). sum_by (λ (q : Placed). unasked_of system (log ++ e ∷ []) q.pid) (unended_in places) + 1 ≤ unasked system log)
     (sym (placement-snoc system log e ∙ ap (placed_after (placement system log)) is))
     (sum_by-less (λ (q : Placed). unasked_of system (log ++ e ∷ []) q.pid) (λ (q : Placed). unasked_of system log q.pid) (λ (q : Placed). same_pid q.pid p)
-    (λ q. unasked_of-most system log e stands q.pid (none q.pid)) at_asker (unended_in (placement system log)) (asker_unended system log e p i stands is))
+    (λ q. unasked_of-most system log e stands q.pid (ap (is_birth_of q.pid) is) (none q.pid)) at_asker (unended_in (placement system log)) (asker_unended system log e p i stands is))
   where
     none : (r : Pid) → moves_next system log e r ≡ false
     none = moves_none system log e (ap cluster_lost is)
@@ -221,7 +222,7 @@ unasked-exit : (system : System) (log : List Entry) (e : Entry) (p : Pid) (at : 
 unasked-exit system log e p at end stands is =
     let first : sum_by (λ (q : Placed). unasked_of system (log ++ e ∷ []) q.pid) (unended_in (placed_after (placement system log) (Exit p at end))) ≤ sum_by (λ (q : Placed). unasked_of system (log ++ e ∷ []) q.pid) (unended_in (placement system log)) =
     exit_sum (unasked_of system (log ++ e ∷ [])) p (placement system log).placed in
-    let second = most_over system log e stands (moves_none system log e (ap cluster_lost is)) (unended_in (placement system log)) in
+    let second = most_over system log e stands (λ r. ap (is_birth_of r) is) (moves_none system log e (ap cluster_lost is)) (unended_in (placement system log)) in
     subst (λ (places : Places). sum_by (λ (q : Placed). unasked_of system (log ++ e ∷ []) q.pid) (unended_in places) ≤ unasked system log)
     (sym (placement-snoc system log e ∙ ap (placed_after (placement system log)) is)) (omega (arith, first, second))
 
@@ -237,17 +238,17 @@ left_fetch system log e p i stands is =
 
 pub left_page_is : (system : System) (log : List Entry) (e : Entry) (p : Pid) (i : ℕ) (bytes : List ℕ) → Stands system log e → what e ≡ PageIs p i bytes → left_of_pages system (log ++ e ∷ []) < left_of_pages system log
 left_page_is system log e p i bytes stands is =
-    let asked = unasked-most system log e stands (moves_none system log e (ap cluster_lost is)) (placement-snoc system log e ∙ ap (placed_after (placement system log)) is) in
+    let asked = unasked-most system log e stands (λ r. ap (is_birth_of r) is) (moves_none system log e (ap cluster_lost is)) (placement-snoc system log e ∙ ap (placed_after (placement system log)) is) in
     let waits : length (waiting_fetches system (log ++ e ∷ [])) ≡ length (filter (λ (f : Pid × ℕ). not (is_wait_for p i f)) (waiting_fetches system log)) =
     ap length (waiting-snoc system log e ∙ ap (λ w. waits_after (placement system log) w (waiting_fetches system log)) is ∙ after_page_is (placement system log) p i bytes (waiting_fetches system log)) in
     let less = filter_less (is_wait_for p i) (waiting_fetches system log) (came_waited system log e p i bytes stands is) in
     omega (arith, asked, waits, less)
 
 module _ (system : System) (log : List Entry) (e : Entry) (stands : Stands system log e) where
-  pub left_still : (w : What) → what e ≡ w → cluster_lost w ≡ None → placed_after (placement system log) w ≡ placement system log → waits_after (placement system log) w (waiting_fetches system log) ≡ waiting_fetches system log
+  pub left_still : (w : What) → what e ≡ w → cluster_lost w ≡ None → ((r : Pid) → is_birth_of r w ≡ false) → placed_after (placement system log) w ≡ placement system log → waits_after (placement system log) w (waiting_fetches system log) ≡ waiting_fetches system log
       → left_of_pages system (log ++ e ∷ []) ≤ left_of_pages system log
-  left_still w is no_crash places waits =
-      let asked = unasked-most system log e stands (moves_none system log e (ap cluster_lost is ∙ no_crash)) (placement-snoc system log e ∙ ap (placed_after (placement system log)) is ∙ places) in
+  left_still w is no_crash no_birth places waits =
+      let asked = unasked-most system log e stands (λ r. ap (is_birth_of r) is ∙ no_birth r) (moves_none system log e (ap cluster_lost is ∙ no_crash)) (placement-snoc system log e ∙ ap (placed_after (placement system log)) is ∙ places) in
       let same : length (waiting_fetches system (log ++ e ∷ [])) ≡ length (waiting_fetches system log) =
       ap length (waiting-snoc system log e ∙ ap (λ w. waits_after (placement system log) w (waiting_fetches system log)) is ∙ waits) in
       omega (arith, asked, same)
@@ -261,7 +262,7 @@ module _ (system : System) (log : List Entry) (e : Entry) (stands : Stands syste
       omega (arith, asked, same, most)
 
   by_what : (w : What) → what e ≡ w → tells_or_closes w ≡ true → left_of_pages system (log ++ e ∷ []) ≤ left_of_pages system log
-  by_what (Mail at letter) is tells = left_still (Mail at letter) is refl refl (after_other (Mail at letter) refl (placement system log) (waiting_fetches system log))
+  by_what (Mail at letter) is tells = left_still (Mail at letter) is refl (λ r. refl) refl (after_other (Mail at letter) refl (placement system log) (waiting_fetches system log))
   by_what (Birth parent at child end) is tells = absurd (true≢false (sym tells))
   by_what (Exit p at end) is tells = left_exit p at end is
   by_what (Page p at index bytes) is tells = absurd (true≢false (sym tells))
@@ -271,8 +272,8 @@ module _ (system : System) (log : List Entry) (e : Entry) (stands : Stands syste
   by_what (Crash k cause) is tells = absurd (true≢false (sym tells))
   by_what (Return k) is tells = absurd (true≢false (sym tells))
   by_what (Rebackup to fresh recs) is tells = absurd (true≢false (sym tells))
-  by_what (Done rests) is tells = left_still (Done rests) is refl refl (after_other (Done rests) refl (placement system log) (waiting_fetches system log))
-  by_what Stop is tells = left_still Stop is refl refl (after_other Stop refl (placement system log) (waiting_fetches system log))
+  by_what (Done rests) is tells = left_still (Done rests) is refl (λ r. refl) refl (after_other (Done rests) refl (placement system log) (waiting_fetches system log))
+  by_what Stop is tells = left_still Stop is refl (λ r. refl) refl (after_other Stop refl (placement system log) (waiting_fetches system log))
 
   pub left_most : tells_or_closes (what e) ≡ true → left_of_pages system (log ++ e ∷ []) ≤ left_of_pages system log
   left_most tells = by_what (what e) refl tells

@@ -6,6 +6,11 @@ pub mod SizesStay
 pub mod Keeping
 pub mod Waiting
 pub mod Leaving
+pub mod MovedStated
+pub mod CutThere
+pub mod BornSums
+pub mod BornLeft
 pub mod StartPages
+pub mod FetchedThere
 pub mod NothingLeft
 mod WorkedLeft

@@ -17,14 +17,14 @@ use Rattle.cert_sched.specs.Rules.{has_its_pages}
 use Rattle.cert_sched.specs.Steps.{page_count}
 use Rattle.cert_sched.specs.Legal.{IsLegalBy, Stands}
 use Rattle.cert_sched.specs.Simulation.{IsUnended}
-use Rattle.cert_sched.proofs.LogLaws.{placement-snoc}
+use Rattle.cert_sched.proofs.LogLaws.{IsLegal-snoc, placement-snoc}
 use Rattle.cert_sched.proofs.Induction.{legal_induction}
-use Rattle.cert_sched.proofs.CameLaws.{not_birth, same_of}
+use Rattle.cert_sched.proofs.CameLaws.{same_of}
 use Rattle.page_laws.specs.Next.{moves_next, ends_wait_next}
 use Rattle.page_laws.specs.Waited.{is_wait_for, is_waited}
 use Rattle.page_laws.specs.Left.{is_unasked, unasked_of, unasked, left_of_pages}
 use Rattle.page_laws.proofs.OneEntry.{any_since-snoc, is_waited-snoc}
-use Rattle.cert_sched.proofs.StayingUnended.{unended_before}
+use Rattle.page_laws.proofs.FetchedThere.{fetched_unborn, unended_earlier}
 use Rattle.page_laws.proofs.Leaving.{one_if, unended_there}
 
 -- ---- what was fetched came or is waited for
@@ -32,18 +32,22 @@ use Rattle.page_laws.proofs.Leaving.{one_if, unended_there}
 abbrev WaitsOrCame : System → List Entry → Pid → ℕ → Type 0
 WaitsOrCame system log p i = IsUnended system log p → any_since_moved system log p (is_fetch p i) ≡ true → any_since_moved system log p (is_page_is p i) ≡ false → is_waited system log p i ≡ true
 
+nothing_yet : (system : System) → IsLegalBy Stands system []
+unfolding IsLegalBy
+nothing_yet system = tt
+
 pub fetched_waits : (system : System) (log : List Entry) (p : Pid) (i : ℕ) → IsLegalBy Stands system log → WaitsOrCame system log p i
 unfolding told
-fetched_waits system log p i legal = legal_induction Stands system (λ log. WaitsOrCame system log p i) (λ there seen not_come. absurd (true≢false (sym seen))) more log legal
+fetched_waits system log p i legal = (legal_induction Stands system (λ log. IsLegalBy Stands system log × WaitsOrCame system log p i) (nothing_yet system, λ there seen not_come. absurd (true≢false (sym seen))) (λ log e before stands. (IsLegal-snoc Stands system log e before.0 stands, more log e before.0 before.1 stands)) log legal).1
   where
-    more : (log : List Entry) (e : Entry) → WaitsOrCame system log p i → Stands system log e → WaitsOrCame system (log ++ e ∷ []) p i
-    more log e before stands there seen not_come =
+    more : (log : List Entry) (e : Entry) → IsLegalBy Stands system log → WaitsOrCame system log p i → Stands system log e → WaitsOrCame system (log ++ e ∷ []) p i
+    more log e legal before stands there seen not_come =
         is_waited-snoc system log e p i
         ∙ by_tests (moves_next system log e p) (any_since_moved system log p (is_fetch p i)) (is_fetch p i (what e)) (any_since_moved system log p (is_page_is p i)) (is_page_is p i (what e)) refl refl refl refl
         (sym (any_since-snoc system log e p (is_fetch p i)) ∙ seen) (sym (any_since-snoc system log e p (is_page_is p i)) ∙ not_come)
       where
         was : (is_exit_of p (what e) ≡ false) × (is_some (unended_at (placement system log) p) ≡ true)
-        was = unended_before (what e) (not_birth system log e stands.applies (what e) refl) (placement system log) p (sym (ap (λ places. is_some (unended_at places p)) (placement-snoc system log e)) ∙ there)
+        was = unended_earlier (what e) (placement system log) p (fetched_unborn system log e p i legal stands seen) (sym (ap (λ places. is_some (unended_at places p)) (placement-snoc system log e)) ∙ there)
 
         or_true : (b : Bool) → (b || true) ≡ true
         or_true true = refl

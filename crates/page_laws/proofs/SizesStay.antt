@@ -1,6 +1,7 @@
--- Each process has as much memory as its pages have, at boot and after each log.
+-- Each process has as much memory as its pages have, at boot and after each log, whatever is born.
 use Rattle.std.proofs.Common.{◌≡◌, ℕ, ◌*◌, ◌-◌, ◌≤◌, refl, sym, ◌∙◌, ap, subst, arith, List, [], ◌∷◌, ◌++◌, length, true, Bool, false, cond, Option, Some, None, slice_get}
 use Rattle.std.specs.Prelude.{replicate, unwrap_or, option_map, option_and_then}
+use Rattle.std.specs.List.{list_any}
 use Rattle.std.specs.Option.{option_map_or}
 use Rattle.std.specs.declared.cmp.Ordering.{Ordering}
 use Rattle.std.specs.declared.cmp.Ordering.TheVariants.{Less, Equal, Greater}
@@ -18,20 +19,22 @@ use Rattle.sys_calls.specs.declared.steps.Emission.{Emission}
 use Rattle.sys_calls.specs.declared.steps.Emission.TheVariants.{Mail, Exit}
 use Rattle.sys_calls.specs.Calls.{Next, Silent, Blocked, Forks, Emits, Over}
 use Rattle.sys_calls.specs.Next.{next_step}
+use Rattle.sys_calls.specs.Fork.{fork_child, fork_parent}
 use Rattle.plain_kernel.specs.Kernel.{Kernel, pid_cmp, process_at, with_process, boot, emitted, no_image, root_process}
-use Rattle.plain_kernel.specs.Apply.{after_step, one_step}
+use Rattle.plain_kernel.specs.Apply.{after_step, fork_step, one_step}
 use Rattle.plain_kernel.proofs.AtBoot.{boot-each}
 use Rattle.plain_kernel.proofs.Entries.{some_same}
+use Rattle.plain_kernel.proofs.Forking.{fork_made}
 use Rattle.plain_kernel.proofs.Laws.{process_at-with_process}
 use Rattle.bus_msg.specs.declared.entry.Entry.{Entry}
-use Rattle.cert_sched.specs.Parts.{upto_last}
+use Rattle.cert_sched.specs.Parts.{after_last, upto_last}
 use Rattle.cert_sched.specs.Schedule.{plain_after, process_after}
 use Rattle.cert_sched.specs.Deeds.{starts, start_of, is_end_of}
 use Rattle.cert_sched.specs.Steps.{page_count}
 use Rattle.cert_sched.proofs.MailLaws.{received, process_at-emitted}
-use Rattle.cert_sched.proofs.StepLaws.{plain_after-keeps}
+use Rattle.cert_sched.proofs.StepLaws.{log_keeps_all}
 use Rattle.page_laws.proofs.StepSizes.{SameSize, Keeps, next_keeps}
-use Rattle.page_laws.proofs.PagesStay.{boot_pages, page_count-boot}
+use Rattle.page_laws.proofs.PagesStay.{pages_over}
 
 -- the memory has its pages, of 256 bytes each
 abbrev pub IsSized : ProcState → Type 0
@@ -111,6 +114,14 @@ one_step-sized p k j all made = by_process (process_at k p) refl made
     by_process None there e = cc
     by_process (Some s) there e = by_next s (next_step s) there (next_keeps s) e
 
+-- a child has the memory of its parent
+fork_step-sized : (p c : Pid) (k j : Kernel) → AllSized k → fork_step p c k ≡ Some j → AllSized j
+unfolding AllSized
+fork_step-sized p c k j all made =
+    let f = fork_made p c k j made in
+    let sized : IsSized f.was = all p f.was f.there in
+    subst AllSized f.after (put_sized (with_process k p (fork_parent f.was c)) c (fork_child f.was c) (put_sized k p (fork_parent f.was c) all sized) sized)
+
 -- ---- after a log
 
 -- a process with the kernel where it is
@@ -130,15 +141,21 @@ pub process_sized : (system : System) (log : List Entry) (p : Pid) (s : ProcStat
 unfolding AllSized
 process_sized system log p s valid there =
     let k = in_kernel system log p s there in
-    plain_after-keeps AllSized one_step-sized system log k.kernel (boot_sized system valid) k.is p s k.there
+    log_keeps_all AllSized one_step-sized fork_step-sized system log k.kernel (boot_sized system valid) k.is p s k.there
 
-counted_pages : (system : System) (log : List Entry) (p : Pid) (s : ProcState) → process_after system log p ≡ Some s → boot_pages system p ≡ (s.small).pages
-counted_pages system log p s there =
-    let k = in_kernel system log p s there in
-    sym (page_count-boot system log k.kernel p k.is) ∙ ap (λ o. option_map_or (λ (s : ProcState). (s.small).pages) o 0) there
+-- a log is what stands up to the last entry that passes, and what stands after it
+parts : {X : Type 0} (t : X → Bool) (xs : List X) → upto_last t xs ++ after_last t xs ≡ xs
+parts t [] = refl
+parts t (x ∷ xs) = by_tests (list_any t xs) (t x) (parts t xs)
+  where
+    by_tests : (a b : Bool) → upto_last t xs ++ after_last t xs ≡ xs → cond a (x ∷ upto_last t xs) (cond b (x ∷ []) []) ++ cond a (after_last t xs) (cond b xs (x ∷ xs)) ≡ x ∷ xs
+    by_tests true b more = ap (λ ys. x ∷ ys) more
+    by_tests false true more = refl
+    by_tests false false more = refl
 
 -- with as many pages as the process has after the log, its start has the memory of so many
 pub start_sized : (system : System) (log : List Entry) (p : Pid) (start now : ProcState) → is_system system ≡ true → process_after system log p ≡ Some now → start_of system log p ≡ Some start → length start.memory ≡ 256 * page_count system log p
 start_sized system log p start now valid there started =
+    let same : (now.small).pages ≡ (start.small).pages = pages_over system (upto_last (starts p) log) (after_last (starts p) log) p start now started (ap (λ l. process_after system l p) (parts (starts p) log) ∙ there) in
     process_sized system (upto_last (starts p) log) p start valid started
-    ∙ ap (λ n. 256 * n) (sym (counted_pages system (upto_last (starts p) log) p start started) ∙ counted_pages system log p now there ∙ sym (ap (λ o. option_map_or (λ (s : ProcState). (s.small).pages) o 0) there))
+    ∙ ap (λ n. 256 * n) (sym same ∙ sym (ap (λ o. option_map_or (λ (s : ProcState). (s.small).pages) o 0) there))

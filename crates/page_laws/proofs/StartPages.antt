@@ -21,7 +21,6 @@ use Rattle.cert_sched.specs.Schedule.{process_after, placement}
 use Rattle.cert_sched.specs.Told.{told}
 use Rattle.cert_sched.specs.Parts.{first_of}
 use Rattle.cert_sched.specs.Deeds.{start_of, is_cut, is_birth_of, is_first}
-use Rattle.cert_sched.specs.Record.{has_state}
 use Rattle.cert_sched.specs.Account.{account_after, all_pages, pages_from, page_in, is_exit_of}
 use Rattle.cert_sched.specs.Moved.{any_since_moved, waiting_fetches, moved_with_state, is_fetch}
 use Rattle.cert_sched.specs.Steps.{page_count}
@@ -31,20 +30,23 @@ use Rattle.cert_sched.specs.Built.{BuiltMayFollow, KeepsWaits}
 use Rattle.cert_sched.specs.Legal.{IsLegalBy, IsLegalFrom, Stands}
 use Rattle.cert_sched.specs.Simulation.{IsUnended}
 use Rattle.cert_sched.proofs.LogLaws.{placement-snoc}
-use Rattle.cert_sched.proofs.RecordLaws.{has_state-snoc, start_of-snoc}
+use Rattle.cert_sched.proofs.RecordLaws.{start_of-snoc}
 use Rattle.cert_sched.proofs.Induction.{legal_induction}
-use Rattle.cert_sched.proofs.BirthKind.{is_birth}
-use Rattle.cert_sched.proofs.CameLaws.{IsStandingRule, not_birth}
-use Rattle.cert_sched.proofs.StayingUnended.{unended_stays}
-use Rattle.cert_sched.proofs.BuiltCuts.{bears_none, cut_is_of}
+use Rattle.cert_sched.proofs.BornLaws.{there_not_born}
+use Rattle.cert_sched.proofs.StayingUnended.{stays_unended}
+use Rattle.cert_sched.proofs.BuiltCuts.{cut_is_of}
 use Rattle.cert_sched.proofs.OpenLaws.{unended_open}
 use Rattle.cert_sched.proofs.PageLaws.{all_kept_pages}
 use Rattle.page_laws.specs.Next.{moves_next, ends_wait_next}
 use Rattle.page_laws.specs.Waited.{is_wait_for, is_waited}
-use Rattle.page_laws.proofs.OneEntry.{any_since-snoc, moved_with_state-snoc, is_waited-snoc}
+use Rattle.page_laws.proofs.BornSums.{itself}
+use Rattle.page_laws.proofs.CutThere.{birth_no_cut, cut_there}
+use Rattle.page_laws.proofs.MovedStated.{moved_stated}
+use Rattle.page_laws.proofs.OneEntry.{any_since-snoc, is_waited-snoc}
 use Rattle.page_laws.proofs.Keeping.{wait_goes_on, pages_kept}
 use Rattle.page_laws.proofs.Waiting.{first_waited, waited_lacks, came_waited, page_is_holds, fetch_is}
 use Rattle.page_laws.proofs.Leaving.{asker_is_there}
+use Rattle.page_laws.proofs.PagesStay.{paged_there, there_stays}
 use Rattle.page_laws.proofs.SizesStay.{start_sized}
 
 -- ---- the pages of a memory
@@ -73,26 +75,6 @@ page_found bytes n i size within =
     let pages : length bytes / 256 ≡ n = omega (arith, size) in
     ap (λ m. find_in nat_cmp m (all_pages bytes)) more ∙ found_from 0 (length bytes / 256) i bytes (subst (λ m. i < m) (sym pages) within)
 
--- ---- a state in the record
-
--- a process that was moved with a state has one
-moved_stated : (system : System) (log : List Entry) (p : Pid) → IsLegalBy Stands system log → moved_with_state system log p ≡ true → has_state system log p ≡ true
-unfolding told
-moved_stated system log p legal =
-    legal_induction Stands system (λ log. moved_with_state system log p ≡ true → has_state system log p ≡ true) at_start more log legal
-  where
-    at_start : moved_with_state system [] p ≡ true → has_state system [] p ≡ true
-    at_start moved = absurd (true≢false (sym moved))
-
-    by_test : (b s m c : Bool) → (m ≡ true → s ≡ true) → cond b s m ≡ true → (s || c) ≡ true
-    by_test true true m c before h = refl
-    by_test true false m c before h = absurd (true≢false (sym h))
-    by_test false s m c before h = ap (λ b. b || c) (before h)
-
-    more : (log : List Entry) (e : Entry) → (moved_with_state system log p ≡ true → has_state system log p ≡ true) → Stands system log e → moved_with_state system (log ++ e ∷ []) p ≡ true → has_state system (log ++ e ∷ []) p ≡ true
-    more log e before stands moved =
-        has_state-snoc system log e p ∙ by_test (moves_next system log e p) (has_state system log p) (moved_with_state system log p) _ before (sym (moved_with_state-snoc system log e p) ∙ moved)
-
 -- ---- the account of the last cut
 
 -- a process of the kernel has pages
@@ -102,9 +84,6 @@ there_of system log p i within P with_it = by_process (process_after system log 
     by_process : (o : Option ProcState) → process_after system log p ≡ o → i < option_map_or (λ (s : ProcState). (s.small).pages) o 0 → P
     by_process None is within = absurd (omega (arith, within))
     by_process (Some now) is within = with_it now is
-
-itself : IsStandingRule Stands
-itself system log e stands = stands
 
 pub kept_pages : (system : System) (log : List Entry) (p : Pid) (start : ProcState) (i : ℕ) → is_system system ≡ true → IsLegalBy Stands system log → moved_with_state system log p ≡ true → IsUnended system log p → start_of system log p ≡ Some start → i < page_count system log p
     → page_in (account_after system log p).kept i ≡ Some (page_at start.memory i)
@@ -127,11 +106,8 @@ waited_unended system log p i legal =
     more log e before stands waited =
         by_tests (is_waited system log p i) (ends_wait_next system log e p i) (is_fetch p i (what e)) refl refl refl (sym (is_waited-snoc system log e p i) ∙ waited)
       where
-        no_birth : is_birth (what e) ≡ false
-        no_birth = not_birth system log e stands.applies (what e) refl
-
         after : is_exit_of p (what e) ≡ false → IsUnended system log p → IsUnended system (log ++ e ∷ []) p
-        after no_exit there = ap (λ places. is_some (unended_at places p)) (placement-snoc system log e) ∙ unended_stays (what e) no_birth (placement system log) p no_exit there
+        after no_exit there = ap (λ places. is_some (unended_at places p)) (placement-snoc system log e) ∙ stays_unended (what e) (placement system log) p no_exit there
 
         by_tests : (w x f : Bool) → is_waited system log p i ≡ w → ends_wait_next system log e p i ≡ x → is_fetch p i (what e) ≡ f → ((w && not x) || f) ≡ true → IsUnended system (log ++ e ∷ []) p
         by_tests w x true was ends asks h =
@@ -170,14 +146,22 @@ pub start_stays : (system : System) (log : List Entry) (e : Entry) (p : Pid) →
 start_stays system log e p no_cut no_birth =
     start_of-snoc system log e p ∙ (λ i. cond (no_cut i || no_birth i) (process_after system (log ++ e ∷ []) p) (start_of system log p))
 
--- nor do several
-starts_stay : (system : System) (p : Pid) (log rest : List Entry) → IsLegalFrom Stands system log rest → list_any (λ (f : Entry). is_cut p (what f)) rest ≡ false → start_of system (log ++ rest) p ≡ start_of system log p
-starts_stay system p log [] legal none = ap (λ l. start_of system l p) (append-nil log)
-starts_stay system p log (e ∷ rest) legal none =
+-- a process that was there is not born by an entry that stands
+there_unborn : (system : System) (log : List Entry) (e : Entry) (p : Pid) → is_some (process_after system log p) ≡ true → Stands system log e → is_birth_of p (what e) ≡ false
+there_unborn system log e p there stands = by_process (process_after system log p) refl there
+  where
+    by_process : (o : Option ProcState) → process_after system log p ≡ o → is_some o ≡ true → is_birth_of p (what e) ≡ false
+    by_process None here some = absurd (true≢false (sym some))
+    by_process (Some was) here some = there_not_born system log e p was stands.applies here
+
+-- so several start one that is there again only by a cut
+starts_stay : (system : System) (p : Pid) (log rest : List Entry) → is_some (process_after system log p) ≡ true → IsLegalFrom Stands system log rest → list_any (λ (f : Entry). is_cut p (what f)) rest ≡ false → start_of system (log ++ rest) p ≡ start_of system log p
+starts_stay system p log [] there legal none = ap (λ l. start_of system l p) (append-nil log)
+starts_stay system p log (e ∷ rest) there legal none =
     let parts = none_of_two (is_cut p (what e)) (list_any (λ (f : Entry). is_cut p (what f)) rest) none in
     ap (λ l. start_of system l p) (sym (append_assoc log (e ∷ []) rest))
-    ∙ starts_stay system p (log ++ e ∷ []) rest legal.1 parts.1
-    ∙ start_stays system log e p parts.0 (bears_none p (what e) (not_birth system log e (legal.0).applies (what e) refl))
+    ∙ starts_stay system p (log ++ e ∷ []) rest (there_stays system log e p there (legal.0).applies) legal.1 parts.1
+    ∙ start_stays system log e p parts.0 (there_unborn system log e p there legal.0)
   where
     none_of_two : (x y : Bool) → (x || y) ≡ false → (x ≡ false) × (y ≡ false)
     none_of_two true y h = absurd (true≢false h)
@@ -211,9 +195,11 @@ pub page_in_log : (system : System) (before after : List Entry) (e : Entry) (p :
     → list_any (λ (f : Entry). is_cut p (what f)) after ≡ false → start_of system (before ++ e ∷ after) p ≡ Some start → bytes ≡ page_at start.memory i
 page_in_log system before after e p i bytes start valid legal is none started =
     let parts = parted system before after e legal in
+    let lacks = waited_lacks system before p i parts.legal (came_waited system before e p i bytes parts.stands is) in
+    let there = there_stays system before e p (paged_there system before p i lacks.within) (parts.stands).applies in
     next_page system before e p i bytes start valid parts.legal parts.stands is
     (sym (start_stays system before e p (ap (is_cut p) is) (ap (is_birth_of p) is))
-    ∙ sym (starts_stay system p (before ++ e ∷ []) after parts.rest none)
+    ∙ sym (starts_stay system p (before ++ e ∷ []) after there parts.rest none)
     ∙ ap (λ l. start_of system l p) (append_assoc before (e ∷ []) after) ∙ started)
 
 -- ---- no cut while it waits
@@ -244,27 +230,55 @@ cut_awaits p Stop cut = absurd (true≢false (sym cut))
 pub cut_has_pages : (system : System) (log : List Entry) (e : Entry) (p : Pid) → KeepsWaits system log e → is_cut p (what e) ≡ true → has_its_pages system log p ≡ true
 cut_has_pages system log e p keeps cut = sym (λ i. holds_of (cut_awaits p (what e) cut i) (cut_is_of p (what e) cut i) (has_its_pages system log)) ∙ keeps
 
--- so who has not got its pages was not cut since a crash moved it
+-- so who has not got its pages was not cut since a crash moved it; and who was cut is there
+record Uncut (system : System) (log : List Entry) (p : Pid) : Type 0 where
+  pub uncut : has_its_pages system log p ≡ false → any_since_moved system log p (is_cut p) ≡ false
+  pub there : any_since_moved system log p (is_cut p) ≡ true → is_some (process_after system log p) ≡ true
+
+module _ (system : System) (log : List Entry) (e : Entry) (p : Pid) (before : Uncut system log p) (stands : Stands system log e) (keeps : KeepsWaits system log e) where
+  -- it was cut before, or is now
+  seen_there : (m a c : Bool) → any_since_moved system log p (is_cut p) ≡ a → is_cut p (what e) ≡ c → cond m false (a || c) ≡ true → is_some (process_after system log p) ≡ true
+  seen_there true a c was now seen = absurd (true≢false (sym seen))
+  seen_there false true c was now seen = before.there was
+  seen_there false false true was now seen = cut_there system log e p stands now
+  seen_there false false false was now seen = absurd (true≢false (sym seen))
+
+  there_then : any_since_moved system (log ++ e ∷ []) p (is_cut p) ≡ true → is_some (process_after system (log ++ e ∷ []) p) ≡ true
+  there_then seen =
+      there_stays system log e p
+      (seen_there (moves_next system log e p) (any_since_moved system log p (is_cut p)) (is_cut p (what e)) refl refl (sym (any_since-snoc system log e p (is_cut p)) ∙ seen)) stands.applies
+
+  lacked : is_birth_of p (what e) ≡ false → moves_next system log e p ≡ false → has_its_pages system (log ++ e ∷ []) p ≡ false → (b : Bool) → has_its_pages system log p ≡ b → b ≡ false
+  lacked no_birth stays lacks true has = absurd (true≢false (sym (pages_kept system log e p stands no_birth stays has) ∙ lacks))
+  lacked no_birth stays lacks false has = refl
+
+  now_uncut : has_its_pages system log p ≡ false → (b : Bool) → is_cut p (what e) ≡ b → b ≡ false
+  now_uncut lacking true cut = absurd (true≢false (sym (cut_has_pages system log e p keeps cut) ∙ lacking))
+  now_uncut lacking false cut = refl
+
+  -- a process that is born was not cut
+  unborn : is_birth_of p (what e) ≡ true → (b : Bool) → any_since_moved system log p (is_cut p) ≡ b → b ≡ false
+  unborn born true was = absurd (true≢false (sym born ∙ there_unborn system log e p (before.there was) stands))
+  unborn born false was = refl
+
+  by_birth : has_its_pages system (log ++ e ∷ []) p ≡ false → moves_next system log e p ≡ false → (b : Bool) → is_birth_of p (what e) ≡ b → (any_since_moved system log p (is_cut p) || is_cut p (what e)) ≡ false
+  by_birth lacks stays true born = λ i. unborn born (any_since_moved system log p (is_cut p)) refl i || birth_no_cut p (what e) born i
+  by_birth lacks stays false no_birth =
+      let lacking : has_its_pages system log p ≡ false = lacked no_birth stays lacks (has_its_pages system log p) refl in
+      λ i. before.uncut lacking i || now_uncut lacking (is_cut p (what e)) refl i
+
+  by_move : has_its_pages system (log ++ e ∷ []) p ≡ false → (b : Bool) → moves_next system log e p ≡ b → cond b false (any_since_moved system log p (is_cut p) || is_cut p (what e)) ≡ false
+  by_move lacks true moves = refl
+  by_move lacks false stays = by_birth lacks stays (is_birth_of p (what e)) refl
+
 pub waits_uncut : (May : System → List Entry → Entry → Type 0) → IsWaitingRule May → (system : System) (log : List Entry) (p : Pid) → IsLegalBy May system log → has_its_pages system log p ≡ false → any_since_moved system log p (is_cut p) ≡ false
 unfolding told
-waits_uncut May waiting system log p legal = legal_induction May system (λ log. has_its_pages system log p ≡ false → any_since_moved system log p (is_cut p) ≡ false) (λ lacks. refl) more log legal
+waits_uncut May waiting system log p legal = (legal_induction May system (λ log. Uncut system log p) (record { uncut = λ lacks. refl; there = λ cut. absurd (true≢false (sym cut)) }) more log legal).uncut
   where
-    more : (log : List Entry) (e : Entry) → (has_its_pages system log p ≡ false → any_since_moved system log p (is_cut p) ≡ false) → May system log e → has_its_pages system (log ++ e ∷ []) p ≡ false → any_since_moved system (log ++ e ∷ []) p (is_cut p) ≡ false
-    more log e before may lacks = any_since-snoc system log e p (is_cut p) ∙ by_move (moves_next system log e p) refl
-      where
-        w : Stands system log e × KeepsWaits system log e
-        w = waiting system log e may
-
-        lacked : moves_next system log e p ≡ false → (b : Bool) → has_its_pages system log p ≡ b → b ≡ false
-        lacked stays true has = absurd (true≢false (sym (pages_kept system log e p w.0 stays has) ∙ lacks))
-        lacked stays false has = refl
-
-        uncut : has_its_pages system log p ≡ false → (b : Bool) → is_cut p (what e) ≡ b → b ≡ false
-        uncut lacking true cut = absurd (true≢false (sym (cut_has_pages system log e p w.1 cut) ∙ lacking))
-        uncut lacking false cut = refl
-
-        by_move : (b : Bool) → moves_next system log e p ≡ b → cond b false (any_since_moved system log p (is_cut p) || is_cut p (what e)) ≡ false
-        by_move true moves = refl
-        by_move false stays =
-            let lacking : has_its_pages system log p ≡ false = lacked stays (has_its_pages system log p) refl in
-            λ i. before lacking i || uncut lacking (is_cut p (what e)) refl i
+    more : (log : List Entry) (e : Entry) → Uncut system log p → May system log e → Uncut system (log ++ e ∷ []) p
+    more log e before may =
+        let w = waiting system log e may in
+        record {
+          uncut = λ lacks. any_since-snoc system log e p (is_cut p) ∙ by_move system log e p before w.0 w.1 lacks (moves_next system log e p) refl;
+          there = there_then system log e p before w.0 w.1;
+        }

@@ -21,7 +21,7 @@ use Rattle.cert_sched.proofs.Induction.{legal_induction}
 use Rattle.page_laws.specs.Next.{moves_next, ends_wait_next}
 use Rattle.page_laws.specs.Waited.{is_wait_for, is_waited}
 use Rattle.page_laws.proofs.OneEntry.{moves_none, any_since-snoc, any_since-goes_on, any_since-kept, moved-goes_on, is_waited-snoc}
-use Rattle.page_laws.proofs.PagesStay.{page_count-snoc}
+use Rattle.page_laws.proofs.PagesStay.{page_count-within}
 use Rattle.page_laws.proofs.Keeping.{wait_goes_on}
 
 -- ---- what an entry of these kinds tells
@@ -122,7 +122,7 @@ module _ (system : System) (log : List Entry) (e : Entry) (p : Pid) (i : ℕ) (s
         fetched = any_since-kept system log e p (is_fetch p i) on.no_move had.fetched;
         not_come = any_since-goes_on system log e p (is_page_is p i) on.no_move ∙ (λ j. had.not_come j || on.no_page j);
         moved = moved-goes_on system log e p on.no_move ∙ had.moved;
-        within = subst (λ n. i < n) (sym (page_count-snoc system log e p stands.applies)) had.within;
+        within = page_count-within system log e p i had.within stands.applies;
       }
 
   -- a page that did not come was not fetched: what came was fetched
@@ -143,7 +143,7 @@ module _ (system : System) (log : List Entry) (e : Entry) (p : Pid) (i : ℕ) (s
         fetched = any_since-goes_on system log e p (is_fetch p i) stays ∙ (λ j. holds.unasked j || asks j);
         not_come = any_since-goes_on system log e p (is_page_is p i) stays ∙ (λ j. not_come_before holds.unasked j || is_page_is p i (is j));
         moved = moved-goes_on system log e p stays ∙ holds.moved;
-        within = subst (λ n. i < n) (sym (page_count-snoc system log e p stands.applies)) holds.within;
+        within = page_count-within system log e p i holds.within stands.applies;
       }
 
   lacks_after : is_waited system (log ++ e ∷ []) p i ≡ true → Lacks system (log ++ e ∷ []) p i
