@@ -1,5 +1,5 @@
 -- A batch that is queued is under way: its pages are those that are marked, and any other is that of the account.
-use Rattle.std.proofs.Common.{◌≡◌, ℕ, ◌<◌, sym, ◌∙◌, ap, subst, arith, List, [], ◌∷◌, ◌++◌, length, map, true, not, ltb, Option, None}
+use Rattle.std.proofs.Common.{◌≡◌, ℕ, ◌<◌, sym, ◌∙◌, ap, subst, arith, List, [], ◌∷◌, ◌++◌, length, map, true, not, ◌||◌, ltb, Option, None}
 use Rattle.std.specs.List.{list_all}
 use Rattle.std.specs.Option.{option_map_or}
 use Rattle.t32_base.specs.declared.process.Pid.{Pid}
@@ -18,6 +18,7 @@ use Rattle.sync_point.proofs.WhichMarked.{marked_has, marked_within}
 use Rattle.cert_sched.specs.Moved.{any_since_moved, is_page_at}
 use Rattle.cert_sched.specs.Steps.{page_count}
 use Rattle.cert_sched.specs.Kinds.{ChildrenSynced}
+use Rattle.cert_sched.specs.Record.{has_state}
 use Rattle.sync_laws.specs.Running.{RunsMarked}
 use Rattle.sync_laws.specs.Sending.{MaySend}
 use Rattle.sync_laws.proofs.MarksLead.{was_there, marks_count, marks_reads, marks_due}
@@ -35,7 +36,7 @@ module _ (system : System) (log : List Entry) (p : Pid) (process : Process) (by 
   marked : marks ≡ (process.small).pages
   marked = marks_count system log p process runs
 
-  pub batch_begins : MaySend system log (Cluster by) p (state_of process) → ChildrenSynced system log p → is_due_by process system.syncreads system.syncsteps ≡ true → BatchMay system log by p (state_of process) process.read (marked_pages process)
+  pub batch_begins : MaySend system log (Cluster by) p (state_of process) → ChildrenSynced system log p → (is_due_by process system.syncreads system.syncsteps || not (has_state system log p)) ≡ true → BatchMay system log by p (state_of process) process.read (marked_pages process)
   batch_begins may children due = record {
     may = may;
     runs = runs.runs;
@@ -46,7 +47,7 @@ module _ (system : System) (log : List Entry) (p : Pid) (process : Process) (by 
     account = λ i below other. (runs.marked).clean i (subst (λ n. i < n) count below) (sym (marked_has process i) ∙ other);
     reads = marks_reads system log p process runs;
     children = children;
-    due = marks_due system log p process runs ∙ due;
+    due = ap (λ b. b || not (has_state system log p)) (marks_due system log p process runs) ∙ due;
   }
 
   own : (process.small).pid ≡ p

@@ -1,5 +1,5 @@
 -- An entry that comes between the posts of a batch: the process is where it was, with the letters that the entry brings it, and what is left may still be sent.
-use Rattle.std.proofs.Common.{◌≡◌, ℕ, zero, suc, ◌+◌, ◌-◌, ◌<◌, refl, sym, ◌∙◌, ap, subst, arith, List, [], ◌∷◌, ◌++◌, length, Bool, true, false, cond, not, ◌||◌, ltb, Option, Some, None, is_some, true≢false}
+use Rattle.std.proofs.Common.{◌≡◌, ℕ, zero, suc, ◌+◌, ◌-◌, ◌<◌, refl, sym, ◌∙◌, ap, subst, arith, List, [], ◌∷◌, ◌++◌, length, true, false, cond, not, ◌||◌, ltb, Option, Some, None, is_some, true≢false}
 use Rattle.std.specs.Prelude.{max, nat_le, option_and_then}
 use Rattle.std.specs.List.{list_all}
 use Rattle.std.specs.Option.{option_map_or}
@@ -22,10 +22,11 @@ use Rattle.bus_msg.specs.declared.entry.By.TheVariants.{Cluster}
 use Rattle.bus_msg.specs.declared.entry.Entry.{Entry}
 use Rattle.bus_msg.specs.Places.{Places, same_pid}
 use Rattle.bus_msg.specs.PlacedAfter.{what}
-use Rattle.roll_forward.specs.Deeds.{Deed, Sends, Bears}
+use Rattle.roll_forward.specs.Deeds.{Sends, Bears}
 use Rattle.cert_sched.specs.CertAfter.{count_in, raised_at}
 use Rattle.cert_sched.specs.Schedule.{done, done_after, placement, plain_after, process_after}
 use Rattle.cert_sched.specs.Deeds.{deeds_in, is_birth_of, is_cut, letter_for, numbered, saved_letters, starts, arrived_count}
+use Rattle.cert_sched.specs.Record.{has_state}
 use Rattle.cert_sched.specs.Scripted.{is_done}
 use Rattle.cert_sched.specs.Simulation.{IsUnended}
 use Rattle.cert_sched.specs.Steps.{numbers_read, page_count, saved_of, silent_upto}
@@ -37,31 +38,24 @@ use Rattle.cert_sched.proofs.Induction.{is_over-snoc}
 use Rattle.cert_sched.proofs.LogLaws.{IsLegal-snoc}
 use Rattle.cert_sched.proofs.MailLaws.{silent_upto-ends}
 use Rattle.cert_sched.proofs.OpenLaws.{unended_open}
-use Rattle.cert_sched.proofs.RecordLaws.{saved_letters-other}
+use Rattle.cert_sched.proofs.RecordLaws.{has_state-snoc, saved_letters-other}
 use Rattle.cert_sched.proofs.ReplayLaws.{Replays, all_delivered-is, replays_counts}
 use Rattle.cert_sched.proofs.RollLaws.{AllRoll, Rolls, all_roll, rolls_next, two_apart}
 use Rattle.cert_sched.proofs.StepLaws.{SilentFrom, done_after-snoc, done_kernel, silent_from}
 use Rattle.cert_sched.proofs.ThereLaws.{unended_there}
-use Rattle.page_laws.proofs.OneEntry.{turned}
+use Rattle.page_laws.proofs.OneEntry.{or_nothing, turned}
 use Rattle.page_laws.proofs.PagesStay.{page_count-snoc}
 use Rattle.read_laws.specs.Numbered.{are_below, are_in_order}
 use Rattle.read_laws.proofs.LogReads.{itself, all_saved_numbered}
-use Rattle.sync_laws.specs.Sending.{is_due_since}
+use Rattle.sync_laws.specs.Sending.{is_due_at}
 use Rattle.sync_laws.proofs.Beside.{start_stays}
 use Rattle.mark_laws.proofs.EntryMarks.{account_stays, sent_stay, steps_stay}
 use Rattle.batch_laws.specs.Between.{ComesBetween}
 use Rattle.batch_laws.specs.Underway.{BatchMay, posts_left, with_letters}
+use Rattle.batch_laws.proofs.ChildrenStay.{children_stay, no_deed}
 use Rattle.batch_laws.proofs.LettersRead.{same_read}
-use Rattle.batch_laws.proofs.NoBirths.{no_children}
 
 -- ---- the count of a process after an entry that tells nothing that it did
-
-no_deed : (q p : Pid) (d : Deed) → cond (same_pid q p) (d ∷ []) [] ≡ [] → same_pid q p ≡ false
-no_deed q p d none = by_test (same_pid q p) none
-  where
-    by_test : (b : Bool) → cond b (d ∷ []) [] ≡ [] → b ≡ false
-    by_test true none = cc
-    by_test false none = refl
 
 -- another process raises its own count
 raises_other : (q p : Pid) (n : ℕ) (counts : Pid → ℕ) → same_pid q p ≡ false → raised_at (Some (q, n)) counts p ≡ counts p
@@ -198,8 +192,11 @@ module _ (system : System) (log : List Entry) (e : Entry) (k : ClusterNo) (p : P
   abbrev with_mail : ProcState
   with_mail = record s { mail = s.mail ++ numbered s.next letters; next = s.next + length letters }
 
-  due_stays : is_due_since system (log ++ e ∷ []) p with_mail ≡ is_due_since system log p s
-  due_stays = λ j. nat_le system.syncreads (length (reads_stay j)) || nat_le system.syncsteps ((s.small).steps - steps_stay system log e p comes.leaves j)
+  stated : has_state system (log ++ e ∷ []) p ≡ has_state system log p
+  stated = has_state-snoc system log e p ∙ ap (λ b. has_state system log p || b) (comes.leaves).no_cut ∙ or_nothing (has_state system log p)
+
+  due_stays : is_due_at system (log ++ e ∷ []) p with_mail ≡ is_due_at system log p s
+  due_stays = λ j. nat_le system.syncreads (length (reads_stay j)) || nat_le system.syncsteps ((s.small).steps - steps_stay system log e p comes.leaves j) || not (stated j)
 
   counted : page_count system (log ++ e ∷ []) p ≡ page_count system log p
   counted = page_count-snoc system log e p (comes.stands).applies
@@ -213,7 +210,7 @@ module _ (system : System) (log : List Entry) (e : Entry) (k : ClusterNo) (p : P
     unsent = (λ j. list_all (λ i. not (sent_stay system log e p comes.leaves i (s.small).steps j)) indices) ∙ b.unsent;
     account = λ i within other. ap (λ (a : Account). page_in a.now i) (account_stays system log e p comes.leaves) ∙ b.account i (subst (λ n. i < n) counted within) other;
     reads = b.reads ∙ sym reads_stay;
-    children = no_children system (log ++ e ∷ []) p legal_more;
+    children = children_stay system log e p comes.valid comes.legal comes.stands comes.no_deeds b.children;
     due = due_stays ∙ b.due;
   }
 

@@ -1,4 +1,4 @@
--- No process is born in a log in which each entry stands, since no birth can be applied yet.
+-- No process is born in a log in which each entry stands, as long as no birth can be applied. No law of this crate rests on it.
 use Rattle.std.proofs.Common.{◌≡◌, refl, ◌∙◌, ap, List, [], ◌∷◌, false, ◌&&◌, true≢false}
 use Rattle.std.specs.List.{list_any}
 use Rattle.std.proofs.lemmas.Grind.{flat_map-append}
@@ -26,6 +26,6 @@ no_births system log legal =
     legal_induction Stands system (λ log. births_of log ≡ []) refl
     (λ log e none stands. flat_map-append (λ (f : Entry). born (what f)) log (e ∷ []) ∙ rw (none, none_born (what e) (not_birth system log e stands.applies (what e) refl)) refl) log legal
 
--- so no process has a child that never synchronised
+-- So no process has a child that never synchronised. With births this is a premise of who begins a batch, which a cluster keeps.
 pub no_children : (system : System) (log : List Entry) (p : Pid) → IsLegalBy Stands system log → ChildrenSynced system log p
 no_children system log p legal = ap (list_any (λ (b : Pid × Pid). same_pid b.0 p && is_unsynced (placement system log) b.1)) (no_births system log legal)

@@ -13,16 +13,18 @@ use Rattle.bus_msg.specs.declared.entry.By.TheVariants.{Cluster, Bus}
 use Rattle.bus_msg.specs.declared.entry.Entry.{Entry}
 use Rattle.bus_msg.specs.Places.{Places, same_pid}
 use Rattle.bus_msg.specs.PlacedAfter.{what}
-use Rattle.roll_forward.specs.Deeds.{Deed, Sends}
+use Rattle.roll_forward.specs.Deeds.{Deed, Bears, Sends}
 use Rattle.cert_sched.specs.Schedule.{placement}
-use Rattle.cert_sched.specs.Deeds.{deeds_in, is_birth_of, is_cut}
+use Rattle.cert_sched.specs.Deeds.{deeds_in, is_cut}
 use Rattle.cert_sched.specs.Account.{is_exit_of}
 use Rattle.cert_sched.specs.Losses.{is_by_cluster, is_from}
 use Rattle.cert_sched.specs.Rules.{home_at, is_by, is_by_home, is_by_right, is_living, is_over}
 use Rattle.cert_sched.specs.Legal.{IsLegalBy, Stands}
-use Rattle.cert_sched.proofs.BirthKind.{is_birth}
-use Rattle.cert_sched.proofs.CameLaws.{not_birth, same_of}
+use Rattle.cert_sched.proofs.BuiltCuts.{by_home_there}
+use Rattle.cert_sched.proofs.CameLaws.{same_of}
+use Rattle.cert_sched.proofs.ThereLaws.{unended_not_born}
 use Rattle.page_laws.specs.Next.{moves_next}
+use Rattle.read_laws.proofs.LogReads.{itself}
 use Rattle.mark_laws.specs.Beside.{LeavesMarks, is_some_page}
 use Rattle.batch_laws.specs.Between.{ComesBetween}
 use Rattle.batch_laws.proofs.HomeStays.{home_stays}
@@ -61,41 +63,40 @@ module _ (places : Places) (by : By) (k : ClusterNo) (p : Pid) (foreign : is_fro
   apart : (q : Pid) → is_by_home places by (Some q) ≡ true → same_pid q p ≡ false
   apart q right = other_pid places by k q p right foreign home
 
-  tells_none : (w : What) → is_birth w ≡ false → is_by_right places by w ≡ true → TellsNone p w
-  tells_none (Mail at letter) other right = record { no_cut = refl; no_exit = refl; no_page = refl; no_deeds = none_sent letter.from p (Sends (Sent letter)) (apart letter.from right) }
-  tells_none (Birth parent at child end) other right = absurd (true≢false other)
-  tells_none (Exit q at end) other right = record { no_cut = refl; no_exit = apart q right; no_page = refl; no_deeds = none_sent q p (Sends (Ended end)) (apart q right) }
-  tells_none (Page q at index bytes) other right = record { no_cut = refl; no_exit = refl; no_page = apart q right; no_deeds = refl }
-  tells_none (Sync q small read took) other right = record { no_cut = apart q right; no_exit = refl; no_page = refl; no_deeds = refl }
-  tells_none (Fetch q index) other right = record { no_cut = refl; no_exit = refl; no_page = refl; no_deeds = refl }
-  tells_none (PageIs q index bytes) other right = record { no_cut = refl; no_exit = refl; no_page = refl; no_deeds = refl }
-  tells_none (Crash j cause) other right = record { no_cut = refl; no_exit = refl; no_page = refl; no_deeds = refl }
-  tells_none (Return j) other right = record { no_cut = refl; no_exit = refl; no_page = refl; no_deeds = refl }
-  tells_none (Rebackup to true []) other right = record { no_cut = refl; no_exit = refl; no_page = refl; no_deeds = refl }
-  tells_none (Rebackup to true (r ∷ rs)) other right = record { no_cut = apart r.pid right; no_exit = refl; no_page = refl; no_deeds = refl }
-  tells_none (Rebackup to false recs) other right = record { no_cut = refl; no_exit = refl; no_page = refl; no_deeds = refl }
-  tells_none (Done rests) other right = record { no_cut = refl; no_exit = refl; no_page = refl; no_deeds = refl }
-  tells_none Stop other right = record { no_cut = refl; no_exit = refl; no_page = refl; no_deeds = refl }
-
--- no process is born by an entry that is no birth
-none_born : (p : Pid) (w : What) → is_birth w ≡ false → is_birth_of p w ≡ false
-none_born p (Birth parent at child end) other = absurd (true≢false other)
-none_born p _ other = refl
+  tells_none : (w : What) → is_by_right places by w ≡ true → TellsNone p w
+  tells_none (Mail at letter) right = record { no_cut = refl; no_exit = refl; no_page = refl; no_deeds = none_sent letter.from p (Sends (Sent letter)) (apart letter.from right) }
+  tells_none (Birth parent at child end) right = record { no_cut = refl; no_exit = refl; no_page = refl; no_deeds = none_sent parent p (Bears child) (apart parent right) }
+  tells_none (Exit q at end) right = record { no_cut = refl; no_exit = apart q right; no_page = refl; no_deeds = none_sent q p (Sends (Ended end)) (apart q right) }
+  tells_none (Page q at index bytes) right = record { no_cut = refl; no_exit = refl; no_page = apart q right; no_deeds = refl }
+  tells_none (Sync q small read took) right = record { no_cut = apart q right; no_exit = refl; no_page = refl; no_deeds = refl }
+  tells_none (Fetch q index) right = record { no_cut = refl; no_exit = refl; no_page = refl; no_deeds = refl }
+  tells_none (PageIs q index bytes) right = record { no_cut = refl; no_exit = refl; no_page = refl; no_deeds = refl }
+  tells_none (Crash j cause) right = record { no_cut = refl; no_exit = refl; no_page = refl; no_deeds = refl }
+  tells_none (Return j) right = record { no_cut = refl; no_exit = refl; no_page = refl; no_deeds = refl }
+  tells_none (Rebackup to true []) right = record { no_cut = refl; no_exit = refl; no_page = refl; no_deeds = refl }
+  tells_none (Rebackup to true (r ∷ rs)) right = record { no_cut = apart r.pid right; no_exit = refl; no_page = refl; no_deeds = refl }
+  tells_none (Rebackup to false recs) right = record { no_cut = refl; no_exit = refl; no_page = refl; no_deeds = refl }
+  tells_none (Done rests) right = record { no_cut = refl; no_exit = refl; no_page = refl; no_deeds = refl }
+  tells_none Stop right = record { no_cut = refl; no_exit = refl; no_page = refl; no_deeds = refl }
 
 -- ---- the entry
 
 module _ (system : System) (log : List Entry) (e : Entry) (k : ClusterNo) (p : Pid) (stands : Stands system log e) (foreign : is_by_cluster k e ≡ false) (home : is_by_home (placement system log) (Cluster k) (Some p) ≡ true) where
-  no_birth : is_birth (what e) ≡ false
-  no_birth = not_birth system log e stands.applies (what e) refl
-
   facts : TellsNone p (what e)
-  facts = tells_none (placement system log) (e.post).by k p foreign home (what e) no_birth stands.by_right
+  facts = tells_none (placement system log) (e.post).by k p foreign home (what e) stands.by_right
 
   pub others_deeds : deeds_in p (what e) ≡ []
   others_deeds = facts.no_deeds
 
-  pub others_leave : moves_next system log e p ≡ false → LeavesMarks system log e p
-  others_leave stays = record { no_cut = facts.no_cut; no_birth = none_born p (what e) no_birth; no_exit = facts.no_exit; no_page = facts.no_page; stays = stays }
+  -- nor is the process born by it, which is at home somewhere
+  pub others_leave : is_system system ≡ true → IsLegalBy Stands system log → moves_next system log e p ≡ false → LeavesMarks system log e p
+  others_leave valid legal stays = record {
+    no_cut = facts.no_cut;
+    no_birth = unended_not_born Stands itself system log e p valid legal stands (by_home_there (placement system log) (Cluster k) p home);
+    no_exit = facts.no_exit;
+    no_page = facts.no_page;
+    stays = stays;
+  }
 
 pub others_between : (system : System) (log : List Entry) (e : Entry) (k : ClusterNo) (p : Pid) → is_system system ≡ true → IsLegalBy Stands system log → Stands system log e → is_by_cluster k e ≡ false
     → is_by_home (placement system log) (Cluster k) (Some p) ≡ true → is_over system (log ++ e ∷ []) ≡ false → is_by_home (placement system (log ++ e ∷ [])) (Cluster k) (Some p) ≡ true → ComesBetween system log e k p
@@ -103,7 +104,7 @@ others_between system log e k p valid legal stands foreign at_home goes_on home 
   valid = valid;
   legal = legal;
   stands = stands;
-  leaves = others_leave system log e k p stands foreign at_home (home_stays system log e k p valid legal at_home home);
+  leaves = others_leave system log e k p stands foreign at_home valid legal (home_stays system log e k p valid legal at_home home);
   no_deeds = others_deeds system log e k p stands foreign at_home;
   goes_on = goes_on;
   home = home;

@@ -24,8 +24,8 @@ use Rattle.cert_sched.specs.Moved.{any_since_moved, is_page_at}
 use Rattle.cert_sched.specs.Steps.{numbers_read, page_count}
 use Rattle.cert_sched.specs.Rules.{is_by_home}
 use Rattle.page_laws.proofs.OneEntry.{moves_none, any_since-goes_on}
-use Rattle.sync_laws.specs.Sending.{is_due_since}
-use Rattle.sync_laws.proofs.PageEntry.{page_goes_on, page_places, page_process, page_silent, page_start, page_saved, page_children, page_account}
+use Rattle.sync_laws.specs.Sending.{is_due_at}
+use Rattle.sync_laws.proofs.PageEntry.{page_goes_on, page_places, page_process, page_silent, page_start, page_saved, page_stated, page_children, page_account}
 use Rattle.batch_laws.specs.Underway.{BatchMay, is_left, page_left}
 
 -- ---- words on tests
@@ -108,7 +108,8 @@ module _ (system : System) (log : List Entry) (k : ClusterNo) (p : Pid) (s : Pro
         due = same_due ∙ b.due;
       }
     where
-      same_due : is_due_since system (log ++ page_entry ∷ []) p s ≡ is_due_since system log p s
+      same_due : is_due_at system (log ++ page_entry ∷ []) p s ≡ is_due_at system log p s
       same_due =
           λ j. nat_le system.syncreads (length (numbers_read (page_saved system log page_entry p (s.small).steps i bytes refl p j) s.mail))
           || nat_le system.syncsteps ((s.small).steps - option_map_or (λ (s : ProcState). (s.small).steps) (page_start system log page_entry p (s.small).steps i bytes refl p j) 0)
+          || not (page_stated system log page_entry p (s.small).steps i bytes refl p j)

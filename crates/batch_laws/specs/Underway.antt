@@ -16,7 +16,7 @@ use Rattle.cert_sched.specs.Account.{account_after, page_in}
 use Rattle.cert_sched.specs.Moved.{any_since_moved, is_page_at}
 use Rattle.cert_sched.specs.Steps.{numbers_read, page_count, saved_of}
 use Rattle.cert_sched.specs.Kinds.{ChildrenSynced}
-use Rattle.sync_laws.specs.Sending.{MaySend, is_due_since}
+use Rattle.sync_laws.specs.Sending.{MaySend, is_due_at}
 
 -- ---- the posts that are left
 
@@ -51,7 +51,7 @@ with_letters s [] = s
 with_letters s (l ∷ letters) = with_letters (delivered s l) letters
 
 -- The home k of the process may send it as it is; it has not ended. The numbers of the pages that are left rise, each is one of its pages, and none was sent at its step
--- count since a crash moved it; any other page is that of its account. These are the letters that it has read, its children have synchronised, and it is due.
+-- count since a crash moved it; any other page is that of its account. These are the letters that it has read, its children have synchronised, and it is due or a child that was never cut.
 pub record BatchMay (system : System) (log : List Entry) (k : ClusterNo) (p : Pid) (s : ProcState) (read indices : List ℕ) : Type 0 where
   pub may : MaySend system log (Cluster k) p s
   pub runs : has_ended (s.small).status ≡ false
@@ -61,4 +61,4 @@ pub record BatchMay (system : System) (log : List Entry) (k : ClusterNo) (p : Pi
   pub account : (i : ℕ) → i < page_count system log p → is_left indices i ≡ false → page_in (account_after system log p).now i ≡ Some (page_at s.memory i)
   pub reads : rising read ≡ numbers_read (saved_of system log p) s.mail
   pub children : ChildrenSynced system log p
-  pub due : is_due_since system log p s ≡ true
+  pub due : is_due_at system log p s ≡ true

@@ -24,7 +24,7 @@ ghost use Rattle.batch_laws.specs.Underway.{BatchMay, posts_left, with_letters};
 pub fn others_tell_no_deeds()
     ensures deeds { (system : System) (log : List Entry) (e : Entry) (k : ClusterNo) (p : Pid) → Stands system log e → is_by_cluster k e ≡ false → is_by_home (placement system log) (Cluster k) (Some p) ≡ true → deeds_in p (what e) ≡ [] }
     // So it leaves its marks, where it does not move the process,
-    ensures leaves { (system : System) (log : List Entry) (e : Entry) (k : ClusterNo) (p : Pid) → Stands system log e → is_by_cluster k e ≡ false → is_by_home (placement system log) (Cluster k) (Some p) ≡ true → moves_next system log e p ≡ false → LeavesMarks system log e p }
+    ensures leaves { (system : System) (log : List Entry) (e : Entry) (k : ClusterNo) (p : Pid) → Stands system log e → is_by_cluster k e ≡ false → is_by_home (placement system log) (Cluster k) (Some p) ≡ true → is_system system ≡ true → IsLegalBy Stands system log → moves_next system log e p ≡ false → LeavesMarks system log e p }
     // and comes between the posts of its batch where the log goes on after it and the process is still at that home.
     ensures between { (system : System) (log : List Entry) (e : Entry) (k : ClusterNo) (p : Pid) → is_system system ≡ true → IsLegalBy Stands system log → Stands system log e → is_by_cluster k e ≡ false → is_by_home (placement system log) (Cluster k) (Some p) ≡ true → is_over system (log ++ e ∷ []) ≡ false → is_by_home (placement system (log ++ e ∷ [])) (Cluster k) (Some p) ≡ true → ComesBetween system log e k p }
 {}

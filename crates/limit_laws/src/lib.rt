@@ -1,6 +1,7 @@
 //! A process that keeps its limits by its own counts keeps those of the log: laws and no code.
 #![tactic(auto)]
 
+pub mod forks;
 pub mod own;
 pub mod rest;
 pub mod sending;

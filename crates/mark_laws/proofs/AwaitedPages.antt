@@ -1,7 +1,6 @@
 -- A process that lacks pages since a crash moved it has sent none since, and its account has nothing but what was kept.
-use Rattle.std.proofs.Common.{◌≡◌, ℕ, refl, sym, ◌∙◌, ap, List, [], ◌∷◌, ◌++◌, Bool, true, false, cond, ◌||◌, ltb, Option, Some, None, true≢false}
+use Rattle.std.proofs.Common.{◌≡◌, ℕ, refl, sym, ◌∙◌, ap, List, [], ◌∷◌, ◌++◌, Bool, true, false, cond, ◌||◌, Option, Some, None, true≢false}
 use Rattle.std.specs.Option.{option_map_or}
-use Rattle.std.proofs.lemmas.Bool.{and_parts}
 use Rattle.t32_base.specs.declared.process.Pid.{Pid}
 use Rattle.t32_base.specs.Account.{Account, no_pages, committed, reverted}
 use Rattle.sys_text.specs.declared.system.System.{System}
@@ -10,12 +9,11 @@ use Rattle.plain_kernel.specs.Kernel.{boot, process_at}
 use Rattle.bus_msg.specs.declared.entry.What.{What}
 use Rattle.bus_msg.specs.declared.entry.What.TheVariants.{Page}
 use Rattle.bus_msg.specs.declared.entry.Entry.{Entry}
-use Rattle.bus_msg.specs.Places.{same_pid}
 use Rattle.bus_msg.specs.PlacedAfter.{what}
-use Rattle.cert_sched.specs.Told.{Told, told}
+use Rattle.cert_sched.specs.Told.{told}
 use Rattle.cert_sched.specs.Deeds.{is_cut}
 use Rattle.cert_sched.specs.Account.{account_after, image_pages, is_exit_of, page_put}
-use Rattle.cert_sched.specs.Moved.{any_since_moved, since_moved}
+use Rattle.cert_sched.specs.Moved.{any_since_moved}
 use Rattle.cert_sched.specs.Rules.{awaits_pages, has_its_pages, holds_of}
 use Rattle.cert_sched.specs.Steps.{process_of}
 use Rattle.cert_sched.specs.Legal.{IsLegalBy, Stands}
@@ -28,9 +26,9 @@ use Rattle.page_laws.proofs.Keeping.{pages_kept}
 use Rattle.page_laws.proofs.OneEntry.{any_since-snoc}
 use Rattle.page_laws.proofs.StartPages.{IsWaitingRule}
 use Rattle.mark_laws.specs.Beside.{is_some_page}
-use Rattle.mark_laws.specs.Sent.{SentUpto, is_later_page}
+use Rattle.mark_laws.specs.Sent.{SentUpto}
 use Rattle.mark_laws.proofs.EntryMarks.{no_put}
-use Rattle.mark_laws.proofs.SentPages.{none_passes}
+use Rattle.mark_laws.proofs.SentPages.{unsent_upto}
 
 -- its account is as the last commit left it, and no page of it was sent since
 record IsStill (system : System) (log : List Entry) (p : Pid) : Type 0 where
@@ -100,13 +98,9 @@ still May waiting system log p legal =
     legal_induction May system (λ log. has_its_pages system log p ≡ false → IsStill system log p) (λ lacks. still_at_boot system p)
     (λ log e before may lacks. let w = waiting system log e may in still_after system log e p w.0 w.1 before lacks) log legal
 
-later_is_some : (p : Pid) (n : ℕ) (w : What) → is_later_page p n w ≡ true → is_some_page p w ≡ true
-later_is_some p n (Page pid at index bytes) is = (and_parts (same_pid pid p) (ltb n at) is).0
-later_is_some p n _ is = is
-
 pub lacks_sent : (May : System → List Entry → Entry → Type 0) → IsWaitingRule May → (system : System) (log : List Entry) (p : Pid) (n : ℕ) → IsLegalBy May system log → has_its_pages system log p ≡ false → SentUpto system log p n
 lacks_sent May waiting system log p n legal lacks =
-    none_passes (λ (t : Told). is_later_page p n (what t.entry)) (λ (t : Told). is_some_page p (what t.entry)) (since_moved system log p) (λ t. later_is_some p n (what t.entry)) (still May waiting system log p legal lacks).none
+    unsent_upto system log p n (still May waiting system log p legal lacks).none
 
 pub lacks_kept : (May : System → List Entry → Entry → Type 0) → IsWaitingRule May → (system : System) (log : List Entry) (p : Pid) → IsLegalBy May system log → has_its_pages system log p ≡ false
     → (account_after system log p).now ≡ (account_after system log p).kept

@@ -11,4 +11,8 @@ pub mod RolledReads
 pub mod RolledMarks
 pub mod AwaitedPages
 pub mod BegunMarks
+pub mod ForkMarks
+pub mod UnplacedPages
+pub mod AllMarked
+pub mod BornMarks
 mod WorkedMarks

@@ -14,6 +14,7 @@ use Rattle.cert_sched.specs.Told.{Told, told}
 use Rattle.cert_sched.specs.Moved.{any_since_moved, is_page_at, since_moved}
 use Rattle.page_laws.specs.Next.{moves_next}
 use Rattle.page_laws.proofs.OneEntry.{any_since-snoc, or_nothing}
+use Rattle.mark_laws.specs.Beside.{is_some_page}
 use Rattle.mark_laws.specs.Sent.{SentUpto, is_later_page}
 
 -- none passes a test that only those pass that pass another, which none passes
@@ -46,7 +47,16 @@ at_later p i n m (Page pid at index bytes) low is =
     ap (λ b. b && ltb n at) first.0 ∙ less_at n m at low parts.1
 at_later p i n m _ low is = is
 
+later_is_some : (p : Pid) (n : ℕ) (w : What) → is_later_page p n w ≡ true → is_some_page p w ≡ true
+later_is_some p n (Page pid at index bytes) is = (and_parts (same_pid pid p) (ltb n at) is).0
+later_is_some p n _ is = is
+
 module _ (system : System) (log : List Entry) (p : Pid) where
+  -- where no page was sent, none was sent at a later step count than any
+  pub unsent_upto : (n : ℕ) → any_since_moved system log p (is_some_page p) ≡ false → SentUpto system log p n
+  unsent_upto n none =
+      none_passes (λ (t : Told). is_later_page p n (what t.entry)) (λ (t : Told). is_some_page p (what t.entry)) (since_moved system log p) (λ t. later_is_some p n (what t.entry)) none
+
   -- no page was sent at a later step count
   pub never_at : (n m i : ℕ) → n < m → SentUpto system log p n → any_since_moved system log p (is_page_at p i m) ≡ false
   never_at n m i low upto =

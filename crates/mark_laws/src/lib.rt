@@ -5,6 +5,7 @@ pub mod begun;
 pub mod boot;
 pub mod emitted;
 pub mod entries;
+pub mod forks;
 pub mod letters;
 pub mod rolled;
 pub mod sent;

@@ -4,11 +4,11 @@ use Rattle.proc_state.specs.declared.process.Process.{Process}
 use Rattle.proc_state.specs.Mail.{MailState}
 use Rattle.proc_state.specs.State.{state_of}
 use Rattle.sys_calls.specs.Calls.{Silent}
-use Rattle.sys_calls.specs.Next.{letter_taken, next_step, silently, silently_marked, step_marks}
+use Rattle.sys_calls.specs.Next.{letter_taken, next_step, silently_marked, step_marks}
 use Rattle.sys_calls.specs.Steps.{marked, SameCount, Took}
 use Rattle.sys_calls.proofs.Running.{silently-marked}
 use Rattle.roll_forward.specs.declared.rolled.Rolled.TheVariants.{Silent as WasSilent}
-use Rattle.roll_forward.specs.Advancing.{rolled_on, going}
+use Rattle.roll_forward.specs.Advancing.{going}
 use Rattle.roll_forward.proofs.RollLaws.{gone_of, one_rolled, rolled_on-append, rolled_silently}
 use Rattle.quanta.specs.Quantum.{RunsOn}
 use Rattle.quanta.proofs.Silence.{one_more_silent}

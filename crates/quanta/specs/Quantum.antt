@@ -6,12 +6,12 @@ use Rattle.t32_base.specs.declared.process.Counts.{Counts}
 use Rattle.proc_state.specs.declared.process.Process.{Process}
 use Rattle.proc_state.specs.State.{state_of}
 use Rattle.sys_calls.specs.declared.steps.Emission.{Emission}
-use Rattle.sys_calls.specs.Calls.{Emits}
+use Rattle.sys_calls.specs.Calls.{Emits, Forks}
 use Rattle.sys_calls.specs.Next.{next_step, has_step, silently}
 use Rattle.roll_forward.specs.Advancing.{going, rolled_on}
 use Rattle.quanta.specs.declared.limits.Limits.{Limits}
 use Rattle.quanta.specs.declared.quantum.Ran.{Ran}
-use Rattle.quanta.specs.declared.quantum.Ran.TheVariants.{Moved, Refused, Sent, Stuck}
+use Rattle.quanta.specs.declared.quantum.Ran.TheVariants.{Moved, Refused, Sent, Stuck, Forks as RanToFork}
 use Rattle.quanta.specs.Limited.{is_due}
 
 -- n silent steps of a process, with the marks of its pages and what it has read, whatever is left to withhold
@@ -46,11 +46,20 @@ pub record Sends (limits : Limits) (most made : ℕ) (old : Process) (emission :
   pub sends : next_step (state_of before) ≡ Emits emission (state_of new)
   pub touches : new ≡ record before { small = new.small }
 
+-- silent steps, after which a process that is not due, and may make one more, stands before its fork
+pub record StandsAtFork (limits : Limits) (most made : ℕ) (old new : Process) : Type 0 where
+  pub steps : ℕ
+  pub few : made + steps < most
+  pub silent : RunsOn steps old new
+  pub undue : is_due limits new ≡ false
+  pub forks : next_step (state_of new) ≡ Forks
+
 -- the rest of a quantum after so many steps: where there were none, it may have no step, or no memory for the first
 abbrev pub RunsRest : Limits → ℕ → ℕ → Process → Result Ran NoMemory → Process → Type 0
 RunsRest limits most made old (Ok Moved) new = MovesOn limits most made old new
 RunsRest limits most made old (Ok Refused) new = Moves most made old new
 RunsRest limits most made old (Ok (Sent emission)) new = Sends limits most made old emission new
+RunsRest limits most made old (Ok RanToFork) new = StandsAtFork limits most made old new
 RunsRest limits most made old (Ok Stuck) new = (made ≡ 0) × (has_step (next_step (state_of old)) ≡ false) × (new ≡ old)
 RunsRest limits most made old (Err fault) new = (made ≡ 0) × (new ≡ old)
 

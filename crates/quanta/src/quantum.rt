@@ -12,22 +12,24 @@ use sys_calls::steps::{Emission, Step};
 use t32_base::streams::NoMemory;
 
 /// What a process did in a quantum: it made silent steps, and none more may be made; it made silent steps, and memory
-/// was refused for the next; its last step sent something; or it had no step.
+/// was refused for the next; its last step sent something; it had no step; or, after silent steps or none, it stands
+/// before its fork.
 #[derive(Drop)]
 pub enum Ran {
     Moved,
     Refused,
     Sent(Emission),
     Stuck,
+    Forks,
 }
 
 /// The most steps of a quantum.
 pub const MOST: u32 = 64;
 
 /// The rest of a quantum in which a process made some steps: at most 64 with them, up to one that sends something, up
-/// to a read that waits, or until it is due. Each step is made by a process that is not due; where none was made
-/// before, the caller has synchronised one that was. A later step for which memory is refused is not made; where it is
-/// the first of the quantum, nothing has changed.
+/// to a read that waits, up to a fork, which is not made and counts as a step, or until it is due. Each step is made by
+/// a process that is not due; where none was made before, the caller has synchronised one that was. A later step for
+/// which memory is refused is not made; where it is the first of the quantum, nothing has changed.
 pub fn run_rest(
     alloc: Global,
     p: &mut Process,
@@ -47,7 +49,7 @@ pub fn run_rest(
             Ok(Step::Emit(emission)) => return Ok(Ran::Sent(emission)),
             Ok(Step::Blocked) => return Ok(moved_or_stuck(made)),
             Ok(Step::Over) => return Ok(moved_or_stuck(made)),
-            Ok(Step::Forks) => unreachable!(),
+            Ok(Step::Forks) => return Ok(Ran::Forks),
             Err(NoMemory) => return refused(made),
         }
     }

@@ -2,6 +2,7 @@
 use bus_msg::entry::{By, Cause, Dests, Entry, Post, What};
 use plain_kernel::item::Item;
 use plain_kernel::plain::{Plain, run};
+use report_text::outcome::Outcome;
 use report_text::run::{Ended, Run};
 use report_text::whole::{log_text, report};
 use std::alloc::Global;
@@ -20,6 +21,8 @@ const WHOLE: &str =
 
 const LOST: &str =
     "tty 0 3\nhi\n\npid 16 exit 0\ncrash 0 at 0\nreturn 0 at 1\ncrash 1 at 2\nlost 1 at 2\nbus 3 syncs 0 withheld 7\nschedule 0\n";
+
+const BORN: &str = "tty 0 3\nhi\n\npid 16 exit 0\npid 32 waiting\npid 48 exit 7\n";
 
 fn entry(place: u64, by: By, what: What) -> Entry {
     Entry {
@@ -125,5 +128,55 @@ fn losses_and_returns_are_printed_in_the_order_of_the_log(rt: HostRuntime) -> Re
     let lost = run_of(alloc, log_of_losses(alloc)?, &[], ended, 7)?;
     let text = report(alloc, &plain, &lost)?;
     assert_eq!(rt; text.as_slice(), LOST.as_bytes());
+    Ok(())
+}
+
+// A process ends.
+fn exit_of(place: u64, pid: Pid, at: u64, code: u8) -> Entry {
+    let end = End::Exit(code);
+    entry(
+        place,
+        By::Cluster(ClusterNo(0)),
+        What::Exit { pid, at, end },
+    )
+}
+
+// A process forks.
+fn birth_of(place: u64, parent: Pid, at: u64, child: Pid, end: u8) -> Entry {
+    let what = What::Birth {
+        parent,
+        at,
+        child,
+        end,
+    };
+    entry(place, By::Cluster(ClusterNo(0)), what)
+}
+
+// The log of a process that forks twice and exits. Its first child writes three bytes, and its second child exits.
+fn log_of_births(alloc: Global) -> Result<List<Entry>, NoMemory> {
+    let mut log = List::new(alloc);
+    log.push(birth_of(0, Pid(16), 3, Pid(32), 1))?;
+    log.push(birth_of(1, Pid(16), 5, Pid(48), 2))?;
+    let letter = Letter {
+        from: Pid(32),
+        out: 0,
+        to: To::Tty(0),
+        body: Body::Said(SharedBytes::copy_of(alloc, b"hi\n")?),
+    };
+    log.push(entry(2, By::Cluster(ClusterNo(0)), What::Mail { at: 6, letter }))?;
+    log.push(exit_of(3, Pid(48), 9, 7))?;
+    log.push(exit_of(4, Pid(16), 12, 0))?;
+    Ok(log)
+}
+
+#[test]
+fn a_child_is_there_from_its_birth_and_waits_unless_it_has_ended(
+    rt: HostRuntime,
+) -> Result<(), Fail> {
+    let alloc = rt.alloc();
+    let system = read_system(alloc, HI.as_bytes())?;
+    let outcome = Outcome::of(alloc, &system, log_of_births(alloc)?.as_slice())?;
+    let text = outcome.report(alloc)?;
+    assert_eq!(rt; text.as_slice(), BORN.as_bytes());
     Ok(())
 }

@@ -1,5 +1,5 @@
 -- Where nothing can move, what is printed of a kernel is what is printed of what it tells.
-use Rattle.std.proofs.Common.{◌≡◌, ℕ, refl, sym, ◌∙◌, ap, List, [], ◌∷◌, ◌++◌, map, Bool, true, false, not, ◌||◌, cond, T, Some, Option}
+use Rattle.std.proofs.Common.{◌≡◌, refl, sym, ◌∙◌, ap, List, [], ◌∷◌, ◌++◌, map, Bool, true, false, not, cond, T, Some}
 use Rattle.std.specs.Prelude.{codes}
 use Rattle.std.specs.List.{flat_map, list_any, range_with_len}
 use Rattle.std.specs.Fmt.{decimal}
@@ -26,7 +26,7 @@ use Rattle.cert_sched.specs.Built.{BuiltMayFollow}
 use Rattle.cert_sched.proofs.Applied.{finished_kernel_still, legal_runs}
 use Rattle.cert_sched.proofs.LogLaws.{plain_run-schedule_of}
 use Rattle.cert_sched.proofs.RisingLaws.{either_not}
-use Rattle.cert_sched.proofs.StepLaws.{plain_after-pids}
+use Rattle.cert_sched.proofs.StepLaws.{plain_after-rising}
 use Rattle.cert_sched.proofs.StillLaws.{found_later}
 use Rattle.report_text.specs.Report.{newline, pid_part, pids_report, plain_report, status_text, ttys_report}
 use Rattle.report_text.specs.Outcome.{end_part, outcome_of, outcome_report, standing_text}
@@ -67,6 +67,6 @@ finished_report system log valid legal finished =
     let after : plain_after system log ≡ Some runs.0 = sym (plain_run-schedule_of system log) ∙ runs.1 in (
       runs.0,
       runs.1,
-      still_report runs.0 (plain_after-pids system log runs.0 after).rising (finished_kernel_still system log runs.0 legal finished runs.1)
+      still_report runs.0 (plain_after-rising system log runs.0 after) (finished_kernel_still system log runs.0 legal finished runs.1)
           ∙ ap outcome_report (outcome-is BuiltMayFollow (λ system log e may. may.stands) system log valid legal runs.0 after),
     )

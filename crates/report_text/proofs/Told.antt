@@ -86,6 +86,10 @@ told_same k p s t rising there same =
 pub told_ended : (k : Kernel) (p : Pid) (t : ProcState) (end : End) → (t.small).status ≡ Ended end → told_by (with_process k p t) ≡ record (told_by k) { ends = put nat_cmp p.0 (Some end) (told_by k).ends }
 told_ended k p t end is = ap (λ ends. record (told_by k) { ends = ends }) (put_standing p t k.processes ∙ ap (λ o. put nat_cmp p.0 o (map numbered k.processes)) (ap end_of is))
 
+-- or one that has not, be it new
+pub told_open : (k : Kernel) (p : Pid) (t : ProcState) → standing t ≡ None → told_by (with_process k p t) ≡ record (told_by k) { ends = put nat_cmp p.0 None (told_by k).ends }
+told_open k p t is = ap (λ ends. record (told_by k) { ends = ends }) (put_standing p t k.processes ∙ ap (λ o. put nat_cmp p.0 o (map numbered k.processes)) is)
+
 -- a letter is delivered
 pub told_letter : (k : Kernel) (letter : Letter) (to : To) → IsRising k → told_by (letter_to k letter to) ≡ record (told_by k) { ttys = ttys_with letter to k.ttys }
 told_letter k letter (Tty t) rising = refl

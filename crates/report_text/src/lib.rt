@@ -1,7 +1,7 @@
 //! The texts that the program prints of a kernel and of a run.
 #![tactic(auto)]
 
-mod outcome;
+pub mod outcome;
 pub mod plain;
 pub mod run;
 pub mod whole;

@@ -1,5 +1,5 @@
 -- A batch, post by post: each page may stand, and after them the state.
-use Rattle.std.proofs.Common.{◌≡◌, ℕ, ◌-◌, ◌<◌, refl, sym, ◌∙◌, ap, subst, arith, List, [], ◌∷◌, ◌++◌, append-nil, map, true, ◌||◌, ltb, Option, Some, None}
+use Rattle.std.proofs.Common.{◌≡◌, ℕ, ◌-◌, ◌<◌, refl, sym, ◌∙◌, ap, subst, arith, List, [], ◌∷◌, ◌++◌, append-nil, map, true, not, ◌||◌, ltb, Option, Some, None}
 use Rattle.std.specs.Prelude.{nat_le, length, option_and_then}
 use Rattle.std.specs.List.{list_all}
 use Rattle.std.specs.Option.{option_map_or}
@@ -26,6 +26,7 @@ use Rattle.sync_point.specs.Laws.{page_sent, pages_sent, with_pages}
 use Rattle.sync_point.proofs.WhichMarked.{marked_within}
 use Rattle.cert_sched.specs.Appended.{entry_of}
 use Rattle.cert_sched.specs.Deeds.{start_of}
+use Rattle.cert_sched.specs.Record.{has_state}
 use Rattle.cert_sched.specs.Account.{account_after, all_pages}
 use Rattle.cert_sched.specs.Steps.{saved_of, numbers_read, page_count, silent_upto}
 use Rattle.cert_sched.specs.Rules.{is_by_home}
@@ -37,7 +38,7 @@ use Rattle.sync_laws.specs.Running.{RunsMarked}
 use Rattle.sync_laws.specs.Batched.{log_with, AllStand}
 use Rattle.sync_laws.specs.Cut.{CutsAt}
 use Rattle.sync_laws.specs.Marked.{IsMarked}
-use Rattle.sync_laws.proofs.PageEntry.{page_goes_on, page_places, page_process, page_silent, page_start, page_saved, page_children, page_account}
+use Rattle.sync_laws.proofs.PageEntry.{page_goes_on, page_places, page_process, page_silent, page_start, page_saved, page_stated, page_children, page_account}
 use Rattle.sync_laws.proofs.Standing.{page_stands, sync_stands}
 use Rattle.sync_laws.proofs.CutMarks.{cut_marks}
 use Rattle.sync_laws.proofs.MarksLead.{was_there, marks_count, marks_reads, marks_due, marks_account}
@@ -138,6 +139,13 @@ module _ (system : System) (log : List Entry) (p : Pid) (process : Process) (by 
         account = refl;
       }
 
+  -- pages are no cut
+  pages_stated : (is : List ℕ) (log : List Entry) → has_state system (log_with system log (map (page_post process by) is)) p ≡ has_state system log p
+  pages_stated [] log = refl
+  pages_stated (i ∷ is) log =
+      let e : Entry = entry_of system log (page_post process by i) in
+      pages_stated is (log ++ e ∷ []) ∙ page_stated system log e (process.small).pid (process.small).steps i (page_at (process.ram).bytes i) refl p
+
   -- the log after the pages
   paged : List Entry
   paged = log_with system log (page_posts process by)
@@ -159,7 +167,7 @@ module _ (system : System) (log : List Entry) (p : Pid) (process : Process) (by 
       λ j. nat_le system.syncreads (length (numbers_read (after.has_saved j) (process.mail).letters))
       || nat_le system.syncsteps ((process.small).steps - option_map_or (λ (s : ProcState). (s.small).steps) (after.starts j) 0)
 
-  pub batch_stands : is_due_by process system.syncreads system.syncsteps ≡ true → AllStand system log (batch process by)
+  pub batch_stands : (is_due_by process system.syncreads system.syncsteps || not (has_state system log p)) ≡ true → AllStand system log (batch process by)
   unfolding pages paged
   batch_stands due =
       all_pages_stand system p process by own (start_of system log p) (saved_of system log p) (marked_pages process) (account_after system log p) log (sync_post process by ∷ []) (marked_within process) before (last, tt)
@@ -169,7 +177,7 @@ module _ (system : System) (log : List Entry) (p : Pid) (process : Process) (by 
         reads = marks_reads system log p process runs ∙ sym (ap (λ saved. numbers_read saved (process.mail).letters) after.has_saved);
         children = after.children;
         account = whole;
-        due = due_after ∙ marks_due system log p process runs ∙ due;
+        due = (λ j. due_after j || not (pages_stated (marked_pages process) log j)) ∙ ap (λ b. b || not (has_state system log p)) (marks_due system log p process runs) ∙ due;
       }
 
       last : Stands system paged (entry_of system paged (sync_post process by))

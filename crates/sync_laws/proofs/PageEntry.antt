@@ -1,5 +1,5 @@
 -- What a page in the log changes: the account of its process, and nothing else.
-use Rattle.std.proofs.Common.{◌≡◌, ℕ, ◌-◌, ◌&&◌, refl, ◌∙◌, ap, List, [], ◌∷◌, ◌++◌, append-nil, true, false, cond, eq-eqb, Option}
+use Rattle.std.proofs.Common.{◌≡◌, ℕ, ◌-◌, ◌&&◌, ◌||◌, refl, ◌∙◌, ap, List, [], ◌∷◌, ◌++◌, append-nil, true, false, cond, eq-eqb, Option}
 use Rattle.std.specs.Prelude.{option_and_then}
 use Rattle.std.specs.List.{list_any}
 use Rattle.std.specs.Option.{option_map_or}
@@ -17,14 +17,15 @@ use Rattle.bus_msg.specs.PlacedAfter.{what, placed_after}
 use Rattle.cert_sched.specs.Schedule.{done, items_of, placement, process_after, done_after}
 use Rattle.cert_sched.specs.Told.{cluster_lost, is_moved}
 use Rattle.cert_sched.specs.Deeds.{is_cut, is_birth_of, deeds_in, letter_for, start_of, since}
-use Rattle.cert_sched.specs.Record.{backup_record}
+use Rattle.cert_sched.specs.Record.{backup_record, has_state}
 use Rattle.cert_sched.specs.Account.{account_after, is_exit_of, page_put}
 use Rattle.cert_sched.specs.Family.{born, births_of, is_unsynced, has_unsynced_child}
 use Rattle.cert_sched.specs.Steps.{silent_upto, saved_of}
 use Rattle.cert_sched.specs.Rules.{is_over, ends_run}
 use Rattle.cert_sched.proofs.LogLaws.{placement-snoc, no_items, process_after-quiet, account_after-snoc}
-use Rattle.cert_sched.proofs.RecordLaws.{backup_record-other}
+use Rattle.cert_sched.proofs.RecordLaws.{backup_record-other, has_state-snoc}
 use Rattle.cert_sched.proofs.Induction.{is_over-snoc}
+use Rattle.page_laws.proofs.OneEntry.{or_nothing}
 use Rattle.sync_laws.proofs.Beside.{start_stays, since_stays, saved_stay}
 
 -- an account after an entry that says this, at this placement
@@ -65,6 +66,9 @@ module _ (system : System) (log : List Entry) (e : Entry) (p : Pid) (at i : ℕ)
 
   pub page_record : (q : Pid) → backup_record system (log ++ e ∷ []) q ≡ backup_record system log q
   page_record q = backup_record-other system log e q (ap (is_cut q) is) (ap (is_birth_of q) is) (ap (deeds_in q) is) (ap (letter_for q) is)
+
+  pub page_stated : (q : Pid) → has_state system (log ++ e ∷ []) q ≡ has_state system log q
+  page_stated q = has_state-snoc system log e q ∙ ap (λ w. has_state system log q || is_cut q w) is ∙ or_nothing (has_state system log q)
 
   pub page_children : (q : Pid) → has_unsynced_child system (log ++ e ∷ []) q ≡ has_unsynced_child system log q
   page_children q =

@@ -1,6 +1,5 @@
 -- The pages of an account stand by rising number, and each is one of its process.
-use Rattle.std.proofs.Common.{◌≡◌, ℕ, ◌*◌, ◌<◌, refl, sym, ◌∙◌, ap, subst, arith, List, [], ◌∷◌, ◌++◌, length, Bool, true, false, T, cond, ne_eqb, Option, Some, None}
-use Rattle.std.specs.Prelude.{option_and_then}
+use Rattle.std.proofs.Common.{◌≡◌, ℕ, ◌*◌, ◌<◌, ◌≤◌, refl, sym, ◌∙◌, ap, subst, arith, List, [], ◌∷◌, ◌++◌, length, Bool, true, false, T, cond, ne_eqb, Option, Some, None, true≢false}
 use Rattle.std.specs.Option.{option_map_or}
 use Rattle.std.specs.Cmp.{nat_cmp_total, unsigned_tied}
 use Rattle.std.specs.FinMap.{put, is_sorted}
@@ -11,7 +10,6 @@ use Rattle.t32_base.specs.Account.{Account, no_pages, page_in, committed, revert
 use Rattle.sys_text.specs.declared.system.System.{System}
 use Rattle.sys_text.specs.Valid.{is_system}
 use Rattle.proc_state.specs.State.{ProcState}
-use Rattle.plain_kernel.specs.Kernel.{Kernel, process_at}
 use Rattle.bus_msg.specs.declared.entry.What.{What}
 use Rattle.bus_msg.specs.declared.entry.What.TheVariants.{Mail, Birth, Exit, Page, Sync, Fetch, PageIs, Crash, Return, Rebackup, Done, Stop}
 use Rattle.bus_msg.specs.declared.entry.Entry.{Entry}
@@ -19,15 +17,15 @@ use Rattle.bus_msg.specs.Places.{same_pid}
 use Rattle.bus_msg.specs.PlacedAfter.{what}
 use Rattle.cert_sched.specs.Schedule.{plain_after, placement, process_after}
 use Rattle.cert_sched.specs.Told.{told, cluster_lost, is_moved}
-use Rattle.cert_sched.specs.Deeds.{is_cut}
+use Rattle.cert_sched.specs.Deeds.{is_birth_of, is_cut}
 use Rattle.cert_sched.specs.Account.{account_after, all_pages, image_pages, is_exit_of, page_put}
 use Rattle.cert_sched.specs.Steps.{page_count}
 use Rattle.cert_sched.specs.Kinds.{KindHolds}
 use Rattle.cert_sched.specs.Legal.{IsLegalBy, Stands}
 use Rattle.cert_sched.proofs.Induction.{legal_induction}
 use Rattle.cert_sched.proofs.CameLaws.{same_of}
-use Rattle.cert_sched.proofs.StepLaws.{applied}
-use Rattle.page_laws.proofs.PagesStay.{boot_pages, page_count-boot}
+use Rattle.cert_sched.proofs.BornLaws.{child_absent}
+use Rattle.page_laws.proofs.PagesStay.{page_count-snoc}
 use Rattle.page_laws.proofs.SizesStay.{process_sized}
 use Rattle.sync_laws.specs.Paged.{ArePaged}
 use Rattle.sync_laws.proofs.WholePages.{no_page_behind, pages_rise}
@@ -59,41 +57,60 @@ put_paged n i bytes pages below paged = record {
       ∙ paged.within j behind;
 }
 
-module _ (system : System) (p : Pid) where
-  -- the number of pages of the process is that of the boot
-  pub counted : (log : List Entry) (s : ProcState) → process_after system log p ≡ Some s → boot_pages system p ≡ (s.small).pages
-  counted log s there = by_kernel (plain_after system log) refl there
-    where
-      by_kernel : (o : Option Kernel) → plain_after system log ≡ o → option_and_then (λ k. process_at k p) o ≡ Some s → boot_pages system p ≡ (s.small).pages
-      by_kernel None is e = cc
-      by_kernel (Some k) is e = sym (page_count-boot system log k p is) ∙ ap (λ (o : Option ProcState). option_map_or (λ (s : ProcState). (s.small).pages) o 0) there
+-- pages of fewer are pages of more
+wider : (n m : ℕ) (pages : List (ℕ × List ℕ)) → n ≤ m → ArePaged n pages → ArePaged m pages
+wider n m pages fewer paged = record { rising = paged.rising; within = λ i behind. paged.within i (omega (arith, fewer, behind)) }
 
+-- a process that an entry bears was not there before it
+born_absent : (system : System) (log : List Entry) (e : Entry) (p : Pid) → Stands system log e → is_birth_of p (what e) ≡ true → process_after system log p ≡ None
+born_absent system log e p stands birth = by_what (what e) refl birth
+  where
+    by_what : (w : What) → what e ≡ w → is_birth_of p w ≡ true → process_after system log p ≡ None
+    by_what (Birth parent at child end) is same = ap (process_after system log) (sym (same_of child p same)) ∙ child_absent system log e parent at child end is stands.applies
+    by_what (Mail at letter) is same = absurd (true≢false (sym same))
+    by_what (Exit q at end) is same = absurd (true≢false (sym same))
+    by_what (Page q at index bytes) is same = absurd (true≢false (sym same))
+    by_what (Sync q small read took) is same = absurd (true≢false (sym same))
+    by_what (Fetch q index) is same = absurd (true≢false (sym same))
+    by_what (PageIs q index bytes) is same = absurd (true≢false (sym same))
+    by_what (Crash k cause) is same = absurd (true≢false (sym same))
+    by_what (Return k) is same = absurd (true≢false (sym same))
+    by_what (Rebackup to fresh recs) is same = absurd (true≢false (sym same))
+    by_what (Done rests) is same = absurd (true≢false (sym same))
+    by_what Stop is same = absurd (true≢false (sym same))
+
+module _ (system : System) (p : Pid) where
   -- ---- at boot
 
-  at_boot : is_system system ≡ true → BothPaged (boot_pages system p) (account_after system [] p)
+  at_boot : is_system system ≡ true → BothPaged (page_count system [] p) (account_after system [] p)
   unfolding plain_after account_after told
   at_boot valid = by_process (process_after system [] p) refl
     where
-      by_process : (o : Option ProcState) → process_after system [] p ≡ o → BothPaged (boot_pages system p) (option_map_or image_pages o no_pages)
-      by_process None is = record { now = none_paged (boot_pages system p); kept = none_paged (boot_pages system p) }
+      by_process : (o : Option ProcState) → process_after system [] p ≡ o → BothPaged (option_map_or (λ (s : ProcState). (s.small).pages) o 0) (option_map_or image_pages o no_pages)
+      by_process None is = record { now = none_paged 0; kept = none_paged 0 }
       by_process (Some s) is =
-          let size : length s.memory ≡ 256 * boot_pages system p = process_sized system [] p s valid is ∙ ap (λ n. 256 * n) (sym (counted [] s is)) in
-          let paged : ArePaged (boot_pages system p) (all_pages s.memory) = record { rising = pages_rise s.memory (boot_pages system p) size; within = λ i behind. no_page_behind s.memory (boot_pages system p) i size behind } in
+          let size : length s.memory ≡ 256 * (s.small).pages = process_sized system [] p s valid is in
+          let paged : ArePaged (s.small).pages (all_pages s.memory) = record { rising = pages_rise s.memory (s.small).pages size; within = λ i behind. no_page_behind s.memory (s.small).pages i size behind } in
           record { now = paged; kept = paged }
 
   -- ---- one more entry
 
   module _ (log : List Entry) (e : Entry) (stands : Stands system log e) where
-    fits : page_count system log p ≡ boot_pages system p
-    fits = let a = applied system log e stands.applies in page_count-boot system log a.old p a.before
+    -- a process that is there has as many pages after it, and one that it bears has no fewer
+    no_fewer : page_count system log p ≤ page_count system (log ++ e ∷ []) p
+    no_fewer = by_birth (is_birth_of p (what e)) refl
+      where
+        by_birth : (b : Bool) → is_birth_of p (what e) ≡ b → page_count system log p ≤ page_count system (log ++ e ∷ []) p
+        by_birth true birth =
+            let none : page_count system log p ≡ 0 = ap (λ (o : Option ProcState). option_map_or (λ (s : ProcState). (s.small).pages) o 0) (born_absent system log e p stands birth) in
+            omega (arith, none)
+        by_birth false other = let same = page_count-snoc system log e p stands.applies in omega (arith, same)
 
-    put_of : (w : What) → KindHolds system log e w → (pages : List (ℕ × List ℕ)) → ArePaged (boot_pages system p) pages → ArePaged (boot_pages system p) (page_put p w pages)
+    put_of : (w : What) → KindHolds system log e w → (pages : List (ℕ × List ℕ)) → ArePaged (page_count system log p) pages → ArePaged (page_count system log p) (page_put p w pages)
     put_of (Page q at index bytes) kind pages paged = by_test (same_pid q p) refl
       where
-        by_test : (b : Bool) → same_pid q p ≡ b → ArePaged (boot_pages system p) (cond b (put nat_cmp index bytes pages) pages)
-        by_test true is =
-            let count : page_count system log q ≡ boot_pages system p = ap (page_count system log) (same_of q p is) ∙ fits in
-            put_paged (boot_pages system p) index bytes pages (subst (λ n. index < n) count kind.within) paged
+        by_test : (b : Bool) → same_pid q p ≡ b → ArePaged (page_count system log p) (cond b (put nat_cmp index bytes pages) pages)
+        by_test true is = put_paged (page_count system log p) index bytes pages (subst (λ n. index < n) (ap (page_count system log) (same_of q p is)) kind.within) paged
         by_test false is = paged
     put_of (Mail at letter) kind pages paged = paged
     put_of (Birth parent at child end) kind pages paged = paged
@@ -114,16 +131,23 @@ module _ (system : System) (p : Pid) where
     by_tests false false true n a now before put_now = record { now = before.kept; kept = before.kept }
     by_tests false false false n a now before put_now = record { now = put_now; kept = before.kept }
 
-    one_more : BothPaged (boot_pages system p) (account_after system log p) → BothPaged (boot_pages system p) (account_after system (log ++ e ∷ []) p)
+    one_more : BothPaged (page_count system log p) (account_after system log p) → BothPaged (page_count system (log ++ e ∷ []) p) (account_after system (log ++ e ∷ []) p)
     one_more before =
         let a : Account = account_after system log p in
-        subst (λ (a : Account). BothPaged (boot_pages system p) a) (sym (account_next system log e p (what e) refl))
-        (by_tests (is_exit_of p (what e)) (is_cut p (what e)) (option_map_or (is_moved p (placement system log)) (cluster_lost (what e)) false) (boot_pages system p) a (page_put p (what e) a.now) before
-        (put_of (what e) stands.kind a.now before.now))
+        let n : ℕ = page_count system log p in
+        let m : ℕ = page_count system (log ++ e ∷ []) p in
+        let later : BothPaged n (account_after system (log ++ e ∷ []) p) =
+        subst (λ (a : Account). BothPaged n a) (sym (account_next system log e p (what e) refl))
+        (by_tests (is_exit_of p (what e)) (is_cut p (what e)) (option_map_or (is_moved p (placement system log)) (cluster_lost (what e)) false) n a (page_put p (what e) a.now) before
+        (put_of (what e) stands.kind a.now before.now)) in
+        record {
+          now = wider n m (account_after system (log ++ e ∷ []) p).now no_fewer later.now;
+          kept = wider n m (account_after system (log ++ e ∷ []) p).kept no_fewer later.kept;
+        }
 
   -- ---- the whole
 
   pub both_paged : (log : List Entry) (s : ProcState) → is_system system ≡ true → IsLegalBy Stands system log → process_after system log p ≡ Some s → BothPaged (s.small).pages (account_after system log p)
   both_paged log s valid legal there =
-      subst (λ n. BothPaged n (account_after system log p)) (counted log s there)
-      (legal_induction Stands system (λ log. BothPaged (boot_pages system p) (account_after system log p)) (at_boot valid) (λ log e before stands. one_more log e stands before) log legal)
+      subst (λ n. BothPaged n (account_after system log p)) (ap (λ (o : Option ProcState). option_map_or (λ (s : ProcState). (s.small).pages) o 0) there)
+      (legal_induction Stands system (λ log. BothPaged (page_count system log p) (account_after system log p)) (at_boot valid) (λ log e before stands. one_more log e stands before) log legal)

@@ -60,7 +60,8 @@ sync_stands system log by p s read may sync = record {
     due_now : is_due system log p None s ≡ true
     due_now = by_tests (nat_le system.syncreads (reads_since system log p s)) (nat_le system.syncsteps (steps_since system log p s)) false (not (has_state system log p)) sync.due
       where
-        by_tests : (a b taken never : Bool) → (a || b) ≡ true → (a || b || taken || never) ≡ true
+        by_tests : (a b taken never : Bool) → (a || b || never) ≡ true → (a || b || taken || never) ≡ true
         by_tests true b taken never is = refl
         by_tests false true taken never is = refl
-        by_tests false false taken never is = cc
+        by_tests false false true never is = refl
+        by_tests false false false never is = is

@@ -1,5 +1,5 @@
 -- A worked process: it changes its one page and is due after 64 steps. Its batch may stand, and it is marked as the log says then.
-use Rattle.std.proofs.Common.{◌≡◌, ℕ, zero, suc, ◌<◌, refl, arith, [], ◌∷◌, true, false, Some}
+use Rattle.std.proofs.Common.{◌≡◌, ℕ, zero, suc, ◌<◌, refl, ap, arith, [], ◌∷◌, true, false, not, ◌||◌, Some}
 use Rattle.std.specs.Option.{option_map_or}
 use Rattle.t32_base.specs.declared.process.Pid.{Pid}
 use Rattle.t32_base.specs.Account.{page_in}
@@ -15,6 +15,7 @@ use Rattle.sync_point.specs.Batch.{batch, synced}
 use Rattle.sync_point.specs.Due.{is_due_by}
 use Rattle.cert_sched.specs.Schedule.{plain_after, placement}
 use Rattle.cert_sched.specs.Told.{told}
+use Rattle.cert_sched.specs.Record.{has_state}
 use Rattle.cert_sched.specs.Account.{account_after}
 use Rattle.cert_sched.specs.Steps.{silent_upto}
 use Rattle.cert_sched.specs.Rules.{is_over}
@@ -64,7 +65,7 @@ due = refl
 
 -- its batch, which is its page and its state, may stand
 stands : AllStand named [] (batch process (cluster 0))
-stands = batch_stands named [] it process (cluster 0) runs may refl due
+stands = batch_stands named [] it process (cluster 0) runs may refl (ap (λ b. b || not (has_state named [] it)) due)
 
 -- after it the process is marked as the log says
 marked : IsMarked named (log_with named [] (batch process (cluster 0))) it (synced process)

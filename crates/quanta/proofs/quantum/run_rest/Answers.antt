@@ -8,7 +8,6 @@ use Rattle.quanta.specs.Quantum.{RunsOn}
 use Rattle.quanta.proofs.Silence.{unmoved}
 use Rattle.quanta.proofs.RunningOn.{instructions_on, one_more_on}
 use Rattle.quanta.proofs.Within.{step_within, steps_within}
-use Rattle.sys_calls.proofs.Quiet.{no_fork}
 use Rattle.quanta.proofs.Ending.{over_due, over_full}
 use Rattle.quanta.proofs.quantum.run_rest.Goals as goal
 use Rattle.quanta.proofs.quantum.run_rest.Goals.{then-steps-test+else-not-due, else-steps-test}
@@ -45,9 +44,6 @@ steps-preserved c =
       unmoved = λ none. absurd (omega (arith, one, none));
       within = λ inside. step_within c.args.limits (letter_taken (state_of c.steps.p)) c.steps.p c.step.new.p (sym c.due.ensures ∙ c.if-not-due.true) did.count count;
     }
-
-pub unreachable-requires : goal.unreachable-requires
-unreachable-requires c = no_fork (state_of c.steps.p) (rw c.in-Ok-Forks.field-0-is at c.in-Ok-Forks.ensures.makes).0
 
 pub returns-clause-runs : goal.returns-clause-runs
 returns-clause-runs c =

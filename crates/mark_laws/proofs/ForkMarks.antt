@@ -1,0 +1,69 @@
+-- A fork leaves the marks of the parent: it changes its registers, its ends and its births, and no page. So does a birth in the log, to every process that has not ended.
+use Rattle.std.proofs.Common.{◌≡◌, ℕ, ◌+◌, ◌<◌, sym, ◌∙◌, ap, subst, arith, List, Bool, true, false, Some}
+use Rattle.std.specs.Prelude.{slice_get}
+use Rattle.std.specs.Option.{option_map_or}
+use Rattle.t32_base.specs.declared.process.Pid.{Pid}
+use Rattle.sys_text.specs.declared.system.System.{System}
+use Rattle.sys_text.specs.Valid.{is_system}
+use Rattle.rv_mem.specs.Memory.{page_at}
+use Rattle.proc_state.specs.declared.process.Process.{Process}
+use Rattle.proc_state.specs.State.{ProcState, SameRest, state_of}
+use Rattle.sys_calls.specs.Fork.{fork_parent}
+use Rattle.bus_msg.specs.declared.entry.What.TheVariants.{Birth}
+use Rattle.bus_msg.specs.declared.entry.Entry.{Entry}
+use Rattle.bus_msg.specs.PlacedAfter.{what}
+use Rattle.cert_sched.specs.Account.{is_exit_of}
+use Rattle.cert_sched.specs.Parts.{rising}
+use Rattle.cert_sched.specs.Deeds.{is_cut}
+use Rattle.cert_sched.specs.Steps.{numbers_read, saved_of}
+use Rattle.cert_sched.specs.Told.{cluster_lost}
+use Rattle.cert_sched.specs.Legal.{IsLegalBy, Stands}
+use Rattle.cert_sched.specs.Simulation.{IsUnended}
+use Rattle.cert_sched.proofs.ThereLaws.{unended_not_born}
+use Rattle.page_laws.proofs.OneEntry.{moves_none}
+use Rattle.read_laws.proofs.LogReads.{itself}
+use Rattle.sync_laws.specs.Marked.{IsMarked, arrived_below}
+use Rattle.mark_laws.specs.Beside.{LeavesMarks, is_some_page}
+use Rattle.mark_laws.specs.Sent.{SentUpto}
+use Rattle.mark_laws.proofs.SentPages.{never_at, sent_later}
+
+-- ---- the parent
+
+module _ (system : System) (log : List Entry) (p child : Pid) (old new : Process) (forked : state_of new ≡ fork_parent (state_of old) child) where
+  -- it has made one step more
+  pub forked_steps : (new.small).steps ≡ (old.small).steps + 1
+  forked_steps = ap (λ (s : ProcState). (s.small).steps) forked
+
+  forked_pages : (new.small).pages ≡ (old.small).pages
+  forked_pages = ap (λ (s : ProcState). (s.small).pages) forked
+
+  pub forked_sent : SentUpto system log p (old.small).steps → SentUpto system log p (new.small).steps
+  forked_sent upto = let count = forked_steps in sent_later system log p (old.small).steps (new.small).steps (omega (arith, count)) upto
+
+  pub forked_marked : SameRest old new → IsMarked system log p old → SentUpto system log p (old.small).steps → IsMarked system log p new
+  forked_marked rest marked upto =
+      let count = forked_steps in
+      record {
+        since_start = rest.since ∙ marked.since_start;
+        read =
+            ap rising rest.read
+            ∙ marked.read
+            ∙ sym (ap (λ (s : ProcState). numbers_read (arrived_below s.next (saved_of system log p)) s.mail) forked);
+        clean = λ i within unmarked.
+            marked.clean i (subst (λ n. i < n) forked_pages within) ((λ j. option_map_or (λ (b : Bool). b) (slice_get (sym rest.ram j).dirty i) false) ∙ unmarked)
+            ∙ (λ j. Some (page_at (sym rest.ram j).bytes i));
+        unsent = λ i within is. never_at system log p (old.small).steps (new.small).steps i (omega (arith, count)) upto;
+      }
+
+-- ---- the log
+
+-- a birth is no cut, exit or page, loses no cluster, and bears no process that is there
+pub birth_leaves : (system : System) (log : List Entry) (e : Entry) (parent : Pid) (at : ℕ) (child : Pid) (end : ℕ) (p : Pid) → is_system system ≡ true → IsLegalBy Stands system log → Stands system log e → what e ≡ Birth parent at child end
+    → IsUnended system log p → LeavesMarks system log e p
+birth_leaves system log e parent at child end p valid legal stands is unended = record {
+  no_cut = ap (is_cut p) is;
+  no_birth = unended_not_born Stands itself system log e p valid legal stands unended;
+  no_exit = ap (is_exit_of p) is;
+  no_page = ap (is_some_page p) is;
+  stays = moves_none system log e (ap cluster_lost is) p;
+}
