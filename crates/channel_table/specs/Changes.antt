@@ -5,9 +5,9 @@ use Rattle.std.specs.List.{list_any}
 use Rattle.t32_base.specs.declared.process.Pid.{Pid}
 use Rattle.t32_base.specs.declared.process.ClusterNo.{ClusterNo}
 use Rattle.bus_msg.specs.declared.entry.What.{What}
-use Rattle.bus_msg.specs.declared.entry.What.TheVariants.{Mail, Birth, Exit, Page, Sync, Fetch, PageIs, Crash, Return, Rebackup, Done, Stop}
+use Rattle.bus_msg.specs.declared.entry.What.TheVariants.{Birth, Return}
 use Rattle.bus_msg.specs.declared.placed.Placed.{Placed}
-use Rattle.bus_msg.specs.Places.{Places, same_pid, placed_at, next_serial_in, lives_in}
+use Rattle.bus_msg.specs.Places.{ClusterPlace, Places, same_pid, placed_at, next_serial_in, lives_in}
 use Rattle.bus_msg.specs.Route.{to_list}
 
 -- one process with its backup in a cluster; a fresh backup counts as a synchronisation
@@ -17,6 +17,10 @@ with_backup to fresh pid q = if same_pid q.pid pid then record q { backup = Some
 -- one process with its backup in a cluster
 abbrev pub given_backup : ClusterNo → Pid → Placed → Placed
 given_backup to pid q = if same_pid q.pid pid then record q { backup = Some to } else q
+
+-- a cluster whose last forked child is taken back
+abbrev pub lowered_serial : ClusterPlace → ClusterPlace
+lowered_serial c = record c { next_serial = c.next_serial - 1 }
 
 -- no two processes have one number
 abbrev pub pids_differ : List Placed → Bool

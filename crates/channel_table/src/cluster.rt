@@ -2,6 +2,7 @@
 ghost use Rattle.std.specs.Prelude.{◌≡◌, ◌+◌, ◌-◌, ◌^◌, ◌<◌, true, false, not};
 ghost use Rattle.bus_msg.specs.Places.{ClusterPlace};
 ghost use Rattle.bus_msg.specs.PlacedAfter.{raised_serial, lost_cluster, returned_cluster};
+ghost use Rattle.channel_table.specs.Changes.{lowered_serial};
 
 use std::marker::Model;
 
@@ -74,5 +75,12 @@ impl Cluster {
         ensures { self.new ≡ raised_serial self.old }
     {
         self.next_serial += 1;
+    }
+
+    /// The child that was forked here last is taken back.
+    pub fn uncount_birth(&mut self)
+        ensures { self.new ≡ lowered_serial self.old }
+    {
+        self.next_serial = self.next_serial.saturating_sub(1);
     }
 }

@@ -2,10 +2,10 @@
 ghost use Rattle.std.specs.Prelude.{◌≡◌, ◌+◌, ◌-◌, ◌^◌, ◌<◌, ◌≤◌, ◌==◌, ◌&&◌, ◌||◌, not, true, false, if◌then◌else◌, bit_or, [], ◌∷◌, None, map, count_by, length, slice_get, IsTrue, OnOk, OnErr, IfOk};
 ghost use Rattle.std.specs.List.{list_all, list_any, range_with_len};
 ghost use Rattle.std.specs.Option.{option_map, option_map_or};
-ghost use Rattle.bus_msg.specs.Places.{ClusterPlace, boot_cluster, boot_places, same_cluster, lives_in, never_lost, next_serial_in, servers_in, all_clusters, placed_at, unended_at, is_at_home, is_covered};
+ghost use Rattle.bus_msg.specs.Places.{ClusterPlace, Places, boot_cluster, boot_places, same_cluster, lives_in, never_lost, next_serial_in, servers_in, all_clusters, placed_at, unended_at, is_at_home, is_covered};
 ghost use Rattle.bus_msg.specs.PlacedAfter.{changed_at, with_cluster, with_each, with_birth, raised_serial, lost_cluster, returned_cluster, after_loss, after_rebackup, placed_after, what};
 ghost use Rattle.bus_msg.specs.Route.{bits_of, letter_dests, route};
-ghost use Rattle.channel_table.specs.Changes.{with_backup, given_backup, CanBeBorn, CanBeAbsorbed, is_birth, IsRoutable, home_list, backup_list, bits_onto, pids_differ};
+ghost use Rattle.channel_table.specs.Changes.{with_backup, given_backup, lowered_serial, CanBeBorn, CanBeAbsorbed, is_birth, IsRoutable, home_list, backup_list, bits_onto, pids_differ};
 
 use crate::cluster::Cluster;
 use crate::processes::Processes;
@@ -225,6 +225,19 @@ impl Placement {
                 Ok(())
             }
             None => Ok(()),
+        }
+    }
+
+    /// Takes back the birth that was taken in last: the placement is again as it was before. Takes no memory.
+    pub fn take_back_birth(&mut self, parent: Pid)
+        ensures { (before : Places) (child : Pid) → self.old ≡ with_birth before child (placed_at before parent) → self.new ≡ before }
+    {
+        match self.processes.get(parent) {
+            Some(parent) => {
+                self.processes.pop();
+                uncount_birth(&mut self.clusters, parent.home);
+            }
+            None => {}
         }
     }
 
@@ -454,6 +467,15 @@ fn count_birth(clusters: &mut [Cluster], home: ClusterNo)
     let index = usize::from(home.0);
     if index < clusters.len() {
         clusters[index].count_birth();
+    }
+}
+
+fn uncount_birth(clusters: &mut [Cluster], home: ClusterNo)
+    ensures { clusters.new ≡ changed_at home.0 lowered_serial (slice_get clusters.old home.0) clusters.old }
+{
+    let index = usize::from(home.0);
+    if index < clusters.len() {
+        clusters[index].uncount_birth();
     }
 }
 
