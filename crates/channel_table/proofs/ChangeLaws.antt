@@ -1,5 +1,5 @@
 -- Laws of what changes a placement.
-use Rattle.std.proofs.Common.{◌≡◌, ℕ, zero, suc, ◌+◌, ◌<◌, ◌-◌, ◌^◌, Bool, true, false, ◌||◌, cond, List, [], ◌∷◌, ◌++◌, map, Option, None, Some, refl, sym, ◌∙◌, ap, subst, arith, slice_get}
+use Rattle.std.proofs.Common.{◌≡◌, ℕ, zero, suc, ◌+◌, ◌<◌, ◌-◌, ◌*◌, ◌^◌, Bool, true, false, ◌||◌, cond, List, [], ◌∷◌, ◌++◌, map, Option, None, Some, refl, sym, ◌∙◌, ap, subst, arith, slice_get}
 use Rattle.std.specs.Prelude.{find}
 use Rattle.std.specs.Option.{IfSome, option_or}
 use Rattle.std.proofs.lemmas.Bool.Decides.{nat_tests}
@@ -11,7 +11,7 @@ use Rattle.bus_msg.specs.declared.placed.Placed.{Placed}
 use Rattle.bus_msg.specs.Places.{ClusterPlace, Places, same_pid, same_cluster, is_cluster, placed_at, next_serial_in}
 use Rattle.bus_msg.specs.PlacedAfter.{is_named, after_rebackup, after_loss, moved_to, changed_at, raised_serial, child_of, with_birth}
 use Rattle.channel_table.specs.Keys.{number_of}
-use Rattle.channel_table.specs.Changes.{with_backup, lowered_serial, CanBeBorn}
+use Rattle.channel_table.specs.Changes.{with_backup, lowered_serial, CanBeBorn, IsNextChild}
 
 -- two changes of every process are one
 pub map-then : (f h g : Placed → Placed) → ((q : Placed) → h (f q) ≡ g q) → (qs : List Placed) → map h (map f qs) ≡ map g qs
@@ -78,6 +78,14 @@ number_of-after_loss k q = loss_by k q q.ended (same_cluster q.home k) (is_clust
 -- a placed parent's home has a serial left
 pub room_at_home : (places : Places) (parent child : Pid) (q : Placed) → CanBeBorn places parent child → Some q ≡ placed_at places parent → next_serial_in places q.home < 2 ^ 32 - 1
 room_at_home places parent child q can found = subst (λ o. IfSome o (λ (r : Placed). next_serial_in places r.home < 2 ^ 32 - 1)) (sym found) can.1
+
+-- the home of the next child has a serial left, as a pid has 32 bits
+pub next_can_be_born : (places : Places) (parent child : Pid) → child.0 < 2 ^ 32 → IsNextChild places parent child → CanBeBorn places parent child
+next_can_be_born places parent child fits next = (next.0, by_parent (placed_at places parent) next.1)
+  where
+    by_parent : (o : Option Placed) → IfSome o (λ (q : Placed). child.0 ≡ (q.home).0 + 16 * next_serial_in places q.home) → IfSome o (λ (q : Placed). next_serial_in places q.home < 2 ^ 32 - 1)
+    by_parent None is = tt
+    by_parent (Some q) is = let number : child.0 ≡ (q.home).0 + 16 * next_serial_in places q.home = is in omega (arith, number, fits)
 
 -- the parts of the placement after a birth
 pub born : (places : Places) (parent child : Pid) (q : Placed) (clusters : List ClusterPlace) (placed : List Placed) → Some q ≡ placed_at places parent
