@@ -2,12 +2,12 @@
 ghost use Rattle.std.specs.Prelude.{◌≡◌, ◌+◌, ◌-◌, ◌^◌, ◌<◌, ◌≤◌, ◌==◌, ◌&&◌, ◌||◌, not, true, false, if◌then◌else◌, bit_or, [], ◌∷◌, None, map, count_by, length, slice_get, IsTrue, OnOk, OnErr, IfOk};
 ghost use Rattle.std.specs.List.{list_all, list_any, range_with_len};
 ghost use Rattle.std.specs.Option.{option_map, option_map_or};
-ghost use Rattle.bus_msg.specs.Places.{ClusterPlace, boot_cluster, boot_places, same_cluster, lives_in, never_lost, next_serial_in, servers_in, all_clusters, placed_at, unended_at, is_at_home, is_covered};
-ghost use Rattle.bus_msg.specs.PlacedAfter.{changed_at, with_cluster, with_each, with_birth, raised_serial, lost_cluster, returned_cluster, after_loss, after_rebackup, placed_after, what};
+ghost use Rattle.bus_msg.specs.Places.{Places, boot_cluster, boot_places, same_cluster, lives_in, never_lost, next_serial_in, servers_in, all_clusters, placed_at, unended_at, is_at_home, is_covered};
+ghost use Rattle.bus_msg.specs.PlacedAfter.{with_cluster, with_each, with_birth, lost_cluster, returned_cluster, after_loss, after_rebackup, placed_after, what};
 ghost use Rattle.bus_msg.specs.Route.{bits_of, letter_dests, route};
-ghost use Rattle.channel_table.specs.Changes.{with_backup, given_backup, CanBeBorn, CanBeAbsorbed, is_birth, IsRoutable, home_list, backup_list, bits_onto, pids_differ};
+ghost use Rattle.channel_table.specs.Changes.{given_backup, CanBeBorn, IsNextChild, CanBeAbsorbed, is_birth, IsRoutable, home_list, backup_list, bits_onto, pids_differ};
 
-use crate::cluster::Cluster;
+use crate::cluster::{Cluster, bring_back, count_birth, lose, uncount_birth};
 use crate::processes::Processes;
 use bus_msg::entry::{Dests, Entry, Post, What};
 use bus_msg::placed::Placed;
@@ -228,6 +228,28 @@ impl Placement {
         }
     }
 
+    // A child is born that is the next of its parent: as its pid has 32 bits, the serials of its home are not used up.
+    fn add_next(&mut self, parent: Pid, child: u32) -> Result<(), NoMemory>
+        requires { IsNextChild self.old parent (record { 0 = child }) }
+        ensures ok { OnOk result (self.new ≡ with_birth self.old (record { 0 = child }) (placed_at self.old parent)) }
+        ensures err { OnErr result (self.new ≡ self.old) }
+    {
+        self.add_birth(parent, Pid(child))
+    }
+
+    /// Takes back the birth that was taken in last: the placement is again as it was before. Takes no memory.
+    pub fn take_back_birth(&mut self, parent: Pid)
+        ensures { (before : Places) (child : Pid) → self.old ≡ with_birth before child (placed_at before parent) → self.new ≡ before }
+    {
+        match self.processes.get(parent) {
+            Some(parent) => {
+                self.processes.pop();
+                uncount_birth(&mut self.clusters, parent.home);
+            }
+            None => {}
+        }
+    }
+
     /// The cluster `k` is lost: its processes move to their backups and have none then, and a backup there
     /// is lost. Takes no memory.
     pub fn move_after_crash(&mut self, k: ClusterNo)
@@ -267,7 +289,7 @@ impl Placement {
         ensures err { OnErr result (self.new ≡ self.old) }
     {
         match &entry.post.what {
-            What::Birth { parent, child, .. } => self.add_birth(*parent, *child),
+            What::Birth { parent, child, .. } => self.add_next(*parent, child.0),
             _ => {
                 self.note(entry);
                 Ok(())
@@ -425,36 +447,6 @@ fn bit_of(k: ClusterNo) -> u16
     ensures { result ≡ 2 ^ k.0 }
 {
     1 << k.0
-}
-
-// ---- the clusters, one changed
-
-fn lose(clusters: &mut [Cluster], k: ClusterNo)
-    ensures { clusters.new ≡ changed_at k.0 lost_cluster (slice_get clusters.old k.0) clusters.old }
-{
-    let index = usize::from(k.0);
-    if index < clusters.len() {
-        clusters[index].lose();
-    }
-}
-
-fn bring_back(clusters: &mut [Cluster], k: ClusterNo)
-    ensures { clusters.new ≡ changed_at k.0 returned_cluster (slice_get clusters.old k.0) clusters.old }
-{
-    let index = usize::from(k.0);
-    if index < clusters.len() {
-        clusters[index].come_back();
-    }
-}
-
-fn count_birth(clusters: &mut [Cluster], home: ClusterNo)
-    requires { option_map_or (λ (c : ClusterPlace). c.next_serial) (slice_get clusters.old home.0) 0 < 2 ^ 32 - 1 }
-    ensures { clusters.new ≡ changed_at home.0 raised_serial (slice_get clusters.old home.0) clusters.old }
-{
-    let index = usize::from(home.0);
-    if index < clusters.len() {
-        clusters[index].count_birth();
-    }
 }
 
 // ---- the clusters at boot

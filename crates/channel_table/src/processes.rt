@@ -1,5 +1,5 @@
 //! The processes of a placement, in the order of their births.
-ghost use Rattle.std.specs.Prelude.{◌≡◌, true, ◌&&◌, not, [], ◌∷◌, ◌++◌, map, find, length, slice_get, None, OnOk, OnErr, IfOk};
+ghost use Rattle.std.specs.Prelude.{◌≡◌, true, ◌&&◌, not, List, [], ◌∷◌, ◌++◌, map, find, length, slice_get, None, OnOk, OnErr, IfOk};
 ghost use Rattle.std.specs.Map.Iter.{ShowsInOrder, deref};
 ghost use Rattle.bus_msg.specs.declared.placed.Placed.{Placed};
 ghost use Rattle.bus_msg.specs.Places.{same_pid};
@@ -106,6 +106,13 @@ impl Processes {
     {
         self.map.insert(placed.pid.0, placed)?;
         Ok(())
+    }
+
+    /// Takes out the process that was put last. Takes no memory.
+    pub fn pop(&mut self)
+        ensures { (before : List Placed) (last : Placed) → self.old ≡ before ++ last ∷ [] → self.new ≡ before }
+    {
+        self.map.pop();
     }
 
     /// The process has ended.
