@@ -25,7 +25,7 @@ use Rattle.cluster_core.specs.View.{ClusterView, Held, Runs, Rolls, with_server,
 use Rattle.cluster_core.specs.Parts.{AllOwn}
 use Rattle.cluster_core.specs.Recovered.{moved_by, CanWait, with_all_waiting}
 use Rattle.cluster_core.specs.Follows.{FollowsBuilt, IsOpen, StandsBetween}
-use Rattle.cluster_core.specs.Queue.{IsQueued}
+use Rattle.cluster_core.specs.Queue.{IsQueued, is_lone}
 use Rattle.cluster_core.specs.Syncing.{Synchronises}
 use Rattle.cluster_core.specs.Calls.{Absorbs, IsReady, ReadyFor, absorbed, here_after}
 use Rattle.cluster_core.proofs.ByKind.{IsLoss, OneOf, by_kind, by_page, by_sync, is_of_page, is_of_sync}
@@ -34,6 +34,7 @@ use Rattle.cluster_core.proofs.Losing.{follows_lost, can_wait, still_here}
 use Rattle.cluster_core.proofs.LostQueue.{home_stays}
 use Rattle.cluster_core.proofs.Paging.{follows_page, follows_own_page, page_at, page_taken, places_same, was_paged}
 use Rattle.cluster_core.proofs.Synchronising.{follows_sync, home_same, sync_not_alone, sync_taken}
+use Rattle.cluster_core.proofs.Births.{birth_taken, follows_birth, spares_here}
 use Rattle.cluster_core.specs.Serving.{Serves}
 use Rattle.page_server.specs.Account.{PagerState}
 use Rattle.cluster_core.proofs.Turning.{built_no_birth}
@@ -73,7 +74,8 @@ beside_next which c log e server valid own order now later serves f foreign spar
         let moved : are_rising (filter (moves_here (placement c.system log) l.lost c.number) c.records) ≡ true =
         ap (λ places. are_rising (filter (moves_here places l.lost c.number) c.records)) (sym (f.log).places) ∙ sym (ap (λ w. are_rising (moved_by c.places c.number w (records_after w c.records))) l.same) ∙ order in
         follows_lost c.system valid log e l.lost l.cause (loss_of c.system log e l now later) c.number (other_lost c e l spared) which c server serves refl refl own f foreign moved
-    by_kind_of (inr (inr (inr of))) = follows_sync c.system valid log e of now later which c server own serves f foreign
+    by_kind_of (inr (inr (inr (inl of)))) = follows_sync c.system valid log e of now later which c server own serves f foreign
+    by_kind_of (inr (inr (inr (inr b)))) = follows_birth c.system valid log e b.parent b.at b.child b.end b.same now later which c server own serves f foreign
 
 -- ---- beside a batch
 
@@ -95,7 +97,8 @@ module _ (c : ClusterView) (log : List Entry) (e : Entry) (y : Synchronises c.sy
           ap (option_map (λ (q : Placed). q.home)) (found_stays c.system log e n.told y.pid (apart c.system log e n.told c.number y.pid home foreign))
       by_kind_of (inr (inl of)) = ap (λ places. home_at places y.pid) (places_same c.system valid log e of now later)
       by_kind_of (inr (inr (inl l))) = home_stays c.system valid log e l.lost l.cause (loss_of c.system log e l now later) c.number (other_lost c e l spared) y.pid home_is ∙ sym home_is
-      by_kind_of (inr (inr (inr of))) = home_same c.system valid log e of now later y.pid
+      by_kind_of (inr (inr (inr (inl of)))) = home_same c.system valid log e of now later y.pid
+      by_kind_of (inr (inr (inr (inr b)))) = (spares_here c.system valid log e b.parent b.at b.child b.end b.same now later c.number foreign y.pid home).home
 
   -- it is held as before, with letters more at most
   same_process : (h : Held) → held_at c y.pid ≡ Some h → h ≡ Runs y.process
@@ -118,7 +121,8 @@ module _ (c : ClusterView) (log : List Entry) (e : Entry) (y : Synchronises c.sy
           ap (λ places. are_rising (filter (moves_here places l.lost c.number) c.records)) (sym (f.log).places) ∙ sym (ap (λ w. are_rising (moved_by c.places c.number w (records_after w c.records))) l.same) ∙ order in
           let there = still_here c.system valid log e l.lost l.cause (loss_of c.system log e l now later) c.number (other_lost c e l spared) c.records c.here y.pid h f.records moved home (ap (λ here. held_of here y.pid) (sym here) ∙ at) in
           subst (RunsStill y.process) (sym (same_process h there)) (still_itself y.process)
-      by_kind_of (inr (inr (inr of))) = subst (RunsStill y.process) (sym (same_process h (ap (λ (v : ClusterView). held_at v y.pid) (sym (sync_taken c e of)) ∙ at))) (still_itself y.process)
+      by_kind_of (inr (inr (inr (inl of)))) = subst (RunsStill y.process) (sym (same_process h (ap (λ (v : ClusterView). held_at v y.pid) (sym (sync_taken c e of)) ∙ at))) (still_itself y.process)
+      by_kind_of (inr (inr (inr (inr b)))) = subst (RunsStill y.process) (sym (same_process h (ap (λ (v : ClusterView). held_at v y.pid) (sym (birth_taken c e b.parent b.at b.child b.end b.same)) ∙ at))) (still_itself y.process)
 
 -- ---- the whole
 
@@ -147,7 +151,8 @@ absorbs c e server valid own order serves log now later ready = by_ready ready
         places_of l = ap (λ (d : ClusterView). d.places) l.same ∙ ((l.followed).log).places
     sent s l (inr (inl of)) = follows_own_page c.system valid log e of now later c l server refl (serves_there (ap (λ (d : ClusterView). d.places) l.same ∙ ((l.followed).log).places))
     sent s l (inr (inr (inl loss))) = absurd (own_no_loss c log e loss s)
-    sent s l (inr (inr (inr of))) = absurd (true≢false (sym l.lone ∙ sync_not_alone (what e) of))
+    sent s l (inr (inr (inr (inl of)))) = absurd (true≢false (sym l.lone ∙ sync_not_alone (what e) of))
+    sent s l (inr (inr (inr (inr b)))) = absurd (true≢false (sym l.lone ∙ ap is_lone b.same))
 
     own_post : (s : StandsBetween FollowsBuilt c.system log e c) → IsQueued (s.before).queue ⊎ Synchronises c.system log s.before → FollowsBuilt c.system (log ++ e ∷ []) (with_server server (absorbed c e))
     own_post s (inl alone) = sent s (left_of c log e s alone) (one_of c.system log e later)
@@ -176,7 +181,8 @@ ready_quiet system log e now later = by_loss (one_of system log e later)
         by_emission n (n.told).emission (n.told).tells (sent_no_signal system log (n.told).pid (n.told).at (n.told).emission (n.told).after (n.told).is)
     by_loss (inr (inl of)) = by_page brings_none (λ pid index. tt) (λ pid index bytes. tt) (what e) of
     by_loss (inr (inr (inl l))) = subst brings_none (sym l.same) tt
-    by_loss (inr (inr (inr of))) = by_sync brings_none (λ pid at index bytes. tt) (λ pid small read. tt) (what e) of
+    by_loss (inr (inr (inr (inl of)))) = by_sync brings_none (λ pid at index bytes. tt) (λ pid small read. tt) (what e) of
+    by_loss (inr (inr (inr (inr b)))) = subst brings_none (sym b.same) tt
 
 -- the processes that a loss moves here can wait for their pages, and none of them is here yet
 pub may_wait : (c : ClusterView) (e : Entry) → is_system c.system ≡ true → ReadyFor e c → CanWait (moved_by c.places c.number (what e) (records_after (what e) c.records)) (here_after (what e) c.here)
@@ -202,7 +208,8 @@ may_wait c e valid r = by_loss (one_of c.system r.log e r.open_next)
     by_loss (inl tells) = nobody (none (what e) tells)
     by_loss (inr (inl of)) = nobody (none_by_page (what e) of)
     by_loss (inr (inr (inl l))) = lost l r.ready
-    by_loss (inr (inr (inr of))) = nobody (by_sync (λ w. moved_by c.places c.number w (records_after w c.records) ≡ []) (λ pid at index bytes. refl) (λ pid small read. refl) (what e) of)
+    by_loss (inr (inr (inr (inl of)))) = nobody (by_sync (λ w. moved_by c.places c.number w (records_after w c.records) ≡ []) (λ pid at index bytes. refl) (λ pid small read. refl) (what e) of)
+    by_loss (inr (inr (inr (inr b)))) = nobody (ap (λ w. moved_by c.places c.number w (records_after w c.records)) b.same)
 
 -- a page that comes may come to its process
 pub may_come : (c : ClusterView) (e : Entry) → is_system c.system ≡ true → ReadyFor e c → CanCome (what e) c.here
@@ -236,7 +243,8 @@ may_come c e valid r = by_loss (one_of c.system r.log e r.open_next)
     by_loss (inl tells) = by_kind (λ w. CanCome w c.here) (λ at letter. tt) (λ pid at end. tt) (λ rests. tt) tt (what e) tells
     by_loss (inr (inl of)) = page (what e) of refl
     by_loss (inr (inr (inl l))) = subst (λ w. CanCome w c.here) (sym l.same) tt
-    by_loss (inr (inr (inr of))) = by_sync (λ w. CanCome w c.here) (λ pid at index bytes. tt) (λ pid small read. tt) (what e) of
+    by_loss (inr (inr (inr (inl of)))) = by_sync (λ w. CanCome w c.here) (λ pid at index bytes. tt) (λ pid small read. tt) (what e) of
+    by_loss (inr (inr (inr (inr b)))) = subst (λ w. CanCome w c.here) (sym b.same) tt
 
 -- ---- that it is no birth, and what it makes of those that are here
 
@@ -259,7 +267,8 @@ ready_own c e r own = by_loss (one_of c.system r.log e r.open_next)
     by_loss (inl tells) = own_after c.cursor (what e) c.here tells (ready_quiet c.system r.log e r.open_log r.open_next) own
     by_loss (inr (inl of)) = by_page (λ w. AllOwn (c.cursor + 1) (here_after w c.here)) (λ pid index. later) (λ pid index bytes. own_page (c.cursor + 1) pid index bytes c.here later) (what e) of
     by_loss (inr (inr (inl l))) = subst (λ w. AllOwn (c.cursor + 1) (here_after w c.here)) (sym l.same) later
-    by_loss (inr (inr (inr of))) = by_sync (λ w. AllOwn (c.cursor + 1) (here_after w c.here)) (λ pid at index bytes. later) (λ pid small read. later) (what e) of
+    by_loss (inr (inr (inr (inl of)))) = by_sync (λ w. AllOwn (c.cursor + 1) (here_after w c.here)) (λ pid at index bytes. later) (λ pid small read. later) (what e) of
+    by_loss (inr (inr (inr (inr b)))) = subst (λ w. AllOwn (c.cursor + 1) (here_after w c.here)) (sym b.same) later
 
 -- what is here as it was, or nothing, is its own
 pub own_either : (cursor : ℕ) (was now : List (Pid × Held)) → AllOwn cursor was → (now ≡ was) ⊎ (now ≡ []) → AllOwn cursor now

@@ -2,6 +2,8 @@
 use Rattle.std.proofs.Common.{◌≡◌, ◌⊎◌, ℕ, ◌+◌, ◌<◌, ◌≤◌, refl, sym, ◌∙◌, ap, subst, length, List, [], ◌∷◌, ◌++◌, map, Bool, true, false, cond, not, ◌&&◌, eqb, Option, Some, None, unwrap_or, inl, inr, true≢false}
 use Rattle.std.specs.Prelude.{count_by, find, option_map}
 use Rattle.std.specs.List.{list_all}
+use Rattle.std.specs.Option.{option_or}
+use Rattle.std.proofs.lemmas.List.Folds.{find-append}
 use Rattle.t32_base.specs.declared.process.Pid.{Pid}
 use Rattle.t32_base.specs.declared.process.ClusterNo.{ClusterNo}
 use Rattle.sys_text.specs.declared.system.System.{System}
@@ -13,20 +15,26 @@ use Rattle.bus_msg.specs.declared.entry.What.TheVariants.{Crash, Exit, Sync}
 use Rattle.bus_msg.specs.declared.entry.Cause.{Cause}
 use Rattle.bus_msg.specs.declared.entry.Entry.{Entry}
 use Rattle.bus_msg.specs.declared.placed.Placed.{Placed}
-use Rattle.bus_msg.specs.Places.{Places, same_pid, same_cluster, is_cluster, lives_in, unended_at}
-use Rattle.bus_msg.specs.PlacedAfter.{what, placed_after, after_loss, after_sync, moved_to}
+use Rattle.bus_msg.specs.Places.{Places, same_pid, same_cluster, is_cluster, lives_in, placed_at, unended_at}
+use Rattle.bus_msg.specs.PlacedAfter.{what, placed_after, after_loss, after_sync, child_of, moved_to, with_birth}
+use Rattle.channel_table.specs.Changes.{pids_differ}
 use Rattle.t32_base.specs.declared.process.End.{End}
 use Rattle.t32_base.specs.Small.{SmallState}
 use Rattle.cert_sched.specs.Built.{BuiltMayFollow}
 use Rattle.cert_sched.specs.Schedule.{placement, placed_root}
 use Rattle.cert_sched.specs.Legal.{IsLegalBy}
-use Rattle.cert_sched.proofs.LogLaws.{placement-snoc}
+use Rattle.cert_sched.specs.Kinds.{BirthHolds, KindHolds, next_child_at}
+use Rattle.cert_sched.proofs.FreshLaws.{only_one}
+use Rattle.cert_sched.proofs.LogLaws.{IsLegal-snoc, placement-snoc}
+use Rattle.cert_sched.proofs.PidLaws.{apart_of}
 use Rattle.cert_sched.proofs.Induction.{legal_induction}
 use Rattle.cert_sched.proofs.FamilyLaws.{exit_there, exit_elsewhere}
 use Rattle.cert_sched.proofs.UnendedLaws.{unended_map, unended_open_at, loss_keeps}
 use Rattle.cert_sched.proofs.CoverLaws.{lives_on}
 use Rattle.cert_sched.proofs.LiveLaws.{boot_lives}
 use Rattle.cluster_core.proofs.ByKind.{OneOf, by_kind, by_page, by_sync, kind_is}
+use Rattle.cluster_core.proofs.BirthPlaces.{birth_lives, child_apart}
+use Rattle.cluster_core.proofs.Homes.{differ_built}
 use Rattle.cluster_core.proofs.SyncedHomes.{backup_kept, synced_found}
 
 abbrev pub BackupsLive : Places → Type 0
@@ -101,8 +109,26 @@ cut_live places r small read live p q b found backup = by_found (unended_at plac
         let same : after_sync r s ≡ q = ap (λ (o : Option Placed). unwrap_or o q) e in
         live p s b there (sym (backup_kept r s) ∙ ap (λ (x : Placed). x.backup) same ∙ backup)
 
-next_live : (system : System) (log : List Entry) (e : Entry) → BackupsLive (placement system log) → BuiltMayFollow system log e → BackupsLive (placement system (log ++ e ∷ []))
-next_live system log e live may = subst BackupsLive (sym (placement-snoc system log e)) (by_loss (kind_is (what e) may.built))
+-- a child has the backup of its parent
+birth_live : (places : Places) (parent child : Pid) (r : Placed) → pids_differ places.placed ≡ true → unended_at places parent ≡ Some r → BackupsLive places → BackupsLive (with_birth places child (placed_at places parent))
+birth_live places parent child r differ there live = subst (λ o. BackupsLive (with_birth places child o)) (sym (only_one parent places.placed r (apart_of places.placed differ) there)) born
+  where
+    born : BackupsLive (with_birth places child (Some r))
+    born p q b found backup = birth_lives places child (Some r) b ∙ by_pid (same_pid child p) refl
+      where
+        by_found : (o : Option Placed) → unended_at places p ≡ o → option_or o (Some (child_of r child)) ≡ Some q → lives_in places b ≡ true
+        by_found None was e = let same : child_of r child ≡ q = cc in live parent r b there (ap (λ (x : Placed). x.backup) same ∙ backup)
+        by_found (Some s) was e = let same : s ≡ q = cc in live p s b was (ap (λ (x : Placed). x.backup) same ∙ backup)
+
+        by_pid : (c : Bool) → same_pid child p ≡ c → lives_in places b ≡ true
+        by_pid true same =
+            by_found (unended_at places p) refl
+            (ap (λ c. option_or (unended_at places p) (cond (c && true) (Some (child_of r child)) None)) (sym same)
+            ∙ sym (find-append (λ (q : Placed). same_pid q.pid p && not q.ended) places.placed (child_of r child ∷ [])) ∙ found)
+        by_pid false apart = live p q b (sym (child_apart places child p (Some r) apart) ∙ found) backup
+
+next_live : (system : System) (log : List Entry) (e : Entry) → pids_differ (placement system log).placed ≡ true → BackupsLive (placement system log) → BuiltMayFollow system log e → BackupsLive (placement system (log ++ e ∷ []))
+next_live system log e differ live may = subst BackupsLive (sym (placement-snoc system log e)) (by_loss (kind_is (what e) may.built))
   where
     places : Places
     places = placement system log
@@ -111,9 +137,27 @@ next_live system log e live may = subst BackupsLive (sym (placement-snoc system 
     by_loss (inl tells) = by_kind (λ w. BackupsLive (placed_after places w)) (λ at letter. live) (λ pid at end. exit_live places pid at end live) (λ rests. live) live (what e) tells
     by_loss (inr (inl page)) = by_page (λ w. BackupsLive (placed_after places w)) (λ pid index. live) (λ pid index bytes. live) (what e) page
     by_loss (inr (inr (inl loss))) = subst (λ w. BackupsLive (placed_after places w)) (sym loss.same) (loss_live places loss.lost loss.cause live)
-    by_loss (inr (inr (inr of))) = by_sync (λ w. BackupsLive (placed_after places w)) (λ pid at index bytes. live) (λ pid small read. cut_live places pid small read live) (what e) of
+    by_loss (inr (inr (inr (inr b)))) = subst (λ w. BackupsLive (placed_after places w)) (sym b.same) (by_parent (unended_at places b.parent) refl kind.child_is)
+      where
+        kind : BirthHolds system log b.parent b.at b.child b.end
+        kind = subst (KindHolds system log e) b.same (may.stands).kind
+
+        by_parent : (o : Option Placed) → unended_at places b.parent ≡ o → option_map (next_child_at places) o ≡ Some b.child → BackupsLive (with_birth places b.child (placed_at places b.parent))
+        by_parent None there is = cc
+        by_parent (Some r) there is = birth_live places b.parent b.child r differ there live
+    by_loss (inr (inr (inr (inl of)))) = by_sync (λ w. BackupsLive (placed_after places w)) (λ pid at index bytes. live) (λ pid small read. cut_live places pid small read live) (what e) of
 
 -- ---- the whole
 
+record Both (system : System) (log : List Entry) : Type 0 where
+  pub legal : IsLegalBy BuiltMayFollow system log
+  pub live : BackupsLive (placement system log)
+
+none_legal : (system : System) → IsLegalBy BuiltMayFollow system []
+unfolding IsLegalBy
+none_legal system = tt
+
 pub backups_live : (system : System) (log : List Entry) → is_system system ≡ true → IsLegalBy BuiltMayFollow system log → BackupsLive (placement system log)
-backups_live system log valid legal = legal_induction BuiltMayFollow system (λ log. BackupsLive (placement system log)) (live_at_boot system valid) (λ log e live may. next_live system log e live may) log legal
+backups_live system log valid legal =
+    (legal_induction BuiltMayFollow system (Both system) (record { legal = none_legal system; live = live_at_boot system valid })
+    (λ log e both may. record { legal = IsLegal-snoc BuiltMayFollow system log e both.legal may; live = next_live system log e (differ_built system log valid both.legal) both.live may }) log legal).live

@@ -1,4 +1,4 @@
--- The kinds of entries that are built: those that tell of steps or close the log, those of pages, losses, and those by which a process synchronises. What holds of each of some kinds holds of every entry of them.
+-- The kinds of entries that are built: those that tell of steps or close the log, those of pages, losses, those by which a process synchronises, and births. What holds of each of some kinds holds of every entry of them.
 use Rattle.std.proofs.Common.{◌≡◌, ◌⊎◌, ℕ, refl, sym, List, Bool, true, false, Some, None, true≢false, inl, inr}
 use Rattle.t32_base.specs.declared.process.Pid.{Pid}
 use Rattle.t32_base.specs.declared.process.End.{End}
@@ -76,9 +76,17 @@ pub record IsLoss (w : What) : Type 0 where
   pub cause : Cause
   pub same : w ≡ Crash lost cause
 
--- an entry that is built tells or closes, is of a page, is a loss, or is one by which a process synchronises
+-- the birth of a child
+pub record IsBirth (w : What) : Type 0 where
+  pub parent : Pid
+  pub at : ℕ
+  pub child : Pid
+  pub end : ℕ
+  pub same : w ≡ Birth parent at child end
+
+-- an entry that is built tells or closes, is of a page, is a loss, is one by which a process synchronises, or is a birth
 abbrev pub OneOf : What → Type 0
-OneOf w = (tells_or_closes w ≡ true) ⊎ (is_of_page w ≡ true) ⊎ IsLoss w ⊎ (is_of_sync w ≡ true)
+OneOf w = (tells_or_closes w ≡ true) ⊎ (is_of_page w ≡ true) ⊎ IsLoss w ⊎ (is_of_sync w ≡ true) ⊎ IsBirth w
 
 pub kind_is : (w : What) → is_built w ≡ true → OneOf w
 kind_is (Mail at letter) built = inl refl
@@ -88,9 +96,9 @@ kind_is (PageIs pid index bytes) built = inr (inl refl)
 kind_is (Crash k cause) built = inr (inr (inl (record { lost = k; cause = cause; same = refl })))
 kind_is (Done rests) built = inl refl
 kind_is Stop built = inl refl
-kind_is (Birth parent at child end) built = absurd (true≢false (sym built))
-kind_is (Page pid at index bytes) built = inr (inr (inr refl))
-kind_is (Sync pid small read None) built = inr (inr (inr refl))
+kind_is (Birth parent at child end) built = inr (inr (inr (inr (record { parent = parent; at = at; child = child; end = end; same = refl }))))
+kind_is (Page pid at index bytes) built = inr (inr (inr (inl refl)))
+kind_is (Sync pid small read None) built = inr (inr (inr (inl refl)))
 kind_is (Sync pid small read (Some g)) built = absurd (true≢false (sym built))
 kind_is (Return k) built = absurd (true≢false (sym built))
 kind_is (Rebackup to fresh recs) built = absurd (true≢false (sym built))

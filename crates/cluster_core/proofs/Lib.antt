@@ -32,7 +32,10 @@ mod Stayed
 mod Waiting
 pub mod MarksBegin
 mod Paging
+mod Spared
 mod Synchronising
+mod BirthPlaces
+mod Births
 mod OwnBatch
 pub mod Served
 pub mod Counted

@@ -12,29 +12,34 @@ use Rattle.t32_base.specs.Small.{SmallState}
 use Rattle.sys_text.specs.declared.system.System.{System}
 use Rattle.sys_text.specs.Valid.{is_system}
 use Rattle.bus_msg.specs.declared.entry.What.{What}
-use Rattle.bus_msg.specs.declared.entry.What.TheVariants.{Mail, Exit, Page, Sync, Fetch, PageIs, Crash, Done, Stop}
+use Rattle.bus_msg.specs.declared.entry.What.TheVariants.{Mail, Birth, Exit, Page, Sync, Fetch, PageIs, Crash, Done, Stop}
 use Rattle.bus_msg.specs.declared.entry.Cause.{Cause}
 use Rattle.bus_msg.specs.declared.entry.Entry.{Entry}
 use Rattle.bus_msg.specs.declared.placed.Placed.{Placed}
-use Rattle.bus_msg.specs.Places.{Places, is_cluster, is_moved_by, same_cluster, same_pid, unended_at}
+use Rattle.bus_msg.specs.Places.{Places, is_cluster, is_moved_by, placed_at, same_cluster, same_pid, unended_at}
 use Rattle.bus_msg.specs.PlacedAfter.{after_loss, after_sync, moved_to, placed_after, what}
 use Rattle.channel_table.specs.Changes.{pids_differ}
 use Rattle.cert_sched.specs.Built.{BuiltMayFollow, is_built}
-use Rattle.cert_sched.specs.Legal.{IsLegalBy}
+use Rattle.cert_sched.specs.Legal.{IsLegalBy, Stands}
 use Rattle.cert_sched.specs.Losses.{is_crash_of}
 use Rattle.cert_sched.specs.Moved.{moved_with_state}
-use Rattle.cert_sched.specs.Schedule.{placement}
+use Rattle.cert_sched.specs.Schedule.{placement, process_after}
 use Rattle.cert_sched.specs.Simulation.{IsUnended}
 use Rattle.cert_sched.specs.Told.{cluster_lost, is_moved, told}
+use Rattle.cert_sched.proofs.BornLaws.{child_absent}
 use Rattle.cert_sched.proofs.FamilyLaws.{exit_elsewhere, exit_there}
 use Rattle.cert_sched.proofs.FreshLaws.{only_one}
 use Rattle.cert_sched.proofs.Induction.{legal_induction}
 use Rattle.cert_sched.proofs.LogLaws.{IsLegal-snoc, placement-snoc}
 use Rattle.cert_sched.proofs.PidLaws.{apart_of}
 use Rattle.cert_sched.proofs.RisingLaws.{either_not}
+use Rattle.cert_sched.proofs.StatedLaws.{stated_there}
 use Rattle.cert_sched.proofs.UnendedLaws.{loss_keeps, unended_map}
 use Rattle.page_laws.specs.Next.{moves_next}
 use Rattle.page_laws.proofs.OneEntry.{moved-goes_on, moves_none, turned}
+use Rattle.record_laws.proofs.Standing.{built_stands}
+use Rattle.wait_laws.proofs.MovedStated.{moved_stated}
+use Rattle.cluster_core.proofs.BirthPlaces.{child_apart}
 use Rattle.cluster_core.proofs.ByKind.{OneOf, by_kind, by_page, by_sync, kind_is}
 use Rattle.cluster_core.proofs.Homes.{HomeHere, differ_built}
 use Rattle.cluster_core.proofs.SyncedHomes.{backup_kept, synced_found}
@@ -86,16 +91,17 @@ home_not_moved system log e p k differ here away = by_loss (cluster_lost (what e
 
 -- ---- each kind that is built
 
-pub by_built : (P : What → Type 0) → ((at : ℕ) (letter : Letter) → P (Mail at letter)) → ((pid : Pid) (at : ℕ) (end : End) → P (Exit pid at end)) → ((pid : Pid) (index : ℕ) → P (Fetch pid index))
+pub by_built : (P : What → Type 0) → ((at : ℕ) (letter : Letter) → P (Mail at letter)) → ((parent : Pid) (at : ℕ) (child : Pid) (end : ℕ) → P (Birth parent at child end)) → ((pid : Pid) (at : ℕ) (end : End) → P (Exit pid at end)) → ((pid : Pid) (index : ℕ) → P (Fetch pid index))
     → ((pid : Pid) (index : ℕ) (bytes : List ℕ) → P (PageIs pid index bytes)) → ((lost : ClusterNo) (cause : Cause) → P (Crash lost cause)) → ((pid : Pid) (at index : ℕ) (bytes : List ℕ) → P (Page pid at index bytes))
     → ((pid : Pid) (small : SmallState) (read : List ℕ) → P (Sync pid small read None)) → ((rests : List (Pid × ℕ)) → P (Done rests)) → P Stop → (w : What) → is_built w ≡ true → P w
-by_built P mail exit fetch page crash changed cut done stop w built = by_one (kind_is w built)
+by_built P mail birth exit fetch page crash changed cut done stop w built = by_one (kind_is w built)
   where
     by_one : OneOf w → P w
     by_one (inl tells) = by_kind P mail exit done stop w tells
     by_one (inr (inl of)) = by_page P fetch page w of
     by_one (inr (inr (inl loss))) = subst P (sym loss.same) (crash loss.lost loss.cause)
-    by_one (inr (inr (inr of))) = by_sync P changed cut w of
+    by_one (inr (inr (inr (inl of)))) = by_sync P changed cut w of
+    by_one (inr (inr (inr (inr b)))) = subst P (sym b.same) (birth b.parent b.at b.child b.end)
 
 -- ---- a process that was moved with a state
 
@@ -150,6 +156,19 @@ module _ (system : System) (valid : is_system system ≡ true) (log : List Entry
         by_pid true same = let none : None ≡ Some q = sym (exit_there places r p at end same) ∙ found in cc
         by_pid false apart = by_other (Exit r at end) is refl (sym (exit_elsewhere places r p at end apart) ∙ found)
 
+    -- a child that is born was not moved before, since it was not there
+    by_birth : (parent : Pid) (at : ℕ) (child : Pid) (end : ℕ) → what e ≡ Birth parent at child end → unended_at (placed_after places (Birth parent at child end)) p ≡ Some q → q.backup ≡ None
+    by_birth parent at child end is found = by_pid (same_pid child p) refl
+      where
+        by_pid : (b : Bool) → same_pid child p ≡ b → q.backup ≡ None
+        by_pid true same =
+            let one : p ≡ child = λ i. record { 0 = sym (eqb-true child.0 p.0 same) i } in
+            let legal = built_stands system log both.legal in
+            let stated = moved_stated system log p legal (was_moved (moves_none system log e (ap cluster_lost is) p)) in
+            let there = stated_there Stands (λ system log e stands. stands) system log p valid legal stated in
+            absurd (true≢false (sym there ∙ ap is_some (ap (process_after system log) one ∙ child_absent system log e parent at child end is (may.stands).applies)))
+        by_pid false apart = by_other (Birth parent at child end) is refl (sym (child_apart places child p (placed_at places parent) apart) ∙ found)
+
     by_cut : (r : Pid) (small : SmallState) (read : List ℕ) → what e ≡ Sync r small read None → unended_at (placed_after places (Sync r small read None)) p ≡ Some q → q.backup ≡ None
     by_cut r small read is found = by_found (unended_at places p) refl (sym (synced_found places r p small read None) ∙ found)
       where
@@ -176,7 +195,7 @@ module _ (system : System) (valid : is_system system ≡ true) (log : List Entry
     next_none : unended_at (placement system (log ++ e ∷ [])) p ≡ Some q → q.backup ≡ None
     next_none found =
         by_built (λ w. what e ≡ w → unended_at (placed_after places w) p ≡ Some q → q.backup ≡ None)
-        (λ at letter is. by_other (Mail at letter) is refl) (λ r at end is. by_exit r at end is) (λ r index is. by_other (Fetch r index) is refl) (λ r index bytes is. by_other (PageIs r index bytes) is refl)
+        (λ at letter is. by_other (Mail at letter) is refl) (λ parent at child end is. by_birth parent at child end is) (λ r at end is. by_exit r at end is) (λ r index is. by_other (Fetch r index) is refl) (λ r index bytes is. by_other (PageIs r index bytes) is refl)
         (λ lost cause is. by_loss lost cause is) (λ r at index bytes is. by_other (Page r at index bytes) is refl) (λ r small read is. by_cut r small read is) (λ rests is. by_other (Done rests) is refl) (λ is. by_other Stop is refl)
         (what e) may.built refl (sym (ap (λ places. unended_at places p) (placement-snoc system log e)) ∙ found)
 

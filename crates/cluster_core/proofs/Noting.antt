@@ -27,7 +27,7 @@ use Rattle.bus_msg.specs.Route.{backup_of, home_of, bits_of, letter_dests, route
 use Rattle.cert_sched.specs.Built.{BuiltMayFollow, tells_or_closes}
 use Rattle.cert_sched.specs.Schedule.{placement}
 use Rattle.cert_sched.specs.Record.{backup_record}
-use Rattle.backup_records.specs.Records.{CanNote, record_in, record_after, records_after, is_receiver, with_saved, with_counted, with_cut}
+use Rattle.backup_records.specs.Records.{CanNote, record_in, record_after, record_of_child, records_after, is_receiver, with_birth, with_child_of, with_record, with_saved, with_counted, with_cut}
 use Rattle.record_laws.specs.Kept.{KeepsRecords, has_backup_in}
 use Rattle.record_laws.proofs.BuiltLaws.{built_can_note}
 use Rattle.cert_sched.proofs.LogLaws.{IsLegal-last}
@@ -225,6 +225,19 @@ cut_left system log k recs pid small read live keeps elsewhere = all_left (has_b
             (list_any-append (λ j. same_cluster j k) (backup_of places pid) (servers_in places) ∙ or_first _ (list_any (λ j. same_cluster j k) (servers_in places)) named)) ∙ elsewhere))
         by_pid false is = refl
 
+-- so does a birth
+birth_left : (system : System) (log : List Entry) (k : ClusterNo) (recs : List BackRec) (parent child : Pid) → BackupsLive (placement system log) → KeepsRecords system log k recs → goes_to (to_all (placement system log)) k ≡ false → with_birth parent child recs ≡ recs
+birth_left system log k recs parent child live keeps elsewhere = by_record (record_in recs parent) refl
+  where
+    places : Places
+    places = placement system log
+
+    by_record : (o : Option BackRec) → record_in recs parent ≡ o → cond (is_some o) (map (with_child_of parent child) (with_record (record_of_child child) recs)) recs ≡ recs
+    by_record None is = refl
+    by_record (Some r) is =
+        let lives = backup_lives system log k parent live (backed system log k recs keeps parent (ap is_some is)) in
+        absurd (true≢false (sym (named_goes places k (all_clusters places) lives (all_named places k lives)) ∙ elsewhere))
+
 -- where an entry does not go to a cluster, it leaves the records there as they are
 pub noted_here : (system : System) (log : List Entry) (e : Entry) (k : ClusterNo) (recs : List BackRec) → e.dests ≡ route (placement system log) (what e) → tells_or_closes (what e) ≡ true → BackupsLive (placement system log)
     → KeepsRecords system log k recs → IsNotedHere k e recs
@@ -268,7 +281,11 @@ noted_next c e valid r elsewhere = by_loss (kind_is (what e) may.built)
     by_loss (inl tells) = noted_here c.system r.log e c.number c.records (((may.stands).placed).1) tells (backups_live c.system r.log valid (r.open_log).0) (kept_of c r.log e r.ready).records elsewhere
     by_loss (inr (inl page)) = by_page (λ w. records_after w c.records ≡ c.records) (λ pid index. refl) (λ pid index bytes. refl) (what e) page
     by_loss (inr (inr (inl loss))) = ap (λ w. records_after w c.records) loss.same
-    by_loss (inr (inr (inr of))) =
+    by_loss (inr (inr (inr (inr b)))) =
+        ap (λ w. records_after w c.records) b.same
+        ∙ birth_left c.system r.log c.number c.records b.parent b.child (backups_live c.system r.log valid (r.open_log).0) (kept_of c r.log e r.ready).records
+        (sym (ap (λ w. goes_to (route (placement c.system r.log) w) c.number) b.same) ∙ ap (λ dests. goes_to dests c.number) (sym (((may.stands).placed).1)) ∙ elsewhere)
+    by_loss (inr (inr (inr (inl of)))) =
         by_sync (λ w. goes_to (route (placement c.system r.log) w) c.number ≡ false → records_after w c.records ≡ c.records) (λ pid at index bytes away. refl)
         (λ pid small read away. cut_left c.system r.log c.number c.records pid small read (backups_live c.system r.log valid (r.open_log).0) (kept_of c r.log e r.ready).records away) (what e) of
         (ap (λ dests. goes_to dests c.number) (sym (((may.stands).placed).1)) ∙ elsewhere)

@@ -46,7 +46,8 @@ use Rattle.cluster_core.proofs.Here.{is_among, pid_same}
 use Rattle.cluster_core.proofs.Homes.{HomeHere, home_here}
 use Rattle.cluster_core.proofs.Owning.{own_at}
 use Rattle.cluster_core.proofs.Served.{accounts_on, ahead_after, brought}
-use Rattle.cluster_core.proofs.Synchronising.{s as tells, differ, held_still, loses_none, pids_same, records_stay, stands, sync_taken, synced_in}
+use Rattle.cluster_core.proofs.Spared.{passed}
+use Rattle.cluster_core.proofs.Synchronising.{s as tells, differ, held_still, loses_none, pids_same, records_stay, stands, sync_taken}
 use Rattle.cluster_core.proofs.Telling.{at_once}
 use Rattle.cluster_core.proofs.Waiting.{queued_alike}
 use Rattle.limit_laws.proofs.RestLimits.{page_keeps}
@@ -134,7 +135,7 @@ module _ (system : System) (valid : is_system system ≡ true) (log : List Entry
       omega (arith, same, pages)
 
   follows_head : (server : Option PagerState) → Serves (placement system log) e b.server server → AsideOf p (head ∷ rest) → AsideOf p rest → state_now system later rest p (process.small).steps ≡ Some (state_of process)
-      → IsQueued rest ⊎ Synchronises system later (with_server server (synced_in (left b rest) e)) → FollowsBuilt system later (with_server server (synced_in (left b rest) e))
+      → IsQueued rest ⊎ Synchronises system later (with_server server (passed (left b rest) e)) → FollowsBuilt system later (with_server server (passed (left b rest) e))
   follows_head server serves aside_all aside runs queued = record {
     log = record {
       cursor = ap (λ m. m + 1) (f.log).cursor ∙ sym (length-append log (e ∷ []));
@@ -151,7 +152,7 @@ module _ (system : System) (valid : is_system system ≡ true) (log : List Entry
     pages = λ q h at runs. pages_after system log e q b.number (stands system valid log e of now next) (differ system valid log e of now next) (home q h at) (loses_none system valid log e of now next b.number) (f.pages q h at runs);
     marks = λ q h at. subst (λ whole. MarkedIfThere CarriesMarks system whole q (unended_process h)) same_whole (f.marks q h at);
     records = records_stay system valid log e of now next b.number b.records f.records;
-    accounts = accounts_on system log e b (with_server server (synced_in (left b rest) e)) serves refl calls f.accounts;
+    accounts = accounts_on system log e b (with_server server (passed (left b rest) e)) serves refl calls f.accounts;
     disk = ((f.disk).0, ahead_after (placement system log) e b.server server serves (f.disk).1);
   }
 
@@ -174,7 +175,7 @@ follows_own_batch c log e server valid own now next s y serves = by_indices y.in
     -- the entry is the head of its queue, and the cluster has the rest
     from_head : (head : Post) (rest : List Post) → b.queue ≡ head ∷ rest → after_sent b (head ∷ rest) ≡ left b rest → is_of_sync head.what ≡ true → process_of head.what ≡ Some y.pid → AsideOf y.pid (head ∷ rest) → AsideOf y.pid rest
         → state_now system (log ++ entry_of system log head ∷ []) rest y.pid ((y.process).small).steps ≡ Some state
-        → IsQueued rest ⊎ Synchronises system (log ++ entry_of system log head ∷ []) (with_server server (synced_in (left b rest) (entry_of system log head)))
+        → IsQueued rest ⊎ Synchronises system (log ++ entry_of system log head ∷ []) (with_server server (passed (left b rest) (entry_of system log head)))
         → FollowsBuilt system (log ++ e ∷ []) (with_server server (absorbed c e))
     from_head head rest posts sent of told aside_all aside runs queued =
         subst (λ x. FollowsBuilt system (log ++ x ∷ []) (with_server server (absorbed c x))) whole

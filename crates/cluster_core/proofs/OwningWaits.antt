@@ -33,7 +33,7 @@ use Rattle.cluster_core.proofs.Moving.{waits_own}
 
 -- ---- the next entry
 
--- it tells of steps, is of a page, is a loss, or is one by which a process synchronises
+-- it tells of steps, is of a page, is a loss, is one by which a process synchronises, or is a birth
 pub one_of : (system : System) (log : List Entry) (e : Entry) → IsOpen BuiltMayFollow system (log ++ e ∷ []) → OneOf (what e)
 one_of system log e later = kind_is (what e) (IsLegal-last BuiltMayFollow system log e later.0).built
 
@@ -108,4 +108,5 @@ owns_waiting c e valid r order here own = by_loss (one_of c.system r.log e r.ope
     by_loss (inl tells) = nobody (none (what e) tells)
     by_loss (inr (inl of)) = nobody (none_by_page (what e) of)
     by_loss (inr (inr (inl l))) = lost l r.ready
-    by_loss (inr (inr (inr of))) = nobody (by_sync (λ w. moved_by c.places c.number w (records_after w c.records) ≡ []) (λ pid at index bytes. refl) (λ pid small read. refl) (what e) of)
+    by_loss (inr (inr (inr (inl of)))) = nobody (by_sync (λ w. moved_by c.places c.number w (records_after w c.records) ≡ []) (λ pid at index bytes. refl) (λ pid small read. refl) (what e) of)
+    by_loss (inr (inr (inr (inr b)))) = nobody (ap (λ w. moved_by c.places c.number w (records_after w c.records)) b.same)

@@ -15,7 +15,7 @@ use Rattle.bus_msg.specs.declared.entry.By.TheVariants.{Cluster, Bus}
 use Rattle.bus_msg.specs.declared.entry.Entry.{Entry}
 use Rattle.bus_msg.specs.declared.entry.Post.{Post}
 use Rattle.bus_msg.specs.declared.placed.Placed.{Placed}
-use Rattle.bus_msg.specs.Places.{ClusterPlace, Places, lives_in, never_lost, same_cluster, same_pid, servers_in, unended_at}
+use Rattle.bus_msg.specs.Places.{ClusterPlace, Places, lives_in, never_lost, placed_at, same_cluster, same_pid, servers_in, unended_at}
 use Rattle.bus_msg.specs.PlacedAfter.{after_loss, changed_at, lost_cluster, placed_after, what}
 use Rattle.channel_table.specs.Changes.{pids_differ}
 use Rattle.cert_sched.specs.Account.{is_exit_of}
@@ -47,6 +47,7 @@ use Rattle.cluster_core.proofs.ByKind.{by_page, is_of_page}
 use Rattle.cluster_core.proofs.HasPages.{home_of_sender}
 use Rattle.cluster_core.proofs.Homes.{HomeHere, differ_built, home_lives}
 use Rattle.cluster_core.proofs.HomesMoved.{stays_home}
+use Rattle.cluster_core.proofs.BirthPlaces.{birth_home, birth_servers}
 use Rattle.cluster_core.proofs.NotMoved.{by_built, home_not_moved, moved_not_moved}
 use Rattle.cluster_core.proofs.SyncedHomes.{home_synced}
 
@@ -149,6 +150,7 @@ module _ (system : System) (valid : is_system system ≡ true) (log : List Entry
       subst (λ places. HomeHere places p k) (sym (placement-snoc system log e))
       (by_built (λ w. is_by_right places (e.post).by w ≡ true → is_crash_of k w ≡ false → HomeHere (placed_after places w) p k)
       (λ at letter right away. here)
+      (λ parent at child end right away. birth_home places child p k (placed_at places parent) here)
       (λ r at end right away. record { placed = here.placed; found = exit_elsewhere places r p at end (turned p.0 r.0 ∙ not_its p r here right (same_pid r p) refl) ∙ here.found; home = here.home })
       (λ r index right away. here) (λ r index bytes right away. here)
       (λ lost cause right away. record {
@@ -162,7 +164,7 @@ module _ (system : System) (valid : is_system system ≡ true) (log : List Entry
   no_fetch : (p : Pid) (i : ℕ) → HomeHere places p k → is_fetch p i (what e) ≡ false
   no_fetch p i here =
       by_built (λ w. is_by_right places (e.post).by w ≡ true → is_fetch p i w ≡ false)
-      (λ at letter right. refl) (λ r at end right. refl) (λ r index right. ap (λ b. b && eqb index i) (not_its p r here right (same_pid r p) refl)) (λ r index bytes right. refl) (λ lost cause right. refl)
+      (λ at letter right. refl) (λ parent at child end right. refl) (λ r at end right. refl) (λ r index right. ap (λ b. b && eqb index i) (not_its p r here right (same_pid r p) refl)) (λ r index bytes right. refl) (λ lost cause right. refl)
       (λ r at index bytes right. refl) (λ r small read right. refl) (λ rests right. refl) (λ right. refl) (what e) may_e.built (may_e.stands).by_right
 
   -- the first page server stays
@@ -170,20 +172,20 @@ module _ (system : System) (valid : is_system system ≡ true) (log : List Entry
   server_after by from is =
       ap (λ places. is_by by (first_of (servers_in places))) (placement-snoc system log e)
       ∙ by_built (λ w. is_crash_of k w ≡ false → is_by by (first_of (servers_in (placed_after places w))) ≡ true)
-      (λ at letter away. is) (λ r at end away. is) (λ r index away. is) (λ r index bytes away. is) (λ lost cause away. server_after_loss places k lost cause by from away is) (λ r at index bytes away. is) (λ r small read away. is) (λ rests away. is) (λ away. is) (what e) may_e.built away
+      (λ at letter away. is) (λ parent at child end away. ap (λ servers. is_by by (first_of servers)) (birth_servers places child (placed_at places parent)) ∙ is) (λ r at end away. is) (λ r index away. is) (λ r index bytes away. is) (λ lost cause away. server_after_loss places k lost cause by from away is) (λ r at index bytes away. is) (λ r small read away. is) (λ rests away. is) (λ away. is) (what e) may_e.built away
 
   -- where that is this cluster, it is no answer
   no_answer : (by : By) (p : Pid) (i : ℕ) → is_from k by ≡ true → is_by by (first_of (servers_in places)) ≡ true → is_page_is p i (what e) ≡ false
   no_answer by p i from is =
       by_built (λ w. is_by_right places (e.post).by w ≡ true → is_page_is p i w ≡ false)
-      (λ at letter right. refl) (λ r at end right. refl) (λ r index right. refl) (λ r index bytes right. absurd (true≢false (sym (same_sender k by (e.post).by (first_of (servers_in places)) is right from) ∙ foreign)))
+      (λ at letter right. refl) (λ parent at child end right. refl) (λ r at end right. refl) (λ r index right. refl) (λ r index bytes right. absurd (true≢false (sym (same_sender k by (e.post).by (first_of (servers_in places)) is right from) ∙ foreign)))
       (λ lost cause right. refl) (λ r at index bytes right. refl) (λ r small read right. refl) (λ rests right. refl) (λ right. refl) (what e) may_e.built (may_e.stands).by_right
 
   -- it is no exit of a process that lacks a page
   no_exit : (p : Pid) → has_its_pages system log p ≡ false → is_exit_of p (what e) ≡ false
   no_exit p lacks =
       by_built (λ w. holds_of (awaits_pages w) (process_of w) (has_its_pages system log) ≡ true → is_exit_of p w ≡ false)
-      (λ at letter has. refl) (λ r at end has. by_pid r has (same_pid r p) refl) (λ r index has. refl) (λ r index bytes has. refl) (λ lost cause has. refl) (λ r at index bytes has. refl) (λ r small read has. refl) (λ rests has. refl) (λ has. refl) (what e) may_e.built may_e.pages
+      (λ at letter has. refl) (λ parent at child end has. refl) (λ r at end has. by_pid r has (same_pid r p) refl) (λ r index has. refl) (λ r index bytes has. refl) (λ lost cause has. refl) (λ r at index bytes has. refl) (λ r small read has. refl) (λ rests has. refl) (λ has. refl) (what e) may_e.built may_e.pages
     where
       by_pid : (r : Pid) → has_its_pages system log r ≡ true → (b : Bool) → same_pid r p ≡ b → b ≡ false
       by_pid r has true same =

@@ -18,7 +18,7 @@ use Rattle.bus_msg.specs.declared.entry.Entry.{Entry}
 use Rattle.bus_msg.specs.Places.{same_pid, unended_at}
 use Rattle.bus_msg.specs.PlacedAfter.{what}
 use Rattle.backup_queue.specs.Queue.{is_unread}
-use Rattle.backup_records.specs.Records.{counted_by_sender, is_receiver, record_after, saved_by_receiver, with_counted, with_cut, with_saved}
+use Rattle.backup_records.specs.Records.{counted_by_sender, is_receiver, record_after, saved_by_receiver, with_child, with_child_of, with_counted, with_cut, with_saved}
 use Rattle.cert_sched.specs.Built.{BuiltMayFollow, is_built}
 use Rattle.cert_sched.specs.Kinds.{KindHolds}
 use Rattle.cert_sched.specs.Legal.{IsLegalBy}
@@ -67,12 +67,20 @@ cut_saves_none : (read : List ℕ) (r cut : BackRec) → cut.saved ≡ filter (i
 cut_saves_none read r cut saved none true = ap (list_any is_signal) saved ∙ none_left is_signal (is_unread read) r.saved none
 cut_saves_none read r cut saved none false = none
 
+-- and a birth
+birth_saves_none : (parent child : Pid) (r : BackRec) → list_any is_signal r.saved ≡ false → list_any is_signal (with_child_of parent child r).saved ≡ false
+birth_saves_none parent child r none = by_pid (same_pid parent r.pid)
+  where
+    by_pid : (b : Bool) → list_any is_signal (cond b (with_child child r) r).saved ≡ false
+    by_pid true = none
+    by_pid false = none
+
 -- an entry that may follow saves no signal
 entry_saves_none : (system : System) (log : List Entry) (e : Entry) (r : BackRec) → BuiltMayFollow system log e → list_any is_signal r.saved ≡ false → list_any is_signal (record_after (what e) r).saved ≡ false
 entry_saves_none system log e r may none =
     by_built (λ w. KindHolds system log e w → list_any is_signal (record_after w r).saved ≡ false)
     (λ at letter kind. let sent = is_sent system log letter.from at (Sent letter) kind in letter_saves_none letter r (sent_no_signal system log letter.from at (Sent letter) sent.after sent.is) none)
-    (λ pid at end kind. none) (λ pid index kind. none) (λ pid index bytes kind. none) (λ lost cause kind. none) (λ pid at index bytes kind. none)
+    (λ parent at child end kind. birth_saves_none parent child r none) (λ pid at end kind. none) (λ pid index kind. none) (λ pid index bytes kind. none) (λ lost cause kind. none) (λ pid at index bytes kind. none)
     (λ pid small read kind. cut_saves_none read r (with_cut small read r) refl none (same_pid pid r.pid)) (λ rests kind. none) (λ kind. none) (what e) may.built (may.stands).kind
 
 -- ---- the record of a process
@@ -80,7 +88,7 @@ entry_saves_none system log e r may none =
 -- an entry of a kind that is built is no new backup
 built_unrenewed : (p : Pid) (w : What) → is_built w ≡ true → is_renewed p w ≡ false
 built_unrenewed p =
-    by_built (λ w. is_renewed p w ≡ false) (λ at letter. refl) (λ pid at end. refl) (λ pid index. refl) (λ pid index bytes. refl) (λ lost cause. refl) (λ pid at index bytes. refl) (λ pid small read. refl) (λ rests. refl) refl
+    by_built (λ w. is_renewed p w ≡ false) (λ at letter. refl) (λ parent at child end. refl) (λ pid at end. refl) (λ pid index. refl) (λ pid index bytes. refl) (λ lost cause. refl) (λ pid at index bytes. refl) (λ pid small read. refl) (λ rests. refl) refl
 
 -- a log of the kinds that are built, and a process of which no signal is saved
 record SavesNone (system : System) (p : Pid) (log : List Entry) : Type 0 where
