@@ -30,8 +30,7 @@ use Rattle.cert_sched.proofs.LogLaws.{placement-snoc}
 use Rattle.cert_sched.proofs.Induction.{legal_induction}
 use Rattle.cert_sched.proofs.RisingLaws.{NoTwo, rising-parts, rising_one_more, with_one}
 use Rattle.cert_sched.proofs.PidLaws.{placed_pids}
-use Rattle.cert_sched.proofs.BirthKind.{built_none_born}
-use Rattle.cert_sched.proofs.FreshLaws.{same_length}
+use Rattle.cert_sched.proofs.FreshLaws.{clusters_stay}
 use Rattle.cert_sched.proofs.ThereLaws.{found_among}
 use Rattle.cert_sched.proofs.LiveLaws.{homes_live}
 use Rattle.cert_sched.proofs.RunsLaws.{rest_pids}
@@ -47,7 +46,7 @@ built_clusters-length system log legal =
     (length-map-range_with_len (boot_cluster (map placed_root (roots_of system))) 0 system.clusters)
     (λ log e same may.
     ap (λ (p : Places). length p.clusters) (placement-snoc system log e)
-    ∙ same_length (what e) (built_none_born (what e) may.built) (placement system log) ∙ same) log legal
+    ∙ clusters_stay (what e) (placement system log) ∙ same) log legal
 
 -- a cluster that lives is one of them
 pub lives_within : (places : Places) (k : ClusterNo) → lives_in places k ≡ true → k.0 < length places.clusters

@@ -10,8 +10,8 @@ use Rattle.bus_msg.specs.declared.entry.What.{What}
 use Rattle.bus_msg.specs.declared.entry.What.TheVariants.{Mail, Birth, Exit, Page, Sync, Fetch, PageIs, Crash, Return, Rebackup, Done, Stop}
 use Rattle.bus_msg.specs.declared.entry.Entry.{Entry}
 use Rattle.bus_msg.specs.declared.placed.Placed.{Placed}
-use Rattle.bus_msg.specs.Places.{ClusterPlace, Places, boot_cluster, lives_in, never_lost, servers_in}
-use Rattle.bus_msg.specs.PlacedAfter.{what, placed_after, changed_at, lost_cluster}
+use Rattle.bus_msg.specs.Places.{ClusterPlace, Places, boot_cluster, lives_in, never_lost, placed_at, servers_in}
+use Rattle.bus_msg.specs.PlacedAfter.{what, placed_after, changed_at, lost_cluster, raised_serial, with_birth}
 use Rattle.cert_sched.specs.Parts.{first_of}
 use Rattle.cert_sched.specs.Schedule.{placement, placed_root}
 use Rattle.cert_sched.specs.Rules.{is_by}
@@ -46,7 +46,11 @@ changed f keeps clusters j all n = by_number (eqb j n) refl
 
 served_more : (places : Places) (w : What) → is_built w ≡ true → Served places.clusters → Served (placed_after places w).clusters
 served_more places (Mail at letter) built all = all
-served_more places (Birth parent at child end) built all = absurd (true≢false (sym built))
+served_more places (Birth parent at child end) built all = by_parent (placed_at places parent)
+  where
+    by_parent : (o : Option Placed) → Served (with_birth places child o).clusters
+    by_parent None = all
+    by_parent (Some q) = changed raised_serial (λ c h. h) places.clusters (q.home).0 all
 served_more places (Exit pid at end) built all = all
 served_more places (Page pid at index bytes) built all = all
 served_more places (Sync pid small read took) built all = all
