@@ -33,7 +33,8 @@ use Rattle.cert_sched.proofs.UnendedLaws.{unended_map, unended_open_at, loss_kee
 use Rattle.cert_sched.proofs.CoverLaws.{lives_on}
 use Rattle.cert_sched.proofs.LiveLaws.{boot_lives}
 use Rattle.cluster_core.proofs.ByKind.{OneOf, by_kind, by_page, by_sync, kind_is}
-use Rattle.cluster_core.proofs.BirthPlaces.{birth_lives, child_apart}
+use Rattle.cert_sched.proofs.BirthClusters.{birth_lives}
+use Rattle.cert_sched.proofs.BirthPlaces.{born_beside}
 use Rattle.cluster_core.proofs.Homes.{differ_built}
 use Rattle.cluster_core.proofs.SyncedHomes.{backup_kept, synced_found}
 
@@ -125,7 +126,7 @@ birth_live places parent child r differ there live = subst (λ o. BackupsLive (w
             by_found (unended_at places p) refl
             (ap (λ c. option_or (unended_at places p) (cond (c && true) (Some (child_of r child)) None)) (sym same)
             ∙ sym (find-append (λ (q : Placed). same_pid q.pid p && not q.ended) places.placed (child_of r child ∷ [])) ∙ found)
-        by_pid false apart = live p q b (sym (child_apart places child p (Some r) apart) ∙ found) backup
+        by_pid false apart = live p q b (sym (born_beside p child places (Some r) apart) ∙ found) backup
 
 next_live : (system : System) (log : List Entry) (e : Entry) → pids_differ (placement system log).placed ≡ true → BackupsLive (placement system log) → BuiltMayFollow system log e → BackupsLive (placement system (log ++ e ∷ []))
 next_live system log e differ live may = subst BackupsLive (sym (placement-snoc system log e)) (by_loss (kind_is (what e) may.built))

@@ -43,7 +43,9 @@ use Rattle.cluster_core.specs.Follows.{IsOpen}
 use Rattle.cluster_core.specs.Calls.{absorbed, here_after}
 use Rattle.cluster_core.specs.Serving.{Serves}
 use Rattle.cluster_core.proofs.Beside.{FollowsBeside}
-use Rattle.cluster_core.proofs.BirthPlaces.{birth_living, child_apart, child_elsewhere}
+use Rattle.cert_sched.proofs.BirthClusters.{birth_living}
+use Rattle.cert_sched.proofs.BirthPlaces.{born_beside}
+use Rattle.cluster_core.proofs.BirthHomes.{child_elsewhere}
 use Rattle.cluster_core.proofs.Following.{by_home_of, by_one}
 use Rattle.cluster_core.proofs.Here.{pid_same}
 use Rattle.cluster_core.proofs.Homes.{HomeHere, differ_built, pids_home}
@@ -126,7 +128,7 @@ module _ (system : System) (valid : is_system system ≡ true) (log : List Entry
     spares_here p here = record {
       silent = silent_stays system log later p process steps;
       emission = emission_stays system log later p process steps;
-      home = ap (λ places. home_at places p) places_later ∙ ap (option_map (λ (q : Placed). q.home)) (child_apart places child p (placed_at places parent) (not_child p here));
+      home = ap (λ places. home_at places p) places_later ∙ ap (option_map (λ (q : Placed). q.home)) (born_beside p child places (placed_at places parent) (not_child p here));
       no_cut = ap (is_cut p) is;
       no_birth = ap (is_birth_of p) is ∙ not_child p here;
       no_page = ap (is_some_page p) is;

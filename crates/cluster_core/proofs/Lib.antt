@@ -34,7 +34,7 @@ pub mod MarksBegin
 mod Paging
 mod Spared
 mod Synchronising
-mod BirthPlaces
+mod BirthHomes
 mod Births
 mod OwnBatch
 pub mod Served

@@ -39,7 +39,7 @@ use Rattle.page_laws.specs.Next.{moves_next}
 use Rattle.page_laws.proofs.OneEntry.{moved-goes_on, moves_none, turned}
 use Rattle.record_laws.proofs.Standing.{built_stands}
 use Rattle.wait_laws.proofs.MovedStated.{moved_stated}
-use Rattle.cluster_core.proofs.BirthPlaces.{child_apart}
+use Rattle.cert_sched.proofs.BirthPlaces.{born_beside}
 use Rattle.cluster_core.proofs.ByKind.{OneOf, by_kind, by_page, by_sync, kind_is}
 use Rattle.cluster_core.proofs.Homes.{HomeHere, differ_built}
 use Rattle.cluster_core.proofs.SyncedHomes.{backup_kept, synced_found}
@@ -167,7 +167,7 @@ module _ (system : System) (valid : is_system system ≡ true) (log : List Entry
             let stated = moved_stated system log p legal (was_moved (moves_none system log e (ap cluster_lost is) p)) in
             let there = stated_there Stands (λ system log e stands. stands) system log p valid legal stated in
             absurd (true≢false (sym there ∙ ap is_some (ap (process_after system log) one ∙ child_absent system log e parent at child end is (may.stands).applies)))
-        by_pid false apart = by_other (Birth parent at child end) is refl (sym (child_apart places child p (placed_at places parent) apart) ∙ found)
+        by_pid false apart = by_other (Birth parent at child end) is refl (sym (born_beside p child places (placed_at places parent) apart) ∙ found)
 
     by_cut : (r : Pid) (small : SmallState) (read : List ℕ) → what e ≡ Sync r small read None → unended_at (placed_after places (Sync r small read None)) p ≡ Some q → q.backup ≡ None
     by_cut r small read is found = by_found (unended_at places p) refl (sym (synced_found places r p small read None) ∙ found)

@@ -47,7 +47,8 @@ use Rattle.cluster_core.proofs.ByKind.{by_page, is_of_page}
 use Rattle.cluster_core.proofs.HasPages.{home_of_sender}
 use Rattle.cluster_core.proofs.Homes.{HomeHere, differ_built, home_lives}
 use Rattle.cluster_core.proofs.HomesMoved.{stays_home}
-use Rattle.cluster_core.proofs.BirthPlaces.{birth_home, birth_servers}
+use Rattle.cert_sched.proofs.BirthClusters.{birth_servers}
+use Rattle.cluster_core.proofs.BirthHomes.{birth_home}
 use Rattle.cluster_core.proofs.NotMoved.{by_built, home_not_moved, moved_not_moved}
 use Rattle.cluster_core.proofs.SyncedHomes.{home_synced}
 
