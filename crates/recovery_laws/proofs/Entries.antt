@@ -66,7 +66,7 @@ unended_counts May standing system log p valid legal unended start started =
 
 module _ (system : System) (log : List Entry) (e : Entry) (p : Pid) where
   pub quiet_of : is_cut p (what e) ≡ false → is_birth_of p (what e) ≡ false → starts p e ≡ false
-  quiet_of no_cut no_birth = ap (λ b. b || is_birth_of p (what e)) no_cut ∙ no_birth
+  quiet_of no_cut unborn = ap (λ b. b || is_birth_of p (what e)) no_cut ∙ unborn
 
   pub same_start : starts p e ≡ false → start_of system (log ++ e ∷ []) p ≡ start_of system log p
   same_start quiet = start_of-snoc system log e p ∙ ap (λ b. cond b (process_after system (log ++ e ∷ []) p) (start_of system log p)) quiet
@@ -78,10 +78,10 @@ module _ (system : System) (log : List Entry) (e : Entry) (p : Pid) where
 
   -- it counts the letters of such an entry
   counts_more : is_cut p (what e) ≡ false → is_birth_of p (what e) ≡ false → CountsLetters system log p → CountsLetters system (log ++ e ∷ []) p
-  counts_more no_cut no_birth counts start started =
-      let quiet = quiet_of no_cut no_birth in
+  counts_more no_cut unborn counts start started =
+      let quiet = quiet_of no_cut unborn in
       let before = counts start (sym (same_start quiet) ∙ started) in
-      let count = arrived_count-other log e p no_birth in
+      let count = arrived_count-other log e p unborn in
       let more : length (letters_to p (after_last (starts p) (log ++ e ∷ []))) ≡ length (letters_to p (after_last (starts p) log)) + length (letter_for p (what e)) =
       ap length (letters_more quiet) ∙ length-append (letters_to p (after_last (starts p) log)) (letter_for p (what e)) in
       omega (arith, before, count, more)
@@ -137,13 +137,13 @@ module _ (system : System) (log : List Entry) (e : Entry) (p : Pid) where
   -- an entry that tells of none of its deeds, and starts it neither again nor anew, brings it its letters and leaves what is left
   pub rolls_entry : (s : ProcState) (counts : Counts) (births : List Pid) → CountsLetters system log p → is_cut p (what e) ≡ false → is_birth_of p (what e) ≡ false → deeds_in p (what e) ≡ []
       → RollsAs system log p s counts births → RollsAs system (log ++ e ∷ []) p (all_delivered s (letter_for p (what e))) counts births
-  rolls_entry s counts births letters no_cut no_birth none rolls =
+  rolls_entry s counts births letters no_cut unborn none rolls =
       let r = rolling_of system log p s counts births rolls in
       let came = letter_for p (what e) in
-      let quiet = quiet_of system log e p no_cut no_birth in
+      let quiet = quiet_of system log e p no_cut unborn in
       let deeds : since log p ≡ since (log ++ e ∷ []) p =
       sym (append-nil (since log p)) ∙ ap (λ ds. since log p ++ ds) (sym none) ∙ sym (since-snoc log e p ∙ ap (λ b. cond b [] (since log p ++ deeds_in p (what e))) quiet) in
-      let more : all_delivered (refilled log p r.start) came ≡ refilled (log ++ e ∷ []) p r.start = refilled_more system log e p r.start quiet no_birth (letters r.start r.started) in
+      let more : all_delivered (refilled log p r.start) came ≡ refilled (log ++ e ∷ []) p r.start = refilled_more system log e p r.start quiet unborn (letters r.start r.started) in
       rolls_as system (log ++ e ∷ []) p (all_delivered s came) counts births (record {
         start = r.start;
         started = same_start system log e p quiet ∙ r.started;

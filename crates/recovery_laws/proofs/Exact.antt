@@ -233,12 +233,12 @@ joined n (suc m) s t u ds (d ∷ es) first rest = record { made = n + suc m; sha
 
 exact_more : (system : System) (log : List Entry) (e : Entry) (p : Pid) (now : ProcState) → is_cut p (what e) ≡ false → is_birth_of p (what e) ≡ false → CountsLetters system log p → (d : Did system log (what e) p now) → IsExact system log p d.was
     → IsExact system (log ++ e ∷ []) p now
-exact_more system log e p now no_cut no_birth letters d x =
-    let quiet = quiet_of system log e p no_cut no_birth in
+exact_more system log e p now no_cut unborn letters d x =
+    let quiet = quiet_of system log e p no_cut unborn in
     let came = letter_for p (what e) in
     let both = joined x.made d.made (refilled log p x.start) d.was d.to (since log p) (deeds_in p (what e)) x.sharp d.sharp in
     let deeds : since log p ++ deeds_in p (what e) ≡ since (log ++ e ∷ []) p = sym (since-snoc log e p ∙ ap (λ b. cond b [] (since log p ++ deeds_in p (what e))) quiet) in
-    let more : all_delivered (refilled log p x.start) came ≡ refilled (log ++ e ∷ []) p x.start = refilled_more system log e p x.start quiet no_birth (letters x.start x.started) in
+    let more : all_delivered (refilled log p x.start) came ≡ refilled (log ++ e ∷ []) p x.start = refilled_more system log e p x.start quiet unborn (letters x.start x.started) in
     record {
       start = x.start;
       started = same_start system log e p quiet ∙ x.started;

@@ -42,12 +42,12 @@ record First (child : ProcState) (cs : List ProcState) : Type 0 where
   pub more : List ProcState
   pub is : cs ≡ child ∷ more
 
-no_births : (child : Pid) (births : List Pid) → (child ∷ births) ≡ [] → ⊥
-no_births child births e = cc
+some_left : (child : Pid) (births : List Pid) → (child ∷ births) ≡ [] → ⊥
+some_left child births e = cc
 
 -- where its next step is a fork, it is as that fork makes the first child that is left
 first_forked : (m : ℕ) (s now : ProcState) (rest : List Deed) (child : Pid) (births : List Pid) → child ∷ births ≡ births_in rest → next_step s ≡ Forks → Replays m s rest now → First (fork_child s child) (forked m s rest)
-first_forked zero s now rest child births left forks on = absurd (no_births child births (left ∙ ap births_in on.0))
+first_forked zero s now rest child births left forks on = absurd (some_left child births (left ∙ ap births_in on.0))
 first_forked (suc m) s now rest child births left forks on = by_rest rest left (subst (λ next. ReplaysBy s (λ x r. Replays m x r now) next rest) forks on)
   where
     by_rest : (rest : List Deed) → child ∷ births ≡ births_in rest → ReplaysBy s (λ x r. Replays m x r now) Forks rest → First (fork_child s child) (forked (suc m) s rest)
@@ -67,7 +67,7 @@ module _ (system : System) (log : List Entry) (parent : Pid) (now : ProcState) (
 
   forked_part : (s : ProcState) (rest : List Deed) (child : Pid) (births : List Pid) → child ∷ births ≡ births_in rest → next_step s ≡ Forks → (part : Part from (since log parent) s rest) → Reach part.steps (bore.rolls).made s rest now
       → birth_state system log child ≡ Some (fork_child s child)
-  forked_part s rest child births left forks part (beyond k sum none silent) = absurd (no_births child births (left ∙ ap births_in none))
+  forked_part s rest child births left forks part (beyond k sum none silent) = absurd (some_left child births (left ∙ ap births_in none))
   forked_part s rest child births left forks part (on_way m sum on) =
       let first = first_forked m s now rest child births left forks on in
       let earlier = forked part.steps from part.done in

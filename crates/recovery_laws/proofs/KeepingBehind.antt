@@ -51,7 +51,7 @@ module _ (system : System) (log : List Entry) (e : Entry) (p : Pid) where
   -- the steps of a process in the kernel do not go down
   pub steps_kept : (May : System → List Entry → Entry → Type 0) → IsStandingRule May → is_system system ≡ true → IsLegalBy May system (log ++ e ∷ []) → IsUnended system (log ++ e ∷ []) p → is_cut p (what e) ≡ false → is_birth_of p (what e) ≡ false
       → done_after system log p ≤ done_after system (log ++ e ∷ []) p
-  steps_kept May standing valid legal unended no_cut no_birth = by_process (process_after system (log ++ e ∷ []) p) refl (unended_there May standing system (log ++ e ∷ []) p valid legal unended)
+  steps_kept May standing valid legal unended no_cut unborn = by_process (process_after system (log ++ e ∷ []) p) refl (unended_there May standing system (log ++ e ∷ []) p valid legal unended)
     where
       came_from : (now : ProcState) → process_after system (log ++ e ∷ []) p ≡ Some now → Came system log (what e) p now → done_after system log p ≤ done_after system (log ++ e ∷ []) p
       came_from now there (went_on was here birth g) =
@@ -61,7 +61,7 @@ module _ (system : System) (log : List Entry) (e : Entry) (p : Pid) where
           let same : (now.small).steps ≡ ((g.to).small).steps = ap (λ (s : ProcState). (s.small).steps) (g.arrives ∙ all_delivered-is g.to (letter_for p (what e))) in
           omega (arith, before, after, steps, same)
       came_from now there (was_cut was here open_still cut same) = absurd (true≢false (sym cut ∙ no_cut))
-      came_from now there (was_born birth none) = absurd (true≢false (sym birth ∙ no_birth))
+      came_from now there (was_born birth none) = absurd (true≢false (sym birth ∙ unborn))
 
       by_process : (o : Option ProcState) → process_after system (log ++ e ∷ []) p ≡ o → is_some o ≡ true → done_after system log p ≤ done_after system (log ++ e ∷ []) p
       by_process None is there = absurd (true≢false (sym there))

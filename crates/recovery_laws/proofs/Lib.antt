@@ -1,6 +1,8 @@
 pub mod StartedThere
 pub mod Bearing
 pub mod BirthStates
+pub mod UnendedBefore
+pub mod Stateless
 pub mod BornLists
 pub mod ForkedPids
 pub mod ForkedStates

@@ -22,6 +22,15 @@ ghost use Rattle.cert_sched.specs.Legal.{IsLegalBy, Stands};
 ghost use Rattle.cert_sched.specs.Simulation.{IsUnended, bears};
 ghost use Rattle.cert_sched.specs.Rolling.{RollsAs};
 ghost use Rattle.recovery_laws.specs.Behind.{RollsBehind};
+ghost use Rattle.recovery_laws.specs.Parents.{HasParent};
+
+/// A law and no code: a process that has not ended and has no state in its record.
+pub fn stateless_processes_are_children()
+    // It never synchronised,
+    ensures unsynced { (system : System) (log : List Entry) (p : Pid) → is_system system ≡ true → IsLegalBy Stands system log → IsUnended system log p → has_state system log p ≡ false → is_unsynced (placement system log) p ≡ true }
+    // and was born in the log.
+    ensures born { (system : System) (log : List Entry) (p : Pid) → IsLegalBy Stands system log → IsUnended system log p → has_state system log p ≡ false → HasParent log p }
+{}
 
 /// A law and no code: a child without a state in its record, where its parent comes to its fork again.
 pub fn children_start_again()

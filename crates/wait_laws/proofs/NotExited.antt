@@ -1,9 +1,8 @@
 -- A process that has not ended in a legal log has no exit in it: it was not there before its birth, and is not after its exit.
-use Rattle.std.proofs.Common.{◌≡◌, ℕ, refl, sym, ◌∙◌, ap, subst, List, [], ◌∷◌, ◌++◌, Bool, true, false, cond, not, ◌&&◌, ◌||◌, Option, Some, None, is_some, true≢false}
-use Rattle.std.specs.Prelude.{find, option_and_then}
+use Rattle.std.proofs.Common.{◌≡◌, ℕ, refl, sym, ◌∙◌, ap, subst, List, [], ◌∷◌, ◌++◌, Bool, true, false, ◌||◌, Option, Some, None, is_some, true≢false}
+use Rattle.std.specs.Prelude.{option_and_then}
 use Rattle.std.specs.List.{list_any}
-use Rattle.std.specs.Option.{option_or}
-use Rattle.std.proofs.lemmas.List.Folds.{find-append, list_any-append}
+use Rattle.std.proofs.lemmas.List.Folds.{list_any-append}
 use Rattle.t32_base.specs.declared.process.Pid.{Pid}
 use Rattle.t32_base.specs.declared.process.End.{End}
 use Rattle.sys_text.specs.declared.system.System.{System}
@@ -13,9 +12,8 @@ use Rattle.plain_kernel.specs.Kernel.{process_at}
 use Rattle.bus_msg.specs.declared.entry.What.{What}
 use Rattle.bus_msg.specs.declared.entry.What.TheVariants.{Mail, Birth, Exit, Page, Sync, Fetch, PageIs, Crash, Return, Rebackup, Done, Stop}
 use Rattle.bus_msg.specs.declared.entry.Entry.{Entry}
-use Rattle.bus_msg.specs.declared.placed.Placed.{Placed}
-use Rattle.bus_msg.specs.Places.{Places, same_pid, placed_at, unended_at}
-use Rattle.bus_msg.specs.PlacedAfter.{what, placed_after, with_birth, child_of}
+use Rattle.bus_msg.specs.Places.{unended_at}
+use Rattle.bus_msg.specs.PlacedAfter.{what}
 use Rattle.cert_sched.specs.Schedule.{placement, process_after}
 use Rattle.cert_sched.specs.Deeds.{is_birth_of}
 use Rattle.cert_sched.specs.Account.{is_exit_of}
@@ -27,8 +25,8 @@ use Rattle.cert_sched.proofs.Induction.{legal_induction}
 use Rattle.cert_sched.proofs.StepLaws.{is_sent, sent_from}
 use Rattle.cert_sched.proofs.CameLaws.{same_of}
 use Rattle.cert_sched.proofs.BornLaws.{there_not_born}
-use Rattle.cert_sched.proofs.StayingUnended.{unended_before}
 use Rattle.recovery_laws.proofs.StartedThere.{there_stays}
+use Rattle.recovery_laws.proofs.UnendedBefore.{before_unended}
 
 abbrev pub has_exited : List Entry → Pid → Bool
 has_exited log p = list_any (λ (e : Entry). is_exit_of p (what e)) log
@@ -94,34 +92,6 @@ born_unexited system log e p legal stands birth = by_test (has_exited log p) ref
     by_test false none = refl
 
 -- ---- who has not ended has not exited
-
--- a birth of another leaves whether a process has ended
-birth_before : (p child : Pid) (places : Places) (o : Option Placed) → same_pid child p ≡ false → is_some (unended_at (with_birth places child o) p) ≡ true → is_some (unended_at places p) ≡ true
-birth_before p child places None apart there = there
-birth_before p child places (Some q) apart there =
-    by_found (unended_at places p) (sym (ap is_some (find-append (λ (q : Placed). same_pid q.pid p && not q.ended) places.placed (child_of q child ∷ []))) ∙ there)
-  where
-    none_more : is_some (find (λ (q : Placed). same_pid q.pid p && not q.ended) (child_of q child ∷ [])) ≡ false
-    none_more = ap (λ (b : Bool). is_some (cond (b && true) (Some (child_of q child)) None)) apart
-
-    by_found : (o : Option Placed) → is_some (option_or o (find (λ (q : Placed). same_pid q.pid p && not q.ended) (child_of q child ∷ []))) ≡ true → is_some o ≡ true
-    by_found None h = absurd (true≢false (sym h ∙ none_more))
-    by_found (Some r) h = refl
-
--- who has not ended after an entry that does not bear it had not ended before, and the entry is not its exit
-pub before_unended : (w : What) (places : Places) (p : Pid) → is_birth_of p w ≡ false → is_some (unended_at (placed_after places w) p) ≡ true → (is_exit_of p w ≡ false) × (is_some (unended_at places p) ≡ true)
-before_unended (Birth parent at child end) places p unborn there = (refl, birth_before p child places (placed_at places parent) unborn there)
-before_unended (Mail at letter) places p unborn there = unended_before (Mail at letter) refl places p there
-before_unended (Exit q at end) places p unborn there = unended_before (Exit q at end) refl places p there
-before_unended (Page q at index bytes) places p unborn there = unended_before (Page q at index bytes) refl places p there
-before_unended (Sync q small read took) places p unborn there = unended_before (Sync q small read took) refl places p there
-before_unended (Fetch q index) places p unborn there = unended_before (Fetch q index) refl places p there
-before_unended (PageIs q index bytes) places p unborn there = unended_before (PageIs q index bytes) refl places p there
-before_unended (Crash k cause) places p unborn there = unended_before (Crash k cause) refl places p there
-before_unended (Return k) places p unborn there = unended_before (Return k) refl places p there
-before_unended (Rebackup to fresh recs) places p unborn there = unended_before (Rebackup to fresh recs) refl places p there
-before_unended (Done rests) places p unborn there = unended_before (Done rests) refl places p there
-before_unended Stop places p unborn there = unended_before Stop refl places p there
 
 birth_no_exit : (p : Pid) (w : What) → is_birth_of p w ≡ true → is_exit_of p w ≡ false
 birth_no_exit p (Exit q at end) birth = absurd (true≢false (sym birth))
