@@ -6,6 +6,4 @@ pub mod Followed
 pub mod Reverting
 pub mod Booted
 pub mod RootPages
-pub mod Sized
-pub mod Lasting
 pub mod WaitLaws

@@ -1,6 +1,5 @@
 -- The pages of a memory, put one after another.
-use Rattle.std.proofs.Common.{◌≡◌, ℕ, zero, suc, ◌+◌, ◌*◌, List, [], ◌∷◌, length, take, drop, sym, ◌∙◌, ap, arith}
-use Rattle.std.specs.Prelude.{◌/◌}
+use Rattle.std.proofs.Common.{◌≡◌, ℕ, zero, suc, ◌+◌, ◌*◌, List, [], ◌∷◌, take, drop, sym, ◌∙◌, ap, arith}
 use Rattle.std.specs.Ordering.{nat_cmp}
 use Rattle.std.specs.declared.cmp.Ordering.TheVariants.{Greater}
 use Rattle.std.specs.FinMap.{put}
@@ -30,6 +29,3 @@ page_more i (suc n) bytes =
   where
     number : i + suc n ≡ i + 1 + n
     number = omega arith
-
-pub whole : (n : ℕ) (bytes : List ℕ) → length bytes ≡ 256 * n → length bytes / 256 ≡ n
-whole n bytes h = omega (arith, h)

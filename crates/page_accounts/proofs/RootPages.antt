@@ -1,6 +1,6 @@
 -- The pages of the roots of a system are those of its processes at boot.
-use Rattle.std.proofs.Common.{◌≡◌, ℕ, ◌+◌, ◌-◌, ◌*◌, ◌≤◌, Bool, true, false, ◌||◌, cond, eqb, T, is_some, List, [], ◌∷◌, ◌++◌, length, map, refl, sym, ap, ◌∙◌, arith, Option, Some, None, slice_get, eqb-true, eq-eqb, true≢false, add-zero}
-use Rattle.std.specs.Prelude.{◌/◌, fold, replicate, unwrap_or}
+use Rattle.std.proofs.Common.{◌≡◌, ℕ, ◌+◌, ◌≤◌, Bool, true, false, ◌||◌, cond, eqb, T, is_some, List, [], ◌∷◌, ◌++◌, map, refl, sym, ap, ◌∙◌, arith, Some, eqb-true, eq-eqb, true≢false, add-zero}
+use Rattle.std.specs.Prelude.{fold}
 use Rattle.std.specs.List.{list_any, sum_by}
 use Rattle.std.specs.Ordering.{nat_cmp, is_eq}
 use Rattle.std.specs.declared.cmp.Ordering.{Ordering}
@@ -8,20 +8,17 @@ use Rattle.std.specs.declared.cmp.Ordering.TheVariants.{Less, Equal, Greater}
 use Rattle.std.specs.FinMap.{put, find, is_sorted}
 use Rattle.std.specs.FinMap.Entries.{by_order, is_sorted-put}
 use Rattle.std.proofs.lemmas.Bool.Decides.{nat_tests}
-use Rattle.std.proofs.lemmas.List.{length-append, length-replicate}
 use Rattle.std.proofs.lemmas.List.Sums.{sum_by-append, sum_by-cons, sum_by_push}
 use Rattle.t32_base.specs.declared.process.Pid.{Pid}
 use Rattle.sys_text.specs.declared.system.System.{System}
-use Rattle.sys_text.specs.declared.system.Image.{Image}
 use Rattle.sys_text.specs.declared.system.Root.{Root}
 use Rattle.sys_text.specs.Valid.{is_system}
-use Rattle.sys_text.specs.Boot.{bytes_of_words, roots_of}
-use Rattle.sys_text.proofs.Bounds.{image_bounds}
+use Rattle.sys_text.specs.Boot.{roots_of}
 use Rattle.proc_state.specs.State.{ProcState, linked_to}
-use Rattle.plain_kernel.specs.Kernel.{Kernel, boot, boot_roots, empty, no_image, pid_cmp, process_at, root_process, with_process, with_root}
+use Rattle.plain_kernel.specs.Kernel.{Kernel, boot, boot_roots, empty, pid_cmp, process_at, root_process, with_process, with_root}
 use Rattle.plain_kernel.specs.Maps.{linked_processes, pid_of}
 use Rattle.plain_kernel.specs.Starts.{starts_in}
-use Rattle.plain_kernel.proofs.AtBoot.{boot-each, chans-keep, roots-rising}
+use Rattle.plain_kernel.proofs.AtBoot.{chans-keep, roots-rising}
 use Rattle.plain_kernel.proofs.Entries.{some_same}
 use Rattle.plain_kernel.proofs.Laws.{pid_cmp_total}
 use Rattle.plain_kernel.proofs.Pids.{IsRising, left_true, not_found, right_true}
@@ -33,32 +30,6 @@ use Rattle.cert_sched.proofs.RisingLaws.{NoTwo, either_not}
 use Rattle.cert_sched.proofs.RootPids.{root_pids_differ}
 use Rattle.page_accounts.specs.Booting.{pages_of}
 use Rattle.page_accounts.proofs.Booted.{boot_has}
-
--- ---- a process starts with as much memory as its pages have
-
-abbrev pub HasSize : Pid → ProcState → Type 0
-HasSize p s = length s.memory ≡ 256 * (s.small).pages
-
-four_each : (words : List ℕ) → length (bytes_of_words words) ≡ 4 * length words
-four_each [] = refl
-four_each (w ∷ words) = omega (arith, four_each words)
-
--- an image that fits is filled up
-filled : (image : Image) → 4 * length image.words ≤ 256 * image.pages → length (bytes_of_words image.words ++ replicate (256 * image.pages - length (bytes_of_words image.words)) 0) ≡ 256 * image.pages
-filled image fits =
-    let more = 256 * image.pages - length (bytes_of_words image.words) in
-    omega (arith, length-append (bytes_of_words image.words) (replicate more 0), length-replicate {A = ℕ} more 0, four_each image.words, fits)
-
-root_size : (system : System) → is_system system ≡ true → (p : Pid) (r : Root) → HasSize p (root_process system p r)
-root_size system valid p r = by_image (slice_get system.images r.image) refl
-  where
-    by_image : (o : Option Image) → slice_get system.images r.image ≡ o
-        → length (bytes_of_words (unwrap_or o no_image).words ++ replicate (256 * (unwrap_or o no_image).pages - length (bytes_of_words (unwrap_or o no_image).words)) 0) ≡ 256 * (unwrap_or o no_image).pages
-    by_image None is = refl
-    by_image (Some image) is = filled image (image_bounds system r.image image valid is).fits
-
-pub boot_size : (system : System) → is_system system ≡ true → (p : Pid) (s : ProcState) → process_at (boot system) p ≡ Some s → HasSize p s
-boot_size system valid = boot-each HasSize system (root_size system valid) (λ p s peer far has. has)
 
 -- ---- a sum over the processes of a kernel
 
