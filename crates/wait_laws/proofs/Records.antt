@@ -8,7 +8,7 @@ use Rattle.t32_base.specs.declared.letter.BackRec.{BackRec}
 use Rattle.sys_text.specs.declared.system.System.{System}
 use Rattle.sys_text.specs.Valid.{is_system}
 use Rattle.bus_msg.specs.declared.entry.What.{What}
-use Rattle.bus_msg.specs.declared.entry.What.TheVariants.{Mail, Sync}
+use Rattle.bus_msg.specs.declared.entry.What.TheVariants.{Mail, Birth, Sync}
 use Rattle.bus_msg.specs.declared.entry.Entry.{Entry}
 use Rattle.bus_msg.specs.PlacedAfter.{what}
 use Rattle.cert_sched.specs.Told.{cluster_lost}
@@ -28,5 +28,6 @@ record_next system log e p kept valid legal no_cut unended is = record_follows S
 -- one that moves a process is a loss, and leaves its record
 pub loss_leaves : (w : What) (moved : ClusterNo → Bool) (kept : BackRec) → option_map_or moved (cluster_lost w) false ≡ true → record_after w kept ≡ kept
 loss_leaves (Mail at letter) moved kept moves = absurd (true≢false (sym moves))
+loss_leaves (Birth parent at child end) moved kept moves = absurd (true≢false (sym moves))
 loss_leaves (Sync pid small read took) moved kept moves = absurd (true≢false (sym moves))
 loss_leaves w moved kept moves = refl
