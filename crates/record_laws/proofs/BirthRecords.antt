@@ -66,6 +66,10 @@ module _ (system : System) (log : List Entry) (e : Entry) (valid : is_system sys
           absurd (true≢false (ap is_some (sym born.found ∙ ap (unended_at (placement system log)) pids ∙ child_none)))
       by_test false other = refl
 
+  -- every other process is found as before
+  pub unended_beside : (p : Pid) → same_pid child p ≡ false → unended_at (placement system (log ++ e ∷ [])) p ≡ unended_at (placement system log) p
+  unended_beside p other = found_born system log e stands all parent at child end is born p other
+
   -- ---- the record of the child
 
   unstated : has_state system log child ≡ false
@@ -120,7 +124,7 @@ module _ (system : System) (log : List Entry) (e : Entry) (valid : is_system sys
     of_other p other b has = birth-other parent child recs p other ∙ ap (option_map (with_child_of parent child)) (keeps p ∙ ap (λ b. cond b (backup_record system log p) None) has) ∙ by_backup b has
       where
         same : has_backup_in system (log ++ e ∷ []) k p ≡ has_backup_in system log k p
-        same = ap backed (found_born system log e stands all parent at child end is born p other)
+        same = ap backed (unended_beside p other)
 
         by_backup : (b : Bool) → has_backup_in system log k p ≡ b
             → option_map (with_child_of parent child) (cond b (backup_record system log p) None) ≡ cond (has_backup_in system (log ++ e ∷ []) k p) (backup_record system (log ++ e ∷ []) p) None
