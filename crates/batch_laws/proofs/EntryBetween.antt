@@ -1,6 +1,6 @@
 -- An entry that comes between the posts of a batch: the process is where it was, with the letters that the entry brings it, and what is left may still be sent.
-use Rattle.std.proofs.Common.{◌≡◌, ℕ, zero, suc, ◌+◌, ◌-◌, ◌<◌, refl, sym, ◌∙◌, ap, subst, arith, List, [], ◌∷◌, ◌++◌, length, true, false, cond, not, ◌||◌, ltb, Option, Some, None, is_some, true≢false}
-use Rattle.std.specs.Prelude.{max, nat_le, option_and_then}
+use Rattle.std.proofs.Common.{◌≡◌, ℕ, zero, suc, ◌+◌, ◌-◌, ◌<◌, refl, sym, ◌∙◌, ap, subst, arith, List, [], ◌∷◌, ◌++◌, length, true, false, not, ◌||◌, ltb, Option, Some, None, is_some, true≢false}
+use Rattle.std.specs.Prelude.{nat_le, option_and_then}
 use Rattle.std.specs.List.{list_all}
 use Rattle.std.specs.Option.{option_map_or}
 use Rattle.std.proofs.lemmas.Bool.{and_parts}
@@ -23,8 +23,8 @@ use Rattle.bus_msg.specs.declared.entry.Entry.{Entry}
 use Rattle.bus_msg.specs.Places.{Places, same_pid}
 use Rattle.bus_msg.specs.PlacedAfter.{what}
 use Rattle.roll_forward.specs.Deeds.{Sends, Bears}
-use Rattle.cert_sched.specs.CertAfter.{count_in, raised_at}
-use Rattle.cert_sched.specs.Schedule.{done, done_after, placement, plain_after, process_after}
+use Rattle.cert_sched.specs.CertAfter.{count_in}
+use Rattle.cert_sched.specs.Schedule.{done, done_after, placement, plain_after, process_after, steps_in}
 use Rattle.cert_sched.specs.Deeds.{deeds_in, is_birth_of, is_cut, letter_for, numbered, saved_letters, starts, arrived_count}
 use Rattle.cert_sched.specs.Record.{has_state}
 use Rattle.cert_sched.specs.Scripted.{is_done}
@@ -41,9 +41,10 @@ use Rattle.cert_sched.proofs.OpenLaws.{unended_open}
 use Rattle.cert_sched.proofs.RecordLaws.{has_state-snoc, saved_letters-other}
 use Rattle.cert_sched.proofs.ReplayLaws.{Replays, all_delivered-is, replays_counts}
 use Rattle.cert_sched.proofs.RollLaws.{AllRoll, Rolls, all_roll, rolls_next, two_apart}
-use Rattle.cert_sched.proofs.StepLaws.{SilentFrom, done_after-snoc, done_kernel, silent_from}
+use Rattle.cert_sched.proofs.MadeLaws.{apart_from}
+use Rattle.cert_sched.proofs.StepLaws.{SilentFrom, done_after-other, done_after-quiet, done_kernel, silent_from}
 use Rattle.cert_sched.proofs.ThereLaws.{unended_there}
-use Rattle.page_laws.proofs.OneEntry.{or_nothing, turned}
+use Rattle.page_laws.proofs.OneEntry.{or_nothing}
 use Rattle.page_laws.proofs.PagesStay.{page_count-snoc}
 use Rattle.read_laws.specs.Numbered.{are_below, are_in_order}
 use Rattle.read_laws.proofs.LogReads.{itself, all_saved_numbered}
@@ -57,25 +58,36 @@ use Rattle.batch_laws.proofs.LettersRead.{same_read}
 
 -- ---- the count of a process after an entry that tells nothing that it did
 
--- another process raises its own count
-raises_other : (q p : Pid) (n : ℕ) (counts : Pid → ℕ) → same_pid q p ≡ false → raised_at (Some (q, n)) counts p ≡ counts p
-raises_other q p n counts apart = ap (λ b. cond b (max n (counts q)) (counts p)) (turned p.0 q.0 ∙ apart)
+-- it raises the count of another, where it raises one
+raises_other : (p : Pid) (w : What) → is_cut p w ≡ false → deeds_in p w ≡ [] → (r : Pid × ℕ) → count_in w ≡ Some r → same_pid r.0 p ≡ false
+raises_other p w no_cut none r raises = by_what w no_cut none raises
+  where
+    of : (q : Pid) (n : ℕ) → Some (q, n) ≡ Some r → same_pid q p ≡ false → same_pid r.0 p ≡ false
+    of q n same apart = ap (λ (o : Option (Pid × ℕ)). option_map_or (λ (x : Pid × ℕ). same_pid x.0 p) o false) (sym same) ∙ apart
 
-same_count : (p : Pid) (counts : Pid → ℕ) (w : What) → is_cut p w ≡ false → deeds_in p w ≡ [] → raised_at (count_in w) counts p ≡ counts p
-same_count p counts (Mail at letter) no_cut none = raises_other letter.from p at counts (no_deed letter.from p (Sends (Sent letter)) none)
-same_count p counts (Birth parent at child end) no_cut none = raises_other parent p at counts (no_deed parent p (Bears child) none)
-same_count p counts (Exit q at end) no_cut none = raises_other q p at counts (no_deed q p (Sends (Ended end)) none)
-same_count p counts (Page q at index bytes) no_cut none = refl
-same_count p counts (Sync q small read took) no_cut none = raises_other q p small.steps counts no_cut
-same_count p counts (Fetch q index) no_cut none = refl
-same_count p counts (PageIs q index bytes) no_cut none = refl
-same_count p counts (Crash k cause) no_cut none = refl
-same_count p counts (Return k) no_cut none = refl
-same_count p counts (Rebackup to true []) no_cut none = refl
-same_count p counts (Rebackup to true (r ∷ rs)) no_cut none = raises_other r.pid p _ counts no_cut
-same_count p counts (Rebackup to false recs) no_cut none = refl
-same_count p counts (Done rests) no_cut none = refl
-same_count p counts Stop no_cut none = refl
+    by_what : (w : What) → is_cut p w ≡ false → deeds_in p w ≡ [] → count_in w ≡ Some r → same_pid r.0 p ≡ false
+    by_what (Mail at letter) no_cut none same = of letter.from at same (no_deed letter.from p (Sends (Sent letter)) none)
+    by_what (Birth parent at child end) no_cut none same = of parent at same (no_deed parent p (Bears child) none)
+    by_what (Exit q at end) no_cut none same = of q at same (no_deed q p (Sends (Ended end)) none)
+    by_what (Page q at index bytes) no_cut none same = cc
+    by_what (Sync q small read took) no_cut none same = of q small.steps same no_cut
+    by_what (Fetch q index) no_cut none same = cc
+    by_what (PageIs q index bytes) no_cut none same = cc
+    by_what (Crash k cause) no_cut none same = cc
+    by_what (Return k) no_cut none same = cc
+    by_what (Rebackup to true []) no_cut none same = cc
+    by_what (Rebackup to true (s ∷ rs)) no_cut none same = of s.pid (steps_in s.state) same no_cut
+    by_what (Rebackup to false recs) no_cut none same = cc
+    by_what (Done rests) no_cut none same = cc
+    by_what Stop no_cut none same = cc
+
+count_stays : (system : System) (log : List Entry) (e : Entry) (p : Pid) → is_done (what e) ≡ false → is_some (plain_after system (log ++ e ∷ [])) ≡ true → is_cut p (what e) ≡ false → deeds_in p (what e) ≡ []
+    → done_after system (log ++ e ∷ []) p ≡ done_after system log p
+count_stays system log e p goes_on applies no_cut none = by_count (count_in (what e)) refl
+  where
+    by_count : (o : Option (Pid × ℕ)) → count_in (what e) ≡ o → done_after system (log ++ e ∷ []) p ≡ done_after system log p
+    by_count None is = done_after-quiet system log e p goes_on applies is
+    by_count (Some r) is = done_after-other system log e r.0 p r.1 goes_on applies is (apart_from r.0 p (raises_other p (what e) no_cut none r is))
 
 not_done : (places : Places) (w : What) → ends_run places w ≡ false → is_done w ≡ false
 not_done places (Done rests) goes_on = goes_on
@@ -134,9 +146,7 @@ module _ (system : System) (log : List Entry) (e : Entry) (k : ClusterNo) (p : P
       by_kernel (Some j) is = ap (λ (o : Option ProcState). option_map_or (λ (s : ProcState). (s.small).steps) o 0) is
 
   done_stays : done_after system (log ++ e ∷ []) p ≡ done_after system log p
-  done_stays =
-      done_after-snoc system log e p (not_done (placement system log) (what e) (sym (is_over-snoc system log e) ∙ comes.goes_on)) (comes.stands).applies
-      ∙ same_count p (done_after system log) (what e) (comes.leaves).no_cut comes.no_deeds
+  done_stays = count_stays system log e p (not_done (placement system log) (what e) (sym (is_over-snoc system log e) ∙ comes.goes_on)) (comes.stands).applies (comes.leaves).no_cut comes.no_deeds
 
   arrives : process_after system (log ++ e ∷ []) p ≡ Some (all_delivered was letters)
   arrives = by_process (process_after system (log ++ e ∷ []) p) refl (unended_there Stands itself system (log ++ e ∷ []) p comes.valid legal_more unended)
@@ -199,7 +209,7 @@ module _ (system : System) (log : List Entry) (e : Entry) (k : ClusterNo) (p : P
   due_stays = λ j. nat_le system.syncreads (length (reads_stay j)) || nat_le system.syncsteps ((s.small).steps - steps_stay system log e p comes.leaves j) || not (stated j)
 
   counted : page_count system (log ++ e ∷ []) p ≡ page_count system log p
-  counted = page_count-snoc system log e p (comes.stands).applies
+  counted = page_count-snoc system log e p (comes.leaves).no_birth (comes.stands).applies
 
   goes : BatchMay system (log ++ e ∷ []) k p with_mail read indices
   goes = record {

@@ -1,5 +1,5 @@
 -- The pages of an account stand by rising number, and each is one of its process.
-use Rattle.std.proofs.Common.{◌≡◌, ℕ, ◌*◌, ◌<◌, ◌≤◌, refl, sym, ◌∙◌, ap, subst, arith, List, [], ◌∷◌, ◌++◌, length, Bool, true, false, T, cond, ne_eqb, Option, Some, None, true≢false}
+use Rattle.std.proofs.Common.{◌≡◌, ℕ, ◌*◌, ◌<◌, ◌≤◌, refl, sym, ◌∙◌, ap, subst, arith, List, [], ◌∷◌, ◌++◌, length, Bool, true, false, T, cond, ne_eqb, Option, Some, None}
 use Rattle.std.specs.Option.{option_map_or}
 use Rattle.std.specs.Cmp.{nat_cmp_total, unsigned_tied}
 use Rattle.std.specs.FinMap.{put, is_sorted}
@@ -17,15 +17,14 @@ use Rattle.bus_msg.specs.Places.{same_pid}
 use Rattle.bus_msg.specs.PlacedAfter.{what}
 use Rattle.cert_sched.specs.Schedule.{plain_after, placement, process_after}
 use Rattle.cert_sched.specs.Told.{told, cluster_lost, is_moved}
-use Rattle.cert_sched.specs.Deeds.{is_birth_of, is_cut}
+use Rattle.cert_sched.specs.Deeds.{is_cut}
 use Rattle.cert_sched.specs.Account.{account_after, all_pages, image_pages, is_exit_of, page_put}
 use Rattle.cert_sched.specs.Steps.{page_count}
 use Rattle.cert_sched.specs.Kinds.{KindHolds}
 use Rattle.cert_sched.specs.Legal.{IsLegalBy, Stands}
 use Rattle.cert_sched.proofs.Induction.{legal_induction}
 use Rattle.cert_sched.proofs.CameLaws.{same_of}
-use Rattle.cert_sched.proofs.BornLaws.{child_absent}
-use Rattle.page_laws.proofs.PagesStay.{page_count-snoc}
+use Rattle.page_laws.proofs.PagesStay.{page_count-rises}
 use Rattle.page_laws.proofs.SizesStay.{process_sized}
 use Rattle.sync_laws.specs.Paged.{ArePaged}
 use Rattle.sync_laws.proofs.WholePages.{no_page_behind, pages_rise}
@@ -61,24 +60,6 @@ put_paged n i bytes pages below paged = record {
 wider : (n m : ℕ) (pages : List (ℕ × List ℕ)) → n ≤ m → ArePaged n pages → ArePaged m pages
 wider n m pages fewer paged = record { rising = paged.rising; within = λ i behind. paged.within i (omega (arith, fewer, behind)) }
 
--- a process that an entry bears was not there before it
-born_absent : (system : System) (log : List Entry) (e : Entry) (p : Pid) → Stands system log e → is_birth_of p (what e) ≡ true → process_after system log p ≡ None
-born_absent system log e p stands birth = by_what (what e) refl birth
-  where
-    by_what : (w : What) → what e ≡ w → is_birth_of p w ≡ true → process_after system log p ≡ None
-    by_what (Birth parent at child end) is same = ap (process_after system log) (sym (same_of child p same)) ∙ child_absent system log e parent at child end is stands.applies
-    by_what (Mail at letter) is same = absurd (true≢false (sym same))
-    by_what (Exit q at end) is same = absurd (true≢false (sym same))
-    by_what (Page q at index bytes) is same = absurd (true≢false (sym same))
-    by_what (Sync q small read took) is same = absurd (true≢false (sym same))
-    by_what (Fetch q index) is same = absurd (true≢false (sym same))
-    by_what (PageIs q index bytes) is same = absurd (true≢false (sym same))
-    by_what (Crash k cause) is same = absurd (true≢false (sym same))
-    by_what (Return k) is same = absurd (true≢false (sym same))
-    by_what (Rebackup to fresh recs) is same = absurd (true≢false (sym same))
-    by_what (Done rests) is same = absurd (true≢false (sym same))
-    by_what Stop is same = absurd (true≢false (sym same))
-
 module _ (system : System) (p : Pid) where
   -- ---- at boot
 
@@ -96,16 +77,6 @@ module _ (system : System) (p : Pid) where
   -- ---- one more entry
 
   module _ (log : List Entry) (e : Entry) (stands : Stands system log e) where
-    -- a process that is there has as many pages after it, and one that it bears has no fewer
-    no_fewer : page_count system log p ≤ page_count system (log ++ e ∷ []) p
-    no_fewer = by_birth (is_birth_of p (what e)) refl
-      where
-        by_birth : (b : Bool) → is_birth_of p (what e) ≡ b → page_count system log p ≤ page_count system (log ++ e ∷ []) p
-        by_birth true birth =
-            let none : page_count system log p ≡ 0 = ap (λ (o : Option ProcState). option_map_or (λ (s : ProcState). (s.small).pages) o 0) (born_absent system log e p stands birth) in
-            omega (arith, none)
-        by_birth false other = let same = page_count-snoc system log e p stands.applies in omega (arith, same)
-
     put_of : (w : What) → KindHolds system log e w → (pages : List (ℕ × List ℕ)) → ArePaged (page_count system log p) pages → ArePaged (page_count system log p) (page_put p w pages)
     put_of (Page q at index bytes) kind pages paged = by_test (same_pid q p) refl
       where
@@ -136,6 +107,7 @@ module _ (system : System) (p : Pid) where
         let a : Account = account_after system log p in
         let n : ℕ = page_count system log p in
         let m : ℕ = page_count system (log ++ e ∷ []) p in
+        let no_fewer : n ≤ m = page_count-rises system log e p stands.applies in
         let later : BothPaged n (account_after system (log ++ e ∷ []) p) =
         subst (λ (a : Account). BothPaged n a) (sym (account_next system log e p (what e) refl))
         (by_tests (is_exit_of p (what e)) (is_cut p (what e)) (option_map_or (is_moved p (placement system log)) (cluster_lost (what e)) false) n a (page_put p (what e) a.now) before
