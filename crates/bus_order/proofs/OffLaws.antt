@@ -11,7 +11,7 @@ use Rattle.bus_msg.specs.declared.entry.What.{What}
 use Rattle.bus_msg.specs.declared.entry.What.TheVariants.{Mail, Birth, Exit, Page, Sync, Fetch, PageIs, Crash, Return, Rebackup, Done, Stop}
 use Rattle.bus_msg.specs.declared.entry.Cause.{Cause}
 use Rattle.bus_msg.specs.declared.entry.Entry.{Entry}
-use Rattle.bus_msg.specs.Places.{ClusterPlace, Places, same_cluster, lives_in}
+use Rattle.bus_msg.specs.Places.{ClusterPlace, Places, placed_at, same_cluster, lives_in}
 use Rattle.bus_msg.specs.PlacedAfter.{what, placed_after, changed_at, lost_cluster}
 use Rattle.cert_sched.specs.Parts.{last_that}
 use Rattle.cert_sched.specs.Schedule.{placement, placed_root}
@@ -25,6 +25,7 @@ use Rattle.cert_sched.proofs.LiveLaws.{boot_lives}
 use Rattle.cert_sched.proofs.HomesLaws.{lives_within, built_clusters-length}
 use Rattle.bus_order.specs.Script.{off_at, place_of_loss, turns}
 use Rattle.bus_order.proofs.LogParts.{take_one}
+use Rattle.bus_order.proofs.BirthPlaces.{birth_keeps}
 
 -- ---- one more entry
 
@@ -89,7 +90,7 @@ crash_lives places j k cause = by_number (eqb j.0 k.0) refl
 -- whether it lives after an entry, where it lives exactly where it is not off
 lives_after : (places : Places) (off : Option ℕ) (k : ClusterNo) (e : Entry) (w : What) → what e ≡ w → is_built w ≡ true → lives_in places k ≡ is_none off → lives_in (placed_after places w) k ≡ is_none (cond (turns k w) (place_of_loss k (Some e)) off)
 lives_after places off k e (Mail at letter) is built before = before
-lives_after places off k e (Birth parent at child end) is built before = absurd (true≢false (sym built))
+lives_after places off k e (Birth parent at child end) is built before = birth_keeps (λ (c : ClusterPlace). c.lives) (λ c. refl) places child (placed_at places parent) k ∙ before
 lives_after places off k e (Exit pid at end) is built before = before
 lives_after places off k e (Page pid at index bytes) is built before = before
 lives_after places off k e (Sync pid small read took) is built before = before

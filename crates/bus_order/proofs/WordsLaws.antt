@@ -1,5 +1,5 @@
 -- Lists of words: what is found first, what is left without it, and how many there are.
-use Rattle.std.proofs.Common.{◌≡◌, ℕ, suc, ◌+◌, ◌<◌, ◌≤◌, refl, sym, ◌∙◌, ap, subst, arith, List, [], ◌∷◌, length, Bool, true, false, cond, ◌||◌, not, ltb, Option, Some, None, unwrap_or, true≢false}
+use Rattle.std.proofs.Common.{◌≡◌, ℕ, suc, ◌+◌, ◌<◌, ◌≤◌, refl, sym, ◌∙◌, ap, subst, arith, List, [], ◌∷◌, length, Bool, true, false, cond, ◌||◌, not, ltb, Some, None, unwrap_or, true≢false}
 use Rattle.std.specs.Prelude.{filter, find, count_by, position, remove, slice_get}
 use Rattle.std.specs.List.{list_any, list_all, position_or_len}
 use Rattle.std.proofs.lemmas.Bool.{and_parts, and_from}

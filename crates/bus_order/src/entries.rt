@@ -2,12 +2,12 @@
 ghost use Rattle.std.specs.Prelude.{◌≡◌, ◌<◌, ◌≤◌, ◌-◌, Some, false, ◌∷◌, ◌++◌, [], length, map, drop, take, slice_get, IfOk, OnOk, OnErr};
 ghost use Rattle.std.specs.Arc.{arc_value};
 ghost use Rattle.std.specs.Option.{option_copied};
-ghost use Rattle.channel_table.specs.Changes.{is_birth};
+ghost use Rattle.channel_table.specs.Changes.{CanBeAbsorbed};
 ghost use Rattle.bus_msg.specs.PlacedAfter.{what, placed_after};
 ghost use Rattle.cert_sched.specs.CertAfter.{KeepsSchedule};
 ghost use Rattle.bus_order.specs.Entries.{entries_in};
 
-use bus_msg::entry::Entry;
+use bus_msg::entry::{Entry, What};
 use cert_sched::cert::Cert;
 use channel_table::placement::Placement;
 use std::alloc::Global;
@@ -77,7 +77,7 @@ pub fn append(
     places: &mut Placement,
     entry: Entry,
 ) -> Result<(), NoMemory>
-    requires { is_birth (what entry) ≡ false }
+    requires { CanBeAbsorbed places.old (what entry) }
     ensures entries { OnOk result (entries_in entries.new ≡ entries_in entries.old ++ entry ∷ []) }
     ensures cert { OnOk result (KeepsSchedule cert.old cert.new entry) }
     ensures places { OnOk result (places.new ≡ placed_after places.old (what entry)) }
@@ -100,7 +100,7 @@ fn append_own(
     places: &mut Placement,
     entry: Entry,
 ) -> Result<(), NoMemory>
-    requires { is_birth (what entry) ≡ false }
+    requires { CanBeAbsorbed places.old (what entry) }
     ensures entries { OnOk result (own.new.items ≡ own.old.items ++ entry ∷ []) }
     ensures cert { OnOk result (KeepsSchedule cert.old cert.new entry) }
     ensures places { OnOk result (places.new ≡ placed_after places.old (what entry)) }
@@ -109,8 +109,7 @@ fn append_own(
     ensures places_stay { OnErr result (places.new ≡ places.old) }
 {
     own.reserve(1)?;
-    cert.add(&entry)?;
-    places.note(&entry);
+    take_in(cert, places, &entry)?;
     own.push_reserved(entry);
     Ok(())
 }
@@ -121,7 +120,7 @@ fn append_shared(
     places: &mut Placement,
     entry: Arc<Entry>,
 ) -> Result<(), NoMemory>
-    requires { is_birth (what (arc_value entry)) ≡ false }
+    requires { CanBeAbsorbed places.old (what (arc_value entry)) }
     ensures entries { OnOk result (shared.new.items ≡ shared.old.items ++ entry ∷ []) }
     ensures cert { OnOk result (KeepsSchedule cert.old cert.new (arc_value entry)) }
     ensures places { OnOk result (places.new ≡ placed_after places.old (what (arc_value entry))) }
@@ -130,10 +129,35 @@ fn append_shared(
     ensures places_stay { OnErr result (places.new ≡ places.old) }
 {
     shared.reserve(1)?;
-    cert.add(&entry)?;
-    places.note(&entry);
+    take_in(cert, places, &entry)?;
     shared.push_reserved(entry);
     Ok(())
+}
+
+// Takes an entry into the schedule and the placement. After want of memory both are as they were: a child, which alone takes
+// memory of the placement, is placed first, and is taken back where the schedule has no room.
+fn take_in(cert: &mut Cert, places: &mut Placement, entry: &Entry) -> Result<(), NoMemory>
+    requires { CanBeAbsorbed places.old (what entry.now) }
+    ensures cert { OnOk result (KeepsSchedule cert.old cert.new entry.now) }
+    ensures places { OnOk result (places.new ≡ placed_after places.old (what entry.now)) }
+    ensures cert_stays { OnErr result (cert.new ≡ cert.old) }
+    ensures places_stay { OnErr result (places.new ≡ places.old) }
+{
+    match &entry.post.what {
+        What::Birth { parent, .. } => {
+            places.absorb(entry)?;
+            if let Err(NoMemory) = cert.add(entry) {
+                places.take_back_birth(*parent);
+                return Err(NoMemory);
+            }
+            Ok(())
+        }
+        _ => {
+            cert.add(entry)?;
+            places.note(entry);
+            Ok(())
+        }
+    }
 }
 
 fn share_one(alloc: Global, entry: Entry) -> Result<Arc<Entry>, NoMemory>

@@ -194,7 +194,7 @@ off_is_its_loss system log k at legal =
 -- only a cluster that lives sends
 sends_living : (places : Places) (k : ClusterNo) → (never_lost places k ≡ true → lives_in places k ≡ true) → (w : What) → is_built w ≡ true → is_by_right places (Cluster k) w ≡ true → lives_in places k ≡ true
 sends_living places k serves (Mail at letter) built right = (and_parts (lives_in places k) _ right).0
-sends_living places k serves (Birth parent at child end) built right = absurd (true≢false (sym built))
+sends_living places k serves (Birth parent at child end) built right = (and_parts (lives_in places k) _ right).0
 sends_living places k serves (Exit pid at end) built right = (and_parts (lives_in places k) _ right).0
 sends_living places k serves (Page pid at index bytes) built right = (and_parts (lives_in places k) _ right).0
 sends_living places k serves (Sync pid small read took) built right = (and_parts (lives_in places k) _ right).0

@@ -1,5 +1,5 @@
-use Rattle.std.proofs.Common.{◌≡◌, sym, ◌∙◌, arith, length, Some}
-use Rattle.std.specs.Prelude.{slice_get, position}
+use Rattle.std.proofs.Common.{◌≡◌, sym, Some}
+use Rattle.std.specs.Prelude.{position}
 use Rattle.std.proofs.lemmas.Option.{slice_get-get_or}
 use Rattle.bus_order.specs.Script.{is_word_for}
 use Rattle.bus_order.proofs.WordsLaws.{is_first, not_first, first_within}

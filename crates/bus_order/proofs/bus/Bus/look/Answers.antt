@@ -1,4 +1,4 @@
-use Rattle.std.proofs.Common.{◌≡◌, ℕ, suc, ◌+◌, refl, sym, ◌∙◌, ap, subst, arith, length}
+use Rattle.std.proofs.Common.{◌≡◌, suc, ◌+◌, refl, sym, ◌∙◌, ap, subst, arith, length}
 use Rattle.bus_order.specs.View.{BusView, look_once, looks}
 use Rattle.bus_order.proofs.Looking.{looks_more, on_err, stays_to}
 use Rattle.bus_order.proofs.bus.Bus.look.Goals as goal

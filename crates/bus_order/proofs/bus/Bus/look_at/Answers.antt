@@ -4,7 +4,7 @@ use Rattle.bus_msg.specs.declared.entry.Cause.TheVariants.{Place}
 use Rattle.cert_sched.specs.Schedule.{placement}
 use Rattle.cert_sched.specs.Built.{is_built_word}
 use Rattle.cert_sched.specs.Looked.{given_by, is_reached}
-use Rattle.bus_order.specs.View.{BusView, IsKept}
+use Rattle.bus_order.specs.View.{IsKept}
 use Rattle.bus_order.proofs.WordsLaws.{all-found}
 use Rattle.bus_order.proofs.Losing.{place_loses}
 use Rattle.bus_order.proofs.bus.Bus.look_at.Goals as goal

@@ -5,6 +5,7 @@ use Rattle.std.specs.Vec.{with_items}
 use Rattle.std.proofs.lemmas.List.{with_items_is}
 use Rattle.bus_msg.specs.declared.entry.Entry.{Entry}
 use Rattle.bus_msg.specs.PlacedAfter.{what}
+use Rattle.channel_table.specs.Changes.{CanBeAbsorbed}
 use Rattle.cert_sched.specs.Rules.{ends_run}
 use Rattle.cert_sched.specs.Simulation.{crash_entry}
 use Rattle.bus_order.specs.View.{BusView, IsKept, MayLose, no_marks}
@@ -15,6 +16,9 @@ use Rattle.bus_order.proofs.bus.Bus.lose.Goals as goal
 
 pub append-requires-clause-goes_on : goal.append-requires-clause-goes_on
 append-requires-clause-goes_on c = open_inside c.self.view_is c.self.invariant c.requires.may.goes_on
+
+pub append-requires-clause-next : goal.append-requires-clause-next
+append-requires-clause-next c = subst (λ (e : Entry). CanBeAbsorbed c.self.inside.places (what e)) (sym c.entry_of-entry.ensures) tt
 
 pub invariant_of-self-2 : goal.invariant_of-self-2
 invariant_of-self-2 c =

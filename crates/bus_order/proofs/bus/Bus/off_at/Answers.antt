@@ -1,7 +1,7 @@
 use Rattle.std.proofs.Common.{◌≡◌, sym, ◌∙◌, ap, subst, true}
 use Rattle.bus_msg.specs.Places.{lives_in}
 use Rattle.cert_sched.specs.Schedule.{placement}
-use Rattle.bus_order.specs.View.{BusView, IsKept}
+use Rattle.bus_order.specs.View.{IsKept}
 use Rattle.bus_order.proofs.OffLaws.{living_not_off}
 use Rattle.bus_order.proofs.bus.Bus.off_at.Goals as goal
 
