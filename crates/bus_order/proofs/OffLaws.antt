@@ -25,7 +25,7 @@ use Rattle.cert_sched.proofs.LiveLaws.{boot_lives}
 use Rattle.cert_sched.proofs.HomesLaws.{lives_within, built_clusters-length}
 use Rattle.bus_order.specs.Script.{off_at, place_of_loss, turns}
 use Rattle.bus_order.proofs.LogParts.{take_one}
-use Rattle.bus_order.proofs.BirthPlaces.{birth_keeps}
+use Rattle.cert_sched.proofs.BirthClusters.{birth_keeps}
 
 -- ---- one more entry
 

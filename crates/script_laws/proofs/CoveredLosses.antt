@@ -29,7 +29,7 @@ use Rattle.cert_sched.proofs.ListLaws.{list_all-weaker}
 use Rattle.cert_sched.proofs.LogLaws.{placement-snoc, IsLegal-snoc}
 use Rattle.cert_sched.proofs.Induction.{legal_induction, is_over-snoc}
 use Rattle.bus_order.specs.View.{BusView, KeepsScript}
-use Rattle.bus_order.proofs.BirthPlaces.{birth_keeps}
+use Rattle.cert_sched.proofs.BirthClusters.{birth_keeps}
 use Rattle.bus_order.proofs.OverLaws.{closed-snoc, none_over}
 use Rattle.bus_order.proofs.WordsLaws.{all-found}
 use Rattle.bus_order.proofs.Keeping.{none_legal}
