@@ -4,7 +4,7 @@ use Rattle.std.specs.Prelude.{filter, option_map}
 use Rattle.t32_base.specs.declared.process.Pid.{Pid}
 use Rattle.sys_text.specs.declared.system.System.{System}
 use Rattle.sys_text.specs.Valid.{is_system}
-use Rattle.channel_table.specs.Changes.{is_birth}
+use Rattle.channel_table.specs.Changes.{CanBeAbsorbed}
 use Rattle.sys_calls.specs.declared.steps.Emission.{Emission}
 use Rattle.sys_calls.specs.declared.steps.Emission.TheVariants.{Mail as Sent, Exit as Ended}
 use Rattle.sys_calls.proofs.Quiet.{sends_none}
@@ -12,13 +12,18 @@ use Rattle.bus_msg.specs.declared.entry.What.{What}
 use Rattle.bus_msg.specs.declared.entry.Post.{Post}
 use Rattle.bus_msg.specs.declared.entry.Entry.{Entry}
 use Rattle.bus_msg.specs.PlacedAfter.{what}
+use Rattle.record_laws.specs.Kept.{changes_in_place}
+use Rattle.record_laws.proofs.KeptLaws.{records_kept}
+use Rattle.record_laws.proofs.Standing.{built_stands}
 use Rattle.crash_notice.specs.Splitting.{moves_here}
 use Rattle.cert_sched.specs.Built.{BuiltMayFollow, tells_or_closes}
 use Rattle.cert_sched.specs.Losses.{is_by_cluster, is_crash_of}
 use Rattle.cert_sched.specs.Rules.{home_at}
 use Rattle.bus_msg.specs.declared.placed.Placed.{Placed}
 use Rattle.cert_sched.specs.Schedule.{placement}
+use Rattle.cert_sched.proofs.LogLaws.{IsLegal-last}
 use Rattle.cert_sched.proofs.MailLaws.{sent_no_signal}
+use Rattle.cert_sched.proofs.NextChildren.{may_be_absorbed}
 use Rattle.cert_sched.proofs.StepLaws.{Tells}
 use Rattle.backup_records.specs.Records.{are_rising, record_in, records_after}
 use Rattle.cluster_core.specs.View.{ClusterView, Held, Runs, Rolls, with_server, Waits, held_at, held_of}
@@ -37,7 +42,6 @@ use Rattle.cluster_core.proofs.Synchronising.{follows_sync, home_same, sync_not_
 use Rattle.cluster_core.proofs.Births.{birth_taken, follows_birth, spares_here}
 use Rattle.cluster_core.specs.Serving.{Serves}
 use Rattle.page_server.specs.Account.{PagerState}
-use Rattle.cluster_core.proofs.Turning.{built_no_birth}
 use Rattle.cluster_core.proofs.Owning.{brings_none, own_after, own_later, own_page}
 use Rattle.cluster_core.proofs.Following.{Left, Next, apart, follows_foreign, follows_own, found_stays, left_of, next_of, told_taken}
 use Rattle.cluster_core.proofs.Beside.{FollowsBeside, all_of, beside_of, built_of}
@@ -75,7 +79,7 @@ beside_next which c log e server valid own order now later serves f foreign spar
         ap (λ places. are_rising (filter (moves_here places l.lost c.number) c.records)) (sym (f.log).places) ∙ sym (ap (λ w. are_rising (moved_by c.places c.number w (records_after w c.records))) l.same) ∙ order in
         follows_lost c.system valid log e l.lost l.cause (loss_of c.system log e l now later) c.number (other_lost c e l spared) which c server serves refl refl own f foreign moved
     by_kind_of (inr (inr (inr (inl of)))) = follows_sync c.system valid log e of now later which c server own serves f foreign
-    by_kind_of (inr (inr (inr (inr b)))) = follows_birth c.system valid log e b.parent b.at b.child b.end b.same now later which c server own serves f foreign
+    by_kind_of (inr (inr (inr (inr b)))) = follows_birth c.system valid log e b.parent b.at b.child b.end b.same now later which c server (records_kept c.system log e c.number c.records valid (built_stands c.system (log ++ e ∷ []) later.0) (ap changes_in_place b.same) f.records) own serves f foreign
 
 -- ---- beside a batch
 
@@ -246,16 +250,16 @@ may_come c e valid r = by_loss (one_of c.system r.log e r.open_next)
     by_loss (inr (inr (inr (inl of)))) = by_sync (λ w. CanCome w c.here) (λ pid at index bytes. tt) (λ pid small read. tt) (what e) of
     by_loss (inr (inr (inr (inr b)))) = subst (λ w. CanCome w c.here) (sym b.same) tt
 
--- ---- that it is no birth, and what it makes of those that are here
+-- ---- that it may be taken in, and what it makes of those that are here
 
-pub ready_no_birth : (c : ClusterView) (e : Entry) → ReadyFor e c → is_birth (what e) ≡ false
-ready_no_birth c e r = by_loss (one_of c.system r.log e r.open_next)
+-- its child, where it tells of one, is the next of its parent
+pub ready_absorbable : (c : ClusterView) (e : Entry) → is_system c.system ≡ true → ReadyFor e c → CanBeAbsorbed c.places (what e)
+ready_absorbable c e valid r =
+    subst (λ places. CanBeAbsorbed places (what e)) (sym (places_ready c r.log e r.ready)) (may_be_absorbed c.system r.log e valid (r.open_log).0 (IsLegal-last BuiltMayFollow c.system r.log e (r.open_next).0).stands)
   where
-    by_loss : OneOf (what e) → is_birth (what e) ≡ false
-    by_loss (inl tells) = built_no_birth (what e) tells
-    by_loss (inr (inl of)) = by_page (λ w. is_birth w ≡ false) (λ pid index. refl) (λ pid index bytes. refl) (what e) of
-    by_loss (inr (inr (inl l))) = ap is_birth l.same
-    by_loss (inr (inr (inr of))) = by_sync (λ w. is_birth w ≡ false) (λ pid at index bytes. refl) (λ pid small read. refl) (what e) of
+    places_ready : (c : ClusterView) (log : List Entry) (e : Entry) → IsReady log e c → c.places ≡ placement c.system log
+    places_ready c log e (inl f) = ((f.0).log).places
+    places_ready c log e (inr s) = ap (λ (d : ClusterView). d.places) (s.sent ∙ sent_is s.before (s.before).queue) ∙ ((s.followed).log).places
 
 pub ready_own : (c : ClusterView) (e : Entry) → ReadyFor e c → AllOwn c.cursor c.here → AllOwn (c.cursor + 1) (here_after (what e) c.here)
 ready_own c e r own = by_loss (one_of c.system r.log e r.open_next)

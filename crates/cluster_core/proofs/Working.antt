@@ -28,7 +28,7 @@ use Rattle.cert_sched.specs.Legal.{IsLegalBy, Stands}
 use Rattle.cert_sched.specs.Built.{is_unlost, BuiltMayFollow, KeepsWaits, UnlostMayFollow}
 use Rattle.cert_sched.specs.Losses.{least_steps, capped, is_from, is_page_is_entry}
 use Rattle.cert_sched.specs.Appended.{entry_of}
-use Rattle.cert_sched.proofs.UnlostLaws.{built_births}
+use Rattle.batch_laws.proofs.NoBirths.{no_children}
 use Rattle.cert_sched.proofs.StepLaws.{Tells, sent_applies}
 use Rattle.cluster_core.specs.declared.worked.Worked.TheVariants.{Moved, Queued}
 use Rattle.quanta.specs.declared.limits.Limits.{Limits}
@@ -56,7 +56,6 @@ use Rattle.cluster_core.proofs.Marking.{marked_queued, queue_tells}
 use Rattle.cluster_core.proofs.RunMarks.{marked_ran, marked_rolled, marked_runs, marked_sends}
 use Rattle.record_laws.proofs.Standing.{built_stands}
 use Rattle.cluster_core.proofs.Homes.{HomeHere, differ_built, home_here, home_lives}
-use Rattle.cluster_core.proofs.Following.{no_child}
 
 -- ---- kernel steps
 
@@ -413,7 +412,7 @@ items_of_post system log pid at (Ended end) t tells is = ap (λ o. option_map (t
 kind_of_post : (system : System) (log : List Entry) (k : ClusterNo) (pid : Pid) (at : ℕ) (e : Emission) (t : ProcState) → Tells pid at e (told_of pid at e) → emission_at system log pid at ≡ Some (e, t) → IsLegalBy BuiltMayFollow system log
     → KindHolds system log (entry_of system log (post_told k pid at e)) (told_of pid at e)
 kind_of_post system log k pid at (Sent letter) t tells is legal = ap (λ p. option_map (λ (r : Emission × ProcState). r.0) (emission_at system log p at)) tells.0 ∙ ap (option_map (λ (r : Emission × ProcState). r.0)) is
-kind_of_post system log k pid at (Ended end) t tells is legal = (ap (option_map (λ (r : Emission × ProcState). r.0)) is, no_child system log pid (built_births system log legal))
+kind_of_post system log k pid at (Ended end) t tells is legal = (ap (option_map (λ (r : Emission × ProcState). r.0)) is, no_children system log pid (built_stands system log legal))
 
 right_of_post : (places : Places) (k : ClusterNo) (pid : Pid) (at : ℕ) (e : Emission) → Tells pid at e (told_of pid at e) → is_by_home places (Cluster k) (Some pid) ≡ true → is_by_right places (Cluster k) (told_of pid at e) ≡ true
 right_of_post places k pid at (Sent letter) tells h = ap (λ p. is_by_home places (Cluster k) (Some p)) tells.0 ∙ h

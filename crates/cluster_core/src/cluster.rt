@@ -225,7 +225,7 @@ impl<D: PageDisk + Drop> Cluster<D> {
             &mut self.here,
             entry,
         )?;
-        self.places.note(entry);
+        self.places.absorb(entry)?;
         self.count_step();
         Ok(())
     }

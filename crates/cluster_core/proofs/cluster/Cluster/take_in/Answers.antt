@@ -3,6 +3,7 @@ use Rattle.std.specs.Arc.{arc_value}
 use Rattle.bus_msg.specs.PlacedAfter.{what, placed_after}
 use Rattle.sys_text.specs.Valid.{is_system}
 use Rattle.sys_text.proofs.Bounds.{system_bounds}
+use Rattle.channel_table.specs.Changes.{CanBeAbsorbed}
 use Rattle.backup_records.specs.Records.{CanNote, are_rising, records_after}
 use Rattle.cluster_core.proofs.Served.{failing_after}
 use Rattle.cluster_core.specs.View.{failing_in, ClusterView, next_count, with_server}
@@ -14,7 +15,7 @@ use Rattle.cluster_core.specs.Absorbing.{CanCome, ComesHere, IsNotedHere}
 use Rattle.cluster_core.proofs.Arriving.{comes_here}
 use Rattle.cluster_core.proofs.Noting.{can_note_next, noted_next}
 use Rattle.cluster_core.proofs.Owning.{has_room}
-use Rattle.cluster_core.proofs.Absorbed.{absorbs, may_come, may_wait, own_either, ready_no_birth, ready_own}
+use Rattle.cluster_core.proofs.Absorbed.{absorbs, may_come, may_wait, own_either, ready_absorbable, ready_own}
 use Rattle.cluster_core.proofs.OwningWaits.{owns_waiting}
 use Rattle.cluster_core.proofs.cluster.Cluster.take_in.Goals as goal
 
@@ -37,8 +38,11 @@ note-requires-clause-here g c =
     let valid : is_system old.system ≡ true = subst (λ (v : ClusterView). is_system v.system ≡ true) c.self.view_is c.self.invariant.valid in
     subst (λ (v : ClusterView). IsNotedHere v.number c.args.entry.now v.records) (sym c.self.view_is) (noted_next old c.args.entry.now valid c.requires.ready)
 
-pub note-requires-2 : goal.note-requires-2
-note-requires-2 g c = ready_no_birth c.args.self.now c.args.entry.now c.requires.ready
+pub absorb-requires : goal.absorb-requires
+absorb-requires g c =
+    let old : ClusterView = c.args.self.now in
+    let valid : is_system old.system ≡ true = subst (λ (v : ClusterView). is_system v.system ≡ true) c.self.view_is c.self.invariant.valid in
+    subst (λ (v : ClusterView). CanBeAbsorbed v.places (what c.args.entry.now)) (sym c.self.view_is) (ready_absorbable old c.args.entry.now valid c.requires.ready)
 
 pub take_over-requires : goal.take_over-requires
 take_over-requires g c =
@@ -66,6 +70,29 @@ invariant_of-self-in_err-take_over g c =
       has = c.self.invariant.has;
       limits_are = c.take_over.ensures.limits ∙ c.tell.ensures.limits ∙ c.self.invariant.limits_are;
       residents = own_either (c.self.inside.cursor + 1) c.tell.new.here.here c.take_over.new.here.here (subst (AllOwn (c.self.inside.cursor + 1)) (sym c.in_ok-tell.ensures.ok) told) c.in_err-take_over.ensures.err;
+      own = c.self.invariant.own;
+      built = c.self.invariant.built;
+    }
+
+pub invariant_of-self-in_err-absorb : goal.invariant_of-self-in_err-absorb
+invariant_of-self-in_err-absorb g c =
+    let old : ClusterView = c.args.self.now in
+    let e = c.args.entry.now in
+    let w = what e in
+    let valid : is_system old.system ≡ true = subst (λ (v : ClusterView). is_system v.system ≡ true) c.self.view_is c.self.invariant.valid in
+    let told = ready_own old e c.requires.ready (subst (λ (v : ClusterView). AllOwn v.cursor v.here) c.self.view_is c.self.invariant.residents) in
+    let order : are_rising (moved_by old.places old.number w (records_after w old.records)) ≡ true =
+    subst (λ (v : ClusterView). are_rising (moved_by v.places v.number w (records_after w v.records)) ≡ true) c.self.view_is
+    (subst (λ recs. are_rising (moved_by c.self.inside.places c.self.inside.number w recs) ≡ true) c.in_ok-note.ensures.ok c.in_ok-take_over.ensures.rising) in
+    let mine : AllOwn (c.self.inside.cursor + 1) (with_all_waiting (moved_by c.self.inside.places c.self.inside.number w (records_after w c.self.inside.records)) (here_after w c.self.inside.here.here)) =
+    subst (λ (v : ClusterView). AllOwn (v.cursor + 1) (with_all_waiting (moved_by v.places v.number w (records_after w v.records)) (here_after w v.here))) (sym c.self.view_is)
+    (owns_waiting old e valid c.requires.ready order (here_after w old.here) told) in
+    let here = c.in_ok-take_over.ensures.here ∙ (λ i. with_all_waiting (moved_by c.self.inside.places c.self.inside.number w (c.in_ok-note.ensures.ok i)) (c.in_ok-tell.ensures.ok i)) in
+    record {
+      valid = c.self.invariant.valid;
+      has = c.self.invariant.has;
+      limits_are = c.take_over.ensures.limits ∙ c.tell.ensures.limits ∙ c.self.invariant.limits_are;
+      residents = subst (AllOwn (c.self.inside.cursor + 1)) (sym here) mine;
       own = c.self.invariant.own;
       built = c.self.invariant.built;
     }
@@ -103,8 +130,8 @@ returns-clause-follows g c =
     let server = c.serve.new.server in
     let whole : c.count_step.new.self ≡ with_server server (absorbed old e) =
     c.count_step.ensures
-    ∙ ap (λ (v : ClusterView). record v { cursor = v.cursor + 1; places = c.note-2.new.self; here = c.take_over.new.here.here; records = c.take_over.new.records; server = server; steps = next_count v.steps }) c.self.view_is
-    ∙ (λ i. record old { cursor = old.cursor + 1; places = c.note-2.ensures i; here = here i; records = recs i; server = server; steps = next_count old.steps })
+    ∙ ap (λ (v : ClusterView). record v { cursor = v.cursor + 1; places = c.absorb.new.self; here = c.take_over.new.here.here; records = c.take_over.new.records; server = server; steps = next_count v.steps }) c.self.view_is
+    ∙ (λ i. record old { cursor = old.cursor + 1; places = c.in_ok-absorb.ensures.ok i; here = here i; records = recs i; server = server; steps = next_count old.steps })
     ∙ ap (λ (v : ClusterView). record old { cursor = old.cursor + 1; places = placed_after v.places w; here = with_all_waiting (moved_by v.places v.number w (records_after w v.records)) (here_after w v.here); records = left_by v.places v.number w (records_after w v.records); server = server; steps = next_count old.steps }) c.self.view_is in
     let valid : is_system old.system ≡ true = subst (λ (v : ClusterView). is_system v.system ≡ true) c.self.view_is c.self.invariant.valid in
     let own = subst (λ (v : ClusterView). AllOwn v.cursor v.here) c.self.view_is c.self.invariant.residents in
