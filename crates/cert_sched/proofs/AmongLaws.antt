@@ -1,44 +1,37 @@
 -- In a legal log the kernel without failures has the processes that the placement has, those that were born among them; and a child that is born is none of them.
-use Rattle.std.proofs.Common.{◌≡◌, ℕ, ◌-◌, refl, sym, ◌∙◌, ap, subst, arith, List, [], ◌∷◌, ◌++◌, map, Bool, true, false, cond, not, ◌&&◌, ◌||◌, eqb, eqb-true, eq-eqb, Option, Some, None, is_some, true≢false}
-use Rattle.std.specs.Prelude.{find, option_and_then, option_map}
+use Rattle.std.proofs.Common.{◌≡◌, ℕ, ◌-◌, refl, sym, ◌∙◌, ap, subst, List, [], ◌∷◌, ◌++◌, map, Bool, true, false, ◌||◌, eqb, Option, Some, None, is_some, true≢false}
 use Rattle.std.specs.List.{list_any}
-use Rattle.std.specs.Ordering.{nat_cmp, is_eq}
-use Rattle.std.specs.FinMap.{find as find_in}
-use Rattle.std.proofs.lemmas.Bool.Decides.{nat_tests}
 use Rattle.std.proofs.lemmas.List.{map-append}
 use Rattle.std.proofs.lemmas.List.Folds.{list_any-append}
-use Rattle.std.specs.declared.cmp.Ordering.TheVariants.{Equal}
 use Rattle.t32_base.specs.declared.process.Pid.{Pid}
 use Rattle.sys_text.specs.declared.system.System.{System}
 use Rattle.sys_text.specs.Valid.{is_system}
 use Rattle.sys_text.specs.Boot.{roots_of}
-use Rattle.proc_state.specs.State.{ProcState}
-use Rattle.plain_kernel.specs.Kernel.{Kernel, boot, pid_cmp, process_at}
-use Rattle.plain_kernel.specs.Apply.{apply_all, one_step}
+use Rattle.plain_kernel.specs.Kernel.{Kernel, boot}
+use Rattle.plain_kernel.specs.Apply.{apply_all}
 use Rattle.plain_kernel.proofs.Entries.{some_same}
 use Rattle.plain_kernel.proofs.AtBoot.{boot-pids}
 use Rattle.plain_kernel.proofs.Pids.{HasPids, IsRising, one_step-pids, pids_in, tied_pids}
-use Rattle.plain_kernel.proofs.ForkPids.{fork_step-pids, with_pid, with_pid-any}
+use Rattle.plain_kernel.proofs.ForkPids.{fork_step-pids, with_pid-any}
 use Rattle.bus_msg.specs.declared.entry.What.{What}
 use Rattle.bus_msg.specs.declared.entry.What.TheVariants.{Mail, Birth, Exit, Page, Sync, Fetch, PageIs, Crash, Return, Rebackup, Done, Stop}
 use Rattle.bus_msg.specs.declared.entry.Entry.{Entry}
 use Rattle.bus_msg.specs.declared.placed.Placed.{Placed}
-use Rattle.bus_msg.specs.Places.{Places, same_pid, placed_at, unended_at}
+use Rattle.bus_msg.specs.Places.{Places, placed_at}
 use Rattle.bus_msg.specs.PlacedAfter.{what, placed_after, with_birth, child_of}
-use Rattle.cert_sched.specs.Schedule.{done, items_of, run_upto, plain_after, process_after, placement, places_at_boot}
-use Rattle.cert_sched.specs.Deeds.{is_birth_of}
-use Rattle.cert_sched.specs.Kinds.{KindHolds, next_child_at}
+use Rattle.cert_sched.specs.Schedule.{done, items_of, run_upto, plain_after, placement}
+use Rattle.cert_sched.specs.Kinds.{KindHolds}
 use Rattle.cert_sched.specs.Legal.{IsLegalBy, Stands}
-use Rattle.cert_sched.specs.Simulation.{IsUnended}
 use Rattle.cert_sched.proofs.LogLaws.{placement-snoc}
 use Rattle.cert_sched.proofs.BirthKind.{is_birth}
 use Rattle.cert_sched.proofs.BootPids.{state_pids, root_pids, boot_numbers, numbers_are}
 use Rattle.cert_sched.proofs.RisingLaws.{rising-any}
 use Rattle.cert_sched.proofs.PidLaws.{placed_pids}
 use Rattle.cert_sched.proofs.Induction.{legal_induction}
-use Rattle.cert_sched.proofs.StepLaws.{applied, Applied}
-use Rattle.cert_sched.proofs.RunItems.{forkless_keep, items_forkless, is_no_fork, run_forkless}
-use Rattle.cert_sched.proofs.BornLaws.{run_and_fork, child_absent}
+use Rattle.cert_sched.proofs.StepLaws.{applied}
+use Rattle.cert_sched.proofs.RunItems.{forkless_keep, items_forkless, run_forkless}
+use Rattle.cert_sched.proofs.RunAndFork.{run_and_fork}
+use Rattle.cert_sched.proofs.BirthPlaces.{parent_unended, unended_placed}
 use Rattle.cert_sched.proofs.CameLaws.{IsStandingRule}
 use Rattle.cert_sched.proofs.FreshLaws.{same_pids}
 
@@ -83,19 +76,6 @@ module _ (system : System) (log : List Entry) (e : Entry) where
       }
 
   -- a birth puts the child into both
-  placed_there : (p : Pid) (qs : List Placed) → is_some (find (λ (q : Placed). same_pid q.pid p && not q.ended) qs) ≡ true → is_some (find (λ (q : Placed). same_pid q.pid p) qs) ≡ true
-  placed_there p [] there = there
-  placed_there p (q ∷ qs) there = by_pid (same_pid q.pid p) there (placed_there p qs)
-    where
-      by_pid : (b : Bool) → is_some (cond (b && not q.ended) (Some q) (find (λ (q : Placed). same_pid q.pid p && not q.ended) qs)) ≡ true
-          → (is_some (find (λ (q : Placed). same_pid q.pid p && not q.ended) qs) ≡ true → is_some (find (λ (q : Placed). same_pid q.pid p) qs) ≡ true) → is_some (cond b (Some q) (find (λ (q : Placed). same_pid q.pid p) qs)) ≡ true
-      by_pid true h more = refl
-      by_pid false h more = more h
-
-  parent_placed : (o : Option Placed) (child : Pid) → option_map (next_child_at (placement system log)) o ≡ Some child → is_some o ≡ true
-  parent_placed None child is = cc
-  parent_placed (Some q) child is = refl
-
   born_pids : (child p : Pid) (o : Option Placed) → is_some o ≡ true → in_places (with_birth (placement system log) child o) p ≡ (eqb child.0 p.0 || in_places (placement system log) p)
   born_pids child p None there = absurd (true≢false (sym there))
   born_pids child p (Some q) there =
@@ -120,7 +100,7 @@ module _ (system : System) (log : List Entry) (e : Entry) where
             ∙ with_pid-any (λ (q : Pid). eqb q.0 p.0) child (pids_in k) (λ q tied. ap (λ (x : Pid). eqb x.0 p.0) (sym (tied_pids child q tied)))
             ∙ ap (λ b. eqb child.0 p.0 || b) (sym (of_pids k p) ∙ a.among p)
             ∙ sym (ap (λ places. in_places places p) (placement-snoc system log e ∙ ap (placed_after (placement system log)) is)
-            ∙ born_pids child p (placed_at (placement system log) parent) (placed_there parent (placement system log).placed (parent_placed (unended_at (placement system log) parent) child kind.child_is)));
+            ∙ born_pids child p (placed_at (placement system log) parent) (unended_placed parent (placement system log).placed (parent_unended (placement system log) parent child kind.child_is)));
       }
 
   alike_more : Stands system log e → ((k : Kernel) → plain_after system log ≡ Some k → Alike system log k) → (j : Kernel) → plain_after system (log ++ e ∷ []) ≡ Some j → Alike system (log ++ e ∷ []) j

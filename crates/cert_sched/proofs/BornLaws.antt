@@ -1,15 +1,13 @@
 -- A birth that stands, in the kernel without failures: silent steps lead the parent to its fork, and the child, which was not there, is as it was forked.
-use Rattle.std.proofs.Common.{◌≡◌, ℕ, ◌-◌, refl, sym, ◌∙◌, ap, subst, List, [], ◌∷◌, ◌++◌, Bool, true, false, eqb-true, Option, Some, None, is_some, true≢false}
+use Rattle.std.proofs.Common.{◌≡◌, ℕ, ◌-◌, refl, sym, ◌∙◌, ap, List, [], ◌∷◌, ◌++◌, Bool, true, false, eqb-true, Option, Some, None, is_some, true≢false}
 use Rattle.std.specs.Prelude.{◌≢◌, option_and_then, option_map}
 use Rattle.t32_base.specs.declared.process.Pid.{Pid}
 use Rattle.sys_text.specs.declared.system.System.{System}
 use Rattle.proc_state.specs.State.{ProcState}
 use Rattle.sys_calls.specs.Fork.{next_end}
-use Rattle.plain_kernel.specs.declared.item.Item.{Item}
 use Rattle.plain_kernel.specs.declared.item.Item.TheVariants.{Fork}
 use Rattle.plain_kernel.specs.Kernel.{Kernel, process_at}
 use Rattle.plain_kernel.specs.Apply.{fork_step, apply_all}
-use Rattle.plain_kernel.proofs.Entries.{some_same}
 use Rattle.plain_kernel.proofs.Laws.{apply_all-append}
 use Rattle.plain_kernel.proofs.Others.{small_at}
 use Rattle.plain_kernel.proofs.Forking.{fork_made, fork-apart}
@@ -22,29 +20,10 @@ use Rattle.cert_sched.specs.Schedule.{after_entry, items_of, plain_after, proces
 use Rattle.cert_sched.specs.Deeds.{is_birth_of}
 use Rattle.cert_sched.specs.Steps.{before_fork_at}
 use Rattle.cert_sched.proofs.LogLaws.{plain_after-snoc}
+use Rattle.cert_sched.proofs.RunAndFork.{one_fork, run_and_fork}
 use Rattle.cert_sched.proofs.StepLaws.{applied, run_upto-small}
 use Rattle.cert_sched.proofs.MadeLaws.{BirthMade}
 use Rattle.cert_sched.proofs.BirthLaws.{birth_made}
-
--- a run, and then a fork
-pub record RunAndFork (run : List Item) (p c : Pid) (k j : Kernel) : Type 0 where
-  pub to : Kernel
-  pub ran : apply_all run k ≡ Some to
-  pub forks : fork_step p c to ≡ Some j
-
-one_fork : (p c : Pid) (k : Kernel) → apply_all (Fork p c ∷ []) k ≡ fork_step p c k
-one_fork p c k = whole (fork_step p c k)
-  where
-    whole : (o : Option Kernel) → option_and_then (λ j. Some j) o ≡ o
-    whole None = refl
-    whole (Some j) = refl
-
-pub run_and_fork : (run : List Item) (p c : Pid) (k j : Kernel) → apply_all (run ++ Fork p c ∷ []) k ≡ Some j → RunAndFork run p c k j
-run_and_fork run p c k j made = by_run (apply_all run k) refl (sym (apply_all-append run (Fork p c ∷ []) k) ∙ made)
-  where
-    by_run : (o : Option Kernel) → apply_all run k ≡ o → option_and_then (apply_all (Fork p c ∷ [])) o ≡ Some j → RunAndFork run p c k j
-    by_run None is e = cc
-    by_run (Some i) is e = record { to = i; ran = is; forks = sym (one_fork p c i) ∙ e }
 
 none_small : (k : Kernel) (q : Pid) → small_at k q ≡ None → process_at k q ≡ None
 none_small k q none = by_process (process_at k q) none

@@ -1,6 +1,6 @@
 -- What one more entry of a legal log does to each process: how the process came to where it is.
 use Rattle.std.proofs.Common.{◌≡◌, ℕ, ◌+◌, ◌-◌, refl, sym, ◌∙◌, ap, subst, List, [], ◌∷◌, ◌++◌, Bool, true, false, cond, not, eqb-true, eq-eqb, append-nil, Option, Some, None, is_some, true≢false}
-use Rattle.std.specs.Prelude.{◌≢◌, option_and_then, option_map}
+use Rattle.std.specs.Prelude.{option_and_then, option_map}
 use Rattle.std.proofs.lemmas.Bool.{and_parts}
 use Rattle.t32_base.specs.declared.process.Pid.{Pid}
 use Rattle.t32_base.specs.declared.process.ClusterNo.{ClusterNo}
@@ -14,7 +14,7 @@ use Rattle.sys_text.specs.declared.system.System.{System}
 use Rattle.proc_state.specs.State.{ProcState, delivered, has_ended}
 use Rattle.sys_calls.specs.declared.steps.Emission.TheVariants.{Mail as Sent, Exit as Ended}
 use Rattle.sys_calls.specs.Next.{silently}
-use Rattle.sys_calls.specs.Fork.{before_fork, fork_parent, fork_child}
+use Rattle.sys_calls.specs.Fork.{fork_parent, fork_child}
 use Rattle.sys_calls.specs.Take.{taken}
 use Rattle.sys_calls.proofs.Counting.{last_sent, letter_goes_on, silently_counts}
 use Rattle.sys_calls.proofs.RunLemma.{all_delivered}
@@ -27,14 +27,14 @@ use Rattle.bus_msg.specs.declared.entry.Entry.{Entry}
 use Rattle.bus_msg.specs.declared.placed.Placed.{Placed}
 use Rattle.bus_msg.specs.Places.{same_pid, unended_in}
 use Rattle.bus_msg.specs.PlacedAfter.{what}
-use Rattle.cert_sched.specs.Schedule.{done, items_of, run_upto, steps_in, after_entry, plain_after, process_after, placement}
+use Rattle.cert_sched.specs.Schedule.{done, items_of, run_upto, steps_in, plain_after, process_after, placement}
 use Rattle.roll_forward.specs.Deeds.{Sends, Bears}
 use Rattle.cert_sched.specs.Deeds.{deeds_in, letter_for, to_process, is_end_of, is_birth_of, is_cut}
 use Rattle.cert_sched.specs.Steps.{silent_upto, emission_at, after_items}
 use Rattle.cert_sched.specs.Kinds.{KindHolds, DoneHolds, SyncHolds, FreshHolds, is_silent_rest, after_take}
 use Rattle.cert_sched.specs.Legal.{Stands}
 use Rattle.cert_sched.proofs.ListLaws.{list_all-weaker}
-use Rattle.cert_sched.proofs.LogLaws.{plain_after-snoc, process_after-quiet}
+use Rattle.cert_sched.proofs.LogLaws.{process_after-quiet}
 use Rattle.cert_sched.proofs.RisingLaws.{NoTwo, rising-apart}
 use Rattle.cert_sched.proofs.PidLaws.{placed_pids, apart_fewer}
 use Rattle.cert_sched.proofs.RunsLaws.{rest_pids, led, led-silent_upto, after_runs, runs_made}

@@ -1,13 +1,11 @@
 -- A cert of a log, with one more entry, is one of the log with that entry.
 use Rattle.std.proofs.Common.{◌≡◌, ℕ, refl, sym, ◌∙◌, ap, subst, Result, Ok, Err, List, [], ◌∷◌, ◌++◌, Bool, true, false, cond, Option, Some, None, unwrap_or}
 use Rattle.std.specs.Prelude.{max, OnOk}
-use Rattle.std.specs.Option.{option_map_or}
 use Rattle.std.specs.Ordering.{nat_cmp}
 use Rattle.std.specs.Cmp.{nat_cmp_total, unsigned_tied}
 use Rattle.std.specs.FinMap.{find}
 use Rattle.std.specs.FinMap.Entries.{find-put}
 use Rattle.t32_base.specs.declared.process.Pid.{Pid}
-use Rattle.sys_text.specs.declared.system.System.{System}
 use Rattle.plain_kernel.specs.Kernel.{Kernel}
 use Rattle.bus_msg.specs.declared.entry.What.{What}
 use Rattle.bus_msg.specs.declared.entry.What.TheVariants.{Mail, Birth, Exit, Page, Sync, Fetch, PageIs, Crash, Return, Rebackup, Done, Stop}
@@ -15,14 +13,11 @@ use Rattle.bus_msg.specs.declared.entry.Entry.{Entry}
 use Rattle.bus_msg.specs.Places.{Places, same_pid}
 use Rattle.bus_msg.specs.PlacedAfter.{what}
 use Rattle.cert_sched.specs.Schedule.{done, items_of, items_in, schedule_of, done_after, placement}
-use Rattle.cert_sched.specs.Told.{Told, told}
-use Rattle.cert_sched.specs.Parts.{last_of}
 use Rattle.cert_sched.specs.Scripted.{is_done}
-use Rattle.cert_sched.specs.Rules.{ends_run, is_over}
+use Rattle.cert_sched.specs.Rules.{ends_run}
 use Rattle.cert_sched.specs.CertAfter.{CertView, StartsSchedule, KeepsSchedule, steps_of, added, count_in, raised, raised_at, cert_after}
-use Rattle.cert_sched.proofs.ListLaws.{last_of-snoc}
-use Rattle.cert_sched.proofs.LogLaws.{schedule_of-snoc, told-snoc, told_last}
-use Rattle.cert_sched.proofs.StepLaws.{applied, done_kernel, done_after-snoc, done_after-none, raised_same}
+use Rattle.cert_sched.proofs.LogLaws.{schedule_of-snoc}
+use Rattle.cert_sched.proofs.StepLaws.{applied, done_kernel, done_after-raised, done_after-none, kind_later, raised_same}
 use Rattle.cert_sched.proofs.Induction.{is_over-snoc}
 
 -- ---- the items
@@ -97,7 +92,7 @@ after_keeps c e system log is stands =
           ∙ sym (schedule_of-snoc system log e);
       steps = λ over p.
           raised_done (count_in (what e)) c.done p ∙ raised_same (count_in (what e)) (steps_of c.done) (done_after system log) p counts
-          ∙ sym (done_after-snoc system log e p (ends_by_done (placement system log) (what e) (sym (is_over-snoc system log e) ∙ over)) stands.applies);
+          ∙ sym (done_after-raised system log e p (ends_by_done (placement system log) (what e) (sym (is_over-snoc system log e) ∙ over)) (kind_later system log e (what e) stands.kind) stands.applies);
     }
 
 -- a call that leaves the items and the counts of the cert with one more entry

@@ -1,10 +1,10 @@
 -- The children that a process forks on its way: those that a replay makes again are those that were born, whatever letters have arrived in the meantime.
-use Rattle.std.proofs.Common.{◌≡◌, ℕ, zero, suc, ◌+◌, refl, sym, ◌∙◌, ap, arith, List, [], ◌∷◌, ◌++◌, false, Some, zero-add}
+use Rattle.std.proofs.Common.{◌≡◌, ℕ, zero, suc, ◌+◌, refl, sym, ◌∙◌, ap, arith, List, [], ◌∷◌, ◌++◌, Some, zero-add}
 use Rattle.t32_base.specs.declared.process.Pid.{Pid}
 use Rattle.t32_base.specs.declared.letter.Letter.{Letter}
 use Rattle.proc_state.specs.State.{ProcState, delivered}
 use Rattle.sys_calls.specs.Calls.{Next, Silent, Blocked, Forks, Emits, Over}
-use Rattle.sys_calls.specs.Next.{next_step, is_blocked}
+use Rattle.sys_calls.specs.Next.{next_step}
 use Rattle.sys_calls.specs.Fork.{fork_parent, fork_child, before_fork}
 use Rattle.sys_calls.proofs.RunLemma.{with_after, next_step-delivered, all_delivered}
 use Rattle.roll_forward.specs.Deeds.{Deed, Sends, Bears}

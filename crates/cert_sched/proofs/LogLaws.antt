@@ -4,9 +4,8 @@ use Rattle.std.specs.Prelude.{fold, option_and_then}
 use Rattle.std.proofs.lemmas.List.Sums.{fold-append}
 use Rattle.t32_base.specs.declared.process.Pid.{Pid}
 use Rattle.sys_text.specs.declared.system.System.{System}
-use Rattle.plain_kernel.specs.declared.item.Item.{Item}
 use Rattle.plain_kernel.specs.Kernel.{Kernel, boot, process_at}
-use Rattle.plain_kernel.specs.Apply.{apply, apply_all, plain_run}
+use Rattle.plain_kernel.specs.Apply.{apply_all, plain_run}
 use Rattle.bus_msg.specs.declared.entry.Entry.{Entry}
 use Rattle.bus_msg.specs.Places.{Places}
 use Rattle.bus_msg.specs.PlacedAfter.{what, placed_after}

@@ -1,5 +1,5 @@
 -- What a birth and a take make of each process, where a kernel makes them.
-use Rattle.std.proofs.Common.{◌≡◌, ℕ, sym, ◌∙◌, List, [], ◌∷◌, ◌++◌, Bool, true, false, eq-eqb, Some, true≢false}
+use Rattle.std.proofs.Common.{◌≡◌, ℕ, sym, ◌∙◌, List, [], ◌∷◌, ◌++◌, false, eq-eqb, Some, true≢false}
 use Rattle.std.specs.Prelude.{◌≢◌}
 use Rattle.t32_base.specs.declared.process.Pid.{Pid}
 use Rattle.sys_text.specs.declared.system.System.{System}

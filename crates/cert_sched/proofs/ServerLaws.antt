@@ -13,7 +13,7 @@ use Rattle.bus_msg.specs.declared.placed.Placed.{Placed}
 use Rattle.bus_msg.specs.Places.{ClusterPlace, Places, boot_cluster, lives_in, never_lost, servers_in}
 use Rattle.bus_msg.specs.PlacedAfter.{what, placed_after, changed_at, lost_cluster}
 use Rattle.cert_sched.specs.Parts.{first_of}
-use Rattle.cert_sched.specs.Schedule.{placement, placed_root, places_at_boot}
+use Rattle.cert_sched.specs.Schedule.{placement, placed_root}
 use Rattle.cert_sched.specs.Rules.{is_by}
 use Rattle.cert_sched.specs.Legal.{IsLegalBy}
 use Rattle.cert_sched.specs.Built.{BuiltMayFollow, is_built}

@@ -1,5 +1,5 @@
 -- In a legal log a process that has a state in its record is in the kernel without failures.
-use Rattle.std.proofs.Common.{◌≡◌, ℕ, refl, sym, ◌∙◌, List, Bool, true, false, ◌||◌, eqb, is_some}
+use Rattle.std.proofs.Common.{◌≡◌, refl, sym, ◌∙◌, List, Bool, true, false, ◌||◌, eqb, is_some}
 use Rattle.std.specs.List.{list_any}
 use Rattle.t32_base.specs.declared.process.Pid.{Pid}
 use Rattle.sys_text.specs.declared.system.System.{System}

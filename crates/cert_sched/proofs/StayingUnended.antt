@@ -12,10 +12,11 @@ use Rattle.bus_msg.specs.PlacedAfter.{placed_after, with_birth, child_of, after_
 use Rattle.sys_calls.specs.declared.steps.Emission.TheVariants.{Exit as Ended}
 use Rattle.roll_forward.specs.Deeds.{Sends}
 use Rattle.cert_sched.specs.Account.{is_exit_of}
-use Rattle.cert_sched.specs.Deeds.{deeds_in}
+use Rattle.cert_sched.specs.Deeds.{deeds_in, is_birth_of}
 use Rattle.cert_sched.proofs.ExitLaws.{exited, unended_exit}
 use Rattle.cert_sched.proofs.UnendedLaws.{Keeps, unended_map, sync_keeps, backup_keeps, loss_keeps}
 use Rattle.cert_sched.proofs.BirthKind.{is_birth}
+use Rattle.cert_sched.proofs.BirthPlaces.{born_beside}
 use Rattle.cert_sched.proofs.MadeLaws.{apart_from}
 use Rattle.cert_sched.proofs.CameLaws.{same_of}
 
@@ -103,3 +104,8 @@ stays_unended (Return k) places p no_exit there = unended_stays (Return k) refl 
 stays_unended (Rebackup to fresh recs) places p no_exit there = unended_stays (Rebackup to fresh recs) refl places p no_exit there
 stays_unended (Done rests) places p no_exit there = unended_stays (Done rests) refl places p no_exit there
 stays_unended Stop places p no_exit there = unended_stays Stop refl places p no_exit there
+
+-- who has not ended after an entry that does not bear it had not ended before, and the entry is not its exit
+pub before_unended : (w : What) (places : Places) (p : Pid) → is_birth_of p w ≡ false → is_some (unended_at (placed_after places w) p) ≡ true → (is_exit_of p w ≡ false) × (is_some (unended_at places p) ≡ true)
+before_unended (Birth parent at child end) places p other there = (refl, sym (ap is_some (born_beside p child places (placed_at places parent) other)) ∙ there)
+before_unended w places p other there = unended_before w refl places p there

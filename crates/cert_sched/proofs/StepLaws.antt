@@ -1,5 +1,5 @@
 -- What one more entry does to the count of each process, and what a step that sends something leaves.
-use Rattle.std.proofs.Common.{◌≡◌, ℕ, ◌+◌, ◌-◌, refl, sym, ◌∙◌, ap, subst, arith, List, [], ◌∷◌, ◌++◌, Bool, true, false, cond, eqb, Option, Some, None, is_some, true≢false, append-nil, ne_eqb, eqb-true, eq-eqb}
+use Rattle.std.proofs.Common.{◌≡◌, ℕ, ◌+◌, ◌-◌, ◌<◌, refl, sym, ◌∙◌, ap, subst, arith, List, [], ◌∷◌, ◌++◌, Bool, true, false, cond, eqb, Option, Some, None, is_some, true≢false, append-nil, ne_eqb, eqb-true, eq-eqb}
 use Rattle.std.specs.Prelude.{max, ◌≢◌, fold, IfSome, option_and_then, option_map}
 use Rattle.std.specs.Option.{option_map_or}
 use Rattle.t32_base.specs.declared.process.Pid.{Pid}
@@ -16,8 +16,9 @@ use Rattle.plain_kernel.specs.declared.item.Item.TheVariants.{Run, Fork, Take}
 use Rattle.plain_kernel.specs.Kernel.{Kernel, boot, process_at, with_process, emitted}
 use Rattle.plain_kernel.specs.Apply.{one_step, steps, fork_step, apply_all}
 use Rattle.plain_kernel.proofs.Entries.{some_same}
-use Rattle.plain_kernel.proofs.Laws.{process_at-same}
+use Rattle.plain_kernel.proofs.Laws.{apply_all-append, process_at-same}
 use Rattle.plain_kernel.proofs.Unforked.{never_forks}
+use Rattle.plain_kernel.proofs.Forking.{fork_made, fork-steps_parent}
 use Rattle.plain_kernel.proofs.ForkPids.{fork_step-own, fork_step-rising}
 use Rattle.plain_kernel.proofs.AtBoot.{boot-own, boot-pids, boot-steps}
 use Rattle.plain_kernel.proofs.Others.{small_at, steps-here, steps-other, steps-small, steps-sent, is_outward, process_at-outward, process_at-other, items_keep, silently-made, silently-here, silently-other}
@@ -29,11 +30,11 @@ use Rattle.bus_msg.specs.Places.{same_pid}
 use Rattle.bus_msg.specs.PlacedAfter.{what}
 use Rattle.cert_sched.specs.Schedule.{done, run_of, run_upto, steps_in, items_of, after_entry, plain_after, process_after, done_after}
 use Rattle.cert_sched.specs.Steps.{silent_upto, emission_at}
-use Rattle.cert_sched.specs.Kinds.{IsSent}
+use Rattle.cert_sched.specs.Kinds.{IsSent, KindHolds}
 use Rattle.cert_sched.specs.Scripted.{is_done}
 use Rattle.cert_sched.specs.CertAfter.{count_in, raised_at}
 use Rattle.cert_sched.proofs.LogLaws.{plain_after-snoc}
-use Rattle.plain_kernel.proofs.Laws.{apply_all-append}
+use Rattle.cert_sched.proofs.RunAndFork.{fork_beside, run_and_fork}
 
 -- ---- the run of one process
 
@@ -100,18 +101,6 @@ applied system log e can = by_old (plain_after system log) refl (ap is_some (sym
 pub done_kernel : (system : System) (log : List Entry) (k : Kernel) (p : Pid) → plain_after system log ≡ Some k → done_after system log p ≡ done k p
 done_kernel system log k p is = ap (λ o. option_map_or (λ k. done k p) o 0) is
 
--- no process forks yet, so such an item is not applied
-no_fork : (run : List Item) (p c : Pid) (k j : Kernel) → apply_all (run ++ Fork p c ∷ []) k ≡ Some j → ⊥
-no_fork run p c k j made = by_case (apply_all run k) (sym (apply_all-append run (Fork p c ∷ []) k) ∙ made)
-  where
-    by_fork : (i : Kernel) (o : Option Kernel) → fork_step p c i ≡ o → option_and_then (λ j. Some j) o ≡ Some j → ⊥
-    by_fork i None is e = true≢false (sym (ap is_some e))
-    by_fork i (Some l) is e = never_forks p c i l is
-
-    by_case : (o : Option Kernel) → option_and_then (apply_all (Fork p c ∷ [])) o ≡ Some j → ⊥
-    by_case None e = true≢false (sym (ap is_some e))
-    by_case (Some i) e = by_fork i (fork_step p c i) refl e
-
 -- none is sent a signal yet, so such an item is not applied
 no_take : (run : List Item) (p : Pid) (k j : Kernel) → apply_all (run ++ Take p ∷ []) k ≡ Some j → ⊥
 no_take run p k j made = by_case (apply_all run k) (sym (apply_all-append run (Take p ∷ []) k) ∙ made)
@@ -120,33 +109,64 @@ no_take run p k j made = by_case (apply_all run k) (sym (apply_all-append run (T
     by_case None e = true≢false (sym (ap is_some e))
     by_case (Some i) e = true≢false (sym (ap is_some e))
 
+-- a birth tells of a step that its parent has not made; of every other kind nothing is asked
+abbrev pub IsLater : (Pid → ℕ) → What → Type 0
+IsLater counts (Birth parent at child end) = counts parent < at
+IsLater counts _ = Unit {0}
+
+-- after a run and a fork the parent has the count of the fork, where it had a lower one, and every other process its own
+birth_here : (parent : Pid) (at : ℕ) (child : Pid) (k j : Kernel) → done k parent < at → apply_all (run_upto k parent (at - 1) ++ Fork parent child ∷ []) k ≡ Some j → done j parent ≡ max at (done k parent)
+birth_here parent at child k j later made =
+    let r = run_and_fork (run_upto k parent (at - 1)) parent child k j made in
+    let ran : done r.to parent ≡ max (at - 1) (done k parent) = run_upto-here parent (at - 1) k r.to r.ran in
+    let forked : done j parent ≡ done r.to parent + 1 = fork-steps_parent parent child r.to j (fork_made parent child r.to j r.forks) in
+    omega (arith, later, ran, forked)
+
+birth_other : (parent : Pid) (at : ℕ) (child : Pid) (k j : Kernel) (q : Pid) → q.0 ≢ parent.0 → apply_all (run_upto k parent (at - 1) ++ Fork parent child ∷ []) k ≡ Some j → done j q ≡ done k q
+birth_other parent at child k j q apart made =
+    let r = run_and_fork (run_upto k parent (at - 1)) parent child k j made in
+    fork_beside parent child r.to j q r.forks apart ∙ run_upto-other parent (at - 1) k r.to q r.ran apart
+
+birth_counts : (parent : Pid) (at : ℕ) (child : Pid) (k j : Kernel) (q : Pid) → done k parent < at → apply_all (run_upto k parent (at - 1) ++ Fork parent child ∷ []) k ≡ Some j → done j q ≡ raised_at (Some (parent, at)) (done k) q
+birth_counts parent at child k j q later made = by_pid (same_pid q parent) refl
+  where
+    by_pid : (b : Bool) → same_pid q parent ≡ b → done j q ≡ cond b (max at (done k parent)) (done k q)
+    by_pid true is = let same : q ≡ parent = λ i. record { 0 = eqb-true q.0 parent.0 is i } in ap (done j) same ∙ birth_here parent at child k j later made
+    by_pid false is = birth_other parent at child k j q (λ e. true≢false (sym (eq-eqb q.0 parent.0 e) ∙ is)) made
+
 -- the counts after the items of an entry, of every kind but Done
-counts_after : (w : What) (k j : Kernel) (q : Pid) → is_done w ≡ false → apply_all (items_of k w) k ≡ Some j → done j q ≡ raised_at (count_in w) (done k) q
-counts_after (Mail at letter) k j q other made = run_upto-counts letter.from at k j q made
-counts_after (Birth parent at child end) k j q other made = absurd (no_fork (run_upto k parent (at - 1)) parent child k j made)
-counts_after (Exit pid at end) k j q other made = run_upto-counts pid at k j q made
-counts_after (Page pid at index bytes) k j q other made = ap (λ i. done i q) (sym (some_same k j made))
-counts_after (Sync pid small read None) k j q other made = run_upto-counts pid small.steps k j q (ap (λ is. apply_all is k) (sym (append-nil (run_upto k pid small.steps))) ∙ made)
-counts_after (Sync pid small read (Some g)) k j q other made = absurd (no_take (run_upto k pid small.steps) pid k j made)
-counts_after (Fetch pid index) k j q other made = ap (λ i. done i q) (sym (some_same k j made))
-counts_after (PageIs pid index bytes) k j q other made = ap (λ i. done i q) (sym (some_same k j made))
-counts_after (Crash c cause) k j q other made = ap (λ i. done i q) (sym (some_same k j made))
-counts_after (Return c) k j q other made = ap (λ i. done i q) (sym (some_same k j made))
-counts_after (Rebackup to true []) k j q other made = ap (λ i. done i q) (sym (some_same k j made))
-counts_after (Rebackup to true (r ∷ rs)) k j q other made = run_upto-counts r.pid (steps_in r.state) k j q made
-counts_after (Rebackup to false recs) k j q other made = ap (λ i. done i q) (sym (some_same k j made))
-counts_after (Done rests) k j q other made = absurd (true≢false other)
-counts_after Stop k j q other made = ap (λ i. done i q) (sym (some_same k j made))
+counts_after : (w : What) (k j : Kernel) (q : Pid) → is_done w ≡ false → IsLater (done k) w → apply_all (items_of k w) k ≡ Some j → done j q ≡ raised_at (count_in w) (done k) q
+counts_after (Mail at letter) k j q other later made = run_upto-counts letter.from at k j q made
+counts_after (Birth parent at child end) k j q other later made = birth_counts parent at child k j q later made
+counts_after (Exit pid at end) k j q other later made = run_upto-counts pid at k j q made
+counts_after (Page pid at index bytes) k j q other later made = ap (λ i. done i q) (sym (some_same k j made))
+counts_after (Sync pid small read None) k j q other later made = run_upto-counts pid small.steps k j q (ap (λ is. apply_all is k) (sym (append-nil (run_upto k pid small.steps))) ∙ made)
+counts_after (Sync pid small read (Some g)) k j q other later made = absurd (no_take (run_upto k pid small.steps) pid k j made)
+counts_after (Fetch pid index) k j q other later made = ap (λ i. done i q) (sym (some_same k j made))
+counts_after (PageIs pid index bytes) k j q other later made = ap (λ i. done i q) (sym (some_same k j made))
+counts_after (Crash c cause) k j q other later made = ap (λ i. done i q) (sym (some_same k j made))
+counts_after (Return c) k j q other later made = ap (λ i. done i q) (sym (some_same k j made))
+counts_after (Rebackup to true []) k j q other later made = ap (λ i. done i q) (sym (some_same k j made))
+counts_after (Rebackup to true (r ∷ rs)) k j q other later made = run_upto-counts r.pid (steps_in r.state) k j q made
+counts_after (Rebackup to false recs) k j q other later made = ap (λ i. done i q) (sym (some_same k j made))
+counts_after (Done rests) k j q other later made = absurd (true≢false other)
+counts_after Stop k j q other later made = ap (λ i. done i q) (sym (some_same k j made))
 
 pub raised_same : (o : Option (Pid × ℕ)) (f g : Pid → ℕ) (q : Pid) → ((p : Pid) → f p ≡ g p) → raised_at o f q ≡ raised_at o g q
 raised_same o f g q same = ap (λ h. raised_at o h q) (λ i p. same p i)
 
--- the count of a process after an entry of every kind but Done: the process that the entry tells of has the greater of that count and its old one, and every other its old one
-pub done_after-snoc : (system : System) (log : List Entry) (e : Entry) (q : Pid) → is_done (what e) ≡ false → is_some (plain_after system (log ++ e ∷ [])) ≡ true
+-- where an entry stands it is later so
+pub kind_later : (system : System) (log : List Entry) (e : Entry) (w : What) → KindHolds system log e w → IsLater (done_after system log) w
+kind_later system log e (Birth parent at child end) kind = kind.later
+kind_later system log e _ kind = tt
+
+-- the count of a process after an entry of every kind but Done, where a birth is later than the steps of its parent: the process that the entry tells of has the greater of that count and its old one, and every other its old one
+pub done_after-raised : (system : System) (log : List Entry) (e : Entry) (q : Pid) → is_done (what e) ≡ false → IsLater (done_after system log) (what e) → is_some (plain_after system (log ++ e ∷ [])) ≡ true
     → done_after system (log ++ e ∷ []) q ≡ raised_at (count_in (what e)) (done_after system log) q
-done_after-snoc system log e q other can =
+done_after-raised system log e q other later can =
     let a = applied system log e can in
-    done_kernel system (log ++ e ∷ []) a.new q a.after ∙ counts_after (what e) a.old a.new q other a.made
+    let counts : done_after system log ≡ done a.old = λ i p. done_kernel system log a.old p a.before i in
+    done_kernel system (log ++ e ∷ []) a.new q a.after ∙ counts_after (what e) a.old a.new q other (subst (λ f. IsLater f (what e)) counts later) a.made
     ∙ raised_same (count_in (what e)) (done a.old) (done_after system log) q (λ p. sym (done_kernel system log a.old p a.before))
 
 same_here : (p : Pid) (x y : ℕ) → cond (same_pid p p) x y ≡ x
@@ -155,25 +175,36 @@ same_here p x y = ap (λ b. cond b x y) (eq-eqb p.0 p.0 refl)
 other_there : (p q : Pid) (x y : ℕ) → q.0 ≢ p.0 → cond (same_pid q p) x y ≡ y
 other_there p q x y apart = ap (λ b. cond b x y) (ne_eqb q.0 p.0 apart)
 
--- the same, for an entry that raises the count of p, and for each other process
-pub done_after-here : (system : System) (log : List Entry) (e : Entry) (p : Pid) (at : ℕ) → is_done (what e) ≡ false → is_some (plain_after system (log ++ e ∷ [])) ≡ true → count_in (what e) ≡ Some (p, at)
+-- the same, for an entry that raises the count of p
+pub done_after-here : (system : System) (log : List Entry) (e : Entry) (p : Pid) (at : ℕ) → is_done (what e) ≡ false → IsLater (done_after system log) (what e) → is_some (plain_after system (log ++ e ∷ [])) ≡ true → count_in (what e) ≡ Some (p, at)
     → done_after system (log ++ e ∷ []) p ≡ max at (done_after system log p)
-done_after-here system log e p at other can is = done_after-snoc system log e p other can ∙ ap (λ o. raised_at o (done_after system log) p) is ∙ same_here p (max at (done_after system log p)) (done_after system log p)
+done_after-here system log e p at other later can is =
+    done_after-raised system log e p other later can ∙ ap (λ o. raised_at o (done_after system log) p) is ∙ same_here p (max at (done_after system log p)) (done_after system log p)
+
+-- and for each other process, also over a birth that is not later
+counts_other : (w : What) (k j : Kernel) (p q : Pid) (at : ℕ) → is_done w ≡ false → apply_all (items_of k w) k ≡ Some j → count_in w ≡ Some (p, at) → q.0 ≢ p.0 → done j q ≡ done k q
+counts_other (Birth parent n child end) k j p q at other made is apart =
+    let same : parent ≡ p = ap (λ (r : Pid × ℕ). r.0) (some_same (parent, n) (p, at) is) in
+    birth_other parent n child k j q (λ e. apart (e ∙ ap (λ (r : Pid). r.0) same)) made
+counts_other w k j p q at other made is apart = counts_after w k j q other tt made ∙ ap (λ o. raised_at o (done k) q) is ∙ other_there p q (max at (done k p)) (done k q) apart
 
 pub done_after-other : (system : System) (log : List Entry) (e : Entry) (p q : Pid) (at : ℕ) → is_done (what e) ≡ false → is_some (plain_after system (log ++ e ∷ [])) ≡ true → count_in (what e) ≡ Some (p, at)
     → q.0 ≢ p.0 → done_after system (log ++ e ∷ []) q ≡ done_after system log q
-done_after-other system log e p q at other can is apart = done_after-snoc system log e q other can ∙ ap (λ o. raised_at o (done_after system log) q) is ∙ other_there p q (max at (done_after system log p)) (done_after system log q) apart
+done_after-other system log e p q at other can is apart =
+    let a = applied system log e can in
+    done_kernel system (log ++ e ∷ []) a.new q a.after ∙ counts_other (what e) a.old a.new p q at other a.made is apart ∙ sym (done_kernel system log a.old q a.before)
 
 -- and for one that raises none
+counts_quiet : (w : What) (k j : Kernel) (q : Pid) → is_done w ≡ false → apply_all (items_of k w) k ≡ Some j → count_in w ≡ None → done j q ≡ done k q
+counts_quiet (Birth parent n child end) k j q other made is = cc
+counts_quiet w k j q other made is = counts_after w k j q other tt made ∙ ap (λ o. raised_at o (done k) q) is
+
 pub done_after-quiet : (system : System) (log : List Entry) (e : Entry) (q : Pid) → is_done (what e) ≡ false → is_some (plain_after system (log ++ e ∷ [])) ≡ true → count_in (what e) ≡ None → done_after system (log ++ e ∷ []) q ≡ done_after system log q
-done_after-quiet system log e q other can is = done_after-snoc system log e q other can ∙ ap (λ o. raised_at o (done_after system log) q) is
-
--- no birth and no signal that is taken can be applied yet
-pub no_birth : (system : System) (log : List Entry) (e : Entry) (parent : Pid) (at : ℕ) (child : Pid) (end : ℕ) → what e ≡ Birth parent at child end → is_some (plain_after system (log ++ e ∷ [])) ≡ true → ⊥
-no_birth system log e parent at child end is can =
+done_after-quiet system log e q other can is =
     let a = applied system log e can in
-    no_fork (run_upto a.old parent (at - 1)) parent child a.old a.new (ap (λ w. apply_all (items_of a.old w) a.old) (sym is) ∙ a.made)
+    done_kernel system (log ++ e ∷ []) a.new q a.after ∙ counts_quiet (what e) a.old a.new q other a.made is ∙ sym (done_kernel system log a.old q a.before)
 
+-- no signal that is taken can be applied yet
 pub no_signal_taken : (system : System) (log : List Entry) (e : Entry) (p : Pid) (small : SmallState) (read : List ℕ) (g : ℕ) → what e ≡ Sync p small read (Some g) → is_some (plain_after system (log ++ e ∷ [])) ≡ true → ⊥
 no_signal_taken system log e p small read g is can =
     let a = applied system log e can in
@@ -196,7 +227,8 @@ module _ (P : Kernel → Type 0) (one : (p : Pid) (k j : Kernel) → P k → one
       by_case None is = tt
       by_case (Some j) is = items_keep P one fork (items_of k (what e)) k j has is
 
-  log_keeps : (o : Option Kernel) (log : List Entry) → IfSome o P → IfSome (fold after_entry o log) P
+  -- over several entries, from any kernel
+  pub log_keeps : (o : Option Kernel) (log : List Entry) → IfSome o P → IfSome (fold after_entry o log) P
   log_keeps o [] has = has
   log_keeps o (e ∷ log) has = log_keeps (after_entry o e) log (entry_keeps o e has)
 
@@ -205,18 +237,14 @@ module _ (P : Kernel → Type 0) (one : (p : Pid) (k j : Kernel) → P k → one
   unfolding plain_after
   log_keeps_all system log k start is = subst (λ o. IfSome o P) is (log_keeps (Some (boot system)) log start)
 
--- the same of what a step keeps, since no process forks yet
-pub plain_after-keeps : (P : Kernel → Type 0) → ((p : Pid) (k j : Kernel) → P k → one_step p k ≡ Some j → P j) → (system : System) (log : List Entry) (k : Kernel) → P (boot system) → plain_after system log ≡ Some k → P k
-plain_after-keeps P one system log k start is = log_keeps_all P one (λ p c k j has forks. absurd (never_forks p c k j forks)) system log k start is
-
--- so the processes rise, and have the pids of the start
-pub plain_after-pids : (system : System) (log : List Entry) (k : Kernel) → plain_after system log ≡ Some k → HasPids (pids_in (boot system)) k
-plain_after-pids system log k is = plain_after-keeps (HasPids (pids_in (boot system))) (one_step-pids (pids_in (boot system))) system log k (boot-pids system) is
-
--- they rise, whatever forks
+-- so the processes rise, whatever forks
 pub plain_after-rising : (system : System) (log : List Entry) (k : Kernel) → plain_after system log ≡ Some k → IsRising k
 plain_after-rising system log k is =
     log_keeps_all IsRising (λ p k j rising made. (one_step-pids (pids_in k) p k j (record { rising = rising; are = refl }) made).rising) fork_step-rising system log k (boot-pids system).rising is
+
+-- so they have pids of which no two are equal
+pub plain_after-own_pids : (system : System) (log : List Entry) (k : Kernel) → plain_after system log ≡ Some k → HasPids (pids_in k) k
+plain_after-own_pids system log k is = record { rising = plain_after-rising system log k is; are = refl }
 
 -- and each has the pid under which it stands
 pub process_after-own : (system : System) (log : List Entry) (p : Pid) (s : ProcState) → process_after system log p ≡ Some s → (s.small).pid ≡ p
@@ -368,3 +396,29 @@ process_after-beside system log e p at t q is items apart =
     ap (option_and_then (λ k. process_at k q)) a.after
     ∙ silently-other (at - done s.kernel p) s.kernel a.new p s.was t q s.there s.silent (silent_made system log e p at t s a items) apart
     ∙ sym (ap (option_and_then (λ k. process_at k q)) s.before)
+
+-- ---- as long as no step is a fork: these go away, once no crate above cites them
+
+-- no birth can be applied; in its place a birth that stands makes its fork (BornLaws)
+pub no_birth : (system : System) (log : List Entry) (e : Entry) (parent : Pid) (at : ℕ) (child : Pid) (end : ℕ) → what e ≡ Birth parent at child end → is_some (plain_after system (log ++ e ∷ [])) ≡ true → ⊥
+no_birth system log e parent at child end is can =
+    let a = applied system log e can in
+    let r = run_and_fork (run_upto a.old parent (at - 1)) parent child a.old a.new (ap (λ w. apply_all (items_of a.old w) a.old) (sym is) ∙ a.made) in
+    never_forks parent child r.to a.new r.forks
+
+-- in its place `done_after-raised`
+pub done_after-snoc : (system : System) (log : List Entry) (e : Entry) (q : Pid) → is_done (what e) ≡ false → is_some (plain_after system (log ++ e ∷ [])) ≡ true
+    → done_after system (log ++ e ∷ []) q ≡ raised_at (count_in (what e)) (done_after system log) q
+done_after-snoc system log e q other can = done_after-raised system log e q other (by_what (what e) refl) can
+  where
+    by_what : (w : What) → what e ≡ w → IsLater (done_after system log) w
+    by_what (Birth parent at child end) is = absurd (no_birth system log e parent at child end is can)
+    by_what _ is = tt
+
+-- in its place `log_keeps_all`, and of each process the laws of EachLaws
+pub plain_after-keeps : (P : Kernel → Type 0) → ((p : Pid) (k j : Kernel) → P k → one_step p k ≡ Some j → P j) → (system : System) (log : List Entry) (k : Kernel) → P (boot system) → plain_after system log ≡ Some k → P k
+plain_after-keeps P one system log k start is = log_keeps_all P one (λ p c k j has forks. absurd (never_forks p c k j forks)) system log k start is
+
+-- in its place `plain_after-rising`, `plain_after-own_pids` and the pids of PidsBorn
+pub plain_after-pids : (system : System) (log : List Entry) (k : Kernel) → plain_after system log ≡ Some k → HasPids (pids_in (boot system)) k
+plain_after-pids system log k is = plain_after-keeps (HasPids (pids_in (boot system))) (one_step-pids (pids_in (boot system))) system log k (boot-pids system) is
