@@ -1,51 +1,168 @@
--- What is left of synchronisations and changed pages is never more than a system could have at boot.
-use Rattle.std.proofs.Common.{◌≡◌, ℕ, ◌+◌, ◌≤◌, refl, sym, ◌∙◌, ap, arith, List, [], ◌∷◌, Bool, true, false, cond, not, Option, Some, None, is_some, true≢false}
-use Rattle.std.specs.Prelude.{filter, sum_by}
+-- What is left of synchronisations, of changed pages and of births is never more than a system could have at boot.
+use Rattle.std.proofs.Common.{◌≡◌, ℕ, ◌+◌, ◌*◌, ◌≤◌, refl, sym, ◌∙◌, ap, subst, arith, List, [], ◌∷◌, Bool, true, false, cond, not, ◌||◌, eqb, eq-eqb, Option, Some, None, is_some, true≢false}
+use Rattle.std.specs.Prelude.{filter, option_and_then, sum_by}
+use Rattle.std.specs.List.{list_any}
+use Rattle.std.specs.Option.{option_map_or}
+use Rattle.std.specs.Ordering.{is_eq, nat_cmp}
+use Rattle.std.specs.FinMap.{find}
+use Rattle.std.proofs.lemmas.Bool.Decides.{nat_tests}
+use Rattle.std.proofs.lemmas.Nat.{mul-le}
 use Rattle.std.proofs.lemmas.List.Sums.{sum_by-cons}
 use Rattle.t32_base.specs.declared.process.Pid.{Pid}
 use Rattle.sys_text.specs.declared.system.System.{System}
-use Rattle.plain_kernel.specs.Kernel.{Kernel, boot}
+use Rattle.sys_text.specs.Valid.{is_system}
+use Rattle.proc_state.specs.State.{ProcState}
+use Rattle.sys_calls.specs.declared.steps.Emission.{Emission}
+use Rattle.sys_calls.specs.Calls.{Emits, Silent}
+use Rattle.sys_calls.specs.Fork.{CanFork, fork_child, fork_parent}
+use Rattle.sys_calls.specs.Next.{next_step}
+use Rattle.sys_calls.proofs.ForkLaws.{forks_can}
+use Rattle.plain_kernel.specs.Kernel.{Kernel, pid_cmp, process_at}
+use Rattle.plain_kernel.specs.Apply.{fork_step, one_step}
+use Rattle.plain_kernel.proofs.AtBoot.{boot-pids}
+use Rattle.plain_kernel.proofs.ForkPids.{fork_step-rising}
+use Rattle.plain_kernel.proofs.Forking.{fork_made}
+use Rattle.plain_kernel.proofs.Pids.{IsRising}
 use Rattle.bus_msg.specs.declared.entry.Entry.{Entry}
 use Rattle.bus_msg.specs.declared.placed.Placed.{Placed}
-use Rattle.bus_msg.specs.Places.{unended_in}
-use Rattle.cert_sched.specs.Schedule.{plain_after, placement, places_at_boot}
+use Rattle.bus_msg.specs.Places.{same_pid}
+use Rattle.cert_sched.specs.Schedule.{plain_after, placement, process_after}
 use Rattle.cert_sched.specs.Steps.{page_count}
 use Rattle.cert_sched.specs.Legal.{IsLegalBy, Stands}
+use Rattle.cert_sched.proofs.FreshLaws.{numbered}
 use Rattle.cert_sched.proofs.PidLaws.{placed_pids}
-use Rattle.cert_sched.proofs.StepLaws.{plain_after-keeps}
-use Rattle.cert_sched.proofs.ThereLaws.{pids_of_boot, plain_there}
-use Rattle.page_laws.proofs.PagesStay.{page_count-boot}
-use Rattle.page_laws.proofs.Leaving.{sum_by-le-each}
-use Rattle.sync_left.specs.Left.{every, has_stepped, is_unsent, left_of_process, left_of_syncs, most_of_process, most_steps, most_syncs, pairs_that}
-use Rattle.sync_left.proofs.Pairs.{pairs-le}
-use Rattle.sync_left.proofs.OneStep.{at_most_one, most-each, most_in}
-use Rattle.sync_left.proofs.OneEntry.{itself, most_kernel}
+use Rattle.cert_sched.proofs.RisingLaws.{NoTwo}
+use Rattle.cert_sched.proofs.StepLaws.{log_keeps_all}
+use Rattle.cert_sched.proofs.ThereLaws.{placed_there, plain_there}
+use Rattle.page_laws.proofs.BornSums.{itself}
+use Rattle.page_laws.proofs.StepSizes.{Keeps, next_keeps}
+use Rattle.sync_left.specs.Load.{left_of_children}
+use Rattle.sync_left.specs.Left.{is_unsent, left_of_process, left_of_syncs, may_sync, most_of, most_of_process, most_steps, most_syncs}
+use Rattle.sync_left.proofs.Forked.{child_few, emits_births, fork_pays, silent_births}
+use Rattle.sync_left.proofs.KernelSums.{fork_sums, of_entry, step_sums, sum_of}
+use Rattle.sync_left.proofs.StepsLeft.{rising_still}
+use Rattle.sync_left.proofs.Pairs.{pairs-within}
+use Rattle.sync_left.proofs.Rising.{one_rises}
+use Rattle.sync_left.proofs.OneStep.{at_most_one, emits_most, fork_most, silent_most}
+use Rattle.sync_left.proofs.OneEntry.{births_kernel}
 
--- ---- one process
+-- ---- a step and a fork leave no more
 
--- no process of a kernel after a log can have made more steps than it could at boot
-steps_at_most : (system : System) (log : List Entry) (k : Kernel) → plain_after system log ≡ Some k → (p : Pid) → most_in k p ≤ most_in (boot system) p
-steps_at_most system log k is =
-    plain_after-keeps (λ (j : Kernel). (p : Pid) → most_in j p ≤ most_in (boot system) p) (λ r i j held made p. let less = most-each r i j p made in let before = held p in omega (arith, less, before)) system log k (λ p. omega arith) is
+-- a synchronisation, and each page at each step count
+abbrev own_most : ProcState → ℕ
+own_most s = 1 + (s.small).pages * (most_of s + 1)
 
-at_boot : (system : System) (p : Pid) → most_steps system [] p ≡ most_in (boot system) p
-unfolding plain_after
-at_boot system p = refl
+most_kept : (s t : ProcState) → (t.small).pages ≡ (s.small).pages → most_of t ≤ most_of s → left_of_children t.small + 0 ≤ left_of_children s.small → most_of_process t + 0 ≤ most_of_process s
+most_kept s t same steps births =
+    let pages = mul-le (t.small).pages (most_of t + 1) (s.small).pages (most_of s + 1) (omega (arith, same)) (omega (arith, steps)) in
+    omega (arith, pages, births)
 
-pages_at_boot : (system : System) (log : List Entry) (k : Kernel) (p : Pid) → plain_after system log ≡ Some k → page_count system log p ≡ page_count system [] p
-unfolding plain_after
-pages_at_boot system log k p is = page_count-boot system log k p is ∙ sym (page_count-boot system [] (boot system) p refl)
+silent_kept : (s t : ProcState) → next_step s ≡ Silent t → most_of_process t + 0 ≤ most_of_process s
+silent_kept s t is = let size = subst (Keeps s) is (next_keeps s) in most_kept s t size.pages (silent_most s t is) (silent_births s t is)
 
-process_within : (system : System) (log : List Entry) (k : Kernel) (p : Pid) → plain_after system log ≡ Some k → left_of_process system log p ≤ most_of_process system p
-process_within system log k p is =
-    let steps = steps_at_most system log k is p in
-    let most : most_steps system log p ≤ most_steps system [] p = omega (arith, steps, at_boot system p, most_kernel system log k p is) in
-    let pages = pages_at_boot system log k p is in
-    let pairs : pairs_that (is_unsent system log p) (page_count system [] p) (most_steps system log p) ≤ pairs_that every (page_count system [] p) (most_steps system [] p) =
-    pairs-le (is_unsent system log p) every (λ i n passes. refl) (page_count system [] p) (most_steps system log p) (most_steps system [] p) most in
-    let same : pairs_that (is_unsent system log p) (page_count system log p) (most_steps system log p) ≡ pairs_that (is_unsent system log p) (page_count system [] p) (most_steps system log p) =
-    ap (λ n. pairs_that (is_unsent system log p) n (most_steps system log p)) pages in
-    omega (arith, at_most_one (has_stepped system log p), pairs, same)
+emits_kept : (s t : ProcState) (e : Emission) → next_step s ≡ Emits e t → most_of_process t + 0 ≤ most_of_process s
+emits_kept s t e is = let size = subst (Keeps s) is (next_keeps s) in most_kept s t size.pages (emits_most s t e is) (emits_births s t e is)
+
+fork_kept : (s : ProcState) (child : Pid) → CanFork s → most_of_process (fork_parent s child) + most_of_process (fork_child s child) ≤ most_of_process s
+fork_kept s child can =
+    let parent = mul-le (s.small).pages (most_of (fork_parent s child) + 1) (s.small).pages (most_of s + 1) (omega arith) (let less = fork_most s child can in omega (arith, less)) in
+    let born = mul-le (s.small).pages (most_of (fork_child s child) + 1) (s.small).pages ((s.small).left + 34) (omega arith) (let few = child_few s child can in omega (arith, few)) in
+    let pays = fork_pays s child can in
+    omega (arith, parent, born, pays)
+
+-- ---- a kernel after a log
+
+-- processes that rise, and in sum no more than so much
+record IsMost (most : ℕ) (k : Kernel) : Type 0 where
+  pub rising : IsRising k
+  pub within : sum_of most_of_process k ≤ most
+
+step_kept : (most : ℕ) (p : Pid) (k j : Kernel) → IsMost most k → one_step p k ≡ Some j → IsMost most j
+step_kept most p k j held made =
+    let less = step_sums most_of_process (λ s letter. refl) 0 silent_kept emits_kept p k j held.rising made in
+    let before = held.within in
+    record { rising = rising_still p k j held.rising made; within = omega (arith, less, before) }
+
+fork_step_kept : (most : ℕ) (p c : Pid) (k j : Kernel) → IsMost most k → fork_step p c k ≡ Some j → IsMost most j
+fork_step_kept most p c k j held made =
+    let f = fork_made p c k j made in
+    let sums = fork_sums most_of_process p c k j held.rising f in
+    let less = fork_kept f.was c (forks_can f.was f.forks) in
+    let before = held.within in
+    record { rising = fork_step-rising p c k j held.rising made; within = omega (arith, sums, less, before) }
+
+kernel_within : (system : System) (log : List Entry) (k : Kernel) → plain_after system log ≡ Some k → sum_of most_of_process k ≤ most_syncs system
+kernel_within system log k is =
+    (log_keeps_all (IsMost (most_syncs system)) (step_kept (most_syncs system)) (fork_step_kept (most_syncs system)) system log k (record { rising = (boot-pids system).rising; within = omega arith }) is).within
+
+-- the two parts of it
+two_parts : (es : List (Pid × ProcState)) → sum_by (of_entry own_most) es + sum_by (of_entry (λ (s : ProcState). left_of_children s.small)) es ≡ sum_by (of_entry most_of_process) es
+two_parts [] = omega arith
+two_parts (e ∷ es) =
+    let rest = two_parts es in
+    omega (arith, rest, sum_by-cons (of_entry own_most) e es, sum_by-cons (of_entry (λ (s : ProcState). left_of_children s.small)) e es, sum_by-cons (of_entry most_of_process) e es)
+
+-- ---- processes that are placed, of which no two have one pid
+
+found_at : List (Pid × ProcState) → Placed → ℕ
+found_at es q = option_map_or own_most (find pid_cmp q.pid es) 0
+
+none_sum : (qs : List Placed) → sum_by (found_at []) qs ≤ 0
+unfolding found_at
+none_sum [] = omega arith
+none_sum (q ∷ qs) = let rest = none_sum qs in omega (arith, rest, sum_by-cons (λ (q : Placed). option_map_or own_most (find pid_cmp q.pid []) 0) q qs)
+
+other_is : (n m : ℕ) → eqb n m ≡ false → is_eq (nat_cmp n m) ≡ false
+other_is n m is = grind (arith, nat_tests)
+
+same_is : (n m : ℕ) → eqb n m ≡ true → is_eq (nat_cmp n m) ≡ true
+same_is n m is = grind (arith, nat_tests)
+
+-- they have no more than all processes of the kernel
+found_within : (es : List (Pid × ProcState)) (qs : List Placed) → NoTwo (placed_pids qs) → sum_by (found_at es) qs ≤ sum_by (of_entry own_most) es
+unfolding found_at
+found_within [] qs apart = none_sum qs
+found_within (e ∷ es) qs apart =
+    let rises = one_rises (found_at es) (found_at (e ∷ es)) e.0 (own_most e.1) others each qs apart in
+    let rest = found_within es qs apart in
+    omega (arith, rises, rest, sum_by-cons (of_entry own_most) e es)
+  where
+    others : (q : Placed) → same_pid q.pid e.0 ≡ false → found_at (e ∷ es) q ≤ found_at es q
+    others q other = let same : found_at (e ∷ es) q ≡ found_at es q = ap (λ b. option_map_or own_most (cond b (Some e.1) (find pid_cmp q.pid es)) 0) (other_is (q.pid).0 (e.0).0 other) in omega (arith, same)
+
+    each : (q : Placed) → same_pid q.pid e.0 ≡ true → found_at (e ∷ es) q ≤ found_at es q + own_most e.1
+    each q is = let here : found_at (e ∷ es) q ≡ own_most e.1 = ap (λ b. option_map_or own_most (cond b (Some e.1) (find pid_cmp q.pid es)) 0) (same_is (q.pid).0 (e.0).0 is) in omega (arith, here)
+
+module _ (system : System) (log : List Entry) (k : Kernel) (is : plain_after system log ≡ Some k) where
+  -- one that is there
+  process_within : (q : Placed) (s : ProcState) → process_at k q.pid ≡ Some s → left_of_process system log q.pid ≤ own_most s
+  process_within q s there =
+      let after : process_after system log q.pid ≡ Some s = ap (option_and_then (λ k. process_at k q.pid)) is ∙ there in
+      let pages : page_count system log q.pid ≡ (s.small).pages = ap (λ o. option_map_or (λ (s : ProcState). (s.small).pages) o 0) after in
+      let most : most_steps system log q.pid ≡ most_of s = ap (λ o. option_map_or most_of o 0) after in
+      let pairs = pairs-within (is_unsent system log q.pid) (page_count system log q.pid) (most_steps system log q.pid) in
+      let within = mul-le (page_count system log q.pid) (most_steps system log q.pid + 1) (s.small).pages (most_of s + 1) (omega (arith, pages)) (omega (arith, most)) in
+      omega (arith, at_most_one (may_sync system log q.pid), pairs, within)
+
+  -- all of them, where all are there
+  placed_within : (qs : List Placed) → ((q : Placed) → list_any (λ m. eqb m (q.pid).0) (placed_pids qs) ≡ true → is_some (process_at k q.pid) ≡ true) → sum_by (λ (q : Placed). left_of_process system log q.pid) qs ≤ sum_by (found_at k.processes) qs
+  unfolding found_at
+  placed_within [] there = omega arith
+  placed_within (q ∷ qs) there =
+      let first = by_process (process_at k q.pid) refl (there q (ap (λ b. b || list_any (λ m. eqb m (q.pid).0) (placed_pids qs)) (eq-eqb (q.pid).0 (q.pid).0 refl))) in
+      let rest = placed_within qs (λ r among. there r (later r among)) in
+      omega (arith, first, rest, sum_by-cons (λ (q : Placed). left_of_process system log q.pid) q qs, sum_by-cons (λ (q : Placed). option_map_or own_most (find pid_cmp q.pid k.processes) 0) q qs)
+    where
+      or_true : (b : Bool) → (b || true) ≡ true
+      or_true true = refl
+      or_true false = refl
+
+      later : (r : Placed) → list_any (λ m. eqb m (r.pid).0) (placed_pids qs) ≡ true → list_any (λ m. eqb m (r.pid).0) (placed_pids (q ∷ qs)) ≡ true
+      later r among = ap (λ b. eqb (q.pid).0 (r.pid).0 || b) among ∙ or_true (eqb (q.pid).0 (r.pid).0)
+
+      by_process : (o : Option ProcState) → process_at k q.pid ≡ o → is_some o ≡ true → left_of_process system log q.pid ≤ option_map_or own_most o 0
+      by_process None here some = absurd (true≢false (sym some))
+      by_process (Some s) here some = process_within q s here
 
 -- ---- all processes
 
@@ -57,22 +174,17 @@ fewer_of f t (q ∷ qs) = by_test (t q) (fewer_of f t qs)
     by_test true more = omega (arith, sum_by-cons f q (filter t qs), sum_by-cons f q qs, more)
     by_test false more = omega (arith, sum_by-cons f q qs, more)
 
--- a sum over processes goes by their pids alone
-by_pids : (g : Pid → ℕ) (qs : List Placed) → sum_by (λ (q : Placed). g q.pid) qs ≡ sum_by (λ n. g (record { 0 = n })) (placed_pids qs)
-by_pids g [] = refl
-by_pids g (q ∷ qs) = sum_by-cons (λ (q : Placed). g q.pid) q qs ∙ ap (λ n. g q.pid + n) (by_pids g qs) ∙ sym (sum_by-cons (λ n. g (record { 0 = n })) (q.pid).0 (placed_pids qs))
-
-pub syncs_within : (system : System) (log : List Entry) → IsLegalBy Stands system log → left_of_syncs system log ≤ most_syncs system
-syncs_within system log legal = by_kernel (plain_after system log) refl (plain_there Stands itself system log legal)
+pub syncs_within : (system : System) (log : List Entry) → is_system system ≡ true → IsLegalBy Stands system log → left_of_syncs system log ≤ most_syncs system
+syncs_within system log valid legal = by_kernel (plain_after system log) refl (plain_there Stands itself system log legal)
   where
-    same : sum_by (λ (q : Placed). most_of_process system q.pid) (placement system log).placed ≡ most_syncs system
-    same =
-        by_pids (most_of_process system) (placement system log).placed ∙ ap (sum_by (λ n. most_of_process system (record { 0 = n }))) (pids_of_boot Stands itself system log legal)
-        ∙ sym (by_pids (most_of_process system) (places_at_boot system).placed)
-
     by_kernel : (o : Option Kernel) → plain_after system log ≡ o → is_some o ≡ true → left_of_syncs system log ≤ most_syncs system
     by_kernel None is there = absurd (true≢false (sym there))
     by_kernel (Some k) is there =
-        let each = sum_by-le-each (λ (q : Placed). left_of_process system log q.pid) (λ (q : Placed). most_of_process system q.pid) (λ q. process_within system log k q.pid is) (unended_in (placement system log)) in
-        let fewer = fewer_of (λ (q : Placed). most_of_process system q.pid) (λ (q : Placed). not q.ended) (placement system log).placed in
-        omega (arith, each, fewer, same)
+        let qs = (placement system log).placed in
+        let g : Placed → ℕ = λ q. left_of_process system log q.pid in
+        let fewer = fewer_of g (λ (q : Placed). not q.ended) qs in
+        let each = placed_within system log k is qs (λ q among. ap (λ o. is_some (option_and_then (λ k. process_at k q.pid) o)) (sym is) ∙ placed_there Stands itself system log q.pid valid legal among) in
+        let found = found_within k.processes qs (numbered Stands itself system log valid legal).two in
+        let parts = two_parts k.processes in
+        let most = kernel_within system log k is in
+        omega (arith, fewer, each, found, parts, most, births_kernel system log k is)

@@ -16,18 +16,21 @@ use Rattle.bus_msg.specs.PlacedAfter.{what}
 use Rattle.cert_sched.specs.Schedule.{done, items_of, plain_after, placement, done_after}
 use Rattle.cert_sched.specs.Told.{cluster_lost}
 use Rattle.cert_sched.specs.Deeds.{is_cut, is_birth_of, start_of}
+use Rattle.cert_sched.specs.Record.{has_state}
 use Rattle.cert_sched.specs.Moved.{any_since_moved, is_page_at}
 use Rattle.cert_sched.specs.Steps.{page_count, silent_upto, start_steps}
 use Rattle.cert_sched.specs.Rules.{is_by_home, is_by_right, is_new_page}
 use Rattle.cert_sched.specs.Kinds.{KindHolds, PageHolds}
 use Rattle.cert_sched.specs.Legal.{IsLegalBy, Stands}
+use Rattle.cert_sched.proofs.BirthKind.{is_birth}
 use Rattle.cert_sched.proofs.LogLaws.{no_items}
+use Rattle.cert_sched.proofs.RecordLaws.{has_state-snoc}
 use Rattle.cert_sched.proofs.StepLaws.{silent_from, done_kernel}
-use Rattle.page_laws.proofs.OneEntry.{moves_none, any_since-goes_on}
+use Rattle.page_laws.proofs.OneEntry.{any_since-goes_on, moves_none, or_nothing}
 use Rattle.page_laws.proofs.Leaving.{one_if}
 use Rattle.sync_laws.proofs.Beside.{start_stays}
-use Rattle.sync_left.specs.Load.{kernel_load, log_load}
-use Rattle.sync_left.specs.Left.{has_stepped, is_unsent, left_of_process, left_of_syncs, most_of, most_steps}
+use Rattle.sync_left.specs.Load.{kernel_load, log_births, log_load}
+use Rattle.sync_left.specs.Left.{is_unsent, left_of_process, left_of_syncs, may_sync, most_of, most_steps}
 use Rattle.sync_left.proofs.Pairs.{pairs-less}
 use Rattle.sync_left.proofs.OneStep.{most_in}
 use Rattle.sync_left.proofs.OneEntry.{left_then, most_kernel, one_less, sender_among, stays_most, stepped_stays, there, unsent_after, unsent_still}
@@ -53,8 +56,14 @@ module _ (system : System) (log : List Entry) (e : Entry) (stands : Stands syste
   no_loss : cluster_lost (what e) ≡ None
   no_loss = ap cluster_lost is
 
+  no_birth : (r : Pid) → is_birth_of r (what e) ≡ false
+  no_birth r = ap (is_birth_of r) is
+
+  stated_same : has_state system (log ++ e ∷ []) p ≡ has_state system log p
+  stated_same = has_state-snoc system log e p ∙ ap (λ b. has_state system log p || b) (ap (is_cut p) is) ∙ or_nothing (has_state system log p)
+
   start_same : (r : Pid) → start_of system (log ++ e ∷ []) r ≡ start_of system log r
-  start_same r = start_stays system log e r (ap (is_cut r) is) (ap (is_birth_of r) is)
+  start_same r = start_stays system log e r (ap (is_cut r) is) (no_birth r)
 
   -- the kernel is as it was
   kernel_same : plain_after system (log ++ e ∷ []) ≡ plain_after system log
@@ -84,16 +93,17 @@ module _ (system : System) (log : List Entry) (e : Entry) (stands : Stands syste
 
   pair_less : is_unsent system log p i at ≡ true → left_of_process system (log ++ e ∷ []) p + 1 ≤ left_then system log e stands p
   pair_less new =
-      let after = unsent_after system log e stands no_loss p in
-      let stepped : one_if (has_stepped system (log ++ e ∷ []) p) ≡ one_if (ltb (start_steps system log p) (done (there system log e stands).new p)) = ap one_if (stepped_stays system log e stands no_loss p (start_same p)) in
+      let after = unsent_after system log e stands no_loss p (no_birth p) in
+      let stepped : one_if (may_sync system (log ++ e ∷ []) p) ≡ one_if (ltb (start_steps system log p) (done (there system log e stands).new p) || not (has_state system log p)) =
+      λ k. one_if (stepped_stays system log e stands no_loss p (start_same p) k || not (stated_same k)) in
       let less = pairs-less (is_unsent system (log ++ e ∷ []) p) (is_unsent system log p) (unsent_still system log e stands no_loss p) (page_count system log p) (most_in (there system log e stands).new p) i at holds.within within new sent_now in
       omega (arith, after, stepped, less)
 
   -- what is left of the processes falls, and the steps that are left stay
   pub page_less : is_system system ≡ true → IsLegalBy Stands system log → is_new_page system log (what e) ≡ true
-      → sum_by (λ (q : Placed). left_of_process system (log ++ e ∷ []) q.pid) (unended_in (placement system log)) + log_load system (log ++ e ∷ []) + 1 ≤ left_of_syncs system log + log_load system log
+      → sum_by (λ (q : Placed). left_of_process system (log ++ e ∷ []) q.pid) (unended_in (placement system log)) + log_births system (log ++ e ∷ []) + log_load system (log ++ e ∷ []) + 1 ≤ left_of_syncs system log + log_load system log
   page_less valid legal new =
-      one_less system log e stands no_loss valid legal p (sender_among (placement system log) (e.post).by p right) (λ q. stays_most system log e stands no_loss q.pid (start_same q.pid)) at_sender
+      one_less system log e stands no_loss valid legal (ap is_birth is) p (sender_among (placement system log) (e.post).by p right) (λ q. stays_most system log e stands no_loss q.pid (no_birth q.pid) (start_same q.pid)) at_sender
     where
       right : is_by_home (placement system log) (e.post).by (Some p) ≡ true
       right = sym (ap (is_by_right (placement system log) (e.post).by) is) ∙ stands.by_right

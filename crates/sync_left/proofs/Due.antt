@@ -1,13 +1,10 @@
--- A process that is due has made steps since its start: who has read a letter since then has made a step, and each has a state in its record.
-use Rattle.std.proofs.Common.{◌≡◌, ℕ, ◌-◌, ◌≤◌, refl, sym, ◌∙◌, ap, subst, arith, List, [], ◌∷◌, length, Bool, true, false, not, ◌||◌, ltb, leb, eqb, Option, Some, None, true≢false}
-use Rattle.std.specs.Prelude.{map, option_and_then}
-use Rattle.std.specs.List.{list_any}
+-- A process that is due has made steps since its start, or has no state in its record: who has read a letter since then has made a step.
+use Rattle.std.proofs.Common.{◌≡◌, ℕ, ◌-◌, ◌≤◌, refl, sym, ◌∙◌, ap, subst, arith, List, [], length, Bool, true, false, not, ◌||◌, ltb, leb, Option, Some, None, true≢false}
+use Rattle.std.specs.Prelude.{option_and_then}
 use Rattle.std.specs.Option.{option_map_or}
 use Rattle.std.proofs.lemmas.Bool.Decides.{nat_tests}
 use Rattle.t32_base.specs.declared.process.Pid.{Pid}
 use Rattle.sys_text.specs.declared.system.System.{System}
-use Rattle.sys_text.specs.declared.system.Root.{Root}
-use Rattle.sys_text.specs.Boot.{roots_of}
 use Rattle.sys_text.specs.Valid.{is_system}
 use Rattle.sys_text.proofs.Bounds.{system_bounds}
 use Rattle.proc_state.specs.State.{ProcState}
@@ -16,34 +13,20 @@ use Rattle.sys_calls.proofs.Counting.{silently_counts}
 use Rattle.plain_kernel.specs.Kernel.{process_at}
 use Rattle.plain_kernel.proofs.Laws.{no_silent}
 use Rattle.bus_msg.specs.declared.entry.Entry.{Entry}
-use Rattle.bus_msg.specs.Places.{same_pid}
-use Rattle.bus_msg.specs.PlacedAfter.{what}
-use Rattle.cert_sched.specs.Schedule.{done, placement, placed_root, process_after}
-use Rattle.cert_sched.specs.Deeds.{is_cut, saved_letters, since}
-use Rattle.cert_sched.specs.Record.{has_state, is_root}
+use Rattle.cert_sched.specs.Schedule.{done, process_after}
+use Rattle.cert_sched.specs.Deeds.{saved_letters, since}
+use Rattle.cert_sched.specs.Record.{has_state}
 use Rattle.cert_sched.specs.Rolling.{refilled}
 use Rattle.cert_sched.specs.Steps.{numbers_read, reads_since, saved_of, silent_upto, start_steps, steps_since}
 use Rattle.cert_sched.specs.Kinds.{is_due}
 use Rattle.cert_sched.specs.Legal.{IsLegalBy, Stands}
 use Rattle.cert_sched.specs.Simulation.{IsUnended}
 use Rattle.cert_sched.proofs.OpenLaws.{unended_open}
-use Rattle.cert_sched.proofs.PidLaws.{placed_pids}
 use Rattle.cert_sched.proofs.ReadLaws.{reads_none}
 use Rattle.cert_sched.proofs.ReplayLaws.{Replays}
 use Rattle.cert_sched.proofs.RollLaws.{Rolls, all_roll, rolls_steps}
 use Rattle.cert_sched.proofs.StepLaws.{SilentFrom, silent_from}
-use Rattle.cert_sched.proofs.ThereLaws.{found_among, pids_of_boot}
-use Rattle.sync_left.proofs.OneEntry.{itself}
-
-among_roots : (p : Pid) (roots : List (Pid × Root)) → list_any (λ m. eqb m p.0) (placed_pids (map placed_root roots)) ≡ list_any (λ (r : Pid × Root). same_pid r.0 p) roots
-among_roots p [] = refl
-among_roots p (r ∷ roots) = ap (λ b. eqb (r.0).0 p.0 || b) (among_roots p roots)
-
--- no process is born yet, so who has not ended is a root, and has a state in its record
-stated : (system : System) (log : List Entry) (p : Pid) → IsLegalBy Stands system log → IsUnended system log p → has_state system log p ≡ true
-stated system log p legal unended =
-    let root : is_root system p ≡ true = sym (among_roots p (roots_of system)) ∙ sym (ap (list_any (λ m. eqb m p.0)) (pids_of_boot Stands itself system log legal)) ∙ found_among p (placement system log).placed unended in
-    ap (λ b. b || list_any (λ (e : Entry). is_cut p (what e)) log) root
+use Rattle.page_laws.proofs.BornSums.{itself}
 
 not_below : (m n : ℕ) → ltb m n ≡ false → n ≤ m
 not_below m n is = grind (arith, nat_tests)
@@ -93,18 +76,19 @@ module _ (system : System) (log : List Entry) (p : Pid) (s : ProcState) (valid :
     none_since : steps_since system log p s ≡ 0
     none_since = let most = not_below (start_steps system log p) (s.small).steps stays in omega (arith, most)
 
-    not_due : is_due system log p None s ≡ false
-    not_due =
+    not_due : has_state system log p ≡ true → is_due system log p None s ≡ false
+    not_due state =
         let bounds = system_bounds system valid in
         let reads : leb system.syncreads (reads_since system log p s) ≡ false = ap (leb system.syncreads) none_read ∙ none_of system.syncreads bounds.least_reads in
         let least : 1 ≤ system.syncsteps = omega (arith, bounds.least_steps) in
         let steps : leb system.syncsteps (steps_since system log p s) ≡ false = ap (leb system.syncsteps) none_since ∙ none_of system.syncsteps least in
-        let state = stated system log p legal unended in
         λ i. reads i || steps i || false || not (state i)
 
-  pub due_stepped : is_due system log p None s ≡ true → ltb (start_steps system log p) (s.small).steps ≡ true
-  due_stepped due = by_test (ltb (start_steps system log p) (s.small).steps) refl
+  -- so one that is due has made steps, or has no state
+  pub due_stepped : is_due system log p None s ≡ true → (ltb (start_steps system log p) (s.small).steps || not (has_state system log p)) ≡ true
+  due_stepped due = by_tests (ltb (start_steps system log p) (s.small).steps) (has_state system log p) refl refl
     where
-      by_test : (b : Bool) → ltb (start_steps system log p) (s.small).steps ≡ b → b ≡ true
-      by_test true is = refl
-      by_test false is = absurd (true≢false (sym due ∙ not_due is))
+      by_tests : (b c : Bool) → ltb (start_steps system log p) (s.small).steps ≡ b → has_state system log p ≡ c → (b || not c) ≡ true
+      by_tests true c is state = refl
+      by_tests false false is state = refl
+      by_tests false true is state = absurd (true≢false (sym due ∙ not_due is state))

@@ -21,18 +21,26 @@ use Rattle.cert_sched.specs.Rules.{is_new_page}
 use Rattle.cert_sched.specs.Kinds.{KindHolds}
 use Rattle.cert_sched.specs.Legal.{IsLegalBy, Stands}
 use Rattle.cert_sched.specs.Built.{tells_or_closes}
+use Rattle.cert_sched.proofs.BirthKind.{is_birth}
 use Rattle.cert_sched.proofs.LogLaws.{placement-snoc}
 use Rattle.cert_sched.proofs.StepLaws.{is_sent, no_signal_taken}
 use Rattle.page_laws.specs.Left.{left_of_pages}
+use Rattle.page_laws.proofs.BornLeft.{left_birth}
 use Rattle.page_laws.proofs.OneEntry.{after_other}
 use Rattle.page_laws.proofs.Leaving.{exit_sum, left_fetch, left_most, left_page_is, left_still}
 use Rattle.cert_sched.specs.Moved.{waiting_fetches}
-use Rattle.sync_left.specs.Load.{log_load}
+use Rattle.sync_left.specs.Load.{log_births, log_load}
 use Rattle.sync_left.specs.Left.{is_from_cluster, left_of_process, left_of_syncs, left_to_send}
 use Rattle.sync_left.proofs.StepsLeft.{sent_leaves}
+use Rattle.sync_left.proofs.Born.{birth_load, birth_syncs}
 use Rattle.sync_left.proofs.OneEntry.{all_most, load_most}
 use Rattle.sync_left.proofs.Changed.{page_less}
 use Rattle.sync_left.proofs.Synced.{sync_less, sync_pages, sync_places}
+
+-- what tells of steps or closes the log is no birth
+tells_no_birth : (w : What) → tells_or_closes w ≡ true → is_birth w ≡ false
+tells_no_birth (Birth parent at child end) tells = absurd (true≢false (sym tells))
+tells_no_birth w tells = refl
 
 -- ---- the parts: steps, pages of moved processes, and synchronisations with their pages
 
@@ -49,9 +57,9 @@ no_more : (l m p q s t : ℕ) → m ≤ l → q ≤ p → t + m ≤ s + l → 2 
 no_more l m p q s t steps pages syncs = omega (arith, steps, pages, syncs)
 
 module _ (system : System) (log : List Entry) (e : Entry) (valid : is_system system ≡ true) (legal : IsLegalBy Stands system log) (stands : Stands system log e) where
-  -- what is left after the entry of the processes that had not ended before it
+  -- what is left after the entry of the processes that had not ended before it, and of births
   of_those : ℕ
-  of_those = sum_by (λ (q : Placed). left_of_process system (log ++ e ∷ []) q.pid) (unended_in (placement system log))
+  of_those = sum_by (λ (q : Placed). left_of_process system (log ++ e ∷ []) q.pid) (unended_in (placement system log)) + log_births system (log ++ e ∷ [])
 
   Falls : Type 0
   Falls = left_to_send system (log ++ e ∷ []) < left_to_send system log
@@ -60,13 +68,13 @@ module _ (system : System) (log : List Entry) (e : Entry) (valid : is_system sys
   unfolding Falls
   by_steps steps pages syncs = fewer_steps (log_load system log) (log_load system (log ++ e ∷ [])) (left_of_pages system log) (left_of_pages system (log ++ e ∷ [])) (left_of_syncs system log) (left_of_syncs system (log ++ e ∷ [])) steps pages syncs
 
-  by_pages : left_of_pages system (log ++ e ∷ []) < left_of_pages system log → left_of_syncs system (log ++ e ∷ []) + log_load system (log ++ e ∷ []) ≤ left_of_syncs system log + log_load system log → Falls
+  by_pages : is_birth (what e) ≡ false → left_of_pages system (log ++ e ∷ []) < left_of_pages system log → left_of_syncs system (log ++ e ∷ []) + log_load system (log ++ e ∷ []) ≤ left_of_syncs system log + log_load system log → Falls
   unfolding Falls
-  by_pages pages syncs = fewer_pages (log_load system log) (log_load system (log ++ e ∷ [])) (left_of_pages system log) (left_of_pages system (log ++ e ∷ [])) (left_of_syncs system log) (left_of_syncs system (log ++ e ∷ [])) (load_most system log e stands) pages syncs
+  by_pages no_fork pages syncs = fewer_pages (log_load system log) (log_load system (log ++ e ∷ [])) (left_of_pages system log) (left_of_pages system (log ++ e ∷ [])) (left_of_syncs system log) (left_of_syncs system (log ++ e ∷ [])) (load_most system log e stands no_fork) pages syncs
 
-  by_syncs : left_of_pages system (log ++ e ∷ []) ≤ left_of_pages system log → left_of_syncs system (log ++ e ∷ []) + log_load system (log ++ e ∷ []) + 1 ≤ left_of_syncs system log + log_load system log → Falls
+  by_syncs : is_birth (what e) ≡ false → left_of_pages system (log ++ e ∷ []) ≤ left_of_pages system log → left_of_syncs system (log ++ e ∷ []) + log_load system (log ++ e ∷ []) + 1 ≤ left_of_syncs system log + log_load system log → Falls
   unfolding Falls
-  by_syncs pages syncs = fewer_syncs (log_load system log) (log_load system (log ++ e ∷ [])) (left_of_pages system log) (left_of_pages system (log ++ e ∷ [])) (left_of_syncs system log) (left_of_syncs system (log ++ e ∷ [])) (load_most system log e stands) pages syncs
+  by_syncs no_fork pages syncs = fewer_syncs (log_load system log) (log_load system (log ++ e ∷ [])) (left_of_pages system log) (left_of_pages system (log ++ e ∷ [])) (left_of_syncs system log) (left_of_syncs system (log ++ e ∷ [])) (load_most system log e stands no_fork) pages syncs
 
   -- ---- the processes that have not ended
 
@@ -74,28 +82,29 @@ module _ (system : System) (log : List Entry) (e : Entry) (valid : is_system sys
   same_places : (w : What) → what e ≡ w → placed_after (placement system log) w ≡ placement system log → left_of_syncs system (log ++ e ∷ []) ≡ of_those
   unfolding of_those
   same_places w is same =
-      ap (λ (places : Places). sum_by (λ (q : Placed). left_of_process system (log ++ e ∷ []) q.pid) (unended_in places)) (placement-snoc system log e ∙ ap (placed_after (placement system log)) is ∙ same)
+      ap (λ (places : Places). sum_by (λ (q : Placed). left_of_process system (log ++ e ∷ []) q.pid) (unended_in places) + log_births system (log ++ e ∷ [])) (placement-snoc system log e ∙ ap (placed_after (placement system log)) is ∙ same)
 
   exit_places : (p : Pid) (at : ℕ) (end : End) → what e ≡ Exit p at end → left_of_syncs system (log ++ e ∷ []) ≤ of_those
   unfolding of_those
   exit_places p at end is =
-      subst (λ (places : Places). sum_by (λ (q : Placed). left_of_process system (log ++ e ∷ []) q.pid) (unended_in places) ≤ of_those) (sym (placement-snoc system log e ∙ ap (placed_after (placement system log)) is))
-      (exit_sum (left_of_process system (log ++ e ∷ [])) p (placement system log).placed)
+      let fewer = exit_sum (left_of_process system (log ++ e ∷ [])) p (placement system log).placed in
+      subst (λ (places : Places). sum_by (λ (q : Placed). left_of_process system (log ++ e ∷ []) q.pid) (unended_in places) + log_births system (log ++ e ∷ []) ≤ of_those) (sym (placement-snoc system log e ∙ ap (placed_after (placement system log)) is))
+      (omega (arith, fewer))
 
-  -- an entry that starts no process again and moves none
-  syncs_most : left_of_syncs system (log ++ e ∷ []) ≤ of_those → cluster_lost (what e) ≡ None → ((r : Pid) → is_cut r (what e) ≡ false) → ((r : Pid) → is_birth_of r (what e) ≡ false)
+  -- an entry that starts no process again, bears none and moves none
+  syncs_most : left_of_syncs system (log ++ e ∷ []) ≤ of_those → is_birth (what e) ≡ false → cluster_lost (what e) ≡ None → ((r : Pid) → is_cut r (what e) ≡ false) → ((r : Pid) → is_birth_of r (what e) ≡ false)
       → left_of_syncs system (log ++ e ∷ []) + log_load system (log ++ e ∷ []) ≤ left_of_syncs system log + log_load system log
   unfolding of_those
-  syncs_most most no_loss no_cut no_birth = let all = all_most system log e stands no_loss valid legal no_cut no_birth in omega (arith, most, all)
+  syncs_most most no_fork no_loss no_cut no_birth = let all = all_most system log e stands no_loss valid legal no_fork no_cut no_birth in omega (arith, most, all)
 
-  still_most : (w : What) → what e ≡ w → placed_after (placement system log) w ≡ placement system log → cluster_lost w ≡ None → ((r : Pid) → is_cut r w ≡ false) → ((r : Pid) → is_birth_of r w ≡ false)
+  still_most : (w : What) → what e ≡ w → placed_after (placement system log) w ≡ placement system log → is_birth w ≡ false → cluster_lost w ≡ None → ((r : Pid) → is_cut r w ≡ false) → ((r : Pid) → is_birth_of r w ≡ false)
       → left_of_syncs system (log ++ e ∷ []) + log_load system (log ++ e ∷ []) ≤ left_of_syncs system log + log_load system log
-  still_most w is same no_loss no_cut no_birth =
+  still_most w is same no_fork no_loss no_cut no_birth =
       let places = same_places w is same in
-      syncs_most (omega (arith, places)) (ap cluster_lost is ∙ no_loss) (λ r. ap (is_cut r) is ∙ no_cut r) (λ r. ap (is_birth_of r) is ∙ no_birth r)
+      syncs_most (omega (arith, places)) (ap is_birth is ∙ no_fork) (ap cluster_lost is ∙ no_loss) (λ r. ap (is_cut r) is ∙ no_cut r) (λ r. ap (is_birth_of r) is ∙ no_birth r)
 
   exit_most : (p : Pid) (at : ℕ) (end : End) → what e ≡ Exit p at end → left_of_syncs system (log ++ e ∷ []) + log_load system (log ++ e ∷ []) ≤ left_of_syncs system log + log_load system log
-  exit_most p at end is = syncs_most (exit_places p at end is) (ap cluster_lost is) (λ r. ap (is_cut r) is) (λ r. ap (is_birth_of r) is)
+  exit_most p at end is = syncs_most (exit_places p at end is) (ap is_birth is) (ap cluster_lost is) (λ r. ap (is_cut r) is) (λ r. ap (is_birth_of r) is)
 
   -- ---- by the kind of the entry
 
@@ -103,7 +112,7 @@ module _ (system : System) (log : List Entry) (e : Entry) (valid : is_system sys
   letter_falls at letter is =
       let kind : KindHolds system log e (Mail at letter) = subst (KindHolds system log e) is stands.kind in
       let s = is_sent system log letter.from at (Sent letter) kind in
-      by_steps (sent_leaves system log e letter.from at (Sent letter) s.after s.is (refl, is)) (left_most system log e stands (ap tells_or_closes is)) (still_most (Mail at letter) is refl refl (λ r. refl) (λ r. refl))
+      by_steps (sent_leaves system log e letter.from at (Sent letter) s.after s.is (refl, is)) (left_most system log e stands (ap tells_or_closes is)) (still_most (Mail at letter) is refl refl refl (λ r. refl) (λ r. refl))
 
   exit_falls : (p : Pid) (at : ℕ) (end : End) → what e ≡ Exit p at end → Falls
   exit_falls p at end is =
@@ -116,23 +125,28 @@ module _ (system : System) (log : List Entry) (e : Entry) (valid : is_system sys
   page_falls p at i bytes is new =
       let places = same_places (Page p at i bytes) is refl in
       let less = page_less system log e stands p at i bytes is valid legal new in
-      by_syncs (left_still system log e stands (Page p at i bytes) is refl refl (after_other (Page p at i bytes) refl (placement system log) (waiting_fetches system log))) (omega (arith, places, less))
+      by_syncs (ap is_birth is) (left_still system log e stands (Page p at i bytes) is refl (λ r. refl) refl (after_other (Page p at i bytes) refl (placement system log) (waiting_fetches system log))) (omega (arith, places, less))
 
   sync_falls : (p : Pid) (small : SmallState) (read : List ℕ) (took : Option ℕ) → what e ≡ Sync p small read took → Falls
   sync_falls p small read (Some g) is = absurd (no_signal_taken system log e p small read g is stands.applies)
   sync_falls p small read None is =
       let places = sync_places system log e stands p small read is (left_of_process system (log ++ e ∷ [])) in
       let less = sync_less system log e stands p small read is valid legal in
-      by_syncs (sync_pages system log e stands p small read is) (omega (arith, places, less))
+      by_syncs (ap is_birth is) (sync_pages system log e stands p small read is) (omega (arith, places, less))
+
+  birth_falls : (parent : Pid) (at : ℕ) (child : Pid) (end : ℕ) → what e ≡ Birth parent at child end → Falls
+  birth_falls parent at child end is =
+      let syncs = birth_syncs system log e parent at child end valid legal stands is in
+      by_steps (birth_load system log e parent at child end valid legal stands is) (left_birth system log e parent at child end valid legal stands is) (omega (arith, syncs))
 
   falls_by : (w : What) → what e ≡ w → is_new_page system log (what e) ≡ true → is_from_cluster w ≡ true → Falls
   falls_by (Mail at letter) is new from = letter_falls at letter is
-  falls_by (Birth parent at child end) is new from = absurd (true≢false (sym from))
+  falls_by (Birth parent at child end) is new from = birth_falls parent at child end is
   falls_by (Exit p at end) is new from = exit_falls p at end is
   falls_by (Page p at index bytes) is new from = page_falls p at index bytes is new
   falls_by (Sync p small read took) is new from = sync_falls p small read took is
-  falls_by (Fetch p index) is new from = by_pages (left_fetch system log e p index stands is) (still_most (Fetch p index) is refl refl (λ r. refl) (λ r. refl))
-  falls_by (PageIs p index bytes) is new from = by_pages (left_page_is system log e p index bytes stands is) (still_most (PageIs p index bytes) is refl refl (λ r. refl) (λ r. refl))
+  falls_by (Fetch p index) is new from = by_pages (ap is_birth is) (left_fetch system log e p index stands is) (still_most (Fetch p index) is refl refl refl (λ r. refl) (λ r. refl))
+  falls_by (PageIs p index bytes) is new from = by_pages (ap is_birth is) (left_page_is system log e p index bytes stands is) (still_most (PageIs p index bytes) is refl refl refl (λ r. refl) (λ r. refl))
   falls_by (Crash k cause) is new from = absurd (true≢false (sym from))
   falls_by (Return k) is new from = absurd (true≢false (sym from))
   falls_by (Rebackup to fresh recs) is new from = absurd (true≢false (sym from))
@@ -140,7 +154,7 @@ module _ (system : System) (log : List Entry) (e : Entry) (valid : is_system sys
   falls_by Stop is new from = absurd (true≢false (sym from))
 
   syncs_by : (w : What) → what e ≡ w → tells_or_closes w ≡ true → left_of_syncs system (log ++ e ∷ []) + log_load system (log ++ e ∷ []) ≤ left_of_syncs system log + log_load system log
-  syncs_by (Mail at letter) is tells = still_most (Mail at letter) is refl refl (λ r. refl) (λ r. refl)
+  syncs_by (Mail at letter) is tells = still_most (Mail at letter) is refl refl refl (λ r. refl) (λ r. refl)
   syncs_by (Birth parent at child end) is tells = absurd (true≢false (sym tells))
   syncs_by (Exit p at end) is tells = exit_most p at end is
   syncs_by (Page p at index bytes) is tells = absurd (true≢false (sym tells))
@@ -150,8 +164,8 @@ module _ (system : System) (log : List Entry) (e : Entry) (valid : is_system sys
   syncs_by (Crash k cause) is tells = absurd (true≢false (sym tells))
   syncs_by (Return k) is tells = absurd (true≢false (sym tells))
   syncs_by (Rebackup to fresh recs) is tells = absurd (true≢false (sym tells))
-  syncs_by (Done rests) is tells = still_most (Done rests) is refl refl (λ r. refl) (λ r. refl)
-  syncs_by Stop is tells = still_most Stop is refl refl (λ r. refl) (λ r. refl)
+  syncs_by (Done rests) is tells = still_most (Done rests) is refl refl refl (λ r. refl) (λ r. refl)
+  syncs_by Stop is tells = still_most Stop is refl refl refl (λ r. refl) (λ r. refl)
 
 pub to_send_falls : (system : System) (log : List Entry) (e : Entry) → is_system system ≡ true → IsLegalBy Stands system log → Stands system log e → is_new_page system log (what e) ≡ true → is_from_cluster (what e) ≡ true → left_to_send system (log ++ e ∷ []) < left_to_send system log
 unfolding Falls
@@ -160,4 +174,4 @@ to_send_falls system log e valid legal stands new from = falls_by system log e v
 pub to_send_closes : (system : System) (log : List Entry) (e : Entry) → is_system system ≡ true → IsLegalBy Stands system log → Stands system log e → tells_or_closes (what e) ≡ true → left_to_send system (log ++ e ∷ []) ≤ left_to_send system log
 to_send_closes system log e valid legal stands tells =
     no_more (log_load system log) (log_load system (log ++ e ∷ [])) (left_of_pages system log) (left_of_pages system (log ++ e ∷ [])) (left_of_syncs system log) (left_of_syncs system (log ++ e ∷ []))
-    (load_most system log e stands) (left_most system log e stands tells) (syncs_by system log e valid legal stands (what e) refl tells)
+    (load_most system log e stands (tells_no_birth (what e) tells)) (left_most system log e stands tells) (syncs_by system log e valid legal stands (what e) refl tells)

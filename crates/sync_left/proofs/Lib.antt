@@ -1,8 +1,11 @@
+pub mod KernelSums
+pub mod Forked
 pub mod StepsLeft
 pub mod Pairs
 pub mod Rising
 pub mod OneStep
 pub mod OneEntry
+pub mod Born
 pub mod Changed
 pub mod Due
 pub mod Synced

@@ -1,31 +1,39 @@
--- One step of a kernel: what is left of each process, and of its steps, in sum does not rise.
-use Rattle.std.proofs.Common.{◌≡◌, ℕ, ◌+◌, ◌≤◌, refl, sym, ◌∙◌, ap, subst, arith, List, Bool, true, false, ltb, Option, Some, None, eqb-true, eq-eqb, true≢false}
+-- One step of a kernel, and one fork: what is left of each process, of the steps and of the births, in sum, does not rise; a fork leaves so much less that it pays for the child.
+use Rattle.std.proofs.Common.{◌≡◌, ℕ, ◌+◌, ◌≤◌, refl, sym, ◌∙◌, ap, subst, arith, List, Bool, true, false, ◌||◌, eqb, ltb, Option, Some, None, eqb-true, eq-eqb, true≢false}
 use Rattle.std.specs.Prelude.{◌≢◌, option_and_then, option_map, sum_by}
+use Rattle.std.specs.List.{list_any}
 use Rattle.std.specs.Option.{option_map_or}
 use Rattle.t32_base.specs.declared.process.Pid.{Pid}
 use Rattle.t32_base.specs.Small.{SmallState}
 use Rattle.proc_state.specs.State.{ProcState}
 use Rattle.sys_calls.specs.Small.{weight}
+use Rattle.sys_calls.specs.declared.steps.Emission.{Emission}
 use Rattle.sys_calls.specs.Calls.{Next, Silent, Blocked, Forks, Emits, Over}
+use Rattle.sys_calls.specs.Fork.{CanFork, fork_child, fork_parent}
 use Rattle.sys_calls.specs.Next.{next_step}
 use Rattle.sys_calls.proofs.Counting.{silent_counts, emits_counts}
+use Rattle.sys_calls.proofs.ForkLaws.{forks_can}
 use Rattle.sys_calls.proofs.Weighing.{Leaves, next_leaves, emits_leaves}
 use Rattle.plain_kernel.specs.Kernel.{Kernel, process_at, with_process, emitted}
-use Rattle.plain_kernel.specs.Apply.{after_step, one_step}
+use Rattle.plain_kernel.specs.Apply.{after_step, fork_step, one_step}
 use Rattle.plain_kernel.proofs.Entries.{some_same}
+use Rattle.plain_kernel.proofs.Forking.{ForkMade, fork-other, fork-parent, fork-steps_other}
 use Rattle.plain_kernel.proofs.Laws.{process_at-same}
 use Rattle.plain_kernel.proofs.Others.{small_at, small_at-emitted, one_step-other, one_step-small}
-use Rattle.plain_kernel.proofs.Pids.{HasPids, one_step-pids}
+use Rattle.plain_kernel.proofs.Pids.{IsRising}
 use Rattle.bus_msg.specs.declared.placed.Placed.{Placed}
 use Rattle.bus_msg.specs.Places.{same_pid}
 use Rattle.cert_sched.specs.Schedule.{done}
 use Rattle.cert_sched.proofs.MadeLaws.{apart_from}
 use Rattle.cert_sched.proofs.RisingLaws.{NoTwo}
 use Rattle.cert_sched.proofs.PidLaws.{placed_pids}
+use Rattle.page_laws.proofs.BornSums.{others_most}
 use Rattle.page_laws.proofs.Leaving.{one_if}
-use Rattle.sync_left.specs.Load.{kernel_load}
+use Rattle.sync_left.specs.Load.{kernel_births, kernel_load, left_of_child, left_of_children}
 use Rattle.sync_left.specs.Left.{most_of, pairs_that}
-use Rattle.sync_left.proofs.StepsLeft.{one_step_leaves}
+use Rattle.sync_left.proofs.Forked.{emits_births, fork_pays, parent_less, silent_births}
+use Rattle.sync_left.proofs.KernelSums.{fork_sums, step_sums}
+use Rattle.sync_left.proofs.StepsLeft.{fork_step_leaves, one_step_leaves, rising_still}
 use Rattle.sync_left.proofs.Pairs.{pairs-le}
 use Rattle.sync_left.proofs.Rising.{one_rises}
 
@@ -44,26 +52,40 @@ most_small (Some s) = refl
 most_same : (k j : Kernel) (q : Pid) → small_at j q ≡ small_at k q → most_in j q ≡ most_in k q
 most_same k j q same = most_small (process_at j q) ∙ ap (λ o. option_map_or small_most o 0) same ∙ sym (most_small (process_at k q))
 
--- a step is one more, and leaves one less at least
+-- a silent step is one more, and leaves one less at least; and so is one that sends something
+pub silent_most : (s t : ProcState) → next_step s ≡ Silent t → most_of t ≤ most_of s
+silent_most s t is =
+    let less : weight t.small + 1 ≤ weight s.small = subst (Leaves s) is (next_leaves s) in
+    let count = silent_counts s t is in
+    let steps = count.steps in
+    omega (arith, less, steps)
+
+pub emits_most : (s t : ProcState) (e : Emission) → next_step s ≡ Emits e t → most_of t ≤ most_of s
+emits_most s t e is =
+    let less = emits_leaves s t e is in
+    let count = emits_counts s t e is in
+    let steps = count.steps in
+    omega (arith, less, steps)
+
+-- a fork is one more to the parent, and leaves it one less at least
+pub fork_most : (s : ProcState) (child : Pid) → CanFork s → most_of (fork_parent s child) ≤ most_of s
+fork_most s child can = let less = parent_less s child can in omega (arith, less)
+
 most-here : (p : Pid) (k j : Kernel) → one_step p k ≡ Some j → most_in j p ≤ most_in k p
 unfolding one_step
 most-here p k j made = by_process (process_at k p) refl made
   where
-    put_most : (s t : ProcState) → process_at k p ≡ Some s → (t.small).steps ≡ (s.small).steps + 1 → weight t.small + 1 ≤ weight s.small → most_in (with_process k p t) p ≤ most_in k p
-    put_most s t there steps less =
+    put_most : (s t : ProcState) → process_at k p ≡ Some s → most_of t ≤ most_of s → most_in (with_process k p t) p ≤ most_in k p
+    put_most s t there less =
         let now : most_in (with_process k p t) p ≡ most_of t = ap (λ o. option_map_or most_of o 0) (process_at-same k p t) in
         let was : most_in k p ≡ most_of s = ap (λ o. option_map_or most_of o 0) there in
-        omega (arith, now, was, steps, less)
+        omega (arith, now, was, less)
 
     by_next : (s : ProcState) (next : Next) → process_at k p ≡ Some s → next_step s ≡ next → after_step k p next ≡ Some j → most_in j p ≤ most_in k p
-    by_next s (Silent t) there is e =
-        let less : weight t.small + 1 ≤ weight s.small = subst (Leaves s) is (next_leaves s) in
-        let count = silent_counts s t is in
-        subst (λ (i : Kernel). most_in i p ≤ most_in k p) (some_same (with_process k p t) j e) (put_most s t there count.steps less)
+    by_next s (Silent t) there is e = subst (λ (i : Kernel). most_in i p ≤ most_in k p) (some_same (with_process k p t) j e) (put_most s t there (silent_most s t is))
     by_next s (Emits what t) there is e =
-        let count = emits_counts s t what is in
         let same = most_same (with_process k p t) (emitted (with_process k p t) what) p (small_at-emitted (with_process k p t) what p) in
-        let most = put_most s t there count.steps (emits_leaves s t what is) in
+        let most = put_most s t there (emits_most s t what is) in
         subst (λ (i : Kernel). most_in i p ≤ most_in k p) (some_same (emitted (with_process k p t) what) j e) (omega (arith, same, most))
     by_next s Blocked there is e = cc
     by_next s Forks there is e = cc
@@ -92,34 +114,85 @@ pub at_most_one : (b : Bool) → one_if b ≤ 1
 at_most_one true = omega arith
 at_most_one false = omega arith
 
+-- a step leaves no more births
+pub births-most : (p : Pid) (k j : Kernel) → IsRising k → one_step p k ≡ Some j → kernel_births j ≤ kernel_births k
+births-most p k j rising made =
+    let most : kernel_births j + 0 ≤ kernel_births k = step_sums (λ (s : ProcState). left_of_children s.small) (λ s letter. refl) 0 silent_births emits_births p k j rising made in
+    omega (arith, most)
+
 -- ---- what is left of a process
 
-module _ (start : Pid → ℕ) (unsent : Pid → ℕ → ℕ → Bool) (pages : Pid → ℕ) where
-  -- with this start, these pages that were not sent, and so many pages, in this kernel
+module _ (start : Pid → ℕ) (uncut : Pid → Bool) (unsent : Pid → ℕ → ℕ → Bool) (pages : Pid → ℕ) where
+  -- with this start, never cut or cut, with these pages that were not sent, and so many pages, in this kernel
   abbrev pub left_in : Kernel → Pid → ℕ
-  left_in k q = one_if (ltb (start q) (done k q)) + pairs_that (unsent q) (pages q) (most_in k q)
+  left_in k q = one_if (ltb (start q) (done k q) || uncut q) + pairs_that (unsent q) (pages q) (most_in k q)
 
-  pairs-most : (p : Pid) (k j : Kernel) (q : Pid) → one_step p k ≡ Some j → pairs_that (unsent q) (pages q) (most_in j q) ≤ pairs_that (unsent q) (pages q) (most_in k q)
-  pairs-most p k j q made = pairs-le (unsent q) (unsent q) (λ i n is. is) (pages q) (most_in j q) (most_in k q) (most-each p k j q made)
+  pairs-most : (k j : Kernel) (q : Pid) → most_in j q ≤ most_in k q → pairs_that (unsent q) (pages q) (most_in j q) ≤ pairs_that (unsent q) (pages q) (most_in k q)
+  pairs-most k j q most = pairs-le (unsent q) (unsent q) (λ i n is. is) (pages q) (most_in j q) (most_in k q) most
 
-  left-other : (p : Pid) (k j : Kernel) (q : Pid) → one_step p k ≡ Some j → q.0 ≢ p.0 → left_in j q ≤ left_in k q
-  left-other p k j q made apart =
-      let same : one_if (ltb (start q) (done j q)) ≡ one_if (ltb (start q) (done k q)) = ap (λ n. one_if (ltb (start q) n)) (one_step-other p k j q made apart) in
-      omega (arith, same, pairs-most p k j q made)
+  left-same : (k j : Kernel) (q : Pid) → done j q ≡ done k q → most_in j q ≤ most_in k q → left_in j q ≤ left_in k q
+  left-same k j q count most =
+      let same : one_if (ltb (start q) (done j q) || uncut q) ≡ one_if (ltb (start q) (done k q) || uncut q) = ap (λ n. one_if (ltb (start q) n || uncut q)) count in
+      omega (arith, same, pairs-most k j q most)
 
-  left-each : (p : Pid) (k j : Kernel) (q : Pid) → one_step p k ≡ Some j → left_in j q ≤ left_in k q + 1
-  left-each p k j q made =
-      omega (arith, at_most_one (ltb (start q) (done j q)), pairs-most p k j q made)
+  left-more : (k j : Kernel) (q : Pid) → most_in j q ≤ most_in k q → left_in j q ≤ left_in k q + 1
+  left-more k j q most = omega (arith, at_most_one (ltb (start q) (done j q) || uncut q), pairs-most k j q most)
 
-  -- of these processes and of the steps of the kernel, no more than so much is left
-  pub record IsBounded (pids : List Pid) (qs : List Placed) (most : ℕ) (k : Kernel) : Type 0 where
-    pub has : HasPids pids k
-    pub left : sum_by (λ (q : Placed). left_in k q.pid) qs + kernel_load k ≤ most
+  -- of these processes, of the steps and of the births of the kernel, no more than so much is left
+  pub record IsBounded (qs : List Placed) (most : ℕ) (k : Kernel) : Type 0 where
+    pub rising : IsRising k
+    pub left : sum_by (λ (q : Placed). left_in k q.pid) qs + kernel_births k + kernel_load k ≤ most
 
-  pub one_step-bounded : (pids : List Pid) (qs : List Placed) (most : ℕ) → NoTwo (placed_pids qs) → (p : Pid) (k j : Kernel) → IsBounded pids qs most k → one_step p k ≡ Some j → IsBounded pids qs most j
-  one_step-bounded pids qs most apart p k j bounded made =
+  pub one_step-bounded : (qs : List Placed) (most : ℕ) → NoTwo (placed_pids qs) → (p : Pid) (k j : Kernel) → IsBounded qs most k → one_step p k ≡ Some j → IsBounded qs most j
+  one_step-bounded qs most apart p k j bounded made =
       let rises =
-      one_rises (λ (q : Placed). left_in k q.pid) (λ (q : Placed). left_in j q.pid) p (λ q other. left-other p k j q.pid made (not_same q.pid p other)) (λ q. left-each p k j q.pid made) qs apart in
-      let less = one_step_leaves pids p k j bounded.has made in
+      one_rises (λ (q : Placed). left_in k q.pid) (λ (q : Placed). left_in j q.pid) p 1 (λ q other. left-same k j q.pid (one_step-other p k j q.pid made (not_same q.pid p other)) (most-each p k j q.pid made))
+      (λ q is. left-more k j q.pid (most-each p k j q.pid made)) qs apart in
+      let less = one_step_leaves p k j bounded.rising made in
+      let births = births-most p k j bounded.rising made in
       let before = bounded.left in
-      record { has = one_step-pids pids p k j bounded.has made; left = omega (arith, rises, less, before) }
+      record { rising = rising_still p k j bounded.rising made; left = omega (arith, rises, less, births, before) }
+
+  -- ---- a fork
+
+  module _ (p c : Pid) (k j : Kernel) (f : ForkMade p c k j) where
+    fork_most-parent : most_in j p ≤ most_in k p
+    fork_most-parent =
+        let now : most_in j p ≡ most_of (fork_parent f.was c) = ap (λ o. option_map_or most_of o 0) (fork-parent p c k j f) in
+        let was : most_in k p ≡ most_of f.was = ap (λ o. option_map_or most_of o 0) f.there in
+        let most = fork_most f.was c (forks_can f.was f.forks) in
+        omega (arith, now, was, most)
+
+    fork_most-other : (q : Pid) → same_pid q p ≡ false → same_pid q c ≡ false → most_in j q ≤ most_in k q
+    fork_most-other q other far = let same : most_in j q ≡ most_in k q = ap (λ o. option_map_or most_of o 0) (fork-other p c k j f q (not_same q p other) (not_same q c far)) in omega (arith, same)
+
+    fork_left : (q : Pid) → same_pid q c ≡ false → left_in j q ≤ left_in k q + one_if (same_pid q p)
+    fork_left q far = by_pid (same_pid q p) refl
+      where
+        by_pid : (b : Bool) → same_pid q p ≡ b → left_in j q ≤ left_in k q + one_if b
+        by_pid true is =
+            let here : p ≡ q = λ i. record { 0 = sym (eqb-true q.0 p.0 is) i } in
+            subst (λ r. left_in j r ≤ left_in k r + 1) here (left-more k j p fork_most-parent)
+        by_pid false is =
+            let same = left-same k j q (fork-steps_other p c k j f q (not_same q p is) (not_same q c far)) (fork_most-other q is far) in
+            omega (arith, same)
+
+    -- of these processes, none of which is the child, one more at most
+    forked_sum : (qs : List Placed) → NoTwo (placed_pids qs) → list_any (λ m. eqb m c.0) (placed_pids qs) ≡ false → sum_by (λ (q : Placed). left_in j q.pid) qs ≤ sum_by (λ (q : Placed). left_in k q.pid) qs + 1
+    forked_sum qs apart new =
+        let more : Placed → ℕ = λ q. left_in k q.pid + one_if (same_pid q.pid p) in
+        let most = others_most (λ (q : Placed). left_in j q.pid) more c (λ q far. fork_left q.pid far) qs new in
+        let rises = one_rises (λ (q : Placed). left_in k q.pid) more p 1 (λ q other. let none : one_if (same_pid q.pid p) ≡ 0 = ap one_if other in omega (arith, none)) (λ q is. omega (arith, at_most_one (same_pid q.pid p))) qs apart in
+        omega (arith, most, rises)
+
+    -- less is left by what the child may send, and by one more
+    pub fork-bounded : (qs : List Placed) (most : ℕ) → NoTwo (placed_pids qs) → list_any (λ m. eqb m c.0) (placed_pids qs) ≡ false → IsBounded qs most k → fork_step p c k ≡ Some j
+        → sum_by (λ (q : Placed). left_in j q.pid) qs + kernel_births j + kernel_load j + left_of_child (f.was).small + 1 ≤ most
+    fork-bounded qs most apart new bounded made =
+        let rises = forked_sum qs apart new in
+        let less = fork_step_leaves p c k j bounded.rising made in
+        let sums : kernel_births j + left_of_children (f.was).small ≡ kernel_births k + left_of_children (fork_parent f.was c).small + left_of_children (fork_child f.was c).small =
+        fork_sums (λ (s : ProcState). left_of_children s.small) p c k j bounded.rising f in
+        let pays = fork_pays f.was c (forks_can f.was f.forks) in
+        let before = bounded.left in
+        omega (arith, rises, less, sums, pays, before)

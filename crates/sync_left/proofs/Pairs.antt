@@ -1,8 +1,9 @@
--- Pairs of numbers that pass a test: fewer where fewer pass, and where the numbers end earlier.
-use Rattle.std.proofs.Common.{◌≡◌, ℕ, zero, suc, ◌+◌, ◌<◌, ◌≤◌, refl, sym, ◌∙◌, ap, subst, arith, Bool, true, false, eqb, eqb-true}
+-- Pairs of numbers that pass a test: fewer where fewer pass, and where the numbers end earlier; never more than there are.
+use Rattle.std.proofs.Common.{◌≡◌, ℕ, zero, suc, ◌+◌, ◌*◌, ◌<◌, ◌≤◌, refl, sym, ◌∙◌, ap, subst, arith, Bool, true, false, eqb, eqb-true}
 use Rattle.std.specs.Prelude.{count_by, sum_by}
 use Rattle.std.specs.List.{list_any, range_with_len}
-use Rattle.std.proofs.lemmas.List.Sums.{sum_by-cons}
+use Rattle.std.proofs.lemmas.List.Sums.{count_by-le-length, sum_by-cons}
+use Rattle.std.proofs.lemmas.List.FromFn.{length-range_with_len}
 use Rattle.page_laws.proofs.Leaving.{one_if, sum_by-le-each, sum_by-less, in_range}
 use Rattle.sync_left.specs.Left.{pairs_that}
 
@@ -57,3 +58,13 @@ module _ (t u : ℕ → ℕ → Bool) (weaker : (i n : ℕ) → t i n ≡ true �
 
       at_page : (j : ℕ) → eqb j i ≡ true → count_by (t j) (range_with_len 0 (most + 1)) + 1 ≤ count_by (u j) (range_with_len 0 (most + 1))
       at_page j same = subst (λ j. count_by (t j) (range_with_len 0 (most + 1)) + 1 ≤ count_by (u j) (range_with_len 0 (most + 1))) (sym (eqb-true j i same)) row-less
+
+-- no more than there are
+rows_within : (t : ℕ → ℕ → Bool) (most a n : ℕ) → sum_by (λ i. count_by (t i) (range_with_len 0 (most + 1))) (range_with_len a n) ≤ n * (most + 1)
+rows_within t most a zero = omega arith
+rows_within t most a (suc n) =
+    let rest = rows_within t most (a + 1) n in
+    omega (arith, sum_by-cons (λ i. count_by (t i) (range_with_len 0 (most + 1))) a (range_with_len (a + 1) n), count_by-le-length (t a) (range_with_len 0 (most + 1)), length-range_with_len 0 (most + 1), rest)
+
+pub pairs-within : (t : ℕ → ℕ → Bool) (pages most : ℕ) → pairs_that t pages most ≤ pages * (most + 1)
+pairs-within t pages most = rows_within t most 0 pages

@@ -1,5 +1,5 @@
--- Sums over processes of which no two have one pid: where one process rises by one at most, so does the sum.
-use Rattle.std.proofs.Common.{◌≡◌, ℕ, ◌+◌, ◌≤◌, refl, sym, ◌∙◌, ap, arith, List, [], ◌∷◌, map, Bool, true, false, cond, not, ◌||◌, eqb, eqb-true}
+-- Sums over processes of which no two have one pid: where one process rises by so much at most, so does the sum.
+use Rattle.std.proofs.Common.{◌≡◌, ℕ, ◌+◌, ◌≤◌, refl, sym, ◌∙◌, ap, arith, List, [], ◌∷◌, map, Bool, true, false, cond, not, eqb, eqb-true}
 use Rattle.std.specs.Prelude.{filter, sum_by}
 use Rattle.std.specs.List.{list_any}
 use Rattle.std.proofs.lemmas.List.Sums.{sum_by-cons}
@@ -9,26 +9,19 @@ use Rattle.bus_msg.specs.Places.{same_pid}
 use Rattle.bus_msg.specs.PlacedAfter.{after_sync}
 use Rattle.cert_sched.proofs.RisingLaws.{NoTwo}
 use Rattle.cert_sched.proofs.PidLaws.{placed_pids}
+use Rattle.page_laws.proofs.BornSums.{others_most}
 
-module _ (f g : Placed → ℕ) (p : Pid) (others : (q : Placed) → same_pid q.pid p ≡ false → g q ≤ f q) (each : (q : Placed) → g q ≤ f q + 1) where
-  -- none of them is the process
-  none_rises : (qs : List Placed) → list_any (λ m. eqb m p.0) (placed_pids qs) ≡ false → sum_by g qs ≤ sum_by f qs
-  none_rises [] none = omega arith
-  none_rises (q ∷ qs) none = by_test (eqb (q.pid).0 p.0) refl none (none_rises qs)
-    where
-      by_test : (b : Bool) → same_pid q.pid p ≡ b → (b || list_any (λ m. eqb m p.0) (placed_pids qs)) ≡ false → (list_any (λ m. eqb m p.0) (placed_pids qs) ≡ false → sum_by g qs ≤ sum_by f qs) → sum_by g (q ∷ qs) ≤ sum_by f (q ∷ qs)
-      by_test true is none more = cc
-      by_test false is none more = let rest = more none in omega (arith, sum_by-cons g q qs, sum_by-cons f q qs, others q is, rest)
-
-  pub one_rises : (qs : List Placed) → NoTwo (placed_pids qs) → sum_by g qs ≤ sum_by f qs + 1
+module _ (f g : Placed → ℕ) (p : Pid) (more : ℕ) (others : (q : Placed) → same_pid q.pid p ≡ false → g q ≤ f q) (each : (q : Placed) → same_pid q.pid p ≡ true → g q ≤ f q + more) where
+  pub one_rises : (qs : List Placed) → NoTwo (placed_pids qs) → sum_by g qs ≤ sum_by f qs + more
   one_rises [] apart = omega arith
   one_rises (q ∷ qs) apart = by_test (same_pid q.pid p) refl (one_rises qs apart.1)
     where
-      by_test : (b : Bool) → same_pid q.pid p ≡ b → sum_by g qs ≤ sum_by f qs + 1 → sum_by g (q ∷ qs) ≤ sum_by f (q ∷ qs) + 1
-      by_test true is more =
+      by_test : (b : Bool) → same_pid q.pid p ≡ b → sum_by g qs ≤ sum_by f qs + more → sum_by g (q ∷ qs) ≤ sum_by f (q ∷ qs) + more
+      by_test true is rest =
           let none : list_any (λ m. eqb m p.0) (placed_pids qs) ≡ false = ap (λ n. list_any (λ m. eqb m n) (placed_pids qs)) (sym (eqb-true (q.pid).0 p.0 is)) ∙ apart.0 in
-          omega (arith, sum_by-cons g q qs, sum_by-cons f q qs, each q, none_rises qs none)
-      by_test false is more = omega (arith, sum_by-cons g q qs, sum_by-cons f q qs, others q is, more)
+          let most = others_most g f p others qs none in
+          omega (arith, sum_by-cons g q qs, sum_by-cons f q qs, each q is, most)
+      by_test false is rest = omega (arith, sum_by-cons g q qs, sum_by-cons f q qs, others q is, rest)
 
 -- who synchronises is counted as before
 pub sync_sum : (g : Pid → ℕ) (p : Pid) (qs : List Placed) → sum_by (λ (q : Placed). g q.pid) (filter (λ (q : Placed). not q.ended) (map (after_sync p) qs)) ≡ sum_by (λ (q : Placed). g q.pid) (filter (λ (q : Placed). not q.ended) qs)

@@ -1,119 +1,79 @@
--- Each step of the kernel without failures leaves it fewer, so each entry that tells of what a process sent does.
-use Rattle.std.proofs.Common.{◌≡◌, ℕ, ◌+◌, ◌≤◌, refl, sym, ◌∙◌, ap, subst, arith, List, [], ◌∷◌, ◌++◌, Bool, true, false, cond, T, Option, Some, None, is_some, true≢false}
-use Rattle.std.specs.Prelude.{option_and_then}
+-- Each step of the kernel without failures leaves it fewer, and so does each fork; so each entry that tells of what a process sent does.
+use Rattle.std.proofs.Common.{◌≡◌, ℕ, ◌+◌, ◌≤◌, refl, ap, arith, List, [], ◌∷◌, ◌++◌, Some}
 use Rattle.std.specs.List.{sum_by}
 use Rattle.std.specs.Option.{option_map_or}
-use Rattle.std.specs.declared.cmp.Ordering.{Ordering}
-use Rattle.std.specs.declared.cmp.Ordering.TheVariants.{Less, Equal, Greater}
-use Rattle.std.specs.Ordering.{is_eq}
-use Rattle.std.specs.FinMap.{find, put, is_sorted}
-use Rattle.std.specs.FinMap.Entries.{by_order}
-use Rattle.std.proofs.lemmas.List.Sums.{sum_by-cons}
+use Rattle.std.specs.FinMap.{find}
 use Rattle.t32_base.specs.declared.process.Pid.{Pid}
-use Rattle.t32_base.specs.declared.letter.Letter.{Letter}
-use Rattle.t32_base.specs.declared.letter.To.{To}
-use Rattle.t32_base.specs.declared.letter.To.TheVariants.{Proc, Tty}
 use Rattle.sys_text.specs.declared.system.System.{System}
-use Rattle.proc_state.specs.State.{ProcState, delivered, has_ended}
-use Rattle.sys_calls.specs.Small.{weight}
+use Rattle.proc_state.specs.State.{ProcState}
+use Rattle.sys_calls.specs.Small.{weight, weight_with_children}
 use Rattle.sys_calls.specs.declared.steps.Emission.{Emission}
-use Rattle.sys_calls.specs.declared.steps.Emission.TheVariants.{Mail as Sent, Exit as Ended}
-use Rattle.sys_calls.specs.Calls.{Next, Silent, Blocked, Forks, Emits, Over}
-use Rattle.sys_calls.specs.Next.{next_step}
+use Rattle.sys_calls.proofs.Bearing.{emits_lightens, fork_lightens, silent_lightens, silently_lightens}
 use Rattle.sys_calls.proofs.Counting.{last_sent}
-use Rattle.plain_kernel.specs.Kernel.{Kernel, boot, pid_cmp, process_at, with_process, letter_put, letter_to, emitted}
-use Rattle.plain_kernel.specs.Apply.{after_step, one_step}
-use Rattle.plain_kernel.proofs.Entries.{some_same}
-use Rattle.plain_kernel.proofs.Pids.{HasPids, IsRising, left_true, right_true, not_found, one_step-pids, put_process, pids_in}
+use Rattle.sys_calls.proofs.ForkLaws.{forks_can}
+use Rattle.plain_kernel.specs.Kernel.{Kernel, boot, pid_cmp, with_process, emitted}
+use Rattle.plain_kernel.specs.Apply.{fork_step, one_step}
 use Rattle.plain_kernel.proofs.AtBoot.{boot-pids}
+use Rattle.plain_kernel.proofs.ForkPids.{fork_step-rising}
+use Rattle.plain_kernel.proofs.Forking.{fork_made}
+use Rattle.plain_kernel.proofs.Pids.{IsRising, one_step-pids, pids_in}
 use Rattle.bus_msg.specs.declared.entry.Entry.{Entry}
 use Rattle.bus_msg.specs.PlacedAfter.{what}
 use Rattle.cert_sched.specs.Schedule.{plain_after}
 use Rattle.cert_sched.specs.Steps.{emission_at}
-use Rattle.cert_sched.proofs.StepLaws.{Tells, plain_after-keeps, plain_after-sent, sent_from}
-use Rattle.sys_calls.proofs.Weighing.{Leaves, emits_leaves, next_leaves, silently_leaves}
+use Rattle.cert_sched.proofs.StepLaws.{Tells, log_keeps_all, plain_after-rising, plain_after-sent, sent_from}
 use Rattle.sync_left.specs.Load.{kernel_load, log_load}
+use Rattle.sync_left.proofs.KernelSums.{fork_sums, of_entry, one_of_sum, sent_sums, step_sums}
 
-abbrev pub weight_of : Pid × ProcState → ℕ
-weight_of e = weight (e.1).small
-
--- ---- one process
-
--- another state of a process is put, and nothing else changes
-put_weighs : (p : Pid) (s t : ProcState) (es : List (Pid × ProcState)) → T (is_sorted pid_cmp es) → find pid_cmp p es ≡ Some s → sum_by weight_of (put pid_cmp p t es) + weight s.small ≡ sum_by weight_of es + weight t.small
-put_weighs p s t [] rising there = cc
-put_weighs p s t (e ∷ es) rising there = by_case (pid_cmp p e.0) refl there (put_weighs p s t es (right_true _ _ rising))
-  where
-    by_case : (o : Ordering) → pid_cmp p e.0 ≡ o → cond (is_eq o) (Some e.1) (find pid_cmp p es) ≡ Some s
-        → (find pid_cmp p es ≡ Some s → sum_by weight_of (put pid_cmp p t es) + weight s.small ≡ sum_by weight_of es + weight t.small)
-        → sum_by weight_of (by_order o ((p, t) ∷ e ∷ es) ((e.0, t) ∷ es) (e ∷ put pid_cmp p t es)) + weight s.small ≡ sum_by weight_of (e ∷ es) + weight t.small
-    by_case Less is found more = absurd (true≢false (ap is_some (sym found ∙ not_found p e.0 es is (left_true _ _ rising))))
-    by_case Equal is found more =
-        let same : weight (e.1).small ≡ weight s.small = ap (λ (p : ProcState). weight p.small) (some_same e.1 s found) in
-        omega (arith, sum_by-cons weight_of (e.0, t) es, sum_by-cons weight_of e es, same)
-    by_case Greater is found more = omega (arith, sum_by-cons weight_of e (put pid_cmp p t es), sum_by-cons weight_of e es, more found)
+-- what a process and the children that it may still fork have left
+abbrev pub weight_of : ProcState → ℕ
+weight_of s = weight_with_children s.small
 
 -- a process has no more left than all
-pub one_of_all : (p : Pid) (s : ProcState) (es : List (Pid × ProcState)) → find pid_cmp p es ≡ Some s → weight s.small ≤ sum_by weight_of es
-one_of_all p s [] there = cc
-one_of_all p s (e ∷ es) there = by_test (is_eq (pid_cmp p e.0)) there (one_of_all p s es)
-  where
-    by_test : (b : Bool) → cond b (Some e.1) (find pid_cmp p es) ≡ Some s → (find pid_cmp p es ≡ Some s → weight s.small ≤ sum_by weight_of es) → weight s.small ≤ sum_by weight_of (e ∷ es)
-    by_test true found more =
-        let same : weight (e.1).small ≡ weight s.small = ap (λ (p : ProcState). weight p.small) (some_same e.1 s found) in
-        omega (arith, sum_by-cons weight_of e es, same)
-    by_test false found more = omega (arith, sum_by-cons weight_of e es, more found)
+pub one_of_all : (p : Pid) (s : ProcState) (es : List (Pid × ProcState)) → find pid_cmp p es ≡ Some s → weight s.small ≤ sum_by (of_entry weight_of) es
+one_of_all p s es there = let one = one_of_sum weight_of p s es there in omega (arith, one)
 
--- ---- one step
+-- ---- one step, and one fork
 
--- a letter that arrives leaves as much
-letter_weighs : (k : Kernel) (letter : Letter) (to : To) → IsRising k → kernel_load (letter_to k letter to) ≡ kernel_load k
-letter_weighs k letter (Tty t) rising = refl
-letter_weighs k letter (Proc p e) rising = by_process (process_at k p) refl
-  where
-    by_status : (s : ProcState) (b : Bool) → process_at k p ≡ Some s → sum_by weight_of (cond b k.processes (put pid_cmp p (delivered s letter) k.processes)) ≡ kernel_load k
-    by_status s true there = refl
-    by_status s false there = omega (arith, put_weighs p s (delivered s letter) k.processes rising there)
-
-    by_process : (o : Option ProcState) → process_at k p ≡ o → sum_by weight_of (letter_put letter p o k.processes) ≡ kernel_load k
-    by_process None there = refl
-    by_process (Some s) there = by_status s (has_ended (s.small).status) there
-
-emitted_weighs : (k : Kernel) (e : Emission) → IsRising k → kernel_load (emitted k e) ≡ kernel_load k
-emitted_weighs k (Sent letter) rising = letter_weighs k letter letter.to rising
-emitted_weighs k (Ended end) rising = refl
-
--- a process made steps, and what it sent was delivered
-sent_weighs : (pids : List Pid) (k : Kernel) (p : Pid) (s t : ProcState) (e : Emission) → HasPids pids k → process_at k p ≡ Some s → weight t.small + 1 ≤ weight s.small → kernel_load (emitted (with_process k p t) e) + 1 ≤ kernel_load k
-sent_weighs pids k p s t e has there less =
-    let same = emitted_weighs (with_process k p t) e (put_process pids k p s t has there).rising in
-    omega (arith, put_weighs p s t k.processes has.rising there, same, less)
+-- processes rise still
+pub rising_still : (p : Pid) (k j : Kernel) → IsRising k → one_step p k ≡ Some j → IsRising j
+rising_still p k j rising made = (one_step-pids (pids_in k) p k j (record { rising = rising; are = refl }) made).rising
 
 -- each step of a kernel leaves fewer
-pub one_step_leaves : (pids : List Pid) (p : Pid) (k j : Kernel) → HasPids pids k → one_step p k ≡ Some j → kernel_load j + 1 ≤ kernel_load k
-unfolding one_step
-one_step_leaves pids p k j has made = by_process (process_at k p) refl made
-  where
-    by_next : (s : ProcState) (next : Next) → process_at k p ≡ Some s → next_step s ≡ next → after_step k p next ≡ Some j → kernel_load j + 1 ≤ kernel_load k
-    by_next s (Silent t) there is e =
-        let less : weight t.small + 1 ≤ weight s.small = subst (Leaves s) is (next_leaves s) in
-        subst (λ (i : Kernel). kernel_load i + 1 ≤ kernel_load k) (some_same (with_process k p t) j e) (omega (arith, put_weighs p s t k.processes has.rising there, less))
-    by_next s (Emits what t) there is e =
-        subst (λ (i : Kernel). kernel_load i + 1 ≤ kernel_load k) (some_same (emitted (with_process k p t) what) j e) (sent_weighs pids k p s t what has there (emits_leaves s t what is))
-    by_next s Blocked there is e = cc
-    by_next s Forks there is e = cc
-    by_next s Over there is e = cc
+pub one_step_leaves : (p : Pid) (k j : Kernel) → IsRising k → one_step p k ≡ Some j → kernel_load j + 1 ≤ kernel_load k
+one_step_leaves p k j rising made = step_sums weight_of (λ s letter. refl) 1 silent_lightens emits_lightens p k j rising made
 
-    by_process : (o : Option ProcState) → process_at k p ≡ o → option_and_then (λ s. after_step k p (next_step s)) o ≡ Some j → kernel_load j + 1 ≤ kernel_load k
-    by_process None there e = cc
-    by_process (Some s) there e = by_next s (next_step s) there refl e
+-- and each fork leaves fewer by two
+pub fork_step_leaves : (p c : Pid) (k j : Kernel) → IsRising k → fork_step p c k ≡ Some j → kernel_load j + 2 ≤ kernel_load k
+fork_step_leaves p c k j rising made =
+    let f = fork_made p c k j made in
+    let sums = fork_sums weight_of p c k j rising f in
+    let less = fork_lightens f.was c (forks_can f.was f.forks) in
+    omega (arith, sums, less)
+
+-- ---- after a log
+
+-- processes that rise, and no more left than so many
+record IsMost (most : ℕ) (k : Kernel) : Type 0 where
+  pub rising : IsRising k
+  pub within : kernel_load k ≤ most
+
+step_most : (most : ℕ) (p : Pid) (k j : Kernel) → IsMost most k → one_step p k ≡ Some j → IsMost most j
+step_most most p k j held made =
+    let less = one_step_leaves p k j held.rising made in
+    let before = held.within in
+    record { rising = rising_still p k j held.rising made; within = omega (arith, less, before) }
+
+fork_most : (most : ℕ) (p c : Pid) (k j : Kernel) → IsMost most k → fork_step p c k ≡ Some j → IsMost most j
+fork_most most p c k j held made =
+    let less = fork_step_leaves p c k j held.rising made in
+    let before = held.within in
+    record { rising = fork_step-rising p c k j held.rising made; within = omega (arith, less, before) }
 
 -- the kernel after any log has no more left than that at boot
 pub after_log : (system : System) (log : List Entry) (k : Kernel) → plain_after system log ≡ Some k → kernel_load k ≤ kernel_load (boot system)
 after_log system log k is =
-    (plain_after-keeps (λ (j : Kernel). HasPids (pids_in (boot system)) j × (kernel_load j ≤ kernel_load (boot system)))
-    (λ p i j held made. (one_step-pids (pids_in (boot system)) p i j held.0 made, omega (arith, held.1, one_step_leaves (pids_in (boot system)) p i j held.0 made)))
-    system log k (boot-pids system, omega arith) is).1
+    (log_keeps_all (IsMost (kernel_load (boot system))) (step_most (kernel_load (boot system))) (fork_most (kernel_load (boot system))) system log k (record { rising = (boot-pids system).rising; within = omega arith }) is).within
 
 -- ---- an entry
 
@@ -123,7 +83,11 @@ pub sent_leaves : (system : System) (log : List Entry) (entry : Entry) (p : Pid)
 sent_leaves system log entry p at e t is tells =
     let s = sent_from system log p at e t is in
     let l = last_sent _ s.was e t s.sends in
-    let less : weight t.small + 1 ≤ weight (s.was).small = omega (arith, silently_leaves l.earlier s.was l.before l.silent, emits_leaves l.before t e l.last) in
+    let earlier = silently_lightens l.earlier s.was l.before l.silent in
+    let last = emits_lightens l.before t e l.last in
+    let less : weight_of t + 1 ≤ weight_of s.was = omega (arith, earlier, last) in
     let after : log_load system (log ++ entry ∷ []) ≡ kernel_load (emitted (with_process s.kernel p t) e) = ap (λ o. option_map_or kernel_load o 0) (plain_after-sent system log entry p at e t s.kernel s.before is tells) in
     let before : log_load system log ≡ kernel_load s.kernel = ap (λ o. option_map_or kernel_load o 0) s.before in
-    omega (arith, after, before, sent_weighs (pids_in (boot system)) s.kernel p s.was t e (plain_after-keeps (HasPids (pids_in (boot system))) (one_step-pids (pids_in (boot system))) system log s.kernel (boot-pids system) s.before) s.there less)
+    let sums : kernel_load (emitted (with_process s.kernel p t) e) + weight_of s.was ≡ kernel_load s.kernel + weight_of t =
+    sent_sums weight_of (λ s letter. refl) s.kernel p s.was t e (plain_after-rising system log s.kernel s.before) s.there in
+    omega (arith, after, before, sums, less)

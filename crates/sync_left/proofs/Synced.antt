@@ -1,5 +1,5 @@
--- A synchronisation leaves one less: its process had made steps since its start, and starts again from where it is.
-use Rattle.std.proofs.Common.{◌≡◌, ℕ, ◌+◌, ◌≤◌, refl, sym, ◌∙◌, ap, subst, arith, List, [], ◌∷◌, ◌++◌, length, Bool, true, false, ltb, eqb-true, Option, Some, None, true≢false}
+-- A synchronisation leaves one less: its process had made steps since its start or had no state in its record, and starts again from where it is.
+use Rattle.std.proofs.Common.{◌≡◌, ℕ, ◌+◌, ◌≤◌, refl, sym, ◌∙◌, ap, subst, arith, List, [], ◌∷◌, ◌++◌, length, Bool, true, false, not, ◌||◌, ltb, eqb-true, eq-eqb, Option, Some, None, true≢false}
 use Rattle.std.specs.Prelude.{option_and_then, option_map, sum_by}
 use Rattle.std.specs.Option.{option_map_or}
 use Rattle.std.proofs.lemmas.Bool.Decides.{nat_tests}
@@ -17,12 +17,16 @@ use Rattle.bus_msg.specs.Places.{Places, same_pid, unended_in}
 use Rattle.bus_msg.specs.PlacedAfter.{what}
 use Rattle.cert_sched.specs.Schedule.{done, placement}
 use Rattle.cert_sched.specs.Told.{cluster_lost}
+use Rattle.cert_sched.specs.Deeds.{is_birth_of, is_cut}
+use Rattle.cert_sched.specs.Record.{has_state}
 use Rattle.cert_sched.specs.Moved.{waiting_fetches}
 use Rattle.cert_sched.specs.Steps.{silent_upto, start_steps}
 use Rattle.cert_sched.specs.Rules.{is_by_home, is_by_right}
 use Rattle.cert_sched.specs.Kinds.{KindHolds, SyncHolds, is_due}
 use Rattle.cert_sched.specs.Legal.{IsLegalBy, Stands}
+use Rattle.cert_sched.proofs.BirthKind.{is_birth}
 use Rattle.cert_sched.proofs.BuiltCuts.{by_home_there}
+use Rattle.cert_sched.proofs.RecordLaws.{has_state-snoc}
 use Rattle.cert_sched.proofs.StepLaws.{done_kernel}
 use Rattle.page_laws.specs.Left.{left_of_pages, unasked, unasked_of}
 use Rattle.page_laws.proofs.OneEntry.{moves_none, waiting-snoc, waits_after, after_other}
@@ -30,8 +34,8 @@ use Rattle.page_laws.proofs.Leaving.{most_over, one_if}
 use Rattle.read_laws.proofs.SyncReads.{SyncedAt, synced_at}
 use Rattle.sync_laws.specs.Cut.{CutsAt}
 use Rattle.sync_laws.proofs.CutEntry.{cut_places, cut_process, cut_start, other_start}
-use Rattle.sync_left.specs.Load.{log_load}
-use Rattle.sync_left.specs.Left.{has_stepped, left_of_process, left_of_syncs}
+use Rattle.sync_left.specs.Load.{log_births, log_load}
+use Rattle.sync_left.specs.Left.{has_stepped, left_of_process, left_of_syncs, may_sync}
 use Rattle.sync_left.proofs.Rising.{sync_sum}
 use Rattle.sync_left.proofs.OneEntry.{each_most, left_then, one_less, sender_among, stays_most, there, unsent_after, unsent_fewer}
 use Rattle.sync_left.proofs.Due.{due_stepped}
@@ -74,30 +78,45 @@ module _ (system : System) (log : List Entry) (e : Entry) (stands : Stands syste
       let start : start_steps system (log ++ e ∷ []) p ≡ ((synced.at).small).steps = ap (λ (o : Option ProcState). option_map_or (λ (s : ProcState). (s.small).steps) o 0) (cut_start system log e p synced.at cut) in
       (λ i. ltb (start i) (count i)) ∙ not_itself ((synced.at).small).steps
 
+  -- and it has a state in its record
+  stated : has_state system (log ++ e ∷ []) p ≡ true
+  stated = has_state-snoc system log e p ∙ ap (λ b. has_state system log p || b) (ap (is_cut p) is ∙ eq-eqb p.0 p.0 refl) ∙ or_true (has_state system log p)
+    where
+      or_true : (b : Bool) → (b || true) ≡ true
+      or_true true = refl
+      or_true false = refl
+
+  -- so it may not synchronise again
+  not_again : may_sync system (log ++ e ∷ []) p ≡ false
+  not_again i = not_stepped i || not (stated i)
+
+  no_birth : (r : Pid) → is_birth_of r (what e) ≡ false
+  no_birth r = ap (is_birth_of r) is
+
   each : (r : Pid) → left_of_process system (log ++ e ∷ []) r ≤ left_then system log e stands r
   each r = by_pid (same_pid p r) refl
     where
       by_pid : (b : Bool) → same_pid p r ≡ b → left_of_process system (log ++ e ∷ []) r ≤ left_then system log e stands r
       by_pid true same =
           let here : p ≡ r = λ k. record { 0 = eqb-true p.0 r.0 same k } in
-          subst (λ r. left_of_process system (log ++ e ∷ []) r ≤ left_then system log e stands r) here (each_most system log e stands no_loss p (λ h. absurd (true≢false (sym h ∙ not_stepped))))
-      by_pid false apart = stays_most system log e stands no_loss r (other_start system log e p synced.at cut r apart)
+          subst (λ r. left_of_process system (log ++ e ∷ []) r ≤ left_then system log e stands r) here (each_most system log e stands no_loss p (no_birth p) (λ h. absurd (true≢false (sym h ∙ not_again))))
+      by_pid false apart = stays_most system log e stands no_loss r (no_birth r) (other_start system log e p synced.at cut r apart)
 
   module _ (valid : is_system system ≡ true) (legal : IsLegalBy Stands system log) where
-    stepped : ltb (start_steps system log p) (done (there system log e stands).new p) ≡ true
-    stepped = ap (ltb (start_steps system log p)) at_kernel ∙ due_stepped system log p synced.at valid legal (by_home_there (placement system log) (e.post).by p right) cut.reached due
+    stepped : (ltb (start_steps system log p) (done (there system log e stands).new p) || not (has_state system log p)) ≡ true
+    stepped = ap (λ n. ltb (start_steps system log p) n || not (has_state system log p)) at_kernel ∙ due_stepped system log p synced.at valid legal (by_home_there (placement system log) (e.post).by p right) cut.reached due
 
     own_less : left_of_process system (log ++ e ∷ []) p + 1 ≤ left_then system log e stands p
     own_less =
-        let after = unsent_after system log e stands no_loss p in
+        let after = unsent_after system log e stands no_loss p (no_birth p) in
         let fewer = unsent_fewer system log e stands no_loss p in
-        let none : one_if (has_stepped system (log ++ e ∷ []) p) ≡ 0 = ap one_if not_stepped in
-        let one : one_if (ltb (start_steps system log p) (done (there system log e stands).new p)) ≡ 1 = ap one_if stepped in
+        let none : one_if (may_sync system (log ++ e ∷ []) p) ≡ 0 = ap one_if not_again in
+        let one : one_if (ltb (start_steps system log p) (done (there system log e stands).new p) || not (has_state system log p)) ≡ 1 = ap one_if stepped in
         omega (arith, after, fewer, none, one)
 
     -- what is left of the processes and of the steps, in sum, falls
-    pub sync_less : sum_by (λ (q : Placed). left_of_process system (log ++ e ∷ []) q.pid) (unended_in (placement system log)) + log_load system (log ++ e ∷ []) + 1 ≤ left_of_syncs system log + log_load system log
-    sync_less = one_less system log e stands no_loss valid legal p (sender_among (placement system log) (e.post).by p right) (λ q. each q.pid) at_own
+    pub sync_less : sum_by (λ (q : Placed). left_of_process system (log ++ e ∷ []) q.pid) (unended_in (placement system log)) + log_births system (log ++ e ∷ []) + log_load system (log ++ e ∷ []) + 1 ≤ left_of_syncs system log + log_load system log
+    sync_less = one_less system log e stands no_loss valid legal (ap is_birth is) p (sender_among (placement system log) (e.post).by p right) (λ q. each q.pid) at_own
       where
         at_own : (q : Placed) → same_pid q.pid p ≡ true → left_of_process system (log ++ e ∷ []) q.pid + 1 ≤ left_then system log e stands q.pid
         at_own q same =
@@ -112,7 +131,7 @@ module _ (system : System) (log : List Entry) (e : Entry) (stands : Stands syste
   pub sync_pages : left_of_pages system (log ++ e ∷ []) ≤ left_of_pages system log
   sync_pages =
       let same = sync_places (unasked_of system (log ++ e ∷ [])) in
-      let most = most_over system log e stands (moves_none system log e no_loss) (unended_in (placement system log)) in
+      let most = most_over system log e stands no_birth (moves_none system log e no_loss) (unended_in (placement system log)) in
       let asked : unasked system (log ++ e ∷ []) ≤ unasked system log = omega (arith, same, most) in
       let waits : length (waiting_fetches system (log ++ e ∷ [])) ≡ length (waiting_fetches system log) =
       ap length (waiting-snoc system log e ∙ ap (λ w. waits_after (placement system log) w (waiting_fetches system log)) is ∙ after_other (Sync p small read None) refl (placement system log) (waiting_fetches system log)) in

@@ -1,25 +1,28 @@
 -- How many posts clusters may still send after a log, while no cluster is lost.
-use Rattle.std.specs.Prelude.{ℕ, ◌+◌, ◌*◌, Bool, true, false, not, nat_lt, if◌then◌else◌, List, [], count_by}
+use Rattle.std.specs.Prelude.{ℕ, ◌+◌, ◌*◌, Bool, true, false, not, ◌||◌, nat_lt, if◌then◌else◌, List, count_by}
 use Rattle.std.specs.List.{sum_by, range_with_len}
 use Rattle.std.specs.Option.{option_map_or}
 use Rattle.t32_base.specs.declared.process.Pid.{Pid}
 use Rattle.sys_text.specs.declared.system.System.{System}
 use Rattle.proc_state.specs.State.{ProcState}
 use Rattle.sys_calls.specs.Small.{weight}
+use Rattle.plain_kernel.specs.Kernel.{boot}
 use Rattle.bus_msg.specs.declared.entry.What.{What}
-use Rattle.bus_msg.specs.declared.entry.What.TheVariants.{Mail, Exit, Page, Sync, Fetch, PageIs}
+use Rattle.bus_msg.specs.declared.entry.What.TheVariants.{Mail, Birth, Exit, Page, Sync, Fetch, PageIs}
 use Rattle.bus_msg.specs.declared.entry.Entry.{Entry}
 use Rattle.bus_msg.specs.declared.placed.Placed.{Placed}
 use Rattle.bus_msg.specs.Places.{unended_in}
-use Rattle.cert_sched.specs.Schedule.{placement, places_at_boot, process_after, done_after}
+use Rattle.cert_sched.specs.Schedule.{placement, process_after, done_after}
+use Rattle.cert_sched.specs.Record.{has_state}
 use Rattle.cert_sched.specs.Moved.{any_since_moved, is_page_at}
 use Rattle.cert_sched.specs.Steps.{start_steps, page_count}
 use Rattle.page_laws.specs.Left.{left_of_pages}
-use Rattle.sync_left.specs.Load.{log_load}
+use Rattle.sync_left.specs.Load.{left_of_children, log_births, log_load}
 
--- the kinds of entries that a cluster sends so far: letters, exits, changed pages, synchronisations, pages that are asked for and that come
+-- the kinds of entries that a cluster sends so far, and births: letters, exits, changed pages, synchronisations, pages that are asked for and that come
 abbrev pub is_from_cluster : What → Bool
 is_from_cluster (Mail at letter) = true
+is_from_cluster (Birth parent at child end) = true
 is_from_cluster (Exit pid at end) = true
 is_from_cluster (Page pid at index bytes) = true
 is_from_cluster (Sync pid small read took) = true
@@ -32,6 +35,10 @@ is_from_cluster _ = false
 -- the process has made steps since its start
 abbrev pub has_stepped : System → List Entry → Pid → Bool
 has_stepped system log p = nat_lt (start_steps system log p) (done_after system log p)
+
+-- it may synchronise: it has made steps since its start, or is a child that was never cut
+abbrev pub may_sync : System → List Entry → Pid → Bool
+may_sync system log p = has_stepped system log p || not (has_state system log p)
 
 -- the steps that a process has made, and those that it has left at most
 abbrev pub most_of : ProcState → ℕ
@@ -53,31 +60,27 @@ pairs_that test pages most = sum_by (λ i. count_by (test i) (range_with_len 0 (
 abbrev pub unsent_of : System → List Entry → Pid → ℕ
 unsent_of system log p = pairs_that (is_unsent system log p) (page_count system log p) (most_steps system log p)
 
--- a synchronisation where the process has made steps since its start, and its pages
+-- a synchronisation where the process may synchronise, and its pages
 abbrev pub left_of_process : System → List Entry → Pid → ℕ
-left_of_process system log p = (if has_stepped system log p then 1 else 0) + unsent_of system log p
+left_of_process system log p = (if may_sync system log p then 1 else 0) + unsent_of system log p
 
 -- ---- all processes
 
--- the same of all processes that have not ended
+-- the same of all processes that have not ended, and of the children that may still be born
 abbrev pub left_of_syncs : System → List Entry → ℕ
-left_of_syncs system log = sum_by (λ (q : Placed). left_of_process system log q.pid) (unended_in (placement system log))
+left_of_syncs system log = sum_by (λ (q : Placed). left_of_process system log q.pid) (unended_in (placement system log)) + log_births system log
 
--- At least as much as clusters may still send: two for each step that is left, a letter or an exit and a synchronisation; the pages that are asked for and that come; the
--- changed pages, and a synchronisation of each process that has made steps.
+-- At least as much as clusters may still send: two for each step that is left, a letter, an exit or a birth and a synchronisation; the pages that are asked for and that come;
+-- the changed pages, and a synchronisation of each process that has made steps or is a child that was never cut; and these of each child that may still be born.
 abbrev pub left_to_send : System → List Entry → ℕ
 left_to_send system log = 2 * log_load system log + left_of_pages system log + left_of_syncs system log
 
 -- ---- how much it can be
 
--- every pair of a page and a step count
-abbrev pub every : ℕ → ℕ → Bool
-every i steps = true
+-- a synchronisation, every page at every step count that the process can have, and the same of the children that it may still fork
+abbrev pub most_of_process : ProcState → ℕ
+most_of_process s = 1 + (s.small).pages * (most_of s + 1) + left_of_children s.small
 
--- a synchronisation, and every page at every step count that it could have at boot
-abbrev pub most_of_process : System → Pid → ℕ
-most_of_process system p = 1 + pairs_that every (page_count system [] p) (most_steps system [] p)
-
--- the same of all processes that a system places
+-- the same of all processes at boot
 abbrev pub most_syncs : System → ℕ
-most_syncs system = sum_by (λ (q : Placed). most_of_process system q.pid) (places_at_boot system).placed
+most_syncs system = sum_by (λ (e : Pid × ProcState). most_of_process e.1) (boot system).processes

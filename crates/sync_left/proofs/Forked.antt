@@ -1,0 +1,87 @@
+-- What a step and a fork leave of the births of a process, and how few steps a fork leaves to the parent and gives to the child.
+use Rattle.std.proofs.Common.{◌≡◌, ℕ, ◌+◌, ◌-◌, ◌*◌, ◌/◌, ◌<◌, ◌≤◌, refl, ap, subst, arith, List, get_or, true, false, cond, position, Option, Some, None, unwrap_or}
+use Rattle.std.specs.Prelude.{slice_set}
+use Rattle.std.specs.List.{count_by}
+use Rattle.std.proofs.lemmas.Nat.{mul-le}
+use Rattle.std.proofs.lemmas.List.Sums.{count_by-le-length, sum_by-set}
+use Rattle.std.proofs.lemmas.List.Quantifiers.{position-Some}
+use Rattle.t32_base.specs.declared.process.Pid.{Pid}
+use Rattle.t32_base.specs.declared.process.EndState.{EndState}
+use Rattle.t32_base.specs.declared.process.EndState.TheVariants.{Never, Tty, Linked, Shut}
+use Rattle.t32_base.specs.Small.{is_unshut}
+use Rattle.proc_state.specs.Ends.{is_never}
+use Rattle.proc_state.specs.State.{ProcState}
+use Rattle.sys_calls.specs.Small.{weight}
+use Rattle.sys_calls.specs.declared.steps.Emission.{Emission}
+use Rattle.sys_calls.specs.Calls.{Silent, Emits}
+use Rattle.sys_calls.specs.Next.{next_step}
+use Rattle.sys_calls.specs.Fork.{CanFork, child_births, fork_child, fork_parent}
+use Rattle.sys_calls.proofs.Bearing.{Bears, KeepsBirths, next_bears}
+use Rattle.page_laws.proofs.StepSizes.{Keeps, SameSize, next_keeps}
+use Rattle.sync_left.specs.Load.{left_of_child, left_of_children}
+
+-- ---- births
+
+-- a child costs no more where no more instructions are left
+child_most : (pages pages' left left' : ℕ) → pages' ≡ pages → left' ≤ left → 1 + pages' * (left' + 34) ≤ 1 + pages * (left + 34)
+child_most pages pages' left left' same fewer = let most = mul-le pages' (left' + 34) pages (left + 34) (omega (arith, same)) (omega (arith, fewer)) in omega (arith, most)
+
+births_kept : (s t : ProcState) → KeepsBirths s t → SameSize s t → left_of_children t.small + 0 ≤ left_of_children s.small
+births_kept s t kept same =
+    let cost = child_most (s.small).pages (t.small).pages (s.small).left (t.small).left same.pages kept.1 in
+    let most : left_of_children t.small ≤ left_of_children s.small = mul-le (t.small).births (left_of_child t.small) (s.small).births (left_of_child s.small) (omega (arith, kept.0)) cost in
+    omega (arith, most)
+
+pub silent_births : (s t : ProcState) → next_step s ≡ Silent t → left_of_children t.small + 0 ≤ left_of_children s.small
+silent_births s t is = births_kept s t (subst (Bears s) is (next_bears s)) (subst (Keeps s) is (next_keeps s))
+
+pub emits_births : (s t : ProcState) (e : Emission) → next_step s ≡ Emits e t → left_of_children t.small + 0 ≤ left_of_children s.small
+emits_births s t e is = births_kept s t (subst (Bears s) is (next_bears s)) (subst (Keeps s) is (next_keeps s))
+
+-- of so many births one is used up, and the two share the rest
+shared : (births kept given cost less : ℕ) → births ≡ 1 + given + kept → less ≤ cost → kept * less + given * less + cost ≤ births * cost
+shared births kept given cost less shares fewer =
+    let parent = mul-le kept less kept cost (omega arith) fewer in
+    let child = mul-le given less given cost (omega arith) fewer in
+    let whole : births * cost ≡ (1 + given + kept) * cost = ap (λ n. n * cost) shares in
+    omega (arith, whole, parent, child)
+
+halved : (births : ℕ) → 0 < births → births ≡ 1 + (births - 1) / 2 + (births - 1 - (births - 1) / 2)
+halved births some = omega (arith, some)
+
+-- a fork pays for the child
+pub fork_pays : (s : ProcState) (child : Pid) → CanFork s → left_of_children (fork_parent s child).small + left_of_children (fork_child s child).small + left_of_child s.small ≤ left_of_children s.small
+fork_pays s child can =
+    shared (s.small).births ((s.small).births - 1 - child_births (s.small).births) (child_births (s.small).births) (left_of_child s.small) (1 + (s.small).pages * ((s.small).left - 1 + 34))
+    (halved (s.small).births can.births) (child_most (s.small).pages (s.small).pages (s.small).left ((s.small).left - 1) refl (omega arith))
+
+-- ---- steps
+
+-- no more ends are unshut where the lowest that was never linked is linked
+linked_no_more : (ends : List EndState) (o : Option ℕ) (child : Pid) → position is_never ends ≡ o → unwrap_or o 32 < 32
+    → count_by is_unshut (slice_set ends (unwrap_or o 32) (Linked child 1 false)) ≤ count_by is_unshut ends
+linked_no_more ends None child is below = absurd (omega (arith, below))
+linked_no_more ends (Some e) child is below =
+    let at = position-Some is_never ends e Shut is in
+    let whole = sum_by-set (λ (end : EndState). cond (is_unshut end) 1 0) ends e (Linked child 1 false) Shut at.0 in
+    let never : is_unshut (get_or ends e Shut) ≡ true = unshut_never (get_or ends e Shut) at.1 in
+    let one = rw never at whole in
+    omega (arith, one)
+  where
+    unshut_never : (end : EndState) → is_never end ≡ true → is_unshut end ≡ true
+    unshut_never Never is = refl
+    unshut_never (Tty t) is = refl
+    unshut_never (Linked peer far finished) is = refl
+    unshut_never Shut is = cc
+
+-- the parent has one less
+pub parent_less : (s : ProcState) (child : Pid) → CanFork s → weight (fork_parent s child).small + 1 ≤ weight s.small
+parent_less s child can =
+    let ends = linked_no_more (s.small).ends (position is_never (s.small).ends) child refl can.end in
+    omega (arith, ends, can.some)
+
+-- the child no more than its share
+pub child_few : (s : ProcState) (child : Pid) → CanFork s → weight (fork_child s child).small + 1 ≤ (s.small).left + 34
+child_few s child can =
+    let few = count_by-le-length is_unshut ((fork_child s child).small).ends in
+    omega (arith, few, can.some)
