@@ -1,5 +1,5 @@
 -- No letter that a record saved is a signal, while the entries are of the kinds that are built.
-use Rattle.std.proofs.Common.{◌≡◌, ℕ, refl, sym, ◌∙◌, ap, List, [], ◌∷◌, ◌++◌, Bool, true, false, cond, ◌||◌, Option, Some, None, is_some}
+use Rattle.std.proofs.Common.{◌≡◌, ℕ, refl, sym, ◌∙◌, ap, List, [], ◌∷◌, ◌++◌, Bool, true, false, cond, ◌||◌, eqb-true, Option, Some, None, is_some, true≢false}
 use Rattle.std.specs.Prelude.{filter, option_map}
 use Rattle.std.specs.List.{list_any}
 use Rattle.std.proofs.lemmas.List.Folds.{list_any-append}
@@ -13,29 +13,31 @@ use Rattle.proc_state.specs.Mail.{carries_signal, is_signal}
 use Rattle.proc_state.specs.State.{ProcState}
 use Rattle.sys_calls.specs.declared.steps.Emission.TheVariants.{Mail as Sent}
 use Rattle.plain_kernel.specs.Kernel.{boot, process_at}
+use Rattle.bus_msg.specs.declared.entry.What.TheVariants.{Mail, Birth, Exit, Page, Sync, Fetch, PageIs, Crash, Return, Rebackup, Done, Stop}
+use Rattle.cert_sched.specs.Deeds.{is_birth_of}
 use Rattle.bus_msg.specs.declared.entry.What.{What}
 use Rattle.bus_msg.specs.declared.entry.Entry.{Entry}
 use Rattle.bus_msg.specs.Places.{same_pid, unended_at}
 use Rattle.bus_msg.specs.PlacedAfter.{what}
 use Rattle.backup_queue.specs.Queue.{is_unread}
-use Rattle.backup_records.specs.Records.{counted_by_sender, is_receiver, record_after, saved_by_receiver, with_child, with_child_of, with_counted, with_cut, with_saved}
+use Rattle.backup_records.specs.Records.{counted_by_sender, is_receiver, record_after, record_of_child, saved_by_receiver, with_child, with_child_of, with_counted, with_cut, with_saved}
 use Rattle.cert_sched.specs.Built.{BuiltMayFollow, is_built}
 use Rattle.cert_sched.specs.Kinds.{KindHolds}
 use Rattle.cert_sched.specs.Legal.{IsLegalBy}
 use Rattle.cert_sched.specs.Record.{backup_record}
 use Rattle.cert_sched.specs.Schedule.{placement}
 use Rattle.cert_sched.specs.Simulation.{IsUnended}
-use Rattle.cert_sched.proofs.CameLaws.{not_birth}
 use Rattle.cert_sched.proofs.Induction.{legal_induction}
 use Rattle.cert_sched.proofs.LogLaws.{IsLegal-snoc, placement-snoc}
 use Rattle.cert_sched.proofs.MailLaws.{sent_no_signal}
 use Rattle.cert_sched.proofs.RisingLaws.{either_not}
-use Rattle.cert_sched.proofs.StayingUnended.{unended_before}
+use Rattle.cert_sched.proofs.StayingUnended.{before_unended}
 use Rattle.cert_sched.proofs.StepLaws.{is_sent}
 use Rattle.record_laws.specs.Kept.{is_renewed, record_at_boot}
 use Rattle.record_laws.proofs.BootLaws.{boot_record}
 use Rattle.record_laws.proofs.OneRecord.{record_follows}
-use Rattle.recovery_laws.proofs.ByRule.{built_stands}
+use Rattle.record_laws.proofs.BirthRecords.{child_record}
+use Rattle.record_laws.proofs.Standing.{built_stands}
 use Rattle.cluster_core.proofs.NotMoved.{by_built}
 
 -- where none passes a test, none of some of them does
@@ -109,13 +111,36 @@ at_boot system p valid = record { legal = nothing_legal system; none = λ unende
 one_more : (system : System) (p : Pid) → is_system system ≡ true → (log : List Entry) (e : Entry) → SavesNone system p log → BuiltMayFollow system log e → SavesNone system p (log ++ e ∷ [])
 one_more system p valid log e before may = record {
   legal = legal;
-  none = λ unended r is.
-      let was = unended_before (what e) (not_birth system log e (may.stands).applies (what e) refl) (placement system log) p (sym (ap (λ places. is_some (unended_at places p)) (placement-snoc system log e)) ∙ unended) in
-      by_record was.1 r (backup_record system log p) refl (sym (record_follows BuiltMayFollow built_stands system log e p valid legal (built_unrenewed p (what e) may.built) was.1) ∙ is);
+  none = by_birth (is_birth_of p (what e)) refl;
 }
   where
     legal : IsLegalBy BuiltMayFollow system (log ++ e ∷ [])
     legal = IsLegal-snoc BuiltMayFollow system log e before.legal may
+
+    -- nothing was saved of a child that is born
+    newborn : (w : What) → what e ≡ w → is_birth_of p w ≡ true → (r : BackRec) → backup_record system (log ++ e ∷ []) p ≡ Some r → list_any is_signal r.saved ≡ false
+    newborn (Birth parent at child end) same born r is =
+        let one : child ≡ p = λ i. record { 0 = eqb-true child.0 p.0 born i } in
+        let first : Some (record_of_child child) ≡ Some r = sym (child_record system log e valid (built_stands system (log ++ e ∷ []) legal) parent at child end same) ∙ ap (backup_record system (log ++ e ∷ [])) one ∙ is in
+        let made : record_of_child child ≡ r = cc in
+        ap (λ (x : BackRec). list_any is_signal x.saved) (sym made)
+    newborn (Mail at letter) same born r is = absurd (true≢false (sym born))
+    newborn (Exit pid at end) same born r is = absurd (true≢false (sym born))
+    newborn (Page pid at index bytes) same born r is = absurd (true≢false (sym born))
+    newborn (Sync pid small read took) same born r is = absurd (true≢false (sym born))
+    newborn (Fetch pid index) same born r is = absurd (true≢false (sym born))
+    newborn (PageIs pid index bytes) same born r is = absurd (true≢false (sym born))
+    newborn (Crash k cause) same born r is = absurd (true≢false (sym born))
+    newborn (Return k) same born r is = absurd (true≢false (sym born))
+    newborn (Rebackup to fresh recs) same born r is = absurd (true≢false (sym born))
+    newborn (Done rests) same born r is = absurd (true≢false (sym born))
+    newborn Stop same born r is = absurd (true≢false (sym born))
+
+    by_birth : (b : Bool) → is_birth_of p (what e) ≡ b → IsUnended system (log ++ e ∷ []) p → (r : BackRec) → backup_record system (log ++ e ∷ []) p ≡ Some r → list_any is_signal r.saved ≡ false
+    by_birth true born unended r is = newborn (what e) refl born r is
+    by_birth false other unended r is =
+        let was = before_unended (what e) (placement system log) p other (sym (ap (λ places. is_some (unended_at places p)) (placement-snoc system log e)) ∙ unended) in
+        by_record was.1 r (backup_record system log p) refl (sym (record_follows BuiltMayFollow (λ system log e may. may.stands) system log e p valid legal (built_unrenewed p (what e) may.built) was.1) ∙ is)
 
     by_record : IsUnended system log p → (r : BackRec) (o : Option BackRec) → backup_record system log p ≡ o → option_map (record_after (what e)) o ≡ Some r → list_any is_signal r.saved ≡ false
     by_record unended r None at is = cc
