@@ -6,6 +6,7 @@ use Rattle.std.specs.List.{list_all, list_any}
 use Rattle.std.proofs.lemmas.Bool.{and_parts}
 use Rattle.std.proofs.lemmas.Option.{slice_get_within}
 use Rattle.t32_base.specs.declared.process.ClusterNo.{ClusterNo}
+use Rattle.t32_base.specs.declared.process.Pid.{Pid}
 use Rattle.sys_text.specs.declared.system.System.{System}
 use Rattle.sys_text.specs.Valid.{is_system}
 use Rattle.bus_msg.specs.declared.entry.By.TheVariants.{Cluster}
@@ -14,14 +15,15 @@ use Rattle.bus_msg.specs.declared.entry.What.{What}
 use Rattle.bus_msg.specs.declared.entry.What.TheVariants.{Mail, Birth, Exit, Page, Sync, Fetch, PageIs, Crash, Return, Rebackup, Done, Stop}
 use Rattle.bus_msg.specs.declared.entry.Entry.{Entry}
 use Rattle.bus_msg.specs.declared.placed.Placed.{Placed}
-use Rattle.bus_msg.specs.Places.{ClusterPlace, Places, cluster_no, is_at_home, is_covered, lives_in, never_lost, same_cluster, servers_in}
-use Rattle.bus_msg.specs.PlacedAfter.{changed_at, lost_cluster, placed_after, what}
+use Rattle.bus_msg.specs.Places.{ClusterPlace, Places, cluster_no, is_at_home, is_covered, lives_in, never_lost, placed_at, same_cluster, servers_in}
+use Rattle.bus_msg.specs.PlacedAfter.{changed_at, lost_cluster, placed_after, what, with_birth}
 use Rattle.cert_sched.specs.Parts.{first_of}
 use Rattle.cert_sched.specs.Schedule.{placement}
 use Rattle.cert_sched.specs.Losses.{was_lost_in}
 use Rattle.cert_sched.specs.Rules.{ends_run, is_by, is_over}
 use Rattle.cert_sched.specs.Legal.{IsLegalBy}
 use Rattle.cert_sched.specs.Built.{BuiltMayFollow, is_built}
+use Rattle.cert_sched.proofs.BirthClusters.{birth_keeps}
 use Rattle.cert_sched.proofs.FreshLaws.{kept_elsewhere}
 use Rattle.cert_sched.proofs.HomesLaws.{built_clusters-length}
 use Rattle.cert_sched.proofs.Induction.{is_over-snoc, legal_induction}
@@ -92,9 +94,17 @@ loss_served places k cause covered =
     (never_lost-other places k (places.pager).0 cause) (never_lost-other places k (places.pager).1 cause) (covered_one places k covered)
 
 -- an entry after which the log goes on leaves one
+-- a birth leaves which clusters were lost
+birth_served : (places : Places) (child : Pid) (o : Option Placed) → is_served places ≡ true → is_served (with_birth places child o) ≡ true
+birth_served places child None served = served
+birth_served places child (Some q) served = (λ i. kept (places.pager).0 i || kept (places.pager).1 i) ∙ served
+  where
+    kept : (k : ClusterNo) → never_lost (with_birth places child (Some q)) k ≡ never_lost places k
+    kept = birth_keeps (λ (c : ClusterPlace). not c.was_lost) (λ c. refl) places child (Some q)
+
 more_served : (places : Places) (w : What) → is_built w ≡ true → ends_run places w ≡ false → is_served places ≡ true → is_served (placed_after places w) ≡ true
 more_served places (Mail at letter) built goes served = served
-more_served places (Birth parent at child end) built goes served = absurd (true≢false (sym built))
+more_served places (Birth parent at child end) built goes served = birth_served places child (placed_at places parent) served
 more_served places (Exit pid at end) built goes served = served
 more_served places (Page pid at index bytes) built goes served = served
 more_served places (Sync pid small read took) built goes served = served

@@ -26,6 +26,8 @@ use Rattle.cert_sched.specs.Moved.{add_wait, ends_wait, fetched, moved_with_stat
 use Rattle.cert_sched.specs.Steps.{page_count}
 use Rattle.cert_sched.specs.Built.{BuiltMayFollow, is_built}
 use Rattle.cert_sched.specs.Legal.{IsLegalBy}
+use Rattle.cert_sched.proofs.BirthKind.{is_birth}
+use Rattle.cert_sched.proofs.CameLaws.{not_birth}
 use Rattle.cert_sched.proofs.Induction.{legal_induction}
 use Rattle.cert_sched.proofs.LogLaws.{placement-snoc}
 use Rattle.page_laws.specs.Left.{is_unasked, left_of_pages, unasked, unasked_of}
@@ -37,26 +39,26 @@ use Rattle.page_laws.proofs.PagesStay.{page_count-boot}
 abbrev pub placed_count : System → ℕ
 placed_count system = length (places_at_boot system).placed
 
--- an entry of a kind that is built places as many as before
-same_count : (w : What) (places : Places) → is_built w ≡ true → length (placed_after places w).placed ≡ length places.placed
-same_count (Mail at letter) places h = refl
-same_count (Birth parent at child end) places h = absurd (true≢false (sym h))
-same_count (Exit pid at end) places h = length-map places.placed (after_exit pid)
-same_count (Page pid at index bytes) places h = refl
-same_count (Sync pid small read took) places h = length-map places.placed (after_sync pid)
-same_count (Fetch pid index) places h = refl
-same_count (PageIs pid index bytes) places h = refl
-same_count (Crash k cause) places h = length-map places.placed (after_loss k)
-same_count (Return k) places h = absurd (true≢false (sym h))
-same_count (Rebackup to fresh recs) places h = absurd (true≢false (sym h))
-same_count (Done rests) places h = refl
-same_count Stop places h = refl
+-- an entry of a kind that is built places as many as before, but for a birth, and no log has one yet
+same_count : (w : What) (places : Places) → is_built w ≡ true → is_birth w ≡ false → length (placed_after places w).placed ≡ length places.placed
+same_count (Mail at letter) places h other = refl
+same_count (Birth parent at child end) places h other = absurd (true≢false other)
+same_count (Exit pid at end) places h other = length-map places.placed (after_exit pid)
+same_count (Page pid at index bytes) places h other = refl
+same_count (Sync pid small read took) places h other = length-map places.placed (after_sync pid)
+same_count (Fetch pid index) places h other = refl
+same_count (PageIs pid index bytes) places h other = refl
+same_count (Crash k cause) places h other = length-map places.placed (after_loss k)
+same_count (Return k) places h other = absurd (true≢false (sym h))
+same_count (Rebackup to fresh recs) places h other = absurd (true≢false (sym h))
+same_count (Done rests) places h other = refl
+same_count Stop places h other = refl
 
 pub few_placed : (system : System) (log : List Entry) → IsLegalBy BuiltMayFollow system log → length (placement system log).placed ≡ placed_count system
 unfolding placement
 few_placed system log legal =
     legal_induction BuiltMayFollow system (λ log. length (placement system log).placed ≡ placed_count system) refl
-    (λ log e same may. ap (λ (p : Places). length p.placed) (placement-snoc system log e) ∙ same_count (what e) (placement system log) may.built ∙ same) log legal
+    (λ log e same may. ap (λ (p : Places). length p.placed) (placement-snoc system log e) ∙ same_count (what e) (placement system log) may.built (not_birth system log e (may.stands).applies (what e) refl) ∙ same) log legal
 
 -- ---- how many pages each has
 

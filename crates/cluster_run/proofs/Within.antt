@@ -1,5 +1,5 @@
 -- The processes of a cluster that follows a log have no more steps left than so many as the system says.
-use Rattle.std.proofs.Common.{◌≡◌, ℕ, zero, suc, ◌+◌, ◌*◌, ◌^◌, ◌≤◌, ◌<◌, ◌⊎◌, inl, inr, refl, sym, ◌∙◌, ap, subst, arith, List, [], ◌∷◌, ◌++◌, length, take, get_or, Bool, true, false, cond, ◌||◌, eqb, ltb, eqb-true, Option, Some, None, true≢false}
+use Rattle.std.proofs.Common.{◌≡◌, ℕ, zero, suc, ◌+◌, ◌-◌, ◌*◌, ◌^◌, ◌≤◌, ◌<◌, ◌⊎◌, inl, inr, refl, sym, ◌∙◌, ap, subst, arith, List, [], ◌∷◌, ◌++◌, length, take, get_or, Bool, true, false, cond, ◌||◌, eqb, ltb, eqb-true, Option, Some, None, true≢false}
 use Rattle.std.specs.Prelude.{All, count_by, filter, find, option_and_then, option_map}
 use Rattle.std.specs.List.{list_any, sum_by}
 use Rattle.std.specs.Option.{option_map_or}
@@ -17,29 +17,31 @@ use Rattle.proc_state.specs.declared.process.Process.{Process}
 use Rattle.proc_state.specs.State.{ProcState, state_of}
 use Rattle.sys_calls.specs.Small.{weight}
 use Rattle.sys_calls.specs.Calls.{Next, Silent, Blocked, Forks, Emits, Over}
+use Rattle.sys_calls.specs.Fork.{before_fork, fork_parent}
 use Rattle.sys_calls.specs.Next.{next_step}
 use Rattle.sys_calls.specs.declared.steps.Emission.{Emission}
-use Rattle.sys_calls.proofs.Quiet.{no_fork}
 use Rattle.plain_kernel.specs.Kernel.{Kernel, boot, process_at}
 use Rattle.bus_msg.specs.declared.entry.Post.{Post}
 use Rattle.bus_msg.specs.declared.entry.Entry.{Entry}
 use Rattle.bus_msg.specs.declared.entry.What.{What}
 use Rattle.bus_msg.specs.declared.placed.Placed.{Placed}
 use Rattle.bus_msg.specs.Places.{is_at_home, same_pid}
-use Rattle.roll_forward.specs.Deeds.{Deed, Sends, births_in}
+use Rattle.roll_forward.specs.Deeds.{Bears, Deed, Sends, births_in}
 use Rattle.roll_forward.specs.Replay.{put_first, replayed, replay_step}
 use Rattle.cert_sched.specs.Parts.{put_rising, rising, upto_last}
 use Rattle.cert_sched.specs.Deeds.{since, starts}
 use Rattle.cert_sched.specs.Rolling.{refilled}
-use Rattle.cert_sched.specs.Schedule.{placement, plain_after, process_after}
+use Rattle.cert_sched.specs.Schedule.{done_after, placement, plain_after, process_after}
 use Rattle.cert_sched.specs.Kinds.{after_take}
-use Rattle.cert_sched.specs.Steps.{emission_at, silent_upto}
+use Rattle.cert_sched.specs.Steps.{before_fork_at, emission_at, silent_upto}
 use Rattle.cert_sched.specs.Appended.{entry_of}
 use Rattle.cert_sched.specs.Rests.{home_pids}
 use Rattle.cert_sched.specs.Rules.{is_over}
 use Rattle.cert_sched.specs.Built.{BuiltMayFollow, UnlostMayFollow, is_unlost}
 use Rattle.cert_sched.specs.Legal.{IsLegalBy}
 use Rattle.cert_sched.specs.Losses.{was_lost_in}
+use Rattle.cert_sched.proofs.ForkWeight.{fork_weighs}
+use Rattle.cert_sched.proofs.ReplayLaws.{fork_after}
 use Rattle.cert_sched.proofs.RisingLaws.{NoTwo}
 use Rattle.cert_sched.proofs.StepLaws.{sent_from, silent_from}
 use Rattle.cluster_core.specs.View.{ClusterView, Held, Runs, Rolls, Waits, after_sent, head_of, has_moved, held_load, held_of, load, process_load}
@@ -51,6 +53,7 @@ use Rattle.cluster_core.proofs.Here.{same_itself}
 use Rattle.cluster_core.specs.Residents.{pids_in}
 use Rattle.cluster_core.proofs.Lightening.{held_apart}
 use Rattle.sys_calls.proofs.Counting.{last_sent}
+use Rattle.sys_calls.proofs.ForkLaws.{forks_can}
 use Rattle.sys_calls.proofs.Weighing.{Leaves, emits_leaves, next_leaves, silently_leaves}
 use Rattle.bus_order.specs.View.{BusView}
 use Rattle.cluster_run.specs.Disks.{HasFailed}
@@ -103,21 +106,25 @@ replayed_leaves : (n : ℕ) → NoMore n
 replayed_leaves zero s t births ds is = let same : s ≡ t = ap (λ o. option_map_or (λ (r : ProcState × List Deed). r.0) o s) is in omega (arith, ap (λ (p : ProcState). weight p.small) same)
 replayed_leaves (suc n) s t births ds is = by_next (next_step s) refl is (replayed_leaves n)
   where
-    sends_on : (m : Emission) (u : ProcState) (o : Option (ProcState × List Deed)) → replayed n u births ≡ o → option_map (put_first (Sends m)) o ≡ Some (t, ds) → NoMore n → weight t.small ≤ weight u.small
-    sends_on m u None made e more = cc
-    sends_on m u (Some r) made e more =
+    goes_on : (d : Deed) (u : ProcState) (left : List Pid) (o : Option (ProcState × List Deed)) → replayed n u left ≡ o → option_map (put_first d) o ≡ Some (t, ds) → NoMore n → weight t.small ≤ weight u.small
+    goes_on d u left None made e more = cc
+    goes_on d u left (Some r) made e more =
         let here : r.0 ≡ t = ap (λ o. option_map_or (λ (r : ProcState × List Deed). r.0) o t) e in
-        more u t births r.1 (made ∙ (λ i. Some (here i, r.1)))
+        more u t left r.1 (made ∙ (λ i. Some (here i, r.1)))
 
     by_next : (next : Next) → next_step s ≡ next → replay_step s (λ u rest. replayed n u rest) next births ≡ Some (t, ds) → NoMore n → weight t.small ≤ weight s.small
     by_next (Silent u) step e more =
         let less : weight u.small + 1 ≤ weight s.small = subst (Leaves s) step (next_leaves s) in
         omega (arith, less, more u t births ds e)
     by_next Blocked step e more = cc
-    by_next Forks step e more = absurd (no_fork s step)
+    by_next Forks step e more = by_births births e
+      where
+        by_births : (bs : List Pid) → replay_step s (λ u rest. replayed n u rest) Forks bs ≡ Some (t, ds) → weight t.small ≤ weight s.small
+        by_births [] made = cc
+        by_births (child ∷ rest) made = omega (arith, fork_weighs s child (forks_can s step), goes_on (Bears child) (fork_parent s child) rest (replayed n (fork_parent s child) rest) refl made more)
     by_next (Emits m u) step e more =
         let less : weight u.small + 1 ≤ weight s.small = subst (Leaves s) step (next_leaves s) in
-        omega (arith, less, sends_on m u (replayed n u births) refl e more)
+        omega (arith, less, goes_on (Sends m) u births (replayed n u births) refl e more)
     by_next Over step e more = cc
 
 -- ---- what is held
@@ -136,9 +143,27 @@ moved_within : (system : System) (log : List Entry) (p : Pid) (steps : ℕ) (t :
 moved_within system log p steps t =
     by_unlost (λ w. state_by system log p steps (Some w) ≡ Some t → weight t.small ≤ boot_load system)
     (λ at letter there. emitted_within system log letter.from at t (emission_at system log letter.from at) refl (same_option _ ∙ there))
+    (λ parent at child end there. forked_within parent at child (before_fork_at system log parent at) refl there)
     (λ pid at end there. emitted_within system log pid at t (emission_at system log pid at) refl (same_option _ ∙ there))
     (λ pid index there. cc) (λ pid index bytes there. cc) (λ pid at index bytes there. cc) (λ pid small read there. cut_within pid small (silent_upto system log pid small.steps) refl there) (λ rests there. cc) (λ there. cc)
   where
+    -- a fork leaves its parent less
+    forked_within : (parent : Pid) (at : ℕ) (child : Pid) (o : Option ProcState) → before_fork_at system log parent at ≡ o → option_map (λ s. s) (option_map (λ s. fork_parent s child) o) ≡ Some t → weight t.small ≤ boot_load system
+    unfolding before_fork_at
+    forked_within parent at child None is there = cc
+    forked_within parent at child (Some u) is there = by_process (process_after system log parent) refl is
+      where
+        same : fork_parent u child ≡ t
+        same = cc
+
+        by_process : (o : Option ProcState) → process_after system log parent ≡ o → option_and_then (before_fork (at - 1 - done_after system log parent)) o ≡ Some u → weight t.small ≤ boot_load system
+        by_process None there before = cc
+        by_process (Some s) there before =
+            let f = fork_after (at - 1 - done_after system log parent) s u before in
+            let less = fork_weighs u child (forks_can u f.forks) in
+            let here : weight (fork_parent u child).small ≡ weight t.small = ap (λ (x : ProcState). weight x.small) same in
+            omega (arith, here, less, silently_leaves _ s u f.silent, process_within system log parent s there)
+
     cut_within : (pid : Pid) (small : SmallState) (o : Option ProcState) → silent_upto system log pid small.steps ≡ o → option_map (after_take None) o ≡ Some t → weight t.small ≤ boot_load system
     cut_within pid small None is there = cc
     cut_within pid small (Some u) is there =
