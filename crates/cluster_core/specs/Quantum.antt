@@ -20,7 +20,7 @@ use Rattle.bus_msg.specs.declared.entry.Post.{Post}
 use Rattle.sync_point.specs.Batch.{batch, synced}
 use Rattle.quanta.specs.declared.limits.Limits.{Limits}
 use Rattle.quanta.specs.declared.quantum.Ran.{Ran}
-use Rattle.quanta.specs.declared.quantum.Ran.TheVariants.{Moved as RanOn, Refused, Sent as RanSending, Stuck as RanStuck}
+use Rattle.quanta.specs.declared.quantum.Ran.TheVariants.{Moved as RanOn, Refused, Sent as RanSending, Stuck as RanStuck, Forks as RanToFork}
 use Rattle.quanta.specs.Limited.{is_due, is_within}
 use Rattle.quanta.specs.Quantum.{RunsOn, Moves as MovesAlone, Sends as SendsAlone}
 use Rattle.cluster_core.specs.declared.quantum.Sending.{Sending}
@@ -109,6 +109,12 @@ quantum_of small RanOn = Moved
 quantum_of small Refused = Moved
 quantum_of small (RanSending emission) = Sent (record { pid = small.pid; at = small.steps; emission = emission })
 quantum_of small RanStuck = Stuck
+quantum_of small RanToFork = Moved
+
+-- it stands before its fork
+abbrev pub stands_at_fork : Ran → Bool
+stands_at_fork RanToFork = true
+stands_at_fork ran = false
 
 -- silent steps, none of which leads beyond the limits
 pub record RestMoves (limits : Limits) (most made : ℕ) (old new : Process) : Type 0 where

@@ -1,6 +1,6 @@
 //! What a process did when it had its turn.
-ghost use Rattle.std.specs.Prelude.{◌≡◌};
-ghost use Rattle.cluster_core.specs.Quantum.{quantum_of};
+ghost use Rattle.std.specs.Prelude.{◌≡◌, false};
+ghost use Rattle.cluster_core.specs.Quantum.{quantum_of, stands_at_fork};
 
 use bus_msg::entry::Post;
 use quanta::quantum::Ran;
@@ -27,8 +27,10 @@ pub struct Sending {
     pub emission: Emission,
 }
 
-/// What a process that runs did in a quantum, after which it has this state. A step for which memory was refused is not made. Takes no memory.
+/// What a process that runs did in a quantum, after which it has this state. A step for which memory was refused is not made. No process stands
+/// before a fork yet. Takes no memory.
 pub fn quantum_of(small: &Small, ran: Ran) -> Quantum
+    requires { stands_at_fork ran ≡ false }
     ensures { result ≡ quantum_of small.now ran }
 {
     match ran {
@@ -40,5 +42,6 @@ pub fn quantum_of(small: &Small, ran: Ran) -> Quantum
             emission,
         }),
         Ran::Stuck => Quantum::Stuck,
+        Ran::Forks => unreachable!(),
     }
 }
