@@ -63,6 +63,20 @@ module _ (f : SmallState → ℕ) where
       by_case Equal found more = cc
       by_case Greater found more = omega (arith, sum_by-cons of e (put pid_cmp p t es), sum_by-cons of e es, more found)
 
+  -- a process that is put adds its own at most
+  pub put_most : (p : Pid) (t : ProcState) (es : List (Pid × ProcState)) → sum_by of (put pid_cmp p t es) ≤ sum_by of es + f t.small
+  put_most p t [] = omega (arith, sum_by-cons of (p, t) [])
+  put_most p t (e ∷ es) = by_case (pid_cmp p e.0) (put_most p t es)
+    where
+      by_case : (o : Ordering) → sum_by of (put pid_cmp p t es) ≤ sum_by of es + f t.small → sum_by of (by_order o ((p, t) ∷ e ∷ es) ((e.0, t) ∷ es) (e ∷ put pid_cmp p t es)) ≤ sum_by of (e ∷ es) + f t.small
+      by_case Less more = omega (arith, sum_by-cons of (p, t) (e ∷ es))
+      by_case Equal more = omega (arith, sum_by-cons of (e.0, t) es, sum_by-cons of e es)
+      by_case Greater more = omega (arith, sum_by-cons of e (put pid_cmp p t es), sum_by-cons of e es, more)
+
+  -- another state of a process of a kernel
+  pub process_sum : (k : Kernel) (p : Pid) (s t : ProcState) → IsRising k → process_at k p ≡ Some s → sum_of f (with_process k p t) + f s.small ≡ sum_of f k + f t.small
+  process_sum k p s t rising there = put_sum p s t k.processes rising there
+
   -- no process has more than all
   pub one_of_sum : (p : Pid) (s : ProcState) (k : Kernel) → process_at k p ≡ Some s → f s.small ≤ sum_of f k
   one_of_sum p s k there = in_list k.processes there
@@ -95,7 +109,7 @@ module _ (f : SmallState → ℕ) where
   emitted_sum k (Sent letter) rising = letter_sum k letter letter.to rising
   emitted_sum k (Ended end) rising = refl
 
-  put_rising : (k : Kernel) (p : Pid) (s t : ProcState) → IsRising k → process_at k p ≡ Some s → IsRising (with_process k p t)
+  pub put_rising : (k : Kernel) (p : Pid) (s t : ProcState) → IsRising k → process_at k p ≡ Some s → IsRising (with_process k p t)
   put_rising k p s t rising there = (put_process (pids_in k) k p s t (record { rising = rising; are = refl }) there).rising
 
   -- ---- steps and forks
