@@ -29,7 +29,7 @@ use Rattle.page_laws.specs.Next.{moves_next}
 use Rattle.page_laws.proofs.OneEntry.{any_since-snoc, moved_with_state-snoc}
 use Rattle.page_waits.specs.Waiting.{page_count as pages_of}
 use Rattle.wait_laws.specs.Waits.{WaitsAs, first_wait, none_queued}
-use Rattle.wait_laws.proofs.BootPages.{HasPages, has_pages_so}
+use Rattle.wait_laws.proofs.RecordPages.{HasPages, has_pages_so}
 use Rattle.wait_laws.proofs.PageCounts.{count_stays}
 use Rattle.wait_laws.proofs.Records.{record_next, loss_leaves}
 

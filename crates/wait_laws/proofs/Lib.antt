@@ -1,7 +1,7 @@
 pub mod PageCounts
 pub mod NotExited
 pub mod MovedStated
-pub mod BootPages
+pub mod RecordPages
 pub mod Records
 pub mod Begins
 pub mod Follows

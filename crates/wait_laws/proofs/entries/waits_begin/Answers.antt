@@ -1,5 +1,5 @@
 use Rattle.wait_laws.proofs.Begins.{begins_so}
-use Rattle.wait_laws.proofs.BootPages.{has_pages_so}
+use Rattle.wait_laws.proofs.RecordPages.{has_pages_so}
 use Rattle.wait_laws.proofs.entries.waits_begin.Goals as goal
 
 pub returns-clause-some : goal.returns-clause-some
