@@ -1,26 +1,17 @@
 -- A process of which a page was fetched is in the kernel without failures, so it is not born by the next entry.
-use Rattle.std.proofs.Common.{◌≡◌, ℕ, refl, sym, ◌∙◌, ap, List, [], ◌∷◌, ◌++◌, Bool, true, false, cond, not, ◌&&◌, ◌||◌, Option, Some, None, is_some, true≢false}
-use Rattle.std.specs.Prelude.{find}
-use Rattle.std.specs.Option.{option_or}
-use Rattle.std.proofs.lemmas.List.Folds.{find-append}
+use Rattle.std.proofs.Common.{◌≡◌, ℕ, refl, sym, ◌∙◌, List, [], ◌∷◌, ◌++◌, Bool, true, false, cond, ◌||◌, Option, Some, None, is_some, true≢false}
 use Rattle.t32_base.specs.declared.process.Pid.{Pid}
 use Rattle.sys_text.specs.declared.system.System.{System}
 use Rattle.proc_state.specs.State.{ProcState}
-use Rattle.bus_msg.specs.declared.entry.What.{What}
-use Rattle.bus_msg.specs.declared.entry.What.TheVariants.{Birth}
 use Rattle.bus_msg.specs.declared.entry.Entry.{Entry}
-use Rattle.bus_msg.specs.declared.placed.Placed.{Placed}
-use Rattle.bus_msg.specs.Places.{Places, placed_at, same_pid, unended_at}
-use Rattle.bus_msg.specs.PlacedAfter.{child_of, placed_after, what, with_birth}
+use Rattle.bus_msg.specs.PlacedAfter.{what}
 use Rattle.cert_sched.specs.Schedule.{process_after}
 use Rattle.cert_sched.specs.Told.{told}
-use Rattle.cert_sched.specs.Account.{is_exit_of}
 use Rattle.cert_sched.specs.Deeds.{is_birth_of}
 use Rattle.cert_sched.specs.Moved.{any_since_moved, is_fetch}
 use Rattle.cert_sched.specs.Legal.{IsLegalBy, Stands}
 use Rattle.cert_sched.proofs.BornLaws.{there_not_born}
 use Rattle.cert_sched.proofs.Induction.{legal_induction}
-use Rattle.cert_sched.proofs.StayingUnended.{unended_before}
 use Rattle.page_laws.specs.Next.{moves_next}
 use Rattle.page_laws.proofs.OneEntry.{any_since-snoc}
 use Rattle.page_laws.proofs.PagesStay.{paged_there, there_stays}
@@ -56,20 +47,3 @@ fetched_unborn system log e p i legal stands seen = by_process (process_after sy
     by_process : (o : Option ProcState) → process_after system log p ≡ o → is_some o ≡ true → is_birth_of p (what e) ≡ false
     by_process None here some = absurd (true≢false (sym some))
     by_process (Some was) here some = there_not_born system log e p was stands.applies here
-
--- ---- who has not ended after an entry
-
--- had not ended before it, where the entry does not bear it; and the entry is not its exit
-pub unended_earlier : (w : What) (places : Places) (p : Pid) → is_birth_of p w ≡ false → is_some (unended_at (placed_after places w) p) ≡ true → (is_exit_of p w ≡ false) × (is_some (unended_at places p) ≡ true)
-unended_earlier (Birth parent at child end) places p other there = (refl, by_parent (placed_at places parent) there)
-  where
-    by_found : (o : Option Placed) → is_some (option_or o None) ≡ true → is_some o ≡ true
-    by_found None is = is
-    by_found (Some q) is = refl
-
-    by_parent : (o : Option Placed) → is_some (unended_at (with_birth places child o) p) ≡ true → is_some (unended_at places p) ≡ true
-    by_parent None is = is
-    by_parent (Some q) is =
-        let last : find (λ (r : Placed). same_pid r.pid p && not r.ended) (child_of q child ∷ []) ≡ None = ap (λ b. cond (b && true) (Some (child_of q child)) None) other in
-        by_found (unended_at places p) (sym (ap is_some (find-append (λ (r : Placed). same_pid r.pid p && not r.ended) places.placed (child_of q child ∷ []) ∙ ap (option_or (unended_at places p)) last)) ∙ is)
-unended_earlier w places p other there = unended_before w refl places p there

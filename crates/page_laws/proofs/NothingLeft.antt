@@ -20,11 +20,12 @@ use Rattle.cert_sched.specs.Simulation.{IsUnended}
 use Rattle.cert_sched.proofs.LogLaws.{IsLegal-snoc, placement-snoc}
 use Rattle.cert_sched.proofs.Induction.{legal_induction}
 use Rattle.cert_sched.proofs.CameLaws.{same_of}
+use Rattle.cert_sched.proofs.StayingUnended.{before_unended}
 use Rattle.page_laws.specs.Next.{moves_next, ends_wait_next}
 use Rattle.page_laws.specs.Waited.{is_wait_for, is_waited}
 use Rattle.page_laws.specs.Left.{is_unasked, unasked_of, unasked, left_of_pages}
 use Rattle.page_laws.proofs.OneEntry.{any_since-snoc, is_waited-snoc}
-use Rattle.page_laws.proofs.FetchedThere.{fetched_unborn, unended_earlier}
+use Rattle.page_laws.proofs.FetchedThere.{fetched_unborn}
 use Rattle.page_laws.proofs.Leaving.{one_if, unended_there}
 
 -- ---- what was fetched came or is waited for
@@ -47,7 +48,7 @@ fetched_waits system log p i legal = (legal_induction Stands system (λ log. IsL
         (sym (any_since-snoc system log e p (is_fetch p i)) ∙ seen) (sym (any_since-snoc system log e p (is_page_is p i)) ∙ not_come)
       where
         was : (is_exit_of p (what e) ≡ false) × (is_some (unended_at (placement system log) p) ≡ true)
-        was = unended_earlier (what e) (placement system log) p (fetched_unborn system log e p i legal stands seen) (sym (ap (λ places. is_some (unended_at places p)) (placement-snoc system log e)) ∙ there)
+        was = before_unended (what e) (placement system log) p (fetched_unborn system log e p i legal stands seen) (sym (ap (λ places. is_some (unended_at places p)) (placement-snoc system log e)) ∙ there)
 
         or_true : (b : Bool) → (b || true) ≡ true
         or_true true = refl

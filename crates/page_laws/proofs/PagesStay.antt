@@ -28,8 +28,8 @@ use Rattle.cert_sched.specs.Deeds.{is_birth_of}
 use Rattle.cert_sched.specs.Schedule.{after_entry, done, items_of, plain_after, process_after, run_upto}
 use Rattle.cert_sched.specs.Steps.{page_count}
 use Rattle.cert_sched.proofs.BornLaws.{there_not_born}
-use Rattle.cert_sched.proofs.RunAndFork.{run_and_fork}
 use Rattle.cert_sched.proofs.MadeLaws.{apart_from}
+use Rattle.cert_sched.proofs.RunAndFork.{run_and_fork}
 use Rattle.cert_sched.proofs.RunItems.{forkless_keep, items_forkless, run_forkless}
 use Rattle.cert_sched.proofs.StepLaws.{Applied, applied, log_keeps_all}
 use Rattle.page_laws.proofs.StepSizes.{Keeps, next_keeps}

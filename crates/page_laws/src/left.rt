@@ -2,7 +2,8 @@
 ghost use Rattle.std.specs.Prelude.{ℕ, ◌≡◌, ◌<◌, ◌≤◌, true, false, List, [], ◌∷◌, ◌++◌};
 ghost use Rattle.t32_base.specs.declared.process.Pid.{Pid};
 ghost use Rattle.sys_text.specs.declared.system.System.{System};
-ghost use Rattle.bus_msg.specs.declared.entry.What.TheVariants.{Fetch, PageIs};
+ghost use Rattle.sys_text.specs.Valid.{is_system};
+ghost use Rattle.bus_msg.specs.declared.entry.What.TheVariants.{Birth, Fetch, PageIs};
 ghost use Rattle.bus_msg.specs.declared.entry.Entry.{Entry};
 ghost use Rattle.bus_msg.specs.PlacedAfter.{what};
 ghost use Rattle.cert_sched.specs.Built.{tells_or_closes};
@@ -18,8 +19,10 @@ pub fn left_falls()
     // A fetch makes it less, and so does a page that comes;
     ensures fetch { (system : System) (log : List Entry) (e : Entry) (p : Pid) (i : ℕ) → Stands system log e → what e ≡ Fetch p i → left_of_pages system (log ++ e ∷ []) < left_of_pages system log }
     ensures page_is { (system : System) (log : List Entry) (e : Entry) (p : Pid) (i : ℕ) (bytes : List ℕ) → Stands system log e → what e ≡ PageIs p i bytes → left_of_pages system (log ++ e ∷ []) < left_of_pages system log }
-    // a letter, an exit, the end and a stop do not raise it.
+    // a letter, an exit, the end and a stop do not raise it,
     ensures most { (system : System) (log : List Entry) (e : Entry) → Stands system log e → tells_or_closes (what e) ≡ true → left_of_pages system (log ++ e ∷ []) ≤ left_of_pages system log }
+    // and neither does a birth, since no crash has moved the child.
+    ensures birth { (system : System) (log : List Entry) (e : Entry) (parent : Pid) (at : ℕ) (child : Pid) (end : ℕ) → is_system system ≡ true → IsLegalBy Stands system log → Stands system log e → what e ≡ Birth parent at child end → left_of_pages system (log ++ e ∷ []) ≤ left_of_pages system log }
 {}
 
 /// A law and no code: where nothing is left, each process has its pages, in a log in which each entry stands.

@@ -10,10 +10,9 @@ use Rattle.proc_state.specs.State.{ProcState}
 use Rattle.sys_calls.specs.Fork.{fork_child}
 use Rattle.sys_calls.proofs.ForkLaws.{forks_can}
 use Rattle.plain_kernel.specs.declared.item.Item.{Item}
-use Rattle.plain_kernel.specs.Kernel.{Kernel, process_at}
+use Rattle.plain_kernel.specs.Kernel.{process_at}
 use Rattle.plain_kernel.specs.Apply.{apply_all}
 use Rattle.plain_kernel.proofs.Forking.{ForkMade, fork_made, fork-child}
-use Rattle.plain_kernel.proofs.Pids.{IsRising}
 use Rattle.bus_msg.specs.declared.entry.What.TheVariants.{Birth}
 use Rattle.bus_msg.specs.declared.entry.Entry.{Entry}
 use Rattle.bus_msg.specs.declared.placed.Placed.{Placed}
@@ -25,17 +24,17 @@ use Rattle.cert_sched.specs.Deeds.{is_birth_of, is_cut}
 use Rattle.cert_sched.specs.Record.{has_state}
 use Rattle.cert_sched.specs.Steps.{page_count, start_steps}
 use Rattle.cert_sched.specs.Legal.{IsLegalBy, Stands}
-use Rattle.cert_sched.proofs.BornLaws.{RunAndFork, run_and_fork}
+use Rattle.cert_sched.proofs.LoadLaws.{load_birth}
 use Rattle.cert_sched.proofs.LogLaws.{placement-snoc}
+use Rattle.cert_sched.proofs.RunAndFork.{RunAndFork, run_and_fork}
 use Rattle.cert_sched.proofs.RunItems.{forkless_keep, run_forkless}
-use Rattle.cert_sched.proofs.StepLaws.{Applied, plain_after-rising}
+use Rattle.cert_sched.proofs.StepLaws.{Applied}
 use Rattle.page_laws.proofs.BornSums.{born_sum, child_not_unended, others_most}
 use Rattle.page_laws.proofs.OneEntry.{turned}
 use Rattle.sync_laws.proofs.Beside.{start_stays}
-use Rattle.sync_left.specs.Load.{kernel_load, left_of_child, log_births, log_load}
+use Rattle.sync_left.specs.Load.{left_of_child, log_births, log_load}
 use Rattle.sync_left.specs.Left.{is_unsent, left_of_process, left_of_syncs, may_sync, most_of, most_steps}
 use Rattle.sync_left.proofs.Forked.{child_few}
-use Rattle.sync_left.proofs.StepsLeft.{fork_step_leaves, one_step_leaves, rising_still}
 use Rattle.sync_left.proofs.Pairs.{pairs-within}
 use Rattle.sync_left.proofs.OneStep.{IsBounded, at_most_one, fork-bounded, one_step-bounded}
 use Rattle.sync_left.proofs.OneEntry.{births_kernel, bounded_before, left_then, load_kernel, stays_most, there, unended_apart}
@@ -58,14 +57,9 @@ module _ (system : System) (log : List Entry) (e : Entry) (parent : Pid) (at : �
 
   -- fewer are left
   pub birth_load : log_load system (log ++ e ∷ []) + 1 ≤ log_load system log
-  unfolding run
   birth_load =
-      let k = (there system log e stands).old in
-      let ran = forkless_keep (λ (i : Kernel). IsRising i × (kernel_load i ≤ kernel_load k))
-      (λ p i j held made. (rising_still p i j held.0 made, let less = one_step_leaves p i j held.0 made in omega (arith, held.1, less))) run k parts.to (run_forkless parent (at - 1 - done k parent))
-      (plain_after-rising system log k (there system log e stands).before, omega arith) parts.ran in
-      let less = fork_step_leaves parent child parts.to (there system log e stands).new ran.0 parts.forks in
-      omega (arith, ran.1, less, load_kernel system log k (there system log e stands).before, load_kernel system (log ++ e ∷ []) (there system log e stands).new (there system log e stands).after)
+      let less = load_birth system log e parent at child end (there system log e stands) is in
+      omega (arith, less, load_kernel system log (there system log e stands).old (there system log e stands).before, load_kernel system (log ++ e ∷ []) (there system log e stands).new (there system log e stands).after)
 
   -- ---- those that had not ended
 

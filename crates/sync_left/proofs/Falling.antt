@@ -37,11 +37,6 @@ use Rattle.sync_left.proofs.OneEntry.{all_most, load_most}
 use Rattle.sync_left.proofs.Changed.{page_less}
 use Rattle.sync_left.proofs.Synced.{sync_less, sync_pages, sync_places}
 
--- what tells of steps or closes the log is no birth
-tells_no_birth : (w : What) → tells_or_closes w ≡ true → is_birth w ≡ false
-tells_no_birth (Birth parent at child end) tells = absurd (true≢false (sym tells))
-tells_no_birth w tells = refl
-
 -- ---- the parts: steps, pages of moved processes, and synchronisations with their pages
 
 fewer_steps : (l m p q s t : ℕ) → m + 1 ≤ l → q ≤ p → t + m ≤ s + l → 2 * m + q + t < 2 * l + p + s
@@ -68,13 +63,13 @@ module _ (system : System) (log : List Entry) (e : Entry) (valid : is_system sys
   unfolding Falls
   by_steps steps pages syncs = fewer_steps (log_load system log) (log_load system (log ++ e ∷ [])) (left_of_pages system log) (left_of_pages system (log ++ e ∷ [])) (left_of_syncs system log) (left_of_syncs system (log ++ e ∷ [])) steps pages syncs
 
-  by_pages : is_birth (what e) ≡ false → left_of_pages system (log ++ e ∷ []) < left_of_pages system log → left_of_syncs system (log ++ e ∷ []) + log_load system (log ++ e ∷ []) ≤ left_of_syncs system log + log_load system log → Falls
+  by_pages : left_of_pages system (log ++ e ∷ []) < left_of_pages system log → left_of_syncs system (log ++ e ∷ []) + log_load system (log ++ e ∷ []) ≤ left_of_syncs system log + log_load system log → Falls
   unfolding Falls
-  by_pages no_fork pages syncs = fewer_pages (log_load system log) (log_load system (log ++ e ∷ [])) (left_of_pages system log) (left_of_pages system (log ++ e ∷ [])) (left_of_syncs system log) (left_of_syncs system (log ++ e ∷ [])) (load_most system log e stands no_fork) pages syncs
+  by_pages pages syncs = fewer_pages (log_load system log) (log_load system (log ++ e ∷ [])) (left_of_pages system log) (left_of_pages system (log ++ e ∷ [])) (left_of_syncs system log) (left_of_syncs system (log ++ e ∷ [])) (load_most system log e stands) pages syncs
 
-  by_syncs : is_birth (what e) ≡ false → left_of_pages system (log ++ e ∷ []) ≤ left_of_pages system log → left_of_syncs system (log ++ e ∷ []) + log_load system (log ++ e ∷ []) + 1 ≤ left_of_syncs system log + log_load system log → Falls
+  by_syncs : left_of_pages system (log ++ e ∷ []) ≤ left_of_pages system log → left_of_syncs system (log ++ e ∷ []) + log_load system (log ++ e ∷ []) + 1 ≤ left_of_syncs system log + log_load system log → Falls
   unfolding Falls
-  by_syncs no_fork pages syncs = fewer_syncs (log_load system log) (log_load system (log ++ e ∷ [])) (left_of_pages system log) (left_of_pages system (log ++ e ∷ [])) (left_of_syncs system log) (left_of_syncs system (log ++ e ∷ [])) (load_most system log e stands no_fork) pages syncs
+  by_syncs pages syncs = fewer_syncs (log_load system log) (log_load system (log ++ e ∷ [])) (left_of_pages system log) (left_of_pages system (log ++ e ∷ [])) (left_of_syncs system log) (left_of_syncs system (log ++ e ∷ [])) (load_most system log e stands) pages syncs
 
   -- ---- the processes that have not ended
 
@@ -125,14 +120,14 @@ module _ (system : System) (log : List Entry) (e : Entry) (valid : is_system sys
   page_falls p at i bytes is new =
       let places = same_places (Page p at i bytes) is refl in
       let less = page_less system log e stands p at i bytes is valid legal new in
-      by_syncs (ap is_birth is) (left_still system log e stands (Page p at i bytes) is refl (λ r. refl) refl (after_other (Page p at i bytes) refl (placement system log) (waiting_fetches system log))) (omega (arith, places, less))
+      by_syncs (left_still system log e stands (Page p at i bytes) is refl (λ r. refl) refl (after_other (Page p at i bytes) refl (placement system log) (waiting_fetches system log))) (omega (arith, places, less))
 
   sync_falls : (p : Pid) (small : SmallState) (read : List ℕ) (took : Option ℕ) → what e ≡ Sync p small read took → Falls
   sync_falls p small read (Some g) is = absurd (no_signal_taken system log e p small read g is stands.applies)
   sync_falls p small read None is =
       let places = sync_places system log e stands p small read is (left_of_process system (log ++ e ∷ [])) in
       let less = sync_less system log e stands p small read is valid legal in
-      by_syncs (ap is_birth is) (sync_pages system log e stands p small read is) (omega (arith, places, less))
+      by_syncs (sync_pages system log e stands p small read is) (omega (arith, places, less))
 
   birth_falls : (parent : Pid) (at : ℕ) (child : Pid) (end : ℕ) → what e ≡ Birth parent at child end → Falls
   birth_falls parent at child end is =
@@ -145,8 +140,8 @@ module _ (system : System) (log : List Entry) (e : Entry) (valid : is_system sys
   falls_by (Exit p at end) is new from = exit_falls p at end is
   falls_by (Page p at index bytes) is new from = page_falls p at index bytes is new
   falls_by (Sync p small read took) is new from = sync_falls p small read took is
-  falls_by (Fetch p index) is new from = by_pages (ap is_birth is) (left_fetch system log e p index stands is) (still_most (Fetch p index) is refl refl refl (λ r. refl) (λ r. refl))
-  falls_by (PageIs p index bytes) is new from = by_pages (ap is_birth is) (left_page_is system log e p index bytes stands is) (still_most (PageIs p index bytes) is refl refl refl (λ r. refl) (λ r. refl))
+  falls_by (Fetch p index) is new from = by_pages (left_fetch system log e p index stands is) (still_most (Fetch p index) is refl refl refl (λ r. refl) (λ r. refl))
+  falls_by (PageIs p index bytes) is new from = by_pages (left_page_is system log e p index bytes stands is) (still_most (PageIs p index bytes) is refl refl refl (λ r. refl) (λ r. refl))
   falls_by (Crash k cause) is new from = absurd (true≢false (sym from))
   falls_by (Return k) is new from = absurd (true≢false (sym from))
   falls_by (Rebackup to fresh recs) is new from = absurd (true≢false (sym from))
@@ -174,4 +169,4 @@ to_send_falls system log e valid legal stands new from = falls_by system log e v
 pub to_send_closes : (system : System) (log : List Entry) (e : Entry) → is_system system ≡ true → IsLegalBy Stands system log → Stands system log e → tells_or_closes (what e) ≡ true → left_to_send system (log ++ e ∷ []) ≤ left_to_send system log
 to_send_closes system log e valid legal stands tells =
     no_more (log_load system log) (log_load system (log ++ e ∷ [])) (left_of_pages system log) (left_of_pages system (log ++ e ∷ [])) (left_of_syncs system log) (left_of_syncs system (log ++ e ∷ []))
-    (load_most system log e stands (tells_no_birth (what e) tells)) (left_most system log e stands tells) (syncs_by system log e valid legal stands (what e) refl tells)
+    (load_most system log e stands) (left_most system log e stands tells) (syncs_by system log e valid legal stands (what e) refl tells)

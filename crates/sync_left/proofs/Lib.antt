@@ -1,4 +1,4 @@
-pub mod KernelSums
+pub mod ForkSums
 pub mod Forked
 pub mod StepsLeft
 pub mod Pairs

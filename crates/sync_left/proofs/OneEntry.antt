@@ -7,7 +7,6 @@ use Rattle.t32_base.specs.declared.process.Pid.{Pid}
 use Rattle.sys_text.specs.declared.system.System.{System}
 use Rattle.sys_text.specs.Valid.{is_system}
 use Rattle.plain_kernel.specs.Kernel.{Kernel, process_at}
-use Rattle.plain_kernel.proofs.Pids.{IsRising}
 use Rattle.bus_msg.specs.declared.entry.By.{By}
 use Rattle.bus_msg.specs.declared.entry.Entry.{Entry}
 use Rattle.bus_msg.specs.declared.placed.Placed.{Placed}
@@ -23,6 +22,7 @@ use Rattle.cert_sched.specs.Deeds.{is_cut, is_birth_of, start_of}
 use Rattle.cert_sched.specs.Record.{has_state}
 use Rattle.cert_sched.proofs.BirthKind.{is_birth}
 use Rattle.cert_sched.proofs.BuiltCuts.{by_home_there}
+use Rattle.cert_sched.proofs.LoadLaws.{load_entry}
 use Rattle.cert_sched.proofs.RecordLaws.{has_state-snoc}
 use Rattle.cert_sched.proofs.RunItems.{forkless_keep, items_forkless}
 use Rattle.cert_sched.proofs.StepLaws.{Applied, applied, done_kernel, plain_after-rising}
@@ -36,7 +36,6 @@ use Rattle.page_laws.proofs.Leaving.{one_if, sum_by-le-each, sum_by-less, unende
 use Rattle.sync_laws.proofs.Beside.{start_stays}
 use Rattle.sync_left.specs.Load.{kernel_births, kernel_load, log_births, log_load}
 use Rattle.sync_left.specs.Left.{has_stepped, is_unsent, left_of_process, left_of_syncs, may_sync, most_of, most_steps, pairs_that}
-use Rattle.sync_left.proofs.StepsLeft.{one_step_leaves, rising_still}
 use Rattle.sync_left.proofs.Pairs.{one_if-le, pairs-le}
 use Rattle.sync_left.proofs.OneStep.{IsBounded, left_in, most_in, one_step-bounded}
 
@@ -89,16 +88,14 @@ module _ (system : System) (log : List Entry) (e : Entry) (stands : Stands syste
       let sums = sum_by-le-each (λ (q : Placed). left_in start uncut unsent pages a.old q.pid) (λ (q : Placed). left_of_process system log q.pid) (λ q. before q.pid) qs in
       record { rising = plain_after-rising system log a.old a.before; left = omega (arith, sums, births_kernel system log a.old a.before, load_kernel system log a.old a.before) }
 
-  module _ (no_fork : is_birth (what e) ≡ false) where
-    -- the steps that are left do not rise
-    pub load_most : log_load system (log ++ e ∷ []) ≤ log_load system log
-    load_most =
-        let a = there in
-        let kept = forkless_keep (λ (k : Kernel). IsRising k × (kernel_load k ≤ kernel_load a.old))
-        (λ p k j held made. (rising_still p k j held.0 made, omega (arith, held.1, one_step_leaves p k j held.0 made))) (items_of a.old (what e)) a.old a.new (items_forkless a.old (what e) no_fork)
-        (plain_after-rising system log a.old a.before, omega arith) a.made in
-        omega (arith, kept.1, load_kernel system log a.old a.before, load_kernel system (log ++ e ∷ []) a.new a.after)
+  -- the steps that are left do not rise
+  pub load_most : log_load system (log ++ e ∷ []) ≤ log_load system log
+  load_most =
+      let a = there in
+      let most = load_entry system log e a in
+      omega (arith, most, load_kernel system log a.old a.before, load_kernel system (log ++ e ∷ []) a.new a.after)
 
+  module _ (no_fork : is_birth (what e) ≡ false) where
     -- with these no more is left in sum
     pub then_most : is_system system ≡ true → IsLegalBy Stands system log
         → sum_by (λ (q : Placed). left_then q.pid) (unended_in (placement system log)) + log_births system (log ++ e ∷ []) + log_load system (log ++ e ∷ []) ≤ left_of_syncs system log + log_load system log

@@ -24,6 +24,8 @@ use Rattle.plain_kernel.proofs.Pids.{IsRising}
 use Rattle.bus_msg.specs.declared.placed.Placed.{Placed}
 use Rattle.bus_msg.specs.Places.{same_pid}
 use Rattle.cert_sched.specs.Schedule.{done}
+use Rattle.cert_sched.proofs.ForkWeight.{fork_weighs}
+use Rattle.cert_sched.proofs.KernelSums.{fork_step_lightens, one_step_lightens, step_lowers}
 use Rattle.cert_sched.proofs.MadeLaws.{apart_from}
 use Rattle.cert_sched.proofs.RisingLaws.{NoTwo}
 use Rattle.cert_sched.proofs.PidLaws.{placed_pids}
@@ -31,9 +33,9 @@ use Rattle.page_laws.proofs.BornSums.{others_most}
 use Rattle.page_laws.proofs.Leaving.{one_if}
 use Rattle.sync_left.specs.Load.{kernel_births, kernel_load, left_of_child, left_of_children}
 use Rattle.sync_left.specs.Left.{most_of, pairs_that}
-use Rattle.sync_left.proofs.Forked.{emits_births, fork_pays, parent_less, silent_births}
-use Rattle.sync_left.proofs.KernelSums.{fork_sums, step_sums}
-use Rattle.sync_left.proofs.StepsLeft.{fork_step_leaves, one_step_leaves, rising_still}
+use Rattle.sync_left.proofs.Forked.{emits_births, fork_pays, silent_births}
+use Rattle.sync_left.proofs.ForkSums.{fork_sums}
+use Rattle.sync_left.proofs.StepsLeft.{rising_still}
 use Rattle.sync_left.proofs.Pairs.{pairs-le}
 use Rattle.sync_left.proofs.Rising.{one_rises}
 
@@ -69,7 +71,7 @@ emits_most s t e is =
 
 -- a fork is one more to the parent, and leaves it one less at least
 pub fork_most : (s : ProcState) (child : Pid) → CanFork s → most_of (fork_parent s child) ≤ most_of s
-fork_most s child can = let less = parent_less s child can in omega (arith, less)
+fork_most s child can = let less = fork_weighs s child can in omega (arith, less)
 
 most-here : (p : Pid) (k j : Kernel) → one_step p k ≡ Some j → most_in j p ≤ most_in k p
 unfolding one_step
@@ -117,7 +119,7 @@ at_most_one false = omega arith
 -- a step leaves no more births
 pub births-most : (p : Pid) (k j : Kernel) → IsRising k → one_step p k ≡ Some j → kernel_births j ≤ kernel_births k
 births-most p k j rising made =
-    let most : kernel_births j + 0 ≤ kernel_births k = step_sums (λ (s : ProcState). left_of_children s.small) (λ s letter. refl) 0 silent_births emits_births p k j rising made in
+    let most : kernel_births j + 0 ≤ kernel_births k = step_lowers left_of_children 0 silent_births emits_births p k j rising made in
     omega (arith, most)
 
 -- ---- what is left of a process
@@ -148,7 +150,7 @@ module _ (start : Pid → ℕ) (uncut : Pid → Bool) (unsent : Pid → ℕ → 
       let rises =
       one_rises (λ (q : Placed). left_in k q.pid) (λ (q : Placed). left_in j q.pid) p 1 (λ q other. left-same k j q.pid (one_step-other p k j q.pid made (not_same q.pid p other)) (most-each p k j q.pid made))
       (λ q is. left-more k j q.pid (most-each p k j q.pid made)) qs apart in
-      let less = one_step_leaves p k j bounded.rising made in
+      let less = one_step_lightens p k j bounded.rising made in
       let births = births-most p k j bounded.rising made in
       let before = bounded.left in
       record { rising = rising_still p k j bounded.rising made; left = omega (arith, rises, less, births, before) }
@@ -190,9 +192,9 @@ module _ (start : Pid → ℕ) (uncut : Pid → Bool) (unsent : Pid → ℕ → 
         → sum_by (λ (q : Placed). left_in j q.pid) qs + kernel_births j + kernel_load j + left_of_child (f.was).small + 1 ≤ most
     fork-bounded qs most apart new bounded made =
         let rises = forked_sum qs apart new in
-        let less = fork_step_leaves p c k j bounded.rising made in
+        let less = fork_step_lightens p c k j bounded.rising made in
         let sums : kernel_births j + left_of_children (f.was).small ≡ kernel_births k + left_of_children (fork_parent f.was c).small + left_of_children (fork_child f.was c).small =
-        fork_sums (λ (s : ProcState). left_of_children s.small) p c k j bounded.rising f in
+        fork_sums left_of_children p c k j bounded.rising f in
         let pays = fork_pays f.was c (forks_can f.was f.forks) in
         let before = bounded.left in
         omega (arith, rises, less, sums, pays, before)

@@ -43,6 +43,14 @@ at_first : left_to_send short [] ≡ 2 * 44 + 45
 unfolding boot one_step steps silently plain_after placement told silent_upto
 at_first = refl
 
+-- With one birth allowed the child may make as many, and it may synchronise and send its page at each of its step counts.
+with_birth : System
+with_birth = record store_system { roots = record (root 0 1 Quarter 10) { births = 1 } ∷ [] }
+
+one_birth : left_to_send with_birth [] ≡ 2 * 88 + 45 + 45
+unfolding boot one_step steps silently plain_after placement told silent_upto with_birth
+one_birth = refl
+
 -- its page is sent as it is after three steps
 page_sent : left_to_send short (page 0 ∷ []) ≡ 2 * 44 + 44
 unfolding boot one_step steps silently plain_after placement told silent_upto

@@ -3,6 +3,7 @@ use Rattle.std.specs.Prelude.{ℕ, ◌+◌, ◌*◌, Bool, true, false, not, ◌
 use Rattle.std.specs.List.{sum_by, range_with_len}
 use Rattle.std.specs.Option.{option_map_or}
 use Rattle.t32_base.specs.declared.process.Pid.{Pid}
+use Rattle.t32_base.specs.Small.{SmallState}
 use Rattle.sys_text.specs.declared.system.System.{System}
 use Rattle.proc_state.specs.State.{ProcState}
 use Rattle.sys_calls.specs.Small.{weight}
@@ -78,9 +79,9 @@ left_to_send system log = 2 * log_load system log + left_of_pages system log + l
 -- ---- how much it can be
 
 -- a synchronisation, every page at every step count that the process can have, and the same of the children that it may still fork
-abbrev pub most_of_process : ProcState → ℕ
-most_of_process s = 1 + (s.small).pages * (most_of s + 1) + left_of_children s.small
+abbrev pub most_of_process : SmallState → ℕ
+most_of_process s = 1 + s.pages * (s.steps + weight s + 1) + left_of_children s
 
 -- the same of all processes at boot
 abbrev pub most_syncs : System → ℕ
-most_syncs system = sum_by (λ (e : Pid × ProcState). most_of_process e.1) (boot system).processes
+most_syncs system = sum_by (λ (e : Pid × ProcState). most_of_process (e.1).small) (boot system).processes

@@ -1,3 +1,4 @@
+use Rattle.page_laws.proofs.BornLeft.{left_birth}
 use Rattle.page_laws.proofs.Leaving.{left_fetch, left_page_is, left_most}
 use Rattle.page_laws.proofs.left.left_falls.Goals as goal
 
@@ -9,3 +10,6 @@ returns-clause-page_is c = left_page_is
 
 pub returns-clause-most : goal.returns-clause-most
 returns-clause-most c = left_most
+
+pub returns-clause-birth : goal.returns-clause-birth
+returns-clause-birth c = left_birth
