@@ -4,7 +4,7 @@ use Rattle.std.specs.Prelude.{filter, nat_lt}
 use Rattle.t32_base.specs.declared.process.Pid.{Pid}
 use Rattle.t32_base.specs.declared.letter.BackRec.{BackRec}
 use Rattle.bus_msg.specs.Places.{same_pid}
-use Rattle.backup_records.specs.Records.{record_in, record_of_child, with_birth, with_child, with_child_of, with_record}
+use Rattle.backup_records.specs.Records.{after_birth, record_in, record_of_child, with_child, with_child_of, with_record}
 use Rattle.backup_records.proofs.RecordLaws.{record_mapped}
 
 -- ---- one record more
@@ -93,14 +93,14 @@ found_own (s ∷ rest) p r there = by_test (same_pid s.pid p) refl there (found_
 
 module _ (parent child : Pid) (recs : List BackRec) where
   -- where the record of the parent is not here, none has changed
-  pub birth-elsewhere : record_in recs parent ≡ None → with_birth parent child recs ≡ recs
+  pub birth-elsewhere : record_in recs parent ≡ None → after_birth parent child recs ≡ recs
   birth-elsewhere none = ap (λ (o : Option BackRec). cond (is_some o) (map (with_child_of parent child) (with_record (record_of_child child) recs)) recs) none
 
-  birth-here : is_some (record_in recs parent) ≡ true → with_birth parent child recs ≡ map (with_child_of parent child) (with_record (record_of_child child) recs)
+  birth-here : is_some (record_in recs parent) ≡ true → after_birth parent child recs ≡ map (with_child_of parent child) (with_record (record_of_child child) recs)
   birth-here here = ap (λ b. cond b (map (with_child_of parent child) (with_record (record_of_child child) recs)) recs) here
 
   -- where it is here, the child has one
-  pub birth-child : is_some (record_in recs parent) ≡ true → same_pid parent child ≡ false → record_in (with_birth parent child recs) child ≡ Some (record_of_child child)
+  pub birth-child : is_some (record_in recs parent) ≡ true → same_pid parent child ≡ false → record_in (after_birth parent child recs) child ≡ Some (record_of_child child)
   birth-child here apart =
       ap (λ rs. record_in rs child) (birth-here here)
       ∙ record_mapped (with_child_of parent child) (child_pid parent child) (with_record (record_of_child child) recs) child
@@ -108,7 +108,7 @@ module _ (parent child : Pid) (recs : List BackRec) where
       ∙ ap (λ b. Some (cond b (with_child child (record_of_child child)) (record_of_child child))) apart
 
   -- and every other process has the one that the birth makes of its own
-  pub birth-other : (p : Pid) → same_pid child p ≡ false → record_in (with_birth parent child recs) p ≡ option_map (with_child_of parent child) (record_in recs p)
+  pub birth-other : (p : Pid) → same_pid child p ≡ false → record_in (after_birth parent child recs) p ≡ option_map (with_child_of parent child) (record_in recs p)
   birth-other p other = by_parent (record_in recs parent) refl
     where
       unlike : (r : BackRec) → record_in recs p ≡ Some r → record_in recs parent ≡ None → (b : Bool) → same_pid parent r.pid ≡ b → r ≡ cond b (with_child child r) r
@@ -123,7 +123,7 @@ module _ (parent child : Pid) (recs : List BackRec) where
       left none None there = refl
       left none (Some r) there = ap Some (unlike r there none (same_pid parent r.pid) refl)
 
-      by_parent : (o : Option BackRec) → record_in recs parent ≡ o → record_in (with_birth parent child recs) p ≡ option_map (with_child_of parent child) (record_in recs p)
+      by_parent : (o : Option BackRec) → record_in recs parent ≡ o → record_in (after_birth parent child recs) p ≡ option_map (with_child_of parent child) (record_in recs p)
       by_parent None none = ap (λ rs. record_in rs p) (birth-elsewhere none) ∙ left none (record_in recs p) refl
       by_parent (Some r) there =
           ap (λ rs. record_in rs p) (birth-here (ap is_some there))

@@ -68,8 +68,8 @@ abbrev pub record_of_child : Pid → BackRec
 record_of_child child = record { pid = child; state = None; saved = []; next = 0; counts = no_counts; births = [] }
 
 -- where the record of its parent is here, that has the child last in its births, and the child has a record of its own
-abbrev pub with_birth : Pid → Pid → List BackRec → List BackRec
-with_birth parent child recs = if is_some (record_in recs parent) then map (with_child_of parent child) (with_record (record_of_child child) recs) else recs
+abbrev pub after_birth : Pid → Pid → List BackRec → List BackRec
+after_birth parent child recs = if is_some (record_in recs parent) then map (with_child_of parent child) (with_record (record_of_child child) recs) else recs
 
 -- ---- a synchronisation
 
@@ -100,7 +100,7 @@ record_after w r = r
 abbrev pub records_after : What → List BackRec → List BackRec
 records_after (Mail at letter) recs = map (record_after (Mail at letter)) recs
 records_after (Exit pid at end) recs = filter (λ (r : BackRec). not (same_pid r.pid pid)) recs
-records_after (Birth parent at child end) recs = with_birth parent child recs
+records_after (Birth parent at child end) recs = after_birth parent child recs
 records_after (Page pid at index bytes) recs = recs
 records_after (Sync pid small read took) recs = map (record_after (Sync pid small read took)) recs
 records_after (Fetch pid index) recs = recs

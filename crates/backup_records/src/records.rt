@@ -4,7 +4,7 @@ ghost use Rattle.std.specs.Option.{option_copied};
 ghost use Rattle.t32_base.specs.declared.letter.BackRec.{BackRec};
 ghost use Rattle.bus_msg.specs.Places.{same_pid};
 ghost use Rattle.crash_notice.specs.Splitting.{moves_here, stays};
-ghost use Rattle.backup_records.specs.Records.{CanCount, CanCut, CanNote, CanSave, are_rising, counted_by_sender, cut_of_synced, record_in, records_after, saved_by_receiver, with_birth, with_child_of, with_record, with_saved};
+ghost use Rattle.backup_records.specs.Records.{CanCount, CanCut, CanNote, CanSave, after_birth, are_rising, counted_by_sender, cut_of_synced, record_in, records_after, saved_by_receiver, with_child_of, with_record, with_saved};
 
 use crate::by_pid::{bear_at, count_at, cut_at, moved_pids, save_at, take_out};
 use backup_queue::record::Record;
@@ -158,7 +158,7 @@ impl Records {
     // that. Where the parent's is refused memory, the child's goes again.
     fn note_birth(&mut self, parent: Pid, child: Pid) -> Result<(), NoMemory>
         requires { record_in self.old child ≡ None }
-        ensures ok { OnOk result (self.new ≡ with_birth parent child self.old) }
+        ensures ok { OnOk result (self.new ≡ after_birth parent child self.old) }
         ensures err { OnErr result (self.new ≡ self.old) }
     {
         if self.get(parent).is_none() {

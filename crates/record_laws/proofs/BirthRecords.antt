@@ -26,7 +26,7 @@ use Rattle.cert_sched.proofs.LogLaws.{IsLegal-before, IsLegal-last}
 use Rattle.cert_sched.proofs.RecordLaws.{has_state-snoc, letters_started, saved_letters-start, since-snoc, start_of-snoc}
 use Rattle.cert_sched.proofs.StatedLaws.{stated_there}
 use Rattle.cert_sched.proofs.ThereLaws.{found_among}
-use Rattle.backup_records.specs.Records.{record_after, record_in, record_of_child, with_birth, with_child_of}
+use Rattle.backup_records.specs.Records.{after_birth, record_after, record_in, record_of_child, with_child_of}
 use Rattle.backup_records.proofs.BirthLaws.{birth-child, birth-elsewhere, birth-other}
 use Rattle.record_laws.specs.Kept.{KeepsRecords, has_backup_in, is_renewed}
 use Rattle.record_laws.proofs.Backed.{record_there, with_backup_unended}
@@ -109,7 +109,7 @@ module _ (system : System) (log : List Entry) (e : Entry) (valid : is_system sys
     child_backed : has_backup_in system (log ++ e ∷ []) k child ≡ has_backup_in system log k parent
     child_backed = ap backed (found_child system log e stands all parent at child end is born) ∙ sym (ap backed born.found)
 
-    of_child : (b : Bool) → has_backup_in system log k parent ≡ b → record_in (with_birth parent child recs) child ≡ cond (has_backup_in system (log ++ e ∷ []) k child) (backup_record system (log ++ e ∷ []) child) None
+    of_child : (b : Bool) → has_backup_in system log k parent ≡ b → record_in (after_birth parent child recs) child ≡ cond (has_backup_in system (log ++ e ∷ []) k child) (backup_record system (log ++ e ∷ []) child) None
     of_child true has =
         birth-child parent child recs (ap is_some (keeps parent ∙ ap (λ b. cond b (backup_record system log parent) None) has) ∙ record_there system log parent valid before (ap is_some born.found)) apart
         ∙ sym child_record
@@ -120,7 +120,7 @@ module _ (system : System) (log : List Entry) (e : Entry) (valid : is_system sys
         ∙ ap (λ b. cond b (backup_record system (log ++ e ∷ []) child) None) (sym (child_backed ∙ has))
 
     of_other : (p : Pid) → same_pid child p ≡ false → (b : Bool) → has_backup_in system log k p ≡ b
-        → record_in (with_birth parent child recs) p ≡ cond (has_backup_in system (log ++ e ∷ []) k p) (backup_record system (log ++ e ∷ []) p) None
+        → record_in (after_birth parent child recs) p ≡ cond (has_backup_in system (log ++ e ∷ []) k p) (backup_record system (log ++ e ∷ []) p) None
     of_other p other b has = birth-other parent child recs p other ∙ ap (option_map (with_child_of parent child)) (keeps p ∙ ap (λ b. cond b (backup_record system log p) None) has) ∙ by_backup b has
       where
         same : has_backup_in system (log ++ e ∷ []) k p ≡ has_backup_in system log k p
@@ -135,11 +135,11 @@ module _ (system : System) (log : List Entry) (e : Entry) (valid : is_system sys
         by_backup false has = ap (λ b. cond b (backup_record system (log ++ e ∷ []) p) None) (sym (same ∙ has))
 
     -- the records stay those of the log
-    pub births_kept : KeepsRecords system (log ++ e ∷ []) k (with_birth parent child recs)
+    pub births_kept : KeepsRecords system (log ++ e ∷ []) k (after_birth parent child recs)
     births_kept p = by_pid (same_pid child p) refl
       where
-        by_pid : (b : Bool) → same_pid child p ≡ b → record_in (with_birth parent child recs) p ≡ cond (has_backup_in system (log ++ e ∷ []) k p) (backup_record system (log ++ e ∷ []) p) None
+        by_pid : (b : Bool) → same_pid child p ≡ b → record_in (after_birth parent child recs) p ≡ cond (has_backup_in system (log ++ e ∷ []) k p) (backup_record system (log ++ e ∷ []) p) None
         by_pid true same =
-            subst (λ (q : Pid). record_in (with_birth parent child recs) q ≡ cond (has_backup_in system (log ++ e ∷ []) k q) (backup_record system (log ++ e ∷ []) q) None) (λ i. record { 0 = eqb-true child.0 p.0 same i })
+            subst (λ (q : Pid). record_in (after_birth parent child recs) q ≡ cond (has_backup_in system (log ++ e ∷ []) k q) (backup_record system (log ++ e ∷ []) q) None) (λ i. record { 0 = eqb-true child.0 p.0 same i })
             (of_child (has_backup_in system log k parent) refl)
         by_pid false other = of_other p other (has_backup_in system log k p) refl
