@@ -9,13 +9,14 @@ use t32_base::lists::List;
 use t32_base::process::{Pid, Small};
 
 /// What a process did in its turn: it made silent steps; or its last step sent something; or it synchronised, by these posts; or it
-/// had no step.
+/// had no step; or, after silent steps or none, it stands before its fork.
 #[derive(Drop)]
 pub enum Quantum {
     Moved,
     Sent(Sending),
     Synced(List<Post>),
     Stuck,
+    Forks,
 }
 
 /// What a process sent by its step `at`. It becomes a post where it is queued: a post is large, and most quanta
@@ -40,5 +41,6 @@ pub fn quantum_of(small: &Small, ran: Ran) -> Quantum
             emission,
         }),
         Ran::Stuck => Quantum::Stuck,
+        Ran::Forks => Quantum::Forks,
     }
 }
