@@ -1,5 +1,5 @@
 -- A process that is due synchronises: with its batch queued a cluster goes on to follow each log that it followed.
-use Rattle.std.proofs.Common.{◌≡◌, ◌+◌, ◌-◌, ◌*◌, ◌≤◌, refl, sym, ◌∙◌, ap, subst, List, [], ◌∷◌, Bool, true, false, cond, Some, is_some, true≢false}
+use Rattle.std.proofs.Common.{◌≡◌, ◌+◌, ◌-◌, ◌*◌, ◌≤◌, refl, sym, ◌∙◌, ap, subst, List, [], ◌∷◌, Bool, true, false, cond, not, ◌||◌, Some, is_some, true≢false}
 use Rattle.std.specs.Prelude.{find, option_map, replicate}
 use Rattle.std.proofs.lemmas.Bool.{not-true}
 use Rattle.t32_base.specs.declared.process.Pid.{Pid}
@@ -11,6 +11,7 @@ use Rattle.bus_msg.specs.declared.entry.Entry.{Entry}
 use Rattle.bus_msg.specs.Places.{same_pid}
 use Rattle.cert_sched.specs.Parts.{rising}
 use Rattle.cert_sched.specs.Schedule.{placement}
+use Rattle.cert_sched.specs.Record.{has_state}
 use Rattle.cert_sched.specs.Steps.{silent_upto}
 use Rattle.cert_sched.specs.Legal.{IsLegalBy, Stands}
 use Rattle.cert_sched.specs.Built.{BuiltMayFollow}
@@ -92,7 +93,7 @@ module _ (c : ClusterView) (p : Pid) (process : Process) (valid : is_system c.sy
 
   -- its batch is under way, with all its pages left
   begins : BatchMay c.system log c.number p (state_of process) process.read (marked_pages process)
-  begins = batch_begins c.system log p process c.number marked may_send (no_children c.system log p legal) due
+  begins = batch_begins c.system log p process c.number marked may_send (no_children c.system log p legal) (ap (λ b. b || not (has_state c.system log p)) due)
 
   posts : batch process c.number ≡ posts_left c.number p (state_of process) process.read (marked_pages process)
   posts = batch_posts c.system log p process c.number marked

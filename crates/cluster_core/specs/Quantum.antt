@@ -9,7 +9,7 @@ use Rattle.proc_state.specs.declared.process.Process.{Process}
 use Rattle.proc_state.specs.State.{state_of}
 use Rattle.sys_calls.specs.declared.steps.Emission.{Emission}
 use Rattle.sys_calls.specs.declared.steps.Emission.TheVariants.{Mail as SentMail, Exit as SentExit}
-use Rattle.sys_calls.specs.Calls.{Emits}
+use Rattle.sys_calls.specs.Calls.{Emits, Forks}
 use Rattle.sys_calls.specs.Next.{next_step, has_step}
 use Rattle.roll_forward.specs.RunsOut.{RunsOut}
 use Rattle.roll_forward.specs.Advancing.{going, rolled_on}
@@ -22,10 +22,10 @@ use Rattle.quanta.specs.declared.limits.Limits.{Limits}
 use Rattle.quanta.specs.declared.quantum.Ran.{Ran}
 use Rattle.quanta.specs.declared.quantum.Ran.TheVariants.{Moved as RanOn, Refused, Sent as RanSending, Stuck as RanStuck, Forks as RanToFork}
 use Rattle.quanta.specs.Limited.{is_due, is_within}
-use Rattle.quanta.specs.Quantum.{RunsOn, Moves as MovesAlone, Sends as SendsAlone}
+use Rattle.quanta.specs.Quantum.{RunsOn, Moves as MovesAlone, Sends as SendsAlone, StandsAtFork}
 use Rattle.cluster_core.specs.declared.quantum.Sending.{Sending}
 use Rattle.cluster_core.specs.declared.quantum.Quantum.{Quantum}
-use Rattle.cluster_core.specs.declared.quantum.Quantum.TheVariants.{Moved, Sent, Synced, Stuck}
+use Rattle.cluster_core.specs.declared.quantum.Quantum.TheVariants.{Moved, Sent, Synced, Stuck, Forks as AtFork}
 use Rattle.cluster_core.specs.View.{Held, Runs, Rolls, Waits, IsHeldWithin, can_act}
 
 -- ---- what is withheld
@@ -85,6 +85,20 @@ pub record Sends (limits : Limits) (most : ℕ) (old : Held) (sending : Sending)
   pub pid_is : sending.pid ≡ (now.small).pid
   pub at_is : sending.at ≡ (now.small).steps
 
+-- steps that are withheld, and then silent ones, after which a process that is not due stands before its fork
+pub record ComesToFork (limits : Limits) (most : ℕ) (old new : Held) : Type 0 where
+  pub rolled : ℕ
+  pub silent : ℕ
+  pub between : Process
+  pub now : Process
+  pub few : rolled + silent < most
+  pub rolls : RollsTo rolled old (Runs between)
+  pub runs : RunsOn silent between now
+  pub undue : is_due limits now ≡ false
+  pub forks : next_step (state_of now) ≡ Forks
+  pub within : is_within limits between ≡ true → is_within limits now ≡ true
+  pub new_is : new ≡ Runs now
+
 -- one that runs and is due synchronises, by the posts of its batch
 pub record Syncs (limits : Limits) (by : ClusterNo) (old : Held) (posts : List Post) (new : Held) : Type 0 where
   pub process : Process
@@ -93,12 +107,13 @@ pub record Syncs (limits : Limits) (by : ClusterNo) (old : Held) (posts : List P
   pub posts_are : posts ≡ batch process by
   pub new_is : new ≡ Runs (synced process)
 
--- in a cluster it moved, or sent something, or synchronised, or could not move; after want of memory nothing has changed
+-- in a cluster it moved, or sent something, or synchronised, or could not move, or came to its fork; after want of memory nothing has changed
 abbrev pub RunsQuantum : Limits → ClusterNo → ℕ → Held → Result Quantum NoMemory → Held → Type 0
 RunsQuantum limits by most old (Ok Moved) new = Moves limits most old new
 RunsQuantum limits by most old (Ok (Sent sending)) new = Sends limits most old sending new
 RunsQuantum limits by most old (Ok (Synced posts)) new = Syncs limits by old posts new
 RunsQuantum limits by most old (Ok Stuck) new = (can_act limits old ≡ false) × (new ≡ old)
+RunsQuantum limits by most old (Ok AtFork) new = ComesToFork limits most old new
 RunsQuantum limits by most old (Err fault) new = new ≡ old
 
 -- ---- its part in which the process runs
@@ -109,12 +124,7 @@ quantum_of small RanOn = Moved
 quantum_of small Refused = Moved
 quantum_of small (RanSending emission) = Sent (record { pid = small.pid; at = small.steps; emission = emission })
 quantum_of small RanStuck = Stuck
-quantum_of small RanToFork = Moved
-
--- it stands before its fork
-abbrev pub stands_at_fork : Ran → Bool
-stands_at_fork RanToFork = true
-stands_at_fork ran = false
+quantum_of small RanToFork = AtFork
 
 -- silent steps, none of which leads beyond the limits
 pub record RestMoves (limits : Limits) (most made : ℕ) (old new : Process) : Type 0 where
@@ -128,12 +138,18 @@ pub record RestSends (limits : Limits) (most made : ℕ) (old : Process) (sendin
   pub pid_is : sending.pid ≡ (new.small).pid
   pub at_is : sending.at ≡ (new.small).steps
 
+-- silent steps up to its fork, none of which leads beyond the limits
+pub record RestComesToFork (limits : Limits) (most made : ℕ) (old new : Process) : Type 0 where
+  pub stands : StandsAtFork limits most made old new
+  pub within : is_within limits old ≡ true → is_within limits new ≡ true
+
 -- the rest of a turn after so many steps: where there were none, it may be due and synchronise, or have no step, or no memory for the first
 abbrev pub ActsOn : Limits → ClusterNo → ℕ → ℕ → Process → Result Quantum NoMemory → Process → Type 0
 ActsOn limits by most made old (Ok Moved) new = RestMoves limits most made old new
 ActsOn limits by most made old (Ok (Sent sending)) new = RestSends limits most made old sending new
 ActsOn limits by most made old (Ok (Synced posts)) new = (made ≡ 0) × (is_due limits old ≡ true) × (posts ≡ batch old by) × (new ≡ synced old)
 ActsOn limits by most made old (Ok Stuck) new = (made ≡ 0) × (is_due limits old ≡ false) × (has_step (next_step (state_of old)) ≡ false) × (new ≡ old)
+ActsOn limits by most made old (Ok AtFork) new = RestComesToFork limits most made old new
 ActsOn limits by most made old (Err fault) new = (made ≡ 0) × (new ≡ old)
 
 -- ---- what is posted

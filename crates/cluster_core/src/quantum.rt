@@ -1,6 +1,6 @@
 //! What a process did when it had its turn.
-ghost use Rattle.std.specs.Prelude.{◌≡◌, false};
-ghost use Rattle.cluster_core.specs.Quantum.{quantum_of, stands_at_fork};
+ghost use Rattle.std.specs.Prelude.{◌≡◌};
+ghost use Rattle.cluster_core.specs.Quantum.{quantum_of};
 
 use bus_msg::entry::Post;
 use quanta::quantum::Ran;
@@ -9,13 +9,14 @@ use t32_base::lists::List;
 use t32_base::process::{Pid, Small};
 
 /// What a process did in its turn: it made silent steps; or its last step sent something; or it synchronised, by these posts; or it
-/// had no step.
+/// had no step; or, after silent steps or none, it stands before its fork.
 #[derive(Drop)]
 pub enum Quantum {
     Moved,
     Sent(Sending),
     Synced(List<Post>),
     Stuck,
+    Forks,
 }
 
 /// What a process sent by its step `at`. It becomes a post where it is queued: a post is large, and most quanta
@@ -27,10 +28,8 @@ pub struct Sending {
     pub emission: Emission,
 }
 
-/// What a process that runs did in a quantum, after which it has this state. A step for which memory was refused is not made. No process stands
-/// before a fork yet. Takes no memory.
+/// What a process that runs did in a quantum, after which it has this state. A step for which memory was refused is not made. Takes no memory.
 pub fn quantum_of(small: &Small, ran: Ran) -> Quantum
-    requires { stands_at_fork ran ≡ false }
     ensures { result ≡ quantum_of small.now ran }
 {
     match ran {
@@ -42,6 +41,6 @@ pub fn quantum_of(small: &Small, ran: Ran) -> Quantum
             emission,
         }),
         Ran::Stuck => Quantum::Stuck,
-        Ran::Forks => unreachable!(),
+        Ran::Forks => Quantum::Forks,
     }
 }

@@ -86,6 +86,7 @@ fn run_next(
             Ok(Worked::Queued)
         }
         Quantum::Stuck => stuck(alloc, here),
+        Quantum::Forks => unreachable!(),
     }
 }
 

@@ -16,7 +16,7 @@ use Rattle.bus_msg.specs.declared.entry.Entry.{Entry}
 use Rattle.roll_forward.specs.Advancing.{IsNewborn}
 use Rattle.cert_sched.specs.Rules.{keeps_limits}
 use Rattle.sync_laws.specs.Running.{RunsMarked}
-use Rattle.mark_laws.proofs.BornMarks.{forks_at}
+use Rattle.sync_laws.proofs.BirthStands.{forks_at}
 use Rattle.limit_laws.specs.Within.{KeepsLimits, is_within_by}
 use Rattle.limit_laws.proofs.OwnCounts.{own_limits, own_reads}
 use Rattle.limit_laws.proofs.StepLimits.{one_more, start_undue, undue_within}

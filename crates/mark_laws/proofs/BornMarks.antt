@@ -9,7 +9,7 @@ use Rattle.proc_state.specs.declared.process.Process.{Process}
 use Rattle.proc_state.specs.State.{ProcState, SameRest, has_ended, state_of}
 use Rattle.sys_calls.specs.Calls.{Forks}
 use Rattle.sys_calls.specs.Next.{next_step, silently}
-use Rattle.sys_calls.specs.Fork.{before_fork, fork_child, fork_parent, if_forks}
+use Rattle.sys_calls.specs.Fork.{fork_child, fork_parent}
 use Rattle.plain_kernel.specs.Kernel.{Kernel, process_at}
 use Rattle.bus_msg.specs.declared.entry.What.TheVariants.{Birth}
 use Rattle.bus_msg.specs.declared.entry.Entry.{Entry}
@@ -19,7 +19,7 @@ use Rattle.cert_sched.specs.Schedule.{done, done_after, placement, plain_after, 
 use Rattle.cert_sched.specs.Deeds.{is_birth_of, is_cut, saved_letters, start_of, starts}
 use Rattle.cert_sched.specs.Told.{cluster_lost}
 use Rattle.cert_sched.specs.Moved.{any_since_moved}
-use Rattle.cert_sched.specs.Steps.{before_fork_at, saved_of, silent_upto}
+use Rattle.cert_sched.specs.Steps.{saved_of, silent_upto}
 use Rattle.cert_sched.specs.Rules.{is_by_right}
 use Rattle.cert_sched.specs.Kinds.{KindHolds}
 use Rattle.cert_sched.specs.Legal.{IsLegalBy, Stands}
@@ -34,6 +34,7 @@ use Rattle.read_laws.proofs.LogReads.{itself}
 use Rattle.read_laws.proofs.RollingReads.{silent_next}
 use Rattle.sync_laws.specs.Marked.{IsMarked}
 use Rattle.sync_laws.specs.Running.{RunsMarked}
+use Rattle.sync_laws.proofs.BirthStands.{forks_at}
 use Rattle.sync_laws.proofs.MarksLead.{marks_count}
 use Rattle.mark_laws.specs.Beside.{is_some_page}
 use Rattle.mark_laws.specs.Sent.{SentUpto}
@@ -54,20 +55,6 @@ here system log p s there =
     by_kernel : (o : Option Kernel) → option_and_then (λ k. process_at k p) o ≡ Some s → option_map_or (λ k. done k p) o 0 ≡ (s.small).steps
     by_kernel None is = cc
     by_kernel (Some k) is = ap (λ (o : Option ProcState). option_map_or (λ (s : ProcState). (s.small).steps) o 0) is
-
--- a process before its fork, to which silent steps lead, is where the log says that it forks by its next step
-pub forks_at : (system : System) (log : List Entry) (p : Pid) (s : ProcState) → silent_upto system log p (s.small).steps ≡ Some s → next_step s ≡ Forks → before_fork_at system log p ((s.small).steps + 1) ≡ Some s
-unfolding before_fork_at silent_upto
-forks_at system log p s reached forks =
-    let same : (s.small).steps + 1 - 1 - done_after system log p ≡ (s.small).steps - done_after system log p = omega arith in
-    ap (λ n. option_and_then (before_fork n) (process_after system log p)) same ∙ by_process (process_after system log p) reached
-  where
-    n : ℕ
-    n = (s.small).steps - done_after system log p
-
-    by_process : (o : Option ProcState) → option_and_then (silently n) o ≡ Some s → option_and_then (before_fork n) o ≡ Some s
-    by_process None is = cc
-    by_process (Some w) is = ap (λ o. option_and_then (λ q. if_forks q (next_step q)) o) is ∙ ap (if_forks s) forks
 
 module _ (system : System) (log : List Entry) (e : Entry) (p child : Pid) (end : ℕ) (old : Process) (runs : RunsMarked system log p old) (stands : Stands system log e) (is : what e ≡ Birth p ((old.small).steps + 1) child end) where
   abbrev more : List Entry

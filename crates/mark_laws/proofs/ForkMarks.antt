@@ -1,5 +1,5 @@
 -- A fork leaves the marks of the parent: it changes its registers, its ends and its births, and no page. So does a birth in the log, to every process that has not ended.
-use Rattle.std.proofs.Common.{◌≡◌, ℕ, ◌+◌, ◌<◌, sym, ◌∙◌, ap, subst, arith, List, Bool, true, false, Some}
+use Rattle.std.proofs.Common.{◌≡◌, ℕ, ◌+◌, ◌<◌, sym, ◌∙◌, ap, subst, arith, List, Bool, true, false, Some, length, Option}
 use Rattle.std.specs.Prelude.{slice_get}
 use Rattle.std.specs.Option.{option_map_or}
 use Rattle.t32_base.specs.declared.process.Pid.{Pid}
@@ -9,6 +9,11 @@ use Rattle.rv_mem.specs.Memory.{page_at}
 use Rattle.proc_state.specs.declared.process.Process.{Process}
 use Rattle.proc_state.specs.State.{ProcState, SameRest, state_of}
 use Rattle.sys_calls.specs.Fork.{fork_parent}
+use Rattle.sys_calls.specs.Steps.{read_after}
+use Rattle.sys_calls.proofs.ForkLaws.{forks_marks_none, forks_takes_none}
+use Rattle.roll_forward.specs.Rolling.{RollingState}
+use Rattle.roll_forward.specs.Advancing.{Advances}
+use Rattle.roll_forward.specs.declared.rolled.Rolled.TheVariants.{Born}
 use Rattle.bus_msg.specs.declared.entry.What.TheVariants.{Birth}
 use Rattle.bus_msg.specs.declared.entry.Entry.{Entry}
 use Rattle.bus_msg.specs.PlacedAfter.{what}
@@ -21,9 +26,11 @@ use Rattle.cert_sched.specs.Legal.{IsLegalBy, Stands}
 use Rattle.cert_sched.specs.Simulation.{IsUnended}
 use Rattle.cert_sched.proofs.ThereLaws.{unended_not_born}
 use Rattle.page_laws.proofs.OneEntry.{moves_none}
+use Rattle.read_laws.specs.ReadsFrom.{ReadsFrom}
 use Rattle.read_laws.proofs.LogReads.{itself}
 use Rattle.sync_laws.specs.Marked.{IsMarked, arrived_below}
 use Rattle.mark_laws.specs.Beside.{LeavesMarks, is_some_page}
+use Rattle.mark_laws.specs.Rolled.{RollsMarked}
 use Rattle.mark_laws.specs.Sent.{SentUpto}
 use Rattle.mark_laws.proofs.SentPages.{never_at, sent_later}
 
@@ -40,20 +47,49 @@ module _ (system : System) (log : List Entry) (p child : Pid) (old new : Process
   pub forked_sent : SentUpto system log p (old.small).steps → SentUpto system log p (new.small).steps
   forked_sent upto = let count = forked_steps in sent_later system log p (old.small).steps (new.small).steps (omega (arith, count)) upto
 
-  pub forked_marked : SameRest old new → IsMarked system log p old → SentUpto system log p (old.small).steps → IsMarked system log p new
-  forked_marked rest marked upto =
+  forked_bytes : (new.ram).bytes ≡ (old.ram).bytes
+  forked_bytes = ap (λ (s : ProcState). s.memory) forked
+
+  forked_as : new.read ≡ old.read → new.since ≡ old.since → (new.ram).dirty ≡ (old.ram).dirty → IsMarked system log p old → SentUpto system log p (old.small).steps → IsMarked system log p new
+  forked_as read since dirty marked upto =
       let count = forked_steps in
       record {
-        since_start = rest.since ∙ marked.since_start;
-        read =
-            ap rising rest.read
-            ∙ marked.read
-            ∙ sym (ap (λ (s : ProcState). numbers_read (arrived_below s.next (saved_of system log p)) s.mail) forked);
+        since_start = since ∙ marked.since_start;
+        read = ap rising read ∙ marked.read ∙ sym (ap (λ (s : ProcState). numbers_read (arrived_below s.next (saved_of system log p)) s.mail) forked);
         clean = λ i within unmarked.
-            marked.clean i (subst (λ n. i < n) forked_pages within) ((λ j. option_map_or (λ (b : Bool). b) (slice_get (sym rest.ram j).dirty i) false) ∙ unmarked)
-            ∙ (λ j. Some (page_at (sym rest.ram j).bytes i));
+            marked.clean i (subst (λ n. i < n) forked_pages within) (ap (λ marks. option_map_or (λ (b : Bool). b) (slice_get marks i) false) (sym dirty) ∙ unmarked)
+            ∙ ap (λ bytes. Some (page_at bytes i)) (sym forked_bytes);
         unsent = λ i within is. never_at system log p (old.small).steps (new.small).steps i (omega (arith, count)) upto;
       }
+
+  pub forked_marked : SameRest old new → IsMarked system log p old → SentUpto system log p (old.small).steps → IsMarked system log p new
+  forked_marked rest = forked_as rest.read rest.since (λ j. (rest.ram j).dirty)
+
+-- ---- a parent that rolls forward, and makes its fork again
+
+module _ (system : System) (log : List Entry) (p child : Pid) (process : Option Process) (old new : RollingState) (again : Advances (Born child process) old new) where
+  read_again : (new.process).read ≡ (old.process).read
+  read_again = (again.taken).read ∙ ap (read_after (old.process).read) (forks_takes_none (state_of old.process) (again.step).0)
+
+  dirty_again : ((new.process).ram).dirty ≡ ((old.process).ram).dirty
+  dirty_again = again.marks ∙ forks_marks_none (state_of old.process) ((old.process).ram).dirty (again.step).0
+
+  again_marked : IsMarked system log p old.process → SentUpto system log p ((old.process).small).steps → IsMarked system log p new.process
+  again_marked = forked_as system log p child old.process new.process (again.step).1 read_again (again.taken).since dirty_again
+
+  pub again_rolls : RollsMarked system log p old.process → SentUpto system log p ((old.process).small).steps → RollsMarked system log p new.process
+  again_rolls rolls upto = record {
+    valid = rolls.valid;
+    legal = rolls.legal;
+    unended = rolls.unended;
+    reads = subst (ReadsFrom (saved_of system log p)) (sym (ap (λ (s : ProcState). s.mail) (again.step).1)) rolls.reads;
+    next = ap (λ (s : ProcState). s.next) (again.step).1 ∙ rolls.next;
+    pages = ap (λ (s : ProcState). (s.small).pages) (again.step).1 ∙ rolls.pages ∙ sym (ap length dirty_again);
+    marked = again_marked rolls.marked upto;
+  }
+
+  pub again_sent : SentUpto system log p ((old.process).small).steps → SentUpto system log p ((new.process).small).steps
+  again_sent = forked_sent system log p child old.process new.process (again.step).1
 
 -- ---- the log
 

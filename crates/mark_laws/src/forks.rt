@@ -1,5 +1,5 @@
 //! A fork, or a birth in the log, and the marks of parent and child.
-ghost use Rattle.std.specs.Prelude.{ℕ, ◌≡◌, ◌+◌, ◌≤◌, true, false, List, [], ◌∷◌, ◌++◌, length, replicate};
+ghost use Rattle.std.specs.Prelude.{ℕ, ◌≡◌, ◌+◌, ◌≤◌, true, false, List, [], ◌∷◌, ◌++◌, length, replicate, Option};
 ghost use Rattle.t32_base.specs.declared.process.Pid.{Pid};
 ghost use Rattle.sys_text.specs.declared.system.System.{System};
 ghost use Rattle.sys_text.specs.Valid.{is_system};
@@ -11,7 +11,9 @@ ghost use Rattle.sys_calls.specs.Next.{next_step};
 ghost use Rattle.bus_msg.specs.declared.entry.What.TheVariants.{Birth};
 ghost use Rattle.bus_msg.specs.declared.entry.Entry.{Entry};
 ghost use Rattle.bus_msg.specs.PlacedAfter.{what};
-ghost use Rattle.roll_forward.specs.Advancing.{IsNewborn};
+ghost use Rattle.roll_forward.specs.Advancing.{Advances, IsNewborn};
+ghost use Rattle.roll_forward.specs.Rolling.{RollingState};
+ghost use Rattle.roll_forward.specs.declared.rolled.Rolled.TheVariants.{Born};
 ghost use Rattle.cert_sched.specs.Moved.{any_since_moved};
 ghost use Rattle.cert_sched.specs.Steps.{saved_of, start_steps};
 ghost use Rattle.cert_sched.specs.Legal.{IsLegalBy, Stands};
@@ -19,6 +21,7 @@ ghost use Rattle.cert_sched.specs.Simulation.{IsUnended};
 ghost use Rattle.sync_laws.specs.Marked.{IsMarked};
 ghost use Rattle.sync_laws.specs.Running.{RunsMarked};
 ghost use Rattle.mark_laws.specs.Beside.{LeavesMarks, is_some_page};
+ghost use Rattle.mark_laws.specs.Rolled.{RollsMarked};
 ghost use Rattle.mark_laws.specs.Sent.{SentUpto};
 
 /// A law and no code: a process that is marked, of which no page was sent from a later step, is marked after a fork, which
@@ -27,6 +30,13 @@ pub fn forks_keep_marks()
     ensures marked { (system : System) (log : List Entry) (p child : Pid) (old new : Process) → state_of new ≡ fork_parent (state_of old) child → SameRest old new → IsMarked system log p old → SentUpto system log p (old.small).steps → IsMarked system log p new }
     // Its pages were sent up to where it is now, too.
     ensures sent { (system : System) (log : List Entry) (p child : Pid) (old new : Process) → state_of new ≡ fork_parent (state_of old) child → SentUpto system log p (old.small).steps → SentUpto system log p (new.small).steps }
+{}
+
+/// A law and no code: so does a fork that a parent that rolls forward makes again: it rolls forward with its marks.
+pub fn forks_again_keep_marks()
+    ensures rolls { (system : System) (log : List Entry) (p child : Pid) (process : Option Process) (old new : RollingState) → Advances (Born child process) old new → RollsMarked system log p old.process → SentUpto system log p ((old.process).small).steps → RollsMarked system log p new.process }
+    // Its pages were sent up to where it is now, too.
+    ensures sent { (system : System) (log : List Entry) (p child : Pid) (process : Option Process) (old new : RollingState) → Advances (Born child process) old new → SentUpto system log p ((old.process).small).steps → SentUpto system log p ((new.process).small).steps }
 {}
 
 /// A law and no code: a birth leaves the marks of each process that has not ended, the parent among them.

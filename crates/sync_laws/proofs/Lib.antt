@@ -2,6 +2,7 @@ pub mod Beside
 pub mod WholePages
 pub mod PageEntry
 pub mod Standing
+pub mod BirthStands
 pub mod CutEntry
 pub mod CutMarks
 pub mod PagedAccounts

@@ -3,6 +3,7 @@
 
 pub mod accounts;
 pub mod batches;
+pub mod births;
 pub mod cuts;
 pub mod marks;
 pub mod pages;
