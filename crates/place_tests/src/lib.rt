@@ -3,4 +3,8 @@
 #![tactic(auto)]
 
 #[cfg(test)]
+mod births;
+#[cfg(test)]
 mod places;
+#[cfg(test)]
+mod taking;

@@ -1,142 +1,21 @@
 //! One system of three clusters with two roots, whose placements and routes were worked by hand.
-ghost use Rattle.channel_table.specs.Changes.{CanBeAbsorbed, IsRoutable};
+ghost use Rattle.channel_table.specs.Changes.{IsRoutable};
 
-use bus_msg::entry::{By, Cause, Dests, Entry, Post, What};
+use crate::taking::{
+    FIRST, SECOND, absorbs, bears, booted, crash, exit, rebackup, records, shows, small, sync,
+};
+use bus_msg::entry::{By, Dests, Post, What};
 use bus_msg::placed::Placed;
 use bus_msg::shared::Shared;
 use channel_table::placement::Placement;
 use std::alloc::Global;
 use std::test::Fail;
-use t32_base::letter::{BackRec, Body, Letter, To};
+use t32_base::letter::{Body, Letter, To};
 use t32_base::lists::List;
-use t32_base::process::{ClusterNo, Counts, End, EndState, Mode, Pid, Regs, Small, Status};
+use t32_base::process::{ClusterNo, Pid};
 use t32_base::shared_bytes::SharedBytes;
 use t32_base::streams::NoMemory;
 use test_asserts::same;
-
-// The first root, at home in cluster 0 with its backup in cluster 1.
-const FIRST: Placed = Placed {
-    pid: Pid(16),
-    home: ClusterNo(0),
-    backup: Some(ClusterNo(1)),
-    mode: Mode::Half,
-    lost: None,
-    ended: false,
-    synced: false,
-};
-
-// The second, at home in cluster 1 with its backup in cluster 2.
-const SECOND: Placed = Placed {
-    pid: Pid(17),
-    home: ClusterNo(1),
-    backup: Some(ClusterNo(2)),
-    mode: Mode::Full,
-    lost: None,
-    ended: false,
-    synced: false,
-};
-
-// Three clusters, of which 1 and 2 serve pages.
-fn booted(alloc: Global) -> Result<Placement, NoMemory> {
-    Placement::boot(alloc, 3, (ClusterNo(1), ClusterNo(2)), &[FIRST, SECOND])
-}
-
-// ---- entries taken in
-
-fn absorbs(places: &mut Placement, what: What) -> Result<(), NoMemory>
-    requires { CanBeAbsorbed places.old what }
-{
-    places.absorb(&Entry {
-        place: 0,
-        post: Post { by: By::Bus, what },
-        dests: to(0),
-    })
-}
-
-// A child is born, where it may be.
-fn bears(places: &mut Placement, parent: Pid, child: Pid) -> Result<(), NoMemory> {
-    if let Some(placed) = places.get(parent) {
-        if places.get(child).is_none() && places.next_serial(placed.home) < 100 {
-            return places.add_birth(parent, child);
-        }
-    }
-    Ok(())
-}
-
-fn small(pid: Pid) -> Small {
-    Small {
-        pid,
-        regs: Regs::new(0),
-        ends: [EndState::Never; 32],
-        handler: 0,
-        frame: None,
-        left: 0,
-        steps: 0,
-        births: 0,
-        status: Status::Live,
-        pages: 1,
-    }
-}
-
-fn records(alloc: Global, pids: &[u32]) -> Result<List<BackRec>, NoMemory> {
-    let mut recs = List::new(alloc);
-    for pid in pids {
-        recs.push(BackRec {
-            pid: Pid(*pid),
-            state: None,
-            saved: List::new(alloc),
-            next: 0,
-            counts: Counts {
-                ends: [0; 32],
-                signals: 0,
-            },
-            births: List::new(alloc),
-        })?;
-    }
-    Ok(recs)
-}
-
-fn exit(places: &mut Placement, pid: Pid) -> Result<(), NoMemory> {
-    absorbs(
-        places,
-        What::Exit {
-            pid,
-            at: 2,
-            end: End::Exit(0),
-        },
-    )
-}
-
-fn sync(alloc: Global, places: &mut Placement, pid: Pid) -> Result<(), NoMemory> {
-    absorbs(
-        places,
-        What::Sync {
-            pid,
-            small: Shared::new(alloc, small(pid))?,
-            read: List::new(alloc),
-            took: None,
-        },
-    )
-}
-
-fn crash(places: &mut Placement, k: ClusterNo) -> Result<(), NoMemory> {
-    absorbs(
-        places,
-        What::Crash {
-            k,
-            cause: Cause::Place,
-        },
-    )
-}
-
-fn rebackup(
-    places: &mut Placement,
-    to: ClusterNo,
-    fresh: bool,
-    recs: List<BackRec>,
-) -> Result<(), NoMemory> {
-    absorbs(places, What::Rebackup { to, fresh, recs })
-}
 
 // The entries of the log, one after the other.
 fn step(alloc: Global, places: &mut Placement, number: u8) -> Result<(), NoMemory> {
@@ -165,19 +44,6 @@ fn after(alloc: Global, steps: u8) -> Result<Placement, NoMemory> {
 }
 
 // ---- what the placement shows
-
-// Whether just these processes are placed, in this order.
-fn shows(places: &Placement, wanted: &[Placed]) -> bool {
-    if places.len() != wanted.len() {
-        return false;
-    }
-    for (index, placed) in wanted.iter().enumerate() {
-        if places.at(index) != Some(*placed) || places.get(placed.pid) != Some(*placed) {
-            return false;
-        }
-    }
-    true
-}
 
 fn is_covered(places: &Placement, wanted: [bool; 3]) -> bool {
     places.covered(ClusterNo(0)) == wanted[0]
