@@ -13,6 +13,7 @@ mod program;
 mod quoted;
 mod refusal;
 mod registers;
+mod row;
 mod rules;
 mod statement;
 mod words;
