@@ -5,6 +5,7 @@ mod form;
 mod instruction;
 mod labels;
 mod line;
+mod names;
 mod number;
 mod operands;
 mod parsed;
