@@ -7,4 +7,5 @@ pub mod QuotedTexts
 pub mod Reading
 pub mod WordLines
 pub mod Refusing
+pub mod PartedTables
 mod ParsedLines

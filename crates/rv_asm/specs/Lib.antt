@@ -1,5 +1,6 @@
 pub mod Refusal
 pub mod Steps
+pub mod FirstByte
 pub mod Registers
 pub mod Forms
 pub mod Line

@@ -2,6 +2,7 @@
 ghost use Rattle.std.specs.Prelude.{◌≡◌};
 ghost use Rattle.rv_asm.specs.Forms.{form_of};
 
+use crate::names::first_byte;
 use text_parts::lookup;
 
 /// The instructions with rd, rs1, rs2.
@@ -103,50 +104,66 @@ pub enum Form {
     Ascii,
 }
 
-const FORMS: [(&[u8], Form); 46] = [
+// The words that begin with one letter each, and the others.
+const A_FORMS: [(&[u8], Form); 5] = [
     (b"add", Form::Registers(RegisterInsn::Add)),
-    (b"sub", Form::Registers(RegisterInsn::Sub)),
-    (b"sll", Form::Registers(RegisterInsn::Sll)),
-    (b"slt", Form::Registers(RegisterInsn::Slt)),
-    (b"sltu", Form::Registers(RegisterInsn::Sltu)),
-    (b"xor", Form::Registers(RegisterInsn::Xor)),
-    (b"srl", Form::Registers(RegisterInsn::Srl)),
-    (b"sra", Form::Registers(RegisterInsn::Sra)),
-    (b"or", Form::Registers(RegisterInsn::Or)),
     (b"and", Form::Registers(RegisterInsn::And)),
     (b"addi", Form::Number(NumberInsn::Addi)),
-    (b"slti", Form::Number(NumberInsn::Slti)),
-    (b"sltiu", Form::Number(NumberInsn::Sltiu)),
-    (b"xori", Form::Number(NumberInsn::Xori)),
-    (b"ori", Form::Number(NumberInsn::Ori)),
     (b"andi", Form::Number(NumberInsn::Andi)),
-    (b"slli", Form::Shift(ShiftInsn::Slli)),
-    (b"srli", Form::Shift(ShiftInsn::Srli)),
-    (b"srai", Form::Shift(ShiftInsn::Srai)),
-    (b"lb", Form::Load(LoadInsn::Lb)),
-    (b"lh", Form::Load(LoadInsn::Lh)),
-    (b"lw", Form::Load(LoadInsn::Lw)),
-    (b"lbu", Form::Load(LoadInsn::Lbu)),
-    (b"lhu", Form::Load(LoadInsn::Lhu)),
-    (b"jalr", Form::Load(LoadInsn::Jalr)),
-    (b"sb", Form::Store(StoreInsn::Sb)),
-    (b"sh", Form::Store(StoreInsn::Sh)),
-    (b"sw", Form::Store(StoreInsn::Sw)),
+    (b"auipc", Form::Upper(UpperInsn::Auipc)),
+];
+
+const B_FORMS: [(&[u8], Form); 6] = [
     (b"beq", Form::Branch(BranchInsn::Beq)),
     (b"bne", Form::Branch(BranchInsn::Bne)),
     (b"blt", Form::Branch(BranchInsn::Blt)),
     (b"bge", Form::Branch(BranchInsn::Bge)),
     (b"bltu", Form::Branch(BranchInsn::Bltu)),
     (b"bgeu", Form::Branch(BranchInsn::Bgeu)),
-    (b"lui", Form::Upper(UpperInsn::Lui)),
-    (b"auipc", Form::Upper(UpperInsn::Auipc)),
+];
+
+const J_FORMS: [(&[u8], Form); 3] = [
+    (b"jalr", Form::Load(LoadInsn::Jalr)),
     (b"jal", Form::JumpAndLink),
+    (b"j", Form::Jump),
+];
+
+const L_FORMS: [(&[u8], Form); 8] = [
+    (b"lb", Form::Load(LoadInsn::Lb)),
+    (b"lh", Form::Load(LoadInsn::Lh)),
+    (b"lw", Form::Load(LoadInsn::Lw)),
+    (b"lbu", Form::Load(LoadInsn::Lbu)),
+    (b"lhu", Form::Load(LoadInsn::Lhu)),
+    (b"lui", Form::Upper(UpperInsn::Lui)),
+    (b"li", Form::LoadNumber),
+    (b"la", Form::LoadAddress),
+];
+
+const S_FORMS: [(&[u8], Form); 14] = [
+    (b"sub", Form::Registers(RegisterInsn::Sub)),
+    (b"sll", Form::Registers(RegisterInsn::Sll)),
+    (b"slt", Form::Registers(RegisterInsn::Slt)),
+    (b"sltu", Form::Registers(RegisterInsn::Sltu)),
+    (b"srl", Form::Registers(RegisterInsn::Srl)),
+    (b"sra", Form::Registers(RegisterInsn::Sra)),
+    (b"slti", Form::Number(NumberInsn::Slti)),
+    (b"sltiu", Form::Number(NumberInsn::Sltiu)),
+    (b"slli", Form::Shift(ShiftInsn::Slli)),
+    (b"srli", Form::Shift(ShiftInsn::Srli)),
+    (b"srai", Form::Shift(ShiftInsn::Srai)),
+    (b"sb", Form::Store(StoreInsn::Sb)),
+    (b"sh", Form::Store(StoreInsn::Sh)),
+    (b"sw", Form::Store(StoreInsn::Sw)),
+];
+
+const OTHER_FORMS: [(&[u8], Form); 10] = [
+    (b"xor", Form::Registers(RegisterInsn::Xor)),
+    (b"or", Form::Registers(RegisterInsn::Or)),
+    (b"xori", Form::Number(NumberInsn::Xori)),
+    (b"ori", Form::Number(NumberInsn::Ori)),
     (b"fence", Form::Bare(BareInsn::Fence)),
     (b"ecall", Form::Bare(BareInsn::Ecall)),
     (b"ebreak", Form::Bare(BareInsn::Ebreak)),
-    (b"li", Form::LoadNumber),
-    (b"la", Form::LoadAddress),
-    (b"j", Form::Jump),
     (b"mv", Form::Move),
     (b".word", Form::Word),
     (b".ascii", Form::Ascii),
@@ -156,5 +173,18 @@ const FORMS: [(&[u8], Form); 46] = [
 pub fn form_named(word: &[u8]) -> Option<Form>
     ensures { result ≡ form_of word.now }
 {
-    lookup(&FORMS, word)
+    let first = first_byte(word);
+    if first == b'a' {
+        lookup(&A_FORMS, word)
+    } else if first == b's' {
+        lookup(&S_FORMS, word)
+    } else if first == b'l' {
+        lookup(&L_FORMS, word)
+    } else if first == b'b' {
+        lookup(&B_FORMS, word)
+    } else if first == b'j' {
+        lookup(&J_FORMS, word)
+    } else {
+        lookup(&OTHER_FORMS, word)
+    }
 }

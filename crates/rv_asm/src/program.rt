@@ -2,7 +2,8 @@
 ghost use Rattle.std.specs.Prelude.{◌≡◌, ◌+◌, ◌++◌, ◌≤◌, ◌<◌, ◌^◌, IfOk, IfErr, IsOkUnless, OnOk, length};
 ghost use Rattle.text_parts.specs.Lines.{lines_of};
 ghost use Rattle.std.specs.List.{All, Contains};
-ghost use Rattle.text_parts.specs.Table.{FindSame, rows_of};
+ghost use Rattle.text_parts.specs.Table.{FindSame};
+ghost use Rattle.rv_asm.specs.SortedLabels.{places_of};
 ghost use Rattle.rv_asm.specs.Labels.{labels_from, entry_at, defined_in, line_size, line_code};
 ghost use Rattle.rv_asm.specs.Program.{reading_of, broken_by, words_at, address_after};
 ghost use Rattle.rv_asm.specs.Answers.{Answers, LineAnswers};
@@ -12,6 +13,7 @@ ghost use Rattle.rv_asm.specs.RuleByRule.{AreWordsOf, HasCause};
 use crate::labels::{Labels, Place};
 use crate::parsed::{Parsed, parse_line, size_of_statement, statement_or_nothing};
 use crate::refusal::AsmRefused;
+use crate::row::Row;
 use crate::rules::broken_rule;
 use crate::words::push_words;
 use std::alloc::Global;
@@ -35,12 +37,12 @@ fn parse_lines(alloc: Global, text: &[u8]) -> Result<Vec<Parsed<'_>>, AsmRefused
 
 /// Adds the label that a line defines, and counts its words.
 fn add_label<'a>(
-    rows: &mut Vec<(&'a [u8], Place)>,
+    rows: &mut Vec<Row<'a>>,
     number: u64,
     words: u64,
     parsed: &Parsed<'a>,
 ) -> Result<u64, AsmRefused>
-    ensures label { OnOk result (rows_of rows.new.items ≡ rows_of rows.old.items ++ entry_at number words (defined_in parsed.now.line.now)) }
+    ensures label { OnOk result (places_of rows.new.items ≡ places_of rows.old.items ++ entry_at number words (defined_in parsed.now.line.now)) }
     ensures words { IfOk result (λ after. after ≡ words + line_size parsed.now.line.now) }
     ensures memory { IsOkUnless result AsmRefused.NoMemory }
 {
@@ -50,7 +52,7 @@ fn add_label<'a>(
             line: number,
             words,
         };
-        rows.push((name, place))?;
+        rows.push(Row::new(name, place))?;
     }
     // No text that memory holds has so many words.
     words.checked_add(size).ok_or(AsmRefused::NoMemory)

@@ -3,10 +3,11 @@ ghost use Rattle.std.specs.Prelude.{◌≡◌, IfSome};
 ghost use Rattle.rv_insn.specs.Encoding.{IsRegister};
 ghost use Rattle.rv_asm.specs.Registers.{register_of};
 
+use crate::names::first_byte;
 use text_parts::lookup;
 
-// The names that programs use most come first.
-const REGISTERS: [(&[u8], u8); 65] = [
+// The names that begin with one letter each, and the others. Those that programs use most come first.
+const A_REGISTERS: [(&[u8], u8); 8] = [
     (b"a0", 10),
     (b"a1", 11),
     (b"a2", 12),
@@ -15,6 +16,9 @@ const REGISTERS: [(&[u8], u8); 65] = [
     (b"a5", 15),
     (b"a6", 16),
     (b"a7", 17),
+];
+
+const T_REGISTERS: [(&[u8], u8); 8] = [
     (b"t0", 5),
     (b"t1", 6),
     (b"t2", 7),
@@ -22,9 +26,11 @@ const REGISTERS: [(&[u8], u8); 65] = [
     (b"t4", 29),
     (b"t5", 30),
     (b"t6", 31),
-    (b"zero", 0),
+    (b"tp", 4),
+];
+
+const S_REGISTERS: [(&[u8], u8); 13] = [
     (b"sp", 2),
-    (b"ra", 1),
     (b"s0", 8),
     (b"s1", 9),
     (b"s2", 18),
@@ -37,9 +43,9 @@ const REGISTERS: [(&[u8], u8); 65] = [
     (b"s9", 25),
     (b"s10", 26),
     (b"s11", 27),
-    (b"fp", 8),
-    (b"gp", 3),
-    (b"tp", 4),
+];
+
+const X_REGISTERS: [(&[u8], u8); 32] = [
     (b"x0", 0),
     (b"x1", 1),
     (b"x2", 2),
@@ -74,10 +80,29 @@ const REGISTERS: [(&[u8], u8); 65] = [
     (b"x31", 31),
 ];
 
+const OTHER_REGISTERS: [(&[u8], u8); 4] = [(b"zero", 0), (b"ra", 1), (b"fp", 8), (b"gp", 3)];
+
+fn register_named(name: &[u8]) -> Option<u8>
+    ensures { result ≡ register_of name.now }
+{
+    let first = first_byte(name);
+    if first == b'a' {
+        lookup(&A_REGISTERS, name)
+    } else if first == b't' {
+        lookup(&T_REGISTERS, name)
+    } else if first == b's' {
+        lookup(&S_REGISTERS, name)
+    } else if first == b'x' {
+        lookup(&X_REGISTERS, name)
+    } else {
+        lookup(&OTHER_REGISTERS, name)
+    }
+}
+
 /// The number of the register of this name.
 pub fn register(name: &[u8]) -> Option<u8>
     ensures number { result ≡ register_of name.now }
     ensures small { IfSome result (λ number. IsRegister number) }
 {
-    lookup(&REGISTERS, name)
+    register_named(name)
 }

@@ -1,13 +1,14 @@
 -- A word that stands after one space is the first field of its line.
 use Rattle.std.proofs.Common.{◌≡◌, ℕ, ◌-◌, ◌≤◌, Bool, true, false, List, [], ◌∷◌, ◌++◌, length, get_or, take, drop, Some, refl, sym, ap, ◌∙◌, arith}
+use Rattle.std.specs.Prelude.{codes}
 use Rattle.std.specs.List.{list_all}
 use Rattle.std.specs.Char.{is_digit}
 use Rattle.std.proofs.lemmas.Bool.{eqb-true, and_parts}
 use Rattle.std.proofs.lemmas.List.{take_rest, take-append-drop, length-take, length-drop}
-use Rattle.text_parts.specs.Lines.{is_space, fields_of, before, from}
+use Rattle.text_parts.specs.Lines.{is_space, fields_of, before, from, trim_start}
 use Rattle.text_parts.specs.Numbers.{are_digits, numeral_of, word_of}
 use Rattle.text_parts.proofs.Numerals.{word_from_numeral}
-use Rattle.text_parts.proofs.Splitting.{before-yes, before-no, from-yes, from-no, fields_of-first}
+use Rattle.text_parts.proofs.Splitting.{before-yes, before-no, from-yes, from-no, fields_of-first, fields_of-trimmed}
 use Rattle.sys_text.specs.WordLines.{FirstWord}
 
 -- a hexadecimal digit is no space
@@ -44,6 +45,25 @@ word_field (x ∷ xs) rest v size e ends =
     let cut = cut_after (x ∷ xs) rest digits ends in
     let first = fields_of-first x (xs ++ rest) (digit_no_space x (and_parts (is_digit x 16) (are_digits 16 xs) digits).0) in
     first ∙ ap (λ (t : List ℕ). t ∷ fields_of (from is_space (x ∷ (xs ++ rest)))) cut.0 ∙ ap (λ (t : List ℕ). (x ∷ xs) ∷ fields_of t) cut.1
+
+-- `words` ends there too, and is the first field of its line
+pub words_first : (rest : List ℕ) → list_all is_space (take 1 rest) ≡ true → fields_of (119 ∷ 111 ∷ 114 ∷ 100 ∷ 115 ∷ rest) ≡ codes "words" ∷ fields_of rest
+words_first rest ends =
+    let cut = cut_after [] rest refl ends in
+    fields_of-first 119 (111 ∷ 114 ∷ 100 ∷ 115 ∷ rest) refl
+    ∙ ap (λ (t : List ℕ). (119 ∷ 111 ∷ 114 ∷ 100 ∷ 115 ∷ t) ∷ fields_of (from is_space rest)) cut.0
+    ∙ ap (λ (t : List ℕ). codes "words" ∷ fields_of t) cut.1
+
+pub words_in_front : (line text rest : List ℕ) → text ≡ trim_start line → 5 ≤ length text → get_or text 0 0 ≡ 119 → get_or text 1 0 ≡ 111 → get_or text 2 0 ≡ 114 → get_or text 3 0 ≡ 100 → get_or text 4 0 ≡ 115
+    → rest ≡ take (length text - 5) (drop 5 text) → list_all is_space (take 1 rest) ≡ true → fields_of line ≡ codes "words" ∷ fields_of rest
+words_in_front line [] rest is long a b c d e back ends = absurd (omega (arith, long))
+words_in_front line (x0 ∷ []) rest is long a b c d e back ends = absurd (omega (arith, long))
+words_in_front line (x0 ∷ x1 ∷ []) rest is long a b c d e back ends = absurd (omega (arith, long))
+words_in_front line (x0 ∷ x1 ∷ x2 ∷ []) rest is long a b c d e back ends = absurd (omega (arith, long))
+words_in_front line (x0 ∷ x1 ∷ x2 ∷ x3 ∷ []) rest is long a b c d e back ends = absurd (omega (arith, long))
+words_in_front line (x0 ∷ x1 ∷ x2 ∷ x3 ∷ x4 ∷ xs) rest is long a b c d e back ends =
+    let back_is : rest ≡ xs = back ∙ take_rest (x0 ∷ x1 ∷ x2 ∷ x3 ∷ x4 ∷ xs) 5 in
+    fields_of-trimmed line ∙ ap fields_of (sym is) ∙ rw (a, b, c, d, e, ← back_is) (words_first rest ends)
 
 -- a line from its second byte on
 tail : (x : ℕ) (xs : List ℕ) → take (length (x ∷ xs) - 1) (drop 1 (x ∷ xs)) ≡ xs

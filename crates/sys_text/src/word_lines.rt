@@ -9,14 +9,15 @@ ghost use Rattle.sys_text.specs.WordLines.{IsWordsLine, FirstWord, lowest_of_wor
 use crate::refusal::{Rule, SystemRefused};
 use crate::stage::Stage;
 use t32_base::lists::List;
-use text_parts::{are_printable, first_field, word};
+use text_parts::{are_printable, first_field, trim_start, word};
 
-fn is_words(field: &[u8]) -> bool
-    ensures { result ≡ bytes_eq field.now (codes "words") }
+/// Does a field that stands before these bytes end there?
+fn is_after_field(rest: &[u8]) -> bool
+    ensures { result ≡ list_all is_space (take 1 rest.now) }
 {
-    match field {
-        [b'w', b'o', b'r', b'd', b's'] => true,
-        _ => false,
+    match rest {
+        [] => true,
+        [byte, ..] => *byte == b' ',
     }
 }
 
@@ -27,21 +28,13 @@ pub fn after_words<'a>(stage: Stage, line: &'a [u8]) -> Option<&'a [u8]>
     let Stage::InImage = stage else {
         return None;
     };
-    let (field, rest) = first_field(line)?;
-    if is_words(field) && are_printable(line) {
+    let [b'w', b'o', b'r', b'd', b's', rest @ ..] = trim_start(line) else {
+        return None;
+    };
+    if is_after_field(rest) && are_printable(line) {
         Some(rest)
     } else {
         None
-    }
-}
-
-/// Does a field that stands before these bytes end there?
-fn is_after_field(rest: &[u8]) -> bool
-    ensures { result ≡ list_all is_space (take 1 rest.now) }
-{
-    match rest {
-        [] => true,
-        [byte, ..] => *byte == b' ',
     }
 }
 

@@ -83,10 +83,7 @@ fn cut_at_newline(text: &[u8]) -> (&[u8], &[u8])
     if let [b'\n', ..] = text {
         return (&[], text);
     }
-    match memchr(b'\n', text) {
-        Some(at) => text.split_at(at),
-        None => (text, &[]),
-    }
+    cut_far(text, b'\n')
 }
 
 /// The first line of a text, without its end, and the text after it.

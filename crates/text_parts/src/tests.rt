@@ -14,6 +14,15 @@ fn lines_and_fields_are_cut_off(rt: HostRuntime) {
 }
 
 #[test]
+fn a_text_is_cut_at_the_first_such_byte(rt: HostRuntime) {
+    let text = b"addi a0, a0, 1  # one # more".as_slice();
+    let cut = (b"addi a0, a0, 1  ".as_slice(), b"# one # more".as_slice());
+    assert_eq!(&rt; cut_far(text, b'#'), cut);
+    assert_eq!(&rt; cut_at(text, b'#'), cut);
+    assert_eq!(&rt; cut_far(text, b'"'), (text, b"".as_slice()));
+}
+
+#[test]
 fn numbers_and_words_are_read(rt: HostRuntime) {
     for (text, value) in [
         (b"0000000007".as_slice(), Some(7)),

@@ -1,5 +1,5 @@
 use Rattle.std.proofs.Common.{◌+◌, ℕ, drop, ap}
-use Rattle.text_parts.specs.Table.{rows_of}
+use Rattle.rv_asm.specs.SortedLabels.{places_of}
 use Rattle.rv_asm.specs.Labels.{labels_from}
 use Rattle.rv_asm.specs.Parsed.{texts_of}
 use Rattle.rv_asm.proofs.LabelTables.{label_step}
@@ -12,7 +12,7 @@ loop-parsed-preserved c =
     let i = c.loop-parsed.parsed-index in
     let left = at_line lines i c.parsed-item.result c.loop-parsed-test.true c.parsed-item.is in
     record {
-      labels = label_step (rows_of c.loop-parsed.rows.items) (rows_of c.add_label.new.rows.items) (labels_from 1 0 (texts_of lines)) c.loop-parsed.number c.loop-parsed.words c.in_ok-words.words c.parsed-item.result.line.now (texts_of (drop i lines)) (texts_of (drop (i + 1) lines)) left c.in_ok-words.ensures.words c.loop-parsed.invariant.labels c.in_ok-words.ensures.label;
+      labels = label_step (places_of c.loop-parsed.rows.items) (places_of c.add_label.new.rows.items) (labels_from 1 0 (texts_of lines)) c.loop-parsed.number c.loop-parsed.words c.in_ok-words.words c.parsed-item.result.line.now (texts_of (drop i lines)) (texts_of (drop (i + 1) lines)) left c.in_ok-words.ensures.words c.loop-parsed.invariant.labels c.in_ok-words.ensures.label;
       number = ap (λ (k : ℕ). k + 1) c.loop-parsed.invariant.number;
     }
 
@@ -20,4 +20,4 @@ pub returns-clause-each : goal.returns-clause-each
 returns-clause-each c =
     let lines = c.args.lines.now in
     let none = past_lines lines c.loop-parsed.parsed-index c.loop-parsed-test.false in
-    rw (← labels_end (rows_of c.loop-parsed.rows.items) (labels_from 1 0 (texts_of lines)) c.loop-parsed.number c.loop-parsed.words (texts_of (drop c.loop-parsed.parsed-index lines)) none c.loop-parsed.invariant.labels) c.in_ok-labels.ensures.each
+    rw (← labels_end (places_of c.loop-parsed.rows.items) (labels_from 1 0 (texts_of lines)) c.loop-parsed.number c.loop-parsed.words (texts_of (drop c.loop-parsed.parsed-index lines)) none c.loop-parsed.invariant.labels) c.in_ok-labels.ensures.each

@@ -3,7 +3,8 @@ use Rattle.rv_asm.specs.Labels.{labels_of, line_code}
 use Rattle.rv_asm.specs.Parsed.{texts_of}
 use Rattle.rv_asm.specs.Program.{reading_of, broken_by, words_at, address_after}
 use Rattle.text_parts.specs.Lines.{lines_of}
-use Rattle.text_parts.specs.Table.{rows_of, FindSame}
+use Rattle.text_parts.specs.Table.{FindSame}
+use Rattle.rv_asm.specs.SortedLabels.{places_of}
 use Rattle.rv_asm.proofs.LabelTables.{broken_same, words_same, own_step}
 use Rattle.rv_asm.proofs.ParsedLines.{at_line, past_lines, reads_first, reads_last, own_first, find_lines}
 use Rattle.rv_asm.proofs.Reading.{longer, line_step, line_refused_by}
@@ -22,7 +23,7 @@ loop-parsed-init c =
     let items = c.deref-parsed-items.result.now in
     record {
       reads = reads_first c.args.text.now c.new-words.result (texts_of items) c.new-words.ensures (ap texts_of c.deref-parsed-items.ensures.value ∙ c.in_ok-lines.ensures.lines);
-      own = own_first c.in_ok-labels.labels (rows_of c.labels.inside.rows.items) c.new-words.result (texts_of c.deref.result.now) (texts_of items) c.labels.view_is c.new-words.ensures (ap texts_of (c.deref-parsed-items.ensures.value ∙ sym c.deref.ensures.value)) c.in_ok-labels.ensures.each;
+      own = own_first c.in_ok-labels.labels (places_of c.labels.inside.rows.items) c.new-words.result (texts_of c.deref.result.now) (texts_of items) c.labels.view_is c.new-words.ensures (ap texts_of (c.deref-parsed-items.ensures.value ∙ sym c.deref.ensures.value)) c.in_ok-labels.ensures.each;
       number = refl;
     }
 
@@ -31,7 +32,7 @@ assemble_line-requires-clause-own c =
     let items = c.deref-parsed-items.result.now in
     let i = c.loop-parsed.parsed-index in
     let left = at_line items i c.parsed-item.result c.loop-parsed-test.true c.parsed-item.is in
-    rw (← c.labels.view_is) ((own_step (rows_of c.labels.inside.rows.items) c.loop-parsed.number (length c.loop-parsed.words) c.parsed-item.result.line.now (texts_of (drop i items)) (texts_of (drop (i + 1) items)) left c.loop-parsed.invariant.own).0)
+    rw (← c.labels.view_is) ((own_step (places_of c.labels.inside.rows.items) c.loop-parsed.number (length c.loop-parsed.words) c.parsed-item.result.line.now (texts_of (drop i items)) (texts_of (drop (i + 1) items)) left c.loop-parsed.invariant.own).0)
 
 pub loop-parsed-preserved : goal.loop-parsed-preserved
 loop-parsed-preserved c =
@@ -48,7 +49,7 @@ loop-parsed-preserved c =
     c.in_ok-assemble_line.ensures.words ∙ ap (λ (t : _). words ++ t) (words_same c.in_ok-labels.labels labels same (address_after (length words)) (line_code line)) in
     record {
       reads = line_step labels (reading_of c.args.text.now) words c.assemble_line.new.words number line (texts_of (drop i items)) (texts_of (drop (i + 1) items)) left c.loop-parsed.invariant.reads none added;
-      own = rw (longer labels words c.assemble_line.new.words line added) ((own_step (rows_of c.labels.inside.rows.items) number (length words) line (texts_of (drop i items)) (texts_of (drop (i + 1) items)) left c.loop-parsed.invariant.own).1);
+      own = rw (longer labels words c.assemble_line.new.words line added) ((own_step (places_of c.labels.inside.rows.items) number (length words) line (texts_of (drop i items)) (texts_of (drop (i + 1) items)) left c.loop-parsed.invariant.own).1);
       number = ap (λ (k : ℕ). k + 1) c.loop-parsed.invariant.number;
     }
 
