@@ -21,7 +21,7 @@ none_born : (w : What) → is_birth w ≡ false → born w ≡ []
 none_born (Birth parent at child end) is = absurd (true≢false is)
 none_born _ is = refl
 
-no_births : (system : System) (log : List Entry) → IsLegalBy Stands system log → births_of log ≡ []
+pub no_births : (system : System) (log : List Entry) → IsLegalBy Stands system log → births_of log ≡ []
 no_births system log legal =
     legal_induction Stands system (λ log. births_of log ≡ []) refl
     (λ log e none stands. flat_map-append (λ (f : Entry). born (what f)) log (e ∷ []) ∙ rw (none, none_born (what e) (not_birth system log e stands.applies (what e) refl)) refl) log legal

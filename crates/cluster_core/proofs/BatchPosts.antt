@@ -81,7 +81,7 @@ module _ (k : ClusterNo) (p : Pid) (s : ProcState) (read : List ℕ) where
     legal_so log (i ∷ js) has stand new keep =
         let e : Entry = entry_of system log (page_left k p s i) in (
           record { stands = stand.0; built = refl; limits = keep.0; new_page = new.0; pages = has },
-          legal_so (log ++ e ∷ []) js (pages_kept system log e p stand.0 (moves_none system log e refl p) has) stand.1 new.1 keep.1,
+          legal_so (log ++ e ∷ []) js (pages_kept system log e p stand.0 refl (moves_none system log e refl p) has) stand.1 new.1 keep.1,
         )
 
     -- The posts of a process that has its pages and is within the limits may follow, one after the other.

@@ -9,8 +9,9 @@ use Rattle.bus_msg.specs.declared.entry.By.TheVariants.{Cluster}
 use Rattle.bus_msg.specs.declared.entry.What.{What}
 use Rattle.bus_msg.specs.declared.entry.What.TheVariants.{Mail, Birth, Exit, Page, Sync, Fetch, PageIs, Crash, Return, Rebackup, Done, Stop}
 use Rattle.bus_msg.specs.declared.entry.Entry.{Entry}
-use Rattle.bus_msg.specs.Places.{ClusterPlace, Places, never_lost, same_cluster, servers_in}
-use Rattle.bus_msg.specs.PlacedAfter.{what, placed_after, changed_at, lost_cluster}
+use Rattle.bus_msg.specs.declared.placed.Placed.{Placed}
+use Rattle.bus_msg.specs.Places.{ClusterPlace, Places, never_lost, placed_at, same_cluster, servers_in}
+use Rattle.bus_msg.specs.PlacedAfter.{what, placed_after, changed_at, lost_cluster, with_birth}
 use Rattle.cert_sched.specs.Parts.{first_of}
 use Rattle.cert_sched.specs.Schedule.{placement}
 use Rattle.cert_sched.specs.Rules.{is_by}
@@ -18,6 +19,7 @@ use Rattle.cert_sched.specs.Legal.{IsLegalBy}
 use Rattle.cert_sched.specs.Built.{BuiltMayFollow, is_built}
 use Rattle.cert_sched.specs.Losses.{is_crash_of, was_lost_in}
 use Rattle.cert_sched.specs.Scripted.{is_server}
+use Rattle.cert_sched.proofs.BirthClusters.{birth_keeps}
 use Rattle.cert_sched.proofs.FreshLaws.{kept_elsewhere, put_here}
 use Rattle.cert_sched.proofs.Induction.{legal_induction}
 use Rattle.cert_sched.proofs.LogLaws.{placement-snoc}
@@ -28,7 +30,11 @@ use Rattle.cluster_core.specs.Work.{is_first_server}
 
 same_pager : (w : What) (places : Places) → is_built w ≡ true → (placed_after places w).pager ≡ places.pager
 same_pager (Mail at letter) places built = refl
-same_pager (Birth parent at child end) places built = absurd (true≢false (sym built))
+same_pager (Birth parent at child end) places built = by_parent (placed_at places parent)
+  where
+    by_parent : (o : Option Placed) → (with_birth places child o).pager ≡ places.pager
+    by_parent None = refl
+    by_parent (Some q) = refl
 same_pager (Exit pid at end) places built = refl
 same_pager (Page pid at index bytes) places built = refl
 same_pager (Sync pid small read took) places built = refl
@@ -66,7 +72,7 @@ pub record NeverBefore (places : Places) (w : What) (k : ClusterNo) : Type 0 whe
 
 never_before : (w : What) (places : Places) (k : ClusterNo) → is_built w ≡ true → never_lost (placed_after places w) k ≡ true → NeverBefore places w k
 never_before (Mail at letter) places k built never = record { before = never; no_loss = refl }
-never_before (Birth parent at child end) places k built never = absurd (true≢false (sym built))
+never_before (Birth parent at child end) places k built never = record { before = sym (birth_keeps (λ (c : ClusterPlace). not c.was_lost) (λ c. refl) places child (placed_at places parent) k) ∙ never; no_loss = refl }
 never_before (Exit pid at end) places k built never = record { before = never; no_loss = refl }
 never_before (Page pid at index bytes) places k built never = record { before = never; no_loss = refl }
 never_before (Sync pid small read took) places k built never = record { before = never; no_loss = refl }

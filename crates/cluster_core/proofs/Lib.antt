@@ -35,6 +35,7 @@ mod Paging
 mod Spared
 mod Synchronising
 mod BirthHomes
+mod StatedNow
 mod Births
 mod OwnBatch
 pub mod Served

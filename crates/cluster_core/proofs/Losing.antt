@@ -49,6 +49,7 @@ use Rattle.cluster_core.specs.Parts.{AllOwn}
 use Rattle.cluster_core.specs.Queue.{AreTogether, Queued, posts_of, IsQueueLegal, move_of, with_queue}
 use Rattle.cluster_core.specs.Recovered.{left_by, moved_by, CanWait, with_all_waiting}
 use Rattle.cluster_core.specs.Holds.{IsHeldAs, is_fetch_queued, process_in, CarriesMarks, MarkedIfThere, unended_process}
+use Rattle.cluster_core.proofs.StatedNow.{stated_now}
 use Rattle.cluster_core.proofs.Beside.{FollowsBeside}
 use Rattle.cluster_core.specs.Calls.{absorbed, here_after}
 use Rattle.cluster_core.proofs.Here.{is_among, pid_same}
@@ -226,7 +227,7 @@ module _ (system : System) (valid : is_system system ≡ true) (log : List Entry
       m = moving recs p r keeps at
 
       pages : HasPages system log p r
-      pages = has_pages system log p r valid n.legal (unended_of recs p r m) m.kept
+      pages = has_pages system log p r valid n.legal (unended_of recs p r m) (stated_now system log p n.legal (unended_of recs p r m)) m.kept
 
       away : (b : Bool) → list_any (λ (e : Pid × Held). same_pid e.0 p) here ≡ b → b ≡ false
       away true is = absurd (not_here recs p r m (home_is p (home_here places k (pids_in here) p (differ_built system log valid n.legal) once (sym (any_pids here) ∙ is))))
@@ -246,7 +247,7 @@ module _ (system : System) (valid : is_system system ≡ true) (log : List Entry
   waiting_held : (q : Queued) (recs : List BackRec) (p : Pid) (r : BackRec) → Moves recs p r → move_of p (posts_of q) ≡ None → ((i : ℕ) → is_fetch_queued p (posts_of q) i ≡ false) → IsHeldAs system later (posts_of q) p (Waits (first_wait r))
   waiting_held q recs p r m unmoved unasked = (
     unmoved,
-    queued_alike system later p none_queued (is_fetch_queued p (posts_of q)) (first_wait r) (λ i. sym (unasked i)) (begins system log e p r valid n.more (unended_of recs p r m) (moves_it_here recs p r m) m.kept),
+    queued_alike system later p none_queued (is_fetch_queued p (posts_of q)) (first_wait r) (λ i. sym (unasked i)) (begins system log e p r valid n.more (unended_of recs p r m) (stated_now system log p n.legal (unended_of recs p r m)) (moves_it_here recs p r m) m.kept),
   )
 
   -- one that was here is held as before
@@ -280,7 +281,7 @@ module _ (system : System) (valid : is_system system ≡ true) (log : List Entry
 
   -- it has its pages if it had them
   pages_still : (p : Pid) → HomeHere places p k → has_its_pages system log p ≡ true → has_its_pages system later p ≡ true
-  pages_still p home has = pages_after system log e p k stands (differ_built system log valid n.legal) home spared has
+  pages_still p home has = pages_after system log e p k valid n.legal stands (differ_built system log valid n.legal) home spared has
 
   -- ---- each once
 

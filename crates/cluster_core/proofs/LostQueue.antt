@@ -122,7 +122,7 @@ module _ (system : System) (valid : is_system system ≡ true) (log : List Entry
   told_stays : (post : Post) → is_from k post.by ≡ true → TellingMayFollow system log (entry_of system log post) → TellingMayFollow system later (entry_of system later post)
   told_stays post own may =
       post_may system later post u.pid u.at u.emission u.after n.more n.goes_on may.built u.tells (emission_same system log e none u.pid u.at ∙ u.is) at_home keeps
-      (waits_after system log e k post (IsLegal-last BuiltMayFollow system log e n.more).stands (differ_built system log valid n.legal) not_here_lost may.built (ap (is_by_home places post.by) u.process ∙ u.by_home) own may.pages)
+      (waits_after system log e k post valid n.legal (IsLegal-last BuiltMayFollow system log e n.more).stands (differ_built system log valid n.legal) not_here_lost may.built (ap (is_by_home places post.by) u.process ∙ u.by_home) own may.pages)
     where
       u : Telling system log (entry_of system log post)
       u = telling system log (entry_of system log post) may (no_end k places post.by post.what may.built own (may.stands).by_right)

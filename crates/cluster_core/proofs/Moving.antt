@@ -16,8 +16,8 @@ use Rattle.cert_sched.specs.Simulation.{IsUnended}
 use Rattle.cert_sched.proofs.RunsOutLaws.{record_of}
 use Rattle.cert_sched.proofs.StepLaws.{process_after-own}
 use Rattle.record_laws.proofs.Counts.{next_fits}
-use Rattle.record_laws.proofs.Standing.{built_stands}
-use Rattle.recovery_laws.proofs.ByRule.{standing_stated}
+use Rattle.recovery_laws.proofs.FromStart.{stated_at_start}
+use Rattle.cluster_core.proofs.StatedNow.{stated_now}
 use Rattle.page_waits.specs.Waiting.{page_count}
 use Rattle.wait_laws.specs.Waits.{first_wait}
 use Rattle.wait_laws.proofs.BootPages.{StartsSo, has_pages, starts_so}
@@ -41,9 +41,9 @@ module _ (system : System) (valid : is_system system ≡ true) (log : List Entry
   waits_own = record {
     pid_is = sym (ap (λ (r : BackRec). r.pid) record_is);
     small = (s.start).small;
-    state_is = standing_stated system log p s.start r (built_stands system log legal) unended s.started kept;
+    state_is = stated_at_start system log p s.start r (stated_now system log p legal unended) s.started kept;
     small_is = process_after-own system (upto_last (starts p) log) p s.start s.started;
     quiet = saved_quiet system log p r valid legal unended kept;
     arrived = next_fits system log p r kept;
-    lacks = none_come (page_count r) (has_pages system log p r valid legal unended kept).some;
+    lacks = none_come (page_count r) (has_pages system log p r valid legal unended (stated_now system log p legal unended) kept).some;
   }

@@ -149,7 +149,7 @@ module _ (system : System) (valid : is_system system ≡ true) (log : List Entry
     queued = queued;
     steps = record { counted = λ kept. counted_own system log e b.number b.tried b.steps tried ((f.steps).counted (lost_before log e b.number kept)) };
     limits = f.limits;
-    pages = λ q h at runs. pages_after system log e q b.number (stands system valid log e of now next) (differ system valid log e of now next) (home q h at) (loses_none system valid log e of now next b.number) (f.pages q h at runs);
+    pages = λ q h at runs. pages_after system log e q b.number valid now.0 (stands system valid log e of now next) (differ system valid log e of now next) (home q h at) (loses_none system valid log e of now next b.number) (f.pages q h at runs);
     marks = λ q h at. subst (λ whole. MarkedIfThere CarriesMarks system whole q (unended_process h)) same_whole (f.marks q h at);
     records = records_stay system valid log e of now next b.number b.records f.records;
     accounts = accounts_on system log e b (with_server server (passed (left b rest) e)) serves refl calls f.accounts;

@@ -200,7 +200,7 @@ module _ (system : System) (valid : is_system system ≡ true) (log : List Entry
   post_stays : (k : ClusterNo) (post : Post) → is_from k post.by ≡ true → TellingMayFollow system log (entry_of system log post) → TellingMayFollow system later (entry_of system later post)
   post_stays k post own may =
       post_may system later post u.pid u.at u.emission u.after next.0 next.1 may.built u.tells (emission_same system log e none u.pid u.at ∙ u.is) (ap (λ (places : Places). is_by_home places post.by (Some u.pid)) places_same ∙ u.by_home) keeps
-      (waits_after system log e k post (IsLegal-last BuiltMayFollow system log e next.0).stands differ (loses_none k) may.built (ap (is_by_home (placement system log) post.by) u.process ∙ u.by_home) own may.pages)
+      (waits_after system log e k post valid now.0 (IsLegal-last BuiltMayFollow system log e next.0).stands differ (loses_none k) may.built (ap (is_by_home (placement system log) post.by) u.process ∙ u.by_home) own may.pages)
     where
       u : Telling system log (entry_of system log post)
       u = telling system log (entry_of system log post) may (no_end k (placement system log) post.by post.what may.built own (may.stands).by_right)
@@ -280,7 +280,7 @@ module _ (system : System) (valid : is_system system ≡ true) (log : List Entry
   has_after before k p was home held pages = by_was was held pages
     where
       stays : has_its_pages system log p ≡ true → has_its_pages system later p ≡ true
-      stays has = pages_after system log e p k (IsLegal-last BuiltMayFollow system log e next.0).stands differ home (loses_none k) has
+      stays has = pages_after system log e p k valid now.0 (IsLegal-last BuiltMayFollow system log e next.0).stands differ home (loses_none k) has
 
       come : (waiting : WaitingState) → IsHeldAs system log before p (Waits waiting) → (w : What) → is_of_page w ≡ true → what e ≡ w → is_some (process_in (page_at w p (Waits waiting))) ≡ true → has_its_pages system later p ≡ true
       come waiting held = by_page (λ w. what e ≡ w → is_some (process_in (page_at w p (Waits waiting))) ≡ true → has_its_pages system later p ≡ true) (λ pid index is runs. absurd (true≢false (sym runs))) (λ pid index bytes is. by_pid pid index bytes is (same_pid pid p) refl)

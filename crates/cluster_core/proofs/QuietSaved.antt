@@ -136,15 +136,15 @@ one_more system p valid log e before may = record {
     newborn (Done rests) same born r is = absurd (true≢false (sym born))
     newborn Stop same born r is = absurd (true≢false (sym born))
 
+    by_record : IsUnended system log p → (r : BackRec) (o : Option BackRec) → backup_record system log p ≡ o → option_map (record_after (what e)) o ≡ Some r → list_any is_signal r.saved ≡ false
+    by_record unended r None at is = cc
+    by_record unended r (Some s) at is = let same : record_after (what e) s ≡ r = cc in ap (λ (x : BackRec). list_any is_signal x.saved) (sym same) ∙ entry_saves_none system log e s may (before.none unended s at)
+
     by_birth : (b : Bool) → is_birth_of p (what e) ≡ b → IsUnended system (log ++ e ∷ []) p → (r : BackRec) → backup_record system (log ++ e ∷ []) p ≡ Some r → list_any is_signal r.saved ≡ false
     by_birth true born unended r is = newborn (what e) refl born r is
     by_birth false other unended r is =
         let was = before_unended (what e) (placement system log) p other (sym (ap (λ places. is_some (unended_at places p)) (placement-snoc system log e)) ∙ unended) in
         by_record was.1 r (backup_record system log p) refl (sym (record_follows BuiltMayFollow (λ system log e may. may.stands) system log e p valid legal (built_unrenewed p (what e) may.built) was.1) ∙ is)
-
-    by_record : IsUnended system log p → (r : BackRec) (o : Option BackRec) → backup_record system log p ≡ o → option_map (record_after (what e)) o ≡ Some r → list_any is_signal r.saved ≡ false
-    by_record unended r None at is = cc
-    by_record unended r (Some s) at is = let same : record_after (what e) s ≡ r = cc in ap (λ (x : BackRec). list_any is_signal x.saved) (sym same) ∙ entry_saves_none system log e s may (before.none unended s at)
 
 -- the record of a process that has not ended saves no signal
 pub saved_quiet : (system : System) (log : List Entry) (p : Pid) (r : BackRec) → is_system system ≡ true → IsLegalBy BuiltMayFollow system log → IsUnended system log p → backup_record system log p ≡ Some r → list_any is_signal r.saved ≡ false

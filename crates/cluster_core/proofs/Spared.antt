@@ -146,7 +146,7 @@ module _ (system : System) (valid : is_system system ≡ true) (log : List Entry
   post_stays : (k : ClusterNo) (post : Post) → ((p : Pid) → HomeHere places p k → Spares system log e p) → is_from k post.by ≡ true → TellingMayFollow system log (entry_of system log post) → TellingMayFollow system later (entry_of system later post)
   post_stays k post spares own may =
       post_may system later post u.pid u.at u.emission u.after next.0 next.1 may.built u.tells (s.emission u.at ∙ u.is) ((λ i. n.living post.by i && is_by post.by (s.home i)) ∙ u.by_home) keeps
-      (waits_after system log e k post stands differ (loses_none k) may.built (ap (is_by_home places post.by) u.process ∙ u.by_home) own may.pages)
+      (waits_after system log e k post valid now.0 stands differ (loses_none k) may.built (ap (is_by_home places post.by) u.process ∙ u.by_home) own may.pages)
     where
       u : Telling system log (entry_of system log post)
       u = telling system log (entry_of system log post) may (no_end k places post.by post.what may.built own (may.stands).by_right)
@@ -235,7 +235,7 @@ module _ (system : System) (valid : is_system system ≡ true) (log : List Entry
     queued = f.queued;
     steps = record { counted = λ kept. counted_foreign c log e foreign ((f.steps).counted (lost_before log e c.number kept)) };
     limits = f.limits;
-    pages = λ p h at runs. pages_after system log e p c.number stands differ (home_of p h at) (loses_none c.number) (f.pages p h at runs);
+    pages = λ p h at runs. pages_after system log e p c.number valid now.0 stands differ (home_of p h at) (loses_none c.number) (f.pages p h at runs);
     marks = marks;
     records = records;
     accounts = accounts_next system log e c (with_server server (passed c e)) q (foreign_no_answer c.number e foreign) serves refl queue_is queue_is posts_legal f.accounts;
