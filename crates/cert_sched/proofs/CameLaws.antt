@@ -90,7 +90,7 @@ is_silent (Birth parent at child end) = false
 is_silent (Exit pid at end) = false
 is_silent _ = true
 
--- no birth can be applied yet
+-- as long as no step is a fork no birth can be applied; this goes away, once no crate above cites it: in its place `unended_not_born`, `there_not_born` and `birth_applied`
 pub not_birth : (system : System) (log : List Entry) (e : Entry) → is_some (plain_after system (log ++ e ∷ [])) ≡ true → (w : What) → what e ≡ w → is_birth w ≡ false
 not_birth system log e applies (Mail at letter) is = refl
 not_birth system log e applies (Birth parent at child end) is = absurd (no_birth system log e parent at child end is applies)
