@@ -54,6 +54,7 @@ words_first rest ends =
     ∙ ap (λ (t : List ℕ). (119 ∷ 111 ∷ 114 ∷ 100 ∷ 115 ∷ t) ∷ fields_of (from is_space rest)) cut.0
     ∙ ap (λ (t : List ℕ). codes "words" ∷ fields_of t) cut.1
 
+-- the same of a line behind its spaces, cut behind the word
 pub words_in_front : (line text rest : List ℕ) → text ≡ trim_start line → 5 ≤ length text → get_or text 0 0 ≡ 119 → get_or text 1 0 ≡ 111 → get_or text 2 0 ≡ 114 → get_or text 3 0 ≡ 100 → get_or text 4 0 ≡ 115
     → rest ≡ take (length text - 5) (drop 5 text) → list_all is_space (take 1 rest) ≡ true → fields_of line ≡ codes "words" ∷ fields_of rest
 words_in_front line [] rest is long a b c d e back ends = absurd (omega (arith, long))

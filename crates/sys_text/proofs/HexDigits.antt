@@ -1,4 +1,4 @@
--- Tables of the hexadecimal digits of each byte, and the digits of a word by its bytes.
+-- A table of the two hexadecimal digits of each byte, and the digits of a word by its bytes.
 use Rattle.std.proofs.Common.{◌≡◌, ℕ, ◌+◌, ◌*◌, ◌<◌, ◌^◌, ◌/◌, ◌%◌, Bool, true, false, cond, ltb, List, [], ◌∷◌, get_or, map, refl, ap, ◌∙◌, arith}
 use Rattle.std.specs.List.{range_with_len}
 use Rattle.std.proofs.lemmas.List.FromFn.{get_or-map-range_with_len}
@@ -15,6 +15,7 @@ digits_table = 12336 ∷ 12592 ∷ 12848 ∷ 13104 ∷ 13360 ∷ 13616 ∷ 13872
 table_is_rule : digits_table ≡ map pair (range_with_len 0 256)
 table_is_rule = refl
 
+-- the table has the digits of each byte
 pub pair_of : (b : ℕ) → b < 256 → get_or digits_table b 0 ≡ pair b
 pair_of b within = ap (λ (l : List ℕ). get_or l b 0) table_is_rule ∙ get_or-map-range_with_len pair 0 256 b b 0 within (omega arith)
 
@@ -26,6 +27,7 @@ hex_small d within = by_size (ltb d 10)
     by_size true = omega (arith, within)
     by_size false = omega (arith, within)
 
+-- the two digits are got back from their number
 pub upper_of : (b : ℕ) → b < 256 → pair b % 256 ≡ hex_digit (b / 16)
 upper_of b within = parts (hex_digit (b / 16)) (hex_digit (b % 16)) (hex_small (b / 16) (omega (arith, within)))
   where
