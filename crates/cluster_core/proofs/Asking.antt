@@ -18,7 +18,7 @@ use Rattle.plain_kernel.proofs.Entries.{some_same}
 use Rattle.cert_sched.specs.Parts.{first_of}
 use Rattle.quanta.specs.declared.limits.Limits.{Limits}
 use Rattle.cluster_core.specs.declared.quantum.Quantum.{Quantum}
-use Rattle.cluster_core.specs.declared.quantum.Quantum.TheVariants.{Moved, Sent, Synced, Stuck}
+use Rattle.cluster_core.specs.declared.quantum.Quantum.TheVariants.{Moved, Sent, Synced, Stuck, Forks}
 use Rattle.cluster_core.specs.Quantum.{RunsQuantum, RunsTo}
 use Rattle.cluster_core.specs.Residents.{AsksOf, AsksPage, lacks_none_at, with_changed}
 use Rattle.cluster_core.specs.Slots.{in_slot, stands_in, IsKept, IsSlot}
@@ -63,6 +63,7 @@ pub ran_lacks : (limits : Limits) (by : ClusterNo) (was now : Held) (r : Result 
 ran_lacks limits by was now (Ok Moved) ran some = absurd (not_moved ran.silent ran.between now ran.runs some)
 ran_lacks limits by was now (Ok (Sent sending)) ran some = absurd (false≢true (ap (λ (h : Held). is_some (page_lacked h)) (sym ran.new_is) ∙ some))
 ran_lacks limits by was now (Ok (Synced posts)) ran some = absurd (false≢true (ap (λ (h : Held). is_some (page_lacked h)) (sym ran.new_is) ∙ some))
+ran_lacks limits by was now (Ok Forks) ran some = absurd (false≢true (ap (λ (h : Held). is_some (page_lacked h)) (sym ran.new_is) ∙ some))
 ran_lacks limits by was now (Ok Stuck) ran some = ap (λ (h : Held). is_some (page_lacked h)) (sym ran.1) ∙ some
 ran_lacks limits by was now (Err fault) ran some = ap (λ (h : Held). is_some (page_lacked h)) (sym ran) ∙ some
 

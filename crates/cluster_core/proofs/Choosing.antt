@@ -14,12 +14,12 @@ use Rattle.plain_kernel.proofs.Entries.{some_same}
 use Rattle.cert_sched.specs.Parts.{first_of}
 use Rattle.quanta.specs.declared.limits.Limits.{Limits}
 use Rattle.cluster_core.specs.declared.quantum.Quantum.{Quantum}
-use Rattle.cluster_core.specs.declared.quantum.Quantum.TheVariants.{Moved, Sent, Synced, Stuck}
+use Rattle.cluster_core.specs.declared.quantum.Quantum.TheVariants.{Moved, Sent, Synced, Stuck, Forks}
 use Rattle.cluster_core.specs.Residents.{ResidentsView, NextAble, is_stuck, are_rising, pids_in, pids_able, next_ready, ChosenTurn, TurnIs, TakesTurn, GivenTurnIs}
 use Rattle.cluster_core.specs.Slots.{in_slot, stands_in, IsSlot, IsKept}
 use Rattle.cluster_core.specs.View.{Held, can_act, held_of}
 use Rattle.cluster_core.proofs.Slots.{at_key_is}
-use Rattle.cluster_core.proofs.Quanta.{moves_can, sends_can, syncs_can}
+use Rattle.cluster_core.proofs.Quanta.{fork_can, moves_can, sends_can, syncs_can}
 
 -- ---- the first that passes, among numbers that rise
 
@@ -227,4 +227,5 @@ module _ (by : ClusterNo) (n : ℕ) (was old given new : ResidentsView) (limits 
   chosen_turn Moved takes ran = took Moved takes (moves_can old.limits 64 takes.was takes.now takes.ran)
   chosen_turn (Sent sending) takes ran = took (Sent sending) takes (sends_can old.limits 64 takes.was sending takes.now takes.ran)
   chosen_turn (Synced posts) takes ran = took (Synced posts) takes (syncs_can old.limits by takes.was posts takes.now takes.ran)
+  chosen_turn Forks takes ran = took Forks takes (fork_can old.limits 64 takes.was takes.now takes.ran)
   chosen_turn Stuck takes ran = absurd (ran refl)

@@ -28,7 +28,7 @@ use Rattle.cluster_core.specs.Residents.{is_stuck, are_rising, are_settled, are_
 use Rattle.cluster_core.specs.Slots.{in_slot, stands_in, IsSlot, IsKept}
 use Rattle.t32_base.specs.declared.streams.NoMemory.{NoMemory}
 use Rattle.cluster_core.specs.declared.quantum.Quantum.{Quantum}
-use Rattle.cluster_core.specs.declared.quantum.Quantum.TheVariants.{Moved, Sent, Synced, Stuck}
+use Rattle.cluster_core.specs.declared.quantum.Quantum.TheVariants.{Moved, Sent, Synced, Stuck, Forks}
 use Rattle.cluster_core.specs.Quantum.{RunsQuantum}
 use Rattle.cluster_core.proofs.Slots.{IsOne, all_more, all_removed, all_with, at_key_is, entry_goes, later_is_other, none_not_some, not_true, one_key, passes_each, passes_there, pids, process_there, slot_keys, taken_out, turned, written}
 
@@ -405,6 +405,7 @@ module _ (limits : Limits) (by : ClusterNo) (slots new : Slab Held) (n key : ℕ
   given_turn (Ok Moved) ran = took Moved ran
   given_turn (Ok (Sent sending)) ran = took (Sent sending) ran
   given_turn (Ok (Synced posts)) ran = took (Synced posts) ran
+  given_turn (Ok Forks) ran = took Forks ran
   given_turn (Ok Stuck) ran =
       (ap (is_stuck_at limits (pid_of n)) (sym same) ∙ passes_there (λ p. is_stuck limits p) slots n key was keys (one_key n key keys kept.ordered kept.apart found) there (ap not ran.0), written_back slots new key was now keys there updates ran.1 ∙ same)
   given_turn (Err fault) ran = written_back slots new key was now keys there updates ran ∙ same

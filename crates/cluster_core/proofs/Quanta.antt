@@ -1,4 +1,4 @@
--- Who moved, or sent something, or synchronised could act.
+-- Who moved, or sent something, or synchronised, or came to its fork could act.
 use Rattle.std.proofs.Common.{◌≡◌, ℕ, zero, suc, ◌≤◌, refl, ◌∙◌, ap, subst, arith, Option, Some, None, true}
 use Rattle.std.specs.Prelude.{List, option_and_then}
 use Rattle.std.proofs.lemmas.Bool.{or_left, or_right}
@@ -14,7 +14,7 @@ use Rattle.quanta.specs.Limited.{is_due}
 use Rattle.quanta.specs.Quantum.{RunsOn}
 use Rattle.cluster_core.specs.declared.quantum.Sending.{Sending}
 use Rattle.cluster_core.specs.View.{Held, Runs, Rolls, Waits, can_act}
-use Rattle.cluster_core.specs.Quantum.{Moves, RollsTo, RunsTo, Sends, Syncs}
+use Rattle.cluster_core.specs.Quantum.{ComesToFork, Moves, RollsTo, RunsTo, Sends, Syncs}
 
 -- ---- silent steps
 
@@ -51,6 +51,13 @@ sends_has zero s before t e silent sends =
     let same : s ≡ before = none_silent s before silent in
     ap (λ (q : ProcState). has_step (next_step q)) same ∙ ap has_step sends
 sends_has (suc n) s before t e silent sends = silent_has n s before silent
+
+-- so has one that stands before its fork after silent steps
+pub forks_has : (n : ℕ) (s now : ProcState) → silently n s ≡ Some now → next_step now ≡ Forks → has_step (next_step s) ≡ true
+forks_has zero s now silent forks =
+    let same : s ≡ now = none_silent s now silent in
+    ap (λ (q : ProcState). has_step (next_step q)) same ∙ ap has_step forks
+forks_has (suc n) s now silent forks = silent_has n s now silent
 
 -- ---- of one that runs
 
@@ -103,6 +110,15 @@ sends_can limits most (Runs p) sending new s =
     step_acts limits p (sends_has s.silent (state_of p) (state_of s.before) (state_of s.now) sending.emission alone.silent s.sends)
 sends_can limits most (Rolls p counts births) sending new s = refl
 sends_can limits most (Waits waiting) sending new s = absurd s.rolls
+
+-- who came to its fork could act
+pub fork_can : (limits : Limits) (most : ℕ) (old new : Held) → ComesToFork limits most old new → can_act limits old ≡ true
+fork_can limits most (Runs p) new s =
+    let rolls = s.rolls in
+    let alone : RunsOn s.silent p s.now = subst (λ (x : Process). RunsOn s.silent x s.now) rolls.1 s.runs in
+    step_acts limits p (forks_has s.silent (state_of p) (state_of s.now) alone.silent s.forks)
+fork_can limits most (Rolls p counts births) new s = refl
+fork_can limits most (Waits waiting) new s = absurd s.rolls
 
 -- who synchronised could act
 pub syncs_can : (limits : Limits) (by : ClusterNo) (old : Held) (posts : List Post) (new : Held) → Syncs limits by old posts new → can_act limits old ≡ true

@@ -10,7 +10,7 @@ use Rattle.plain_kernel.specs.Maps.{pid_of}
 use Rattle.cert_sched.specs.Parts.{first_of}
 use Rattle.quanta.specs.declared.limits.Limits.{Limits}
 use Rattle.cluster_core.specs.declared.quantum.Quantum.{Quantum}
-use Rattle.cluster_core.specs.declared.quantum.Quantum.TheVariants.{Moved, Sent, Synced, Stuck}
+use Rattle.cluster_core.specs.declared.quantum.Quantum.TheVariants.{Moved, Sent, Synced, Stuck, Forks}
 use Rattle.cluster_core.specs.Quantum.{RunsQuantum}
 use Rattle.cluster_core.specs.View.{Held, asked_held, can_act, held_of, is_waiting, next_number, page_lacked}
 
@@ -78,11 +78,12 @@ pub record ChosenTurn (by : ClusterNo) (old : ResidentsView) (quantum : Quantum)
   pub chosen : next_ready (pids_able old.limits old.here) old.last ≡ Some new.last
   pub takes : TakesTurn old.limits by (pid_of new.last) old.here quantum new.here
 
--- one of them moved, or sent something, or synchronised, or none can move; after want of memory no process has changed
+-- one of them moved, or sent something, or synchronised, or came to its fork, or none can move; after want of memory no process has changed
 abbrev pub TurnIs : ClusterNo → ResidentsView → Result Quantum NoMemory → ResidentsView → Type 0
 TurnIs by old (Ok Moved) new = ChosenTurn by old Moved new
 TurnIs by old (Ok (Sent sending)) new = ChosenTurn by old (Sent sending) new
 TurnIs by old (Ok (Synced posts)) new = ChosenTurn by old (Synced posts) new
+TurnIs by old (Ok Forks) new = ChosenTurn by old Forks new
 TurnIs by old (Ok Stuck) new = (are_stuck old.limits old.here ≡ true) × (new.here ≡ old.here) × (new.last ≡ old.last)
 TurnIs by old (Err fault) new = new.here ≡ old.here
 
@@ -118,10 +119,11 @@ AsksOf pid old (Some index) new = AsksPage pid old index new
 abbrev pub is_stuck_at : Limits → Pid → List (Pid × Held) → Bool
 is_stuck_at limits pid here = list_all (λ (e : Pid × Held). not (same_pid e.0 pid) || is_stuck limits e.1) here
 
--- the process with a pid moved, or sent something, or synchronised, or cannot move; after want of memory nothing has changed
+-- the process with a pid moved, or sent something, or synchronised, or came to its fork, or cannot move; after want of memory nothing has changed
 abbrev pub GivenTurnIs : Limits → ClusterNo → Pid → List (Pid × Held) → Result Quantum NoMemory → List (Pid × Held) → Type 0
 GivenTurnIs limits by pid old (Ok Moved) new = TakesTurn limits by pid old Moved new
 GivenTurnIs limits by pid old (Ok (Sent sending)) new = TakesTurn limits by pid old (Sent sending) new
 GivenTurnIs limits by pid old (Ok (Synced posts)) new = TakesTurn limits by pid old (Synced posts) new
+GivenTurnIs limits by pid old (Ok Forks) new = TakesTurn limits by pid old Forks new
 GivenTurnIs limits by pid old (Ok Stuck) new = (is_stuck_at limits pid old ≡ true) × (new ≡ old)
 GivenTurnIs limits by pid old (Err fault) new = new ≡ old
