@@ -63,7 +63,7 @@ use Rattle.cluster_core.proofs.Following.{counted_foreign}
 use Rattle.cluster_core.proofs.Served.{accounts_next, foreign_no_answer, ahead_after}
 use Rattle.cluster_core.specs.Serving.{Serves}
 use Rattle.page_server.specs.Account.{PagerState}
-use Rattle.wait_laws.proofs.BootPages.{HasPages, has_pages, starts_so}
+use Rattle.wait_laws.proofs.RecordPages.{HasPages, has_pages, starts_so}
 use Rattle.cluster_core.proofs.LostQueue.{NextLoss, no_fetch_queued, no_move_queued, not_here_lost, places_after, queue_stays, found_after}
 use Rattle.cert_sched.specs.Legal.{Stands}
 use Rattle.wait_laws.specs.Waits.{WaitsAs, first_wait, none_queued}

@@ -20,7 +20,7 @@ use Rattle.recovery_laws.proofs.FromStart.{stated_at_start}
 use Rattle.cluster_core.proofs.StatedNow.{stated_now}
 use Rattle.page_waits.specs.Waiting.{page_count}
 use Rattle.wait_laws.specs.Waits.{first_wait}
-use Rattle.wait_laws.proofs.BootPages.{StartsSo, has_pages, starts_so}
+use Rattle.wait_laws.proofs.RecordPages.{StartsSo, has_pages, starts_so}
 use Rattle.cluster_core.specs.Parts.{WaitsOwn}
 use Rattle.cluster_core.proofs.QuietSaved.{saved_quiet}
 
