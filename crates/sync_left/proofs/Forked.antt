@@ -40,7 +40,8 @@ shared births kept given cost less shares fewer =
     let whole : births * cost ≡ (1 + given + kept) * cost = ap (λ n. n * cost) shares in
     omega (arith, whole, parent, child)
 
-halved : (births : ℕ) → 0 < births → births ≡ 1 + (births - 1) / 2 + (births - 1 - (births - 1) / 2)
+-- one is used up, and the rest is parted
+pub halved : (births : ℕ) → 0 < births → births ≡ 1 + (births - 1) / 2 + (births - 1 - (births - 1) / 2)
 halved births some = omega (arith, some)
 
 -- a fork pays for the child

@@ -10,5 +10,6 @@ pub mod Changed
 pub mod Due
 pub mod Synced
 pub mod Falling
+pub mod PlacedSums
 pub mod Bounded
 mod WorkedSending
