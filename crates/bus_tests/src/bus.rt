@@ -3,8 +3,9 @@ ghost use Rattle.std.specs.Prelude.{◌≡◌, IfOk, true};
 ghost use Rattle.std.specs.Arc.{arc_value};
 ghost use Rattle.sys_text.specs.Valid.{is_system};
 
-use bus_msg::entry::What;
+use bus_msg::entry::{By, Post, What};
 use bus_order::bus::Bus;
+use bus_order::refused::Refused;
 use std::alloc::Global;
 use std::sync::Arc;
 use std::test::Fail;
@@ -110,4 +111,53 @@ fn a_stop_is_the_last_entry(rt: HostRuntime) -> Result<(), Fail> {
 fn a_second_stop_adds_nothing(rt: HostRuntime) -> Result<(), Fail> {
     let wanted = (Some(true), 0);
     same("the entries", &stopped_twice(rt.alloc())?.2, &wanted)
+}
+
+// The post of the birth that the root would tell of.
+fn birth_by(number: ClusterNo) -> Post
+    ensures { result.by ≡ By.Cluster number }
+{
+    Post {
+        by: By::Cluster(number),
+        what: What::Birth {
+            parent: Pid(16),
+            at: 10,
+            child: Pid(32),
+            end: 0,
+        },
+    }
+}
+
+// What the home of the root is answered that tells of a birth and has seen nothing, where the log has an entry.
+fn bear(bus: &mut Bus) -> Option<Result<u64, Refused>> {
+    if bus.length() == 0 {
+        return None;
+    }
+    Some(bus.transmit(ClusterNo(0), 0, &birth_by(ClusterNo(0))))
+}
+
+// The answer, the length of the log, the place of the child, and the serial of the next one.
+type Refusal = (
+    Option<Result<u64, Refused>>,
+    u64,
+    Option<(ClusterNo, Option<ClusterNo>)>,
+    u32,
+);
+
+fn stop_and_bear(bus: &mut Bus) -> Refusal {
+    let _ = bus.stop();
+    let told = bear(bus);
+    let serial = bus.places().next_serial(ClusterNo(0));
+    (told, bus.length(), placed(bus, Pid(32)), serial)
+}
+
+fn refused(alloc: Global) -> Result<Refusal, Fail> {
+    let mut bus = booted(alloc)?;
+    Ok(stop_and_bear(&mut bus))
+}
+
+#[test]
+fn a_birth_after_a_stop_is_refused_and_places_no_child(rt: HostRuntime) -> Result<(), Fail> {
+    let wanted = (Some(Err(Refused::Over { at: 0 })), 1, None, 2);
+    same("the birth", &refused(rt.alloc())?, &wanted)
 }
