@@ -1,4 +1,4 @@
-use Rattle.std.proofs.Common.{◌+◌, ◌∙◌, sym, arith}
+use Rattle.std.proofs.Common.{◌+◌, arith}
 use Rattle.plain_kernel.proofs.Ready.{none_listed}
 use Rattle.plain_kernel.proofs.Turns.{no_turns, more_turns, reached}
 use Rattle.plain_kernel.proofs.running.run_to_end.Goals as goal
