@@ -1,5 +1,5 @@
 -- A process that runs up to something, among the others.
-use Rattle.std.proofs.Common.{◌≡◌, ℕ, ◌+◌, ◌*◌, ◌-◌, ◌^◌, ◌<◌, ◌≤◌, Bool, true, false, cond, ◌||◌, refl, sym, ap, subst, ◌∙◌, ◌⊎◌, inl, inr, arith, List, length, map, Option, Some, None, option_map, Result, Ok}
+use Rattle.std.proofs.Common.{◌≡◌, ℕ, ◌+◌, ◌-◌, ◌^◌, ◌<◌, ◌≤◌, true, false, ◌||◌, refl, sym, ap, subst, ◌∙◌, ◌⊎◌, inl, inr, arith, List, length, map, Option, Some, None, option_map, Ok}
 use Rattle.std.specs.List.{list_any}
 use Rattle.std.specs.List.Sorted.{IsStrictlySortedBy}
 use Rattle.std.specs.Map.{lookup, set_value}
@@ -26,7 +26,8 @@ use Rattle.plain_kernel.proofs.Entries.{changed_back, found_after, lookup_state,
 use Rattle.plain_kernel.proofs.Forked.{child_within, fork_fits, fork_lighter, fork_others, forked, load_to_fork, there_to_fork}
 use Rattle.plain_kernel.proofs.NextChild.{next_child-absent}
 use Rattle.plain_kernel.proofs.Delivery.{less_to_send, lighter_by, stepped_alone, stepped_exit, stepped_mail, stepped_silent, stepped_two}
-use Rattle.plain_kernel.proofs.Ready.{covers_nobody, covers_sent, covers_stuck, covers_went, turn_of, HasOneMore}
+use Rattle.plain_kernel.specs.Candidates.{HasOneMore}
+use Rattle.plain_kernel.proofs.Ready.{covers_nobody, covers_sent, covers_stuck, covers_went, turn_of}
 use Rattle.plain_kernel.proofs.Turns.{able, able_first, able_ran, less, turns, turns_forked, turns_nobody, turns_stuck}
 
 pub runs_and_steps : (old new : List (ℕ × Process)) (pid : ℕ) (was now : Process) (step : Step) → Changes old new pid was now → RunsOn step was now → RunsAndSteps old new pid step

@@ -1,14 +1,12 @@
 -- A fork in the map of the processes: the parent stands in its place, and the child is put at its pid.
-use Rattle.std.proofs.Common.{◌≡◌, ℕ, ◌+◌, ◌*◌, ◌<◌, ◌≤◌, ◌^◌, Bool, true, false, true≢false, cond, ◌||◌, List, [], ◌∷◌, map, refl, sym, ap, ◌∙◌, subst, arith, Option, Some, None, IsSome, is_some, option_map, unwrap_or}
+use Rattle.std.proofs.Common.{◌≡◌, ℕ, ◌+◌, ◌*◌, ◌<◌, ◌≤◌, ◌^◌, Bool, true, false, true≢false, cond, ◌||◌, List, [], ◌∷◌, refl, sym, ap, ◌∙◌, subst, arith, Option, Some, None, IsSome, is_some, option_map}
 use Rattle.std.specs.Prelude.{fold, option_and_then, Result, Ok, Err, IfOk, OnOk, OnErr}
 use Rattle.std.proofs.lemmas.Bool.{false≢true}
 use Rattle.std.proofs.lemmas.Bool.Decides.{nat_tests}
 use Rattle.std.proofs.lemmas.Cmp.{nat_cmp_total}
 use Rattle.std.proofs.lemmas.Map.Entries.{sum_by-insert_entry}
-use Rattle.std.specs.BTreeMap.{insert_entry}
 use Rattle.std.specs.FinMap.{put}
 use Rattle.std.specs.FinMap.Entries.{find-put}
-use Rattle.std.specs.List.Sorted.{IsStrictlySortedBy}
 use Rattle.std.specs.Map.{lookup}
 use Rattle.std.specs.Option.{option_map_or}
 use Rattle.std.specs.Ordering.{nat_cmp}
@@ -23,17 +21,17 @@ use Rattle.sys_calls.specs.Small.{weight_with_children}
 use Rattle.sys_calls.specs.Fork.{CanFork, fork_child, fork_parent}
 use Rattle.sys_calls.proofs.Bearing.{fork_lightens}
 use Rattle.sys_calls.proofs.ForkLaws.{forks_can}
-use Rattle.plain_kernel.specs.Kernel.{Kernel, pid_cmp, process_at, with_process}
+use Rattle.plain_kernel.specs.Kernel.{pid_cmp, process_at}
 use Rattle.plain_kernel.specs.declared.item.Item.TheVariants.{Fork}
 use Rattle.plain_kernel.specs.Answers.{Applies, fork_answer}
 use Rattle.plain_kernel.specs.Apply.{after_fork, fork_step}
 use Rattle.plain_kernel.specs.Still.{higher, next_child}
 use Rattle.plain_kernel.specs.Maps.{at_key, forks_at, higher_key, kernel_of, load, pid_of, processes_of, total_load, Changes, ChangesSmall, ForksAt, PidsFit, Restores, SameBut, Splits, SplitsAt}
-use Rattle.plain_kernel.proofs.Entries.{keys, insert_seen, lookup_find, lookup_state, one_of_sum, same_keys, still_there, some_same, changed_back, found_after, load_after, ordered_after, others_stay, put_after, state_before}
+use Rattle.plain_kernel.proofs.Entries.{keys, insert_seen, lookup_find, lookup_state, one_of_sum, same_keys, still_there, changed_back, load_after, ordered_after, others_stay, put_after, state_before}
 use Rattle.plain_kernel.proofs.Delivery.{there_small, undone}
 use Rattle.plain_kernel.proofs.Forking.{fork_makes}
 use Rattle.plain_kernel.proofs.Roots.{insert_put}
-use Rattle.plain_kernel.proofs.NextChild.{next_child-absent, next_child-within}
+use Rattle.plain_kernel.proofs.NextChild.{next_child-within}
 use Rattle.plain_kernel.proofs.Turns.{no_steps}
 
 -- ---- a process that forks next

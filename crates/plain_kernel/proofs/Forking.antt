@@ -1,9 +1,8 @@
 -- What a fork that was made leaves of a kernel.
-use Rattle.std.proofs.Common.{◌≡◌, ℕ, ◌+◌, refl, sym, ap, ◌∙◌, Option, Some, None, is_some, true≢false}
-use Rattle.std.specs.Prelude.{◌≢◌, List, option_and_then, option_map}
+use Rattle.std.proofs.Common.{◌≡◌, ◌+◌, refl, sym, ap, ◌∙◌, Option, Some, None, is_some, true≢false}
+use Rattle.std.specs.Prelude.{◌≢◌, option_and_then, option_map}
 use Rattle.std.specs.Option.{option_map_or}
 use Rattle.t32_base.specs.declared.process.Pid.{Pid}
-use Rattle.t32_base.specs.Small.{SmallState}
 use Rattle.proc_state.specs.State.{ProcState}
 use Rattle.sys_calls.specs.Calls.{Next, Silent, Blocked, Forks, Emits, Over}
 use Rattle.sys_calls.specs.Next.{next_step}

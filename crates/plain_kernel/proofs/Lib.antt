@@ -8,6 +8,7 @@ pub mod Pids
 pub mod Roots
 mod StartPages
 pub mod Starts
+mod Falling
 mod Ready
 mod Turns
 pub mod Unforked

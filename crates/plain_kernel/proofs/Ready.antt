@@ -1,9 +1,8 @@
 -- The pids that may have a step, among which are those of all processes that have one.
 use Rattle.std.proofs.lemmas.Bool.{false≢true}
 use Rattle.std.proofs.lemmas.Bool.Decides.{nat_tests}
-use Rattle.std.proofs.Common.{◌≡◌, ℕ, ◌+◌, ◌<◌, ◌≤◌, Bool, true, false, true≢false, cond, ◌||◌, List, [], ◌∷◌, map, length, refl, sym, ap, ◌∙◌, subst, arith, Option, Some, None, IsSome, option_map}
-use Rattle.std.specs.Borrow.{Bor}
-use Rattle.std.specs.Option.{option_copied, option_map_or}
+use Rattle.std.proofs.Common.{◌≡◌, ℕ, Bool, true, false, true≢false, cond, ◌||◌, List, [], ◌∷◌, map, refl, sym, ap, ◌∙◌, subst, arith, Option, Some, None, option_map}
+use Rattle.std.specs.Option.{option_map_or}
 use Rattle.std.specs.Ordering.{nat_cmp, is_gt}
 use Rattle.std.specs.declared.cmp.Ordering.TheVariants.{Less}
 use Rattle.std.specs.List.{AllByRecursion, list_any}
@@ -13,7 +12,8 @@ use Rattle.proc_state.specs.declared.process.Process.{Process}
 use Rattle.proc_state.specs.State.{state_of}
 use Rattle.sys_calls.specs.Next.{has_step, next_step}
 use Rattle.plain_kernel.specs.Maps.{at_key, lowest_of, Covers, IsFirst, IsTurn, RunsAt, SameBut}
-use Rattle.plain_kernel.proofs.Entries.{found_after, others_stay}
+use Rattle.plain_kernel.specs.Candidates.{HasOneMore}
+use Rattle.plain_kernel.proofs.Entries.{found_after, others_stay, tied}
 use Rattle.plain_kernel.proofs.Turns.{has_turn, found_at, first_able}
 
 abbrev keys : {X : Type 0} → List (ℕ × X) → List ℕ
@@ -50,16 +50,16 @@ covers_two pid to old new ready same listed receiver = covers_but (λ q. at_key 
 
 -- ---- one more, and one less
 
--- those of a list with one more
-abbrev pub HasOneMore : ℕ → List ℕ → List ℕ → Type 0
-HasOneMore n ready more = (q : ℕ) → list_any (at_key q) more ≡ cond (at_key n q) true (list_any (at_key q) ready)
-
 listed_more : (n : ℕ) (ready more : List ℕ) → HasOneMore n ready more → (q : ℕ) → list_any (at_key q) ready ≡ true → list_any (at_key q) more ≡ true
 listed_more n ready more puts q listed = puts q ∙ either (at_key n q) (list_any (at_key q) ready) listed
   where
     either : (b c : Bool) → c ≡ true → cond b true c ≡ true
     either true c is = refl
     either false c is = is
+
+-- it is in it itself
+pub receiver_in : (n : ℕ) (ready more : List ℕ) → HasOneMore n ready more → list_any (at_key n) more ≡ true
+receiver_in n ready more puts = puts n ∙ rw (tied n) refl
 
 covers_more : (es : List (ℕ × Process)) (n : ℕ) (ready more : List ℕ) → HasOneMore n ready more → Covers es ready → Covers es more
 covers_more es n ready more puts covers = λ q p found steps. listed_more n ready more puts q (covers q p found steps)
@@ -154,15 +154,6 @@ pub covers_nobody : (ps rs : List (ℕ × Process)) (ready less : List ℕ) (pid
 covers_nobody ps rs ready less pid none same keeps covers =
     subst (λ es. Covers es less) (sym same) (covers_less ps pid ready less (ap (λ o. option_map_or able o false) none) keeps covers)
 
--- their number
-pub one_less : (b : Bool) (less more : ℕ) → b ≡ true → less + cond b 1 0 ≡ more → less < more
-one_less true less more is e = omega (arith, e)
-one_less false less more is e = cc
-
-pub one_more : (b : Bool) (less more : ℕ) → more ≡ less + cond b 1 0 → more ≤ less + 1
-one_more true less more e = omega (arith, e)
-one_more false less more e = omega (arith, e)
-
 -- where none is left, none has a step
 pub none_listed : (es : List (ℕ × Process)) (ready : List ℕ) → IsStrictlySortedBy nat_cmp (keys es) → Covers es ready → ready ≡ [] → IsTurn None es
 none_listed es ready ordered covers none = by_case (lowest_of es) refl
@@ -171,13 +162,6 @@ none_listed es ready ordered covers none = by_case (lowest_of es) refl
     by_case None is = ap (option_map (λ (e : ℕ × Process). e.0)) (sym is)
     by_case (Some e) is =
         absurd (false≢true (sym (ap (list_any (at_key e.0)) none) ∙ covers e.0 e.1 (found_at (λ (e : ℕ × Process). able e.1) es e ordered is) (first_able (λ (e : ℕ × Process). able e.1) es e is)))
-
--- ---- the first of a set
-
-pub first_none : (r : Option (Bor ℕ)) (xs : List ℕ) → (0 < length xs → IsSome r) → option_copied r ≡ None → xs ≡ []
-first_none None [] there is = refl
-first_none None (x ∷ xs) there is = absurd (false≢true (there (omega arith)))
-first_none (Some k) xs there is = cc
 
 -- ---- every pid
 

@@ -4,3 +4,4 @@ pub mod Still
 pub mod Maps
 pub mod Starts
 pub mod Answers
+pub mod Candidates

@@ -3,6 +3,7 @@
 
 mod births;
 pub mod booting;
+mod candidates;
 pub mod item;
 mod linking;
 pub mod plain;

@@ -6,9 +6,10 @@ ghost use Rattle.proc_state.specs.State.{state_of};
 ghost use Rattle.sys_calls.specs.Next.{has_step, next_step};
 ghost use Rattle.plain_kernel.specs.Maps.{pid_of, Covers, RunsAt, RunsIfThere, StepsAt};
 
+use crate::candidates::Candidates;
 use proc_state::process::Process;
 use std::alloc::Global;
-use std::collections::{BTreeMap, BTreeSet};
+use std::collections::BTreeMap;
 use sys_calls::stepping::{can_step, run_instructions, run_on, step};
 use sys_calls::steps::Step;
 use t32_base::lists::List;
@@ -82,11 +83,11 @@ pub fn pids_of(alloc: Global, processes: &BTreeMap<u32, Process>) -> Result<List
     Ok(pids)
 }
 
-/// The set of every pid.
-pub fn pid_set(alloc: Global, processes: &BTreeMap<u32, Process>) -> Result<BTreeSet<u32>, NoMemory>
-    ensures { IfOk result (λ pids. Covers processes.now.entries pids.keys) }
+/// Every pid.
+pub fn pid_set(alloc: Global, processes: &BTreeMap<u32, Process>) -> Result<Candidates, NoMemory>
+    ensures { IfOk result (λ pids. Covers processes.now.entries pids) }
 {
-    let mut pids = BTreeSet::new(alloc);
+    let mut pids = Candidates::new(alloc);
     for pid in processes.keys() {
         pids.insert(*pid)?;
     }

@@ -6,12 +6,13 @@ ghost use Rattle.plain_kernel.specs.Maps.{kernel_of, total_load, Covers, IsFirst
 ghost use Rattle.plain_kernel.specs.Still.{Reaches};
 
 use crate::births::{child_after, fork_at};
+use crate::candidates::Candidates;
 use crate::item::NotApplied;
 use crate::processes::{pid_set, run_at, run_if_there};
 use crate::sending::{Made, make_step, send};
 use proc_state::process::Process;
 use std::alloc::Global;
-use std::collections::{BTreeMap, BTreeSet};
+use std::collections::BTreeMap;
 use sys_calls::steps::{Emission, Step};
 use t32_base::lists::Bytes;
 use t32_base::streams::NoMemory;
@@ -65,7 +66,7 @@ pub fn run_to_end(
     ensures room { OnOk result (total_load processes.new.entries < 2 ^ 64) }
 {
     let mut ready = pid_set(alloc, processes)?;
-    'turns: while let Some(pid) = ready.first().copied() {
+    'turns: while let Some(pid) = ready.first() {
         take_turn(alloc, processes, ttys, &mut ready, pid)?;
     }
     // A map tells with its length that its keys are in order.
@@ -80,21 +81,21 @@ fn take_turn(
     alloc: Global,
     processes: &mut BTreeMap<u32, Process>,
     ttys: &mut BTreeMap<u8, Bytes>,
-    ready: &mut BTreeSet<u32>,
+    ready: &mut Candidates,
     pid: u32,
 ) -> Result<(), NoMemory>
-    requires first { IsFirst pid ready.old.keys }
+    requires first { IsFirst pid ready.old }
     requires room { total_load processes.old.entries < 2 ^ 64 }
     requires fits { PidsFit processes.old.entries }
-    requires covers { Covers processes.old.entries ready.old.keys }
-    ensures turns { OnOk result (Turns processes.old.entries processes.new.entries ttys.old.entries ttys.new.entries ready.old.keys ready.new.keys) }
-    ensures covers { OnOk result (Covers processes.new.entries ready.new.keys) }
+    requires covers { Covers processes.old.entries ready.old }
+    ensures turns { OnOk result (Turns processes.old.entries processes.new.entries ttys.old.entries ttys.new.entries ready.old ready.new) }
+    ensures covers { OnOk result (Covers processes.new.entries ready.new) }
     ensures fits { OnOk result (PidsFit processes.new.entries) }
 {
     // A map tells with its length that its keys are in order.
     let _count = processes.len();
     let Some(step) = run_if_there(alloc, processes, pid)? else {
-        ready.remove(&pid);
+        ready.drop_first();
         return Ok(());
     };
     match step {
@@ -111,7 +112,7 @@ fn take_turn(
             ready.insert(child.0)?;
         }
         Step::Blocked | Step::Over => {
-            ready.remove(&pid);
+            ready.drop_first();
         }
     }
     Ok(())

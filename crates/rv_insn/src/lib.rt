@@ -5,7 +5,7 @@
 ghost use Rattle.std.specs.Prelude.{◌≡◌, ◌+◌, ◌-◌, ◌*◌, ◌^◌, ◌<◌, ◌≤◌, IfSome, IsTrue, All, Some};
 ghost use Rattle.rv_insn.specs.Word.{bits, rd, rs1, rs2, sign_extended, imm_i, imm_s, imm_b, imm_u, imm_j, shamt};
 ghost use Rattle.rv_insn.specs.Table.{decoded, key_of, picked, rows};
-ghost use Rattle.rv_insn.specs.Keys.{key_at};
+ghost use Rattle.rv_insn.specs.Keys.{key_at, number_of, turned};
 ghost use Rattle.rv_insn.specs.Encoding.{IsEncodable, IsR, IsRegister, encoded, low, packed, word_b, word_i, word_j, word_r, word_s, word_shift, word_u};
 
 /// An instruction of RV32I (RISC-V unprivileged specification, RV32I). `rd`, `rs1` and `rs2` are numbers of
@@ -160,15 +160,23 @@ fn shamt(word: u32) -> i32
     bits(word, 24, 20).cast_signed()
 }
 
-// The row that takes a word. The opcode of each row ends in two ones.
+// The row that takes a word. The opcode of each row ends in two ones, so those of the word less three are two
+// zeros; as the top of the number of the row they leave no row to a word where they are anything else.
 #[inline(always)]
 fn row_of(word: u32) -> Option<Insn>
     ensures { result ≡ decoded word }
 {
-    if bits(word, 1, 0) != 3 {
-        return None;
-    }
-    row_at(word, bits(word, 6, 2) + bits(word, 14, 12) * 32)
+    let turned = turned(word.wrapping_sub(3));
+    let top = bits(turned, 12, 10) * 32 + bits(turned, 31, 30) * 0x0200_0000;
+    row_at(word, bits(turned, 4, 0) + top)
+}
+
+// A number with its lowest two bits at the top.
+#[inline(always)]
+fn turned(number: u32) -> u32
+    ensures { result ≡ turned number }
+{
+    (number >> 2) + (number << 30)
 }
 
 // The instruction of a word, by its format.
@@ -200,7 +208,7 @@ macro_rules! insn {
 // opcode. A row that has no funct3 stands at all eight.
 #[inline(always)]
 fn row_at(word: u32, key: u32) -> Option<Insn>
-    requires { key ≡ bits word 6 2 + bits word 14 12 * 32 }
+    requires { key ≡ number_of word }
     ensures { result ≡ picked (key_at key word) word }
 {
     match key {

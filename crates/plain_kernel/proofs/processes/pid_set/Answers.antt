@@ -4,7 +4,7 @@ use Rattle.plain_kernel.proofs.processes.pid_set.Goals as goal
 
 pub loop-pid-preserved : goal.loop-pid-preserved
 loop-pid-preserved c =
-    put_next c.in-Some.pid.now c.loop-pid.pids.keys c.insert.new.self.keys c.loop-pid.pid-iterator c.next.new.self (keys c.args.processes.now) c.in_ok-insert.ensures.updates.0 c.in-Some.ensures.steps c.loop-pid.invariant
+    put_next c.in-Some.pid.now c.loop-pid.pids c.insert.new.self c.loop-pid.pid-iterator c.next.new.self (keys c.args.processes.now) c.in_ok-insert.ensures.more c.in-Some.ensures.steps c.loop-pid.invariant
 
 pub returns : goal.returns
-returns c = covers_all c.args.processes.now.entries c.loop-pid.pids.keys c.loop-pid.pid-iterator c.in-None.ensures.steps.0 c.loop-pid.invariant
+returns c = covers_all c.args.processes.now.entries c.loop-pid.pids c.loop-pid.pid-iterator c.in-None.ensures.steps.0 c.loop-pid.invariant

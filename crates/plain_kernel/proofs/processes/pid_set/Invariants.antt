@@ -3,4 +3,4 @@ use Rattle.plain_kernel.proofs.Ready.{AreAll}
 use Rattle.plain_kernel.proofs.processes.pid_set.Given as goal
 
 abbrev pub invariant-loop-pid : goal.invariant-loop-pid
-invariant-loop-pid l = AreAll l.pids.keys l.pid-iterator (keys l.processes)
+invariant-loop-pid l = AreAll l.pids l.pid-iterator (keys l.processes)

@@ -1,5 +1,5 @@
-use Rattle.std.proofs.Common.{◌+◌, ◌∙◌, sym, arith}
-use Rattle.plain_kernel.proofs.Ready.{first_none, none_listed}
+use Rattle.std.proofs.Common.{◌+◌, arith}
+use Rattle.plain_kernel.proofs.Ready.{none_listed}
 use Rattle.plain_kernel.proofs.Turns.{no_turns, more_turns, reached}
 use Rattle.plain_kernel.proofs.running.run_to_end.Goals as goal
 
@@ -16,4 +16,4 @@ pub returns-clause-reaches : goal.returns-clause-reaches
 returns-clause-reaches c =
     let i = c.turns.invariant in
     reached i.items _ _ _ i.made
-    (none_listed c.turns.processes.entries c.turns.ready.keys c.len-count.ensures.ordered i.covers (first_none c.first.result c.turns.ready.keys c.first.ensures.variant.1 (sym c.copied.ensures ∙ c.in_default.is)))
+    (none_listed c.turns.processes.entries c.turns.ready c.len-count.ensures.ordered i.covers (c.first.ensures.none c.in_default.is))

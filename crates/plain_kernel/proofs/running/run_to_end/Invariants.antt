@@ -8,9 +8,9 @@ invariant-turns l = record {
   items : ℕ;
   made : default_after items (kernel_of l.fn.processes.entries l.fn.ttys.entries) ≡ Some (kernel_of l.processes.entries l.ttys.entries);
   lighter : total_load l.processes.entries ≤ total_load l.fn.processes.entries;
-  covers : Covers l.processes.entries l.ready.keys;
+  covers : Covers l.processes.entries l.ready;
   fits : PidsFit l.processes.entries;
 }
 
 abbrev pub decreases-turns : goal.decreases-turns
-decreases-turns l = 2 * total_load l.processes.entries + length l.ready.keys
+decreases-turns l = 2 * total_load l.processes.entries + length l.ready
