@@ -38,7 +38,7 @@ use Rattle.cert_sched.proofs.UnendedLaws.{loss_keeps, unended_map}
 use Rattle.page_laws.specs.Next.{moves_next}
 use Rattle.page_laws.proofs.OneEntry.{moved-goes_on, moves_none, turned}
 use Rattle.record_laws.proofs.Standing.{built_stands}
-use Rattle.wait_laws.proofs.MovedStated.{moved_stated}
+use Rattle.page_laws.proofs.MovedStated.{moved_stated}
 use Rattle.cert_sched.proofs.BirthPlaces.{born_beside}
 use Rattle.cluster_core.proofs.ByKind.{OneOf, by_kind, by_page, by_sync, kind_is}
 use Rattle.cluster_core.proofs.Homes.{HomeHere, differ_built}

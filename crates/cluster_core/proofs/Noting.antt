@@ -27,7 +27,7 @@ use Rattle.bus_msg.specs.Route.{backup_of, home_of, bits_of, letter_dests, route
 use Rattle.cert_sched.specs.Built.{BuiltMayFollow, tells_or_closes}
 use Rattle.cert_sched.specs.Schedule.{placement}
 use Rattle.cert_sched.specs.Record.{backup_record}
-use Rattle.backup_records.specs.Records.{CanNote, record_in, record_after, record_of_child, records_after, is_receiver, with_birth, with_child_of, with_record, with_saved, with_counted, with_cut}
+use Rattle.backup_records.specs.Records.{CanNote, record_in, record_after, record_of_child, records_after, is_receiver, after_birth, with_child_of, with_record, with_saved, with_counted, with_cut}
 use Rattle.record_laws.specs.Kept.{KeepsRecords, has_backup_in}
 use Rattle.record_laws.proofs.BuiltLaws.{built_can_note}
 use Rattle.cert_sched.proofs.LogLaws.{IsLegal-last}
@@ -226,7 +226,7 @@ cut_left system log k recs pid small read live keeps elsewhere = all_left (has_b
         by_pid false is = refl
 
 -- so does a birth
-birth_left : (system : System) (log : List Entry) (k : ClusterNo) (recs : List BackRec) (parent child : Pid) → BackupsLive (placement system log) → KeepsRecords system log k recs → goes_to (to_all (placement system log)) k ≡ false → with_birth parent child recs ≡ recs
+birth_left : (system : System) (log : List Entry) (k : ClusterNo) (recs : List BackRec) (parent child : Pid) → BackupsLive (placement system log) → KeepsRecords system log k recs → goes_to (to_all (placement system log)) k ≡ false → after_birth parent child recs ≡ recs
 birth_left system log k recs parent child live keeps elsewhere = by_record (record_in recs parent) refl
   where
     places : Places

@@ -37,7 +37,7 @@ use Rattle.cert_sched.proofs.EndedLaws.{letter_told}
 use Rattle.cert_sched.proofs.FreshLaws.{Numbered, numbered_at_boot, numbered_more}
 use Rattle.cert_sched.proofs.MailLaws.{sender_goes_on}
 use Rattle.cert_sched.proofs.QuietLaws.{went_quietly}
-use Rattle.cert_sched.proofs.BornLaws.{run_and_fork}
+use Rattle.cert_sched.proofs.RunAndFork.{run_and_fork}
 use Rattle.cert_sched.proofs.LogLaws.{plain_after-snoc}
 use Rattle.cert_sched.proofs.ReplayLaws.{fork_after}
 use Rattle.cert_sched.proofs.RunItems.{forkless_keep, run_forkless}
