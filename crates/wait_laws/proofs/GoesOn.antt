@@ -21,7 +21,7 @@ use Rattle.page_waits.specs.Pages.{AreAllPages}
 use Rattle.page_waits.specs.Waiting.{CanGoOn, WaitingState, is_whole}
 use Rattle.page_waits.proofs.Started.{can_from, rolls_from}
 use Rattle.wait_laws.specs.Waits.{GoesOnAs, WaitsAs}
-use Rattle.wait_laws.proofs.MovedStated.{moved_stated}
+use Rattle.page_laws.proofs.MovedStated.{moved_stated}
 use Rattle.wait_laws.proofs.PagesCame.{as_kept}
 
 module _ (system : System) (log : List Entry) (p : Pid) (queued : ℕ → Bool) (w : WaitingState) (valid : is_system system ≡ true) (legal : IsLegalBy Stands system log) (unended : IsUnended system log p) (waits : WaitsAs system log p queued w)
