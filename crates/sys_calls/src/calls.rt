@@ -38,6 +38,7 @@ fn forks_are_built() -> bool
 }
 
 /// The process makes the call whose number is in a7.
+#[inline(always)]
 pub fn call(alloc: Global, p: &mut Process) -> Result<Step, NoMemory>
     requires some { 0 < p.old.small.left }
     requires live { p.old.small.status ≡ Status.Live }
@@ -97,6 +98,7 @@ fn exit(p: &mut Process) -> Step
 }
 
 /// write(end, ptr, len)
+#[inline(always)]
 fn write(alloc: Global, p: &mut Process) -> Result<Step, NoMemory>
     requires some { 0 < p.old.small.left }
     ensures makes { Makes (write_call (with_small (state_of p.old) (spent p.old.small)) (reg p.old.small.regs 10) (reg p.old.small.regs 11) (reg p.old.small.regs 12)) result (state_of p.old) (state_of p.new) }
