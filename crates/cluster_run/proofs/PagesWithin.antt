@@ -1,64 +1,44 @@
 -- Of the pages of processes that a loss moved no more are left to ask for and to come than so many as the system says.
-use Rattle.std.proofs.Common.{◌≡◌, ℕ, ◌+◌, ◌*◌, ◌^◌, ◌≤◌, ◌<◌, refl, sym, ◌∙◌, ap, subst, arith, List, [], ◌∷◌, ◌++◌, length, Bool, true, false, cond, not, Option, Some, None, true≢false}
-use Rattle.std.specs.Prelude.{All, count_by, option_and_then}
+use Rattle.std.proofs.Common.{◌≡◌, ℕ, ◌+◌, ◌*◌, ◌^◌, ◌≤◌, ◌<◌, ap, arith, List, [], ◌∷◌, ◌++◌, length, Bool, true, false, cond, not, Option, Some, None}
+use Rattle.std.specs.Prelude.{All, count_by, option_map}
 use Rattle.std.specs.List.{list_any, range_with_len, sum_by}
 use Rattle.std.specs.Option.{option_map_or}
 use Rattle.std.specs.Ordering.{is_eq}
 use Rattle.std.specs.FinMap.{find}
-use Rattle.std.proofs.lemmas.List.{length-map}
 use Rattle.std.proofs.lemmas.List.Elements.{All-nil, All-cons}
 use Rattle.std.proofs.lemmas.List.FromFn.{length-range_with_len}
 use Rattle.std.proofs.lemmas.List.Sums.{sum_by-cons, sum_by-le, length-filter, count_by-le-length}
 use Rattle.std.proofs.lemmas.Nat.{mul-le}
 use Rattle.t32_base.specs.declared.process.Pid.{Pid}
+use Rattle.t32_base.specs.Small.{SmallState}
 use Rattle.sys_text.specs.declared.system.System.{System}
+use Rattle.sys_text.specs.Valid.{is_system}
 use Rattle.proc_state.specs.State.{ProcState}
-use Rattle.plain_kernel.specs.Kernel.{Kernel, boot, pid_cmp, process_at}
-use Rattle.bus_msg.specs.declared.entry.What.{What}
-use Rattle.bus_msg.specs.declared.entry.What.TheVariants.{Mail, Birth, Exit, Page, Sync, Fetch, PageIs, Crash, Return, Rebackup, Done, Stop}
+use Rattle.plain_kernel.specs.Kernel.{boot, pid_cmp, process_at}
 use Rattle.bus_msg.specs.declared.entry.Entry.{Entry}
 use Rattle.bus_msg.specs.declared.placed.Placed.{Placed}
 use Rattle.bus_msg.specs.Places.{Places, unended_in}
-use Rattle.bus_msg.specs.PlacedAfter.{after_exit, after_loss, after_sync, placed_after, what}
-use Rattle.cert_sched.specs.Schedule.{placement, places_at_boot, plain_after}
+use Rattle.bus_msg.specs.PlacedAfter.{placed_after, what}
+use Rattle.cert_sched.specs.Schedule.{placement, places_at_boot}
 use Rattle.cert_sched.specs.Told.{Told, told, told_from}
-use Rattle.cert_sched.specs.Moved.{add_wait, ends_wait, fetched, moved_with_state, waiting_fetches, waiting_in}
+use Rattle.cert_sched.specs.Moved.{add_wait, ends_wait, fetched, waiting_fetches, waiting_in}
 use Rattle.cert_sched.specs.Steps.{page_count}
-use Rattle.cert_sched.specs.Built.{BuiltMayFollow, is_built}
+use Rattle.cert_sched.specs.Built.{BuiltMayFollow}
 use Rattle.cert_sched.specs.Legal.{IsLegalBy}
-use Rattle.cert_sched.proofs.BirthKind.{is_birth}
-use Rattle.cert_sched.proofs.CameLaws.{not_birth}
-use Rattle.cert_sched.proofs.Induction.{legal_induction}
-use Rattle.cert_sched.proofs.LogLaws.{placement-snoc}
+use Rattle.cert_sched.proofs.KernelSums.{sum_of}
+use Rattle.record_laws.proofs.Standing.{built_stands}
 use Rattle.page_laws.specs.Left.{is_unasked, left_of_pages, unasked, unasked_of}
-use Rattle.page_laws.proofs.PagesStay.{page_count-boot}
+use Rattle.page_laws.proofs.PagesStay.{EachPages, page_count-most}
+use Rattle.sync_left.proofs.PlacedSums.{of_family, placed_few}
 
 -- ---- how many processes stand there
 
--- how many processes a system places
+-- the most processes that a system places: those of its boot, and the children that they may fork
 abbrev pub placed_count : System → ℕ
-placed_count system = length (places_at_boot system).placed
+placed_count system = sum_of (of_family (λ (s : SmallState). 1)) (boot system)
 
--- an entry of a kind that is built places as many as before, but for a birth, and no log has one yet
-same_count : (w : What) (places : Places) → is_built w ≡ true → is_birth w ≡ false → length (placed_after places w).placed ≡ length places.placed
-same_count (Mail at letter) places h other = refl
-same_count (Birth parent at child end) places h other = absurd (true≢false other)
-same_count (Exit pid at end) places h other = length-map places.placed (after_exit pid)
-same_count (Page pid at index bytes) places h other = refl
-same_count (Sync pid small read took) places h other = length-map places.placed (after_sync pid)
-same_count (Fetch pid index) places h other = refl
-same_count (PageIs pid index bytes) places h other = refl
-same_count (Crash k cause) places h other = length-map places.placed (after_loss k)
-same_count (Return k) places h other = absurd (true≢false (sym h))
-same_count (Rebackup to fresh recs) places h other = absurd (true≢false (sym h))
-same_count (Done rests) places h other = refl
-same_count Stop places h other = refl
-
-pub few_placed : (system : System) (log : List Entry) → IsLegalBy BuiltMayFollow system log → length (placement system log).placed ≡ placed_count system
-unfolding placement
-few_placed system log legal =
-    legal_induction BuiltMayFollow system (λ log. length (placement system log).placed ≡ placed_count system) refl
-    (λ log e same may. ap (λ (p : Places). length p.placed) (placement-snoc system log e) ∙ same_count (what e) (placement system log) may.built (not_birth system log e (may.stands).applies (what e) refl) ∙ same) log legal
+pub few_placed : (system : System) (log : List Entry) → is_system system ≡ true → IsLegalBy BuiltMayFollow system log → length (placement system log).placed ≤ placed_count system
+few_placed system log valid legal = placed_few system log valid (built_stands system log legal)
 
 -- ---- how many pages each has
 
@@ -78,23 +58,16 @@ one_within p (e ∷ es) = by_test (is_eq (pid_cmp p e.0)) (one_within p es)
     by_test true more = omega (arith, sum_by-cons pages_of e es)
     by_test false more = omega (arith, sum_by-cons pages_of e es, more)
 
-count_at_boot : (system : System) (p : Pid) → page_count system [] p ≤ boot_sizes system
-unfolding plain_after
-count_at_boot system p = one_within p (boot system).processes
-
-count_stays : (system : System) (log : List Entry) (p : Pid) (k : Kernel) → plain_after system log ≡ Some k → page_count system log p ≡ page_count system [] p
-unfolding plain_after
-count_stays system log p k is = page_count-boot system log k p is ∙ sym (page_count-boot system [] (boot system) p refl)
+each_at_boot : (system : System) → EachPages (λ n. n ≤ boot_sizes system) (boot system)
+each_at_boot system p n is = omega (arith, counted (process_at (boot system) p) is, one_within p (boot system).processes)
+  where
+    counted : (o : Option ProcState) → option_map (λ (s : SmallState). s.pages) (option_map (λ (s : ProcState). s.small) o) ≡ Some n → option_map_or (λ (s : ProcState). (s.small).pages) o 0 ≡ n
+    counted None h = cc
+    counted (Some s) h = ap (λ o. option_map_or (λ (m : ℕ). m) o n) h
 
 -- so many it has after each log
 count_within : (system : System) (log : List Entry) (p : Pid) → page_count system log p ≤ boot_sizes system
-count_within system log p = by_kernel (plain_after system log) refl
-  where
-    by_kernel : (o : Option Kernel) → plain_after system log ≡ o → page_count system log p ≤ boot_sizes system
-    by_kernel None is =
-        let none : page_count system log p ≡ 0 = ap (λ o. option_map_or (λ (s : ProcState). (s.small).pages) (option_and_then (λ k. process_at k p) o) 0) is in
-        omega (arith, none)
-    by_kernel (Some k) is = subst (λ n. n ≤ boot_sizes system) (sym (count_stays system log p k is)) (count_at_boot system p)
+count_within system log p = page_count-most system log p (boot_sizes system) (each_at_boot system)
 
 -- ---- pages to ask for
 
@@ -109,13 +82,13 @@ each_one : {X : Type 0} (P : X → Type 0) → ((x : X) → P x) → (xs : List 
 each_one P each [] = All-nil P
 each_one P each (x ∷ xs) = All-cons P x xs (each x) (each_one P each xs)
 
-all_within : (system : System) (log : List Entry) → IsLegalBy BuiltMayFollow system log → unasked system log ≤ placed_count system * boot_sizes system
-all_within system log legal =
+all_within : (system : System) (log : List Entry) → is_system system ≡ true → IsLegalBy BuiltMayFollow system log → unasked system log ≤ placed_count system * boot_sizes system
+all_within system log valid legal =
     let there : List Placed = unended_in (placement system log) in
     let sum : unasked system log ≤ length there * boot_sizes system =
     sum_by-le (λ (q : Placed). unasked_of system log q.pid) (boot_sizes system) there (each_one (λ (q : Placed). unasked_of system log q.pid ≤ boot_sizes system) (λ q. unasked_within system log q.pid) there) in
     let few : length there ≤ placed_count system =
-    omega (arith, length-filter (λ (q : Placed). not q.ended) (placement system log).placed, count_by-le-length (λ (q : Placed). not q.ended) (placement system log).placed, few_placed system log legal) in
+    omega (arith, length-filter (λ (q : Placed). not q.ended) (placement system log).placed, count_by-le-length (λ (q : Placed). not q.ended) (placement system log).placed, few_placed system log valid legal) in
     omega (arith, sum, mul-le (length there) (boot_sizes system) (placed_count system) (boot_sizes system) few (omega arith))
 
 -- ---- fetches that wait
@@ -147,8 +120,8 @@ fetches_within system log = omega (arith, waits_within (told_from [] (places_at_
 abbrev pub most_pages : System → ℕ
 most_pages system = 2 * (placed_count system * boot_sizes system) + 2 ^ 64
 
-pub pages_within : (system : System) (log : List Entry) → IsLegalBy BuiltMayFollow system log → length log < 2 ^ 64 → left_of_pages system log ≤ most_pages system
-pages_within system log legal fits = both (unasked system log) (length (waiting_fetches system log)) (length log) (placed_count system * boot_sizes system) (all_within system log legal) (fetches_within system log) fits
+pub pages_within : (system : System) (log : List Entry) → is_system system ≡ true → IsLegalBy BuiltMayFollow system log → length log < 2 ^ 64 → left_of_pages system log ≤ most_pages system
+pages_within system log valid legal fits = both (unasked system log) (length (waiting_fetches system log)) (length log) (placed_count system * boot_sizes system) (all_within system log valid legal) (fetches_within system log) fits
   where
     both : (asked waits long most : ℕ) → asked ≤ most → waits ≤ long → long < 2 ^ 64 → 2 * asked + waits ≤ 2 * most + 2 ^ 64
     both asked waits long most first second last = omega (arith, first, second, last)

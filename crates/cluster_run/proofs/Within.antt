@@ -140,6 +140,7 @@ emitted_within system log p at t (Some sent) is there =
 
 -- a process that has moved ahead of the log
 moved_within : (system : System) (log : List Entry) (p : Pid) (steps : ℕ) (t : ProcState) (w : What) → is_unlost w ≡ true → state_by system log p steps (Some w) ≡ Some t → weight t.small ≤ boot_load system
+unfolding before_fork_at
 moved_within system log p steps t =
     by_unlost (λ w. state_by system log p steps (Some w) ≡ Some t → weight t.small ≤ boot_load system)
     (λ at letter there. emitted_within system log letter.from at t (emission_at system log letter.from at) refl (same_option _ ∙ there))
@@ -149,7 +150,6 @@ moved_within system log p steps t =
   where
     -- a fork leaves its parent less
     forked_within : (parent : Pid) (at : ℕ) (child : Pid) (o : Option ProcState) → before_fork_at system log parent at ≡ o → option_map (λ s. s) (option_map (λ s. fork_parent s child) o) ≡ Some t → weight t.small ≤ boot_load system
-    unfolding before_fork_at
     forked_within parent at child None is there = cc
     forked_within parent at child (Some u) is there = by_process (process_after system log parent) refl is
       where
@@ -251,22 +251,22 @@ rising_long : (xs : List ℕ) → length (rising xs) ≡ length xs
 rising_long [] = refl
 rising_long (x ∷ xs) = omega (arith, put_long x (rising xs), rising_long xs)
 
-few_here : (system : System) (log : List Entry) (c : ClusterView) → IsLegalBy BuiltMayFollow system log → rising (pids_in c.here) ≡ rising (home_pids system log c.number) → length c.here ≤ placed_count system
-few_here system log c legal same =
+few_here : (system : System) (log : List Entry) (c : ClusterView) → is_system system ≡ true → IsLegalBy BuiltMayFollow system log → rising (pids_in c.here) ≡ rising (home_pids system log c.number) → length c.here ≤ placed_count system
+few_here system log c valid legal same =
     let here : length c.here ≡ length (home_pids system log c.number) = sym (length-map c.here (λ (e : Pid × Held). (e.0).0)) ∙ sym (rising_long (pids_in c.here)) ∙ ap length same ∙ rising_long (home_pids system log c.number) in
     let home : length (home_pids system log c.number) ≡ count_by (is_at_home c.number) (placement system log).placed =
     length-map (filter (is_at_home c.number) (placement system log).placed) (λ (q : Placed). (q.pid).0) ∙ length-filter (is_at_home c.number) (placement system log).placed in
-    omega (arith, here, home, count_by-le-length (is_at_home c.number) (placement system log).placed, few_placed system log legal)
+    omega (arith, here, home, count_by-le-length (is_at_home c.number) (placement system log).placed, few_placed system log valid legal)
 
 -- the most that one cluster may have left
 abbrev pub most_load : System → ℕ
 most_load system = placed_count system * most_held system
 
-load_within : (system : System) (log : List Entry) (c : ClusterView) → IsLegalBy BuiltMayFollow system log → FollowsBuilt system log c → NoTwo (pids_in c.here) → load c ≤ most_load system
-load_within system log c legal follows two =
+load_within : (system : System) (log : List Entry) (c : ClusterView) → is_system system ≡ true → IsLegalBy BuiltMayFollow system log → FollowsBuilt system log c → NoTwo (pids_in c.here) → load c ≤ most_load system
+load_within system log c valid legal follows two =
     let each : All (λ (e : Pid × Held). held_load e.1 ≤ most_held system) c.here =
     each_held (λ h. held_load h ≤ most_held system) c.here two (λ p h at. held_within system log c.queue p h (follows.queue).legal ((follows.processes).held p h at)) in
-    omega (arith, sum_by-le (λ (e : Pid × Held). held_load e.1) (most_held system) c.here each, mul-le (length c.here) (most_held system) (placed_count system) (most_held system) (few_here system log c legal (follows.processes).each_once) (omega arith))
+    omega (arith, sum_by-le (λ (e : Pid × Held). held_load e.1) (most_held system) c.here each, mul-le (length c.here) (most_held system) (placed_count system) (most_held system) (few_here system log c valid legal (follows.processes).each_once) (omega arith))
 
 -- ---- all clusters
 
@@ -277,7 +277,8 @@ most_total system = system.clusters * most_load system
 -- one that follows a log that goes on
 some_within : (b : BusView) (c : ClusterView) → IsSound b → c.system ≡ b.system → FollowsSome c → load c ≤ most_load b.system
 some_within b c sound system some =
-    let within : load c ≤ most_load c.system = load_within c.system some.log c (some.open_log).0 some.follows (held_apart c (ap is_system system ∙ sound.valid) some) in
+    let valid : is_system c.system ≡ true = ap is_system system ∙ sound.valid in
+    let within : load c ≤ most_load c.system = load_within c.system some.log c valid (some.open_log).0 some.follows (held_apart c valid some) in
     subst (λ s. load c ≤ most_load s) system within
 
 -- one of whose disk a call failed has no process
@@ -356,10 +357,10 @@ steps_within system log = by_kernel (plain_after system log) refl
 abbrev pub most_posts : System → ℕ
 most_posts system = 2 * boot_load system + most_pages system + most_syncs system
 
-pub posts_within : (system : System) (log : List Entry) → IsLegalBy BuiltMayFollow system log → length log < 2 ^ 64 → left_to_send system log ≤ most_posts system
-posts_within system log legal fits =
-    all_parts (log_load system log) (boot_load system) (left_of_pages system log) (most_pages system) (left_of_syncs system log) (most_syncs system) (steps_within system log) (pages_within system log legal fits)
-    (syncs_within system log (built_stands system log legal))
+pub posts_within : (system : System) (log : List Entry) → is_system system ≡ true → IsLegalBy BuiltMayFollow system log → length log < 2 ^ 64 → left_to_send system log ≤ most_posts system
+posts_within system log valid legal fits =
+    all_parts (log_load system log) (boot_load system) (left_of_pages system log) (most_pages system) (left_of_syncs system log) (most_syncs system) (steps_within system log) (pages_within system log valid legal fits)
+    (syncs_within system log valid (built_stands system log legal))
   where
     all_parts : (a b c d m n : ℕ) → a ≤ b → c ≤ d → m ≤ n → 2 * a + c + m ≤ 2 * b + d + n
     all_parts a b c d m n first second third = omega (arith, first, second, third)
@@ -433,6 +434,6 @@ round_falls b after cs new owned all system goes_on gets = subst (λ t. cond (is
     by_end true is gets = omega arith
     by_end false is (inr over) = absurd (true≢false (sym over ∙ is))
     by_end false is (inl falls) =
-        let less = rank_falls (most_of after.system) (remaining b cs) (remaining after new) (posts_within after.system after.log (owned.sound).legal (owned.sound).fits) (entries_within after new owned all) (total_within after new owned all) falls in
+        let less = rank_falls (most_of after.system) (remaining b cs) (remaining after new) (posts_within after.system after.log (owned.sound).valid (owned.sound).legal (owned.sound).fits) (entries_within after new owned all) (total_within after new owned all) falls in
         let bounds : rank (most_of after.system) (remaining b cs) ≡ left_to_do b cs = ap (λ (s : System). rank (most_of s) (remaining b cs)) system in
         omega (arith, less, bounds)
