@@ -1,5 +1,5 @@
 -- Of the pages of processes that a loss moved no more are left to ask for and to come than so many as the system says.
-use Rattle.std.proofs.Common.{◌≡◌, ℕ, ◌+◌, ◌*◌, ◌^◌, ◌≤◌, ◌<◌, ap, arith, List, [], ◌∷◌, ◌++◌, length, Bool, true, false, cond, not, Option, Some, None}
+use Rattle.std.proofs.Common.{◌≡◌, ℕ, ◌+◌, ◌*◌, ◌^◌, ◌≤◌, ◌<◌, refl, ap, arith, List, [], ◌∷◌, ◌++◌, length, Bool, true, false, cond, not, Option, Some, None}
 use Rattle.std.specs.Prelude.{All, count_by, option_map}
 use Rattle.std.specs.List.{list_any, range_with_len, sum_by}
 use Rattle.std.specs.Option.{option_map_or}
@@ -21,7 +21,7 @@ use Rattle.bus_msg.specs.Places.{Places, unended_in}
 use Rattle.bus_msg.specs.PlacedAfter.{placed_after, what}
 use Rattle.cert_sched.specs.Schedule.{placement, places_at_boot}
 use Rattle.cert_sched.specs.Told.{Told, told, told_from}
-use Rattle.cert_sched.specs.Moved.{add_wait, ends_wait, fetched, waiting_fetches, waiting_in}
+use Rattle.cert_sched.specs.Moved.{add_wait, ends_wait, fetched, moved_with_state, waiting_fetches, waiting_in}
 use Rattle.cert_sched.specs.Steps.{page_count}
 use Rattle.cert_sched.specs.Built.{BuiltMayFollow}
 use Rattle.cert_sched.specs.Legal.{IsLegalBy}
