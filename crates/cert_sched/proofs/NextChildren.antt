@@ -50,6 +50,9 @@ absorbed_by system log e (Rebackup to fresh recs) numbered kind right = tt
 absorbed_by system log e (Done rests) numbered kind right = tt
 absorbed_by system log e Stop numbered kind right = tt
 
+-- where pids and serials are as they are to be
+pub stands_next : (system : System) (log : List Entry) (e : Entry) → Numbered (placement system log) → Stands system log e → CanBeAbsorbed (placement system log) (what e)
+stands_next system log e numbered stands = absorbed_by system log e (what e) numbered stands.kind stands.by_right
+
 pub may_be_absorbed : (system : System) (log : List Entry) (e : Entry) → is_system system ≡ true → IsLegalBy BuiltMayFollow system log → Stands system log e → CanBeAbsorbed (placement system log) (what e)
-may_be_absorbed system log e valid legal stands =
-    absorbed_by system log e (what e) (numbered BuiltMayFollow (λ _ _ _ may. may.stands) system log valid legal) stands.kind stands.by_right
+may_be_absorbed system log e valid legal stands = stands_next system log e (numbered BuiltMayFollow (λ _ _ _ may. may.stands) system log valid legal) stands

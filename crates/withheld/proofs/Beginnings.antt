@@ -7,17 +7,18 @@ use Rattle.sys_text.specs.Valid.{is_system}
 use Rattle.bus_msg.specs.declared.entry.Entry.{Entry}
 use Rattle.bus_msg.specs.Places.{Places}
 use Rattle.bus_msg.specs.PlacedAfter.{placed_after, what}
+use Rattle.channel_table.specs.Changes.{CanBeAbsorbed}
 use Rattle.cert_sched.specs.Schedule.{placement, places_at_boot}
 use Rattle.cert_sched.specs.Told.{told}
 use Rattle.cert_sched.specs.Counted.{counted}
 use Rattle.cert_sched.specs.Legal.{IsLegalBy, IsLegalFrom, Stands}
 use Rattle.cert_sched.proofs.FreshLaws.{numbered}
 use Rattle.cert_sched.proofs.LogLaws.{IsLegal-last, placement-snoc}
+use Rattle.cert_sched.proofs.NextChildren.{stands_next}
 use Rattle.record_laws.proofs.Standing.{itself}
 use Rattle.withheld.specs.declared.walk.Walk.{Walk}
 use Rattle.withheld.specs.Counts.{count_after, count_since, withheld_at}
-use Rattle.withheld.specs.Walks.{BearsNext, HasWalked, WalksOver}
-use Rattle.withheld.proofs.Births.{bears_next}
+use Rattle.withheld.specs.Walks.{HasWalked, WalksOver}
 use Rattle.withheld.proofs.Since.{count_more, count_within}
 use Rattle.withheld.proofs.Sums.{counted_more}
 
@@ -38,7 +39,7 @@ length_take (suc n) (x ∷ xs) = let rest = length_take n xs in omega (arith, re
 
 -- what the entry at a place asks of a walk, and makes of it
 pub record OneMore (system : System) (log : List Entry) (n : ℕ) (e : Entry) : Type 0 where
-  pub next : BearsNext (placement system (take n log)) (what e)
+  pub next : CanBeAbsorbed (placement system (take n log)) (what e)
   pub within : (p : Pid) → count_since (take n log) p ≤ n
   pub goes_on : (before after : Walk) → HasWalked system (take n log) before → WalksOver (what e) before after → HasWalked system (take (n + 1) log) after
 
@@ -48,7 +49,7 @@ one_more system log n e valid legal below is =
     let first : IsLegalBy Stands system (take n log) = legal_beginning system log n legal in
     let stands : Stands system (take n log) e = IsLegal-last Stands system (take n log) e (subst (IsLegalBy Stands system) longer (legal_beginning system log (n + 1) legal)) in
     record {
-      next = bears_next system (take n log) e (numbered Stands itself system (take n log) valid first) stands;
+      next = stands_next system (take n log) e (numbered Stands itself system (take n log) valid first) stands;
       within = λ p. let few = count_within system (take n log) p first in let size = length_take n log in omega (arith, few, size);
       goes_on = λ before after has walks. subst (λ (log : List Entry). HasWalked system log after) (sym longer) (record {
         places = walks.places ∙ ap (λ (places : Places). placed_after places (what e)) has.places ∙ sym (placement-snoc system (take n log) e);

@@ -2,7 +2,6 @@ mod DeedTotals
 mod Since
 mod OneRecord
 mod Sums
-mod Births
 mod Beginnings
 mod NoLoss
 mod WorkedLog

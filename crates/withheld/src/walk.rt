@@ -4,10 +4,11 @@ ghost use Rattle.std.specs.Prelude.{◌≡◌, ◌+◌, ◌-◌, ◌^◌, ◌<�
 ghost use Rattle.std.specs.Option.{option_map_or};
 ghost use Rattle.t32_base.specs.declared.process.Pid.{Pid};
 ghost use Rattle.sys_text.specs.Valid.{is_system};
-ghost use Rattle.bus_msg.specs.Places.{is_moved_by, placed_at};
-ghost use Rattle.bus_msg.specs.PlacedAfter.{placed_after, what, with_birth};
+ghost use Rattle.bus_msg.specs.Places.{is_moved_by};
+ghost use Rattle.bus_msg.specs.PlacedAfter.{what};
+ghost use Rattle.channel_table.specs.Changes.{CanBeAbsorbed};
 ghost use Rattle.withheld.specs.Counts.{count_if_moved, count_of, moved_count, withheld_at};
-ghost use Rattle.withheld.specs.Walks.{BearsNext, HasWalked, IsNextChild, WalksOver};
+ghost use Rattle.withheld.specs.Walks.{HasWalked, WalksOver};
 
 use crate::counts::{Counts, count_of, note};
 use bus_msg::entry::{Entry, What};
@@ -17,7 +18,7 @@ use channel_table::placement::Placement;
 use std::alloc::Global;
 use std::collections::BTreeMap;
 use sys_text::system::System;
-use t32_base::process::{ClusterNo, Pid};
+use t32_base::process::ClusterNo;
 use t32_base::streams::NoMemory;
 
 /// How far a walk has come.
@@ -44,13 +45,13 @@ impl Walk {
     /// Goes over one entry more: at a loss the counts of the processes that it moves are added. After want of memory
     /// nothing is said.
     pub fn take(&mut self, entry: &Entry) -> Result<(), NoMemory>
-        requires next { BearsNext self.old.places (what entry.now) }
+        requires next { CanBeAbsorbed self.old.places (what entry.now) }
         requires room { (p : Pid) → count_of self.old.counts p < 2 ^ 64 - 1 }
         ensures { OnOk result (WalksOver (what entry.now) self.old self.new) }
     {
         self.total = total_after(&self.counts, &self.places, self.total, entry)?;
         note(&mut self.counts, entry)?;
-        place(&mut self.places, entry)
+        self.places.absorb(entry)
     }
 
     /// How many emissions were to be withheld so far.
@@ -59,28 +60,6 @@ impl Walk {
     {
         self.total
     }
-}
-
-// The placement takes in an entry.
-fn place(places: &mut Placement, entry: &Entry) -> Result<(), NoMemory>
-    requires next { BearsNext places.old (what entry.now) }
-    ensures { OnOk result (places.new ≡ placed_after places.old (what entry.now)) }
-{
-    match &entry.post.what {
-        What::Birth { parent, child, .. } => place_child(places, *parent, child.0),
-        _ => {
-            places.note(entry);
-            Ok(())
-        }
-    }
-}
-
-// The placement takes in a child. As its pid has 32 bits, the serials of its home are not used up.
-fn place_child(places: &mut Placement, parent: Pid, child: u32) -> Result<(), NoMemory>
-    requires next { IsNextChild places.old parent (record { 0 = child }) }
-    ensures { OnOk result (places.new ≡ with_birth places.old (record { 0 = child }) (placed_at places.old parent)) }
-{
-    places.add_birth(parent, Pid(child))
 }
 
 // The sum with what an entry adds to it: nothing but by a loss.

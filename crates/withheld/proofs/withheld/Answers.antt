@@ -1,7 +1,7 @@
 use Rattle.std.proofs.Common.{sym, ◌∙◌, subst, arith, true≢false}
 use Rattle.bus_msg.specs.Places.{Places}
 use Rattle.bus_msg.specs.PlacedAfter.{what}
-use Rattle.withheld.specs.Walks.{BearsNext}
+use Rattle.channel_table.specs.Changes.{CanBeAbsorbed}
 use Rattle.withheld.proofs.Beginnings.{one_more}
 use Rattle.withheld.proofs.NoLoss.{none_withheld}
 use Rattle.withheld.proofs.withheld.Goals as goal
@@ -12,7 +12,7 @@ returns-then-not-has_loss-clause-count c = sym (none_withheld c.args.system.now 
 pub take-requires-clause-next : goal.take-requires-clause-next
 take-requires-clause-next c =
     let more = one_more c.args.system.now c.args.log.now c.loop-entry.entry-index c.entry-item.result c.requires.valid c.requires.legal c.loop-entry-test.true c.entry-item.is in
-    subst (λ (places : Places). BearsNext places (what c.entry-item.result)) (sym c.loop-entry.invariant.places) more.next
+    subst (λ (places : Places). CanBeAbsorbed places (what c.entry-item.result)) (sym c.loop-entry.invariant.places) more.next
 
 pub take-requires-clause-room : goal.take-requires-clause-room
 take-requires-clause-room c p =
