@@ -111,10 +111,63 @@ const TABLE: [(Insn, u32, u32); 40] = [
     (Insn::Ebreak, 0x00100073, 0x00108073),
 ];
 
+// The number of an instruction's row in the table, and its fields: two are the same where they have the same.
+fn told_by(insn: Insn) -> (u8, u8, u8, i32) {
+    match insn {
+        Insn::Lui { rd, imm } => (0, rd, 0, imm),
+        Insn::Auipc { rd, imm } => (1, rd, 0, imm),
+        Insn::Jal { rd, imm } => (2, rd, 0, imm),
+        Insn::Jalr { rd, rs1, imm } => (3, rd, rs1, imm),
+        Insn::Beq { rs1, rs2, imm } => (4, rs1, rs2, imm),
+        Insn::Bne { rs1, rs2, imm } => (5, rs1, rs2, imm),
+        Insn::Blt { rs1, rs2, imm } => (6, rs1, rs2, imm),
+        Insn::Bge { rs1, rs2, imm } => (7, rs1, rs2, imm),
+        Insn::Bltu { rs1, rs2, imm } => (8, rs1, rs2, imm),
+        Insn::Bgeu { rs1, rs2, imm } => (9, rs1, rs2, imm),
+        Insn::Lb { rd, rs1, imm } => (10, rd, rs1, imm),
+        Insn::Lh { rd, rs1, imm } => (11, rd, rs1, imm),
+        Insn::Lw { rd, rs1, imm } => (12, rd, rs1, imm),
+        Insn::Lbu { rd, rs1, imm } => (13, rd, rs1, imm),
+        Insn::Lhu { rd, rs1, imm } => (14, rd, rs1, imm),
+        Insn::Sb { rs1, rs2, imm } => (15, rs1, rs2, imm),
+        Insn::Sh { rs1, rs2, imm } => (16, rs1, rs2, imm),
+        Insn::Sw { rs1, rs2, imm } => (17, rs1, rs2, imm),
+        Insn::Addi { rd, rs1, imm } => (18, rd, rs1, imm),
+        Insn::Slti { rd, rs1, imm } => (19, rd, rs1, imm),
+        Insn::Sltiu { rd, rs1, imm } => (20, rd, rs1, imm),
+        Insn::Xori { rd, rs1, imm } => (21, rd, rs1, imm),
+        Insn::Ori { rd, rs1, imm } => (22, rd, rs1, imm),
+        Insn::Andi { rd, rs1, imm } => (23, rd, rs1, imm),
+        Insn::Slli { rd, rs1, imm } => (24, rd, rs1, imm),
+        Insn::Srli { rd, rs1, imm } => (25, rd, rs1, imm),
+        Insn::Srai { rd, rs1, imm } => (26, rd, rs1, imm),
+        Insn::Add { rd, rs1, rs2 } => (27, rd, rs1, i32::from(rs2)),
+        Insn::Sub { rd, rs1, rs2 } => (28, rd, rs1, i32::from(rs2)),
+        Insn::Sll { rd, rs1, rs2 } => (29, rd, rs1, i32::from(rs2)),
+        Insn::Slt { rd, rs1, rs2 } => (30, rd, rs1, i32::from(rs2)),
+        Insn::Sltu { rd, rs1, rs2 } => (31, rd, rs1, i32::from(rs2)),
+        Insn::Xor { rd, rs1, rs2 } => (32, rd, rs1, i32::from(rs2)),
+        Insn::Srl { rd, rs1, rs2 } => (33, rd, rs1, i32::from(rs2)),
+        Insn::Sra { rd, rs1, rs2 } => (34, rd, rs1, i32::from(rs2)),
+        Insn::Or { rd, rs1, rs2 } => (35, rd, rs1, i32::from(rs2)),
+        Insn::And { rd, rs1, rs2 } => (36, rd, rs1, i32::from(rs2)),
+        Insn::Fence => (37, 0, 0, 0),
+        Insn::Ecall => (38, 0, 0, 0),
+        Insn::Ebreak => (39, 0, 0, 0),
+    }
+}
+
+fn is_same(found: Option<Insn>, insn: Insn) -> bool {
+    match found {
+        Some(found) => told_by(found) == told_by(insn),
+        None => false,
+    }
+}
+
 #[test]
 fn rows(rt: HostRuntime) -> Result<(), Fail> {
     for (insn, word, illegal) in &TABLE {
-        assert!(rt; decode(*word) == Some(*insn), "{word}");
+        assert!(rt; is_same(decode(*word), *insn), "{word}");
         assert!(rt; decode(*illegal).is_none(), "{illegal}");
     }
     Ok(())

@@ -12,7 +12,7 @@ ghost use Rattle.rv_insn.specs.Encoding.{IsEncodable, IsR, IsRegister, encoded, 
 /// registers, 0 to 31. `imm` is the immediate as a signed number: of a branch or `Jal` the even distance
 /// from pc to the target in bytes, of `Lui` and `Auipc` all 32 bits, of which the low twelve are 0, of a
 /// shift by a constant the shift, 0 to 31, and else a number of twelve bits.
-#[derive(Clone, Copy, PartialEq, Eq)]
+#[derive(Clone, Copy)]
 pub enum Insn {
     Lui { rd: u8, imm: i32 },
     Auipc { rd: u8, imm: i32 },
@@ -316,6 +316,15 @@ pub fn encode(insn: Insn) -> u32
     requires { IsEncodable insn }
     ensures value { result ≡ encoded insn }
     ensures reads_back { decoded result ≡ Some insn }
+{
+    word_of(insn)
+}
+
+// The word by the format of the instruction. That it is read back is a law of the words, told once for each
+// format, so it is no clause here.
+fn word_of(insn: Insn) -> u32
+    requires { IsEncodable insn }
+    ensures { result ≡ encoded insn }
 {
     match insn {
         Insn::Lui { rd, imm } => word_u(0x37, rd, imm),
