@@ -4,11 +4,9 @@ use Rattle.std.proofs.lemmas.List.{drop_more, drop_all, append-nil}
 use Rattle.rv_asm.specs.declared.parsed.Parsed.{Parsed}
 use Rattle.rv_asm.specs.declared.labels.Place.{Place}
 use Rattle.std.specs.List.{All, Contains}
-use Rattle.text_parts.specs.Lines.{lines_of}
-use Rattle.text_parts.specs.Table.{FindSame}
 use Rattle.rv_asm.specs.declared.refusal.Rule.{Rule}
-use Rattle.rv_asm.specs.Labels.{labels_of, labels_from}
-use Rattle.rv_asm.specs.Program.{reading_of}
+use Rattle.rv_asm.specs.Labels.{labels_from}
+use Rattle.rv_asm.specs.Program.{reading_of_lines}
 use Rattle.rv_asm.proofs.Reading.{ReadsOn, reads_none, all_read}
 use Rattle.rv_asm.specs.Parsed.{texts_of}
 
@@ -25,14 +23,11 @@ labels_end old total n words texts none so_far = sym (append-nil old) ∙ ap (λ
 
 -- ---- before the first line and after the last
 
-pub reads_first : (text words : List ℕ) (texts : List (List ℕ)) → words ≡ [] → texts ≡ lines_of text → ReadsOn (labels_of text) (reading_of text) words 1 texts
-reads_first text words texts none all = rw (none, all) (reads_none text)
+pub reads_first : (words : List ℕ) (lines : List (List ℕ)) → words ≡ [] → ReadsOn (labels_from 1 0 lines) (reading_of_lines lines) words 1 lines
+reads_first words lines none = rw none (reads_none lines)
 
 pub reads_last : (labels : List (List ℕ × Place)) (total : Result (List ℕ) (ℕ × Rule)) (words : List ℕ) (n : ℕ) (texts : List (List ℕ)) → texts ≡ [] → ReadsOn labels total words n texts → total ≡ Ok words
 reads_last labels total words n texts none reads = let r : ReadsOn labels total words n [] = rw (sym none) reads in all_read labels total words n r
 
-pub own_first : (labels others : List (List ℕ × Place)) (words : List ℕ) (texts lines : List (List ℕ)) → others ≡ labels → words ≡ [] → lines ≡ texts → All (Contains labels) (labels_from 1 0 texts) → All (Contains others) (labels_from 1 (length words) lines)
-own_first labels others words texts lines same none lines_are own = rw (same, none, lines_are) own
-
-pub find_lines : (labels : List (List ℕ × Place)) (texts lines : List (List ℕ)) → lines ≡ texts → FindSame labels (labels_from 1 0 texts) → FindSame labels (labels_from 1 0 lines)
-find_lines labels texts lines same find = rw same find
+pub own_first : (labels : List (List ℕ × Place)) (words : List ℕ) (lines : List (List ℕ)) → words ≡ [] → All (Contains labels) (labels_from 1 0 lines) → All (Contains labels) (labels_from 1 (length words) lines)
+own_first labels words lines none own = rw none own

@@ -4,15 +4,14 @@ use Rattle.std.specs.List.{find}
 use Rattle.std.specs.Int.{div_ceil}
 use Rattle.std.proofs.lemmas.List.{append-nil, length-append}
 use Rattle.std.proofs.lemmas.Bool.{ltb-false}
-use Rattle.text_parts.specs.Lines.{lines_of}
 use Rattle.rv_asm.specs.declared.labels.Place.{Place}
 use Rattle.rv_asm.specs.declared.refusal.Rule.{Rule}
 use Rattle.rv_asm.specs.declared.refusal.Rule.TheVariants.{ForeignByte, UnknownWord, BadForm, NumberRange, DefinedTwice, NeverDefined, TooFar, TooLong}
 use Rattle.rv_asm.specs.declared.refusal.AsmRefused.{AsmRefused}
 use Rattle.rv_asm.specs.declared.refusal.AsmRefused.TheVariants as refusals
 use Rattle.rv_asm.specs.Statement.{Code, Nothing, One, Two, BranchTo, JumpTo, AddressOf, Bytes}
-use Rattle.rv_asm.specs.Labels.{size_of, line_code, line_size, labels_of}
-use Rattle.rv_asm.specs.Program.{words_of_bytes, breaks, broken_by, words_at, address_after, with_front, line_then, reading_from, reading_of, reading_of_lines}
+use Rattle.rv_asm.specs.Labels.{size_of, line_code, line_size, labels_from}
+use Rattle.rv_asm.specs.Program.{words_of_bytes, breaks, broken_by, words_at, address_after, with_front, line_then, reading_from, reading_of_lines}
 use Rattle.rv_asm.specs.Answers.{Refuses, RefusesLine}
 
 -- ---- how many words
@@ -108,9 +107,9 @@ module _ (labels : List (List ℕ × Place)) where
   pub all_read : (total : Result (List ℕ) (ℕ × Rule)) (words : List ℕ) (n : ℕ) → ReadsOn total words n [] → total ≡ Ok words
   all_read total words n reads = sym reads.same ∙ ap Ok (append-nil words)
 
-pub reads_none : (text : List ℕ) → ReadsOn (labels_of text) (reading_of text) [] 1 (lines_of text)
+pub reads_none : (lines : List (List ℕ)) → ReadsOn (labels_from 1 0 lines) (reading_of_lines lines) [] 1 lines
 unfolding reading_of_lines
-reads_none text = record { same = front-nil (reading_from (labels_of text) 1 0 (lines_of text)); room = omega arith }
+reads_none lines = record { same = front-nil (reading_from (labels_from 1 0 lines) 1 0 lines); room = omega arith }
   where
     front-nil : (r : Result (List ℕ) (ℕ × Rule)) → with_front [] r ≡ r
     front-nil (Ok rest) = refl

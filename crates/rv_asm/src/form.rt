@@ -6,7 +6,7 @@ use crate::names::first_byte;
 use text_parts::lookup;
 
 /// The instructions with rd, rs1, rs2.
-#[derive(Clone, Copy, Debug, PartialEq, Eq)]
+#[derive(Clone, Copy)]
 pub enum RegisterInsn {
     Add,
     Sub,
@@ -21,7 +21,7 @@ pub enum RegisterInsn {
 }
 
 /// The instructions with rd, rs1 and a number of twelve bits.
-#[derive(Clone, Copy, Debug, PartialEq, Eq)]
+#[derive(Clone, Copy)]
 pub enum NumberInsn {
     Addi,
     Slti,
@@ -32,7 +32,7 @@ pub enum NumberInsn {
 }
 
 /// The instructions with rd, rs1 and a number of bits.
-#[derive(Clone, Copy, Debug, PartialEq, Eq)]
+#[derive(Clone, Copy)]
 pub enum ShiftInsn {
     Slli,
     Srli,
@@ -40,7 +40,7 @@ pub enum ShiftInsn {
 }
 
 /// The instructions with rd and number(rs1).
-#[derive(Clone, Copy, Debug, PartialEq, Eq)]
+#[derive(Clone, Copy)]
 pub enum LoadInsn {
     Lb,
     Lh,
@@ -51,7 +51,7 @@ pub enum LoadInsn {
 }
 
 /// The instructions with rs2 and number(rs1).
-#[derive(Clone, Copy, Debug, PartialEq, Eq)]
+#[derive(Clone, Copy)]
 pub enum StoreInsn {
     Sb,
     Sh,
@@ -59,7 +59,7 @@ pub enum StoreInsn {
 }
 
 /// The instructions with rs1, rs2 and a label.
-#[derive(Clone, Copy, Debug, PartialEq, Eq)]
+#[derive(Clone, Copy)]
 pub enum BranchInsn {
     Beq,
     Bne,
@@ -70,14 +70,14 @@ pub enum BranchInsn {
 }
 
 /// The instructions with rd and a number of twenty bits.
-#[derive(Clone, Copy, Debug, PartialEq, Eq)]
+#[derive(Clone, Copy)]
 pub enum UpperInsn {
     Lui,
     Auipc,
 }
 
 /// The instructions with no operands.
-#[derive(Clone, Copy, Debug, PartialEq, Eq)]
+#[derive(Clone, Copy)]
 pub enum BareInsn {
     Fence,
     Ecall,
@@ -85,7 +85,7 @@ pub enum BareInsn {
 }
 
 /// What operands a statement takes, and which instruction it is where several take the same.
-#[derive(Clone, Copy, Debug, PartialEq, Eq)]
+#[derive(Clone, Copy)]
 pub enum Form {
     Registers(RegisterInsn),
     Number(NumberInsn),

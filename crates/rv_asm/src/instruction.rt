@@ -1,12 +1,20 @@
 //! The instructions of a statement, from its fields.
 ghost use Rattle.std.specs.Prelude.{◌≡◌, ◌<◌, ◌^◌, ◌≤ℤ◌, ◌<ℤ◌};
-ghost use Rattle.rv_insn.specs.Encoding.{IsEncodable, IsEven, IsRegister, IsShift, IsSigned, IsUpper};
+ghost use Rattle.rv_insn.specs.Encoding.{IsEncodable, IsEven, IsRegister, IsShift, IsSigned, IsUpper, encoded};
 ghost use Rattle.rv_asm.specs.Instructions.{register_insn, number_insn, shift_insn, load_insn, store_insn, branch_insn, upper_insn, upper_immediate, bare_insn, low_part, first_half, second_half};
 
 use crate::form::{
     BareInsn, BranchInsn, LoadInsn, NumberInsn, RegisterInsn, ShiftInsn, StoreInsn, UpperInsn,
 };
 use rv_insn::{Insn, encode};
+
+/// The word of an instruction, for callers that do not ask whether it is read back.
+pub fn word_of(insn: Insn) -> u32
+    requires { IsEncodable insn }
+    ensures { result ≡ encoded insn }
+{
+    encode(insn)
+}
 
 /// The instruction with these registers.
 pub fn register_insn(insn: RegisterInsn, rd: u8, rs1: u8, rs2: u8) -> Insn
@@ -262,7 +270,7 @@ pub fn first_half(rd: u8, value: u32) -> u32
 {
     let upper = ((u64::from(value) + 2048) / 4096 % 0x10_0000) as u32;
     let imm = upper_immediate(upper);
-    encode(Insn::Lui { rd, imm })
+    word_of(Insn::Lui { rd, imm })
 }
 
 /// The word that adds the rest of it.
@@ -271,5 +279,5 @@ pub fn second_half(rd: u8, value: u32) -> u32
     ensures { result ≡ second_half rd value }
 {
     let imm = low_part(value);
-    encode(Insn::Addi { rd, rs1: rd, imm })
+    word_of(Insn::Addi { rd, rs1: rd, imm })
 }

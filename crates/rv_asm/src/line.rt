@@ -8,7 +8,7 @@ ghost use Rattle.rv_asm.specs.Line.{after, starts_comment, before_comment, ends_
 use text_parts::{cut_at, cut_far, trim, trim_start};
 
 /// Where a byte of a line stands.
-#[derive(Clone, Copy, Debug, PartialEq, Eq)]
+#[derive(Clone, Copy)]
 pub enum Quoting {
     Outside,
     Inside,

@@ -5,7 +5,7 @@ ghost use Rattle.std.specs.List.{All, Contains};
 ghost use Rattle.text_parts.specs.Table.{FindSame};
 ghost use Rattle.rv_asm.specs.SortedLabels.{places_of};
 ghost use Rattle.rv_asm.specs.Labels.{labels_from, entry_at, defined_in, line_size, line_code};
-ghost use Rattle.rv_asm.specs.Program.{reading_of, broken_by, words_at, address_after};
+ghost use Rattle.rv_asm.specs.Program.{reading_of, reading_of_lines, broken_by, words_at, address_after};
 ghost use Rattle.rv_asm.specs.Answers.{Answers, LineAnswers};
 ghost use Rattle.rv_asm.specs.Parsed.{texts_of};
 ghost use Rattle.rv_asm.specs.RuleByRule.{AreWordsOf, HasCause};
@@ -98,19 +98,39 @@ fn assemble_line<'a>(
     Ok(())
 }
 
-/// The words of the lines, one after the other.
+/// The words of the lines, one after the other, with the labels that they define.
+fn words_of_lines<'a>(
+    alloc: Global,
+    labels: &Labels<'a>,
+    lines: &[Parsed<'a>],
+) -> Result<List<u32>, AsmRefused>
+    requires same { FindSame labels.now (labels_from 1 0 (texts_of lines.now)) }
+    requires each { All (Contains labels.now) (labels_from 1 0 (texts_of lines.now)) }
+    ensures { Answers result (reading_of_lines (texts_of lines.now)) }
+{
+    let mut words = List::new(alloc);
+    let mut number = 1u64;
+    for parsed in lines {
+        assemble_line(alloc, labels, number, parsed, &mut words)?;
+        number += 1;
+    }
+    Ok(words)
+}
+
+/// The words of the lines, or the first that breaks a rule.
+fn read_lines<'a>(alloc: Global, lines: &[Parsed<'a>]) -> Result<List<u32>, AsmRefused>
+    ensures { Answers result (reading_of_lines (texts_of lines.now)) }
+{
+    let labels = label_table(alloc, lines)?;
+    words_of_lines(alloc, &labels, lines)
+}
+
+/// The words of a text's lines, each of which is parsed once.
 fn read_program(alloc: Global, text: &[u8]) -> Result<List<u32>, AsmRefused>
     ensures { Answers result (reading_of text.now) }
 {
     let lines = parse_lines(alloc, text)?;
-    let labels = label_table(alloc, &lines)?;
-    let mut words = List::new(alloc);
-    let mut number = 1u64;
-    for parsed in &lines {
-        assemble_line(alloc, &labels, number, parsed, &mut words)?;
-        number += 1;
-    }
-    Ok(words)
+    read_lines(alloc, &lines)
 }
 
 /// The words of a program, or the first line that breaks a rule and the lowest rule that it breaks.

@@ -16,7 +16,7 @@ use crate::form::{
 };
 use crate::instruction::{
     bare_insn, first_half, load_insn, number_insn, register_insn, second_half, shift_insn,
-    store_insn, upper_insn,
+    store_insn, upper_insn, word_of,
 };
 use crate::line::{cut_statement, is_label};
 use crate::number::{modulo_32, number_within};
@@ -24,7 +24,7 @@ use crate::operands::{based, no_operand, one_operand, three_operands, two_operan
 use crate::quoted::{quoted, text_len};
 use crate::refusal::Rule;
 use crate::registers::register;
-use rv_insn::{Insn, encode};
+use rv_insn::Insn;
 
 /// A statement by its words, or by what they are made of once the labels are known.
 #[derive(Clone, Copy)]
@@ -107,7 +107,7 @@ fn registers_statement(insn: RegisterInsn, text: &[u8]) -> Result<Statement<'_>,
     let rd = register_operand(rd)?;
     let rs1 = register_operand(rs1)?;
     let rs2 = register_operand(rs2)?;
-    Ok(Statement::One(encode(register_insn(insn, rd, rs1, rs2))))
+    Ok(Statement::One(word_of(register_insn(insn, rd, rs1, rs2))))
 }
 
 fn number_statement(insn: NumberInsn, text: &[u8]) -> Result<Statement<'_>, Rule>
@@ -118,7 +118,7 @@ fn number_statement(insn: NumberInsn, text: &[u8]) -> Result<Statement<'_>, Rule
     let rd = register_operand(rd)?;
     let rs1 = register_operand(rs1)?;
     let number = short_operand(number)?;
-    Ok(Statement::One(encode(number_insn(insn, rd, rs1, number))))
+    Ok(Statement::One(word_of(number_insn(insn, rd, rs1, number))))
 }
 
 fn shift_statement(insn: ShiftInsn, text: &[u8]) -> Result<Statement<'_>, Rule>
@@ -129,7 +129,7 @@ fn shift_statement(insn: ShiftInsn, text: &[u8]) -> Result<Statement<'_>, Rule>
     let rd = register_operand(rd)?;
     let rs1 = register_operand(rs1)?;
     let bits = shift_operand(bits)?;
-    Ok(Statement::One(encode(shift_insn(insn, rd, rs1, bits))))
+    Ok(Statement::One(word_of(shift_insn(insn, rd, rs1, bits))))
 }
 
 fn load_statement(insn: LoadInsn, text: &[u8]) -> Result<Statement<'_>, Rule>
@@ -141,7 +141,7 @@ fn load_statement(insn: LoadInsn, text: &[u8]) -> Result<Statement<'_>, Rule>
     let (number, rs1) = based(place)?;
     let rs1 = register_operand(rs1)?;
     let number = short_operand(number)?;
-    Ok(Statement::One(encode(load_insn(insn, rd, rs1, number))))
+    Ok(Statement::One(word_of(load_insn(insn, rd, rs1, number))))
 }
 
 fn store_statement(insn: StoreInsn, text: &[u8]) -> Result<Statement<'_>, Rule>
@@ -153,7 +153,7 @@ fn store_statement(insn: StoreInsn, text: &[u8]) -> Result<Statement<'_>, Rule>
     let (number, rs1) = based(place)?;
     let rs1 = register_operand(rs1)?;
     let number = short_operand(number)?;
-    Ok(Statement::One(encode(store_insn(insn, rs1, rs2, number))))
+    Ok(Statement::One(word_of(store_insn(insn, rs1, rs2, number))))
 }
 
 fn branch_statement(insn: BranchInsn, text: &[u8]) -> Result<Statement<'_>, Rule>
@@ -174,7 +174,7 @@ fn upper_statement(insn: UpperInsn, text: &[u8]) -> Result<Statement<'_>, Rule>
     let (rd, bits) = two_operands(text)?;
     let rd = register_operand(rd)?;
     let bits = upper_operand(bits)?;
-    Ok(Statement::One(encode(upper_insn(insn, rd, bits))))
+    Ok(Statement::One(word_of(upper_insn(insn, rd, bits))))
 }
 
 fn bare_statement(insn: BareInsn, text: &[u8]) -> Result<Statement<'_>, Rule>
@@ -182,7 +182,7 @@ fn bare_statement(insn: BareInsn, text: &[u8]) -> Result<Statement<'_>, Rule>
     ensures fits { IfOk result StatementFits }
 {
     no_operand(text)?;
-    Ok(Statement::One(encode(bare_insn(insn))))
+    Ok(Statement::One(word_of(bare_insn(insn))))
 }
 
 /// The word that loads a short number.
@@ -192,7 +192,7 @@ fn short_word(rd: u8, value: i64) -> u32
     ensures { result ≡ encoded (insns.Addi rd 0 value) }
 {
     let imm = value as i32;
-    encode(Insn::Addi { rd, rs1: 0, imm })
+    word_of(Insn::Addi { rd, rs1: 0, imm })
 }
 
 /// One word for a short number, else two.
@@ -255,7 +255,7 @@ fn move_statement(text: &[u8]) -> Result<Statement<'_>, Rule>
     let (rd, rs1) = two_operands(text)?;
     let rd = register_operand(rd)?;
     let rs1 = register_operand(rs1)?;
-    Ok(Statement::One(encode(Insn::Addi { rd, rs1, imm: 0 })))
+    Ok(Statement::One(word_of(Insn::Addi { rd, rs1, imm: 0 })))
 }
 
 fn word_statement(text: &[u8]) -> Result<Statement<'_>, Rule>

@@ -10,11 +10,11 @@ ghost use Rattle.rv_asm.specs.View.{seen, FieldsFit};
 ghost use Rattle.rv_asm.specs.Program.{address_after, address_of, is_near, distance as distance_in, is_undefined, is_far, too_far, target_of, words_at, words_of_bytes};
 
 use crate::form::BranchInsn;
-use crate::instruction::{branch_insn, first_half, second_half};
+use crate::instruction::{branch_insn, first_half, second_half, word_of};
 use crate::labels::Labels;
 use crate::quoted::decode;
 use crate::statement::Statement;
-use rv_insn::{Insn, encode};
+use rv_insn::Insn;
 use std::alloc::{AllocError, Global};
 use t32_base::lists::List;
 
@@ -72,7 +72,7 @@ fn branch_word<'a>(
 {
     let (insn, rs1, rs2) = branch;
     let there = words_before(labels, name);
-    encode(branch_insn(insn, rs1, rs2, branch_distance(here, there)))
+    word_of(branch_insn(insn, rs1, rs2, branch_distance(here, there)))
 }
 
 /// A jump to a label, from after so many words.
@@ -84,7 +84,7 @@ fn jump_word<'a>(labels: &Labels<'a>, here: u64, rd: u8, name: &'a [u8]) -> u32
 {
     let there = words_before(labels, name);
     let imm = distance(here, there);
-    encode(Insn::Jal { rd, imm })
+    word_of(Insn::Jal { rd, imm })
 }
 
 /// Up to four bytes as a word.

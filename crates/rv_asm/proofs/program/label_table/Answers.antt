@@ -21,3 +21,9 @@ returns-clause-each c =
     let lines = c.args.lines.now in
     let none = past_lines lines c.loop-parsed.parsed-index c.loop-parsed-test.false in
     rw (← labels_end (places_of c.loop-parsed.rows.items) (labels_from 1 0 (texts_of lines)) c.loop-parsed.number c.loop-parsed.words (texts_of (drop c.loop-parsed.parsed-index lines)) none c.loop-parsed.invariant.labels) c.in_ok-labels.ensures.each
+
+pub returns-clause-labels : goal.returns-clause-labels
+returns-clause-labels c =
+    let lines = c.args.lines.now in
+    let none = past_lines lines c.loop-parsed.parsed-index c.loop-parsed-test.false in
+    rw (← labels_end (places_of c.loop-parsed.rows.items) (labels_from 1 0 (texts_of lines)) c.loop-parsed.number c.loop-parsed.words (texts_of (drop c.loop-parsed.parsed-index lines)) none c.loop-parsed.invariant.labels) c.in_ok-labels.ensures.same
