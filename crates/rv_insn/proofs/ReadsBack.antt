@@ -1,5 +1,5 @@
 -- The word of an instruction is read back as that instruction: the fields of a packed word, then format by format.
-use Rattle.std.proofs.Common.{◌≡◌, ℕ, ◌+◌, ◌-◌, ◌*◌, ◌/◌, ◌%◌, ◌^◌, ◌<◌, ◌≤◌, ℤ, pos, negsuc, ◌≤ℤ◌, ◌<ℤ◌, ◌-ℤ◌, Some, inl, inr, refl, ap, ap₂, sym, ◌∙◌, arith, w32}
+use Rattle.std.proofs.Common.{◌≡◌, ℕ, ◌+◌, ◌*◌, ◌%◌, ◌^◌, ◌<◌, ℤ, pos, Some, inl, inr, refl, ap, ap₂, ◌∙◌, arith, w32}
 use Rattle.std.specs.Int.{cast_unsigned}
 use Rattle.std.proofs.lemmas.Int.{ints}
 use Rattle.std.proofs.lemmas.Nat.{pow_pos, mod_below}
@@ -7,8 +7,8 @@ use Rattle.std.proofs.lemmas.Bool.{cases_lt, lt-ltb, le-ltb}
 use Rattle.rv_insn.specs.declared.Insn.{Insn}
 use Rattle.rv_insn.specs.declared.Insn.TheVariants.{Lui, Auipc, Jal, Jalr, Beq, Bne, Blt, Bge, Bltu, Bgeu, Lb, Lh, Lw, Lbu, Lhu, Sb, Sh, Sw, Addi, Slti, Sltiu, Xori, Ori, Andi, Slli, Srli, Srai, Add, Sub, Sll, Slt, Sltu, Xor, Srl, Sra, Or, And, Fence, Ecall, Ebreak}
 use Rattle.rv_insn.specs.Word.{bits, sign_extended, opcode, rd, funct3, rs1, rs2, funct7, imm_i, imm_s, imm_b, imm_u, imm_j, shamt}
-use Rattle.rv_insn.specs.Table.{key_of, picked, decoded}
-use Rattle.rv_insn.specs.Encoding.{IsEncodable, IsRegister, IsSigned, IsEven, IsUpper, IsShift, IsR, IsI, IsS, IsB, IsShifted, packed, low, word_r, word_i, word_s, word_b, word_u, word_j, word_shift, encoded}
+use Rattle.rv_insn.specs.Table.{picked, decoded}
+use Rattle.rv_insn.specs.Encoding.{IsEncodable, IsRegister, IsSigned, IsEven, IsUpper, IsR, IsI, IsS, IsB, IsShifted, packed, low, word_r, word_i, word_s, word_b, word_u, word_j, word_shift, encoded}
 use Rattle.rv_insn.proofs.Fields.{bits_below}
 
 -- the low bits of a signed number, their sign extended, are that number
