@@ -11,7 +11,7 @@ use Rattle.rv_asm.specs.declared.refusal.AsmRefused.{AsmRefused}
 use Rattle.rv_asm.specs.declared.refusal.AsmRefused.TheVariants as refusals
 use Rattle.rv_asm.specs.Statement.{Code, Nothing, One, Two, BranchTo, JumpTo, AddressOf, Bytes}
 use Rattle.rv_asm.specs.Labels.{size_of, line_code, line_size, labels_from}
-use Rattle.rv_asm.specs.Program.{words_of_bytes, breaks, broken_by, words_at, address_after, with_front, line_then, reading_from, reading_of_lines}
+use Rattle.rv_asm.specs.Program.{is_undefined, too_far, target_of, words_of_bytes, breaks, broken_by, words_at, address_after, with_front, line_then, reading_from, reading_of_lines}
 use Rattle.rv_asm.specs.Answers.{Refuses, RefusesLine}
 
 -- ---- how many words
@@ -56,6 +56,19 @@ module _ (labels : List (List ℕ × Place)) where
       let s6 = (none_passes p NeverDefined (TooFar ∷ TooLong ∷ []) s5).1 in
       let s7 = (none_passes p TooFar (TooLong ∷ []) s6).1 in
       ltb-false 16384 (words + line_size line) (none_passes p TooLong [] s7).0
+
+  -- a line that breaks no rule names a label that is defined and near
+  pub reaches_label : (n words : ℕ) (line : List ℕ) → broken_by labels n words line ≡ None
+      → (is_undefined labels (target_of (line_code line)) ≡ false) × (too_far labels (line_code line) (address_after words) (target_of (line_code line)) ≡ false)
+  reaches_label n words line e =
+      let p = breaks labels n words line in
+      let s1 = (none_passes p ForeignByte (UnknownWord ∷ BadForm ∷ NumberRange ∷ DefinedTwice ∷ NeverDefined ∷ TooFar ∷ TooLong ∷ []) e).1 in
+      let s2 = (none_passes p UnknownWord (BadForm ∷ NumberRange ∷ DefinedTwice ∷ NeverDefined ∷ TooFar ∷ TooLong ∷ []) s1).1 in
+      let s3 = (none_passes p BadForm (NumberRange ∷ DefinedTwice ∷ NeverDefined ∷ TooFar ∷ TooLong ∷ []) s2).1 in
+      let s4 = (none_passes p NumberRange (DefinedTwice ∷ NeverDefined ∷ TooFar ∷ TooLong ∷ []) s3).1 in
+      let s5 = (none_passes p DefinedTwice (NeverDefined ∷ TooFar ∷ TooLong ∷ []) s4).1 in
+      let s6 = none_passes p NeverDefined (TooFar ∷ TooLong ∷ []) s5 in
+      (s6.0, (none_passes p TooFar (TooLong ∷ []) s6.1).0)
 
   -- ---- a line more
 

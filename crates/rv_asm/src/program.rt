@@ -88,14 +88,16 @@ fn assemble_line<'a>(
     ensures answer { LineAnswers result number (broken_by labels.now number (length words.old) parsed.now.line.now) }
     ensures words { OnOk result (words.new ≡ words.old ++ words_at labels.now (address_after (length words.old)) (line_code parsed.now.line.now)) }
 {
-    if let Some(rule) = broken_rule(labels, number, words.len() as u64, parsed) {
-        return Err(AsmRefused::Line {
+    match broken_rule(labels, number, words.len() as u64, parsed) {
+        Some(rule) => Err(AsmRefused::Line {
             line: number,
             rule: rule.number(),
-        });
+        }),
+        None => {
+            push_words(alloc, labels, statement_or_nothing(parsed.statement), words)?;
+            Ok(())
+        }
     }
-    push_words(alloc, labels, statement_or_nothing(parsed.statement), words)?;
-    Ok(())
 }
 
 /// The words of the lines, one after the other, with the labels that they define.
