@@ -11,7 +11,7 @@ use Rattle.rv_asm.specs.declared.refusal.AsmRefused.{AsmRefused}
 use Rattle.rv_asm.specs.declared.refusal.AsmRefused.TheVariants as refusals
 use Rattle.rv_asm.specs.Refusal.{number_of_rule}
 use Rattle.rv_asm.specs.Labels.{line_code, line_size, labels_of}
-use Rattle.rv_asm.specs.Program.{breaks, rules, broken_by, words_at, address_after, with_front, reading_from, reading_of, reading_of_lines}
+use Rattle.rv_asm.specs.Program.{breaks, rules, broken_by, words_at, address_after, with_front, line_then, reading_from, reading_of, reading_of_lines}
 use Rattle.rv_asm.specs.RuleByRule.{breaks_among, IsRefused, words_from, AreWordsOf, HasCause}
 use Rattle.rv_asm.specs.Answers.{Answers}
 
@@ -139,18 +139,20 @@ module _ (labels : List (List ℕ × Place)) where
       added : List ℕ
       added = words_at labels (address_after words) (line_code line)
 
+      rest : Result (List ℕ) (ℕ × Rule)
+      rest = reading_from labels (n + 1) (words + line_size line) lines
+
       err_of : Result (List ℕ) (ℕ × Rule) → ℕ × Rule
-      err_of (Ok rest) = (0, rule)
+      err_of (Ok words) = (0, rule)
       err_of (Err e) = e
 
-      by_rule : (reading_from labels (n + 1) (words + line_size line) lines ≡ Err (m, rule) → Refused (n + 1) (words + line_size line) lines m rule) → (o : Option Rule) → broken_by labels n words line ≡ o → Refused n words (line ∷ lines) m rule
+      by_rule : (rest ≡ Err (m, rule) → Refused (n + 1) (words + line_size line) lines m rule) → (o : Option Rule) → broken_by labels n words line ≡ o → Refused n words (line ∷ lines) m rule
       by_rule next (Some r) h =
-          let f = rw h at e in
-          let same = ap err_of f in
+          let same = ap err_of (sym (ap (λ (o : Option Rule). line_then n o added rest) h) ∙ e) in
           rw (← ap (λ (e : ℕ × Rule). e.0) same, ← ap (λ (e : ℕ × Rule). e.1) same) (now n words line lines r h)
       by_rule next None h =
-          let f = rw h at e in
-          later n words line lines m rule (λ r. none_at_all (breaks labels n words line) 1 rules r rules_from h (one_or_more r).0) (next (front_err (words_at labels (address_after words) (line_code line)) (reading_from labels (n + 1) (words + line_size line) lines) (m, rule) f))
+          let f : with_front added rest ≡ Err (m, rule) = sym (ap (λ (o : Option Rule). line_then n o added rest) h) ∙ e in
+          later n words line lines m rule (λ r. none_at_all (breaks labels n words line) 1 rules r rules_from h (one_or_more r).0) (next (front_err added rest (m, rule) f))
 
   record Kept (n words : ℕ) (lines : List (List ℕ)) (all : List ℕ) : Type 0 where
     kept : (i : ℕ) (rule : Rule) → breaks_among labels n words lines i rule ≡ false
@@ -167,11 +169,20 @@ module _ (labels : List (List ℕ × Place)) where
   kept_all n words [] all e = record { kept = λ i rule. refl; are = cc }
   kept_all n words (line ∷ lines) all e = by_rule (λ rest f. kept_all (n + 1) (words + line_size line) lines rest f) (broken_by labels n words line) refl
     where
-      by_rule : ((rest : List ℕ) → reading_from labels (n + 1) (words + line_size line) lines ≡ Ok rest → Kept (n + 1) (words + line_size line) lines rest) → (o : Option Rule) → broken_by labels n words line ≡ o → Kept n words (line ∷ lines) all
-      by_rule next (Some r) h = let f = rw h at e in absurd cc
+      added : List ℕ
+      added = words_at labels (address_after words) (line_code line)
+
+      after : Result (List ℕ) (ℕ × Rule)
+      after = reading_from labels (n + 1) (words + line_size line) lines
+
+      not_refused : (refused : ℕ × Rule) → Err refused ≡ Ok all → ⊥
+      not_refused refused h = absurd cc
+
+      by_rule : ((rest : List ℕ) → after ≡ Ok rest → Kept (n + 1) (words + line_size line) lines rest) → (o : Option Rule) → broken_by labels n words line ≡ o → Kept n words (line ∷ lines) all
+      by_rule next (Some r) h = absurd (not_refused (n, r) (sym (ap (λ (o : Option Rule). line_then n o added after) h) ∙ e))
       by_rule next None h =
-          let f = rw h at e in
-          let parts = front_ok (words_at labels (address_after words) (line_code line)) (reading_from labels (n + 1) (words + line_size line) lines) all f in
+          let f : with_front added after ≡ Ok all = sym (ap (λ (o : Option Rule). line_then n o added after) h) ∙ e in
+          let parts = front_ok added after all f in
           kept_later n words line lines parts.0 all (λ r. none_at_all (breaks labels n words line) 1 rules r rules_from h (one_or_more r).0) parts.2 (next parts.0 parts.1)
 
 -- ---- a text
