@@ -170,9 +170,5 @@ fn copied_records(alloc: Global, recs: &[BackRec]) -> Result<List<BackRec>, NoMe
 fn copied_rests(alloc: Global, rests: &[(Pid, u64)]) -> Result<List<(Pid, u64)>, NoMemory>
     ensures { IfOk result (λ c. c ≡ rests.now) }
 {
-    let mut copies = List::new(alloc);
-    for rest in rests {
-        copies.push(*rest)?;
-    }
-    Ok(copies)
+    Ok(List::from_vec(rests.to_vec(alloc)?))
 }
