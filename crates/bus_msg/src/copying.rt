@@ -2,10 +2,11 @@
 ghost use Rattle.std.specs.Prelude.{◌≡◌, IfOk};
 
 use crate::entry::{Entry, Post, What};
+use crate::shared::Shared;
 use std::alloc::Global;
-use t32_base::letter::BackRec;
+use t32_base::letter::{BackRec, Letter};
 use t32_base::lists::List;
-use t32_base::process::Pid;
+use t32_base::process::{ClusterNo, Pid, Small};
 use t32_base::streams::NoMemory;
 
 impl What {
@@ -13,10 +14,7 @@ impl What {
         ensures { IfOk result (λ c. c ≡ self.now) }
     {
         match self {
-            What::Mail { at, letter } => Ok(What::Mail {
-                at: *at,
-                letter: letter.copy()?,
-            }),
+            What::Mail { at, letter } => copied_mail(*at, letter),
             What::Birth {
                 parent,
                 at,
@@ -38,48 +36,94 @@ impl What {
                 at,
                 index,
                 bytes,
-            } => Ok(What::Page {
-                pid: *pid,
-                at: *at,
-                index: *index,
-                bytes: bytes.copy()?,
-            }),
+            } => copied_page(*pid, *at, *index, bytes),
             What::Sync {
                 pid,
                 small,
                 read,
                 took,
-            } => Ok(What::Sync {
-                pid: *pid,
-                small: small.copy()?,
-                read: copied_numbers(read)?,
-                took: *took,
-            }),
+            } => copied_sync(*pid, small, read, *took),
             What::Fetch { pid, index } => Ok(What::Fetch {
                 pid: *pid,
                 index: *index,
             }),
-            What::PageIs { pid, index, bytes } => Ok(What::PageIs {
-                pid: *pid,
-                index: *index,
-                bytes: bytes.copy()?,
-            }),
+            What::PageIs { pid, index, bytes } => copied_answer(*pid, *index, bytes),
             What::Crash { k, cause } => Ok(What::Crash {
                 k: *k,
                 cause: *cause,
             }),
             What::Return { k } => Ok(What::Return { k: *k }),
-            What::Rebackup { to, fresh, recs } => Ok(What::Rebackup {
-                to: *to,
-                fresh: *fresh,
-                recs: copied_records(recs.allocator(), recs.as_slice())?,
-            }),
-            What::Done { rests } => Ok(What::Done {
-                rests: copied_rests(rests.allocator(), rests.as_slice())?,
-            }),
+            What::Rebackup { to, fresh, recs } => copied_rebackup(*to, *fresh, recs),
+            What::Done { rests } => copied_done(rests),
             What::Stop => Ok(What::Stop),
         }
     }
+}
+
+// ---- what an entry says, where its copy may want memory
+
+fn copied_mail(at: u64, letter: &Letter) -> Result<What, NoMemory>
+    ensures { IfOk result (λ c. c ≡ What.Mail at letter.now) }
+{
+    Ok(What::Mail {
+        at,
+        letter: letter.copy()?,
+    })
+}
+
+fn copied_page(pid: Pid, at: u64, index: u16, bytes: &Shared<[u8; 256]>) -> Result<What, NoMemory>
+    ensures { IfOk result (λ c. c ≡ What.Page pid at index bytes.now) }
+{
+    Ok(What::Page {
+        pid,
+        at,
+        index,
+        bytes: bytes.copy()?,
+    })
+}
+
+fn copied_sync(
+    pid: Pid,
+    small: &Shared<Small>,
+    read: &List<u64>,
+    took: Option<u8>,
+) -> Result<What, NoMemory>
+    ensures { IfOk result (λ c. c ≡ What.Sync pid small.now read.now took) }
+{
+    Ok(What::Sync {
+        pid,
+        small: small.copy()?,
+        read: copied_numbers(read)?,
+        took,
+    })
+}
+
+fn copied_answer(pid: Pid, index: u16, bytes: &Shared<[u8; 256]>) -> Result<What, NoMemory>
+    ensures { IfOk result (λ c. c ≡ What.PageIs pid index bytes.now) }
+{
+    Ok(What::PageIs {
+        pid,
+        index,
+        bytes: bytes.copy()?,
+    })
+}
+
+fn copied_rebackup(to: ClusterNo, fresh: bool, recs: &List<BackRec>) -> Result<What, NoMemory>
+    ensures { IfOk result (λ c. c ≡ What.Rebackup to fresh recs.now) }
+{
+    Ok(What::Rebackup {
+        to,
+        fresh,
+        recs: copied_records(recs.allocator(), recs.as_slice())?,
+    })
+}
+
+fn copied_done(rests: &List<(Pid, u64)>) -> Result<What, NoMemory>
+    ensures { IfOk result (λ c. c ≡ What.Done rests.now) }
+{
+    Ok(What::Done {
+        rests: copied_rests(rests.allocator(), rests.as_slice())?,
+    })
 }
 
 impl Post {
@@ -126,9 +170,5 @@ fn copied_records(alloc: Global, recs: &[BackRec]) -> Result<List<BackRec>, NoMe
 fn copied_rests(alloc: Global, rests: &[(Pid, u64)]) -> Result<List<(Pid, u64)>, NoMemory>
     ensures { IfOk result (λ c. c ≡ rests.now) }
 {
-    let mut copies = List::new(alloc);
-    for rest in rests {
-        copies.push(*rest)?;
-    }
-    Ok(copies)
+    Ok(List::from_vec(rests.to_vec(alloc)?))
 }

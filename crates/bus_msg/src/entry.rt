@@ -6,7 +6,7 @@ use t32_base::process::{ClusterNo, End, Pid, Small};
 
 /// Why a cluster was lost: the script named this place of the log, or a kernel step of the cluster, or a
 /// call of its page disk failed. Steps and calls are counted from 0.
-#[derive(Clone, Copy, PartialEq, Eq, Debug)]
+#[derive(Clone, Copy)]
 pub enum Cause {
     Place,
     Step(u64),

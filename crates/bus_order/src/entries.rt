@@ -2,7 +2,7 @@
 ghost use Rattle.std.specs.Prelude.{◌≡◌, ◌<◌, ◌≤◌, ◌-◌, Some, false, ◌∷◌, ◌++◌, [], length, map, drop, take, slice_get, IfOk, OnOk, OnErr};
 ghost use Rattle.std.specs.Arc.{arc_value};
 ghost use Rattle.std.specs.Option.{option_copied};
-ghost use Rattle.channel_table.specs.Changes.{CanBeAbsorbed};
+ghost use Rattle.channel_table.specs.Changes.{CanBeAbsorbed, is_birth};
 ghost use Rattle.bus_msg.specs.PlacedAfter.{what, placed_after};
 ghost use Rattle.cert_sched.specs.CertAfter.{KeepsSchedule};
 ghost use Rattle.bus_order.specs.Entries.{entries_in};
@@ -152,12 +152,21 @@ fn take_in(cert: &mut Cert, places: &mut Placement, entry: &Entry) -> Result<(),
             }
             Ok(())
         }
-        _ => {
-            cert.add(entry)?;
-            places.note(entry);
-            Ok(())
-        }
+        _ => take_in_other(cert, places, entry),
     }
+}
+
+// The same for an entry that tells of no birth: it takes no memory of the placement.
+fn take_in_other(cert: &mut Cert, places: &mut Placement, entry: &Entry) -> Result<(), NoMemory>
+    requires { is_birth (what entry.now) ≡ false }
+    ensures cert { OnOk result (KeepsSchedule cert.old cert.new entry.now) }
+    ensures places { OnOk result (places.new ≡ placed_after places.old (what entry.now)) }
+    ensures cert_stays { OnErr result (cert.new ≡ cert.old) }
+    ensures places_stay { OnErr result (places.new ≡ places.old) }
+{
+    cert.add(entry)?;
+    places.note(entry);
+    Ok(())
 }
 
 fn share_one(alloc: Global, entry: Entry) -> Result<Arc<Entry>, NoMemory>

@@ -22,7 +22,7 @@ pub struct Mark {
 }
 
 /// What the bus made of a mark: it waits for another cluster, or the run has ended, by the entry `at`.
-#[derive(Clone, Copy, PartialEq, Eq, Debug)]
+#[derive(Clone, Copy)]
 pub enum Idled {
     Marked,
     Done { at: u64 },

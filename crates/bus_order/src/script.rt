@@ -5,6 +5,7 @@ ghost use Rattle.bus_msg.specs.declared.entry.What.TheVariants.{Crash as ACrash}
 ghost use Rattle.bus_msg.specs.declared.entry.Cause.TheVariants.{Place as AtPlace};
 ghost use Rattle.cert_sched.specs.Built.{is_built_word};
 ghost use Rattle.cert_sched.specs.Looked.{given_by, is_reached};
+ghost use Rattle.cert_sched.specs.Losses.{is_disk_word, is_step_word};
 ghost use Rattle.bus_order.specs.Script.{IsFirst, has_unused, is_word_for};
 
 use bus_msg::entry::Cause;
@@ -74,13 +75,27 @@ fn is_reached(word: ScriptWord, length: u64) -> bool
 fn is_word_for(word: ScriptWord, k: ClusterNo, cause: Cause) -> bool
     ensures { result ≡ is_word_for k cause word }
 {
-    match (word, cause) {
-        (ScriptWord::CrashStep { k: other, step }, Cause::Step(number)) => {
-            other == k && step == number
-        }
-        (ScriptWord::DiskAt { k: other, call }, Cause::Disk(number)) => {
-            other == k && call == number
-        }
+    match cause {
+        Cause::Step(number) => is_step_word(word, k, number),
+        Cause::Disk(number) => is_disk_word(word, k, number),
+        Cause::Place => false,
+    }
+}
+
+fn is_step_word(word: ScriptWord, k: ClusterNo, number: u64) -> bool
+    ensures { result ≡ is_step_word k number word }
+{
+    match word {
+        ScriptWord::CrashStep { k: other, step } => other == k && step == number,
+        _ => false,
+    }
+}
+
+fn is_disk_word(word: ScriptWord, k: ClusterNo, number: u64) -> bool
+    ensures { result ≡ is_disk_word k number word }
+{
+    match word {
+        ScriptWord::DiskAt { k: other, call } => other == k && call == number,
         _ => false,
     }
 }

@@ -2,8 +2,8 @@
 ghost use Rattle.std.specs.Prelude.{◌≡◌, true, ◌&&◌, not, List, [], ◌∷◌, ◌++◌, map, find, length, slice_get, None, OnOk, OnErr, IfOk};
 ghost use Rattle.std.specs.Map.Iter.{ShowsInOrder, deref};
 ghost use Rattle.bus_msg.specs.declared.placed.Placed.{Placed};
-ghost use Rattle.bus_msg.specs.Places.{same_pid};
-ghost use Rattle.bus_msg.specs.PlacedAfter.{after_loss, after_exit, after_sync};
+ghost use Rattle.bus_msg.specs.Places.{is_cluster, same_pid};
+ghost use Rattle.bus_msg.specs.PlacedAfter.{after_loss, after_exit, after_sync, moved_to};
 ghost use Rattle.channel_table.specs.Changes.{with_backup, pids_differ};
 
 use bus_msg::placed::Placed;
@@ -168,25 +168,40 @@ fn moved_by_loss(k: ClusterNo, placed: Placed) -> Placed
     ensures { result ≡ after_loss k placed }
 {
     if placed.ended {
-        return placed;
-    }
-    if placed.home == k {
-        return match placed.backup {
-            Some(backup) => Placed {
-                home: backup,
-                backup: None,
-                lost: Some(k),
-                ..placed
-            },
-            None => placed,
-        };
-    }
-    if placed.backup == Some(k) {
-        return Placed {
+        placed
+    } else if placed.home == k {
+        moved_home(k, placed)
+    } else if has_backup_in(k, placed.backup) {
+        Placed {
             backup: None,
             lost: Some(k),
             ..placed
-        };
+        }
+    } else {
+        placed
     }
-    placed
+}
+
+// Where a process is placed whose home was the lost cluster `k`.
+fn moved_home(k: ClusterNo, placed: Placed) -> Placed
+    ensures { result ≡ moved_to placed k placed.backup }
+{
+    match placed.backup {
+        Some(backup) => Placed {
+            home: backup,
+            backup: None,
+            lost: Some(k),
+            ..placed
+        },
+        None => placed,
+    }
+}
+
+fn has_backup_in(k: ClusterNo, backup: Option<ClusterNo>) -> bool
+    ensures { result ≡ is_cluster backup k }
+{
+    match backup {
+        Some(backup) => backup == k,
+        None => false,
+    }
 }
