@@ -4,12 +4,13 @@
 
 pub mod registers;
 
-ghost use Rattle.std.specs.Prelude.{◌≡◌, ◌*◌, ◌^◌, ◌<◌, ◌≤◌, ℕ, List, Some, length, int_lt};
+ghost use Rattle.std.specs.Prelude.{◌≡◌, true, ◌*◌, ◌^◌, ◌<◌, ◌≤◌, ℕ, List, Some, length, int_lt};
 ghost use Rattle.std.specs.Int.{w32, cast_unsigned, cast_signed};
 ghost use Rattle.rv_insn.specs.Encoding.{IsEncodable};
 ghost use Rattle.rv_insn.specs.Word.{sign_extended};
 ghost use Rattle.rv_mem.specs.Memory.{IsWidth};
 ghost use Rattle.rv_cpu.specs.Exec.{Executed, branches, bytes_after, did_of, exec, exec_marks, executed, fetched, is_call, is_ecall, jumps, loads, marks_after, marks_stored, onward, plus, reg, regs_after, set_reg, signed, stores, widened, word};
+ghost use Rattle.rv_cpu.specs.Kinds.{is_computed, is_operation};
 ghost use Rattle.rv_cpu.specs.Run.{machine_of, ran, Stops};
 
 use crate::registers::{advance, read, write};
@@ -112,7 +113,7 @@ fn fetch(regs: &Regs, ram: &Ram) -> Option<u32>
     }
 }
 
-// A decoded instruction.
+// A decoded instruction. Those that only compute stand apart, in two functions, so that each match is short.
 #[inline(always)]
 fn execute(insn: Insn, regs: &mut Regs, ram: &mut Ram) -> Did
     requires { IsEncodable insn }
@@ -122,8 +123,6 @@ fn execute(insn: Insn, regs: &mut Regs, ram: &mut Ram) -> Did
     ensures dirty { ram.new.dirty ≡ marks_after (executed insn regs.old ram.old.bytes) insn regs.old ram.old.dirty }
 {
     match insn {
-        Insn::Lui { rd, imm } => puts(regs, rd, imm.cast_unsigned()),
-        Insn::Auipc { rd, imm } => puts(regs, rd, regs.pc.wrapping_add_signed(imm)),
         Insn::Jal { rd, imm } => jumps(regs, rd, regs.pc.wrapping_add_signed(imm)),
         Insn::Jalr { rd, rs1, imm } => {
             let target = read(regs, rs1).wrapping_add_signed(imm);
@@ -143,6 +142,24 @@ fn execute(insn: Insn, regs: &mut Regs, ram: &mut Ram) -> Did
         Insn::Sb { rs1, rs2, imm } => stores(regs, ram, rs1, rs2, imm, 1),
         Insn::Sh { rs1, rs2, imm } => stores(regs, ram, rs1, rs2, imm, 2),
         Insn::Sw { rs1, rs2, imm } => stores(regs, ram, rs1, rs2, imm, 4),
+        Insn::Fence => goes_on(regs),
+        Insn::Ecall => Did::Call,
+        Insn::Ebreak => Did::Trap(3),
+        _ => computes(insn, regs),
+    }
+}
+
+// An instruction that only computes.
+#[inline(always)]
+fn computes(insn: Insn, regs: &mut Regs) -> Did
+    requires encodable { IsEncodable insn }
+    requires kind { is_computed insn ≡ true }
+    ensures did { (m : List ℕ) → result ≡ did_of (executed insn regs.old m) }
+    ensures regs { (m : List ℕ) → regs.new ≡ regs_after (executed insn regs.old m) regs.old }
+{
+    match insn {
+        Insn::Lui { rd, imm } => puts(regs, rd, imm.cast_unsigned()),
+        Insn::Auipc { rd, imm } => puts(regs, rd, regs.pc.wrapping_add_signed(imm)),
         Insn::Addi { rd, rs1, imm } => puts(regs, rd, read(regs, rs1).wrapping_add_signed(imm)),
         Insn::Slti { rd, rs1, imm } => puts(regs, rd, u32::from(signed(regs, rs1) < imm)),
         Insn::Sltiu { rd, rs1, imm } => puts(
@@ -160,6 +177,19 @@ fn execute(insn: Insn, regs: &mut Regs, ram: &mut Ram) -> Did
             rd,
             (signed(regs, rs1) >> imm.cast_unsigned()).cast_unsigned(),
         ),
+        _ => operates(insn, regs),
+    }
+}
+
+// One that computes of two registers.
+#[inline(always)]
+fn operates(insn: Insn, regs: &mut Regs) -> Did
+    requires encodable { IsEncodable insn }
+    requires kind { is_operation insn ≡ true }
+    ensures did { (m : List ℕ) → result ≡ did_of (executed insn regs.old m) }
+    ensures regs { (m : List ℕ) → regs.new ≡ regs_after (executed insn regs.old m) regs.old }
+{
+    match insn {
         Insn::Add { rd, rs1, rs2 } => puts(regs, rd, read(regs, rs1).wrapping_add(read(regs, rs2))),
         Insn::Sub { rd, rs1, rs2 } => puts(regs, rd, read(regs, rs1).wrapping_sub(read(regs, rs2))),
         Insn::Sll { rd, rs1, rs2 } => puts(regs, rd, read(regs, rs1).wrapping_shl(read(regs, rs2))),
@@ -176,9 +206,7 @@ fn execute(insn: Insn, regs: &mut Regs, ram: &mut Ram) -> Did
         ),
         Insn::Or { rd, rs1, rs2 } => puts(regs, rd, read(regs, rs1) | read(regs, rs2)),
         Insn::And { rd, rs1, rs2 } => puts(regs, rd, read(regs, rs1) & read(regs, rs2)),
-        Insn::Fence => goes_on(regs),
-        Insn::Ecall => Did::Call,
-        Insn::Ebreak => Did::Trap(3),
+        _ => unreachable!(),
     }
 }
 

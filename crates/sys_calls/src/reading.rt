@@ -23,7 +23,7 @@ use t32_base::process::Small;
 use t32_base::streams::NoMemory;
 
 /// Which letters a read wants: those for one end, or those for any linked end.
-#[derive(Clone, Copy, PartialEq, Eq, Debug)]
+#[derive(Clone, Copy)]
 pub enum Wanted {
     On(u8),
     AnyLinked,
@@ -31,7 +31,7 @@ pub enum Wanted {
 
 /// What the checks of a read come to: an error's number, no more letters, or a letter that is wanted, of
 /// which so many bytes at most go to an address.
-#[derive(Clone, Copy, PartialEq, Eq, Debug)]
+#[derive(Clone, Copy)]
 pub enum Reading {
     Refused(u32),
     AtEnd,

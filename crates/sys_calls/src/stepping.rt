@@ -106,7 +106,7 @@ fn was_silent(made: &Result<Step, NoMemory>) -> bool
 
 // What a process came to by instructions, and then by a read where it stood at one. It is told apart from a step, which
 // is a large value.
-#[derive(Clone, Copy, PartialEq, Eq, Debug)]
+#[derive(Clone, Copy)]
 enum Passed {
     // It has read.
     Silently,
