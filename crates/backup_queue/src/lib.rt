@@ -4,8 +4,6 @@
 mod fronts;
 pub mod reading;
 pub mod record;
-#[cfg(test)]
-mod tests;
 
 ghost use Rattle.std.specs.Prelude.{◌≡◌, OnOk, OnErr};
 ghost use Rattle.backup_queue.specs.Queue.{saved_with, unread};

@@ -2,5 +2,3 @@
 #![tactic(auto)]
 
 pub mod family;
-#[cfg(test)]
-mod tests;

@@ -1,4 +1,4 @@
 mod BootSizes
 mod Found
 mod OneEnd
-mod Waiting
+pub mod Waiting

@@ -2,5 +2,3 @@
 #![tactic(auto)]
 
 pub mod beginning;
-#[cfg(test)]
-mod tests;

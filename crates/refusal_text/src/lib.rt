@@ -4,7 +4,5 @@
 mod block;
 mod lines;
 mod shown;
-#[cfg(test)]
-mod tests;
 mod texts;
 pub mod why;

@@ -1,6 +1,8 @@
-//! Tests of a process that synchronises: when it is due, what it sends, and what it is then. The expected values were
-//! worked by hand.
+//! Tests of a quantum that ends where its process is due to synchronise, and of that: when it is due, what it sends, and what it
+//! is then. The expected values were worked by hand.
 #![tactic(auto)]
 
+#[cfg(test)]
+mod running;
 #[cfg(test)]
 mod synchronising;

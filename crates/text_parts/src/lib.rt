@@ -5,8 +5,6 @@ mod lines;
 mod names;
 mod numbers;
 mod table;
-#[cfg(test)]
-mod tests;
 
 pub use lines::{
     are_printable, cut_at, cut_far, first_field, first_line, is_printable, split_lines, trim,

@@ -1,0 +1,11 @@
+//! Tests of the parts that keep letters and births. The expected values were worked by hand.
+#![tactic(auto)]
+
+#[cfg(test)]
+mod counts;
+#[cfg(test)]
+mod families;
+#[cfg(test)]
+mod mailboxes;
+#[cfg(test)]
+mod splitting;
