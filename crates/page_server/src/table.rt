@@ -9,7 +9,7 @@ use std::marker::Model;
 
 /// One of the four slots of a page. A put needs no more than two of them; with four, both accounts of a page
 /// can be written anew before either lets its old slot go.
-#[derive(Clone, Copy, PartialEq, Eq, Debug)]
+#[derive(Clone, Copy, PartialEq)]
 pub enum Which {
     First,
     Second,
@@ -18,7 +18,7 @@ pub enum Which {
 }
 
 /// The slots that the accounts hold of a page.
-#[derive(Clone, Copy, PartialEq, Eq, Debug)]
+#[derive(Clone, Copy)]
 pub struct Held {
     pub now: Option<Which>,
     pub kept: Option<Which>,
