@@ -17,7 +17,7 @@ use std::alloc::{AllocError, Global};
 use t32_base::streams::NoMemory;
 
 /// A command that takes words: its options are a flag, and `--pick` or not.
-#[derive(Clone, Copy, PartialEq, Eq, Debug)]
+#[derive(Clone, Copy)]
 pub enum Form {
     Sim,
     Run,

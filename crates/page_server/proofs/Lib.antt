@@ -3,4 +3,5 @@ mod Examples
 pub mod Marks
 pub mod Owners
 pub mod PagerLaws
+pub mod Putting
 pub mod SheetLaws

@@ -38,7 +38,7 @@ later : (c : ℕ) (rest : List ℕ) (k : ℕ) → (c ≡ k → ⊥) → Contains
 later c rest k other (zero, h, e) = absurd (other e)
 later c rest k other (suc j, h, e) = (j, omega arith, e)
 
-same_or_not : (c k : ℕ) → (c ≡ k) ⊎ (c ≡ k → ⊥)
+pub same_or_not : (c k : ℕ) → (c ≡ k) ⊎ (c ≡ k → ⊥)
 same_or_not c k = grind arith
 
 marked_after : (f : Held → Held) (l : Levels f) (table : List Held) (c : ℕ) (rest : List ℕ) → IsMarked table (c ∷ rest) → IsMarked (change_at f table c) rest

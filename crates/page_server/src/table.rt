@@ -1,7 +1,7 @@
 //! The pages of one process: which of the four slots of each page its accounts hold.
-ghost use Rattle.std.specs.Prelude.{◌≡◌, ◌<◌, ◌+◌, ◌++◌, ◌∷◌, [], map, length, get_or, OnOk, OnErr, IfOk, ◌≤◌, is_some, Some, IfSome, Contains};
+ghost use Rattle.std.specs.Prelude.{◌≡◌, ◌<◌, ◌≤◌, ◌⊎◌, [], map, set, length, get_or, OnOk, OnErr, Some, IfSome, Contains};
 ghost use Rattle.page_server.specs.Disk.{SlotsAfterPut, CountsAfterPut};
-ghost use Rattle.page_server.specs.Slots.{slot, number_of, absent, spare, grown, change_at, settled, restored, TableAfterPut, IsMarked};
+ghost use Rattle.page_server.specs.Slots.{slot, number_of, absent, spare, grown, put_in, change_at, settled, restored, TableAfterPut, IsMarked};
 
 use crate::disk::{DiskRefused, PageDisk};
 use std::alloc::{AllocError, Global};
@@ -9,7 +9,7 @@ use std::marker::Model;
 
 /// One of the four slots of a page. A put needs no more than two of them; with four, both accounts of a page
 /// can be written anew before either lets its old slot go.
-#[derive(Clone, Copy, PartialEq, Eq, Debug)]
+#[derive(Clone, Copy, PartialEq)]
 pub enum Which {
     First,
     Second,
@@ -18,7 +18,7 @@ pub enum Which {
 }
 
 /// The slots that the accounts hold of a page.
-#[derive(Clone, Copy, PartialEq, Eq, Debug)]
+#[derive(Clone, Copy)]
 pub struct Held {
     pub now: Option<Which>,
     pub kept: Option<Which>,
@@ -104,20 +104,12 @@ impl PageTable {
         ensures slots { SlotsAfterPut (D.slots disk.old) (D.slots disk.new) (slot place i (spare (get_or self.old i absent).kept)) page.now result }
         ensures counts { CountsAfterPut (D.counts disk.old) (D.counts disk.new) result }
     {
-        if i >= PAGE_NUMBERS || grow(&mut self.rows, i).is_err() {
+        if i >= PAGE_NUMBERS {
             return Err(DiskRefused::NoMemory);
         }
-        if mark(&self.rows, &mut self.changed, i).is_err() {
-            return Err(DiskRefused::NoMemory);
-        }
-        let which = spare_of(self.rows[usize::from(i)].kept);
-        match disk.put(slot_of(place, i, which), page) {
-            Ok(()) => {
-                let held = &mut self.rows[usize::from(i)];
-                held.now = Some(which);
-                Ok(())
-            }
-            Err(refused) => Err(refused),
+        match make_row(&mut self.rows, &mut self.changed, i) {
+            Err(_) => Err(DiskRefused::NoMemory),
+            Ok(()) => put_in_row(&mut self.rows, disk, place, i, page),
         }
     }
 
@@ -157,6 +149,57 @@ fn spare_of(kept: Option<Which>) -> Which
         Some(Which::First) => Which::Second,
         _ => Which::First,
     }
+}
+
+// Puts a page into the uncommitted account, in its row.
+fn put_in_row<D: PageDisk>(
+    rows: &mut Vec<Held>,
+    disk: &mut D,
+    place: u32,
+    i: u16,
+    page: &[u8; 256],
+) -> Result<(), DiskRefused>
+    requires place { place < 4194304 }
+    requires number { i < 256 }
+    requires within { i < length rows.old.items }
+    ensures ok { OnOk result (rows.new.items ≡ set rows.old.items i (put_in (get_or rows.old.items i absent))) }
+    ensures err { OnErr result (rows.new.items ≡ rows.old.items) }
+    ensures slots { SlotsAfterPut (D.slots disk.old) (D.slots disk.new) (slot place i (spare (get_or rows.old.items i absent).kept)) page.now result }
+    ensures counts { CountsAfterPut (D.counts disk.old) (D.counts disk.new) result }
+{
+    let which = spare_of(rows[usize::from(i)].kept);
+    match disk.put(slot_of(place, i, which), page) {
+        Ok(()) => {
+            hold(rows, i, which);
+            Ok(())
+        }
+        Err(refused) => Err(refused),
+    }
+}
+
+// The uncommitted account holds this slot of a page.
+fn hold(rows: &mut Vec<Held>, i: u16, which: Which)
+    requires { i < length rows.old.items }
+    ensures { rows.new.items ≡ set rows.old.items i (record { now = Some which; kept = (get_or rows.old.items i absent).kept }) }
+{
+    let held = &mut rows[usize::from(i)];
+    held.now = Some(which);
+}
+
+// Gives a page its row, and notes that the accounts may differ in it.
+fn make_row(rows: &mut Vec<Held>, changed: &mut Vec<u16>, i: u16) -> Result<(), AllocError>
+    requires number { i < 256 }
+    requires length { length rows.old.items ≤ 256 }
+    requires marked { IsMarked rows.old.items changed.old.items }
+    ensures ok { OnOk result (rows.new.items ≡ grown rows.old.items i) }
+    ensures within { OnOk result (i < length rows.new.items) }
+    ensures number { length rows.new.items ≤ 256 }
+    ensures err { OnErr result ((rows.new.items ≡ rows.old.items) ⊎ (rows.new.items ≡ grown rows.old.items i)) }
+    ensures marked { IsMarked rows.new.items changed.new.items }
+    ensures noted { OnOk result (Contains changed.new.items i) }
+{
+    grow(rows, i)?;
+    mark(rows, changed, i)
 }
 
 // Gives a page its row.

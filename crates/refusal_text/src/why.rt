@@ -12,7 +12,7 @@ use t32_base::lists::{Bytes, Text};
 use t32_base::streams::NoMemory;
 
 /// Why an item of a schedule is refused.
-#[derive(Clone, Copy, PartialEq, Eq, Debug)]
+#[derive(Clone, Copy)]
 pub enum ItemFault {
     /// It cannot be read.
     Unreadable,
@@ -146,26 +146,13 @@ impl Why {
                 rule,
                 inner,
                 shown,
-            } => {
-                let mut text = system_head(alloc, *line, *rule)?;
-                put_inner(alloc, &mut text, *inner)?;
-                put_line(alloc, &mut text, *line, shown)?;
-                Ok(text)
-            }
-            Why::AsmLine { line, rule, shown } => {
-                let mut text = asm_head(alloc, *line, *rule)?;
-                put_line(alloc, &mut text, *line, shown)?;
-                Ok(text)
-            }
+            } => system_said(alloc, *line, *rule, *inner, shown),
+            Why::AsmLine { line, rule, shown } => asm_said(alloc, *line, *rule, shown),
             Why::Item {
                 index,
                 fault,
                 shown,
-            } => {
-                let mut text = item_head(alloc, *index, *fault)?;
-                put_line(alloc, &mut text, *index, shown)?;
-                Ok(text)
-            }
+            } => item_said(alloc, *index, *fault, shown),
             why => Bytes::copy_of(alloc, why.headline().as_bytes()),
         }
     }
@@ -190,6 +177,42 @@ impl Why {
             Why::TooLong => "t32: the input is longer than 4194304 bytes\n",
         }
     }
+}
+
+fn system_said(
+    alloc: Global,
+    line: u64,
+    rule: u8,
+    inner: Option<u8>,
+    shown: &Option<Text>,
+) -> Result<Text, NoMemory>
+    ensures { IfOk result (λ text. text ≡ (system_head_of line rule ++ inner_text_of inner) ++ line_text_of line shown.now) }
+{
+    let mut text = system_head(alloc, line, rule)?;
+    put_inner(alloc, &mut text, inner)?;
+    put_line(alloc, &mut text, line, shown)?;
+    Ok(text)
+}
+
+fn asm_said(alloc: Global, line: u64, rule: u8, shown: &Option<Text>) -> Result<Text, NoMemory>
+    ensures { IfOk result (λ text. text ≡ asm_head_of line rule ++ line_text_of line shown.now) }
+{
+    let mut text = asm_head(alloc, line, rule)?;
+    put_line(alloc, &mut text, line, shown)?;
+    Ok(text)
+}
+
+fn item_said(
+    alloc: Global,
+    index: u64,
+    fault: ItemFault,
+    shown: &Option<Text>,
+) -> Result<Text, NoMemory>
+    ensures { IfOk result (λ text. text ≡ item_head_of index fault ++ line_text_of index shown.now) }
+{
+    let mut text = item_head(alloc, index, fault)?;
+    put_line(alloc, &mut text, index, shown)?;
+    Ok(text)
 }
 
 fn system_head(alloc: Global, line: u64, rule: u8) -> Result<Text, NoMemory>
@@ -238,13 +261,17 @@ fn put_inner(alloc: Global, text: &mut Text, inner: Option<u8>) -> Result<(), No
     ensures { OnOk result (text.new ≡ text.old ++ inner_text_of inner) }
 {
     match inner {
-        Some(rule) => {
-            let broken = asm_rule_text(rule);
-            let part = format!(in alloc; ", by its rule {rule}: {broken}\n")?;
-            text.extend(part.as_bytes())
-        }
+        Some(rule) => put_asm_rule(alloc, text, rule),
         None => text.extend(b"\n"),
     }
+}
+
+fn put_asm_rule(alloc: Global, text: &mut Text, rule: u8) -> Result<(), NoMemory>
+    ensures { OnOk result (text.new ≡ text.old ++ inner_text_of (Some rule)) }
+{
+    let broken = asm_rule_text(rule);
+    let part = format!(in alloc; ", by its rule {rule}: {broken}\n")?;
+    text.extend(part.as_bytes())
 }
 
 // Puts a line that is shown behind its number.
@@ -256,11 +283,17 @@ fn put_line(
 ) -> Result<(), NoMemory>
     ensures { OnOk result (text.new ≡ text.old ++ line_text_of number shown.now) }
 {
-    let Some(shown) = shown else {
-        return Ok(());
-    };
+    match shown {
+        Some(shown) => put_shown(alloc, text, number, shown.as_slice()),
+        None => Ok(()),
+    }
+}
+
+fn put_shown(alloc: Global, text: &mut Text, number: u64, shown: &[u8]) -> Result<(), NoMemory>
+    ensures { OnOk result (text.new ≡ text.old ++ line_text_of number (Some shown.now)) }
+{
     let front = format!(in alloc; "{number} | ")?;
     text.extend(front.as_bytes())?;
-    text.extend(shown.as_slice())?;
+    text.extend(shown)?;
     text.extend(b"\n")
 }

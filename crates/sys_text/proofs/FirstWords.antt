@@ -57,11 +57,11 @@ words_first rest ends =
 -- the same of a line behind its spaces, cut behind the word
 pub words_in_front : (line text rest : List ℕ) → text ≡ trim_start line → 5 ≤ length text → get_or text 0 0 ≡ 119 → get_or text 1 0 ≡ 111 → get_or text 2 0 ≡ 114 → get_or text 3 0 ≡ 100 → get_or text 4 0 ≡ 115
     → rest ≡ take (length text - 5) (drop 5 text) → list_all is_space (take 1 rest) ≡ true → fields_of line ≡ codes "words" ∷ fields_of rest
-words_in_front line [] rest is long a b c d e back ends = absurd (omega (arith, long))
-words_in_front line (x0 ∷ []) rest is long a b c d e back ends = absurd (omega (arith, long))
-words_in_front line (x0 ∷ x1 ∷ []) rest is long a b c d e back ends = absurd (omega (arith, long))
-words_in_front line (x0 ∷ x1 ∷ x2 ∷ []) rest is long a b c d e back ends = absurd (omega (arith, long))
-words_in_front line (x0 ∷ x1 ∷ x2 ∷ x3 ∷ []) rest is long a b c d e back ends = absurd (omega (arith, long))
+words_in_front line [] rest _ long _ _ _ _ _ _ _ = absurd (omega (arith, long))
+words_in_front line (x0 ∷ []) rest _ long _ _ _ _ _ _ _ = absurd (omega (arith, long))
+words_in_front line (x0 ∷ x1 ∷ []) rest _ long _ _ _ _ _ _ _ = absurd (omega (arith, long))
+words_in_front line (x0 ∷ x1 ∷ x2 ∷ []) rest _ long _ _ _ _ _ _ _ = absurd (omega (arith, long))
+words_in_front line (x0 ∷ x1 ∷ x2 ∷ x3 ∷ []) rest _ long _ _ _ _ _ _ _ = absurd (omega (arith, long))
 words_in_front line (x0 ∷ x1 ∷ x2 ∷ x3 ∷ x4 ∷ xs) rest is long a b c d e back ends =
     let back_is : rest ≡ xs = back ∙ take_rest (x0 ∷ x1 ∷ x2 ∷ x3 ∷ x4 ∷ xs) 5 in
     fields_of-trimmed line ∙ ap fields_of (sym is) ∙ rw (a, b, c, d, e, ← back_is) (words_first rest ends)

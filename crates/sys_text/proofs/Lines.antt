@@ -3,8 +3,11 @@ use Rattle.std.proofs.Common.{◌≡◌, ℕ, zero, suc, ◌<◌, ◌≤◌, Lis
 use Rattle.std.specs.List.{flat_map}
 use Rattle.std.proofs.lemmas.List.Concat.{flat_map-append}
 use Rattle.std.specs.Prelude.{codes}
+use Rattle.std.specs.Fmt.{decimal}
 use Rattle.sys_text.specs.declared.system.System.{System}
-use Rattle.sys_text.specs.Text.{line_text, lines_text, word_text, words_line, words_lines, words_lines_upto, header_lines, image_lines, root_line, chan_line, system_lines, system_text}
+use Rattle.sys_text.specs.declared.system.Image.{Image}
+use Rattle.sys_text.specs.declared.system.Root.{Root}
+use Rattle.sys_text.specs.Text.{line_text, lines_text, word_text, words_line, words_lines, words_lines_upto, header_lines, image_lines, mode_text, image_name, root_line, chan_line, system_lines, system_text}
 
 -- fields behind a first one, each after a space
 pub line_text_more : (g : ℕ → List ℕ) (f : List ℕ) (ws : List ℕ) → line_text (f ∷ map g ws) ≡ (f ++ flat_map (λ w. 32 ∷ g w) ws) ++ 10 ∷ []
@@ -47,6 +50,16 @@ words_all text whole ws z e = sym (append-nil text) ∙ ap (λ ls. text ++ lines
 -- the four lines of a header
 pub header_text : (a b c d : List (List ℕ)) (t0 t1 t2 t3 t4 : List ℕ) → t1 ≡ t0 ++ line_text a → t2 ≡ t1 ++ line_text b → t3 ≡ t2 ++ line_text c → t4 ≡ t3 ++ line_text d → t4 ≡ t0 ++ lines_text (a ∷ b ∷ c ∷ d ∷ [])
 header_text a b c d t0 t1 t2 t3 t4 e1 e2 e3 e4 = rw (e4, e3, e2, e1) (simp (append_assoc, append-nil))
+
+-- the line of a root, in three parts
+pub root_text : (images : List Image) (root : Root) (t0 t1 t2 t3 : List ℕ) → t1 ≡ t0 ++ (codes "root" ++ 32 ∷ (decimal (root.home).0 ++ 32 ∷ (decimal (root.backup).0 ++ 32 ∷ [])))
+    → t2 ≡ t1 ++ (mode_text root.mode ++ 32 ∷ image_name images root.image) → t3 ≡ t2 ++ 32 ∷ line_text (decimal root.limit ∷ decimal root.births ∷ decimal root.tty ∷ []) → t3 ≡ t0 ++ line_text (root_line images root)
+root_text images root t0 t1 t2 t3 e1 e2 e3 =
+    e3 ∙ ap (λ t. t ++ 32 ∷ line_text (decimal root.limit ∷ decimal root.births ∷ decimal root.tty ∷ [])) (e2 ∙ ap (λ t. t ++ (mode_text root.mode ++ 32 ∷ image_name images root.image)) e1)
+    ∙ in_parts t0 (decimal (root.home).0) (decimal (root.backup).0) (mode_text root.mode) (image_name images root.image) (32 ∷ line_text (decimal root.limit ∷ decimal root.births ∷ decimal root.tty ∷ []))
+  where
+    in_parts : (t a b m i n : List ℕ) → ((t ++ (codes "root" ++ 32 ∷ (a ++ 32 ∷ (b ++ 32 ∷ [])))) ++ (m ++ 32 ∷ i)) ++ n ≡ t ++ (codes "root" ++ 32 ∷ (a ++ 32 ∷ (b ++ 32 ∷ (m ++ 32 ∷ (i ++ n)))))
+    in_parts t a b m i n = simp append_assoc
 
 pub image_text : (head : List (List ℕ)) (ls : List (List (List ℕ))) (t0 t1 t2 t3 : List ℕ) → t1 ≡ t0 ++ line_text head → t2 ≡ t1 ++ lines_text ls → t3 ≡ t2 ++ line_text (codes "end" ∷ []) → t3 ≡ t0 ++ lines_text (head ∷ (ls ++ (codes "end" ∷ []) ∷ []))
 image_text head ls t0 t1 t2 t3 e1 e2 e3 = rw (e3, e2, e1, flat_map-append line_text ls ((codes "end" ∷ []) ∷ [])) (simp append_assoc)

@@ -31,20 +31,24 @@ pub fn system_text(alloc: Global, system: &System) -> Result<Text, NoMemory>
 fn put_header(alloc: Global, text: &mut Text, system: &System) -> Result<(), NoMemory>
     ensures { OnOk result (text.new ≡ text.old ++ lines_text (header_lines system.now)) }
 {
-    let clusters = system.clusters;
-    let first = system.pager.0.0;
-    let second = system.pager.1.0;
-    let reads = system.syncreads;
-    let steps = system.syncsteps;
-    let line = format!(in alloc; "clusters {clusters}\n")?;
-    text.extend(line.as_bytes())?;
+    put_number(alloc, text, "clusters", u32::from(system.clusters))?;
+    put_pager(alloc, text, system.pager.0.0, system.pager.1.0)?;
+    put_number(alloc, text, "syncreads", system.syncreads)?;
+    put_number(alloc, text, "syncsteps", system.syncsteps)
+}
+
+fn put_number(alloc: Global, text: &mut Text, name: &str, number: u32) -> Result<(), NoMemory>
+    ensures { OnOk result (text.new ≡ text.old ++ line_text (name.now ∷ decimal number ∷ [])) }
+{
+    let line = format!(in alloc; "{name} {number}\n")?;
+    text.extend(line.as_bytes())
+}
+
+fn put_pager(alloc: Global, text: &mut Text, first: u8, second: u8) -> Result<(), NoMemory>
+    ensures { OnOk result (text.new ≡ text.old ++ line_text (codes "pager" ∷ decimal first ∷ decimal second ∷ [])) }
+{
     let line = format!(in alloc; "pager {first} {second}\n")?;
-    text.extend(line.as_bytes())?;
-    let line = format!(in alloc; "syncreads {reads}\n")?;
-    text.extend(line.as_bytes())?;
-    let line = format!(in alloc; "syncsteps {steps}\n")?;
-    text.extend(line.as_bytes())?;
-    Ok(())
+    text.extend(line.as_bytes())
 }
 
 fn put_images(alloc: Global, text: &mut Text, images: &[Image]) -> Result<(), NoMemory>
@@ -201,19 +205,40 @@ fn put_roots(
 fn put_root(alloc: Global, text: &mut Text, images: &[Image], root: Root) -> Result<(), NoMemory>
     ensures { OnOk result (text.new ≡ text.old ++ line_text (root_line images.now root)) }
 {
-    let home = root.home.0;
-    let backup = root.backup.0;
-    let limit = root.limit;
-    let births = root.births;
-    let tty = root.tty;
-    let line = format!(in alloc; "root {home} {backup} ")?;
-    text.extend(line.as_bytes())?;
-    put_mode(text, root.mode)?;
+    put_clusters(alloc, text, root.home.0, root.backup.0)?;
+    put_program(text, images, root.mode, root.image)?;
+    put_numbers(alloc, text, root.limit, root.births, root.tty)
+}
+
+/// The front of the line of a root, with its two clusters.
+fn put_clusters(alloc: Global, text: &mut Text, home: u8, backup: u8) -> Result<(), NoMemory>
+    ensures { OnOk result (text.new ≡ text.old ++ (codes "root" ++ 32 ∷ (decimal home ++ 32 ∷ (decimal backup ++ 32 ∷ [])))) }
+{
+    let front = format!(in alloc; "root {home} {backup} ")?;
+    text.extend(front.as_bytes())
+}
+
+/// The mode of a root, and the name of its image.
+fn put_program(text: &mut Text, images: &[Image], mode: Mode, image: u64) -> Result<(), NoMemory>
+    ensures { OnOk result (text.new ≡ text.old ++ (mode_text mode ++ 32 ∷ image_name images.now image)) }
+{
+    put_mode(text, mode)?;
     text.extend(b" ")?;
-    put_name(text, images, root.image)?;
-    let line = format!(in alloc; " {limit} {births} {tty}\n")?;
-    text.extend(line.as_bytes())?;
-    Ok(())
+    put_name(text, images, image)
+}
+
+/// The numbers at the end of the line of a root.
+fn put_numbers(
+    alloc: Global,
+    text: &mut Text,
+    limit: u32,
+    births: u8,
+    tty: u8,
+) -> Result<(), NoMemory>
+    ensures { OnOk result (text.new ≡ text.old ++ 32 ∷ line_text (decimal limit ∷ decimal births ∷ decimal tty ∷ [])) }
+{
+    let numbers = format!(in alloc; " {limit} {births} {tty}\n")?;
+    text.extend(numbers.as_bytes())
 }
 
 fn put_mode(text: &mut Text, mode: Mode) -> Result<(), NoMemory>

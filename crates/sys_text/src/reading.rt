@@ -158,16 +158,22 @@ fn nothing_yet(alloc: Global) -> State
 {
     State {
         stage: Stage::Start,
-        system: System {
-            clusters: 0,
-            pager: (ClusterNo(0), ClusterNo(0)),
-            syncreads: 0,
-            syncsteps: 0,
-            images: List::new(alloc),
-            roots: List::new(alloc),
-            chans: List::new(alloc),
-        },
+        system: empty_system(alloc),
         open_image: empty_image(alloc),
+    }
+}
+
+fn empty_system(alloc: Global) -> System
+    ensures { result ≡ nothing_yet.system }
+{
+    System {
+        clusters: 0,
+        pager: (ClusterNo(0), ClusterNo(0)),
+        syncreads: 0,
+        syncsteps: 0,
+        images: List::new(alloc),
+        roots: List::new(alloc),
+        chans: List::new(alloc),
     }
 }
 

@@ -7,7 +7,7 @@ use t32_base::streams::NoMemory;
 use thiserror::Error;
 
 /// A rule that a line may break, by its number.
-#[derive(Clone, Copy, Debug, PartialEq, Eq)]
+#[derive(Clone, Copy)]
 pub enum Rule {
     /// A byte outside 0x20 to 0x7E.
     ForeignByte = 1,

@@ -1,7 +1,7 @@
 //! The rules that a line may break, by what the lines before it said.
-ghost use Rattle.std.specs.Prelude.{◌≡◌, ◌≤◌, ◌+◌, Some, IfSome, length, nat_lt, nat_le, ◌||◌};
+ghost use Rattle.std.specs.Prelude.{◌≡◌, ◌≤◌, ◌+◌, ◌==◌, Some, IfSome, length, nat_lt, nat_le, ◌||◌};
 ghost use Rattle.text_parts.specs.Lines.{fields_of};
-ghost use Rattle.sys_text.specs.Kinds.{texts};
+ghost use Rattle.sys_text.specs.Kinds.{texts, number, field_at};
 ghost use Rattle.sys_text.specs.Valid.{births_of};
 ghost use Rattle.sys_text.specs.Rules.{may_stand, keyword_in, begins_comment, breaks_same, has_root, breaks_name, places_with, is_full, breaks_room, lowest_with, broken_by, HasRoom};
 ghost use Rattle.sys_text.specs.ImageNames.{KnowsImages};
@@ -45,11 +45,15 @@ fn breaks_same(keyword: Keyword, fields: &[&[u8]]) -> bool
     ensures { result ≡ breaks_same keyword (texts fields.now) }
 {
     match keyword {
-        Keyword::Pager | Keyword::Root | Keyword::Chan => {
-            number_or_0(field_at(0, fields)) == number_or_0(field_at(1, fields))
-        }
+        Keyword::Pager | Keyword::Root | Keyword::Chan => begin_alike(fields),
         _ => false,
     }
+}
+
+fn begin_alike(fields: &[&[u8]]) -> bool
+    ensures { result ≡ (number (field_at 0 (texts fields.now)) == number (field_at 1 (texts fields.now))) }
+{
+    number_or_0(field_at(0, fields)) == number_or_0(field_at(1, fields))
 }
 
 /// Is it the number of a root, counted from 1?

@@ -1,7 +1,7 @@
 //! The lines of a system text, and where each may stand.
 
 /// The first field of a line.
-#[derive(Clone, Copy, Debug, PartialEq, Eq)]
+#[derive(Clone, Copy)]
 pub enum Keyword {
     Clusters,
     Pager,
@@ -16,7 +16,7 @@ pub enum Keyword {
 }
 
 /// What has been read, and so which lines may come next.
-#[derive(Clone, Copy, Debug, PartialEq, Eq)]
+#[derive(Clone, Copy)]
 pub enum Stage {
     Start,
     AfterClusters,
@@ -32,7 +32,7 @@ pub enum Stage {
 }
 
 /// What a field is to be.
-#[derive(Clone, Copy, Debug, PartialEq, Eq)]
+#[derive(Clone, Copy)]
 pub enum Kind {
     /// A number with its limits.
     Number(u64, u64),

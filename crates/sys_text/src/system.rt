@@ -12,7 +12,7 @@ pub struct Image {
 
 /// A process that runs from the start: its two clusters, its mode, the number of its image from 0, how
 /// many instructions it may execute, how often it and its children may fork, and its terminal.
-#[derive(Clone, Copy, PartialEq, Eq)]
+#[derive(Clone, Copy)]
 pub struct Root {
     pub home: ClusterNo,
     pub backup: ClusterNo,
