@@ -147,7 +147,7 @@ module _ (system : System) (log : List Entry) (c : ClusterView) (y : Synchronise
       own = ap (λ ps. list_all_own ps) y.posts ∙ batch_own c.number p s y.read y.indices;
       legal = subst (IsQueueLegal UnlostMayFollow system log) (sym y.posts) (batch_legal c.number p s y.read system log y.indices valid legal (f.pages p (Runs y.process) y.there refl) y.within y.may);
     };
-    queued = inr y;
+    queued = inr (inl y);
     steps = record { counted = (f.steps).counted };
     limits = f.limits;
     pages = f.pages;

@@ -37,6 +37,7 @@ mod Synchronising
 mod BirthHomes
 mod StatedNow
 mod Births
+mod BirthQueued
 mod OwnBatch
 pub mod Served
 pub mod Counted

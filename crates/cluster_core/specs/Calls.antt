@@ -9,7 +9,7 @@ use Rattle.proc_state.specs.declared.process.Process.{Process}
 use Rattle.proc_state.specs.State.{state_of}
 use Rattle.sys_calls.specs.declared.steps.Emission.{Emission}
 use Rattle.bus_msg.specs.declared.entry.What.{What}
-use Rattle.bus_msg.specs.declared.entry.What.TheVariants.{Mail, Exit, PageIs}
+use Rattle.bus_msg.specs.declared.entry.What.TheVariants.{Mail, Birth, Exit, PageIs}
 use Rattle.bus_msg.specs.declared.entry.Entry.{Entry}
 use Rattle.bus_msg.specs.declared.entry.Post.{Post}
 use Rattle.bus_msg.specs.Places.{same_pid, servers_in}
@@ -34,6 +34,7 @@ use Rattle.cluster_core.specs.Quantum.{Moves, Sends, post_told}
 use Rattle.cluster_core.specs.Serving.{FailsNext}
 use Rattle.cluster_core.specs.Residents.{with_changed}
 use Rattle.cluster_core.specs.Recovered.{left_by, moved_by, with_all_waiting}
+use Rattle.cluster_core.specs.Bearing.{with_born}
 use Rattle.cluster_core.specs.Work.{AnswersNext, AsksNext, any_lacks, fetch_post, owes_answer}
 use Rattle.cluster_core.specs.Follows.{FollowsBuilt, IsOpen, StandsBetween}
 
@@ -87,11 +88,12 @@ with_letter letter here = map (λ (e : Pid × Held). if is_end_of e.0 letter.to 
 abbrev pub with_page_come : Pid → ℕ → List ℕ → List (Pid × Held) → List (Pid × Held)
 with_page_come p i bytes here = map (λ (e : Pid × Held). if same_pid e.0 p then (e.0, page_held i bytes e.1) else e) here
 
--- what an entry that was taken in makes of the processes here: a letter arrives, a process that ended is here no more, and a page comes
+-- what an entry that was taken in makes of the processes here: a letter arrives, a process that ended is here no more, a page comes, and a parent has forked
 abbrev pub here_after : What → List (Pid × Held) → List (Pid × Held)
 here_after (Mail at letter) here = with_letter letter here
 here_after (Exit pid at end) here = filter (λ (e : Pid × Held). not (same_pid e.0 pid)) here
 here_after (PageIs pid index bytes) here = with_page_come pid index bytes here
+here_after (Birth parent at child end) here = with_born parent child here
 here_after w here = here
 
 -- the cluster with one more entry of the log taken in, by one kernel step; at the loss of another the processes that this moves here wait for their pages, and it has no record of them
