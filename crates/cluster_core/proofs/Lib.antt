@@ -29,6 +29,7 @@ mod Beside
 mod BatchPosts
 mod Batching
 mod Stayed
+mod BirthStayed
 mod Waiting
 pub mod MarksBegin
 mod Paging
@@ -38,6 +39,16 @@ mod BirthHomes
 mod StatedNow
 mod Births
 mod BirthQueued
+mod OwnBirth
+mod BornHere
+mod BeginBirth
+mod BirthTurn
+mod Serials
+mod OwningBirths
+mod BirthTaken
+mod Bearable
+mod Forked
+mod WorkedOn
 mod OwnBatch
 pub mod Served
 pub mod Counted

@@ -1,5 +1,6 @@
 -- A process here that is to have a child: its birth is queued while it stands before its fork, which is made where the birth is taken in.
-use Rattle.std.specs.Prelude.{◌≡◌, ◌+◌, true, false, List, [], ◌∷◌, length, replicate, Some, option_map}
+use Rattle.std.specs.Prelude.{◌≡◌, ◌+◌, true, false, List, [], ◌∷◌, length, replicate, Option, Some, None, option_map, ⊤}
+use Rattle.std.specs.List.{list_any}
 use Rattle.std.specs.Option.{option_map_or}
 use Rattle.t32_base.specs.declared.process.Pid.{Pid}
 use Rattle.t32_base.specs.declared.process.ClusterNo.{ClusterNo}
@@ -7,13 +8,13 @@ use Rattle.sys_text.specs.declared.system.System.{System}
 use Rattle.proc_state.specs.declared.process.Process.{Process}
 use Rattle.proc_state.specs.State.{ProcState, state_of}
 use Rattle.sys_calls.specs.Calls.{Forks}
-use Rattle.sys_calls.specs.Fork.{child_small, fork_parent, next_end}
+use Rattle.sys_calls.specs.Fork.{CanFork, child_small, fork_parent, next_end}
 use Rattle.sys_calls.specs.Next.{next_step}
 use Rattle.bus_msg.specs.declared.entry.What.TheVariants.{Birth}
 use Rattle.bus_msg.specs.declared.entry.By.TheVariants.{Cluster}
 use Rattle.bus_msg.specs.declared.entry.Entry.{Entry}
 use Rattle.bus_msg.specs.declared.entry.Post.{Post}
-use Rattle.bus_msg.specs.Places.{unended_at}
+use Rattle.bus_msg.specs.Places.{same_pid, unended_at}
 use Rattle.cert_sched.specs.Kinds.{next_child_at}
 use Rattle.cert_sched.specs.Schedule.{placement}
 use Rattle.quanta.specs.Limited.{is_due}
@@ -60,3 +61,36 @@ with_fork p child (Waits waiting) here = here
 -- so it is where the parent is here
 abbrev pub with_born : Pid → Pid → List (Pid × Held) → List (Pid × Held)
 with_born p child here = option_map_or (λ (h : Held). with_fork p child h here) (held_of here p) here
+
+-- ---- the calls
+
+-- one that runs can fork
+abbrev pub CanForkNow : Held → Type 0
+CanForkNow (Runs p) = CanFork (state_of p)
+CanForkNow (Rolls p counts births) = ⊤
+CanForkNow (Waits waiting) = ⊤
+
+-- it has forked, and this is its child; one that does not run has none
+abbrev pub HasForked : Pid → Held → Option Process → Held → Type 0
+HasForked child (Runs p) born new = (born ≡ Some (newborn p child)) × (new ≡ Runs (forked p child))
+HasForked child (Rolls p counts births) born new = (born ≡ None) × (new ≡ Rolls p counts births)
+HasForked child (Waits waiting) born new = (born ≡ None) × (new ≡ Waits waiting)
+
+-- the parent can fork, if it is here,
+abbrev pub CanForkAt : Pid → List (Pid × Held) → Type 0
+CanForkAt p here = (h : Held) → held_of here p ≡ Some h → CanForkNow h
+
+-- and then the child is not
+abbrev pub CanBear : Pid → Pid → List (Pid × Held) → Type 0
+CanBear p child here = CanForkAt p here × ((h : Held) → held_of here p ≡ Some h → list_any (λ (e : Pid × Held). same_pid e.0 child) here ≡ false)
+
+-- the parent is held so: it has forked where it runs, and this is its child
+abbrev pub ForksFrom : Pid → Pid → List (Pid × Held) → Option Held → Option Process → List (Pid × Held) → Type 0
+ForksFrom p child old None born new = (born ≡ None) × (new ≡ old)
+ForksFrom p child old (Some (Runs process)) born new = (born ≡ Some (newborn process child)) × (new ≡ with_changed p (Runs (forked process child)) old)
+ForksFrom p child old (Some (Rolls process counts births)) born new = (born ≡ None) × (new ≡ old)
+ForksFrom p child old (Some (Waits waiting)) born new = (born ≡ None) × (new ≡ old)
+
+-- the same by what is held of it
+abbrev pub ForksAt : Pid → Pid → List (Pid × Held) → Option Process → List (Pid × Held) → Type 0
+ForksAt p child old born new = ForksFrom p child old (held_of old p) born new
