@@ -3,6 +3,7 @@ use Rattle.std.proofs.Common.{◌≡◌, ◌⊎◌, ℕ, ◌+◌, refl, sym, ◌
 use Rattle.std.specs.Prelude.{filter, option_map}
 use Rattle.t32_base.specs.declared.process.Pid.{Pid}
 use Rattle.sys_text.specs.declared.system.System.{System}
+use Rattle.proc_state.specs.declared.process.Process.{Process}
 use Rattle.sys_text.specs.Valid.{is_system}
 use Rattle.channel_table.specs.Changes.{CanBeAbsorbed}
 use Rattle.sys_calls.specs.declared.steps.Emission.{Emission}
@@ -39,15 +40,19 @@ use Rattle.cluster_core.proofs.Losing.{follows_lost, can_wait, still_here}
 use Rattle.cluster_core.proofs.LostQueue.{home_stays}
 use Rattle.cluster_core.proofs.Paging.{follows_page, follows_own_page, page_at, page_taken, places_same, was_paged}
 use Rattle.cluster_core.proofs.Synchronising.{follows_sync, home_same, sync_not_alone, sync_taken}
-use Rattle.cluster_core.proofs.Births.{birth_taken, follows_birth, spares_here}
+use Rattle.cluster_core.proofs.Births.{birth_taken, follows_birth, parent_not_here, spares_here}
 use Rattle.cluster_core.specs.Serving.{Serves}
 use Rattle.page_server.specs.Account.{PagerState}
 use Rattle.cluster_core.proofs.Owning.{brings_none, own_after, own_later, own_page}
 use Rattle.cluster_core.proofs.Following.{Left, Next, apart, follows_foreign, follows_own, found_stays, left_of, next_of, told_taken}
 use Rattle.cluster_core.proofs.Beside.{FollowsBeside, all_of, beside_of, built_of}
 use Rattle.cluster_core.proofs.AfterSent.{sent_is}
+use Rattle.cluster_core.specs.Bearing.{BearsChild}
+use Rattle.cluster_core.proofs.BirthQueued.{birth_is, without_birth}
+use Rattle.cluster_core.proofs.BirthTaken.{follows_beside_birth, follows_own_birth}
+use Rattle.cluster_core.proofs.OwningBirths.{own_born}
 use Rattle.cluster_core.proofs.Batching.{all_but, batch_head, unqueued, without_batch}
-use Rattle.cluster_core.proofs.Stayed.{RunsStill, home_now, stays_with_batch, still_itself, still_paged, still_told}
+use Rattle.cluster_core.proofs.Stayed.{RunsStill, stays_with_batch, still_itself, still_paged, still_told}
 use Rattle.cluster_core.proofs.OwnBatch.{follows_own_batch}
 use Rattle.cluster_core.specs.Absorbing.{CanCome}
 use Rattle.cluster_core.specs.Resident.{CanComeTo}
@@ -81,52 +86,52 @@ beside_next which c log e server valid own order now later serves f foreign spar
     by_kind_of (inr (inr (inr (inl of)))) = follows_sync c.system valid log e of now later which c server own serves f foreign
     by_kind_of (inr (inr (inr (inr b)))) = follows_birth c.system valid log e b.parent b.at b.child b.end b.same now later which c server (records_kept c.system log e c.number c.records valid (built_stands c.system (log ++ e ∷ []) later.0) (ap changes_in_place b.same) f.records) own serves f foreign
 
--- ---- beside a batch
+-- ---- beside a batch, or a birth
 
-module _ (c : ClusterView) (log : List Entry) (e : Entry) (y : Synchronises c.system log c) (valid : is_system c.system ≡ true) (now : IsOpen BuiltMayFollow c.system log) (later : IsOpen BuiltMayFollow c.system (log ++ e ∷ []))
+module _ (c : ClusterView) (log : List Entry) (e : Entry) (p : Pid) (process : Process) (there : held_at c p ≡ Some (Runs process)) (valid : is_system c.system ≡ true) (now : IsOpen BuiltMayFollow c.system log) (later : IsOpen BuiltMayFollow c.system (log ++ e ∷ []))
     (f : FollowsBuilt c.system log c) (foreign : is_by_cluster c.number e ≡ false) (spared : is_crash_of c.number (what e) ≡ false) (order : are_rising (moved_by c.places c.number (what e) (records_after (what e) c.records)) ≡ true) where
-  home : HomeHere (placement c.system log) y.pid c.number
-  home = home_now c log e y valid now later f foreign
+  home : HomeHere (placement c.system log) p c.number
+  home = home_here (placement c.system log) c.number (pids_in c.here) p (differ_built c.system log valid now.0) (f.processes).each_once (is_among c.here p (Runs process) there)
 
-  home_is : home_at (placement c.system log) y.pid ≡ Some c.number
+  home_is : home_at (placement c.system log) p ≡ Some c.number
   home_is = ap (option_map (λ (q : Placed). q.home)) home.found ∙ (λ i. Some (record { 0 = eqb-true ((home.placed).home).0 (c.number).0 home.home i }))
 
-  -- the process that synchronises is at home where it was
-  same_home : home_at (placement c.system (log ++ e ∷ [])) y.pid ≡ home_at (placement c.system log) y.pid
+  -- the process that synchronises, or is to fork, is at home where it was
+  same_home : home_at (placement c.system (log ++ e ∷ [])) p ≡ home_at (placement c.system log) p
   same_home = by_kind_of (one_of c.system log e later)
     where
-      by_kind_of : OneOf (what e) → home_at (placement c.system (log ++ e ∷ [])) y.pid ≡ home_at (placement c.system log) y.pid
+      by_kind_of : OneOf (what e) → home_at (placement c.system (log ++ e ∷ [])) p ≡ home_at (placement c.system log) p
       by_kind_of (inl tells) =
           let n = next_of c.system log e tells now later in
-          ap (option_map (λ (q : Placed). q.home)) (found_stays c.system log e n.told y.pid (apart c.system log e n.told c.number y.pid home foreign))
-      by_kind_of (inr (inl of)) = ap (λ places. home_at places y.pid) (places_same c.system valid log e of now later)
-      by_kind_of (inr (inr (inl l))) = home_stays c.system valid log e l.lost l.cause (loss_of c.system log e l now later) c.number (other_lost c e l spared) y.pid home_is ∙ sym home_is
-      by_kind_of (inr (inr (inr (inl of)))) = home_same c.system valid log e of now later y.pid
-      by_kind_of (inr (inr (inr (inr b)))) = (spares_here c.system valid log e b.parent b.at b.child b.end b.same now later c.number foreign y.pid home).home
+          ap (option_map (λ (q : Placed). q.home)) (found_stays c.system log e n.told p (apart c.system log e n.told c.number p home foreign))
+      by_kind_of (inr (inl of)) = ap (λ places. home_at places p) (places_same c.system valid log e of now later)
+      by_kind_of (inr (inr (inl l))) = home_stays c.system valid log e l.lost l.cause (loss_of c.system log e l now later) c.number (other_lost c e l spared) p home_is ∙ sym home_is
+      by_kind_of (inr (inr (inr (inl of)))) = home_same c.system valid log e of now later p
+      by_kind_of (inr (inr (inr (inr b)))) = (spares_here c.system valid log e b.parent b.at b.child b.end b.same now later c.number foreign p home).home
 
   -- it is held as before, with letters more at most
-  same_process : (h : Held) → held_at c y.pid ≡ Some h → h ≡ Runs y.process
-  same_process h there = let same : Some h ≡ Some (Runs y.process) = sym there ∙ y.there in cc
+  same_process : (h : Held) → held_at c p ≡ Some h → h ≡ Runs process
+  same_process h at = let same : Some h ≡ Some (Runs process) = sym at ∙ there in cc
 
-  stays : (h : Held) → held_at (absorbed c e) y.pid ≡ Some h → RunsStill y.process h
+  stays : (h : Held) → held_at (absorbed c e) p ≡ Some h → RunsStill process h
   stays h at = by_kind_of (one_of c.system log e later)
     where
-      by_kind_of : OneOf (what e) → RunsStill y.process h
+      by_kind_of : OneOf (what e) → RunsStill process h
       by_kind_of (inl tells) =
-          let before = was_here (what e) c.here y.pid h tells (ap (λ (v : ClusterView). held_at v y.pid) (sym (told_taken c e tells)) ∙ at) in
-          subst (RunsStill y.process) (sym (before.same ∙ ap (arrival_at (what e) y.pid) (same_process before.was before.there))) (still_told (what e) y.pid y.process tells)
+          let before = was_here (what e) c.here p h tells (ap (λ (v : ClusterView). held_at v p) (sym (told_taken c e tells)) ∙ at) in
+          subst (RunsStill process) (sym (before.same ∙ ap (arrival_at (what e) p) (same_process before.was before.there))) (still_told (what e) p process tells)
       by_kind_of (inr (inl of)) =
-          let before = was_paged (what e) c.here y.pid h of (ap (λ (v : ClusterView). held_at v y.pid) (sym (page_taken c e of)) ∙ at) in
-          subst (RunsStill y.process) (sym (before.same ∙ ap (page_at (what e) y.pid) (same_process before.was before.there))) (still_paged (what e) y.pid y.process of)
+          let before = was_paged (what e) c.here p h of (ap (λ (v : ClusterView). held_at v p) (sym (page_taken c e of)) ∙ at) in
+          subst (RunsStill process) (sym (before.same ∙ ap (page_at (what e) p) (same_process before.was before.there))) (still_paged (what e) p process of)
       by_kind_of (inr (inr (inl l))) =
           let here : with_all_waiting (moved_by c.places c.number (what e) (records_after (what e) c.records)) (here_after (what e) c.here) ≡ with_all_waiting (filter (moves_here (placement c.system log) l.lost c.number) c.records) c.here =
           ap (λ w. with_all_waiting (moved_by c.places c.number w (records_after w c.records)) (here_after w c.here)) l.same ∙ ap (λ places. with_all_waiting (filter (moves_here places l.lost c.number) c.records) c.here) (f.log).places in
           let moved : are_rising (filter (moves_here (placement c.system log) l.lost c.number) c.records) ≡ true =
           ap (λ places. are_rising (filter (moves_here places l.lost c.number) c.records)) (sym (f.log).places) ∙ sym (ap (λ w. are_rising (moved_by c.places c.number w (records_after w c.records))) l.same) ∙ order in
-          let there = still_here c.system valid log e l.lost l.cause (loss_of c.system log e l now later) c.number (other_lost c e l spared) c.records c.here y.pid h f.records moved home (ap (λ here. held_of here y.pid) (sym here) ∙ at) in
-          subst (RunsStill y.process) (sym (same_process h there)) (still_itself y.process)
-      by_kind_of (inr (inr (inr (inl of)))) = subst (RunsStill y.process) (sym (same_process h (ap (λ (v : ClusterView). held_at v y.pid) (sym (sync_taken c e of)) ∙ at))) (still_itself y.process)
-      by_kind_of (inr (inr (inr (inr b)))) = subst (RunsStill y.process) (sym (same_process h (ap (λ (v : ClusterView). held_at v y.pid) (sym (birth_taken c e b.parent b.at b.child b.end b.same)) ∙ at))) (still_itself y.process)
+          let still = still_here c.system valid log e l.lost l.cause (loss_of c.system log e l now later) c.number (other_lost c e l spared) c.records c.here p h f.records moved home (ap (λ here. held_of here p) (sym here) ∙ at) in
+          subst (RunsStill process) (sym (same_process h still)) (still_itself process)
+      by_kind_of (inr (inr (inr (inl of)))) = subst (RunsStill process) (sym (same_process h (ap (λ (v : ClusterView). held_at v p) (sym (sync_taken c e of)) ∙ at))) (still_itself process)
+      by_kind_of (inr (inr (inr (inr b)))) = subst (RunsStill process) (sym (same_process h (ap (λ (v : ClusterView). held_at v p) (sym (birth_taken c e b.parent b.at b.child b.end b.same (parent_not_here c.system valid log e b.parent b.at b.child b.end b.same now later c.number foreign c.here (f.processes).each_once))) ∙ at))) (still_itself process)
 
 -- ---- the whole
 
@@ -138,13 +143,17 @@ absorbs c e server valid own order serves log now later ready = by_ready ready
     serves_there : c.places ≡ placement c.system log → Serves (placement c.system log) e c.server server
     serves_there same = subst (λ before. Serves before e c.server server) same serves
 
-    foreign : (f : FollowsBuilt c.system log c) → is_by_cluster c.number e ≡ false → is_crash_of c.number (what e) ≡ false → IsQueued c.queue ⊎ Synchronises c.system log c → FollowsBuilt c.system (log ++ e ∷ []) (with_server server (absorbed c e))
+    foreign : (f : FollowsBuilt c.system log c) → is_by_cluster c.number e ≡ false → is_crash_of c.number (what e) ≡ false → IsQueued c.queue ⊎ Synchronises c.system log c ⊎ BearsChild c.system log c → FollowsBuilt c.system (log ++ e ∷ []) (with_server server (absorbed c e))
     foreign f other spared (inl alone) =
         built_of c.system (log ++ e ∷ []) (with_server server (absorbed c e)) (beside_next all_of c log e server valid own order now later (serves_there (f.log).places) (beside_of c.system log c f alone) other spared)
-    foreign f other spared (inr y) =
+    foreign f other spared (inr (inr b)) =
+        follows_beside_birth c log e b valid now later f other spared server
+        (beside_next all_of (unqueued c) log e server valid own order now later (serves_there (f.log).places) (without_birth c.system log c b valid now f) other spared)
+        (same_home c log e b.pid b.process b.there valid now later f other spared order) (stays c log e b.pid b.process b.there valid now later f other spared order)
+    foreign f other spared (inr (inl y)) =
         stays_with_batch c log e y valid now later f other (with_server server (absorbed c e)) refl refl refl
         (beside_next (all_but y.pid) (unqueued c) log e server valid own order now later (serves_there (f.log).places) (without_batch c.system log c y valid now f) other spared)
-        (same_home c log e y valid now later f other spared order) (stays c log e y valid now later f other spared order)
+        (same_home c log e y.pid y.process y.there valid now later f other spared order) (stays c log e y.pid y.process y.there valid now later f other spared order)
 
     sent : (s : StandsBetween FollowsBuilt c.system log e c) → Left c log e → OneOf (what e) → FollowsBuilt c.system (log ++ e ∷ []) (with_server server (absorbed c e))
     sent s l (inl tells) =
@@ -158,9 +167,10 @@ absorbs c e server valid own order serves log now later ready = by_ready ready
     sent s l (inr (inr (inr (inl of)))) = absurd (true≢false (sym l.lone ∙ sync_not_alone (what e) of))
     sent s l (inr (inr (inr (inr b)))) = absurd (true≢false (sym l.lone ∙ ap is_lone b.same))
 
-    own_post : (s : StandsBetween FollowsBuilt c.system log e c) → IsQueued (s.before).queue ⊎ Synchronises c.system log s.before → FollowsBuilt c.system (log ++ e ∷ []) (with_server server (absorbed c e))
+    own_post : (s : StandsBetween FollowsBuilt c.system log e c) → IsQueued (s.before).queue ⊎ Synchronises c.system log s.before ⊎ BearsChild c.system log s.before → FollowsBuilt c.system (log ++ e ∷ []) (with_server server (absorbed c e))
     own_post s (inl alone) = sent s (left_of c log e s alone) (one_of c.system log e later)
-    own_post s (inr y) = follows_own_batch c log e server valid own now later s y serves_log
+    own_post s (inr (inr b)) = follows_own_birth c log e server valid own now later s b (serves_there (ap (λ (d : ClusterView). d.places) (s.sent ∙ sent_is s.before (s.before).queue) ∙ ((s.followed).log).places))
+    own_post s (inr (inl y)) = follows_own_batch c log e server valid own now later s y serves_log
       where
         serves_log : Serves (placement c.system log) e c.server server
         serves_log = serves_there (ap (λ (d : ClusterView). d.places) (s.sent ∙ sent_is s.before (s.before).queue) ∙ ((s.followed).log).places)
@@ -231,14 +241,15 @@ may_come c e valid r = by_loss (one_of c.system r.log e r.open_next)
     by_ready p i bytes is (inl f) h there = came c.queue p i bytes is (home p h ((f.0).processes).each_once there) h (((f.0).processes).held p h there)
     by_ready p i bytes is (inr s) h there = by_queue (s.followed).queued
       where
-        by_queue : IsQueued (s.before).queue ⊎ Synchronises c.system r.log s.before → CanComeTo i bytes h
+        by_queue : IsQueued (s.before).queue ⊎ Synchronises c.system r.log s.before ⊎ BearsChild c.system r.log s.before → CanComeTo i bytes h
         by_queue (inl alone) =
             let l = left_of c r.log e s alone in
             let here : (l.before).here ≡ c.here = sym (ap (λ (d : ClusterView). d.here) l.same) in
             let number : (l.before).number ≡ c.number = sym (ap (λ (d : ClusterView). d.number) l.same) in
             let once = ap (λ hs. rising (pids_in hs)) (sym here) ∙ ((l.followed).processes).each_once ∙ ap (λ k. rising (home_pids c.system r.log k)) number in
             came (l.before).queue p i bytes is (home p h once there) h (((l.followed).processes).held p h (ap (λ hs. held_of hs p) here ∙ there))
-        by_queue (inr y) = absurd (true≢false (sym (batch_head c.system r.log e s.before y s.head) ∙ ap is_of_sync is))
+        by_queue (inr (inl y)) = absurd (true≢false (sym (batch_head c.system r.log e s.before y s.head) ∙ ap is_of_sync is))
+        by_queue (inr (inr b)) = absurd (true≢false (sym (ap is_of_page is) ∙ ap is_of_page (birth_is c.system r.log e s.before b s.head)))
 
     page : (w : What) → is_of_page w ≡ true → what e ≡ w → CanCome w c.here
     page = by_page (λ w. what e ≡ w → CanCome w c.here) (λ pid index is. tt) (λ pid index bytes is. by_ready pid index bytes is r.ready)
@@ -272,7 +283,7 @@ ready_own c e r own = by_loss (one_of c.system r.log e r.open_next)
     by_loss (inr (inl of)) = by_page (λ w. AllOwn (c.cursor + 1) (here_after w c.here)) (λ pid index. later) (λ pid index bytes. own_page (c.cursor + 1) pid index bytes c.here later) (what e) of
     by_loss (inr (inr (inl l))) = subst (λ w. AllOwn (c.cursor + 1) (here_after w c.here)) (sym l.same) later
     by_loss (inr (inr (inr (inl of)))) = by_sync (λ w. AllOwn (c.cursor + 1) (here_after w c.here)) (λ pid at index bytes. later) (λ pid small read. later) (what e) of
-    by_loss (inr (inr (inr (inr b)))) = subst (λ w. AllOwn (c.cursor + 1) (here_after w c.here)) (sym b.same) later
+    by_loss (inr (inr (inr (inr b)))) = subst (λ w. AllOwn (c.cursor + 1) (here_after w c.here)) (sym b.same) (own_born (c.cursor + 1) b.parent b.child c.here later)
 
 -- what is here as it was, or nothing, is its own
 pub own_either : (cursor : ℕ) (was now : List (Pid × Held)) → AllOwn cursor was → (now ≡ was) ⊎ (now ≡ []) → AllOwn cursor now

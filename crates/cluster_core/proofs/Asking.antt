@@ -63,7 +63,7 @@ pub ran_lacks : (limits : Limits) (by : ClusterNo) (was now : Held) (r : Result 
 ran_lacks limits by was now (Ok Moved) ran some = absurd (not_moved ran.silent ran.between now ran.runs some)
 ran_lacks limits by was now (Ok (Sent sending)) ran some = absurd (false≢true (ap (λ (h : Held). is_some (page_lacked h)) (sym ran.new_is) ∙ some))
 ran_lacks limits by was now (Ok (Synced posts)) ran some = absurd (false≢true (ap (λ (h : Held). is_some (page_lacked h)) (sym ran.new_is) ∙ some))
-ran_lacks limits by was now (Ok Forks) ran some = absurd (false≢true (ap (λ (h : Held). is_some (page_lacked h)) (sym ran.new_is) ∙ some))
+ran_lacks limits by was now (Ok (Forks forking)) ran some = absurd (false≢true (ap (λ (h : Held). is_some (page_lacked h)) (sym ran.new_is) ∙ some))
 ran_lacks limits by was now (Ok Stuck) ran some = ap (λ (h : Held). is_some (page_lacked h)) (sym ran.1) ∙ some
 ran_lacks limits by was now (Err fault) ran some = ap (λ (h : Held). is_some (page_lacked h)) (sym ran) ∙ some
 

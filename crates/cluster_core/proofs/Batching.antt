@@ -1,5 +1,5 @@
 -- A cluster that follows a log, where the rest of a batch is queued: beside the batch, and with it.
-use Rattle.std.proofs.Common.{◌≡◌, ℕ, ◌≤◌, refl, sym, ◌∙◌, ap, subst, arith, List, [], ◌∷◌, ◌++◌, Bool, true, false, cond, not, eqb-true, Some, None, true≢false, inr}
+use Rattle.std.proofs.Common.{◌≡◌, ℕ, ◌≤◌, refl, sym, ◌∙◌, ap, subst, arith, List, [], ◌∷◌, ◌++◌, Bool, true, false, cond, not, eqb-true, Some, None, true≢false, inl, inr}
 use Rattle.std.specs.Prelude.{is_some, option_map}
 use Rattle.std.specs.List.{list_all}
 use Rattle.t32_base.specs.declared.process.Pid.{Pid}
@@ -147,7 +147,7 @@ module _ (system : System) (log : List Entry) (c : ClusterView) (y : Synchronise
       own = ap (λ ps. list_all_own ps) y.posts ∙ batch_own c.number p s y.read y.indices;
       legal = subst (IsQueueLegal UnlostMayFollow system log) (sym y.posts) (batch_legal c.number p s y.read system log y.indices valid legal (f.pages p (Runs y.process) y.there refl) y.within y.may);
     };
-    queued = inr y;
+    queued = inr (inl y);
     steps = record { counted = (f.steps).counted };
     limits = f.limits;
     pages = f.pages;

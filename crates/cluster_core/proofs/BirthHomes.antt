@@ -4,6 +4,7 @@ use Rattle.std.specs.Prelude.{filter, find}
 use Rattle.std.specs.Option.{option_or}
 use Rattle.std.proofs.lemmas.List.Elements.{filter-append}
 use Rattle.std.proofs.lemmas.List.Folds.{find-append}
+use Rattle.std.proofs.lemmas.List.{map-append}
 use Rattle.t32_base.specs.declared.process.Pid.{Pid}
 use Rattle.t32_base.specs.declared.process.ClusterNo.{ClusterNo}
 use Rattle.bus_msg.specs.declared.placed.Placed.{Placed}
@@ -29,3 +30,10 @@ child_elsewhere k places child (Some q) away =
     ap (λ qs. map (λ (q : Placed). (q.pid).0) qs) (filter-append (λ (r : Placed). same_cluster r.home k && not r.ended) places.placed (child_of q child ∷ []))
     ∙ ap (λ b. map (λ (q : Placed). (q.pid).0) (filter (λ (r : Placed). same_cluster r.home k && not r.ended) places.placed ++ cond (b && true) (child_of q child ∷ []) [])) (away q refl)
     ∙ ap (λ qs. map (λ (q : Placed). (q.pid).0) qs) (append-nil (filter (λ (r : Placed). same_cluster r.home k && not r.ended) places.placed))
+
+-- where it is this one, so is the child, behind those that were
+pub child_here : (k : ClusterNo) (places : Places) (child : Pid) (q : Placed) → same_cluster q.home k ≡ true → pids_home k (with_birth places child (Some q)).placed ≡ pids_home k places.placed ++ child.0 ∷ []
+child_here k places child q home =
+    ap (λ qs. map (λ (q : Placed). (q.pid).0) qs) (filter-append (λ (r : Placed). same_cluster r.home k && not r.ended) places.placed (child_of q child ∷ []))
+    ∙ ap (λ b. map (λ (q : Placed). (q.pid).0) (filter (λ (r : Placed). same_cluster r.home k && not r.ended) places.placed ++ cond (b && true) (child_of q child ∷ []) [])) home
+    ∙ map-append (λ (q : Placed). (q.pid).0) (filter (λ (r : Placed). same_cluster r.home k && not r.ended) places.placed) (child_of q child ∷ [])

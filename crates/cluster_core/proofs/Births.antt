@@ -36,7 +36,11 @@ use Rattle.backup_records.specs.Records.{record_after, records_after, with_child
 use Rattle.record_laws.specs.Kept.{KeepsRecords}
 use Rattle.mark_laws.specs.Beside.{is_some_page}
 use Rattle.page_server.specs.Account.{PagerState}
-use Rattle.cluster_core.specs.View.{ClusterView, next_count, with_server}
+use Rattle.cert_sched.specs.Parts.{rising}
+use Rattle.cert_sched.specs.Rests.{home_pids}
+use Rattle.cluster_core.specs.Bearing.{with_fork}
+use Rattle.cluster_core.specs.Residents.{pids_in}
+use Rattle.cluster_core.specs.View.{ClusterView, Held, held_of, next_count, with_server}
 use Rattle.cluster_core.specs.Parts.{AllOwn}
 use Rattle.cluster_core.specs.Recovered.{left_by, moved_by, with_all_waiting}
 use Rattle.cluster_core.specs.Follows.{IsOpen}
@@ -47,15 +51,15 @@ use Rattle.cert_sched.proofs.BirthClusters.{birth_living}
 use Rattle.cert_sched.proofs.BirthPlaces.{born_beside}
 use Rattle.cluster_core.proofs.BirthHomes.{child_elsewhere}
 use Rattle.cluster_core.proofs.Following.{by_home_of, by_one}
-use Rattle.cluster_core.proofs.Here.{pid_same}
-use Rattle.cluster_core.proofs.Homes.{HomeHere, differ_built, pids_home}
+use Rattle.cluster_core.proofs.Here.{is_among, pid_same}
+use Rattle.cluster_core.proofs.Homes.{HomeHere, differ_built, home_here, pids_home}
 use Rattle.cluster_core.proofs.Spared.{BringsNothing, Spares, emission_stays, follows_passed, passed, silent_stays}
 use Rattle.cluster_core.proofs.Telling.{done_is}
 
 -- ---- what the cluster is then
 
-pub birth_taken : (c : ClusterView) (e : Entry) (parent : Pid) (at : ℕ) (child : Pid) (end : ℕ) → what e ≡ Birth parent at child end → absorbed c e ≡ passed c e
-birth_taken c e parent at child end is = ap taken is ∙ sym (ap spared is)
+pub birth_taken : (c : ClusterView) (e : Entry) (parent : Pid) (at : ℕ) (child : Pid) (end : ℕ) → what e ≡ Birth parent at child end → held_of c.here parent ≡ None → absorbed c e ≡ passed c e
+birth_taken c e parent at child end is away = ap taken is ∙ ap (λ o. record (spared (Birth parent at child end)) { here = option_map_or (λ (h : Held). with_fork parent child h c.here) o c.here }) away ∙ sym (ap spared is)
   where
     taken : What → ClusterView
     taken w = record c {
@@ -121,6 +125,14 @@ module _ (system : System) (valid : is_system system ≡ true) (log : List Entry
             let one : q ≡ r = cc in
             ap (λ (x : Placed). same_cluster x.home k) one ∙ by_home r found (same_cluster r.home k) refl
 
+    -- so it is not here
+    pub parent_not_here : (here : List (Pid × Held)) → rising (pids_in here) ≡ rising (home_pids system log k) → held_of here parent ≡ None
+    parent_not_here here once = by_found (held_of here parent) refl
+      where
+        by_found : (o : Option Held) → held_of here parent ≡ o → o ≡ None
+        by_found None none = refl
+        by_found (Some h) there = absurd (not_parent parent (home_here places k (pids_in here) parent differ once (is_among here parent h there)) refl)
+
     pids_same : pids_home k (placement system later).placed ≡ pids_home k places.placed
     pids_same = ap (λ (places : Places). pids_home k places.placed) places_later ∙ child_elsewhere k places child (placed_at places parent) parent_away
 
@@ -160,4 +172,4 @@ module _ (system : System) (valid : is_system system ≡ true) (log : List Entry
   pub follows_birth : (which : Pid → Bool) (c : ClusterView) (server : Option PagerState) → KeepsRecords system later c.number (records_after (what e) c.records) → AllOwn c.cursor c.here → Serves places e c.server server → FollowsBeside which system log c → is_by_cluster c.number e ≡ false
       → FollowsBeside which system later (with_server server (absorbed c e))
   follows_birth which c server records own serves f foreign =
-      follows_passed system valid log e now next brings_nothing which c server (birth_taken c e parent at child end is) (spares_here c.number foreign) (pids_same c.number foreign) records own serves f foreign
+      follows_passed system valid log e now next brings_nothing which c server (birth_taken c e parent at child end is (parent_not_here c.number foreign c.here (f.processes).each_once)) (spares_here c.number foreign) (pids_same c.number foreign) records own serves f foreign

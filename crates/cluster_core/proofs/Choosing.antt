@@ -227,5 +227,5 @@ module _ (by : ClusterNo) (n : ℕ) (was old given new : ResidentsView) (limits 
   chosen_turn Moved takes ran = took Moved takes (moves_can old.limits 64 takes.was takes.now takes.ran)
   chosen_turn (Sent sending) takes ran = took (Sent sending) takes (sends_can old.limits 64 takes.was sending takes.now takes.ran)
   chosen_turn (Synced posts) takes ran = took (Synced posts) takes (syncs_can old.limits by takes.was posts takes.now takes.ran)
-  chosen_turn Forks takes ran = took Forks takes (fork_can old.limits 64 takes.was takes.now takes.ran)
+  chosen_turn (Forks forking) takes ran = took (Forks forking) takes (fork_can old.limits 64 takes.was forking takes.now takes.ran)
   chosen_turn Stuck takes ran = absurd (ran refl)

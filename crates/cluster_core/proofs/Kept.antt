@@ -405,7 +405,7 @@ module _ (limits : Limits) (by : ClusterNo) (slots new : Slab Held) (n key : ℕ
   given_turn (Ok Moved) ran = took Moved ran
   given_turn (Ok (Sent sending)) ran = took (Sent sending) ran
   given_turn (Ok (Synced posts)) ran = took (Synced posts) ran
-  given_turn (Ok Forks) ran = took Forks ran
+  given_turn (Ok (Forks forking)) ran = took (Forks forking) ran
   given_turn (Ok Stuck) ran =
       (ap (is_stuck_at limits (pid_of n)) (sym same) ∙ passes_there (λ p. is_stuck limits p) slots n key was keys (one_key n key keys kept.ordered kept.apart found) there (ap not ran.0), written_back slots new key was now keys there updates ran.1 ∙ same)
   given_turn (Err fault) ran = written_back slots new key was now keys there updates ran ∙ same

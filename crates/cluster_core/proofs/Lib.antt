@@ -29,6 +29,7 @@ mod Beside
 mod BatchPosts
 mod Batching
 mod Stayed
+mod BirthStayed
 mod Waiting
 pub mod MarksBegin
 mod Paging
@@ -37,6 +38,17 @@ mod Synchronising
 mod BirthHomes
 mod StatedNow
 mod Births
+mod BirthQueued
+mod OwnBirth
+mod BornHere
+mod BeginBirth
+mod BirthTurn
+mod Serials
+mod OwningBirths
+mod BirthTaken
+mod Bearable
+mod Forked
+mod WorkedOn
 mod OwnBatch
 pub mod Served
 pub mod Counted

@@ -1,11 +1,12 @@
 -- A cluster that works has less left to do: fewer steps, or a synchronisation fewer before the next of them; or as much where it answers or asks for a page.
-use Rattle.std.proofs.Common.{◌≡◌, ◌⊎◌, ℕ, ◌+◌, ◌*◌, ◌≤◌, refl, sym, ◌∙◌, ap, subst, arith, List, [], ◌∷◌, Bool, true, false, cond, ◌||◌, eqb, ltb, eqb-true, eq-eqb, true≢false, Some, inl, inr}
+use Rattle.std.proofs.Common.{◌≡◌, ◌⊎◌, ℕ, zero, suc, length, ◌+◌, ◌*◌, ◌≤◌, refl, sym, ◌∙◌, ap, subst, arith, List, [], ◌∷◌, Bool, true, false, cond, ◌||◌, eqb, ltb, eqb-true, eq-eqb, true≢false, Some, inl, inr}
 use Rattle.std.specs.Prelude.{find, option_map}
 use Rattle.std.specs.List.{list_any, sum_by}
 use Rattle.std.proofs.lemmas.Bool.Decides.{nat_tests}
 use Rattle.std.proofs.lemmas.List.Sums.{sum_by-cons}
 use Rattle.t32_base.specs.declared.process.Pid.{Pid}
 use Rattle.t32_base.specs.declared.process.ClusterNo.{ClusterNo}
+use Rattle.t32_base.specs.declared.process.Counts.{Counts}
 use Rattle.sys_text.specs.declared.system.System.{System}
 use Rattle.sys_text.specs.Valid.{is_system}
 use Rattle.sys_text.proofs.Bounds.{system_bounds}
@@ -27,12 +28,15 @@ use Rattle.cert_sched.proofs.RollLaws.{all_roll, two_apart}
 use Rattle.cluster_core.specs.declared.worked.Worked.TheVariants.{Moved, Queued}
 use Rattle.quanta.specs.declared.limits.Limits.{Limits}
 use Rattle.quanta.specs.Limited.{is_due}
-use Rattle.roll_forward.specs.Advancing.{going}
+use Rattle.roll_forward.specs.Advancing.{Going, going, rolled_on}
+use Rattle.write_count.specs.Counting.{no_counts}
+use Rattle.quanta.specs.Quantum.{RunsOn}
 use Rattle.roll_forward.proofs.RolledLaws.{rolled_keeps}
 use Rattle.cluster_core.specs.View.{ClusterView, Held, Runs, Rolls, Waits, asked_held, has_moved, held_load, held_of, limits_of, load, process_load}
 use Rattle.cluster_core.specs.Follows.{FollowsBuilt}
-use Rattle.cluster_core.specs.Calls.{FollowsSome, QueuesBatch, QueuesFetch, QueuesOne, WorkIs}
-use Rattle.cluster_core.specs.Quantum.{RollsTo, RunsTo}
+use Rattle.cluster_core.specs.declared.quantum.Forking.{Forking}
+use Rattle.cluster_core.specs.Calls.{FollowsSome, QueuesBatch, QueuesBirth, QueuesFetch, QueuesOne, WorkIs}
+use Rattle.cluster_core.specs.Quantum.{ComesToFork, RollsTo, RunsTo}
 use Rattle.cluster_core.specs.Residents.{pids_in, with_changed}
 
 -- ---- no pid stands twice
@@ -193,6 +197,41 @@ batch_lightens old new valid f one =
     let less : held_load (Runs (synced one.process)) + 1 ≤ held_load (Runs one.process) = omega (arith, before, after) in
     subst (λ (c : ClusterView). load c + 1 ≤ load old) (sym one.rest) (one_lighter one.pid (Runs one.process) (Runs (synced one.process)) 1 old.here (held_apart old valid f) one.there less)
 
+-- where no step was made all is as it was
+same_load : (p q : Process) (counts left : Counts) (births unborn : List Pid) → rolled_on 0 (going p counts births) ≡ Some (going q left unborn) → q.since ≡ p.since → process_load q ≡ process_load p
+unfolding rolled_on
+same_load p q counts left births unborn is since =
+    let same : going p counts births ≡ going q left unborn = cc in
+    λ i. load_of (sym same i) (since i)
+  where
+    load_of : Going → ℕ → ℕ
+    load_of g since = 2 * weight ((g.state).small) + cond (ltb since ((g.state).small).steps || ltb 0 (length g.read)) 1 0
+
+-- steps that are withheld leave no more
+rolled_load : (n : ℕ) (was : Held) (q : Process) → RollsTo n was (Runs q) → held_load (Runs q) ≤ held_load was
+rolled_load n (Runs p) q rolls = omega (arith, ap process_load rolls.1)
+rolled_load zero (Rolls p counts births) q rolls = omega (arith, same_load p q counts rolls.0 births rolls.1 (rolls.2).rolled (rolls.2).since)
+rolled_load (suc n) (Rolls p counts births) q rolls =
+    let fewer : held_weight (Runs q) + 1 ≤ held_weight (Rolls p counts births) = omega (arith, rolled_leaves (suc n) (Rolls p counts births) (Runs q) rolls) in
+    omega (arith, fewer_loads (Rolls p counts births) (Runs q) fewer)
+rolled_load n (Waits waiting) q rolls = absurd rolls
+
+-- nor do silent ones
+silent_load : (m : ℕ) (p q : Process) → RunsOn m p q → held_load (Runs q) ≤ held_load (Runs p)
+silent_load zero p q runs = omega (arith, same_load p q no_counts no_counts [] [] (runs.ran no_counts []) runs.since)
+silent_load (suc m) p q runs =
+    let fewer : held_weight (Runs q) + 1 ≤ held_weight (Runs p) = omega (arith, silently_leaves (suc m) (state_of p) (state_of q) runs.silent) in
+    omega (arith, fewer_loads (Runs p) (Runs q) fewer)
+
+forks_no_heavier : (limits : Limits) (was : Held) (forking : Forking) (new : Held) → (k : ComesToFork limits 64 was forking new) → held_load (Runs k.now) + 0 ≤ held_load was
+forks_no_heavier limits was forking new k = omega (arith, rolled_load k.rolled was k.between k.rolls, silent_load k.silent k.between k.now k.runs)
+
+-- one that came to its fork has no more left
+birth_lightens : (old new : ClusterView) → is_system old.system ≡ true → FollowsSome old → QueuesBirth old new → load new ≤ load old
+birth_lightens old new valid f one =
+    let less : sum_held (with_changed one.pid (Runs (one.comes).now) old.here) + 0 ≤ sum_held old.here = one_lighter one.pid one.was (Runs (one.comes).now) 0 old.here (held_apart old valid f) one.there (forks_no_heavier (limits_of old.system) one.was one.forking one.now one.comes) in
+    omega (arith, less, ap load one.rest)
+
 -- a page that is asked for is no step
 asked_load : (h : Held) → held_load (asked_held h) ≡ held_load h
 asked_load (Runs p) = refl
@@ -212,6 +251,7 @@ queued_lightens old new valid f (inl answer) = omega (arith, ap load answer.rest
 queued_lightens old new valid f (inr (inl asked)) = asked_lightens old new valid f asked.1
 queued_lightens old new valid f (inr (inr acted)) = by_kind acted.2
   where
-    by_kind : QueuesOne old new ⊎ QueuesBatch old new → load new ≤ load old
+    by_kind : QueuesOne old new ⊎ QueuesBatch old new ⊎ QueuesBirth old new → load new ≤ load old
     by_kind (inl sent) = omega (arith, sent_lightens old new valid f sent)
-    by_kind (inr batch) = omega (arith, batch_lightens old new valid f batch)
+    by_kind (inr (inl batch)) = omega (arith, batch_lightens old new valid f batch)
+    by_kind (inr (inr birth)) = birth_lightens old new valid f birth

@@ -34,6 +34,7 @@ use Rattle.cluster_core.specs.Parts.{AllOwn}
 use Rattle.cluster_core.specs.Queue.{Nothing, IsQueued, IsQueueLegal, is_rebackup, move_of, state_by, state_now, with_queue}
 use Rattle.cluster_core.specs.Holds.{IsHeldAs, is_fetch_queued, CarriesMarks, MarkedIfThere, unended_process}
 use Rattle.cluster_core.specs.Syncing.{Synchronises}
+use Rattle.cluster_core.specs.Bearing.{BearsChild}
 use Rattle.cluster_core.specs.Follows.{FollowsBuilt, IsOpen, StandsBetween}
 use Rattle.cluster_core.specs.Calls.{absorbed}
 use Rattle.cluster_core.specs.Serving.{Serves}
@@ -146,7 +147,7 @@ module _ (system : System) (valid : is_system system ≡ true) (log : List Entry
       own = (and_parts (is_from b.number head.by) _ (subst (λ ps. list_all (λ (post : Post). is_from b.number post.by) ps ≡ true) posts (f.queue).own)).1;
       legal = (subst (IsQueueLegal UnlostMayFollow system log) posts (f.queue).legal).1;
     };
-    queued = queued;
+    queued = widened queued;
     steps = record { counted = λ kept. counted_own system log e b.number b.tried b.steps tried ((f.steps).counted (lost_before log e b.number kept)) };
     limits = f.limits;
     pages = λ q h at runs. pages_after system log e q b.number valid now.0 (stands system valid log e of now next) (differ system valid log e of now next) (home q h at) (loses_none system valid log e of now next b.number) (f.pages q h at runs);
@@ -155,6 +156,10 @@ module _ (system : System) (valid : is_system system ≡ true) (log : List Entry
     accounts = accounts_on system log e b (with_server server (passed (left b rest) e)) serves refl calls f.accounts;
     disk = ((f.disk).0, ahead_after (placement system log) e b.server server serves (f.disk).1);
   }
+    where
+      widened : IsQueued rest ⊎ Synchronises system later (with_server server (passed (left b rest) e)) → IsQueued rest ⊎ Synchronises system later (with_server server (passed (left b rest) e)) ⊎ BearsChild system later (with_server server (passed (left b rest) e))
+      widened (inl alone) = inl alone
+      widened (inr y) = inr (inl y)
 
 -- ---- the whole
 

@@ -22,7 +22,8 @@ use Rattle.cluster_core.specs.Residents.{with_changed, are_stuck, is_stuck, HasR
 use Rattle.cluster_core.specs.Parts.{IsHeldOwn, IsOwn, AllOwn}
 use Rattle.cluster_core.specs.Calls.{are_at_rest, here_after, is_at_rest, with_page_come}
 use Rattle.cluster_core.specs.declared.quantum.Sending.{Sending}
-use Rattle.cluster_core.specs.Quantum.{Moves, RollsTo, RunsTo, Sends}
+use Rattle.cluster_core.specs.declared.quantum.Forking.{Forking}
+use Rattle.cluster_core.specs.Quantum.{ComesToFork, Moves, RollsTo, RunsTo, Sends}
 use Rattle.roll_forward.specs.Advancing.{going, rolled_on}
 use Rattle.roll_forward.proofs.RolledLaws.{rolled_keeps}
 use Rattle.cert_sched.specs.Built.{tells_or_closes}
@@ -162,6 +163,10 @@ own_sent limits cursor pid was sending new own s =
       quiet = emits_quiet (state_of s.before) (state_of s.now) sending.emission s.sends (silently_quiet s.silent (state_of s.between) (state_of s.before) (s.runs).silent mine.quiet);
       arrived = subst (λ n. n ≤ cursor) (sym (last.next ∙ counts.next)) mine.arrived;
     }
+
+-- so is one that came to its fork
+pub own_at_fork : (limits : Limits) (cursor : ℕ) (pid : Pid) (was : Held) (forking : Forking) (new : Held) → IsHeldOwn cursor pid was → (k : ComesToFork limits 64 was forking new) → IsOwn cursor pid k.now
+own_at_fork limits cursor pid was forking new own k = own_moved cursor pid k.between k.now k.silent (own_between cursor pid k.rolled was (Runs k.between) own k.rolls) (k.runs).silent
 
 -- one that synchronised is its own as before
 pub own_synced : (cursor : ℕ) (pid : Pid) (p : Process) → IsOwn cursor pid p → IsOwn cursor pid (synced p)

@@ -12,6 +12,7 @@ use Rattle.bus_msg.specs.declared.entry.Post.{Post}
 use Rattle.quanta.specs.declared.limits.Limits.{Limits}
 use Rattle.quanta.specs.Limited.{is_due}
 use Rattle.quanta.specs.Quantum.{RunsOn}
+use Rattle.cluster_core.specs.declared.quantum.Forking.{Forking}
 use Rattle.cluster_core.specs.declared.quantum.Sending.{Sending}
 use Rattle.cluster_core.specs.View.{Held, Runs, Rolls, Waits, can_act}
 use Rattle.cluster_core.specs.Quantum.{ComesToFork, Moves, RollsTo, RunsTo, Sends, Syncs}
@@ -112,13 +113,13 @@ sends_can limits most (Rolls p counts births) sending new s = refl
 sends_can limits most (Waits waiting) sending new s = absurd s.rolls
 
 -- who came to its fork could act
-pub fork_can : (limits : Limits) (most : ℕ) (old new : Held) → ComesToFork limits most old new → can_act limits old ≡ true
-fork_can limits most (Runs p) new s =
+pub fork_can : (limits : Limits) (most : ℕ) (old : Held) (forking : Forking) (new : Held) → ComesToFork limits most old forking new → can_act limits old ≡ true
+fork_can limits most (Runs p) forking new s =
     let rolls = s.rolls in
     let alone : RunsOn s.silent p s.now = subst (λ (x : Process). RunsOn s.silent x s.now) rolls.1 s.runs in
     step_acts limits p (forks_has s.silent (state_of p) (state_of s.now) alone.silent s.forks)
-fork_can limits most (Rolls p counts births) new s = refl
-fork_can limits most (Waits waiting) new s = absurd s.rolls
+fork_can limits most (Rolls p counts births) forking new s = refl
+fork_can limits most (Waits waiting) forking new s = absurd s.rolls
 
 -- who synchronised could act
 pub syncs_can : (limits : Limits) (by : ClusterNo) (old : Held) (posts : List Post) (new : Held) → Syncs limits by old posts new → can_act limits old ≡ true

@@ -4,6 +4,7 @@ use Rattle.std.specs.List.{list_all}
 use Rattle.std.proofs.lemmas.Bool.{and_from}
 use Rattle.t32_base.specs.declared.process.Pid.{Pid}
 use Rattle.proc_state.specs.declared.process.Process.{Process}
+use Rattle.proc_state.specs.State.{state_of}
 use Rattle.sync_point.specs.Batch.{batch, marked_pages, page_post, sync_post, synced}
 use Rattle.sys_calls.specs.declared.steps.Emission.{Emission}
 use Rattle.sys_calls.specs.declared.steps.Emission.TheVariants.{Mail as SentMail, Exit as SentExit}
@@ -17,7 +18,8 @@ use Rattle.t32_base.specs.declared.process.ClusterNo.{ClusterNo}
 use Rattle.page_server.specs.Account.{PagerState}
 use Rattle.cluster_core.specs.declared.quantum.Sending.{Sending}
 use Rattle.cluster_core.specs.declared.quantum.Quantum.{Quantum}
-use Rattle.cluster_core.specs.declared.quantum.Quantum.TheVariants.{Moved as QuantumMoved, Sent as QuantumSent, Synced as QuantumSynced}
+use Rattle.cluster_core.specs.declared.quantum.Forking.{Forking}
+use Rattle.cluster_core.specs.declared.quantum.Quantum.TheVariants.{Moved as QuantumMoved, Sent as QuantumSent, Synced as QuantumSynced, Forks as QuantumForks}
 use Rattle.cluster_core.specs.declared.worked.Worked.{Worked}
 use Rattle.cluster_core.specs.declared.worked.Worked.TheVariants.{Moved, Queued, Waits, Rests}
 use Rattle.cluster_core.specs.View.{ClusterView, Held, Runs, asked_held, counted_once, held_at, limits_of, next_count}
@@ -25,14 +27,16 @@ use Rattle.plain_kernel.specs.Maps.{pid_of}
 use Rattle.cluster_core.specs.Residents.{ChosenTurn, ResidentsView, TakesTurn, are_stuck, with_changed}
 use Rattle.cluster_core.specs.Parts.{AllOwn}
 use Rattle.cluster_core.specs.Calls.{GoesOn, OwesNothing, WorkIs}
-use Rattle.cluster_core.specs.Quantum.{Sends, Syncs, post_told}
-use Rattle.cluster_core.specs.Work.{AnswersNext, AsksNext, NoPages, QueuesAnswer, QueuesFetch, RunsNext, WorksOn, any_lacks, any_waits, fetch_post, owes_answer}
+use Rattle.cluster_core.specs.Bearing.{birth_post}
+use Rattle.cluster_core.specs.Quantum.{ComesToFork, Sends, Syncs, forking_of, post_told}
+use Rattle.cluster_core.specs.Work.{AnswersNext, AsksNext, NoPages, QueuesAnswer, QueuesFetch, RunsNext, WorksOn, any_lacks, any_waits, birth_told, child_of, fetch_post, owes_answer}
 use Rattle.cluster_core.proofs.Answering.{answered_built, answered_goes_on, answered_own, answered_work}
 use Rattle.cluster_core.proofs.Fetching.{asked_goes_on, asked_work, fetch_own}
 use Rattle.cluster_core.proofs.Lacking.{rested_work, waited_work}
-use Rattle.cluster_core.proofs.Owning.{own_asked, own_at, own_before_sent, own_changed, own_quantum, own_sent, own_synced}
+use Rattle.cluster_core.proofs.BirthTurn.{birth_goes_on}
+use Rattle.cluster_core.proofs.Owning.{own_asked, own_at, own_at_fork, own_before_sent, own_changed, own_quantum, own_sent, own_synced}
 use Rattle.cluster_core.proofs.BeginSync.{batch_goes_on}
-use Rattle.cluster_core.proofs.Quanta.{syncs_can}
+use Rattle.cluster_core.proofs.Quanta.{fork_can, syncs_can}
 use Rattle.cluster_core.proofs.ByKind.{by_kind}
 use Rattle.cluster_core.proofs.Working.{moved_view, moved_goes_on, moved_work, posted_goes_on, posted_work, some_moves, goes_on_rested}
 
@@ -134,11 +138,33 @@ module _ (c : ClusterView) (empty : c.queue ≡ []) (own : AllOwn c.cursor c.her
         work = inr (inr (
           nothing,
           some_moves (limits_of c.system) c.here pid takes.was takes.there (syncs_can (limits_of c.system) c.number takes.was posts takes.now s),
-          inr (record { pid = pid; process = s.process; there = there; due = s.due; rest = refl }),
+          inr (inl (record { pid = pid; process = s.process; there = there; due = s.due; rest = refl })),
         ));
         residents = own_changed c.cursor pid (Runs (synced s.process)) c.here own (own_synced c.cursor pid s.process (own_at c.cursor c.here pid (Runs s.process) own there));
         own = synced_own c.number s.process;
         built = synced_built c.number s.process;
+      }))
+
+  -- or came to its fork, and the birth of its child is queued
+  took_fork : (pid : Pid) (forking : Forking) (here : List (Pid × Held)) → OwesNothing c → TakesTurn (limits_of c.system) c.number pid c.here (QuantumForks forking) here → Works c Queued here c.server (birth_told c.number c.places forking ∷ [])
+  took_fork pid forking here nothing takes =
+      let k : ComesToFork (limits_of c.system) 64 takes.was forking takes.now = takes.ran in
+      let mine = own_at_fork (limits_of c.system) c.cursor pid takes.was forking takes.now (own_at c.cursor c.here pid takes.was own takes.there) k in
+      let child : Pid = child_of c.number c.places in
+      let told : birth_told c.number c.places forking ≡ birth_told c.number c.places (forking_of (k.now).small) = ap (birth_told c.number c.places) k.forking_is in
+      let post : birth_told c.number c.places forking ≡ birth_post c.number pid (state_of k.now) child = told ∙ ap (λ p. birth_post c.number p (state_of k.now) child) mine.pid_is in
+      let changed : with_changed pid (Runs k.now) c.here ≡ here = ap (λ (h : Held). with_changed pid h c.here) (sym k.new_is) ∙ sym takes.here in
+      subst (λ (p : Post). Works c Queued here c.server (p ∷ [])) (sym post)
+      (subst (λ hs. Works c Queued hs c.server (birth_post c.number pid (state_of k.now) child ∷ [])) changed (record {
+        goes_on = birth_goes_on c pid takes.was forking takes.now k valid empty takes.there;
+        work = inr (inr (
+          nothing,
+          some_moves (limits_of c.system) c.here pid takes.was takes.there (fork_can (limits_of c.system) 64 takes.was forking takes.now k),
+          inr (inr (record { pid = pid; was = takes.was; forking = forking; now = takes.now; there = takes.there; comes = k; rest = refl })),
+        ));
+        residents = own_changed c.cursor pid (Runs k.now) c.here own mine;
+        own = ap (λ b. b && true) (eq-eqb (c.number).0 (c.number).0 refl);
+        built = refl;
       }))
 
   -- or nothing can move
@@ -152,12 +178,14 @@ module _ (c : ClusterView) (empty : c.queue ≡ []) (own : AllOwn c.cursor c.her
   turn_here old new quantum limits here turn = subst (λ hs. TakesTurn (limits_of c.system) c.number (pid_of new.last) hs quantum new.here) here (subst (λ l. TakesTurn l c.number (pid_of new.last) old.here quantum new.here) limits turn.takes)
 
   -- what runs next, where it owes nothing
-  runs : (old new : ResidentsView) (worked : Worked) (queue : List Post) → old.limits ≡ limits_of c.system → old.here ≡ c.here → OwesNothing c → RunsNext c.number old worked new queue → Works c worked new.here c.server queue
+  runs : (old new : ResidentsView) (worked : Worked) (queue : List Post) → old.limits ≡ limits_of c.system → old.here ≡ c.here → OwesNothing c → RunsNext c.number c.places old worked new queue → Works c worked new.here c.server queue
   runs old new Moved queue limits here nothing turn =
       subst (Works c Moved new.here c.server) (sym turn.1) (took_moved (pid_of new.last) new.here nothing (turn_here old new QuantumMoved limits here turn.0))
   runs old new Queued queue limits here nothing (inl turn) =
       subst (Works c Queued new.here c.server) (sym turn.2) (took_sent (pid_of new.last) turn.0 new.here nothing (turn_here old new (QuantumSent turn.0) limits here turn.1))
-  runs old new Queued queue limits here nothing (inr turn) =
+  runs old new Queued queue limits here nothing (inr (inr turn)) =
+      subst (Works c Queued new.here c.server) (sym turn.2) (took_fork (pid_of new.last) turn.0 new.here nothing (turn_here old new (QuantumForks turn.0) limits here turn.1))
+  runs old new Queued queue limits here nothing (inr (inl turn)) =
       subst (Works c Queued new.here c.server) (sym turn.2) (took_synced (pid_of new.last) turn.0 new.here nothing (turn_here old new (QuantumSynced turn.0) limits here turn.1))
   runs old new Waits queue limits here nothing turn =
       let same : new.here ≡ c.here = (turn.0).1 ∙ here in
@@ -169,12 +197,12 @@ module _ (c : ClusterView) (empty : c.queue ≡ []) (own : AllOwn c.cursor c.her
       subst (Works c Rests new.here c.server) (sym turn.2)
       (subst (λ hs. Works c Rests hs c.server []) (sym same) (still Rests (rested_work c own nothing stuck (ap any_waits (sym here) ∙ turn.1))))
 
-  after_none : (old new : ResidentsView) (served : Option PagerState) (worked : Worked) (queue : List Post) → old.limits ≡ limits_of c.system → old.here ≡ c.here → NoPages c.number c.places old c.server served → RunsNext c.number old worked new queue → Works c worked new.here served queue
+  after_none : (old new : ResidentsView) (served : Option PagerState) (worked : Worked) (queue : List Post) → old.limits ≡ limits_of c.system → old.here ≡ c.here → NoPages c.number c.places old c.server served → RunsNext c.number c.places old worked new queue → Works c worked new.here served queue
   after_none old new served worked queue limits here none turn =
       subst (λ server. Works c worked new.here server queue) (sym none.kept) (runs old new worked queue limits here (record { unowed = none.unowed; none = ap any_lacks (sym here) ∙ none.none }) turn)
 
   queued : (old new : ResidentsView) (served : Option PagerState) (queue : List Post) → old.limits ≡ limits_of c.system → old.here ≡ c.here
-      → QueuesAnswer c.number c.places old c.server new served queue ⊎ QueuesFetch c.number c.places old c.server new served queue ⊎ (NoPages c.number c.places old c.server served × RunsNext c.number old Queued new queue)
+      → QueuesAnswer c.number c.places old c.server new served queue ⊎ QueuesFetch c.number c.places old c.server new served queue ⊎ (NoPages c.number c.places old c.server served × RunsNext c.number c.places old Queued new queue)
       → Works c Queued new.here served queue
   queued old new served queue limits here (inl answer) =
       let same : new.here ≡ c.here = ap (λ (r : ResidentsView). r.here) answer.same ∙ here in

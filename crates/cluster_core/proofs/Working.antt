@@ -40,6 +40,7 @@ use Rattle.cluster_core.proofs.Served.{accounts_queued}
 use Rattle.cluster_core.specs.Queue.{IsQueued, IsQueueLegal, Nothing, One, is_lone, move_of, taken_by, state_by, state_now, with_queue}
 use Rattle.cluster_core.specs.Holds.{CarriesMarks, HoldsLimits, HoldsPages, IsHeldAs, MarkedIfThere, is_fetch_queued, process_in, unended_process}
 use Rattle.cluster_core.specs.Syncing.{Synchronises}
+use Rattle.cluster_core.specs.Bearing.{BearsChild}
 use Rattle.cluster_core.specs.Follows.{FollowsBuilt, IsOpen}
 use Rattle.cluster_core.specs.Calls.{GoesOn, OwesNothing, WorkIs, is_at_rest, are_at_rest}
 use Rattle.cluster_core.specs.declared.quantum.Sending.{Sending}
@@ -129,12 +130,22 @@ held_before c log p s empty f there = ap (λ ps. state_now c.system log ps p (s.
 -- ---- what is queued
 
 abbrev QueuedIn : System → List Entry → ClusterView → Type 0
-QueuedIn system log c = IsQueued c.queue ⊎ Synchronises system log c
+QueuedIn system log c = IsQueued c.queue ⊎ Synchronises system log c ⊎ BearsChild system log c
 
 -- kernel steps change nothing of it
 still_queued : (system : System) (log : List Entry) (c : ClusterView) (tried : Bool) (steps : ℕ) → QueuedIn system log c → QueuedIn system log (record c { tried = tried; steps = steps })
 still_queued system log c tried steps (inl alone) = inl alone
-still_queued system log c tried steps (inr batch) = inr (record {
+still_queued system log c tried steps (inr (inr birth)) = inr (inr (record {
+  pid = birth.pid;
+  process = birth.process;
+  child = birth.child;
+  posts = birth.posts;
+  there = birth.there;
+  stands = birth.stands;
+  undue = birth.undue;
+  next = birth.next;
+}))
+still_queued system log c tried steps (inr (inl batch)) = inr (inl (record {
   pid = batch.pid;
   process = batch.process;
   read = batch.read;
@@ -146,7 +157,7 @@ still_queued system log c tried steps (inr batch) = inr (record {
   since = batch.since;
   unmarked = batch.unmarked;
   within = batch.within;
-})
+}))
 
 -- ---- nothing can move
 

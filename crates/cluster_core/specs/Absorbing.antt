@@ -5,12 +5,13 @@ use Rattle.t32_base.specs.declared.process.Pid.{Pid}
 use Rattle.t32_base.specs.declared.process.ClusterNo.{ClusterNo}
 use Rattle.t32_base.specs.declared.letter.BackRec.{BackRec}
 use Rattle.bus_msg.specs.declared.entry.What.{What}
-use Rattle.bus_msg.specs.declared.entry.What.TheVariants.{Mail, PageIs}
+use Rattle.bus_msg.specs.declared.entry.What.TheVariants.{Mail, Birth, PageIs}
 use Rattle.bus_msg.specs.declared.entry.Dests.{Dests}
 use Rattle.bus_msg.specs.declared.entry.Entry.{Entry}
 use Rattle.bus_msg.specs.PlacedAfter.{what}
 use Rattle.cert_sched.specs.Deeds.{is_end_of}
 use Rattle.backup_records.specs.Records.{records_after}
+use Rattle.cluster_core.specs.Bearing.{CanBear}
 use Rattle.cluster_core.specs.Resident.{CanComeTo}
 use Rattle.cluster_core.specs.View.{Held, held_of}
 
@@ -35,3 +36,8 @@ IsNotedHere k e recs = goes_to e.dests k ≡ false → records_after (what e) re
 abbrev pub CanCome : What → List (Pid × Held) → Type 0
 CanCome (PageIs p i bytes) here = (h : Held) → held_of here p ≡ Some h → CanComeTo i bytes h
 CanCome w here = ⊤
+
+-- a birth that an entry tells of may be made, where the parent is here
+abbrev pub CanBeBorn : What → List (Pid × Held) → Type 0
+CanBeBorn (Birth parent at child end) here = CanBear parent child here
+CanBeBorn w here = ⊤

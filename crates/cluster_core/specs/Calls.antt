@@ -9,7 +9,7 @@ use Rattle.proc_state.specs.declared.process.Process.{Process}
 use Rattle.proc_state.specs.State.{state_of}
 use Rattle.sys_calls.specs.declared.steps.Emission.{Emission}
 use Rattle.bus_msg.specs.declared.entry.What.{What}
-use Rattle.bus_msg.specs.declared.entry.What.TheVariants.{Mail, Exit, PageIs}
+use Rattle.bus_msg.specs.declared.entry.What.TheVariants.{Mail, Birth, Exit, PageIs}
 use Rattle.bus_msg.specs.declared.entry.Entry.{Entry}
 use Rattle.bus_msg.specs.declared.entry.Post.{Post}
 use Rattle.bus_msg.specs.Places.{same_pid, servers_in}
@@ -30,11 +30,13 @@ use Rattle.quanta.specs.Limited.{is_due}
 use Rattle.cluster_core.specs.View.{ClusterView, Held, Runs, Rolls, Waits, arrived_held, held_at, page_held, steps_of_held, limits_of, next_count, counted_once, failed_at, with_server}
 use Rattle.cluster_core.specs.declared.hurt.Hurt.{Hurt}
 use Rattle.cluster_core.specs.declared.hurt.Hurt.TheVariants.{Disk, NoMemory}
-use Rattle.cluster_core.specs.Quantum.{Moves, Sends, post_told}
+use Rattle.cluster_core.specs.declared.quantum.Forking.{Forking}
+use Rattle.cluster_core.specs.Quantum.{ComesToFork, Moves, Sends, post_told}
 use Rattle.cluster_core.specs.Serving.{FailsNext}
 use Rattle.cluster_core.specs.Residents.{with_changed}
 use Rattle.cluster_core.specs.Recovered.{left_by, moved_by, with_all_waiting}
-use Rattle.cluster_core.specs.Work.{AnswersNext, AsksNext, any_lacks, fetch_post, owes_answer}
+use Rattle.cluster_core.specs.Bearing.{birth_post, with_born}
+use Rattle.cluster_core.specs.Work.{AnswersNext, AsksNext, any_lacks, child_of, fetch_post, owes_answer}
 use Rattle.cluster_core.specs.Follows.{FollowsBuilt, IsOpen, StandsBetween}
 
 -- ---- the start
@@ -87,11 +89,12 @@ with_letter letter here = map (λ (e : Pid × Held). if is_end_of e.0 letter.to 
 abbrev pub with_page_come : Pid → ℕ → List ℕ → List (Pid × Held) → List (Pid × Held)
 with_page_come p i bytes here = map (λ (e : Pid × Held). if same_pid e.0 p then (e.0, page_held i bytes e.1) else e) here
 
--- what an entry that was taken in makes of the processes here: a letter arrives, a process that ended is here no more, and a page comes
+-- what an entry that was taken in makes of the processes here: a letter arrives, a process that ended is here no more, a page comes, and a parent has forked
 abbrev pub here_after : What → List (Pid × Held) → List (Pid × Held)
 here_after (Mail at letter) here = with_letter letter here
 here_after (Exit pid at end) here = filter (λ (e : Pid × Held). not (same_pid e.0 pid)) here
 here_after (PageIs pid index bytes) here = with_page_come pid index bytes here
+here_after (Birth parent at child end) here = with_born parent child here
 here_after w here = here
 
 -- the cluster with one more entry of the log taken in, by one kernel step; at the loss of another the processes that this moves here wait for their pages, and it has no record of them
@@ -157,6 +160,16 @@ pub record QueuesBatch (old new : ClusterView) : Type 0 where
   pub due : is_due (limits_of old.system) process ≡ true
   pub rest : new ≡ record old { here = with_changed pid (Runs (synced process)) old.here; queue = batch process old.number; steps = next_count old.steps }
 
+-- one process made up to 63 steps, of which none sent anything that was not withheld, and the birth of its next child is the one post to be sent
+pub record QueuesBirth (old new : ClusterView) : Type 0 where
+  pub pid : Pid
+  pub was : Held
+  pub forking : Forking
+  pub now : Held
+  pub there : held_at old pid ≡ Some was
+  pub comes : ComesToFork (limits_of old.system) 64 was forking now
+  pub rest : new ≡ record old { here = with_changed pid (Runs comes.now) old.here; queue = birth_post old.number pid (state_of comes.now) (child_of old.number old.places) ∷ []; steps = next_count old.steps }
+
 -- a fetch waits, in each log that the cluster follows
 abbrev pub WaitsForPages : ClusterView → Type 0
 WaitsForPages c = (log : List Entry) → IsOpen BuiltMayFollow c.system log → FollowsBuilt c.system log c → waiting_fetches c.system log ≢ []
@@ -190,7 +203,7 @@ WorkIs old Moved new = OwesNothing old × (is_resting old ≡ false) × MovedOne
 WorkIs old Queued new =
     QueuesAnswer old new
     ⊎ ((owes_answer old.places old.number old.server ≡ false) × QueuesFetch old new)
-    ⊎ (OwesNothing old × (is_resting old ≡ false) × (QueuesOne old new ⊎ QueuesBatch old new))
+    ⊎ (OwesNothing old × (is_resting old ≡ false) × (QueuesOne old new ⊎ QueuesBatch old new ⊎ QueuesBirth old new))
 WorkIs old IsWaiting new = OwesNothing old × (is_resting old ≡ false) × WaitsForPages old × OwesNoAnswer old × (new ≡ counted_once old)
 WorkIs old Rests new = OwesNothing old × (is_resting old ≡ true) × OwesNoAnswer old × (new ≡ counted_once old)
 

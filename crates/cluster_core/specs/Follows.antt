@@ -9,6 +9,7 @@ use Rattle.cluster_core.specs.View.{ClusterView, head_of, after_sent}
 use Rattle.cert_sched.specs.Appended.{entry_of}
 use Rattle.cluster_core.specs.Queue.{IsQueued}
 use Rattle.cluster_core.specs.Syncing.{Synchronises}
+use Rattle.cluster_core.specs.Bearing.{BearsChild}
 use Rattle.cluster_core.specs.Holds.{HoldsLog, HoldsProcesses, HoldsQueue, HoldsSteps, HoldsLimits, HoldsPages, HoldsMarks, IsMarked, CarriesMarks, HoldsRecords, HoldsAccounts, HasNotFailed}
 
 -- all that a cluster holds
@@ -22,12 +23,12 @@ pub record Follows (system : System) (entries : List Entry) (c : ClusterView) : 
   pub records : HoldsRecords system entries c
   pub accounts : HoldsAccounts system entries c
 
--- The lines that are built so far, for logs of the entries that are built so far. What is queued is nothing, or one post that is sent alone, or the rest of a batch.
+-- The lines that are built so far, for logs of the entries that are built so far. What is queued is nothing, or one post that is sent alone, or the rest of a batch, or a birth.
 pub record FollowsBuilt (system : System) (entries : List Entry) (c : ClusterView) : Type 0 where
   pub log : HoldsLog system entries c
   pub processes : HoldsProcesses system entries c
   pub queue : HoldsQueue UnlostMayFollow system entries c
-  pub queued : IsQueued c.queue ⊎ Synchronises system entries c
+  pub queued : IsQueued c.queue ⊎ Synchronises system entries c ⊎ BearsChild system entries c
   pub steps : HoldsSteps entries c
   pub limits : HoldsLimits system c
   pub pages : HoldsPages system entries c

@@ -9,6 +9,7 @@ pub mod Parts
 pub mod Queue
 pub mod Holds
 pub mod Syncing
+pub mod Bearing
 pub mod Follows
 pub mod Calls
 pub mod Booting

@@ -1,11 +1,12 @@
 -- The turn of a process. It synchronises where it is due; else a quantum: steps that it did before, in which what it sends is withheld; silent steps; and at most one emission at their end.
-use Rattle.std.specs.Prelude.{ℕ, ◌+◌, ◌≤◌, ◌<◌, ◌≡◌, true, false, List, Some, Result, Ok, Err}
+use Rattle.std.specs.Prelude.{ℕ, ◌+◌, ◌≤◌, ◌<◌, ◌≡◌, true, false, List, Some, Result, Ok, Err, ⊤}
 use Rattle.t32_base.specs.declared.streams.NoMemory.{NoMemory}
 use Rattle.t32_base.specs.declared.process.Pid.{Pid}
 use Rattle.t32_base.specs.declared.process.ClusterNo.{ClusterNo}
 use Rattle.t32_base.specs.declared.process.Counts.{Counts}
 use Rattle.t32_base.specs.Small.{SmallState}
 use Rattle.proc_state.specs.declared.process.Process.{Process}
+use Rattle.proc_state.specs.Ends.{free_end}
 use Rattle.proc_state.specs.State.{state_of}
 use Rattle.sys_calls.specs.declared.steps.Emission.{Emission}
 use Rattle.sys_calls.specs.declared.steps.Emission.TheVariants.{Mail as SentMail, Exit as SentExit}
@@ -24,6 +25,7 @@ use Rattle.quanta.specs.declared.quantum.Ran.TheVariants.{Moved as RanOn, Refuse
 use Rattle.quanta.specs.Limited.{is_due, is_within}
 use Rattle.quanta.specs.Quantum.{RunsOn, Moves as MovesAlone, Sends as SendsAlone, StandsAtFork}
 use Rattle.cluster_core.specs.declared.quantum.Sending.{Sending}
+use Rattle.cluster_core.specs.declared.quantum.Forking.{Forking}
 use Rattle.cluster_core.specs.declared.quantum.Quantum.{Quantum}
 use Rattle.cluster_core.specs.declared.quantum.Quantum.TheVariants.{Moved, Sent, Synced, Stuck, Forks as AtFork}
 use Rattle.cluster_core.specs.View.{Held, Runs, Rolls, Waits, IsHeldWithin, can_act}
@@ -85,8 +87,12 @@ pub record Sends (limits : Limits) (most : ℕ) (old : Held) (sending : Sending)
   pub pid_is : sending.pid ≡ (now.small).pid
   pub at_is : sending.at ≡ (now.small).steps
 
+-- the step that the fork of a process with this state is, and the end that it links
+abbrev pub forking_of : SmallState → Forking
+forking_of small = record { pid = small.pid; at = small.steps + 1; end = free_end small.ends }
+
 -- steps that are withheld, and then silent ones, after which a process that is not due stands before its fork
-pub record ComesToFork (limits : Limits) (most : ℕ) (old new : Held) : Type 0 where
+pub record ComesToFork (limits : Limits) (most : ℕ) (old : Held) (forking : Forking) (new : Held) : Type 0 where
   pub rolled : ℕ
   pub silent : ℕ
   pub between : Process
@@ -98,6 +104,7 @@ pub record ComesToFork (limits : Limits) (most : ℕ) (old new : Held) : Type 0 
   pub forks : next_step (state_of now) ≡ Forks
   pub within : is_within limits between ≡ true → is_within limits now ≡ true
   pub new_is : new ≡ Runs now
+  pub forking_is : forking ≡ forking_of now.small
 
 -- one that runs and is due synchronises, by the posts of its batch
 pub record Syncs (limits : Limits) (by : ClusterNo) (old : Held) (posts : List Post) (new : Held) : Type 0 where
@@ -113,7 +120,7 @@ RunsQuantum limits by most old (Ok Moved) new = Moves limits most old new
 RunsQuantum limits by most old (Ok (Sent sending)) new = Sends limits most old sending new
 RunsQuantum limits by most old (Ok (Synced posts)) new = Syncs limits by old posts new
 RunsQuantum limits by most old (Ok Stuck) new = (can_act limits old ≡ false) × (new ≡ old)
-RunsQuantum limits by most old (Ok AtFork) new = ComesToFork limits most old new
+RunsQuantum limits by most old (Ok (AtFork forking)) new = ComesToFork limits most old forking new
 RunsQuantum limits by most old (Err fault) new = new ≡ old
 
 -- ---- its part in which the process runs
@@ -124,7 +131,12 @@ quantum_of small RanOn = Moved
 quantum_of small Refused = Moved
 quantum_of small (RanSending emission) = Sent (record { pid = small.pid; at = small.steps; emission = emission })
 quantum_of small RanStuck = Stuck
-quantum_of small RanToFork = AtFork
+quantum_of small RanToFork = AtFork (forking_of small)
+
+-- one that is to fork has an instruction left
+abbrev pub HasStep : SmallState → Ran → Type 0
+HasStep small RanToFork = 0 < small.left
+HasStep small ran = ⊤
 
 -- silent steps, none of which leads beyond the limits
 pub record RestMoves (limits : Limits) (most made : ℕ) (old new : Process) : Type 0 where
@@ -139,9 +151,10 @@ pub record RestSends (limits : Limits) (most made : ℕ) (old : Process) (sendin
   pub at_is : sending.at ≡ (new.small).steps
 
 -- silent steps up to its fork, none of which leads beyond the limits
-pub record RestComesToFork (limits : Limits) (most made : ℕ) (old new : Process) : Type 0 where
+pub record RestComesToFork (limits : Limits) (most made : ℕ) (old : Process) (forking : Forking) (new : Process) : Type 0 where
   pub stands : StandsAtFork limits most made old new
   pub within : is_within limits old ≡ true → is_within limits new ≡ true
+  pub forking_is : forking ≡ forking_of new.small
 
 -- the rest of a turn after so many steps: where there were none, it may be due and synchronise, or have no step, or no memory for the first
 abbrev pub ActsOn : Limits → ClusterNo → ℕ → ℕ → Process → Result Quantum NoMemory → Process → Type 0
@@ -149,7 +162,7 @@ ActsOn limits by most made old (Ok Moved) new = RestMoves limits most made old n
 ActsOn limits by most made old (Ok (Sent sending)) new = RestSends limits most made old sending new
 ActsOn limits by most made old (Ok (Synced posts)) new = (made ≡ 0) × (is_due limits old ≡ true) × (posts ≡ batch old by) × (new ≡ synced old)
 ActsOn limits by most made old (Ok Stuck) new = (made ≡ 0) × (is_due limits old ≡ false) × (has_step (next_step (state_of old)) ≡ false) × (new ≡ old)
-ActsOn limits by most made old (Ok AtFork) new = RestComesToFork limits most made old new
+ActsOn limits by most made old (Ok (AtFork forking)) new = RestComesToFork limits most made old forking new
 ActsOn limits by most made old (Err fault) new = (made ≡ 0) × (new ≡ old)
 
 -- ---- what is posted

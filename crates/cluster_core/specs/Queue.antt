@@ -5,7 +5,7 @@ use Rattle.t32_base.specs.declared.process.Pid.{Pid}
 use Rattle.sys_text.specs.declared.system.System.{System}
 use Rattle.proc_state.specs.State.{ProcState}
 use Rattle.bus_msg.specs.declared.entry.What.{What}
-use Rattle.bus_msg.specs.declared.entry.What.TheVariants.{Mail, Birth, Exit, Sync, Fetch, PageIs, Rebackup}
+use Rattle.bus_msg.specs.declared.entry.What.TheVariants.{Mail, Exit, Sync, Fetch, PageIs, Rebackup}
 use Rattle.bus_msg.specs.declared.entry.Post.{Post}
 use Rattle.bus_msg.specs.declared.entry.Entry.{Entry}
 use Rattle.bus_msg.specs.Places.{same_pid}
@@ -58,10 +58,9 @@ pub record IsQueued (queue : List Post) : Type 0 where
 
 -- ---- a process that has moved ahead of the log
 
--- an entry that tells of steps, a fork or a take
+-- an entry that tells of steps or a take which its process has made; the fork of a birth is made where that is taken in
 abbrev pub tells_steps : What → Bool
 tells_steps (Mail at letter) = true
-tells_steps (Birth parent at child end) = true
 tells_steps (Exit pid at end) = true
 tells_steps (Sync pid small read took) = true
 tells_steps (Rebackup to fresh recs) = fresh

@@ -83,7 +83,7 @@ abbrev pub TurnIs : ClusterNo → ResidentsView → Result Quantum NoMemory → 
 TurnIs by old (Ok Moved) new = ChosenTurn by old Moved new
 TurnIs by old (Ok (Sent sending)) new = ChosenTurn by old (Sent sending) new
 TurnIs by old (Ok (Synced posts)) new = ChosenTurn by old (Synced posts) new
-TurnIs by old (Ok Forks) new = ChosenTurn by old Forks new
+TurnIs by old (Ok (Forks forking)) new = ChosenTurn by old (Forks forking) new
 TurnIs by old (Ok Stuck) new = (are_stuck old.limits old.here ≡ true) × (new.here ≡ old.here) × (new.last ≡ old.last)
 TurnIs by old (Err fault) new = new.here ≡ old.here
 
@@ -124,6 +124,6 @@ abbrev pub GivenTurnIs : Limits → ClusterNo → Pid → List (Pid × Held) →
 GivenTurnIs limits by pid old (Ok Moved) new = TakesTurn limits by pid old Moved new
 GivenTurnIs limits by pid old (Ok (Sent sending)) new = TakesTurn limits by pid old (Sent sending) new
 GivenTurnIs limits by pid old (Ok (Synced posts)) new = TakesTurn limits by pid old (Synced posts) new
-GivenTurnIs limits by pid old (Ok Forks) new = TakesTurn limits by pid old Forks new
+GivenTurnIs limits by pid old (Ok (Forks forking)) new = TakesTurn limits by pid old (Forks forking) new
 GivenTurnIs limits by pid old (Ok Stuck) new = (is_stuck_at limits pid old ≡ true) × (new ≡ old)
 GivenTurnIs limits by pid old (Err fault) new = new ≡ old

@@ -1,20 +1,21 @@
 -- What a work of a cluster makes of its parts: of what is here, of what it keeps as a page server, and of the queue.
-use Rattle.std.specs.Prelude.{ℕ, ◌≡◌, ◌⊎◌, Bool, true, false, not, ◌&&◌, ◌||◌, nat_lt, List, [], ◌∷◌, Option, Some, is_some, is_none, option_and_then, Ok}
+use Rattle.std.specs.Prelude.{ℕ, ◌+◌, ◌*◌, ◌≡◌, ◌⊎◌, Bool, true, false, not, ◌&&◌, ◌||◌, nat_lt, List, [], ◌∷◌, Option, Some, is_some, is_none, option_and_then, Ok}
 use Rattle.std.specs.List.{list_any, list_all}
 use Rattle.std.specs.Option.{option_map_or}
 use Rattle.t32_base.specs.declared.process.Pid.{Pid}
 use Rattle.t32_base.specs.declared.process.ClusterNo.{ClusterNo}
 use Rattle.bus_msg.specs.declared.entry.Post.{Post}
-use Rattle.bus_msg.specs.declared.entry.What.TheVariants.{Fetch, PageIs}
+use Rattle.bus_msg.specs.declared.entry.What.TheVariants.{Birth, Fetch, PageIs}
 use Rattle.bus_msg.specs.declared.entry.By.TheVariants.{Cluster}
-use Rattle.bus_msg.specs.Places.{Places, same_cluster, servers_in}
+use Rattle.bus_msg.specs.Places.{Places, next_serial_in, same_cluster, servers_in}
 use Rattle.cert_sched.specs.Parts.{first_of}
 use Rattle.page_server.specs.Account.{PagerState, account, page_in}
 use Rattle.page_server.specs.Disk.{Passed}
 use Rattle.page_accounts.specs.Answering.{earliest}
 use Rattle.page_accounts.specs.Keeps.{SamePages}
 use Rattle.cluster_core.specs.declared.quantum.Sending.{Sending}
-use Rattle.cluster_core.specs.declared.quantum.Quantum.TheVariants.{Moved as QuantumMoved, Sent, Synced, Stuck}
+use Rattle.cluster_core.specs.declared.quantum.Forking.{Forking}
+use Rattle.cluster_core.specs.declared.quantum.Quantum.TheVariants.{Moved as QuantumMoved, Sent, Synced, Stuck, Forks}
 use Rattle.cluster_core.specs.declared.worked.Worked.{Worked}
 use Rattle.cluster_core.specs.declared.worked.Worked.TheVariants.{Moved, Queued, Waits as IsWaiting, Rests}
 use Rattle.cluster_core.specs.Quantum.{post_told}
@@ -67,6 +68,18 @@ pub record AsksNext (old new : List (Pid × Held)) (pid : Pid) (index : ℕ) : T
 abbrev pub fetch_post : ClusterNo → Pid → ℕ → Post
 fetch_post k pid index = record { by = Cluster k; what = Fetch pid index }
 
+-- ---- the child of a process that stands before its fork
+
+-- the pid of the next child that a cluster has
+abbrev pub next_pid : ClusterNo → Places → ℕ
+next_pid k places = k.0 + 16 * next_serial_in places k
+
+abbrev pub child_of : ClusterNo → Places → Pid
+child_of k places = record { 0 = next_pid k places }
+
+abbrev pub birth_told : ClusterNo → Places → Forking → Post
+birth_told k places forking = record { by = Cluster k; what = Birth forking.pid forking.at (child_of k places) forking.end }
+
 -- ---- who waits
 
 -- a process here waits for its pages
@@ -99,21 +112,22 @@ pub record NoPages (k : ClusterNo) (places : Places) (old : ResidentsView) (serv
   pub none : any_lacks old.here ≡ false
   pub kept : served ≡ server
 
--- a turn of one that is here, and what it sent or synchronises by is queued; where none can move, whether a process waits for its pages
-abbrev pub RunsNext : ClusterNo → ResidentsView → Worked → ResidentsView → List Post → Type 0
-RunsNext k old Moved new queue = TurnIs k old (Ok QuantumMoved) new × (queue ≡ [])
-RunsNext k old Queued new queue =
+-- a turn of one that is here, and what it sent or synchronises by, or the birth of its child, is queued; where none can move, whether a process waits for its pages
+abbrev pub RunsNext : ClusterNo → Places → ResidentsView → Worked → ResidentsView → List Post → Type 0
+RunsNext k places old Moved new queue = TurnIs k old (Ok QuantumMoved) new × (queue ≡ [])
+RunsNext k places old Queued new queue =
     ((sending : Sending) × TurnIs k old (Ok (Sent sending)) new × (queue ≡ post_told k sending.pid sending.at sending.emission ∷ []))
     ⊎ ((posts : List Post) × TurnIs k old (Ok (Synced posts)) new × (queue ≡ posts))
-RunsNext k old IsWaiting new queue = TurnIs k old (Ok Stuck) new × (any_waits old.here ≡ true) × (queue ≡ [])
-RunsNext k old Rests new queue = TurnIs k old (Ok Stuck) new × (any_waits old.here ≡ false) × (queue ≡ [])
+    ⊎ ((forking : Forking) × TurnIs k old (Ok (Forks forking)) new × (queue ≡ birth_told k places forking ∷ []))
+RunsNext k places old IsWaiting new queue = TurnIs k old (Ok Stuck) new × (any_waits old.here ≡ true) × (queue ≡ [])
+RunsNext k places old Rests new queue = TurnIs k old (Ok Stuck) new × (any_waits old.here ≡ false) × (queue ≡ [])
 
 -- an answer that is owed comes first, then a page that is to be asked for, and then the turn of one that is here; what it sent is queued
 abbrev pub WorksOn : ClusterNo → Places → ResidentsView → Option PagerState → Worked → ResidentsView → Option PagerState → List Post → Type 0
 WorksOn k places old server Queued new served queue =
     QueuesAnswer k places old server new served queue
     ⊎ QueuesFetch k places old server new served queue
-    ⊎ (NoPages k places old server served × RunsNext k old Queued new queue)
-WorksOn k places old server Moved new served queue = NoPages k places old server served × RunsNext k old Moved new queue
-WorksOn k places old server IsWaiting new served queue = NoPages k places old server served × RunsNext k old IsWaiting new queue
-WorksOn k places old server Rests new served queue = NoPages k places old server served × RunsNext k old Rests new queue
+    ⊎ (NoPages k places old server served × RunsNext k places old Queued new queue)
+WorksOn k places old server Moved new served queue = NoPages k places old server served × RunsNext k places old Moved new queue
+WorksOn k places old server IsWaiting new served queue = NoPages k places old server served × RunsNext k places old IsWaiting new queue
+WorksOn k places old server Rests new served queue = NoPages k places old server served × RunsNext k places old Rests new queue

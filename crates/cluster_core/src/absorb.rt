@@ -1,8 +1,8 @@
 //! What an entry changes in a cluster, by its kind.
-ghost use Rattle.std.specs.Prelude.{◌≡◌, ◌<◌, OnErr, OnOk};
+ghost use Rattle.std.specs.Prelude.{◌≡◌, ◌⊎◌, ◌<◌, [], OnErr, OnOk};
 ghost use Rattle.bus_msg.specs.PlacedAfter.{what};
 ghost use Rattle.backup_records.specs.Records.{CanNote, records_after};
-ghost use Rattle.cluster_core.specs.Absorbing.{CanCome, ComesHere, IsNotedHere, goes_to};
+ghost use Rattle.cluster_core.specs.Absorbing.{CanBeBorn, CanCome, ComesHere, IsNotedHere, goes_to};
 ghost use Rattle.cluster_core.specs.Calls.{here_after};
 ghost use Rattle.cluster_core.specs.Residents.{HasRoom};
 
@@ -15,7 +15,8 @@ use t32_base::streams::NoMemory;
 
 /// Tells the parts of the cluster with a number what an entry changes in them; the placement is still the one
 /// before the entry. A letter goes to some clusters only, and a process here gets one only where this is one
-/// of them. A page comes to its process. After want of memory no process has changed.
+/// of them. A page comes to its process. A parent that runs here forks. After want of memory either all are here as
+/// they were, or none is.
 pub fn tell(
     alloc: Global,
     number: ClusterNo,
@@ -26,8 +27,9 @@ pub fn tell(
     requires room { HasRoom here.old.here }
     requires comes { ComesHere number entry.now here.old.here }
     requires page { CanCome (what entry.now) here.old.here }
+    requires birth { CanBeBorn (what entry.now) here.old.here }
     ensures ok { OnOk result (here.new.here ≡ here_after (what entry.now) here.old.here) }
-    ensures err { OnErr result (here.new.here ≡ here.old.here) }
+    ensures err { OnErr result ((here.new.here ≡ here.old.here) ⊎ (here.new.here ≡ [])) }
     ensures limits { here.new.limits ≡ here.old.limits }
 {
     match &entry.post.what {
@@ -42,7 +44,7 @@ pub fn tell(
             here.let_go(*pid);
             Ok(())
         }
-        What::Birth { .. } => Ok(()),
+        What::Birth { parent, child, .. } => here.bear(alloc, *parent, *child),
         What::Page { .. } => Ok(()),
         What::Sync { .. } => Ok(()),
         What::Fetch { .. } => Ok(()),

@@ -1,8 +1,9 @@
 //! What a process did when it had its turn.
-ghost use Rattle.std.specs.Prelude.{◌≡◌};
-ghost use Rattle.cluster_core.specs.Quantum.{quantum_of};
+ghost use Rattle.std.specs.Prelude.{◌≡◌, ◌<◌};
+ghost use Rattle.cluster_core.specs.Quantum.{forking_of, quantum_of, HasStep};
 
 use bus_msg::entry::Post;
+use proc_state::process::free_end;
 use quanta::quantum::Ran;
 use sys_calls::steps::Emission;
 use t32_base::lists::List;
@@ -16,7 +17,7 @@ pub enum Quantum {
     Sent(Sending),
     Synced(List<Post>),
     Stuck,
-    Forks,
+    Forks(Forking),
 }
 
 /// What a process sent by its step `at`. It becomes a post where it is queued: a post is large, and most quanta
@@ -28,8 +29,17 @@ pub struct Sending {
     pub emission: Emission,
 }
 
+/// The fork before which a process stands: the step that it is, and the end of the process that is to be linked to the child.
+#[derive(Drop)]
+pub struct Forking {
+    pub pid: Pid,
+    pub at: u64,
+    pub end: u8,
+}
+
 /// What a process that runs did in a quantum, after which it has this state. A step for which memory was refused is not made. Takes no memory.
 pub fn quantum_of(small: &Small, ran: Ran) -> Quantum
+    requires { HasStep small.now ran }
     ensures { result ≡ quantum_of small.now ran }
 {
     match ran {
@@ -41,6 +51,18 @@ pub fn quantum_of(small: &Small, ran: Ran) -> Quantum
             emission,
         }),
         Ran::Stuck => Quantum::Stuck,
-        Ran::Forks => Quantum::Forks,
+        Ran::Forks => Quantum::Forks(forking_of(small)),
+    }
+}
+
+// The next step of a process that stands before its fork. Takes no memory.
+fn forking_of(small: &Small) -> Forking
+    requires { 0 < small.now.left }
+    ensures { result ≡ forking_of small.now }
+{
+    Forking {
+        pid: small.pid,
+        at: small.steps + 1,
+        end: free_end(small),
     }
 }

@@ -6,6 +6,7 @@ ghost use Rattle.page_waits.specs.Waiting.{next_page};
 ghost use Rattle.cluster_core.specs.View.{Runs, Rolls, Waits, arrived_held, asked_held, can_act, is_waiting, next_number, page_held, page_lacked, rolling_held, steps_of_held};
 ghost use Rattle.quanta.specs.Limited.{is_due};
 ghost use Rattle.cluster_core.specs.Quantum.{ActsOn, RunsQuantum};
+ghost use Rattle.cluster_core.specs.Bearing.{CanForkNow, HasForked};
 ghost use Rattle.cluster_core.specs.Resident.{gone_on, held_standing, running_on, CanComeTo, CanGoOnFrom, HasCaughtUp, HasRolled, StandsSo};
 
 use crate::quantum::{Quantum, quantum_of};
@@ -18,9 +19,10 @@ use std::alloc::Global;
 use std::marker::Model;
 use sync_point::batch::build;
 use sync_point::due::due;
+use sys_calls::forking::fork;
 use sys_calls::stepping::can_step;
 use t32_base::letter::Letter;
-use t32_base::process::{ClusterNo, Small};
+use t32_base::process::{ClusterNo, Pid, Small};
 use t32_base::streams::NoMemory;
 
 /// A process at home in a cluster: it runs; or it rolls forward, and then something is left to withhold; or it waits for
@@ -137,6 +139,18 @@ impl Resident {
             Some(Standing::Rolls(_)) => true,
             Some(Standing::Waits(_)) => false,
             None => unreachable!(),
+        }
+    }
+
+    /// One that runs forks, and its child is handed over; no other does. After want of memory nothing has changed.
+    pub fn fork(&mut self, alloc: Global, child: Pid) -> Result<Option<Process>, NoMemory>
+        requires { CanForkNow self.old }
+        ensures ok { IfOk result (λ born. HasForked child self.old born self.new) }
+        ensures err { OnErr result (self.new ≡ self.old) }
+    {
+        match &mut self.standing {
+            Some(Standing::Runs(process)) => Ok(Some(fork(alloc, process, child)?)),
+            _ => Ok(None),
         }
     }
 

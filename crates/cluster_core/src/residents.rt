@@ -1,11 +1,12 @@
 //! The processes at home in a cluster.
-ghost use Rattle.std.specs.Prelude.{ℕ, ◌≡◌, ◌+◌, [], IfOk, IfSome, OnOk, OnErr, Some, None, true, length, filter, map, not, if◌then◌else◌, false};
+ghost use Rattle.std.specs.Prelude.{ℕ, ◌≡◌, ◌⊎◌, ◌+◌, [], IfOk, IfSome, OnOk, OnErr, Some, None, true, length, filter, map, not, if◌then◌else◌, false};
 ghost use Rattle.std.specs.List.{list_any};
 ghost use Rattle.slab.specs.Slab.{Updates};
 ghost use Rattle.bus_msg.specs.Places.{same_pid};
 ghost use Rattle.plain_kernel.specs.Maps.{at_key, pid_of};
 ghost use Rattle.cert_sched.specs.Parts.{first_of};
 ghost use Rattle.cluster_core.specs.Calls.{rests_in, with_letter, with_page_come};
+ghost use Rattle.cluster_core.specs.Bearing.{CanBear, CanForkAt, ForksAt, with_born};
 ghost use Rattle.cluster_core.specs.Residents.{AsksOf, GivenTurnIs, HasRoom, NextAble, TurnIs, are_rising, are_settled, are_stuck, is_settled, is_stuck_at, lacks_none_at, next_ready, pids_in, with_more};
 ghost use Rattle.cluster_core.specs.Resident.{CanComeTo};
 ghost use Rattle.cluster_core.specs.View.{Held, arrived_held, held_of};
@@ -14,11 +15,13 @@ ghost use Rattle.cluster_core.specs.Work.{AsksNext, any_lacks, any_waits, is_low
 use crate::quantum::Quantum;
 use crate::resident::Resident;
 use bus_msg::shared::Shared;
+use proc_state::process::Process;
 use quanta::limits::Limits;
 use slab::Slab;
 use std::alloc::Global;
 use std::collections::{BTreeMap, BTreeSet};
 use std::marker::Model;
+use std::mem;
 use std::ops::Bound;
 use t32_base::letter::{Letter, To};
 use t32_base::lists::List;
@@ -200,6 +203,45 @@ impl Residents {
                 }
             }
             None => Ok(()),
+        }
+    }
+
+    /// The process with a pid forks, if it runs here, and its child runs beside it. After want of memory either all are here as
+    /// they were, or none is.
+    pub fn bear(&mut self, alloc: Global, parent: Pid, child: Pid) -> Result<(), NoMemory>
+        requires { CanBear parent child self.old.here }
+        ensures ok { OnOk result (self.new.here ≡ with_born parent child self.old.here) }
+        ensures err { OnErr result ((self.new.here ≡ self.old.here) ⊎ (self.new.here ≡ [])) }
+        ensures last { OnOk result (self.new.last ≡ self.old.last) }
+        ensures limits { self.new.limits ≡ self.old.limits }
+    {
+        if let Some(born) = self.fork(alloc, parent, child)? {
+            let empty = Residents::none(alloc, self.limits);
+            let mut here = mem::replace(self, empty);
+            here.add(child, Resident::running(born))?;
+            *self = here;
+        }
+        Ok(())
+    }
+
+    // The process with a pid forks, if it runs here, and its child is handed over. After want of memory no process has changed.
+    fn fork(&mut self, alloc: Global, parent: Pid, child: Pid) -> Result<Option<Process>, NoMemory>
+        requires { CanForkAt parent self.old.here }
+        ensures ok { IfOk result (λ born. ForksAt parent child self.old.here born self.new.here) }
+        ensures err { OnErr result (self.new.here ≡ self.old.here) }
+        ensures last { self.new.last ≡ self.old.last }
+        ensures limits { self.new.limits ≡ self.old.limits }
+    {
+        match self.keys.get(&parent.0) {
+            Some(key) => {
+                self.ready.insert(parent.0)?;
+                self.told = None;
+                match self.residents.get_mut(*key) {
+                    Some(resident) => resident.fork(alloc, child),
+                    None => unreachable!(),
+                }
+            }
+            None => Ok(None),
         }
     }
 

@@ -1,12 +1,12 @@
 //! The work of a cluster.
-ghost use Rattle.std.specs.Prelude.{◌≡◌, ◌<◌, [], IfErr, IfOk, OnErr, OnOk, if◌then◌else◌};
+ghost use Rattle.std.specs.Prelude.{◌≡◌, ◌<◌, ◌^◌, [], IfErr, IfOk, OnErr, OnOk, if◌then◌else◌};
 ghost use Rattle.std.specs.VecDeque.{deque_len, deque_capacity};
 ghost use Rattle.cluster_core.specs.Quantum.{post_told};
 ghost use Rattle.cluster_core.specs.Serving.{CanAnswer, HurtsServer};
-ghost use Rattle.cluster_core.specs.Work.{RunsNext, WorksOn, any_waits, fetch_post};
+ghost use Rattle.cluster_core.specs.Work.{RunsNext, WorksOn, any_waits, birth_told, fetch_post, next_pid};
 
 use crate::hurt::Hurt;
-use crate::quantum::{Quantum, Sending};
+use crate::quantum::{Forking, Quantum, Sending};
 use crate::residents::Residents;
 use crate::serving::answer_next;
 use crate::worked::Worked;
@@ -22,7 +22,7 @@ use t32_base::streams::NoMemory;
 
 /// Does the next thing that is to be done in the cluster with a number. An answer that it owes as a page server is queued;
 /// or a fetch of a page that a process here lacks; or the next process that can move synchronises or runs for a quantum, and
-/// what it sends is queued; or nothing can move, where a process may wait for its pages. After want of memory, or where the call of the disk
+/// what it sends, or the birth of its child, is queued; or nothing can move, where a process may wait for its pages. After want of memory, or where the call of the disk
 /// failed, nothing is queued, and nothing else is said but that the values can be dropped.
 pub fn work_on<D: PageDisk>(
     alloc: Global,
@@ -34,6 +34,7 @@ pub fn work_on<D: PageDisk>(
 ) -> Result<Worked, Hurt>
     requires queue { queue.old.items ≡ [] }
     requires can { CanAnswer server.old }
+    requires pids { next_pid number places.now < 2 ^ 32 }
     ensures ok { IfOk result (λ worked. WorksOn number places.now here.old server.old worked here.new server.new queue.new.items) }
     ensures here { OnErr result (here.new.here ≡ here.old.here) }
     ensures limits { here.new.limits ≡ here.old.limits }
@@ -49,7 +50,7 @@ pub fn work_on<D: PageDisk>(
         queue.push_back_reserved(fetch_of(number, pid, index));
         return Ok(Worked::Queued);
     }
-    Ok(run_next(alloc, number, here, queue)?)
+    Ok(run_next(alloc, number, places, here, queue)?)
 }
 
 // Room for one post more.
@@ -61,16 +62,18 @@ fn make_room(queue: &mut VecDeque<Post>) -> Result<(), NoMemory>
     Ok(())
 }
 
-// The next process that can move has its turn, and what it sends or synchronises by is queued.
+// The next process that can move has its turn, and what it sends or synchronises by, or the birth of its child, is queued.
 fn run_next(
     alloc: Global,
     number: ClusterNo,
+    places: &Placement,
     here: &mut Residents,
     queue: &mut VecDeque<Post>,
 ) -> Result<Worked, NoMemory>
     requires empty { queue.old.items ≡ [] }
     requires room { deque_len queue.old < deque_capacity queue.old }
-    ensures ok { IfOk result (λ worked. RunsNext number here.old worked here.new queue.new.items) }
+    requires pids { next_pid number places.now < 2 ^ 32 }
+    ensures ok { IfOk result (λ worked. RunsNext number places.now here.old worked here.new queue.new.items) }
     ensures here { OnErr result (here.new.here ≡ here.old.here) }
     ensures limits { here.new.limits ≡ here.old.limits }
     ensures queue { OnErr result (queue.new.items ≡ []) }
@@ -86,7 +89,10 @@ fn run_next(
             Ok(Worked::Queued)
         }
         Quantum::Stuck => stuck(alloc, here),
-        Quantum::Forks => unreachable!(),
+        Quantum::Forks(forking) => {
+            queue.push_back_reserved(birth_of(number, places, forking));
+            Ok(Worked::Queued)
+        }
     }
 }
 
@@ -100,6 +106,23 @@ fn stuck(alloc: Global, here: &mut Residents) -> Result<Worked, NoMemory>
     }
     here.keep_told(alloc)?;
     Ok(Worked::Rests)
+}
+
+// The birth of the next child of a process of the cluster with a number, which stands before its fork. Takes no memory.
+fn birth_of(number: ClusterNo, places: &Placement, forking: Forking) -> Post
+    requires { next_pid number places.now < 2 ^ 32 }
+    ensures { result ≡ birth_told number places.now forking }
+{
+    let child = u32::from(number.0) + 16 * places.next_serial(number);
+    Post {
+        by: By::Cluster(number),
+        what: What::Birth {
+            parent: forking.pid,
+            at: forking.at,
+            child: Pid(child),
+            end: forking.end,
+        },
+    }
 }
 
 // The fetch of a page by the cluster with a number. Takes no memory.

@@ -100,7 +100,8 @@ unfailed_by Moved c new is = ap (λ (v : ClusterView). v.failed) (is.2).rest
 unfailed_by Queued c new (inl answer) = ap (λ (v : ClusterView). v.failed) answer.rest
 unfailed_by Queued c new (inr (inl fetch)) = ap (λ (v : ClusterView). v.failed) (fetch.1).rest
 unfailed_by Queued c new (inr (inr (owes, rests, inl sent))) = ap (λ (v : ClusterView). v.failed) sent.rest
-unfailed_by Queued c new (inr (inr (owes, rests, inr synced))) = ap (λ (v : ClusterView). v.failed) synced.rest
+unfailed_by Queued c new (inr (inr (owes, rests, inr (inl synced)))) = ap (λ (v : ClusterView). v.failed) synced.rest
+unfailed_by Queued c new (inr (inr (owes, rests, inr (inr bears)))) = ap (λ (v : ClusterView). v.failed) bears.rest
 unfailed_by Waits c new is = ap (λ (v : ClusterView). v.failed) is.4
 unfailed_by Rests c new is = ap (λ (v : ClusterView). v.failed) is.3
 
@@ -112,7 +113,8 @@ failing_by Queued c new (inl answer) =
     ap failing_in a.new_is ∙ ap (λ o. Some o) (a.called).failing ∙ sym (ap failing_in a.old_is)
 failing_by Queued c new (inr (inl fetch)) = ap (λ (v : ClusterView). failing_in v.server) (fetch.1).rest
 failing_by Queued c new (inr (inr (owes, rests, inl sent))) = ap (λ (v : ClusterView). failing_in v.server) sent.rest
-failing_by Queued c new (inr (inr (owes, rests, inr synced))) = ap (λ (v : ClusterView). failing_in v.server) synced.rest
+failing_by Queued c new (inr (inr (owes, rests, inr (inl synced)))) = ap (λ (v : ClusterView). failing_in v.server) synced.rest
+failing_by Queued c new (inr (inr (owes, rests, inr (inr bears)))) = ap (λ (v : ClusterView). failing_in v.server) bears.rest
 failing_by Waits c new is = ap (λ (v : ClusterView). failing_in v.server) is.4
 failing_by Rests c new is = ap (λ (v : ClusterView). failing_in v.server) is.3
 
@@ -126,7 +128,8 @@ pub queued_head : (c new : ClusterView) → WorkIs c Queued new → is_some (hea
 queued_head c new (inl answer) = ap (λ (v : ClusterView). is_some (head_of v.queue)) answer.rest
 queued_head c new (inr (inl fetch)) = ap (λ (v : ClusterView). is_some (head_of v.queue)) (fetch.1).rest
 queued_head c new (inr (inr (owes, rests, inl sent))) = ap (λ (v : ClusterView). is_some (head_of v.queue)) sent.rest
-queued_head c new (inr (inr (owes, rests, inr synced))) = ap (λ (v : ClusterView). is_some (head_of v.queue)) synced.rest ∙ batch_head _ _
+queued_head c new (inr (inr (owes, rests, inr (inl synced)))) = ap (λ (v : ClusterView). is_some (head_of v.queue)) synced.rest ∙ batch_head _ _
+queued_head c new (inr (inr (owes, rests, inr (inr bears)))) = ap (λ (v : ClusterView). is_some (head_of v.queue)) bears.rest
 
 pub worked_shown : (Shows : Type 0) (from : ℕ) (b : BusView) (c new : ClusterView) (w : Worked) → IsShown Shows from b c → IsUnnamed b c → GoesOn c new → KeepsPlace c new → WorkIs c w new → IsShown Shows from b new
 worked_shown Shows from b c new w shown unnamed goes keeps is = record {

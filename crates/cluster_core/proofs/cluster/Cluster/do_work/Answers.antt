@@ -1,4 +1,4 @@
-use Rattle.std.proofs.Common.{◌≡◌, ◌<◌, ap, subst, sym, ◌∙◌, true}
+use Rattle.std.proofs.Common.{◌≡◌, ◌<◌, ◌^◌, ap, subst, sym, ◌∙◌, true}
 use Rattle.std.specs.List.{list_all}
 use Rattle.bus_msg.specs.declared.entry.Post.{Post}
 use Rattle.sys_text.specs.Valid.{is_system}
@@ -7,8 +7,9 @@ use Rattle.cluster_core.specs.View.{ClusterView, limits_of}
 use Rattle.cluster_core.specs.Calls.{GoesOn, WorkIs}
 use Rattle.cluster_core.specs.Parts.{AllOwn}
 use Rattle.cluster_core.specs.Serving.{CanAnswer}
-use Rattle.cluster_core.specs.Work.{WorksOn}
+use Rattle.cluster_core.specs.Work.{WorksOn, next_pid}
 use Rattle.cluster_core.proofs.Answering.{can_answer}
+use Rattle.cluster_core.proofs.Serials.{next_fits}
 use Rattle.cluster_core.proofs.Turning.{worked_view, works}
 use Rattle.cluster_core.proofs.cluster.Cluster.do_work.Goals as goal
 
@@ -19,6 +20,12 @@ pub work_on-requires-clause-can : goal.work_on-requires-clause-can
 work_on-requires-clause-can g c =
     let valid = subst (λ (v : ClusterView). is_system v.system ≡ true) c.self.view_is c.self.invariant.valid in
     subst (λ (v : ClusterView). CanAnswer v.server) (sym c.self.view_is) (can_answer c.args.self.now valid c.requires.follows)
+
+pub work_on-requires-clause-pids : goal.work_on-requires-clause-pids
+work_on-requires-clause-pids g c =
+    let valid = subst (λ (v : ClusterView). is_system v.system ≡ true) c.self.view_is c.self.invariant.valid in
+    let has = subst (λ (v : ClusterView). (v.number).0 < (v.system).clusters) c.self.view_is c.self.invariant.has in
+    subst (λ (v : ClusterView). next_pid v.number v.places < 2 ^ 32) (sym c.self.view_is) (next_fits c.args.self.now valid has c.requires.follows)
 
 pub returns-clause-follows : goal.returns-clause-follows
 returns-clause-follows g c =

@@ -11,12 +11,13 @@ use Rattle.cluster_core.specs.Serving.{Serves}
 use Rattle.cluster_core.specs.Parts.{AllOwn}
 use Rattle.cluster_core.specs.Recovered.{CanWait, left_by, moved_by, with_all_waiting}
 use Rattle.cluster_core.specs.Calls.{Absorbs, absorbed, here_after}
-use Rattle.cluster_core.specs.Absorbing.{CanCome, ComesHere, IsNotedHere}
+use Rattle.cluster_core.specs.Absorbing.{CanBeBorn, CanCome, ComesHere, IsNotedHere}
 use Rattle.cluster_core.proofs.Arriving.{comes_here}
 use Rattle.cluster_core.proofs.Noting.{can_note_next, noted_next}
 use Rattle.cluster_core.proofs.Owning.{has_room}
 use Rattle.cluster_core.proofs.Absorbed.{absorbs, may_come, may_wait, own_either, ready_absorbable, ready_own}
 use Rattle.cluster_core.proofs.OwningWaits.{owns_waiting}
+use Rattle.cluster_core.proofs.Bearable.{may_be_born}
 use Rattle.cluster_core.proofs.cluster.Cluster.take_in.Goals as goal
 
 pub tell-requires-clause-room : goal.tell-requires-clause-room
@@ -58,6 +59,22 @@ tell-requires-clause-page g c =
     let old : ClusterView = c.args.self.now in
     let valid : is_system old.system ≡ true = subst (λ (v : ClusterView). is_system v.system ≡ true) c.self.view_is c.self.invariant.valid in
     subst (λ (v : ClusterView). CanCome (what c.args.entry.now) v.here) (sym c.self.view_is) (may_come old c.args.entry.now valid c.requires.ready)
+
+pub tell-requires-clause-birth : goal.tell-requires-clause-birth
+tell-requires-clause-birth g c =
+    let old : ClusterView = c.args.self.now in
+    let valid : is_system old.system ≡ true = subst (λ (v : ClusterView). is_system v.system ≡ true) c.self.view_is c.self.invariant.valid in
+    subst (λ (v : ClusterView). CanBeBorn (what c.args.entry.now) v.here) (sym c.self.view_is) (may_be_born old c.args.entry.now valid (subst (λ (v : ClusterView). AllOwn v.cursor v.here) c.self.view_is c.self.invariant.residents) c.requires.ready)
+
+pub invariant_of-self-in_err-tell : goal.invariant_of-self-in_err-tell
+invariant_of-self-in_err-tell g c = record {
+  valid = c.self.invariant.valid;
+  has = c.self.invariant.has;
+  limits_are = c.tell.ensures.limits ∙ c.self.invariant.limits_are;
+  residents = own_either c.self.inside.cursor c.self.inside.here.here c.tell.new.here.here c.self.invariant.residents c.in_err-tell.ensures.err;
+  own = c.self.invariant.own;
+  built = c.self.invariant.built;
+}
 
 pub invariant_of-self-in_err-take_over : goal.invariant_of-self-in_err-take_over
 invariant_of-self-in_err-take_over g c =
