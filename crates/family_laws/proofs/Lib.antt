@@ -1,0 +1,4 @@
+pub mod Filters
+pub mod OtherEntries
+pub mod NewBirth
+pub mod FamilyKept
