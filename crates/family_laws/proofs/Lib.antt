@@ -2,3 +2,4 @@ pub mod Filters
 pub mod OtherEntries
 pub mod NewBirth
 pub mod FamilyKept
+mod WorkedBirths

@@ -16,7 +16,7 @@ ghost use Rattle.cert_sched.specs.Built.{is_built};
 ghost use Rattle.cert_sched.specs.Legal.{IsLegalBy, Stands};
 ghost use Rattle.family_laws.specs.Unsynced.{unsynced_births, changes_unsynced};
 
-/// A law and no code: at boot there is no birth.
+/// A law and no code: at boot there is none.
 pub fn none_at_boot()
     ensures { (system : System) → unsynced_births system [] ≡ [] }
 {}
@@ -31,14 +31,14 @@ pub fn births_come_last()
     ensures other { (system : System) (log : List Entry) (e : Entry) (parent : Pid) (at : ℕ) (child : Pid) (end : ℕ) → is_system system ≡ true → IsLegalBy Stands system log → Stands system log e → what e ≡ Birth parent at child end → same_pid child parent ≡ false }
 {}
 
-/// A law and no code: the birth of a child goes with its synchronisation and with its exit, as by `Family::gone`; the
-/// births of its own children stay.
+/// A law and no code: in any log, the birth of a child goes with its synchronisation and with its exit, as
+/// `Family::gone` takes it out; the other births stay.
 pub fn synced_and_ended_go()
     ensures synced { (system : System) (log : List Entry) (e : Entry) (pid : Pid) (small : SmallState) (read : List ℕ) (took : Option ℕ) → what e ≡ Sync pid small read took → unsynced_births system (log ++ e ∷ []) ≡ filter (λ b. not (same_pid b.1 pid)) (unsynced_births system log) }
     ensures ended { (system : System) (log : List Entry) (e : Entry) (pid : Pid) (at : ℕ) (end : End) → what e ≡ Exit pid at end → unsynced_births system (log ++ e ∷ []) ≡ filter (λ b. not (same_pid b.1 pid)) (unsynced_births system log) }
 {}
 
-/// A law and no code: every other entry of a kind that is built leaves them as they are.
+/// A law and no code: in any log, every other entry of a kind that is built leaves them as they are.
 pub fn others_leave_births()
     ensures { (system : System) (log : List Entry) (e : Entry) → is_built (what e) ≡ true → changes_unsynced (what e) ≡ false → unsynced_births system (log ++ e ∷ []) ≡ unsynced_births system log }
 {}
