@@ -1,0 +1,4 @@
+//! What a cluster keeps of births is what the log says of children that never synchronised: laws and no code.
+#![tactic(auto)]
+
+pub mod unsynced;
