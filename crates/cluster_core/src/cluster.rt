@@ -185,7 +185,8 @@ impl<D: PageDisk + Drop> Cluster<D> {
     /// Takes in the next entry of the log: a letter arrives at the process here whose end it is for, and a
     /// process that ended is let go; the record of the receiver saves the letter, that of the sender counts it,
     /// and the record of a process that ended goes. A page server notes what is asked for and what came. A page comes to the
-    /// process here that waits for it, which goes on from its record once all have come. At the loss of another cluster the
+    /// process here that waits for it, which goes on from its record once all have come. At its own birth the parent forks, and the
+    /// child runs beside it. At the loss of another cluster the
     /// processes that this moves here wait for their pages, and their records are kept no more. A call of its disk that fails
     /// leaves a cluster that has failed, in which there is no process. After want of memory nothing is said of the cluster but
     /// that it can be dropped.
@@ -234,7 +235,8 @@ impl<D: PageDisk + Drop> Cluster<D> {
     /// fetch that waits. Else the lowest page is asked for that the lowest process here lacks and has not asked for. Else a
     /// process has its turn: the next one in rising pid order that can move, after the one that had it
     /// last, cyclically. Where it has read `syncreads` letters or made `syncsteps` steps since its last synchronisation it synchronises: its
-    /// changed pages are queued, and then its state. Else it runs, up to something that it sends or until it is due. Where none can move, the cluster waits if a process here waits for its pages, and rests if none does.
+    /// changed pages are queued, and then its state. Else it runs, up to something that it sends or until it is due, or up to its fork,
+    /// whose birth is queued. Where none can move, the cluster waits if a process here waits for its pages, and rests if none does.
     /// A call of its disk that fails leaves a cluster that has failed, in which there is no process. After want of memory nothing
     /// is said of the cluster but that it can be dropped.
     pub fn work(&mut self) -> Result<Worked, Hurt>
