@@ -2,4 +2,5 @@ pub mod Filters
 pub mod OtherEntries
 pub mod NewBirth
 pub mod FamilyKept
+pub mod FirstChild
 mod WorkedBirths

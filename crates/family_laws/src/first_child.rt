@@ -1,0 +1,32 @@
+//! What a log says of the child that is to be synchronised first, and of any child that never synchronised.
+ghost use Rattle.std.specs.Prelude.{◌≡◌, ◌↔◌, true, List, None, Some};
+ghost use Rattle.std.specs.List.{list_any};
+ghost use Rattle.t32_base.specs.declared.process.Pid.{Pid};
+ghost use Rattle.sys_text.specs.declared.system.System.{System};
+ghost use Rattle.sys_text.specs.Valid.{is_system};
+ghost use Rattle.bus_msg.specs.declared.entry.Entry.{Entry};
+ghost use Rattle.bus_msg.specs.Places.{same_pid};
+ghost use Rattle.birth_notice.specs.Family.{first_unsynced};
+ghost use Rattle.cert_sched.specs.Schedule.{placement};
+ghost use Rattle.cert_sched.specs.Family.{is_unsynced, births_of};
+ghost use Rattle.cert_sched.specs.Kinds.{ChildrenSynced};
+ghost use Rattle.cert_sched.specs.Legal.{IsLegalBy, Stands};
+ghost use Rattle.family_laws.specs.Unsynced.{unsynced_births};
+
+/// A law and no code: the child that is to be synchronised first, before a process.
+pub fn first_children_are_unsynced()
+    // In any log it is the child in one of the births whose children never synchronised;
+    ensures kept { (system : System) (log : List Entry) (p child : Pid) → first_unsynced (unsynced_births system log) p ≡ Some child → list_any (λ b. same_pid b.1 child) (unsynced_births system log) ≡ true }
+    // so it was born in the log,
+    ensures born { (system : System) (log : List Entry) (p child : Pid) → first_unsynced (unsynced_births system log) p ≡ Some child → list_any (λ b. same_pid b.1 child) (births_of log) ≡ true }
+    // and has not ended and never synchronised.
+    ensures unsynced { (system : System) (log : List Entry) (p child : Pid) → first_unsynced (unsynced_births system log) p ≡ Some child → is_unsynced (placement system log) child ≡ true }
+    // Where each entry stands, each of its own children has ended or synchronised.
+    ensures synced { (system : System) (log : List Entry) (p child : Pid) → is_system system ≡ true → IsLegalBy Stands system log → first_unsynced (unsynced_births system log) p ≡ Some child → ChildrenSynced system log child }
+{}
+
+/// A law and no code: in any log, no child is to be synchronised before a process just where each of its children
+/// has ended or synchronised.
+pub fn none_is_first()
+    ensures { (system : System) (log : List Entry) (p : Pid) → (first_unsynced (unsynced_births system log) p ≡ None) ↔ ChildrenSynced system log p }
+{}
