@@ -1,5 +1,5 @@
 //! What a log says of the child that is to be synchronised first, and of any child that never synchronised.
-ghost use Rattle.std.specs.Prelude.{◌≡◌, ◌↔◌, true, List, None, Some};
+ghost use Rattle.std.specs.Prelude.{◌≡◌, ◌↔◌, true, false, List, None, Some};
 ghost use Rattle.std.specs.List.{list_any};
 ghost use Rattle.t32_base.specs.declared.process.Pid.{Pid};
 ghost use Rattle.sys_text.specs.declared.system.System.{System};
@@ -8,6 +8,7 @@ ghost use Rattle.bus_msg.specs.declared.entry.Entry.{Entry};
 ghost use Rattle.bus_msg.specs.Places.{same_pid};
 ghost use Rattle.birth_notice.specs.Family.{first_unsynced};
 ghost use Rattle.cert_sched.specs.Schedule.{placement};
+ghost use Rattle.cert_sched.specs.Record.{has_state};
 ghost use Rattle.cert_sched.specs.Family.{is_unsynced, births_of};
 ghost use Rattle.cert_sched.specs.Kinds.{ChildrenSynced};
 ghost use Rattle.cert_sched.specs.Legal.{IsLegalBy, Stands};
@@ -29,4 +30,9 @@ pub fn first_children_are_unsynced()
 /// has ended or synchronised.
 pub fn none_is_first()
     ensures { (system : System) (log : List Entry) (p : Pid) → (first_unsynced (unsynced_births system log) p ≡ None) ↔ ChildrenSynced system log p }
+{}
+
+/// A law and no code: the record of a child that never synchronised has no state, since it was never cut.
+pub fn unsynced_children_have_no_state()
+    ensures { (system : System) (log : List Entry) (child : Pid) → is_system system ≡ true → IsLegalBy Stands system log → list_any (λ b. same_pid b.1 child) (unsynced_births system log) ≡ true → has_state system log child ≡ false }
 {}
