@@ -1,5 +1,5 @@
 -- The child that is to be synchronised first: it is the child in one of the births, and has no children in them.
-use Rattle.std.proofs.Common.{◌≡◌, ◌↔◌, ℕ, zero, suc, refl, sym, ◌∙◌, ap, List, [], ◌∷◌, map, length, Bool, true, false, cond, ◌&&◌, ◌||◌, Option, Some, None}
+use Rattle.std.proofs.Common.{◌≡◌, ◌↔◌, ℕ, zero, suc, refl, sym, ◌∙◌, ap, subst, eq-eqb, List, [], ◌∷◌, map, length, Bool, true, false, cond, ◌&&◌, ◌||◌, Option, Some, None}
 use Rattle.std.specs.Prelude.{filter}
 use Rattle.std.specs.List.{list_any}
 use Rattle.std.specs.Option.{option_map, unwrap_or}
@@ -18,7 +18,7 @@ use Rattle.cert_sched.specs.Kinds.{ChildrenSynced}
 use Rattle.cert_sched.specs.Legal.{IsLegalBy, Stands}
 use Rattle.cert_sched.proofs.RisingLaws.{either_not}
 use Rattle.cert_sched.proofs.CameLaws.{same_of}
-use Rattle.cert_sched.proofs.FamilyLaws.{Pair}
+use Rattle.cert_sched.proofs.FamilyLaws.{Pair, Member}
 use Rattle.family_laws.specs.Unsynced.{unsynced_births}
 use Rattle.family_laws.proofs.Filters.{one_passes, passes_any, kept_passes}
 use Rattle.family_laws.proofs.FamilyKept.{asked_of_births, births_may_stand}
@@ -29,26 +29,43 @@ use Rattle.family_laws.proofs.FamilyKept.{asked_of_births, births_may_stand}
 abbrev pub bears : Pid → Pair → Bool
 bears child b = same_pid b.1 child
 
--- the lowest child of a process is the child in one of the births
-lowest_is_child : (births : List Pair) (p child : Pid) → lowest (children_of births p) ≡ Some child → list_any (bears child) births ≡ true
-lowest_is_child births p child low =
+-- a birth by which the process has the child
+record BornBy (births : List Pair) (p child : Pid) : Type 0 where
+  pub pair : Pair
+  pub member : Member pair births
+  pub parent_is : pair.0 ≡ p
+  pub child_is : pair.1 ≡ child
+
+lowest_is_born : (births : List Pair) (p child : Pid) → lowest (children_of births p) ≡ Some child → BornBy births p child
+lowest_is_born births p child low =
     let one = one_passes (λ (b : Pair). is_of p b && same_pid b.1 child) births (lowest-born births p child low) in
-    passes_any (bears child) births one.pair one.member (and_parts (is_of p one.pair) (same_pid (one.pair).1 child) one.passes).1
+    let both = and_parts (is_of p one.pair) (same_pid (one.pair).1 child) one.passes in
+    record { pair = one.pair; member = one.member; parent_is = same_of (one.pair).0 p both.0; child_is = same_of (one.pair).1 child both.1 }
 
--- and so is the first one, however far down it stands
+-- Where each birth gives the child something for what its parent has, and the child may be a parent then, the first one has it too, however far down
+-- it stands.
+module _ (births : List Pair) (parent_has child_has : Pid → Type 0) (gives : (b : Pair) → Member b births → parent_has b.0 → child_has b.1) (on : (p : Pid) → child_has p → parent_has p) where
+  lowest_has : (p child : Pid) → lowest (children_of births p) ≡ Some child → parent_has p → child_has child
+  lowest_has p child low has =
+      let one = lowest_is_born births p child low in
+      subst child_has one.child_is (gives one.pair one.member (subst parent_has (sym one.parent_is) has))
+
+  pub within_has : (n : ℕ) (p child : Pid) → first_within n births p ≡ Some child → parent_has p → child_has child
+  within_has zero p child found has = cc
+  within_has (suc n) p child found has = by_lowest (lowest (children_of births p)) refl found (λ c below there. within_has n c child below there)
+    where
+      by_below : (c : Pid) → lowest (children_of births p) ≡ Some c → (o : Option Pid) → first_within n births c ≡ o → Some (unwrap_or o c) ≡ Some child → (first_within n births c ≡ Some child → parent_has c → child_has child) → child_has child
+      by_below c low None is found more = let same : c ≡ child = cc in lowest_has p child (low ∙ ap Some same) has
+      by_below c low (Some r) is found more = more (is ∙ found) (on c (lowest_has p c low has))
+
+      by_lowest : (o : Option Pid) → lowest (children_of births p) ≡ o → option_map (λ c. unwrap_or (first_within n births c) c) o ≡ Some child → ((c : Pid) → first_within n births c ≡ Some child → parent_has c → child_has child) → child_has child
+      by_lowest None low found more = cc
+      by_lowest (Some c) low found more = by_below c low (first_within n births c) refl found (more c)
+
+-- so it is the child in one of the births
 within_is_child : (n : ℕ) (births : List Pair) (p child : Pid) → first_within n births p ≡ Some child → list_any (bears child) births ≡ true
-within_is_child zero births p child found = cc
-within_is_child (suc n) births p child found = by_lowest (lowest (children_of births p)) refl found (λ c below. within_is_child n births c child below)
-  where
-    by_below : (c : Pid) → lowest (children_of births p) ≡ Some c → (o : Option Pid) → first_within n births c ≡ o → Some (unwrap_or o c) ≡ Some child → (first_within n births c ≡ Some child → list_any (bears child) births ≡ true)
-        → list_any (bears child) births ≡ true
-    by_below c low None is found more = let same : c ≡ child = cc in lowest_is_child births p child (low ∙ ap Some same)
-    by_below c low (Some r) is found more = more (is ∙ found)
-
-    by_lowest : (o : Option Pid) → lowest (children_of births p) ≡ o → option_map (λ c. unwrap_or (first_within n births c) c) o ≡ Some child → ((c : Pid) → first_within n births c ≡ Some child → list_any (bears child) births ≡ true)
-        → list_any (bears child) births ≡ true
-    by_lowest None low found more = cc
-    by_lowest (Some c) low found more = by_below c low (first_within n births c) refl found (more c)
+within_is_child n births p child found =
+    within_has births (λ p. Unit {0}) (λ c. list_any (bears c) births ≡ true) (λ b m has. passes_any (bears b.1) births b m (eq-eqb (b.1).0 (b.1).0 refl)) (λ p has. tt) n p child found tt
 
 -- none is first just where there are no children
 no_children : (p : Pid) (births : List Pair) → list_any (is_of p) births ≡ false → children_of births p ≡ []

@@ -1,15 +1,16 @@
 //! What a log says of the child that is to be synchronised first, and of any child that never synchronised.
-ghost use Rattle.std.specs.Prelude.{◌≡◌, ◌↔◌, true, false, List, None, Some};
+ghost use Rattle.std.specs.Prelude.{◌≡◌, ◌↔◌, true, false, ◌&&◌, List, None, Some, is_some};
 ghost use Rattle.std.specs.List.{list_any};
 ghost use Rattle.t32_base.specs.declared.process.Pid.{Pid};
 ghost use Rattle.sys_text.specs.declared.system.System.{System};
 ghost use Rattle.sys_text.specs.Valid.{is_system};
 ghost use Rattle.bus_msg.specs.declared.entry.Entry.{Entry};
-ghost use Rattle.bus_msg.specs.Places.{same_pid};
+ghost use Rattle.bus_msg.specs.Places.{same_pid, unended_at};
 ghost use Rattle.birth_notice.specs.Family.{first_unsynced};
 ghost use Rattle.cert_sched.specs.Schedule.{placement};
 ghost use Rattle.cert_sched.specs.Record.{has_state};
 ghost use Rattle.cert_sched.specs.Family.{is_unsynced, births_of};
+ghost use Rattle.cert_sched.specs.Rules.{home_at};
 ghost use Rattle.cert_sched.specs.Kinds.{ChildrenSynced};
 ghost use Rattle.cert_sched.specs.Legal.{IsLegalBy, Stands};
 ghost use Rattle.family_laws.specs.Unsynced.{unsynced_births};
@@ -35,4 +36,13 @@ pub fn none_is_first()
 /// A law and no code: the record of a child that never synchronised has no state, since it was never cut.
 pub fn unsynced_children_have_no_state()
     ensures { (system : System) (log : List Entry) (child : Pid) → is_system system ≡ true → IsLegalBy Stands system log → list_any (λ b. same_pid b.1 child) (unsynced_births system log) ≡ true → has_state system log child ≡ false }
+{}
+
+/// A law and no code: in a birth whose child never synchronised, child and parent have one home.
+pub fn unsynced_children_live_with_their_parent()
+    ensures home { (system : System) (log : List Entry) (parent child : Pid) → is_system system ≡ true → IsLegalBy Stands system log → list_any (λ b. same_pid b.0 parent && same_pid b.1 child) (unsynced_births system log) ≡ true → home_at (placement system log) child ≡ home_at (placement system log) parent }
+    // The parent has not ended: it cannot exit before its children have synchronised.
+    ensures parent { (system : System) (log : List Entry) (parent child : Pid) → is_system system ≡ true → IsLegalBy Stands system log → list_any (λ b. same_pid b.0 parent && same_pid b.1 child) (unsynced_births system log) ≡ true → is_some (unended_at (placement system log) parent) ≡ true }
+    // So the child that is to be synchronised first has the home of the process before which it is.
+    ensures first { (system : System) (log : List Entry) (p child : Pid) → is_system system ≡ true → IsLegalBy Stands system log → first_unsynced (unsynced_births system log) p ≡ Some child → home_at (placement system log) child ≡ home_at (placement system log) p }
 {}
