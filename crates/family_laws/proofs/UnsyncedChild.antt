@@ -1,5 +1,5 @@
 -- A child that never synchronised has no state in its record, and lives with its parent.
-use Rattle.std.proofs.Common.{◌≡◌, sym, ◌∙◌, ap, refl, List, length, Bool, true, false, ◌&&◌, ◌||◌, Option, Some, is_some, option_map}
+use Rattle.std.proofs.Common.{◌≡◌, sym, ◌∙◌, ap, refl, List, length, Bool, true, false, ◌&&◌, ◌||◌, Some, is_some, option_map}
 use Rattle.std.specs.List.{list_any}
 use Rattle.std.proofs.lemmas.Bool.{and_parts}
 use Rattle.t32_base.specs.declared.process.Pid.{Pid}

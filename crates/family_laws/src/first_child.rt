@@ -33,12 +33,13 @@ pub fn none_is_first()
     ensures { (system : System) (log : List Entry) (p : Pid) → (first_unsynced (unsynced_births system log) p ≡ None) ↔ ChildrenSynced system log p }
 {}
 
-/// A law and no code: the record of a child that never synchronised has no state, since it was never cut.
+/// A law and no code: where each entry stands, the record of a child that never synchronised has no state: it is no
+/// root, and was never cut.
 pub fn unsynced_children_have_no_state()
     ensures { (system : System) (log : List Entry) (child : Pid) → is_system system ≡ true → IsLegalBy Stands system log → list_any (λ b. same_pid b.1 child) (unsynced_births system log) ≡ true → has_state system log child ≡ false }
 {}
 
-/// A law and no code: in a birth whose child never synchronised, child and parent have one home.
+/// A law and no code: where each entry stands, a child that never synchronised and its parent have one home.
 pub fn unsynced_children_live_with_their_parent()
     ensures home { (system : System) (log : List Entry) (parent child : Pid) → is_system system ≡ true → IsLegalBy Stands system log → list_any (λ b. same_pid b.0 parent && same_pid b.1 child) (unsynced_births system log) ≡ true → home_at (placement system log) child ≡ home_at (placement system log) parent }
     // The parent has not ended: it cannot exit before its children have synchronised.
