@@ -1,5 +1,5 @@
--- Which pairs stay of a list of births: two tests that agree, two tests in turn, and a question to those that stay.
-use Rattle.std.proofs.Common.{◌≡◌, refl, ◌∙◌, ap, inl, inr, List, [], ◌∷◌, Bool, true, false, cond, ◌&&◌, ◌||◌}
+-- Which pairs stay of a list of births: two tests that agree, two tests in turn, a question to those that stay, and one pair that passes.
+use Rattle.std.proofs.Common.{◌≡◌, refl, sym, ◌∙◌, ap, inl, inr, List, [], ◌∷◌, Bool, true, false, cond, ◌&&◌, ◌||◌, true≢false}
 use Rattle.std.specs.Prelude.{filter}
 use Rattle.std.specs.List.{list_any}
 use Rattle.cert_sched.proofs.FamilyLaws.{Pair, Member}
@@ -45,3 +45,40 @@ none_kept s t (b ∷ bs) none = by_test (t b) (none_kept s t bs (λ c m. none c 
     by_test : (x : Bool) → list_any s (filter t bs) ≡ false → list_any s (cond x (b ∷ filter t bs) (filter t bs)) ≡ false
     by_test true more = λ i. none b (inl refl) i || more i
     by_test false more = more
+
+-- ---- one pair
+
+-- a pair that passes
+pub record Passes (t : Pair → Bool) (bs : List Pair) : Type 0 where
+  pub pair : Pair
+  pub member : Member pair bs
+  pub passes : t pair ≡ true
+
+-- where any passes there is one that does
+pub one_passes : (t : Pair → Bool) (bs : List Pair) → list_any t bs ≡ true → Passes t bs
+one_passes t [] any = absurd (true≢false (sym any))
+one_passes t (b ∷ bs) any = by_test (t b) refl any (one_passes t bs)
+  where
+    by_test : (x : Bool) → t b ≡ x → (x || list_any t bs) ≡ true → (list_any t bs ≡ true → Passes t bs) → Passes t (b ∷ bs)
+    by_test true is any more = record { pair = b; member = inl refl; passes = is }
+    by_test false is any more = let one = more any in record { pair = one.pair; member = inr one.member; passes = one.passes }
+
+-- and the other way round
+pub passes_any : (t : Pair → Bool) (bs : List Pair) (b : Pair) → Member b bs → t b ≡ true → list_any t bs ≡ true
+passes_any t [] b m passes = absurd m
+passes_any t (c ∷ bs) b (inl same) passes = λ i. (ap t (sym same) ∙ passes) i || list_any t bs
+passes_any t (c ∷ bs) b (inr later) passes = by_test (t c) (passes_any t bs b later passes)
+  where
+    by_test : (x : Bool) → list_any t bs ≡ true → (x || list_any t bs) ≡ true
+    by_test true more = refl
+    by_test false more = more
+
+-- a pair that stays was there, and passes
+pub kept_passes : (t : Pair → Bool) (bs : List Pair) (b : Pair) → Member b (filter t bs) → Member b bs × (t b ≡ true)
+kept_passes t [] b m = absurd m
+kept_passes t (c ∷ bs) b m = by_test (t c) refl m (kept_passes t bs b)
+  where
+    by_test : (x : Bool) → t c ≡ x → Member b (cond x (c ∷ filter t bs) (filter t bs)) → (Member b (filter t bs) → Member b bs × (t b ≡ true)) → Member b (c ∷ bs) × (t b ≡ true)
+    by_test true is (inl same) more = (inl same, ap t same ∙ is)
+    by_test true is (inr later) more = let rest = more later in (inr rest.0, rest.1)
+    by_test false is later more = let rest = more later in (inr rest.0, rest.1)
