@@ -27,6 +27,9 @@ use Rattle.cert_sched.proofs.MailLaws.{sent_no_signal}
 use Rattle.cert_sched.proofs.NextChildren.{may_be_absorbed}
 use Rattle.cert_sched.proofs.StepLaws.{Tells}
 use Rattle.backup_records.specs.Records.{are_rising, record_in, records_after}
+use Rattle.family_laws.specs.Unsynced.{unsynced_births}
+use Rattle.cluster_core.specs.Families.{CanJoin}
+use Rattle.cluster_core.proofs.FamilyNext.{can_join}
 use Rattle.cluster_core.specs.View.{ClusterView, Held, Runs, Rolls, with_server, Waits, held_at, held_of}
 use Rattle.cluster_core.specs.Parts.{AllOwn}
 use Rattle.cluster_core.specs.Recovered.{moved_by, CanWait, with_all_waiting}
@@ -271,6 +274,14 @@ ready_absorbable c e valid r =
     places_ready : (c : ClusterView) (log : List Entry) (e : Entry) → IsReady log e c → c.places ≡ placement c.system log
     places_ready c log e (inl f) = ((f.0).log).places
     places_ready c log e (inr s) = ap (λ (d : ClusterView). d.places) (s.sent ∙ sent_is s.before (s.before).queue) ∙ ((s.followed).log).places
+
+-- a child that it tells of is new among those that never synchronised
+pub ready_joins : (c : ClusterView) (e : Entry) → is_system c.system ≡ true → ReadyFor e c → CanJoin (what e) c.family
+ready_joins c e valid r = can_join c.system r.log e c.family valid r.open_log r.open_next (families_ready r.ready)
+  where
+    families_ready : IsReady r.log e c → c.family ≡ unsynced_births c.system r.log
+    families_ready (inl f) = (f.0).family
+    families_ready (inr s) = ap (λ (d : ClusterView). d.family) (s.sent ∙ sent_is s.before (s.before).queue) ∙ (s.followed).family
 
 pub ready_own : (c : ClusterView) (e : Entry) → ReadyFor e c → AllOwn c.cursor c.here → AllOwn (c.cursor + 1) (here_after (what e) c.here)
 ready_own c e r own = by_loss (one_of c.system r.log e r.open_next)

@@ -125,6 +125,7 @@ module _ (c : ClusterView) (served : Option PagerState) (post : Post) (owed : ow
         marks_queued c log post valid empty go f (ap (λ (p : Post). is_lone p.what) a.post_is) (ap (λ (p : Post). is_from c.number p.by) a.post_is ∙ eq-eqb (c.number).0 (c.number).0 refl) (may_then log go f) q h there (held_then log empty f q h there)
         (f.marks q h there);
     records = f.records;
+    family = f.family;
     accounts = accounts_answered c.system log c (answered_view c served post) post a refl empty refl f.accounts;
     disk = ((f.disk).0, ahead_answered c.number c.server served post a (f.disk).1);
   }

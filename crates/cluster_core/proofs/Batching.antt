@@ -101,6 +101,7 @@ module _ (system : System) (log : List Entry) (c : ClusterView) (y : Synchronise
     pages = f.pages;
     marks = marks;
     records = f.records;
+    family = f.family;
     accounts = record { keeps = (f.accounts).keeps; there = (f.accounts).there; calls = λ kept server. subst (λ n. capped n ≤ disk_calls c) calls ((f.accounts).calls kept server) };
     disk = f.disk;
   }
@@ -153,6 +154,7 @@ module _ (system : System) (log : List Entry) (c : ClusterView) (y : Synchronise
     pages = f.pages;
     marks = marks;
     records = f.records;
+    family = f.family;
     accounts = record { keeps = (f.accounts).keeps; there = (f.accounts).there; calls = λ kept server. subst (λ n. capped n ≤ disk_calls c) (sym calls) ((f.accounts).calls kept server) };
     disk = f.disk;
   }

@@ -109,6 +109,7 @@ module _ (c : ClusterView) (p : Pid) (was : Held) (forking : Forking) (new : Hel
     pages = pages_beside c log p (Runs k.now) f.pages (λ some. f.pages p was there (rolls_in k.rolled was k.between k.rolls));
     marks = λ q h at all. marks_beside c log p (Runs k.now) [] f marked (λ q h other at m. subst (λ ps. MarkedIfThere CarriesMarks c.system (with_queue c.system log ps) q (unended_process h)) empty m) q h at;
     records = f.records;
+    family = f.family;
     accounts = record {
       keeps = (f.accounts).keeps;
       there = (f.accounts).there;

@@ -138,6 +138,7 @@ module _ (c : ClusterView) (p : Pid) (process : Process) (valid : is_system c.sy
     pages = pages_beside c log p (Runs (synced process)) f.pages (λ some. has);
     marks = others_marked;
     records = f.records;
+    family = f.family;
     accounts = record {
       keeps = (f.accounts).keeps;
       there = (f.accounts).there;

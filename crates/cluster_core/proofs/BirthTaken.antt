@@ -29,6 +29,8 @@ use Rattle.backup_records.specs.Records.{records_after}
 use Rattle.record_laws.specs.Kept.{changes_in_place}
 use Rattle.record_laws.proofs.KeptLaws.{records_kept}
 use Rattle.record_laws.proofs.Standing.{built_stands}
+use Rattle.cluster_core.specs.Families.{family_after}
+use Rattle.cluster_core.proofs.FamilyNext.{family_next}
 use Rattle.cluster_core.specs.View.{ClusterView, Held, Runs, IsHeldWithin, after_sent, held_at, held_of, limits_of, next_count, with_server}
 use Rattle.cluster_core.specs.Residents.{pids_in}
 use Rattle.cluster_core.specs.Parts.{AllOwn}
@@ -135,7 +137,7 @@ module _ (system : System) (valid : is_system system ≡ true) (log : List Entry
 
   -- the cluster with the fork made
   abbrev born_view : ClusterView
-  born_view = record v { cursor = v.cursor + 1; places = placed_after v.places (what e); here = with_born p child v.here; records = records_after (what e) v.records; queue = []; tried = false; steps = next_count v.steps }
+  born_view = record v { cursor = v.cursor + 1; places = placed_after v.places (what e); here = with_born p child v.here; records = records_after (what e) v.records; family = family_after (what e) v.family; queue = []; tried = false; steps = next_count v.steps }
 
   same_whole : with_queue system log v.queue ≡ later
   same_whole = ap (with_queue system log) b.posts ∙ ap (λ (x : Entry). log ++ x ∷ []) whole
@@ -165,6 +167,7 @@ module _ (system : System) (valid : is_system system ≡ true) (log : List Entry
         (other_pages system valid log e v f b whole now next);
     marks = each (λ q h. MarkedIfThere CarriesMarks system later q (unended_process h)) (parent_marked system valid log e v f b whole now next) (child_marked system valid log e v f b whole now next)
         (other_marked system valid log e v f b whole now next);
+    family = family_next system log e v.family valid now next g.family;
     records = records_kept system log e v.number v.records valid (built_stands system later next.0) (ap changes_in_place is) g.records;
     accounts = accounts_on system log e v (with_server server born_view) serves refl calls g.accounts;
     disk = ((g.disk).0, ahead_after places e v.server server serves (g.disk).1);
@@ -180,13 +183,14 @@ module _ (system : System) (valid : is_system system ≡ true) (log : List Entry
         places = placed_after v.places w;
         here = with_all_waiting (moved_by v.places v.number w (records_after w v.records)) (here_after w v.here);
         records = left_by v.places v.number w (records_after w v.records);
+        family = family_after w v.family;
         queue = [];
         tried = false;
         steps = next_count v.steps;
       }
 
       made : What → ClusterView
-      made w = record v { cursor = v.cursor + 1; places = placed_after v.places w; here = with_born p child v.here; records = records_after w v.records; queue = []; tried = false; steps = next_count v.steps }
+      made w = record v { cursor = v.cursor + 1; places = placed_after v.places w; here = with_born p child v.here; records = records_after w v.records; family = family_after w v.family; queue = []; tried = false; steps = next_count v.steps }
 
 -- a cluster that takes in the birth that it had queued
 pub follows_own_birth : (c : ClusterView) (log : List Entry) (e : Entry) (server : Option PagerState) → is_system c.system ≡ true → AllOwn c.cursor c.here → IsOpen BuiltMayFollow c.system log → IsOpen BuiltMayFollow c.system (log ++ e ∷ [])

@@ -40,6 +40,7 @@ use Rattle.cert_sched.specs.Parts.{rising}
 use Rattle.cert_sched.specs.Rests.{home_pids}
 use Rattle.cluster_core.specs.Bearing.{with_fork}
 use Rattle.cluster_core.specs.Residents.{pids_in}
+use Rattle.cluster_core.specs.Families.{family_after}
 use Rattle.cluster_core.specs.View.{ClusterView, Held, held_of, next_count, with_server}
 use Rattle.cluster_core.specs.Parts.{AllOwn}
 use Rattle.cluster_core.specs.Recovered.{left_by, moved_by, with_all_waiting}
@@ -67,11 +68,12 @@ birth_taken c e parent at child end is away = ap taken is ∙ ap (λ o. record (
       places = placed_after c.places w;
       here = with_all_waiting (moved_by c.places c.number w (records_after w c.records)) (here_after w c.here);
       records = left_by c.places c.number w (records_after w c.records);
+      family = family_after w c.family;
       steps = next_count c.steps;
     }
 
     spared : What → ClusterView
-    spared w = record c { cursor = c.cursor + 1; places = placed_after c.places w; records = records_after w c.records; steps = next_count c.steps }
+    spared w = record c { cursor = c.cursor + 1; places = placed_after c.places w; records = records_after w c.records; family = family_after w c.family; steps = next_count c.steps }
 
 module _ (system : System) (valid : is_system system ≡ true) (log : List Entry) (e : Entry) (parent : Pid) (at : ℕ) (child : Pid) (end : ℕ) (is : what e ≡ Birth parent at child end) (now : IsOpen BuiltMayFollow system log) (next : IsOpen BuiltMayFollow system (log ++ e ∷ [])) where
   abbrev later : List Entry

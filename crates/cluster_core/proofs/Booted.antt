@@ -43,6 +43,7 @@ use Rattle.cluster_core.specs.Holds.{IsHeldAs, CarriesMarks, MarkedIfThere, unen
 use Rattle.cluster_core.specs.Parts.{AllOwn, IsHeldOwn, IsOwn}
 use Rattle.cluster_core.specs.Queue.{Nothing}
 use Rattle.cluster_core.specs.Residents.{pids_in}
+use Rattle.family_laws.specs.Unsynced.{unsynced_births}
 use Rattle.cluster_core.specs.View.{ClusterView, Held, Runs, held_at, held_of, IsHeldWithin, limits_of}
 use Rattle.cluster_core.proofs.Here.{is_among}
 use Rattle.cluster_core.proofs.Passing.{found_passing, passing, passing_apart, pids_pass, pids_under, process_is}
@@ -178,6 +179,7 @@ boot_view system number here recs server failed = record {
   places = places_at_boot system;
   here = here;
   records = recs;
+  family = [];
   server = server;
   queue = [];
   tried = false;
@@ -224,6 +226,10 @@ limits_at_boot system number here is p h at =
     let fresh = one.fresh in
     subst (IsHeldWithin (limits_of system)) (sym one.is) (start_within (limits_of system) one.process fresh.unread (fresh.synced ∙ sym fresh.steps))
 
+-- no child yet
+none_yet : (system : System) → [] ≡ unsynced_births system []
+none_yet system = refl
+
 -- a cluster at boot follows the empty log, where no call of its disk failed
 pub boot_follows : (system : System) (number : ClusterNo) (here : List (Pid × Held)) (recs : List BackRec) (server : Option PagerState) (failed : Option ℕ) → is_system system ≡ true → AreBooted system number here → KeepsRecords system [] number recs
     → is_some server ≡ is_server system number → BeginsToServe system server → (failed ≡ None) × IsAheadThere server → FollowsBuilt system [] (boot_view system number here recs server failed)
@@ -237,6 +243,7 @@ boot_follows system number here recs server failed valid is kept there begins so
   pages = λ p h at some. pages_at_boot system p;
   marks = marks_at_boot system number here is valid;
   records = kept;
+  family = none_yet system;
   accounts = accounts_begin system (boot_view system number here recs server failed) refl there begins;
   disk = sound;
 }

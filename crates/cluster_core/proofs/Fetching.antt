@@ -120,6 +120,7 @@ module _ (c : ClusterView) (p : Pid) (index : ℕ) (waiting : WaitingState) (emp
       marks = marks_beside c log p asked (fetch_post c.number p index ∷ []) f tt
           (λ q h other at. marks_queued c log (fetch_post c.number p index) valid empty go f refl (eq-eqb (c.number).0 (c.number).0 refl) fetch_follows q h at (others log q h other ((f.processes).held q h at)));
       records = f.records;
+      family = f.family;
       accounts = accounts_queued c.system log c (record c { here = with_changed p asked c.here; queue = fetch_post c.number p index ∷ []; steps = next_count c.steps }) (fetch_post c.number p index) refl refl empty refl refl f.accounts;
       disk = f.disk;
     }

@@ -37,6 +37,7 @@ mod Spared
 mod Synchronising
 mod BirthHomes
 mod StatedNow
+mod FamilyNext
 mod Births
 mod BirthQueued
 mod OwnBirth

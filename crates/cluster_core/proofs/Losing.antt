@@ -43,6 +43,9 @@ use Rattle.recovery.specs.Begun.{number_of}
 use Rattle.recovery_laws.specs.Behind.{RollsBehind}
 use Rattle.recovery_laws.proofs.KeepingBehind.{behind_standing}
 use Rattle.recovery_laws.proofs.ByRule.{built_stands as standing}
+use Rattle.family_laws.specs.Unsynced.{unsynced_births}
+use Rattle.cluster_core.specs.Families.{family_after}
+use Rattle.cluster_core.proofs.FamilyNext.{family_next}
 use Rattle.cluster_core.specs.View.{ClusterView, Held, Runs, Rolls, Waits, held_of, next_count, with_server, IsHeldWithin, limits_of}
 use Rattle.cluster_core.specs.Residents.{pids_in}
 use Rattle.cluster_core.specs.Parts.{AllOwn}
@@ -338,6 +341,7 @@ module _ (system : System) (valid : is_system system ≡ true) (log : List Entry
     pages = pages;
     marks = marks;
     records = subst (λ k. KeepsRecords system later k (filter (stays places lost k) c.records)) (sym number_is) (loss_kept system log e lost k cause c.records valid (built_stands system later n.more) n.same apart keeps);
+    family = subst (λ w. family_after w c.family ≡ unsynced_births system later) n.same (family_next system log e c.family valid (n.legal, n.before) (n.more, n.goes_on) f.family);
     accounts =
         accounts_next system log e c (with_server server after) q (foreign_no_answer c.number e (ap (λ k. is_by_cluster k e) number_is ∙ foreign)) serves refl queue_is queue_is posts_legal f.accounts;
     disk = ((f.disk).0, ahead_after places e c.server server serves (f.disk).1);
@@ -378,6 +382,7 @@ module _ (system : System) (valid : is_system system ≡ true) (log : List Entry
             places = placed_after (places_is i) (n.same i);
             here = with_all_waiting (moved_by (places_is i) c.number (n.same i) (records_after (n.same i) c.records)) (here_after (n.same i) c.here);
             records = left_by (places_is i) c.number (n.same i) (records_after (n.same i) c.records);
+            family = family_after (n.same i) c.family;
             steps = next_count c.steps;
           })
           ∙ (λ i. record c {

@@ -38,6 +38,7 @@ use Rattle.cluster_core.specs.Bearing.{BearsChild}
 use Rattle.cluster_core.specs.Follows.{FollowsBuilt, IsOpen, StandsBetween}
 use Rattle.cluster_core.specs.Calls.{absorbed}
 use Rattle.cluster_core.specs.Serving.{Serves}
+use Rattle.cluster_core.proofs.FamilyNext.{family_next}
 use Rattle.cluster_core.proofs.BatchPosts.{batch_fetches_none, batch_moves, batch_moves_other}
 use Rattle.cluster_core.proofs.ByKind.{by_sync, is_of_sync}
 use Rattle.cluster_core.proofs.Counted.{count_by-snoc, lost_before}
@@ -152,6 +153,7 @@ module _ (system : System) (valid : is_system system ≡ true) (log : List Entry
     limits = f.limits;
     pages = λ q h at runs. pages_after system log e q b.number valid now.0 (stands system valid log e of now next) (differ system valid log e of now next) (home q h at) (loses_none system valid log e of now next b.number) (f.pages q h at runs);
     marks = λ q h at. subst (λ whole. MarkedIfThere CarriesMarks system whole q (unended_process h)) same_whole (f.marks q h at);
+    family = family_next system log e b.family valid now next f.family;
     records = records_stay system valid log e of now next b.number b.records f.records;
     accounts = accounts_on system log e b (with_server server (passed (left b rest) e)) serves refl calls f.accounts;
     disk = ((f.disk).0, ahead_after (placement system log) e b.server server serves (f.disk).1);

@@ -31,6 +31,7 @@ use Rattle.record_laws.proofs.Standing.{built_stands}
 use Rattle.recovery_laws.specs.Behind.{RollsBehind}
 use Rattle.recovery_laws.proofs.KeepingBehind.{behind_standing}
 use Rattle.recovery_laws.proofs.ByRule.{built_stands as standing}
+use Rattle.cluster_core.specs.Families.{family_after}
 use Rattle.cluster_core.specs.View.{page_held, ClusterView, Held, Runs, Rolls, Waits, next_count, with_server, held_of, IsHeldWithin, limits_of, rolling_held}
 use Rattle.cluster_core.specs.Residents.{pids_in}
 use Rattle.cluster_core.specs.Queue.{AreTogether, Queued, Nothing, One, posts_of, IsQueueLegal, move_of, state_by, state_now, with_queue}
@@ -38,6 +39,7 @@ use Rattle.cluster_core.specs.Recovered.{left_by, moved_by, with_all_waiting}
 use Rattle.cluster_core.specs.Holds.{IsHeldAs, is_fetch_queued, process_in, CarriesMarks, MarkedIfThere, unended_process, HoldsLimits}
 use Rattle.cluster_core.specs.Follows.{FollowsBuilt, IsOpen}
 use Rattle.cluster_core.specs.Calls.{absorbed, here_after, with_page_come}
+use Rattle.cluster_core.proofs.FamilyNext.{family_next}
 use Rattle.cluster_core.proofs.ByKind.{by_page, is_of_page, lone_is, may_told, page_unlost, told_may}
 use Rattle.cluster_core.proofs.Beside.{FollowsBeside}
 use Rattle.cluster_core.proofs.Here.{is_among, pid_same}
@@ -162,7 +164,7 @@ pids_paged w here = by_page (λ w. pids_in (here_after w here) ≡ pids_in here)
 
 -- what the cluster is then
 abbrev pub paged : ClusterView → Entry → ClusterView
-paged c e = record c { cursor = c.cursor + 1; places = placed_after c.places (what e); here = here_after (what e) c.here; steps = next_count c.steps }
+paged c e = record c { cursor = c.cursor + 1; places = placed_after c.places (what e); here = here_after (what e) c.here; family = family_after (what e) c.family; steps = next_count c.steps }
 
 pub page_taken : (c : ClusterView) (e : Entry) → is_of_page (what e) ≡ true → absorbed c e ≡ paged c e
 page_taken c e =
@@ -171,8 +173,9 @@ page_taken c e =
       places = placed_after c.places w;
       here = with_all_waiting (moved_by c.places c.number w (records_after w c.records)) (here_after w c.here);
       records = left_by c.places c.number w (records_after w c.records);
+      family = family_after w c.family;
       steps = next_count c.steps;
-    } ≡ record c { cursor = c.cursor + 1; places = placed_after c.places w; here = here_after w c.here; steps = next_count c.steps }) (λ pid index. refl) (λ pid index bytes. refl) (what e)
+    } ≡ record c { cursor = c.cursor + 1; places = placed_after c.places w; here = here_after w c.here; family = family_after w c.family; steps = next_count c.steps }) (λ pid index. refl) (λ pid index bytes. refl) (what e)
 
 module _ (system : System) (valid : is_system system ≡ true) (log : List Entry) (e : Entry) (of : is_of_page (what e) ≡ true) (now : IsOpen BuiltMayFollow system log) (next : IsOpen BuiltMayFollow system (log ++ e ∷ [])) where
   abbrev later : List Entry
@@ -391,6 +394,7 @@ module _ (system : System) (valid : is_system system ≡ true) (log : List Entry
     limits = limits_after c f.limits;
     pages = pages;
     marks = marks;
+    family = family_next system log e c.family valid now next f.family;
     records = records_stay c.number c.records f.records;
     accounts = accounts_next system log e c (with_server server (paged c e)) q (foreign_no_answer c.number e foreign) serves refl queue_is queue_is posts_legal f.accounts;
     disk = ((f.disk).0, ahead_after (placement system log) e c.server server serves (f.disk).1);
@@ -460,6 +464,7 @@ module _ (system : System) (valid : is_system system ≡ true) (log : List Entry
     limits = limits_after c (subst (λ hs. (p : Pid) (h : Held) → held_of hs p ≡ Some h → IsHeldWithin (limits_of system) h) here f.limits);
     pages = pages;
     marks = λ p h at. subst (λ ps. MarkedIfThere CarriesMarks system (with_queue system later ps) p (unended_process h)) (sym empty) (marks p h at);
+    family = family_next system log e c.family valid now next (ap (λ (d : ClusterView). d.family) l.same ∙ f.family);
     records = records_stay c.number c.records (subst (λ recs. KeepsRecords system log c.number recs) (sym (ap (λ (d : ClusterView). d.records) l.same)) (subst (λ k. KeepsRecords system log k (l.before).records) number f.records));
     accounts =
         accounts_sent system log e l.before (with_server server (paged c e)) (page_unlost (what e) of) (subst (λ old. Serves (placement system log) e old server) (ap (λ (d : ClusterView). d.server) l.same) serves) (sym number) l.posts empty f.accounts;

@@ -44,12 +44,14 @@ use Rattle.page_server.specs.Account.{PagerState}
 use Rattle.page_waits.specs.Waiting.{WaitingState}
 use Rattle.wait_laws.specs.Waits.{WaitsAs}
 use Rattle.wait_laws.proofs.Follows.{other_entry}
+use Rattle.cluster_core.specs.Families.{family_after}
 use Rattle.cluster_core.specs.View.{ClusterView, Held, Runs, Rolls, Waits, held_of, next_count, with_server}
 use Rattle.cluster_core.specs.Residents.{pids_in}
 use Rattle.cluster_core.specs.Parts.{AllOwn}
 use Rattle.cluster_core.specs.Queue.{AreTogether, Queued, Nothing, One, posts_of, IsQueueLegal, is_move_of, state_by, state_now, taken_by, with_queue}
 use Rattle.cluster_core.specs.Holds.{IsHeldAs, is_fetch_queued, CarriesMarks, MarkedIfThere, unended_process}
 use Rattle.cluster_core.specs.Follows.{IsOpen}
+use Rattle.cluster_core.proofs.FamilyNext.{family_next}
 use Rattle.cluster_core.proofs.Beside.{FollowsBeside}
 use Rattle.cluster_core.specs.Calls.{absorbed}
 use Rattle.cluster_core.specs.Serving.{Serves}
@@ -109,7 +111,7 @@ pub record BringsNothing (system : System) (log : List Entry) (e : Entry) : Type
 
 -- what the cluster is then
 abbrev pub passed : ClusterView → Entry → ClusterView
-passed c e = record c { cursor = c.cursor + 1; places = placed_after c.places (what e); records = records_after (what e) c.records; steps = next_count c.steps }
+passed c e = record c { cursor = c.cursor + 1; places = placed_after c.places (what e); records = records_after (what e) c.records; family = family_after (what e) c.family; steps = next_count c.steps }
 
 module _ (system : System) (valid : is_system system ≡ true) (log : List Entry) (e : Entry) (now : IsOpen BuiltMayFollow system log) (next : IsOpen BuiltMayFollow system (log ++ e ∷ [])) (n : BringsNothing system log e) where
   abbrev later : List Entry
@@ -237,6 +239,7 @@ module _ (system : System) (valid : is_system system ≡ true) (log : List Entry
     limits = f.limits;
     pages = λ p h at runs. pages_after system log e p c.number valid now.0 stands differ (home_of p h at) (loses_none c.number) (f.pages p h at runs);
     marks = marks;
+    family = family_next system log e c.family valid now next f.family;
     records = records;
     accounts = accounts_next system log e c (with_server server (passed c e)) q (foreign_no_answer c.number e foreign) serves refl queue_is queue_is posts_legal f.accounts;
     disk = ((f.disk).0, ahead_after places e c.server server serves (f.disk).1);

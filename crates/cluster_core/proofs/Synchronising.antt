@@ -39,6 +39,7 @@ use Rattle.record_laws.proofs.KeptLaws.{records_kept}
 use Rattle.record_laws.proofs.Standing.{built_stands}
 use Rattle.page_server.specs.Account.{PagerState}
 use Rattle.page_waits.specs.Waiting.{WaitingState}
+use Rattle.cluster_core.specs.Families.{family_after}
 use Rattle.cluster_core.specs.View.{ClusterView, Held, Waits, next_count, with_server}
 use Rattle.cluster_core.specs.Parts.{AllOwn}
 use Rattle.cluster_core.specs.Queue.{AreTogether, Queued, posts_of, is_lone}
@@ -66,8 +67,9 @@ sync_taken c e =
       places = placed_after c.places w;
       here = with_all_waiting (moved_by c.places c.number w (records_after w c.records)) (here_after w c.here);
       records = left_by c.places c.number w (records_after w c.records);
+      family = family_after w c.family;
       steps = next_count c.steps;
-    } ≡ record c { cursor = c.cursor + 1; places = placed_after c.places w; records = records_after w c.records; steps = next_count c.steps }) (λ pid at index bytes. refl) (λ pid small read. refl) (what e)
+    } ≡ record c { cursor = c.cursor + 1; places = placed_after c.places w; records = records_after w c.records; family = family_after w c.family; steps = next_count c.steps }) (λ pid at index bytes. refl) (λ pid small read. refl) (what e)
 
 module _ (system : System) (valid : is_system system ≡ true) (log : List Entry) (e : Entry) (of : is_of_sync (what e) ≡ true) (now : IsOpen BuiltMayFollow system log) (next : IsOpen BuiltMayFollow system (log ++ e ∷ [])) where
   abbrev later : List Entry

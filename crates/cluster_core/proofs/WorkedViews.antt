@@ -128,6 +128,7 @@ empty_view system n log = record {
   places = placement system log;
   here = [];
   records = [];
+  family = [];
   server = None;
   queue = [];
   tried = false;

@@ -172,6 +172,7 @@ goes_on_rested c log now f = record {
   pages = f.pages;
   marks = f.marks;
   records = f.records;
+  family = f.family;
   accounts = record { keeps = (f.accounts).keeps; there = (f.accounts).there; calls = (f.accounts).calls };
   disk = f.disk;
 }
@@ -194,6 +195,7 @@ follows_tried c log f = record {
   pages = f.pages;
   marks = f.marks;
   records = f.records;
+  family = f.family;
   accounts = record { keeps = (f.accounts).keeps; there = (f.accounts).there; calls = (f.accounts).calls };
   disk = f.disk;
 }
@@ -371,6 +373,7 @@ moved_goes_on c p was new valid empty there moves log go f = record {
   pages = pages_beside c log p new f.pages (λ some. f.pages p was there (can_in (limits_of c.system) was (moves_can (limits_of c.system) 64 was new moves)));
   marks = marks_beside c log p new c.queue f (subst (λ ps. MarkedIfThere CarriesMarks c.system (with_queue c.system log ps) p (unended_process new)) (sym empty) (moved_marked c p was empty there valid log go f new moves)) (λ q h other held m. m);
   records = f.records;
+  family = f.family;
   accounts = record { keeps = (f.accounts).keeps; there = (f.accounts).there; calls = (f.accounts).calls };
   disk = f.disk;
 }
@@ -568,6 +571,7 @@ module _ (c : ClusterView) (p : Pid) (was : Held) (sending : Sending) (new : Hel
     pages = pages_beside c log p (Runs s.now) f.pages (λ some. f.pages p was there (can_in (limits_of c.system) was (sends_can (limits_of c.system) 64 was sending new s)));
     marks = marks_beside c log p (Runs s.now) (post ∷ []) f (sent_marked valid has log go f) (others_marked valid has log go f);
     records = f.records;
+    family = f.family;
     accounts = accounts_queued c.system log c (posted_view c (with_changed p (Runs s.now) c.here) post) post refl refl empty refl no_page f.accounts;
     disk = f.disk;
   }

@@ -36,6 +36,7 @@ use Rattle.cluster_core.specs.Serving.{FailsNext}
 use Rattle.cluster_core.specs.Residents.{with_changed}
 use Rattle.cluster_core.specs.Recovered.{left_by, moved_by, with_all_waiting}
 use Rattle.cluster_core.specs.Bearing.{birth_post, with_born}
+use Rattle.cluster_core.specs.Families.{family_after}
 use Rattle.cluster_core.specs.Work.{AnswersNext, AsksNext, any_lacks, child_of, fetch_post, owes_answer}
 use Rattle.cluster_core.specs.Follows.{FollowsBuilt, IsOpen, StandsBetween}
 
@@ -104,6 +105,7 @@ absorbed c e = record c {
   places = placed_after c.places (what e);
   here = with_all_waiting (moved_by c.places c.number (what e) (records_after (what e) c.records)) (here_after (what e) c.here);
   records = left_by c.places c.number (what e) (records_after (what e) c.records);
+  family = family_after (what e) c.family;
   steps = next_count c.steps;
 }
 

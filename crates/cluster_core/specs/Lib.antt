@@ -10,6 +10,7 @@ pub mod Queue
 pub mod Holds
 pub mod Syncing
 pub mod Bearing
+pub mod Families
 pub mod Follows
 pub mod Calls
 pub mod Booting

@@ -41,6 +41,7 @@ pub record ClusterView : Type 0 where
   pub places : Places
   pub here : List (Pid × Held)
   pub records : List BackRec
+  pub family : List (Pid × Pid)
   pub server : Option PagerState
   pub queue : List Post
   pub tried : Bool

@@ -12,6 +12,7 @@ ghost use Rattle.cluster_core.specs.Calls.{Absorbs, absorbed, FollowsSome, GoesO
 
 use crate::absorb::{note, tell};
 use crate::booting::parts_at_boot;
+use crate::families::join;
 use crate::hurt::Hurt;
 use crate::residents::Residents;
 use crate::serving::serve;
@@ -19,6 +20,7 @@ use crate::taking_over::take_over;
 use crate::work::work_on;
 use crate::worked::Worked;
 use backup_records::records::Records;
+use birth_notice::family::Family;
 use bus_msg::entry::{Entry, Post};
 use bus_msg::shared::Shared;
 use cert_sched::start::placement_at_boot;
@@ -35,8 +37,8 @@ use t32_base::process::{ClusterNo, Pid};
 use t32_base::streams::NoMemory;
 
 /// A cluster of a system: the placement, the processes at home there, the records of the processes whose backup
-/// is there, the accounts of pages and the fetches that wait where it is one of the two page servers, and the posts
-/// that it has to send.
+/// is there, the children that never synchronised, the accounts of pages and the fetches that wait where it is one
+/// of the two page servers, and the posts that it has to send.
 #[derive(Drop)]
 pub struct Cluster<D: PageDisk> {
     alloc: Global,
@@ -46,6 +48,7 @@ pub struct Cluster<D: PageDisk> {
     places: Placement,
     here: Residents,
     records: Records,
+    family: Family,
     server: Option<Pager<D>>,
     queue: VecDeque<Post>,
     tried: bool,
@@ -68,6 +71,7 @@ impl<D: PageDisk> Model for Cluster<D> {
       places = c.places;
       here = (c.here).here;
       records = c.records;
+      family = c.family;
       server = c.server;
       queue = (c.queue).items;
       tried = c.tried;
@@ -107,6 +111,7 @@ impl<D: PageDisk + Drop> Cluster<D> {
             places,
             here: parts.here,
             records: parts.records,
+            family: Family::none(alloc),
             server: parts.server,
             queue: VecDeque::new(alloc),
             tried: false,
@@ -216,6 +221,7 @@ impl<D: PageDisk + Drop> Cluster<D> {
     {
         serve(&mut self.server, &self.places, entry)?;
         note(self.number, &mut self.records, entry)?;
+        join(&mut self.family, entry)?;
         tell(self.alloc, self.number, &mut self.here, entry)?;
         self.cursor += 1;
         take_over(

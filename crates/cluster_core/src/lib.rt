@@ -4,6 +4,7 @@
 mod absorb;
 mod booting;
 pub mod cluster;
+mod families;
 pub mod hurt;
 pub mod quantum;
 pub mod resident;

@@ -11,11 +11,12 @@ use Rattle.cluster_core.specs.Serving.{Serves}
 use Rattle.cluster_core.specs.Parts.{AllOwn}
 use Rattle.cluster_core.specs.Recovered.{CanWait, left_by, moved_by, with_all_waiting}
 use Rattle.cluster_core.specs.Calls.{Absorbs, absorbed, here_after}
+use Rattle.cluster_core.specs.Families.{CanJoin, family_after}
 use Rattle.cluster_core.specs.Absorbing.{CanBeBorn, CanCome, ComesHere, IsNotedHere}
 use Rattle.cluster_core.proofs.Arriving.{comes_here}
 use Rattle.cluster_core.proofs.Noting.{can_note_next, noted_next}
 use Rattle.cluster_core.proofs.Owning.{has_room}
-use Rattle.cluster_core.proofs.Absorbed.{absorbs, may_come, may_wait, own_either, ready_absorbable, ready_own}
+use Rattle.cluster_core.proofs.Absorbed.{absorbs, may_come, may_wait, own_either, ready_absorbable, ready_joins, ready_own}
 use Rattle.cluster_core.proofs.OwningWaits.{owns_waiting}
 use Rattle.cluster_core.proofs.Bearable.{may_be_born}
 use Rattle.cluster_core.proofs.cluster.Cluster.take_in.Goals as goal
@@ -38,6 +39,12 @@ note-requires-clause-here g c =
     let old : ClusterView = c.args.self.now in
     let valid : is_system old.system ≡ true = subst (λ (v : ClusterView). is_system v.system ≡ true) c.self.view_is c.self.invariant.valid in
     subst (λ (v : ClusterView). IsNotedHere v.number c.args.entry.now v.records) (sym c.self.view_is) (noted_next old c.args.entry.now valid c.requires.ready)
+
+pub join-requires : goal.join-requires
+join-requires g c =
+    let old : ClusterView = c.args.self.now in
+    let valid : is_system old.system ≡ true = subst (λ (v : ClusterView). is_system v.system ≡ true) c.self.view_is c.self.invariant.valid in
+    subst (λ (v : ClusterView). CanJoin (what c.args.entry.now) v.family) (sym c.self.view_is) (ready_joins old c.args.entry.now valid c.requires.ready)
 
 pub absorb-requires : goal.absorb-requires
 absorb-requires g c =
@@ -147,9 +154,9 @@ returns-clause-follows g c =
     let server = c.serve.new.server in
     let whole : c.count_step.new.self ≡ with_server server (absorbed old e) =
     c.count_step.ensures
-    ∙ ap (λ (v : ClusterView). record v { cursor = v.cursor + 1; places = c.absorb.new.self; here = c.take_over.new.here.here; records = c.take_over.new.records; server = server; steps = next_count v.steps }) c.self.view_is
-    ∙ (λ i. record old { cursor = old.cursor + 1; places = c.in_ok-absorb.ensures.ok i; here = here i; records = recs i; server = server; steps = next_count old.steps })
-    ∙ ap (λ (v : ClusterView). record old { cursor = old.cursor + 1; places = placed_after v.places w; here = with_all_waiting (moved_by v.places v.number w (records_after w v.records)) (here_after w v.here); records = left_by v.places v.number w (records_after w v.records); server = server; steps = next_count old.steps }) c.self.view_is in
+    ∙ ap (λ (v : ClusterView). record v { cursor = v.cursor + 1; places = c.absorb.new.self; here = c.take_over.new.here.here; records = c.take_over.new.records; family = c.join.new.family; server = server; steps = next_count v.steps }) c.self.view_is
+    ∙ (λ i. record old { cursor = old.cursor + 1; places = c.in_ok-absorb.ensures.ok i; here = here i; records = recs i; family = c.in_ok-join.ensures.ok i; server = server; steps = next_count old.steps })
+    ∙ ap (λ (v : ClusterView). record old { cursor = old.cursor + 1; places = placed_after v.places w; here = with_all_waiting (moved_by v.places v.number w (records_after w v.records)) (here_after w v.here); records = left_by v.places v.number w (records_after w v.records); family = family_after w v.family; server = server; steps = next_count old.steps }) c.self.view_is in
     let valid : is_system old.system ≡ true = subst (λ (v : ClusterView). is_system v.system ≡ true) c.self.view_is c.self.invariant.valid in
     let own = subst (λ (v : ClusterView). AllOwn v.cursor v.here) c.self.view_is c.self.invariant.residents in
     let order : are_rising (moved_by old.places old.number w (records_after w old.records)) ≡ true =
