@@ -1,7 +1,7 @@
 //! What stands on the bus: entries with their places and destinations, and the line of each in a printed log.
 #![tactic(auto)]
 
-pub mod copying;
+mod copying;
 pub mod entry;
 pub mod placed;
 pub mod shared;

@@ -290,7 +290,17 @@ impl Placement {
     {
         match &entry.post.what {
             What::Birth { parent, child, .. } => self.add_next(*parent, child.0),
-            _ => {
+            What::Mail { .. }
+            | What::Exit { .. }
+            | What::Page { .. }
+            | What::Sync { .. }
+            | What::Fetch { .. }
+            | What::PageIs { .. }
+            | What::Crash { .. }
+            | What::Return { .. }
+            | What::Rebackup { .. }
+            | What::Done { .. }
+            | What::Stop => {
                 self.note(entry);
                 Ok(())
             }

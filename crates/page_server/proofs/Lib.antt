@@ -1,5 +1,6 @@
 pub mod AccountLaws
 mod Examples
+mod FetchLaws
 pub mod Marks
 pub mod Owners
 pub mod PagerLaws

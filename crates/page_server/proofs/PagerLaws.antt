@@ -24,16 +24,16 @@ use Rattle.page_server.proofs.Owners.{in_owners}
 pub same_or_not : (q pid : ℕ) → (q ≡ pid) ⊎ (q ≡ pid → ⊥)
 same_or_not q pid = grind arith
 
-test_same : (q pid : ℕ) → q ≡ pid → eqb q pid ≡ true
+pub test_same : (q pid : ℕ) → q ≡ pid → eqb q pid ≡ true
 test_same q pid e = grind (arith, nat_tests)
 
-test_other : (q pid : ℕ) → (q ≡ pid → ⊥) → eqb q pid ≡ false
+pub test_other : (q pid : ℕ) → (q ≡ pid → ⊥) → eqb q pid ≡ false
 test_other q pid other = grind (arith, nat_tests)
 
-at_same : (q pid : ℕ) → q ≡ pid → is_eq (nat_cmp pid q) ≡ true
+pub at_same : (q pid : ℕ) → q ≡ pid → is_eq (nat_cmp pid q) ≡ true
 at_same q pid e = grind (arith, nat_tests)
 
-at_other : (q pid : ℕ) → (q ≡ pid → ⊥) → is_eq (nat_cmp pid q) ≡ false
+pub at_other : (q pid : ℕ) → (q ≡ pid → ⊥) → is_eq (nat_cmp pid q) ≡ false
 at_other q pid other = grind (arith, nat_tests)
 
 pub became : (m n : Processes) (pid : ℕ) (w : Option Pages) → Becomes m n pid w → (q : ℕ) → q ≡ pid → get nat_cmp n q ≡ w

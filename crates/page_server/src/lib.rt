@@ -2,9 +2,10 @@
 #![tactic(auto)]
 
 pub mod disk;
+mod fetches;
 pub mod mem_disk;
 pub mod pager;
 mod pages;
 mod processes;
-pub mod sheet;
+mod sheet;
 mod table;

@@ -4,6 +4,7 @@ ghost use Rattle.page_server.specs.Disk.{CountsAfterPut, CountsAfterGet};
 ghost use Rattle.page_server.specs.Account.{account, page_in, committed, reverted, no_pages, Changes, SameAccounts, AccountsAfterPut, fetches_without, fetches_but};
 
 use crate::disk::{DiskFault, DiskRefused, PageDisk};
+use crate::fetches::Fetches;
 use crate::pages::Pages;
 use crate::processes::{admit, commit_at, kept_at, leave, put_if_there, revert_at};
 use std::alloc::Global;
@@ -21,7 +22,7 @@ pub struct Pager<D: PageDisk> {
     disk: D,
     processes: BTreeMap<u32, Pages>,
     owners: Vec<Option<u32>>,
-    fetches: Vec<(Pid, u16)>,
+    fetches: Fetches,
 }
 
 impl<D: PageDisk> Model for Pager<D> {
@@ -33,7 +34,7 @@ impl<D: PageDisk> Model for Pager<D> {
 
     ghost view = { λ p. record {
       accounts = accounts_of (D.slots p.disk) p.processes.entries;
-      fetches = p.fetches.items;
+      fetches = p.fetches;
       counts = D.counts p.disk;
     } };
 
@@ -52,7 +53,7 @@ impl<D: PageDisk> Pager<D> {
             disk,
             processes: BTreeMap::new(alloc),
             owners: Vec::new(alloc),
-            fetches: Vec::new(alloc),
+            fetches: Fetches::none(alloc),
         }
     }
 
@@ -104,7 +105,7 @@ impl<D: PageDisk> Pager<D> {
         ensures counts { self.new.counts ≡ self.old.counts }
     {
         revert_at(&mut self.processes, pid.0);
-        drop_fetches(&mut self.fetches, pid);
+        self.fetches.drop_process(pid);
     }
 
     /// Both accounts of a process become empty, and its fetches wait no longer: it has ended. No memory, no
@@ -115,7 +116,7 @@ impl<D: PageDisk> Pager<D> {
         ensures counts { self.new.counts ≡ self.old.counts }
     {
         leave(&mut self.processes, &mut self.owners, pid.0);
-        drop_fetches(&mut self.fetches, pid);
+        self.fetches.drop_process(pid);
     }
 
     /// A fetch of a page of a process waits, behind the others. After want of memory nothing has changed.
@@ -125,15 +126,14 @@ impl<D: PageDisk> Pager<D> {
         ensures accounts { SameAccounts self.old self.new }
         ensures counts { self.new.counts ≡ self.old.counts }
     {
-        self.fetches.push((pid, i))?;
-        Ok(())
+        self.fetches.push(pid, i)
     }
 
     /// The earliest fetch that waits: none exactly where no fetch waits. Takes no memory.
     pub fn waiting(&self) -> Option<(Pid, u16)>
         ensures { result ≡ slice_get self.now.fetches 0 }
     {
-        self.fetches.first().copied()
+        self.fetches.first()
     }
 
     /// The fetch of a page of a process was answered and waits no longer. Takes no memory.
@@ -142,7 +142,7 @@ impl<D: PageDisk> Pager<D> {
         ensures accounts { SameAccounts self.old self.new }
         ensures counts { self.new.counts ≡ self.old.counts }
     {
-        drop_fetch(&mut self.fetches, pid, i);
+        self.fetches.drop_page(pid, i);
     }
 
     /// Whether the committed account of a process has a page. No memory, no disk call.
@@ -180,18 +180,4 @@ impl<D: PageDisk> Pager<D> {
     {
         self.disk.faults()
     }
-}
-
-// Drops the fetches of a process.
-fn drop_fetches(fetches: &mut Vec<(Pid, u16)>, pid: Pid)
-    ensures { fetches.new.items ≡ fetches_without pid fetches.old.items }
-{
-    fetches.retain(|fetch| fetch.0.0 != pid.0);
-}
-
-// Drops the fetches of a page.
-fn drop_fetch(fetches: &mut Vec<(Pid, u16)>, pid: Pid, i: u16)
-    ensures { fetches.new.items ≡ fetches_but pid i fetches.old.items }
-{
-    fetches.retain(|fetch| !(fetch.0.0 == pid.0 && fetch.1 == i));
 }

@@ -1,17 +1,16 @@
 //! Standard input and output as a source and a sink. They tell nothing of what they have left or hold.
-ghost use Rattle.std.specs.Prelude.{◌≡◌, ◌≤◌, None, length};
+ghost use Rattle.std.specs.Prelude.{◌≡◌, ◌≤◌, None, IfOk, length};
 ghost use Rattle.t32_base.specs.Streams.{TakeCause, Took, is_end};
 
 use crate::lists::Bytes;
-use crate::streams::{Failed, Sink, Source, TakeFault, Taken};
+use crate::streams::{Failed, NoMemory, Sink, Source, TakeFault, Taken};
 use std::alloc::Global;
 use std::io::{Read, Write};
 
 /// The most bytes of one read or write.
 pub const PIECE: usize = 16384;
 
-// The most bytes of a read while the one before did not fill its place: it is cleared first, and a short text needs no
-// larger one.
+// The most bytes of a read until one has filled its place: a short text needs no larger one.
 const SHORT_PIECE: usize = 2048;
 
 /// A reader as a source. An error of the reader is a fault.
@@ -20,7 +19,9 @@ pub struct StdSource<R: Read> {
     pub reader: R,
     pub fault_calls: u64,
     pub at_end: bool,
-    // The last read filled its place, so more may be left.
+    // Where a read puts its bytes. It stays from read to read, as it is cleared when it is made.
+    place: Option<Vec<u8>>,
+    // A read filled its place, so more may be left than that holds.
     filled: bool,
 }
 
@@ -30,6 +31,7 @@ impl<R: Read> StdSource<R> {
             reader,
             fault_calls: 0,
             at_end: false,
+            place: None,
             filled: false,
         }
     }
@@ -42,14 +44,13 @@ impl<R: Read> StdSource<R> {
         ensures cause { TakeCause self.old.fault_calls self.new.fault_calls result }
     {
         self.at_end = false;
-        self.filled = false;
         match self.reader.read(place) {
             Ok(0) => {
                 self.at_end = true;
                 Ok(Taken::End)
             }
             Ok(count) => {
-                self.filled = count == place.len();
+                self.filled = self.filled || count == place.len();
                 match Bytes::copy_of(alloc, &place[..count]) {
                     Ok(piece) => Ok(Taken::Got(piece)),
                     Err(_) => Err(TakeFault::NoMemory),
@@ -75,14 +76,31 @@ impl<R: Read> Source for StdSource<R> {
     }
 
     fn take(&mut self, alloc: Global, room: u32) -> Result<Taken, TakeFault> {
-        let most = room as usize;
-        if self.filled {
-            let mut place = [0u8; PIECE];
-            return self.take_by(alloc, &mut place[..most.min(PIECE)]);
+        let size = if self.filled { PIECE } else { SHORT_PIECE };
+        match grown(alloc, self.place.take(), size) {
+            Ok(mut place) => {
+                let most = place.len().min(room as usize);
+                let taken = self.take_by(alloc, &mut place[..most]);
+                self.place = Some(place);
+                taken
+            }
+            Err(NoMemory) => {
+                self.at_end = false;
+                Err(TakeFault::NoMemory)
+            }
         }
-        let mut place = [0u8; SHORT_PIECE];
-        self.take_by(alloc, &mut place[..most.min(SHORT_PIECE)])
     }
+}
+
+// A place of at least so many bytes: the one that was there, if there was one.
+fn grown(alloc: Global, place: Option<Vec<u8>>, size: usize) -> Result<Vec<u8>, NoMemory>
+    ensures { IfOk result (λ grown. size ≤ length grown.items) }
+{
+    let mut grown = place.unwrap_or(Vec::new(alloc));
+    if grown.len() < size {
+        grown.resize(size, 0)?;
+    }
+    Ok(grown)
 }
 
 /// A writer as a sink. An error of the writer is a fault, and so is a write that takes nothing.

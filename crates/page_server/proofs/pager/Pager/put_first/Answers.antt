@@ -26,6 +26,6 @@ pub returns-clause-accounts : goal.returns-clause-accounts
 returns-clause-accounts g c =
     let before = g.D.PageDisk.slots c.self.inside.disk in
     let after = g.D.PageDisk.slots c.put_if_there.new.disk in
-    let new : PagerState = record { accounts = accounts_of after c.put_if_there.new.processes.entries; fetches = c.self.inside.fetches.items; counts = g.D.PageDisk.counts c.put_if_there.new.disk } in
+    let new : PagerState = record { accounts = accounts_of after c.put_if_there.new.processes.entries; fetches = c.self.inside.fetches; counts = g.D.PageDisk.counts c.put_if_there.new.disk } in
     put_accounts before after c.self.inside.processes c.admit.new.processes c.put_if_there.new.processes c.admit.new.owners.items c.args.self.now new (ap (λ (s : PagerState). s.accounts) (sym c.self.view_is)) refl
     c.args.pid c.args.i c.args.page.now c.in-Some.done c.admit.ensures.admits c.admit.ensures.owned c.in-Some.ensures.puts

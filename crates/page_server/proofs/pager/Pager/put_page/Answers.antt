@@ -19,6 +19,6 @@ pub returns-in-Some-clause-accounts : goal.returns-in-Some-clause-accounts
 returns-in-Some-clause-accounts g c =
     let before = g.D.PageDisk.slots c.self.inside.disk in
     let after = g.D.PageDisk.slots c.put_if_there.new.disk in
-    let new : PagerState = record { accounts = accounts_of after c.put_if_there.new.processes.entries; fetches = c.self.inside.fetches.items; counts = g.D.PageDisk.counts c.put_if_there.new.disk } in
+    let new : PagerState = record { accounts = accounts_of after c.put_if_there.new.processes.entries; fetches = c.self.inside.fetches; counts = g.D.PageDisk.counts c.put_if_there.new.disk } in
     put_accounts before after c.self.inside.processes c.self.inside.processes c.put_if_there.new.processes c.self.inside.owners.items c.args.self.now new (ap (λ (s : PagerState). s.accounts) (sym c.self.view_is)) refl
     c.args.pid c.args.i c.args.page.now c.in-Some.done (λ q. inl refl) c.self.invariant.0 c.in-Some.ensures.puts

@@ -2,7 +2,7 @@
 use Rattle.std.proofs.Common.{ℕ, rules, not, eqb, ◌&&◌}
 use Rattle.std.proofs.lemmas.Fn.{filter_same}
 use Rattle.t32_base.specs.declared.process.Pid.{Pid}
-use Rattle.page_server.proofs.pager.drop_fetch.Goals as goal
+use Rattle.page_server.proofs.fetches.drop_fetch.Goals as goal
 
 pub returns : goal.returns
 returns c =
