@@ -10,4 +10,5 @@ pub mod HexDigits
 pub mod WordFields
 pub mod Refusing
 pub mod PartedTables
+pub mod NumberedNames
 mod ParsedLines
