@@ -1,5 +1,5 @@
 -- The names of the registers.
-use Rattle.std.specs.Prelude.{ℕ, List, [], ◌∷◌, codes, Option}
+use Rattle.std.specs.Prelude.{ℕ, ◌+◌, ◌/◌, ◌%◌, List, [], ◌∷◌, codes, Option, nat_lt, if◌then◌else◌}
 use Rattle.text_parts.specs.Table.{lookup}
 
 infix 20 ◌is◌
@@ -26,3 +26,7 @@ registers =
 -- the number of the register of this name
 abbrev pub register_of : List ℕ → Option ℕ
 register_of name = lookup registers name
+
+-- the digits of a number below 100
+abbrev pub numeral : ℕ → List ℕ
+numeral n = if nat_lt n 10 then (48 + n) ∷ [] else (48 + n / 10) ∷ (48 + n % 10) ∷ []

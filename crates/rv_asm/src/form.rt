@@ -104,12 +104,12 @@ pub enum Form {
     Ascii,
 }
 
-// The words that begin with one letter each, and the others.
+// The words that begin with one letter each, and the others. Those that programs use most come first.
 const A_FORMS: [(&[u8], Form); 5] = [
-    (b"add", Form::Registers(RegisterInsn::Add)),
-    (b"and", Form::Registers(RegisterInsn::And)),
     (b"addi", Form::Number(NumberInsn::Addi)),
     (b"andi", Form::Number(NumberInsn::Andi)),
+    (b"add", Form::Registers(RegisterInsn::Add)),
+    (b"and", Form::Registers(RegisterInsn::And)),
     (b"auipc", Form::Upper(UpperInsn::Auipc)),
 ];
 
@@ -123,50 +123,50 @@ const B_FORMS: [(&[u8], Form); 6] = [
 ];
 
 const J_FORMS: [(&[u8], Form); 3] = [
+    (b"j", Form::Jump),
     (b"jalr", Form::Load(LoadInsn::Jalr)),
     (b"jal", Form::JumpAndLink),
-    (b"j", Form::Jump),
 ];
 
 const L_FORMS: [(&[u8], Form); 8] = [
+    (b"li", Form::LoadNumber),
+    (b"la", Form::LoadAddress),
+    (b"lw", Form::Load(LoadInsn::Lw)),
     (b"lb", Form::Load(LoadInsn::Lb)),
     (b"lh", Form::Load(LoadInsn::Lh)),
-    (b"lw", Form::Load(LoadInsn::Lw)),
     (b"lbu", Form::Load(LoadInsn::Lbu)),
     (b"lhu", Form::Load(LoadInsn::Lhu)),
     (b"lui", Form::Upper(UpperInsn::Lui)),
-    (b"li", Form::LoadNumber),
-    (b"la", Form::LoadAddress),
 ];
 
 const S_FORMS: [(&[u8], Form); 14] = [
+    (b"sw", Form::Store(StoreInsn::Sw)),
+    (b"sb", Form::Store(StoreInsn::Sb)),
+    (b"sh", Form::Store(StoreInsn::Sh)),
+    (b"slti", Form::Number(NumberInsn::Slti)),
+    (b"sltiu", Form::Number(NumberInsn::Sltiu)),
     (b"sub", Form::Registers(RegisterInsn::Sub)),
     (b"sll", Form::Registers(RegisterInsn::Sll)),
     (b"slt", Form::Registers(RegisterInsn::Slt)),
     (b"sltu", Form::Registers(RegisterInsn::Sltu)),
     (b"srl", Form::Registers(RegisterInsn::Srl)),
     (b"sra", Form::Registers(RegisterInsn::Sra)),
-    (b"slti", Form::Number(NumberInsn::Slti)),
-    (b"sltiu", Form::Number(NumberInsn::Sltiu)),
     (b"slli", Form::Shift(ShiftInsn::Slli)),
     (b"srli", Form::Shift(ShiftInsn::Srli)),
     (b"srai", Form::Shift(ShiftInsn::Srai)),
-    (b"sb", Form::Store(StoreInsn::Sb)),
-    (b"sh", Form::Store(StoreInsn::Sh)),
-    (b"sw", Form::Store(StoreInsn::Sw)),
 ];
 
 const OTHER_FORMS: [(&[u8], Form); 10] = [
-    (b"xor", Form::Registers(RegisterInsn::Xor)),
-    (b"or", Form::Registers(RegisterInsn::Or)),
-    (b"xori", Form::Number(NumberInsn::Xori)),
-    (b"ori", Form::Number(NumberInsn::Ori)),
-    (b"fence", Form::Bare(BareInsn::Fence)),
-    (b"ecall", Form::Bare(BareInsn::Ecall)),
-    (b"ebreak", Form::Bare(BareInsn::Ebreak)),
     (b"mv", Form::Move),
     (b".word", Form::Word),
     (b".ascii", Form::Ascii),
+    (b"ecall", Form::Bare(BareInsn::Ecall)),
+    (b"ebreak", Form::Bare(BareInsn::Ebreak)),
+    (b"fence", Form::Bare(BareInsn::Fence)),
+    (b"xori", Form::Number(NumberInsn::Xori)),
+    (b"ori", Form::Number(NumberInsn::Ori)),
+    (b"xor", Form::Registers(RegisterInsn::Xor)),
+    (b"or", Form::Registers(RegisterInsn::Or)),
 ];
 
 /// The form of the statement with this word.

@@ -71,8 +71,7 @@ fn label_table<'a>(alloc: Global, lines: &[Parsed<'a>]) -> Result<Labels<'a>, As
         words = add_label(&mut rows, number, words, parsed)?;
         number += 1;
     }
-    let labels = Labels::sorted(rows)?;
-    Ok(labels)
+    Ok(Labels::sorted(rows))
 }
 
 /// Puts the words of a line behind those of the lines before it.

@@ -1,12 +1,12 @@
 //! The registers by their names.
-ghost use Rattle.std.specs.Prelude.{◌≡◌, IfSome};
+ghost use Rattle.std.specs.Prelude.{◌≡◌, ◌∷◌, IfSome, Some};
 ghost use Rattle.rv_insn.specs.Encoding.{IsRegister};
-ghost use Rattle.rv_asm.specs.Registers.{register_of};
+ghost use Rattle.rv_asm.specs.Registers.{register_of, numeral};
 
 use crate::names::first_byte;
 use text_parts::lookup;
 
-// The names that begin with one letter each, and the others. Those that programs use most come first.
+// The names that begin with one letter each, and the others.
 const A_REGISTERS: [(&[u8], u8); 8] = [
     (b"a0", 10),
     (b"a1", 11),
@@ -82,7 +82,46 @@ const X_REGISTERS: [(&[u8], u8); 32] = [
 
 const OTHER_REGISTERS: [(&[u8], u8); 4] = [(b"zero", 0), (b"ra", 1), (b"fp", 8), (b"gp", 3)];
 
-fn register_named(name: &[u8]) -> Option<u8>
+/// The number of one digit, or of two of which the first is no zero.
+fn short_number(digits: &[u8]) -> Option<u8>
+    ensures { IfSome result (λ number. digits.now ≡ numeral number) }
+{
+    match digits {
+        [one] if *one >= b'0' && *one <= b'9' => Some(*one - b'0'),
+        [ten, one] if *ten > b'0' && *ten <= b'9' && *one >= b'0' && *one <= b'9' => {
+            Some((*ten - b'0') * 10 + (*one - b'0'))
+        }
+        _ => None,
+    }
+}
+
+/// The register of a letter and a number, if it is one.
+fn numbered(letter: u8, number: u8) -> Option<u8>
+    ensures { IfSome result (λ register. register_of (letter ∷ numeral number) ≡ Some register) }
+{
+    match letter {
+        b'a' if number < 8 => Some(number + 10),
+        b't' if number < 3 => Some(number + 5),
+        b't' if number < 7 => Some(number + 25),
+        b's' if number < 2 => Some(number + 8),
+        b's' if number < 12 => Some(number + 16),
+        b'x' if number < 32 => Some(number),
+        _ => None,
+    }
+}
+
+/// The register of a name that is a letter and a number, as most are. The others have to be looked up.
+fn quick_register(name: &[u8]) -> Option<u8>
+    ensures { IfSome result (λ register. register_of name.now ≡ Some register) }
+{
+    match name {
+        [letter, digits @ ..] => numbered(*letter, short_number(digits)?),
+        [] => None,
+    }
+}
+
+/// The register of a name, which is looked up among those of the same first letter.
+fn register_in_table(name: &[u8]) -> Option<u8>
     ensures { result ≡ register_of name.now }
 {
     let first = first_byte(name);
@@ -96,6 +135,15 @@ fn register_named(name: &[u8]) -> Option<u8>
         lookup(&X_REGISTERS, name)
     } else {
         lookup(&OTHER_REGISTERS, name)
+    }
+}
+
+fn register_named(name: &[u8]) -> Option<u8>
+    ensures { result ≡ register_of name.now }
+{
+    match quick_register(name) {
+        Some(register) => Some(register),
+        None => register_in_table(name),
     }
 }
 
