@@ -2,6 +2,7 @@ mod BlockLines
 mod Blocks
 pub mod Bounds
 mod Examples
+mod Fields
 mod FirstWords
 mod Headed
 mod ImagePlaces

@@ -3,6 +3,7 @@ pub mod Text
 pub mod Boot
 pub mod Refusal
 pub mod Kinds
+pub mod Line
 pub mod Rules
 pub mod WordLines
 pub mod ImageNames
