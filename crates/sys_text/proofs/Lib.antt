@@ -10,6 +10,7 @@ mod Imaged
 mod Keeping
 mod Leading
 mod Limits
+mod LineSteps
 mod Lines
 mod Printed
 mod ReadBack
@@ -20,6 +21,7 @@ mod Rooted
 mod Rows
 mod Sound
 mod Sounding
+mod Spelling
 mod Standing
 mod Stepping
 mod Taking
