@@ -1,9 +1,10 @@
 -- The lines of an assembler block, and its end.
-use Rattle.std.proofs.Common.{◌≡◌, ℕ, suc, ◌+◌, ◌*◌, ◌<◌, ◌≤◌, ◌^◌, Bool, true, false, cond, eqb, List, [], ◌∷◌, ◌++◌, length, take, drop, Option, Some, None, Result, Ok, Err, refl, sym, ap, ◌∙◌, arith, append_assoc, append-nil, length-append}
+use Rattle.std.proofs.Common.{◌≡◌, ℕ, zero, suc, ◌+◌, ◌*◌, ◌<◌, ◌≤◌, ◌^◌, Bool, true, false, cond, eqb, List, [], ◌∷◌, ◌++◌, length, take, drop, Option, Some, None, Result, Ok, Err, refl, sym, ap, ◌∙◌, arith, append_assoc, append-nil}
 use Rattle.std.specs.List.{onto_first}
+use Rattle.std.specs.Prelude.{codes}
 use Rattle.std.specs.Option.{option_map}
+use Rattle.std.specs.Str.{bytes_eq}
 use Rattle.std.proofs.lemmas.Bool.{lt-leb}
-use Rattle.std.proofs.lemmas.List.{length-drop, take-append-drop}
 use Rattle.text_parts.specs.Lines.{is_newline, lines_of, fields_of}
 use Rattle.rv_asm.specs.declared.labels.Place.{Place as LabelPlace}
 use Rattle.rv_asm.specs.Labels.{labels_from, line_size, line_code}
@@ -45,16 +46,11 @@ count_some : (o : Option ℕ) (k : ℕ) → option_map (λ n. n + 1) o ≡ Some 
 count_some None k e = absurd cc
 count_some (Some j) k e = (j, refl, cc)
 
-pub count_within : (lines : List (List ℕ)) (k : ℕ) → lines_before_end lines ≡ Some k → k < length lines
-count_within [] k e = absurd cc
-count_within (line ∷ lines) k e = by_end (λ j f. count_within lines j f) (is_end (fields_of line)) refl
-  where
-    by_end : ((j : ℕ) → lines_before_end lines ≡ Some j → j < length lines) → (b : Bool) → is_end (fields_of line) ≡ b → k < suc (length lines)
-    by_end next true h = let f = rw h at e in let z : 0 ≡ k = cc in omega (arith, z)
-    by_end next false h =
-        let f = rw h at e in
-        let j = count_some (lines_before_end lines) k f in
-        omega (arith, j.2, next j.0 j.1)
+-- ---- the line of the end
+
+pub other_first_field : (field : List ℕ) (fields : List (List ℕ)) → bytes_eq field (codes "end") ≡ false → is_end (field ∷ fields) ≡ false
+other_first_field field [] e = e
+other_first_field field (next ∷ fields) e = refl
 
 -- ---- the lines up to the end
 
@@ -67,7 +63,7 @@ block_line state header n block line lines e = rw e refl
 
 ends_here : (state : State) (header n m k : ℕ) (block : List (List ℕ)) (line : List ℕ) (lines : List (List ℕ)) → k ≡ 0 → m ≡ n + 1 → is_end (fields_of line) ≡ true
     → reading_from (InBlock state header block) n (line ∷ lines) ≡ goes_on (close_block state header m (reading_of_lines (block ++ take k (line ∷ lines)))) (λ next. reading_from next m (drop 1 (drop k (line ∷ lines))))
-ends_here state header n m k block line lines zero at e = rw (zero, at, append-nil block) (block_ends state header n block line lines e)
+ends_here state header n m k block line lines first at e = rw (first, at, append-nil block) (block_ends state header n block line lines e)
 
 one_line_more : (state : State) (header m k j : ℕ) (block : List (List ℕ)) (line : List ℕ) (lines : List (List ℕ)) → k ≡ suc j
     → goes_on (close_block state header m (reading_of_lines ((block ++ line ∷ []) ++ take j lines))) (λ next. reading_from next m (drop 1 (drop j lines))) ≡ goes_on (close_block state header m (reading_of_lines (block ++ take k (line ∷ lines)))) (λ next. reading_from next m (drop 1 (drop k (line ∷ lines))))
@@ -93,11 +89,18 @@ to_end state header n m k block (line ∷ lines) e is = by_end (λ j f at. to_en
         block_line state header n block line lines h ∙ next j.0 j.1 at
         ∙ one_line_more state header m k j.0 block line lines one_more
 
-pub block_read : (state : State) (header count : ℕ) (text block rest line after : List ℕ) → lines_before_end (lines_of text) ≡ Some count → lines_of block ≡ take count (lines_of text) → lines_of rest ≡ drop count (lines_of text) → lines_of rest ≡ line ∷ lines_of after
+one_more_dropped : (k : ℕ) (lines : List (List ℕ)) → drop 1 (drop k lines) ≡ drop (suc k) lines
+one_more_dropped zero [] = refl
+one_more_dropped zero (line ∷ lines) = refl
+one_more_dropped (suc k) [] = refl
+one_more_dropped (suc k) (line ∷ lines) = one_more_dropped k lines
+
+pub block_read : (state : State) (header count : ℕ) (text block after : List ℕ) → lines_before_end (lines_of text) ≡ Some count → lines_of block ≡ take count (lines_of text) → lines_of after ≡ drop (count + 1) (lines_of text)
     → reading_from (InBlock state header []) header (lines_of text) ≡ goes_on (close_block state header (header + count + 1) (reading_of_lines (lines_of block))) (λ next. reading_from next (header + count + 1) (lines_of after))
-block_read state header count text block rest line after e front left cut =
+block_read state header count text block after e front left =
     let m = header + count + 1 in
-    let behind : drop 1 (drop count (lines_of text)) ≡ lines_of after = ap (drop 1) (sym left ∙ cut) in
+    let next : suc count ≡ count + 1 = omega arith in
+    let behind : drop 1 (drop count (lines_of text)) ≡ lines_of after = one_more_dropped count (lines_of text) ∙ ap (λ n. drop n (lines_of text)) next ∙ sym left in
     to_end state header header m count [] (lines_of text) e refl
     ∙ ap (λ b. goes_on (close_block state header m (reading_of_lines b)) (λ next. reading_from next m (drop 1 (drop count (lines_of text))))) (sym front)
     ∙ ap (λ ls. goes_on (close_block state header m (reading_of_lines (lines_of block))) (λ next. reading_from next m ls)) behind
@@ -117,16 +120,6 @@ no_end state header n block (line ∷ lines) e = by_end (λ f. no_end state head
     by_end next false h =
         let f = rw h at e in
         block_line state header n block line lines h ∙ next (none (lines_before_end lines) f) ∙ ap (ended_in_block header) (append_assoc block (line ∷ []) lines)
-
-pub rest_nonempty : (text rest : List ℕ) (count : ℕ) → lines_before_end (lines_of text) ≡ Some count → lines_of rest ≡ drop count (lines_of text) → 0 < length rest
-rest_nonempty text [] count e left = absurd (omega (arith, count_within (lines_of text) count e, length-drop count (lines_of text), ap length left))
-rest_nonempty text (b ∷ bs) count e left = omega arith
-
-pub lengths : (text block rest : List ℕ) (count : ℕ) → lines_before_end (lines_of text) ≡ Some count → lines_of block ≡ take count (lines_of text) → lines_of rest ≡ drop count (lines_of text) → block ++ rest ≡ text → count + length rest ≤ length text
-lengths text block rest count e front left whole =
-    let split : take count (lines_of text) ++ drop count (lines_of text) ≡ lines_of text = take-append-drop count (lines_of text) in
-    let sum = length-append (take count (lines_of text)) (drop count (lines_of text)) in
-    omega (arith, length-lines block, ap length front, ap length split, sum, length-drop count (lines_of text), count_within (lines_of text) count e, ap length whole, length-append block rest)
 
 -- ---- what the assembler says
 

@@ -2,6 +2,7 @@ mod BlockLines
 mod Blocks
 pub mod Bounds
 mod Examples
+mod Fields
 mod FirstWords
 mod Headed
 mod ImagePlaces
@@ -9,6 +10,7 @@ mod Imaged
 mod Keeping
 mod Leading
 mod Limits
+mod LineSteps
 mod Lines
 mod Printed
 mod ReadBack
@@ -19,6 +21,7 @@ mod Rooted
 mod Rows
 mod Sound
 mod Sounding
+mod Spelling
 mod Standing
 mod Stepping
 mod Taking

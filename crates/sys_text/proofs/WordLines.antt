@@ -12,14 +12,15 @@ use Rattle.sys_text.specs.declared.stage.Kind.TheVariants.{Word}
 use Rattle.sys_text.specs.declared.stage.Keyword.TheVariants.{Words}
 use Rattle.sys_text.specs.declared.refusal.Rule.TheVariants.{FieldCount, FieldKind, Room}
 use Rattle.sys_text.specs.declared.refusal.SystemRefused.{SystemRefused}
-use Rattle.sys_text.specs.declared.refusal.SystemRefused.TheVariants as refusals
 use Rattle.sys_text.specs.declared.state.State.{State}
 use Rattle.sys_text.specs.Kinds.{is_kind}
-use Rattle.sys_text.specs.Rules.{words_in, broken_by, add, HasRoom}
-use Rattle.sys_text.specs.Reading.{Goes, Outside, kept, step_outside}
-use Rattle.sys_text.specs.Answers.{RefusesStep, ClosesBlock}
-use Rattle.sys_text.specs.WordLines.{IsWordsLine, lowest_of_words, RefusesBy}
+use Rattle.sys_text.specs.Rules.{words_in, broken_by, lowest_with, add, HasRoom}
+use Rattle.sys_text.specs.LineRules.{Starts}
+use Rattle.sys_text.specs.Reading.{Goes, Outside, step_outside}
+use Rattle.sys_text.specs.Answers.{ClosesBlock}
+use Rattle.sys_text.specs.WordLines.{lowest_of_words, RefusesBy}
 use Rattle.sys_text.proofs.Limits.{words_within}
+use Rattle.sys_text.proofs.LineSteps.{refused_at}
 use Rattle.sys_text.proofs.Taking.{taken_keeps}
 
 -- the fields so far are words, and stand behind the old ones
@@ -110,35 +111,29 @@ in_room old new all pages r differ fits =
 
 -- ---- what the line leads to
 
-pub words_rules : (state : State) (line rest : List ℕ) → IsWordsLine state.stage line rest → broken_by state line ≡ lowest_of_words (length state.open_image.words) state.open_image.pages (fields_of rest)
-words_rules state line rest w = rw (w.printable, w.fields, w.in_image, sym (words_within state.system.clusters (fields_of rest))) refl
+words_lowest : (state : State) (fields : List (List ℕ)) → lowest_with state Words fields ≡ lowest_of_words (length state.open_image.words) state.open_image.pages fields
+words_lowest state fields = rw (sym (words_within state.system.clusters fields)) refl
 
-words_kept : (state : State) (line rest : List ℕ) → IsWordsLine state.stage line rest → kept state (fields_of line) ≡ (add state Words (fields_of rest), false)
-words_kept state line rest w = rw (w.fields, w.in_image) refl
+words_rules : (state : State) (line rest : List ℕ) → Starts state line Words (fields_of rest) → broken_by state line ≡ lowest_of_words (length state.open_image.words) state.open_image.pages (fields_of rest)
+words_rules state line rest s = s.broken ∙ words_lowest state (fields_of rest)
 
-pub words_go : (state : State) (n : ℕ) (line rest : List ℕ) → IsWordsLine state.stage line rest → lowest_of_words (length state.open_image.words) state.open_image.pages (fields_of rest) ≡ None → step_outside state n line ≡ Goes (Outside (add state Words (fields_of rest)))
-words_go state n line rest w none =
-    let broken : broken_by state line ≡ None = words_rules state line rest w ∙ none in
-    rw (broken, words_kept state line rest w) refl
-
-pub words_refused : (state : State) (n : ℕ) (line rest : List ℕ) (refused : SystemRefused) → IsWordsLine state.stage line rest → RefusesBy refused n (lowest_of_words (length state.open_image.words) state.open_image.pages (fields_of rest)) → RefusesStep refused (step_outside state n line)
-words_refused state n line rest (refusals.BadLine at rule) w by =
-    let broken : broken_by state line ≡ Some by.0 = words_rules state line rest w ∙ by.1 in
-    (by.0, rw (broken, by.2) refl, by.3)
-words_refused state n line rest refusals.NoMemory w by = tt
+words_go : (state : State) (n : ℕ) (line rest : List ℕ) → Starts state line Words (fields_of rest) → lowest_of_words (length state.open_image.words) state.open_image.pages (fields_of rest) ≡ None → step_outside state n line ≡ Goes (Outside (add state Words (fields_of rest)))
+words_go state n line rest s none =
+    let broken : broken_by state line ≡ None = words_rules state line rest s ∙ none in
+    rw (broken, s.kept) refl
 
 -- the state where the words of the open image are these
 abbrev pub with_words : State → List ℕ → State
 with_words state words = record { stage = state.stage; system = state.system; open_image = record { name = state.open_image.name; pages = state.open_image.pages; words = words } }
 
-pub words_step : (state : State) (n : ℕ) (line rest : List ℕ) (r : Result (Unit {0}) SystemRefused) (new : List ℕ) → IsWordsLine state.stage line rest
+pub words_step : (state : State) (n : ℕ) (line rest : List ℕ) (r : Result (Unit {0}) SystemRefused) (new : List ℕ) → Starts state line Words (fields_of rest)
     → OnOk r (new ≡ state.open_image.words ++ words_in (fields_of rest)) → OnOk r (lowest_of_words (length state.open_image.words) state.open_image.pages (fields_of rest) ≡ None)
     → IfErr r (λ refused. RefusesBy refused n (lowest_of_words (length state.open_image.words) state.open_image.pages (fields_of rest))) → ClosesBlock r (with_words state new) (step_outside state n line)
 words_step state n line rest (Ok done) new w added none by = rw added (words_go state n line rest w none)
-words_step state n line rest (Err refused) new w added none by = words_refused state n line rest refused w by
+words_step state n line rest (Err refused) new w added none by = refused_at state n line (lowest_of_words (length state.open_image.words) state.open_image.pages (fields_of rest)) refused (words_rules state line rest w) by
 
-pub words_room : (state : State) (line rest : List ℕ) (r : Result (Unit {0}) SystemRefused) (new : List ℕ) → IsWordsLine state.stage line rest → HasRoom state
+pub words_room : (state : State) (line rest : List ℕ) (r : Result (Unit {0}) SystemRefused) (new : List ℕ) → Starts state line Words (fields_of rest) → HasRoom state
     → OnOk r (new ≡ state.open_image.words ++ words_in (fields_of rest)) → OnOk r (lowest_of_words (length state.open_image.words) state.open_image.pages (fields_of rest) ≡ None) → OnOk r (HasRoom (with_words state new))
 words_room state line rest (Ok done) new w room added none =
-    rw added (taken_keeps state (add state Words (fields_of rest)) line false (words_rules state line rest w ∙ none) (words_kept state line rest w) room)
+    rw added (taken_keeps state (add state Words (fields_of rest)) line false (words_rules state line rest w ∙ none) w.kept room)
 words_room state line rest (Err refused) new w room added none = tt

@@ -3,10 +3,12 @@ pub mod Text
 pub mod Boot
 pub mod Refusal
 pub mod Kinds
+pub mod Line
 pub mod Rules
 pub mod WordLines
 pub mod ImageNames
 pub mod Reading
+pub mod LineRules
 pub mod Answers
 pub mod Numbers
 pub mod Types

@@ -1,5 +1,5 @@
 //! The assembler blocks of a system text.
-ghost use Rattle.std.specs.Prelude.{◌≡◌, ◌+◌, ◌≤◌, ◌<◌, ◌^◌, [], Ok, OnOk, IfOk, IfSome, length, codes};
+ghost use Rattle.std.specs.Prelude.{◌≡◌, ◌+◌, ◌≤◌, ◌<◌, ◌^◌, [], Some, None, Ok, OnOk, IfOk, IfSome, MatchOption, length, take, drop, codes};
 ghost use Rattle.std.specs.Str.{bytes_eq};
 ghost use Rattle.text_parts.specs.Lines.{lines_of, fields_of};
 ghost use Rattle.rv_asm.specs.Program.{reading_of_lines};
@@ -14,7 +14,7 @@ use crate::state::Reader;
 use rv_asm::{AsmRefused, assemble};
 use std::alloc::Global;
 use t32_base::lists::List;
-use text_parts::{are_printable, first_field, first_line, split_lines};
+use text_parts::{are_printable, first_field, first_line};
 
 fn is_end_field(field: &[u8]) -> bool
     ensures { result ≡ bytes_eq field.now (codes "end") }
@@ -22,32 +22,52 @@ fn is_end_field(field: &[u8]) -> bool
     field == b"end".as_slice()
 }
 
-/// Does the line end an assembler block?
+/// Does the line end an assembler block? Few lines begin as one that does.
+#[tactic(auto, using(crate::proofs::Blocks::other_first_field))]
 fn is_end(line: &[u8]) -> bool
     ensures { result ≡ is_end (fields_of line.now) }
 {
     let Some((field, rest)) = first_field(line) else {
         return false;
     };
+    if !is_end_field(field) {
+        return false;
+    }
     match first_field(rest) {
         Some(_) => false,
-        None => is_end_field(field),
+        None => true,
     }
 }
 
-/// How many lines stand before the end of a block, if it ends.
-fn lines_before_end(text: &[u8]) -> Option<u64>
-    ensures lines { result ≡ lines_before_end (lines_of text.now) }
-    ensures few { IfSome result (λ n. n < length text.now) }
+/// An assembler block that ends: how many lines it has, their text, and the text after its end.
+#[derive(Clone, Copy)]
+struct Block<'a> {
+    lines: u64,
+    text: &'a [u8],
+    after: &'a [u8],
+}
+
+/// The block that a text begins with, if it ends.
+fn first_block(text: &[u8]) -> Option<Block<'_>>
+    ensures ended { MatchOption result (lines_before_end (lines_of text.now) ≡ None) (λ block. lines_before_end (lines_of text.now) ≡ Some block.lines) }
+    ensures lines { IfSome result (λ block. lines_of block.text.now ≡ take block.lines (lines_of text.now)) }
+    ensures after { IfSome result (λ block. lines_of block.after.now ≡ drop (block.lines + 1) (lines_of text.now)) }
+    ensures within { IfSome result (λ block. length block.text.now ≤ length text.now) }
+    ensures shorter { IfSome result (λ block. block.lines + length block.after.now < length text.now) }
 {
     let mut rest = text;
-    let mut count = 0u64;
+    let mut lines = 0u64;
     while !rest.is_empty() {
         let (line, after) = first_line(rest);
         if is_end(line) {
-            return Some(count);
+            let (block, _) = text.split_at(text.len() - rest.len());
+            return Some(Block {
+                lines,
+                text: block,
+                after,
+            });
         }
-        count += 1;
+        lines += 1;
         rest = after;
     }
     None
@@ -154,14 +174,12 @@ pub fn take_block<'a>(
     ensures left { IfOk result (λ after. after.0 + length after.1.now ≤ header + length text.now) }
     ensures shorter { IfOk result (λ after. length after.1.now < length text.now) }
 {
-    let Some(count) = lines_before_end(text) else {
+    let Some(block) = first_block(text) else {
         return Err(ended_in_block(header, text));
     };
-    let (block, rest) = split_lines(text, count);
-    let (_end, after) = first_line(rest);
-    let number = header + count + 1;
-    match close_block(alloc, reader, header, number, block) {
-        Ok(()) => Ok((number, after)),
+    let number = header + block.lines + 1;
+    match close_block(alloc, reader, header, number, block.text) {
+        Ok(()) => Ok((number, block.after)),
         Err(refused) => Err(refused),
     }
 }

@@ -4,6 +4,7 @@
 mod adding;
 mod block;
 mod kinds;
+mod line;
 pub mod printer;
 mod reading;
 mod refusal;

@@ -1,32 +1,30 @@
 //! From a text to its system.
 ghost use Rattle.std.specs.Prelude.{◌≡◌, ◌+◌, ◌≤◌, ◌<◌, ◌^◌, true, Ok, OnOk, IfOk, IfErr, length};
-ghost use Rattle.text_parts.specs.Lines.{lines_of};
-ghost use Rattle.sys_text.specs.Kinds.{texts};
+ghost use Rattle.text_parts.specs.Lines.{lines_of, fields_of};
+ghost use Rattle.sys_text.specs.declared.stage.Keyword.TheVariants.{Words as WordsOf};
 ghost use Rattle.sys_text.specs.Rules.{HasRoom};
+ghost use Rattle.sys_text.specs.LineRules.{Starts};
 ghost use Rattle.sys_text.specs.ImageNames.{KnowsImages};
-ghost use Rattle.sys_text.specs.Numbers.{LineFits};
-ghost use Rattle.sys_text.specs.Reading.{Outside, reading_from, reading_of, step_outside, is_asm, may_end, last_line, ended, nothing_yet, kept};
+ghost use Rattle.sys_text.specs.Reading.{Outside, reading_from, reading_of, step_outside, is_asm, may_end, last_line, ended, nothing_yet};
 ghost use Rattle.sys_text.specs.declared.system.System.{System as Described};
 ghost use Rattle.sys_text.specs.Valid.{is_system};
 ghost use Rattle.sys_text.specs.Text.{system_text};
 ghost use Rattle.sys_text.specs.Answers.{Answers, ClosesBlock, TakesLine, TakesLines};
-ghost use Rattle.sys_text.specs.WordLines.{IsWordsLine};
 ghost use Rattle.sys_text.specs.RuleByRule.{IsSystemOf, HasCause};
 
 use crate::adding::{add_line, empty_image};
 use crate::block::take_block;
-use crate::kinds::fields;
+use crate::line::line_of;
 use crate::refusal::{Rule, SystemRefused};
-use crate::rules::{begins_comment, broken_at_front, broken_rule, keyword_in_stage};
+use crate::rules::{Front, broken_rule, front_of};
 use crate::stage::{Keyword, Stage};
 use crate::state::{Reader, State};
 use crate::system::System;
 use crate::types::{all_numbers_fit, all_words_fit};
-use crate::word_lines::{after_words, read_words};
+use crate::word_lines::{read_words, refused};
 use std::alloc::Global;
 use t32_base::lists::List;
 use t32_base::process::ClusterNo;
-use t32_base::streams::NoMemory;
 use text_parts::{Names, first_line};
 
 /// Does the line open an assembler block?
@@ -39,34 +37,6 @@ fn opens_block(keyword: Keyword) -> bool
     }
 }
 
-/// Adds what a line says that breaks no rule. Does it open an assembler block?
-fn keep_line<'a>(
-    alloc: Global,
-    reader: &mut Reader<'a>,
-    fields: &[&'a [u8]],
-) -> Result<bool, NoMemory>
-    requires numbers { LineFits reader.old.state (texts fields.now) }
-    requires known { KnowsImages reader.old }
-    ensures added { IfOk result (λ opens. kept reader.old.state (texts fields.now) ≡ (reader.new.state, opens)) }
-    ensures known { OnOk result (KnowsImages reader.new) }
-{
-    match fields.split_first() {
-        None => Ok(false),
-        Some((first, others)) => {
-            if begins_comment(first) {
-                return Ok(false);
-            }
-            match keyword_in_stage(reader.state.stage, first) {
-                None => Ok(false),
-                Some(keyword) => {
-                    add_line(alloc, reader, keyword, others)?;
-                    Ok(opens_block(keyword))
-                }
-            }
-        }
-    }
-}
-
 /// Takes line `number`, a line of words with these fields.
 fn take_words(
     reader: &mut Reader<'_>,
@@ -74,7 +44,7 @@ fn take_words(
     line: &[u8],
     fields: &[u8],
 ) -> Result<(), SystemRefused>
-    requires words { IsWordsLine reader.old.state.stage line.now fields.now }
+    requires words { Starts reader.old.state line.now WordsOf (fields_of fields.now) }
     requires room { HasRoom reader.old.state }
     requires known { KnowsImages reader.old }
     ensures step { ClosesBlock result reader.new.state (step_outside reader.old.state number line.now) }
@@ -84,6 +54,35 @@ fn take_words(
     let pages = reader.state.open_image.pages;
     let words = &mut reader.state.open_image.words;
     read_words(words, pages, number, fields)
+}
+
+/// Takes line `number`, which has this keyword and this text after it. Does it open an assembler block?
+fn take_fields<'a>(
+    alloc: Global,
+    reader: &mut Reader<'a>,
+    number: u64,
+    line: &[u8],
+    keyword: Keyword,
+    text: &'a [u8],
+) -> Result<bool, SystemRefused>
+    requires others { keyword ≡ WordsOf → ⊥ }
+    requires starts { Starts reader.old.state line.now keyword (fields_of text.now) }
+    requires room { HasRoom reader.old.state }
+    requires known { KnowsImages reader.old }
+    ensures step { TakesLine result reader.new.state number (step_outside reader.old.state number line.now) }
+    ensures room { OnOk result (HasRoom reader.new.state) }
+    ensures known { OnOk result (KnowsImages reader.new) }
+{
+    match line_of(keyword, text) {
+        Err(rule) => Err(refused(number, rule)),
+        Ok(read) => match broken_rule(reader, read) {
+            Some(rule) => Err(refused(number, rule)),
+            None => {
+                add_line(alloc, reader, read)?;
+                Ok(opens_block(keyword))
+            }
+        },
+    }
 }
 
 /// Takes line `number`, outside assembler blocks. Does it open one?
@@ -99,29 +98,16 @@ fn take_line<'a>(
     ensures room { OnOk result (HasRoom reader.new.state) }
     ensures known { OnOk result (KnowsImages reader.new) }
 {
-    if let Some(fields) = after_words(reader.state.stage, line) {
-        return match take_words(reader, number, line, fields) {
-            Ok(()) => Ok(false),
-            Err(refused) => Err(refused),
-        };
-    }
-    // A line of very many fields is mostly refused by its first one, before a list of them is made.
-    if let Some(rule) = broken_at_front(&reader.state, line) {
-        return Err(SystemRefused::BadLine {
-            line: number,
-            rule: rule.number(),
-        });
-    }
-    let fields = fields(alloc, line)?;
-    match broken_rule(reader, line, &fields) {
-        Some(rule) => Err(SystemRefused::BadLine {
-            line: number,
-            rule: rule.number(),
-        }),
-        None => {
-            let opens = keep_line(alloc, reader, &fields)?;
-            Ok(opens)
-        }
+    match front_of(&reader.state, line) {
+        Front::Refused(rule) => Err(refused(number, rule)),
+        Front::Skipped => Ok(false),
+        Front::Known(keyword, text) => match keyword {
+            Keyword::Words => match take_words(reader, number, line, text) {
+                Ok(()) => Ok(false),
+                Err(refused) => Err(refused),
+            },
+            _ => take_fields(alloc, reader, number, line, keyword, text),
+        },
     }
 }
 

@@ -1,17 +1,19 @@
 //! The rules that a line may break, by what the lines before it said.
-ghost use Rattle.std.specs.Prelude.{◌≡◌, ◌≤◌, ◌+◌, ◌==◌, Some, IfSome, length, nat_lt, nat_le, ◌||◌};
-ghost use Rattle.text_parts.specs.Lines.{fields_of};
-ghost use Rattle.sys_text.specs.Kinds.{texts, number, field_at};
-ghost use Rattle.sys_text.specs.Valid.{births_of};
-ghost use Rattle.sys_text.specs.Rules.{may_stand, keyword_in, begins_comment, breaks_same, has_root, breaks_name, places_with, is_full, breaks_room, lowest_with, broken_by, HasRoom};
+ghost use Rattle.std.specs.Prelude.{◌≡◌, ◌≤◌, ◌+◌, length, nat_lt, ◌&&◌, ◌||◌};
+ghost use Rattle.sys_text.specs.Valid.{births_of, is_within};
+ghost use Rattle.sys_text.specs.Rules.{may_stand, keyword_in, begins_comment, has_root, places_with, is_full, HasRoom};
+ghost use Rattle.sys_text.specs.Line.{said};
+ghost use Rattle.sys_text.specs.LineRules.{keeps_limits, are_same, misnames, overfills, lowest_of, IsFront};
 ghost use Rattle.sys_text.specs.ImageNames.{KnowsImages};
 
-use crate::kinds::{are_kinds, count_fits, field_at, keep_limits, keyword_named, number_or_0};
+use crate::kinds::keyword_named;
+use crate::line::{Line, RootFields};
 use crate::refusal::Rule;
 use crate::stage::{Keyword, Stage};
 use crate::state::{Reader, State};
 use crate::system::System;
 use crate::valid::{births, links};
+use crate::word_lines::after_words;
 use text_parts::{are_printable, first_field};
 
 /// May a line with this first field come next?
@@ -31,7 +33,7 @@ fn may_stand(stage: Stage, keyword: Keyword) -> bool
 }
 
 /// What the first field of a line says, where it may stand here.
-pub fn keyword_in_stage(stage: Stage, field: &[u8]) -> Option<Keyword>
+fn keyword_in_stage(stage: Stage, field: &[u8]) -> Option<Keyword>
     ensures { result ≡ keyword_in stage field.now }
 {
     match keyword_named(field) {
@@ -40,20 +42,49 @@ pub fn keyword_in_stage(stage: Stage, field: &[u8]) -> Option<Keyword>
     }
 }
 
-/// Are the two clusters or the two roots the same?
-fn breaks_same(keyword: Keyword, fields: &[&[u8]]) -> bool
-    ensures { result ≡ breaks_same keyword (texts fields.now) }
+fn is_within(low: u64, high: u64, number: u64) -> bool
+    ensures { result ≡ is_within low high number }
 {
-    match keyword {
-        Keyword::Pager | Keyword::Root | Keyword::Chan => begin_alike(fields),
-        _ => false,
+    low <= number && number <= high
+}
+
+fn root_keeps_limits(clusters: u64, root: RootFields) -> bool
+    ensures { result ≡ (nat_lt root.home clusters && nat_lt root.backup clusters && is_within 1 100000 root.limit && is_within 0 31 root.births && is_within 0 15 root.tty) }
+{
+    root.home < clusters
+        && root.backup < clusters
+        && is_within(1, 100_000, root.limit)
+        && is_within(0, 31, root.births)
+        && is_within(0, 15, root.tty)
+}
+
+/// Is each number within its limits, and each cluster there?
+fn keeps_limits(clusters: u64, line: Line<'_>) -> bool
+    ensures { result ≡ keeps_limits clusters (said line.entry) }
+{
+    match line {
+        Line::Clusters(count) => is_within(2, 16, count),
+        Line::Pager(first, second) => first < clusters && second < clusters,
+        Line::Syncreads(count) => is_within(1, 1000, count),
+        Line::Syncsteps(count) => is_within(64, 100_000, count),
+        Line::Image(_, pages) => is_within(1, 256, pages),
+        Line::Asm(_, pages) => is_within(1, 256, pages),
+        Line::Root(root, _) => root_keeps_limits(clusters, root),
+        Line::End => true,
+        Line::Chan(_, _) => true,
     }
 }
 
-fn begin_alike(fields: &[&[u8]]) -> bool
-    ensures { result ≡ (number (field_at 0 (texts fields.now)) == number (field_at 1 (texts fields.now))) }
+/// Are the two clusters or the two roots the same?
+fn are_same(line: Line<'_>) -> bool
+    ensures { result ≡ are_same (said line.entry) }
 {
-    number_or_0(field_at(0, fields)) == number_or_0(field_at(1, fields))
+    match line {
+        Line::Pager(first, second) => first == second,
+        Line::Root(root, _) => root.home == root.backup,
+        Line::Chan(first, second) => first == second,
+        _ => false,
+    }
 }
 
 /// Is it the number of a root, counted from 1?
@@ -64,17 +95,17 @@ fn has_root(system: &System, root: u64) -> bool
 }
 
 /// Is an image name used twice, or something not there?
-fn breaks_name<'a>(reader: &Reader<'a>, keyword: Keyword, fields: &[&'a [u8]]) -> bool
+fn misnames<'a>(reader: &Reader<'a>, line: Line<'a>) -> bool
     requires { KnowsImages reader.now }
-    ensures { result ≡ breaks_name reader.now.state.system keyword (texts fields.now) }
+    ensures { result ≡ misnames reader.now.state.system (said line.entry) }
 {
-    match keyword {
-        Keyword::Image | Keyword::Asm => reader.place(field_at(0, fields)).is_some(),
-        Keyword::Root => reader.place(field_at(3, fields)).is_none(),
-        Keyword::Chan => {
+    match line {
+        Line::Image(name, _) => reader.place(name).is_some(),
+        Line::Asm(name, _) => reader.place(name).is_some(),
+        Line::Root(_, image) => reader.place(image).is_none(),
+        Line::Chan(first, second) => {
             let system = &reader.state.system;
-            !has_root(system, number_or_0(field_at(0, fields)))
-                || !has_root(system, number_or_0(field_at(1, fields)))
+            !has_root(system, first) || !has_root(system, second)
         }
         _ => false,
     }
@@ -103,43 +134,31 @@ fn is_either_full(system: &System, first: u64, second: u64) -> bool
     is_full(system, first) || is_full(system, second)
 }
 
-/// Does the line leave no room?
-fn breaks_room(state: &State, keyword: Keyword, fields: &[&[u8]]) -> bool
+/// Is there no room for the line?
+fn overfills(state: &State, line: Line<'_>) -> bool
     requires { HasRoom state.now }
-    ensures { result ≡ breaks_room state.now keyword (texts fields.now) }
+    ensures { result ≡ overfills state.now (said line.entry) }
 {
-    match keyword {
-        Keyword::Words => {
-            let words = state.open_image.words.len() + fields.len();
-            words > 64 * usize::from(state.open_image.pages)
-        }
-        Keyword::Root => leaves_no_place(&state.system, number_or_0(field_at(5, fields))),
-        Keyword::Chan => {
-            let first = number_or_0(field_at(0, fields));
-            let second = number_or_0(field_at(1, fields));
-            is_either_full(&state.system, first, second)
-        }
+    match line {
+        Line::Root(root, _) => leaves_no_place(&state.system, root.births),
+        Line::Chan(first, second) => is_either_full(&state.system, first, second),
         _ => false,
     }
 }
 
-/// The lowest rule that the fields after a keyword break.
-fn broken_with<'a>(reader: &Reader<'a>, keyword: Keyword, fields: &[&'a [u8]]) -> Option<Rule>
+/// The lowest of the rules 5 to 8 that the line breaks.
+pub fn broken_rule<'a>(reader: &Reader<'a>, line: Line<'a>) -> Option<Rule>
     requires room { HasRoom reader.now.state }
     requires known { KnowsImages reader.now }
-    ensures { result ≡ lowest_with reader.now.state keyword (texts fields.now) }
+    ensures { result ≡ lowest_of reader.now.state (said line.entry) }
 {
-    if !count_fits(keyword, fields) {
-        Some(Rule::FieldCount)
-    } else if !are_kinds(keyword, fields) {
-        Some(Rule::FieldKind)
-    } else if !keep_limits(u64::from(reader.state.system.clusters), keyword, fields) {
+    if !keeps_limits(u64::from(reader.state.system.clusters), line) {
         Some(Rule::Limit)
-    } else if breaks_same(keyword, fields) {
+    } else if are_same(line) {
         Some(Rule::Same)
-    } else if breaks_name(reader, keyword, fields) {
+    } else if misnames(reader, line) {
         Some(Rule::Name)
-    } else if breaks_room(&reader.state, keyword, fields) {
+    } else if overfills(&reader.state, line) {
         Some(Rule::Room)
     } else {
         None
@@ -147,7 +166,7 @@ fn broken_with<'a>(reader: &Reader<'a>, keyword: Keyword, fields: &[&'a [u8]]) -
 }
 
 /// Is it the first field of a line that is skipped?
-pub fn begins_comment(field: &[u8]) -> bool
+fn begins_comment(field: &[u8]) -> bool
     ensures { result ≡ begins_comment field.now }
 {
     match field {
@@ -156,44 +175,42 @@ pub fn begins_comment(field: &[u8]) -> bool
     }
 }
 
-/// The rule that a line outside assembler blocks breaks by its bytes or its first field, whatever its other fields are.
-pub fn broken_at_front(state: &State, line: &[u8]) -> Option<Rule>
-    ensures { IfSome result (λ rule. broken_by state.now line.now ≡ Some rule) }
+/// What a line outside assembler blocks begins with.
+#[derive(Clone, Copy)]
+pub enum Front<'a> {
+    /// The rule that it breaks by its bytes or its first field, whatever its other fields are.
+    Refused(Rule),
+    /// It has no fields, or is a comment.
+    Skipped,
+    /// A keyword, and the text after it.
+    Known(Keyword, &'a [u8]),
+}
+
+/// The front of a line that is no plain line of words.
+fn front_by_name<'a>(state: &State, line: &'a [u8]) -> Front<'a>
+    ensures { IsFront state.now line.now result }
 {
     if !are_printable(line) {
-        return Some(Rule::ForeignByte);
+        return Front::Refused(Rule::ForeignByte);
     }
-    let (first, _) = first_field(line)?;
+    let Some((first, text)) = first_field(line) else {
+        return Front::Skipped;
+    };
     if begins_comment(first) {
-        return None;
+        return Front::Skipped;
     }
     match keyword_in_stage(state.stage, first) {
-        None => Some(Rule::Misplaced),
-        Some(_) => None,
+        None => Front::Refused(Rule::Misplaced),
+        Some(keyword) => Front::Known(keyword, text),
     }
 }
 
-/// The lowest rule that a line outside assembler blocks breaks.
-pub fn broken_rule<'a>(reader: &Reader<'a>, line: &[u8], fields: &[&'a [u8]]) -> Option<Rule>
-    requires room { HasRoom reader.now.state }
-    requires known { KnowsImages reader.now }
-    requires fields { texts fields.now ≡ fields_of line.now }
-    ensures { result ≡ broken_by reader.now.state line.now }
+/// What the line begins with, outside assembler blocks.
+pub fn front_of<'a>(state: &State, line: &'a [u8]) -> Front<'a>
+    ensures { IsFront state.now line.now result }
 {
-    if !are_printable(line) {
-        return Some(Rule::ForeignByte);
-    }
-    match fields.split_first() {
-        None => None,
-        Some((first, others)) => {
-            if begins_comment(first) {
-                None
-            } else {
-                match keyword_in_stage(reader.state.stage, first) {
-                    None => Some(Rule::Misplaced),
-                    Some(keyword) => broken_with(reader, keyword, others),
-                }
-            }
-        }
+    match after_words(state.stage, line) {
+        Some(text) => Front::Known(Keyword::Words, text),
+        None => front_by_name(state, line),
     }
 }

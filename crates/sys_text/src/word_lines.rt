@@ -96,7 +96,8 @@ pub fn read_words(
     Ok(())
 }
 
-fn refused(line: u64, rule: Rule) -> SystemRefused
+/// The line is refused by this rule.
+pub fn refused(line: u64, rule: Rule) -> SystemRefused
     ensures { RefusesBy result line (Some rule) }
 {
     SystemRefused::BadLine {

@@ -1,0 +1,115 @@
+-- What a line that is read leads to.
+use Rattle.std.proofs.Common.{◌≡◌, ℕ, ◌+◌, ◌≤◌, Bool, true, false, not, ◌&&◌, ◌||◌, leb, nat_lt, List, [], ◌∷◌, length, Option, Some, None, Ok, refl, sym, ap, ◌∙◌, arith}
+use Rattle.std.proofs.lemmas.Bool.Decides.{nat_tests}
+use Rattle.text_parts.specs.Lines.{are_printable, fields_of}
+use Rattle.sys_text.specs.declared.stage.Keyword.{Keyword}
+use Rattle.sys_text.specs.declared.stage.Keyword.TheVariants.{Words}
+use Rattle.sys_text.specs.declared.refusal.Rule.{Rule}
+use Rattle.sys_text.specs.declared.refusal.Rule.TheVariants.{ForeignByte, Misplaced, Limit, Same, Name, Room}
+use Rattle.sys_text.specs.declared.refusal.SystemRefused.{SystemRefused}
+use Rattle.sys_text.specs.declared.refusal.SystemRefused.TheVariants as refusals
+use Rattle.sys_text.specs.declared.state.State.{State}
+use Rattle.sys_text.specs.Valid.{is_within}
+use Rattle.sys_text.specs.Line.{Line}
+use Rattle.sys_text.specs.Line as lines
+use Rattle.sys_text.specs.Rules.{keyword_in, begins_comment, is_skipped, broken_by, lowest_with, HasRoom}
+use Rattle.sys_text.specs.LineRules.{keeps_limits, are_same, misnames, overfills, breaks_as, lowest_of, add_line, Fits, Starts}
+use Rattle.sys_text.specs.Reading.{Step, is_asm, kept, kept_line, step_outside}
+use Rattle.sys_text.specs.Answers.{RefusesStep, TakesLine}
+use Rattle.sys_text.specs.WordLines.{IsWordsLine, RefusesBy}
+use Rattle.sys_text.proofs.Keeping.{none_passes}
+use Rattle.sys_text.proofs.Spelling.{Agrees, same_lowest}
+
+-- ---- the front of a line
+
+pub foreign : (state : State) (line : List ℕ) → are_printable line ≡ false → broken_by state line ≡ Some ForeignByte
+foreign state line e = rw e refl
+
+pub skipped : (state : State) (line : List ℕ) → are_printable line ≡ true → is_skipped (fields_of line) ≡ true → (broken_by state line ≡ None) × (kept state (fields_of line) ≡ (state, false))
+skipped state line printable skip = (rw (printable, skip) refl, rw skip refl)
+
+pub misplaced : (state : State) (line first : List ℕ) (fields : List (List ℕ)) → are_printable line ≡ true → fields_of line ≡ first ∷ fields → begins_comment first ≡ false → keyword_in state.stage first ≡ None → broken_by state line ≡ Some Misplaced
+misplaced state line first fields printable cut comment key = rw (printable, cut, comment, key) refl
+
+pub starts : (state : State) (line : List ℕ) (keyword : Keyword) (first : List ℕ) (fields : List (List ℕ)) → are_printable line ≡ true → fields_of line ≡ first ∷ fields → begins_comment first ≡ false → keyword_in state.stage first ≡ Some keyword → Starts state line keyword fields
+starts state line keyword first fields printable cut comment key = record { broken = rw (printable, cut, comment, key) refl; kept = rw (cut, comment, key) refl }
+
+pub words_start : (state : State) (line rest : List ℕ) → IsWordsLine state.stage line rest → Starts state line Words (fields_of rest)
+words_start state line rest w = record { broken = rw (w.printable, w.fields, w.in_image) refl; kept = rw (w.fields, w.in_image) refl }
+
+-- ---- a line that breaks no rule
+
+record KeptLine (state : State) (line : Line) : Type 0 where
+  limits : not (keeps_limits state.system.clusters line) ≡ false
+  same : are_same line ≡ false
+  name : misnames state.system line ≡ false
+  room : overfills state line ≡ false
+
+kept_rules : (state : State) (line : Line) → lowest_of state line ≡ None → KeptLine state line
+kept_rules state line e =
+    let p = breaks_as state line in
+    let s1 = none_passes p Limit (Same ∷ Name ∷ Room ∷ []) e in
+    let s2 = none_passes p Same (Name ∷ Room ∷ []) s1.1 in
+    let s3 = none_passes p Name (Room ∷ []) s2.1 in
+    record { limits = s1.0; same = s2.0; name = s3.0; room = (none_passes p Room [] s3.1).0 }
+
+within_le : (low high n : ℕ) → not (is_within low high n) ≡ false → n ≤ high
+within_le low high n h = grind (arith, nat_tests)
+
+pair_le : (clusters a b : ℕ) → not (nat_lt a clusters && nat_lt b clusters) ≡ false → (a ≤ clusters) × (b ≤ clusters)
+pair_le clusters a b h = (grind (arith, nat_tests), grind (arith, nat_tests))
+
+chan_le : (roots a b : ℕ) → (not (leb 1 a && leb a roots) || not (leb 1 b && leb b roots)) ≡ false → (a ≤ roots) × (b ≤ roots)
+chan_le roots a b h = (grind (arith, nat_tests), grind (arith, nat_tests))
+
+not_both : (a b : Bool) → not (a && b) ≡ false → (not a ≡ false) × (not b ≡ false)
+not_both true b h = (refl, h)
+not_both false b h = absurd cc
+
+pub fits : (state : State) (line : Line) → lowest_of state line ≡ None → HasRoom state → Fits line
+fits state (lines.Clusters count) e r = omega (arith, within_le 2 16 count (kept_rules state (lines.Clusters count) e).limits)
+fits state (lines.Pager first second) e r =
+    let le = pair_le state.system.clusters first second (kept_rules state (lines.Pager first second) e).limits in
+    (omega (arith, le.0, r.clusters), omega (arith, le.1, r.clusters))
+fits state (lines.Syncreads count) e r = omega (arith, within_le 1 1000 count (kept_rules state (lines.Syncreads count) e).limits)
+fits state (lines.Syncsteps count) e r = within_le 64 100000 count (kept_rules state (lines.Syncsteps count) e).limits
+fits state (lines.Image name pages) e r = within_le 1 256 pages (kept_rules state (lines.Image name pages) e).limits
+fits state (lines.Asm name pages) e r = within_le 1 256 pages (kept_rules state (lines.Asm name pages) e).limits
+fits state (lines.Words words) e r = tt
+fits state lines.End e r = tt
+fits state (lines.Root root image) e r =
+    let abcde = not_both _ (is_within 0 15 root.tty) (kept_rules state (lines.Root root image) e).limits in
+    let abcd = not_both _ (is_within 0 31 root.births) abcde.0 in
+    let abc = not_both _ (is_within 1 100000 root.limit) abcd.0 in
+    let le = pair_le state.system.clusters root.home root.backup abc.0 in
+    record {
+      home = omega (arith, le.0, r.clusters);
+      backup = omega (arith, le.1, r.clusters);
+      limit = within_le 1 100000 root.limit abc.1;
+      births = omega (arith, within_le 0 31 root.births abcd.1);
+      tty = omega (arith, within_le 0 15 root.tty abcde.1);
+    }
+fits state (lines.Chan first second) e r =
+    let le = chan_le (length state.system.roots) first second (kept_rules state (lines.Chan first second) e).name in
+    (omega (arith, le.0, r.places), omega (arith, le.1, r.places))
+
+-- ---- what it leads to
+
+pub none_broken : (state : State) (line : List ℕ) (keyword : Keyword) (fields : List (List ℕ)) (read : Line) → Starts state line keyword fields → Agrees state keyword fields read → lowest_of state read ≡ None → broken_by state line ≡ None
+none_broken state line keyword fields read s a none = s.broken ∙ same_lowest state keyword fields read a ∙ none
+
+pub kept_read : (state after : State) (line : List ℕ) (keyword : Keyword) (fields : List (List ℕ)) (read : Line) (opens : Bool) → Starts state line keyword fields → Agrees state keyword fields read → lowest_of state read ≡ None → after ≡ add_line state read → opens ≡ is_asm keyword → kept state (fields_of line) ≡ (after, opens)
+kept_read state after line keyword fields read opens s a none is asm = rw (is, asm, ← a.added (kept_rules state read none).name) s.kept
+
+opened : (state after : State) (n : ℕ) (line : List ℕ) (opens : Bool) → step_outside state n line ≡ kept_line n (after, opens) → TakesLine (Ok opens) after n (step_outside state n line)
+opened state after n line true e = e
+opened state after n line false e = e
+
+pub goes_on : (state after : State) (n : ℕ) (line : List ℕ) (opens : Bool) → broken_by state line ≡ None → kept state (fields_of line) ≡ (after, opens) → TakesLine (Ok opens) after n (step_outside state n line)
+goes_on state after n line opens none is = opened state after n line opens (rw (none, is) refl)
+
+pub refused_at : (state : State) (n : ℕ) (line : List ℕ) (lowest : Option Rule) (refused : SystemRefused) → broken_by state line ≡ lowest → RefusesBy refused n lowest → RefusesStep refused (step_outside state n line)
+refused_at state n line lowest (refusals.BadLine at rule) is by =
+    let broken : broken_by state line ≡ Some by.0 = is ∙ by.1 in
+    (by.0, rw (broken, by.2) refl, by.3)
+refused_at state n line lowest refusals.NoMemory is by = tt
