@@ -9,7 +9,7 @@ use Rattle.plain_kernel.specs.Apply.{apply, apply_all, plain_run}
 use Rattle.plain_kernel.specs.Answers.{BadAt}
 use Rattle.plain_kernel.specs.Still.{is_still}
 use Rattle.bus_msg.specs.declared.entry.What.{What}
-use Rattle.bus_msg.specs.declared.entry.What.TheVariants.{Mail, Birth, Exit, Page, Sync, Fetch, PageIs, Crash, Return, Rebackup, Done, Stop}
+use Rattle.bus_msg.specs.declared.entry.What.TheVariants.{Done}
 use Rattle.bus_msg.specs.declared.entry.Entry.{Entry}
 use Rattle.bus_msg.specs.PlacedAfter.{what}
 use Rattle.cert_sched.specs.Schedule.{plain_after, schedule_of}
@@ -64,18 +64,8 @@ no_bad_item system log index legal bad =
 -- ---- the end
 
 at_done : (w : What) (system : System) (log : List Entry) (e : Entry) → is_done w ≡ true → KindHolds system log e w → option_map is_still (plain_after system (log ++ e ∷ [])) ≡ Some true
-at_done (Mail at letter) system log e h k = cc
-at_done (Birth parent at child end) system log e h k = cc
-at_done (Exit pid at end) system log e h k = cc
-at_done (Page pid at index bytes) system log e h k = cc
-at_done (Sync pid small read took) system log e h k = cc
-at_done (Fetch pid index) system log e h k = cc
-at_done (PageIs pid index bytes) system log e h k = cc
-at_done (Crash c cause) system log e h k = cc
-at_done (Return c) system log e h k = cc
-at_done (Rebackup to fresh recs) system log e h k = cc
 at_done (Done rests) system log e h k = k.still
-at_done Stop system log e h k = cc
+at_done _ system log e h k = cc
 
 last_done : (log : List Entry) (e : Entry) → is_finished (log ++ e ∷ []) ≡ true → is_done (what e) ≡ true
 last_done log e h = ap (λ o. option_map_or (λ (e : Entry). is_done (what e)) o false) (sym (last_of-snoc log e)) ∙ h

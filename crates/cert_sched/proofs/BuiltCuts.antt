@@ -35,37 +35,19 @@ bears_none p Stop other = refl
 
 -- what cuts a process is an entry of that process
 pub cut_is_of : (p : Pid) (w : What) → is_cut p w ≡ true → process_of w ≡ Some p
-cut_is_of p (Mail at letter) cut = absurd (true≢false (sym cut))
-cut_is_of p (Birth parent at child end) cut = absurd (true≢false (sym cut))
-cut_is_of p (Exit pid at end) cut = absurd (true≢false (sym cut))
-cut_is_of p (Page pid at index bytes) cut = absurd (true≢false (sym cut))
 cut_is_of p (Sync pid small read took) cut = ap Some (same_of pid p cut)
-cut_is_of p (Fetch pid index) cut = absurd (true≢false (sym cut))
-cut_is_of p (PageIs pid index bytes) cut = absurd (true≢false (sym cut))
-cut_is_of p (Crash k cause) cut = absurd (true≢false (sym cut))
-cut_is_of p (Return k) cut = absurd (true≢false (sym cut))
 cut_is_of p (Rebackup to fresh recs) cut = by_first recs (and_parts fresh (is_first p recs) cut).1
   where
     by_first : (recs : List BackRec) → is_first p recs ≡ true → process_of (Rebackup to fresh recs) ≡ Some p
     by_first [] first = absurd (true≢false (sym first))
     by_first (r ∷ rs) first = ap Some (same_of r.pid p first)
-cut_is_of p (Done rests) cut = absurd (true≢false (sym cut))
-cut_is_of p Stop cut = absurd (true≢false (sym cut))
+cut_is_of p _ cut = absurd (true≢false (sym cut))
 
 -- it comes by right from the home of its process
 pub cut_by_home : (places : Places) (by : By) (p : Pid) (w : What) → is_by_right places by w ≡ true → is_cut p w ≡ true → is_by_home places by (Some p) ≡ true
-cut_by_home places by p (Mail at letter) right cut = absurd (true≢false (sym cut))
-cut_by_home places by p (Birth parent at child end) right cut = absurd (true≢false (sym cut))
-cut_by_home places by p (Exit pid at end) right cut = absurd (true≢false (sym cut))
-cut_by_home places by p (Page pid at index bytes) right cut = absurd (true≢false (sym cut))
 cut_by_home places by p (Sync pid small read took) right cut = ap (is_by_home places by) (sym (cut_is_of p (Sync pid small read took) cut)) ∙ right
-cut_by_home places by p (Fetch pid index) right cut = absurd (true≢false (sym cut))
-cut_by_home places by p (PageIs pid index bytes) right cut = absurd (true≢false (sym cut))
-cut_by_home places by p (Crash k cause) right cut = absurd (true≢false (sym cut))
-cut_by_home places by p (Return k) right cut = absurd (true≢false (sym cut))
 cut_by_home places by p (Rebackup to fresh recs) right cut = ap (is_by_home places by) (sym (cut_is_of p (Rebackup to fresh recs) cut)) ∙ right
-cut_by_home places by p (Done rests) right cut = absurd (true≢false (sym cut))
-cut_by_home places by p Stop right cut = absurd (true≢false (sym cut))
+cut_by_home places by p _ right cut = absurd (true≢false (sym cut))
 
 -- who sends as the home of a process has it among those that have not ended
 pub by_home_there : (places : Places) (by : By) (p : Pid) → is_by_home places by (Some p) ≡ true → is_some (unended_at places p) ≡ true

@@ -65,17 +65,7 @@ module _ (system : System) (log : List Entry) (e : Entry) (stands : Stands syste
   cut_children (Sync q small read took) kind p cut = ap (has_unsynced_child system log) (λ i. record { 0 = sym (eqb-true q.0 p.0 cut) i }) ∙ kind.children
   cut_children (Rebackup to true []) kind p cut = absurd kind
   cut_children (Rebackup to true (r ∷ rs)) kind p cut = ap (has_unsynced_child system log) (λ i. record { 0 = sym (eqb-true (r.pid).0 p.0 cut) i }) ∙ kind.children
-  cut_children (Rebackup to false recs) kind p cut = absurd (true≢false (sym cut))
-  cut_children (Mail at letter) kind p cut = absurd (true≢false (sym cut))
-  cut_children (Birth parent at child end) kind p cut = absurd (true≢false (sym cut))
-  cut_children (Exit q at end) kind p cut = absurd (true≢false (sym cut))
-  cut_children (Page q at index bytes) kind p cut = absurd (true≢false (sym cut))
-  cut_children (Fetch q index) kind p cut = absurd (true≢false (sym cut))
-  cut_children (PageIs q index bytes) kind p cut = absurd (true≢false (sym cut))
-  cut_children (Crash k cause) kind p cut = absurd (true≢false (sym cut))
-  cut_children (Return k) kind p cut = absurd (true≢false (sym cut))
-  cut_children (Done rests) kind p cut = absurd (true≢false (sym cut))
-  cut_children Stop kind p cut = absurd (true≢false (sym cut))
+  cut_children _ kind p cut = absurd (true≢false (sym cut))
 
   -- no process that is placed is born
   no_birth_of : (w : What) → KindHolds system log e w → is_by_right (placement system log) (e.post).by w ≡ true → (p : Pid) → In p.0 (placement system log) → is_birth_of p w ≡ false

@@ -93,17 +93,7 @@ page_comes p _ = false
 
 fetch_by_home : (p : Pid) (places : Places) (by : By) (w : What) → fetches p w ≡ true → is_by_right places by w ≡ true → is_by_home places by (Some p) ≡ true
 fetch_by_home p places by (Fetch pid index) is right = subst (λ (q : Pid). is_by_home places by (Some q) ≡ true) (λ i. record { 0 = eqb-true pid.0 p.0 is i }) right
-fetch_by_home p places by (Mail at letter) is right = absurd (true≢false (sym is))
-fetch_by_home p places by (Birth parent at child end) is right = absurd (true≢false (sym is))
-fetch_by_home p places by (Exit pid at end) is right = absurd (true≢false (sym is))
-fetch_by_home p places by (Page pid at index bytes) is right = absurd (true≢false (sym is))
-fetch_by_home p places by (Sync pid small read took) is right = absurd (true≢false (sym is))
-fetch_by_home p places by (PageIs pid index bytes) is right = absurd (true≢false (sym is))
-fetch_by_home p places by (Crash k cause) is right = absurd (true≢false (sym is))
-fetch_by_home p places by (Return k) is right = absurd (true≢false (sym is))
-fetch_by_home p places by (Rebackup to fresh recs) is right = absurd (true≢false (sym is))
-fetch_by_home p places by (Done rests) is right = absurd (true≢false (sym is))
-fetch_by_home p places by Stop is right = absurd (true≢false (sym is))
+fetch_by_home p places by _ is right = absurd (true≢false (sym is))
 
 pub never_fetched : (May : System → List Entry → Entry → Type 0) → IsStandingRule May → (system : System) (log : List Entry) (p : Pid) → IsLegalBy May system log → is_among (placement system log) p ≡ false
     → list_any (λ (e : Entry). fetches p (what e)) log ≡ false

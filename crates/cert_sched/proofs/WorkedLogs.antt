@@ -792,6 +792,6 @@ wait_0 = entry 0 Bus 7 None (Crash (cluster 0) Place)
 abbrev pub wait_1 : Entry
 wait_1 = entry 1 Bus 6 None (Done ((pid 16, 4) ∷ (pid 17, 4) ∷ []))
 
-wait_stands_1 : Stands wait_system (wait_0 ∷ []) wait_1
+pub wait_stands_1 : Stands wait_system (wait_0 ∷ []) wait_1
 unfolding boot one_step steps silently plain_after schedule_of placement told is_over silent_upto emission_at before_fork_at backup_record account_after
 wait_stands_1 = record { placed = (refl, refl, refl); by_right = refl; applies = refl; kind = record { named = refl; silent = refl; still = refl } }

@@ -20,14 +20,7 @@ by_kind P mail exit done stop (Mail at letter) built = mail at letter
 by_kind P mail exit done stop (Exit pid at end) built = exit pid at end
 by_kind P mail exit done stop (Done rests) built = done rests
 by_kind P mail exit done stop Stop built = stop
-by_kind P mail exit done stop (Birth parent at child end) built = absurd (true≢false (sym built))
-by_kind P mail exit done stop (Page pid at index bytes) built = absurd (true≢false (sym built))
-by_kind P mail exit done stop (Sync pid small read took) built = absurd (true≢false (sym built))
-by_kind P mail exit done stop (Fetch pid index) built = absurd (true≢false (sym built))
-by_kind P mail exit done stop (PageIs pid index bytes) built = absurd (true≢false (sym built))
-by_kind P mail exit done stop (Crash k cause) built = absurd (true≢false (sym built))
-by_kind P mail exit done stop (Return k) built = absurd (true≢false (sym built))
-by_kind P mail exit done stop (Rebackup to fresh recs) built = absurd (true≢false (sym built))
+by_kind P mail exit done stop _ built = absurd (true≢false (sym built))
 
 -- a page is asked for, or comes
 abbrev pub is_of_page : What → Bool
@@ -38,16 +31,7 @@ is_of_page _ = false
 pub by_page : (P : What → Type 0) → ((pid : Pid) (index : ℕ) → P (Fetch pid index)) → ((pid : Pid) (index : ℕ) (bytes : List ℕ) → P (PageIs pid index bytes)) → (w : What) → is_of_page w ≡ true → P w
 by_page P fetch page (Fetch pid index) of = fetch pid index
 by_page P fetch page (PageIs pid index bytes) of = page pid index bytes
-by_page P fetch page (Mail at letter) of = absurd (true≢false (sym of))
-by_page P fetch page (Birth parent at child end) of = absurd (true≢false (sym of))
-by_page P fetch page (Exit pid at end) of = absurd (true≢false (sym of))
-by_page P fetch page (Page pid at index bytes) of = absurd (true≢false (sym of))
-by_page P fetch page (Sync pid small read took) of = absurd (true≢false (sym of))
-by_page P fetch page (Crash k cause) of = absurd (true≢false (sym of))
-by_page P fetch page (Return k) of = absurd (true≢false (sym of))
-by_page P fetch page (Rebackup to fresh recs) of = absurd (true≢false (sym of))
-by_page P fetch page (Done rests) of = absurd (true≢false (sym of))
-by_page P fetch page Stop of = absurd (true≢false (sym of))
+by_page P fetch page _ of = absurd (true≢false (sym of))
 
 -- a process synchronises: by a changed page, or by the cut, without a signal
 abbrev pub is_of_sync : What → Bool
@@ -58,17 +42,7 @@ is_of_sync _ = false
 pub by_sync : (P : What → Type 0) → ((pid : Pid) (at index : ℕ) (bytes : List ℕ) → P (Page pid at index bytes)) → ((pid : Pid) (small : SmallState) (read : List ℕ) → P (Sync pid small read None)) → (w : What) → is_of_sync w ≡ true → P w
 by_sync P page cut (Page pid at index bytes) of = page pid at index bytes
 by_sync P page cut (Sync pid small read None) of = cut pid small read
-by_sync P page cut (Sync pid small read (Some g)) of = absurd (true≢false (sym of))
-by_sync P page cut (Mail at letter) of = absurd (true≢false (sym of))
-by_sync P page cut (Birth parent at child end) of = absurd (true≢false (sym of))
-by_sync P page cut (Exit pid at end) of = absurd (true≢false (sym of))
-by_sync P page cut (Fetch pid index) of = absurd (true≢false (sym of))
-by_sync P page cut (PageIs pid index bytes) of = absurd (true≢false (sym of))
-by_sync P page cut (Crash k cause) of = absurd (true≢false (sym of))
-by_sync P page cut (Return k) of = absurd (true≢false (sym of))
-by_sync P page cut (Rebackup to fresh recs) of = absurd (true≢false (sym of))
-by_sync P page cut (Done rests) of = absurd (true≢false (sym of))
-by_sync P page cut Stop of = absurd (true≢false (sym of))
+by_sync P page cut _ of = absurd (true≢false (sym of))
 
 -- the loss of a cluster
 pub record IsLoss (w : What) : Type 0 where
@@ -109,14 +83,7 @@ lone_is (Mail at letter) lone = inl refl
 lone_is (Exit pid at end) lone = inl refl
 lone_is (Fetch pid index) lone = inr refl
 lone_is (PageIs pid index bytes) lone = inr refl
-lone_is (Birth parent at child end) lone = absurd (true≢false (sym lone))
-lone_is (Page pid at index bytes) lone = absurd (true≢false (sym lone))
-lone_is (Sync pid small read took) lone = absurd (true≢false (sym lone))
-lone_is (Crash k cause) lone = absurd (true≢false (sym lone))
-lone_is (Return k) lone = absurd (true≢false (sym lone))
-lone_is (Rebackup to fresh recs) lone = absurd (true≢false (sym lone))
-lone_is (Done rests) lone = absurd (true≢false (sym lone))
-lone_is Stop lone = absurd (true≢false (sym lone))
+lone_is _ lone = absurd (true≢false (sym lone))
 
 pub page_unlost : (w : What) → is_of_page w ≡ true → is_unlost w ≡ true
 page_unlost = by_page (λ w. is_unlost w ≡ true) (λ pid index. refl) (λ pid index bytes. refl)

@@ -72,6 +72,8 @@ pub mod Turning
 mod Absorbed
 pub mod Lightening
 pub mod WorkedViews
+mod WorkedRecords
+mod WorkedLosses
 pub mod Arriving
 mod Noting
 mod FirstRecords

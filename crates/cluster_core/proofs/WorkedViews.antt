@@ -49,20 +49,20 @@ use Rattle.cluster_core.proofs.Here.{pid_same}
 
 -- ---- the systems
 
-abbrev pid : ℕ → Pid
+abbrev pub pid : ℕ → Pid
 pid n = record { 0 = n }
 
-abbrev cluster : ℕ → ClusterNo
+abbrev pub cluster : ℕ → ClusterNo
 cluster n = record { 0 = n }
 
-abbrev by_cluster : ℕ → By
+abbrev pub by_cluster : ℕ → By
 by_cluster n = Cluster (cluster n)
 
 -- one page with a program at its front
 abbrev image : List ℕ → Image
 image words = record { name = []; pages = 1; words = words }
 
-abbrev image_page : List ℕ → List ℕ
+abbrev pub image_page : List ℕ → List ℕ
 image_page words = page_at (bytes_of_words words ++ replicate 256 0) 0
 
 -- a root with a home and a backup, which runs an image
@@ -70,22 +70,22 @@ abbrev root : ℕ → ℕ → ℕ → Root
 root home backup number = record { home = cluster home; backup = cluster backup; mode = Quarter; image = number; limit = 1000; births = 0; tty = 0 }
 
 -- the entry at a place: by whom, to which clusters, a bit each, and what it says
-abbrev entry : ℕ → By → ℕ → What → Entry
+abbrev pub entry : ℕ → By → ℕ → What → Entry
 entry place by clusters what = record { place = place; post = record { by = by; what = what }; dests = record { clusters = clusters; tty = None } }
 
-abbrev no_process : ProcState
+abbrev pub no_process : ProcState
 no_process = root_state (pid 0) 1 [] 0 0 0
 
 -- reads two bytes of end 1, writes them to its terminal, and exits
-abbrev reader_words : List ℕ
+abbrev pub reader_words : List ℕ
 reader_words = 0x00300893 ∷ 0x00100513 ∷ 0x000105b7 ∷ 0x03458593 ∷ 0x00200613 ∷ 0x00000073 ∷ 0x00050613 ∷ 0x00200893 ∷ 0x00000513 ∷ 0x00000073 ∷ 0x00100893 ∷ 0x00000513 ∷ 0x00000073 ∷ 0x00000000 ∷ []
 
 -- writes x and a newline to end 1, and exits
-abbrev writer_words : List ℕ
+abbrev pub writer_words : List ℕ
 writer_words = 0x00200893 ∷ 0x00100513 ∷ 0x000105b7 ∷ 0x02458593 ∷ 0x00200613 ∷ 0x00000073 ∷ 0x00100893 ∷ 0x00000513 ∷ 0x00000073 ∷ 0x00000a78 ∷ []
 
 -- a reader at home in cluster 0 and a writer with this home and backup, linked by a channel; each read is followed by a synchronisation
-abbrev reading : ℕ → ℕ → System
+abbrev pub reading : ℕ → ℕ → System
 reading home backup = record {
   clusters = 2;
   pager = (cluster 0, cluster 1);
@@ -97,7 +97,7 @@ reading home backup = record {
 }
 
 -- the writer is at home in the other cluster, as process 17
-abbrev far_system : System
+abbrev pub far_system : System
 far_system = reading 1 0
 
 -- both are at home in cluster 0, and the writer is process 32
@@ -105,22 +105,22 @@ abbrev near_system : System
 near_system = reading 0 1
 
 -- what the writer with a pid writes to process 16
-abbrev written_by : ℕ → Letter
+abbrev pub written_by : ℕ → Letter
 written_by n = record { from = pid n; out = 1; to = Proc (pid 16) 1; body = Said (120 ∷ 10 ∷ []) }
 
 -- a process at its own step count, after silent steps or after the one that sends something
-abbrev upto : System → List Entry → ℕ → ℕ → ProcState
+abbrev pub upto : System → List Entry → ℕ → ℕ → ProcState
 upto system log n at = option_map_or (λ s. s) (silent_upto system log (pid n) at) no_process
 
-abbrev sent_at : System → List Entry → ℕ → ℕ → ProcState
+abbrev pub sent_at : System → List Entry → ℕ → ℕ → ProcState
 sent_at system log n at = option_map_or (λ (r : Emission × ProcState). r.1) (emission_at system log (pid n) at) no_process
 
 -- a process that has read nothing since its start, with no page marked
-abbrev unmarked : ProcState → Process
+abbrev pub unmarked : ProcState → Process
 unmarked s = record { small = s.small; ram = record { bytes = s.memory; dirty = false ∷ [] }; mail = record { letters = s.mail; next = s.next }; read = []; since = 0 }
 
 -- the cluster with a number of a system, which holds nothing
-abbrev empty_view : System → ℕ → List Entry → ClusterView
+abbrev pub empty_view : System → ℕ → List Entry → ClusterView
 empty_view system n log = record {
   system = system;
   number = cluster n;
@@ -137,7 +137,7 @@ empty_view system n log = record {
 }
 
 -- what holds of each of two that are held
-both : (a b : Pid × Held) (P : Pid → Held → Type 0) → P a.0 a.1 → P b.0 b.1 → (p : Pid) (h : Held) → held_of (a ∷ b ∷ []) p ≡ Some h → P p h
+pub both : (a b : Pid × Held) (P : Pid → Held → Type 0) → P a.0 a.1 → P b.0 b.1 → (p : Pid) (h : Held) → held_of (a ∷ b ∷ []) p ≡ Some h → P p h
 both a b P first second p h at = by_tests (same_pid a.0 p) (same_pid b.0 p) refl refl at
   where
     moved : (e : Pid × Held) → same_pid e.0 p ≡ true → e.1 ≡ h → P e.0 e.1 → P p h
@@ -149,7 +149,7 @@ both a b P first second p h at = by_tests (same_pid a.0 p) (same_pid b.0 p) refl
     by_tests false false other another found = cc
 
 -- and of one
-one : (a : Pid × Held) (P : Pid → Held → Type 0) → P a.0 a.1 → (p : Pid) (h : Held) → held_of (a ∷ []) p ≡ Some h → P p h
+pub one : (a : Pid × Held) (P : Pid → Held → Type 0) → P a.0 a.1 → (p : Pid) (h : Held) → held_of (a ∷ []) p ≡ Some h → P p h
 one a P first p h at = by_test (same_pid a.0 p) refl at
   where
     by_test : (x : Bool) → same_pid a.0 p ≡ x → option_map (λ (e : Pid × Held). e.1) (cond x (Some a) None) ≡ Some h → P p h
@@ -159,12 +159,12 @@ one a P first p h at = by_test (same_pid a.0 p) refl at
     by_test false other found = cc
 
 -- what holds of the one page of a process
-one_page : (P : ℕ → Type 0) → P 0 → (i : ℕ) → i < 1 → P i
+pub one_page : (P : ℕ → Type 0) → P 0 → (i : ℕ) → i < 1 → P i
 one_page P first zero below = first
 one_page P first (suc i) below = absurd (omega (arith, below))
 
 -- two numbers that differ
-differ : (n m : ℕ) → eqb n m ≡ false → n ≡ m → ⊥
+pub differ : (n m : ℕ) → eqb n m ≡ false → n ≡ m → ⊥
 differ n m other same = true≢false (sym (eq-eqb n m same) ∙ other)
 
 -- ---- marks: a letter for a neighbour is queued, and has not arrived
@@ -202,28 +202,28 @@ near_refused marks = differ 1 0 refl (ap length (marks (pid 16) (Runs (record ne
 
 -- ---- records: the writer, whose backup is in cluster 0, has sent a letter by its end 1
 
-abbrev far_0 : Entry
+abbrev pub far_0 : Entry
 far_0 = entry 0 (by_cluster 1) 3 (Mail 6 (written_by 17))
 
-abbrev writer_record : Counts → BackRec
+abbrev pub writer_record : Counts → BackRec
 writer_record counts = record { pid = pid 17; state = Some (upto far_system [] 17 0).small; saved = []; next = 0; counts = counts; births = [] }
 
-abbrev one_by_end_1 : Counts
+abbrev pub one_by_end_1 : Counts
 one_by_end_1 = record { ends = slice_set (replicate 32 0) 1 1; signals = 0 }
 
-abbrev records_view : Counts → ClusterView
+abbrev pub records_view : Counts → ClusterView
 records_view counts = record (empty_view far_system 0 (far_0 ∷ [])) { records = writer_record counts ∷ [] }
 
 -- the record of a process, where its backup is in cluster 0
-abbrev record_due : Pid → Option BackRec
+abbrev pub record_due : Pid → Option BackRec
 record_due p = cond (has_backup_in far_system (far_0 ∷ []) (cluster 0) p) (backup_record far_system (far_0 ∷ []) p) None
 
-writer_kept : record_in (records_view one_by_end_1).records (pid 17) ≡ record_due (pid 17)
+pub writer_kept : record_in (records_view one_by_end_1).records (pid 17) ≡ record_due (pid 17)
 unfolding boot one_step steps silently plain_after placement told silent_upto emission_at backup_record
 writer_kept = refl
 
 -- the reader's backup is elsewhere
-reader_not_kept : record_in (records_view one_by_end_1).records (pid 16) ≡ record_due (pid 16)
+pub reader_not_kept : record_in (records_view one_by_end_1).records (pid 16) ≡ record_due (pid 16)
 unfolding boot one_step steps silently plain_after placement told silent_upto emission_at backup_record
 reader_not_kept = refl
 
@@ -234,17 +234,17 @@ records_refused records = differ 0 1 refl (ap (λ (o : Option BackRec). option_m
 
 -- ---- waits and pages: cluster 0 is lost after the page and before the synchronisation of the reader, and cluster 1 asks for that page
 
-abbrev far_1 : Entry
+abbrev pub far_1 : Entry
 far_1 = entry 1 (by_cluster 1) 3 (Mail 10 (record { from = pid 17; out = 1; to = Proc (pid 16) 1; body = EndOf }))
 
-abbrev came : List Entry
+abbrev pub came : List Entry
 came = far_0 ∷ far_1 ∷ []
 
 -- the page of the reader after its read
-abbrev read_page : List ℕ
+abbrev pub read_page : List ℕ
 read_page = page_at (upto far_system came 16 6).memory 0
 
-abbrev far_2 : Entry
+abbrev pub far_2 : Entry
 far_2 = entry 2 (by_cluster 0) 3 (Page (pid 16) 6 0 read_page)
 
 abbrev far_3 : Entry
@@ -269,7 +269,7 @@ abbrev fetched_log : List Entry
 fetched_log = far_0 ∷ far_1 ∷ far_2 ∷ far_3 ∷ far_4 ∷ far_5 ∷ []
 
 -- both letters were saved for it
-abbrev reader_record : BackRec
+abbrev pub reader_record : BackRec
 reader_record = record {
   pid = pid 16;
   state = Some (upto far_system [] 16 0).small;
@@ -280,7 +280,7 @@ reader_record = record {
 }
 
 -- it has asked for so many pages, and its page has come or not
-abbrev reader_waits : ℕ → Option (List ℕ) → WaitingState
+abbrev pub reader_waits : ℕ → Option (List ℕ) → WaitingState
 reader_waits asked page = record { kept = reader_record; asked = asked; come = page ∷ [] }
 
 -- nothing is asked for at first
@@ -323,13 +323,13 @@ pages_refused pages = true≢false (sym (pages (pid 16) (Runs (unmarked (upto fa
 
 -- ---- accounts: the reader has synchronised
 
-abbrev synced_3 : Entry
+abbrev pub synced_3 : Entry
 synced_3 = entry 3 (by_cluster 0) 3 (Sync (pid 16) (upto far_system came 16 6).small (0 ∷ []) None)
 
-abbrev synced_log : List Entry
+abbrev pub synced_log : List Entry
 synced_log = far_0 ∷ far_1 ∷ far_2 ∷ synced_3 ∷ []
 
-abbrev one_account : List ℕ → List ℕ → Account
+abbrev pub one_account : List ℕ → List ℕ → Account
 one_account now kept = record { now = (0, now) ∷ []; kept = (0, kept) ∷ [] }
 
 abbrev accounts_view : List ℕ → ClusterView
@@ -341,11 +341,11 @@ accounts_view kept = record (empty_view far_system 1 synced_log) {
   });
 }
 
-reader_account : account_at (accounts_view read_page) (pid 16) ≡ account_after far_system synced_log (pid 16)
+pub reader_account : account_at (accounts_view read_page) (pid 16) ≡ account_after far_system synced_log (pid 16)
 unfolding boot one_step steps silently plain_after placement told silent_upto emission_at backup_record account_after
 reader_account = refl
 
-writer_account : account_at (accounts_view read_page) (pid 17) ≡ account_after far_system synced_log (pid 17)
+pub writer_account : account_at (accounts_view read_page) (pid 17) ≡ account_after far_system synced_log (pid 17)
 unfolding boot one_step steps silently plain_after placement told silent_upto emission_at backup_record account_after
 writer_account = refl
 
