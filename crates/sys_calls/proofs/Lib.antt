@@ -14,3 +14,4 @@ pub mod Weighing
 pub mod Bearing
 mod Ahead
 mod Passing
+mod Ending
