@@ -1,5 +1,5 @@
 -- A quantum of a process that runs, up to the step by which it is due: steps that were made before, silent steps, and at most one emission at their end.
-use Rattle.std.specs.Prelude.{ℕ, ◌+◌, ◌≤◌, ◌<◌, ◌≡◌, Bool, true, false, not, ◌||◌, ◌==◌, List, Some, Result, Ok, Err}
+use Rattle.std.specs.Prelude.{ℕ, ◌+◌, ◌-◌, ◌≤◌, ◌<◌, ◌≡◌, Bool, true, false, not, ◌||◌, ◌==◌, List, Some, Result, Ok, Err}
 use Rattle.t32_base.specs.declared.streams.NoMemory.{NoMemory}
 use Rattle.t32_base.specs.declared.process.Pid.{Pid}
 use Rattle.t32_base.specs.declared.process.Counts.{Counts}
@@ -13,13 +13,21 @@ use Rattle.roll_forward.specs.Advancing.{going, rolled_on}
 use Rattle.quanta.specs.declared.limits.Limits.{Limits}
 use Rattle.quanta.specs.declared.quantum.Ran.{Ran}
 use Rattle.quanta.specs.declared.quantum.Ran.TheVariants.{Moved, Refused, Sent, Stuck, Forks as RanToFork, Ends}
-use Rattle.quanta.specs.Limited.{is_due}
+use Rattle.quanta.specs.Limited.{is_due, is_within}
 
 -- n silent steps of a process, with the marks of its pages and what it has read, whatever is left to withhold
 pub record RunsOn (n : ℕ) (p q : Process) : Type 0 where
   pub silent : silently n (state_of p) ≡ Some (state_of q)
   pub ran : (counts : Counts) (births : List Pid) → rolled_on n (going p counts births) ≡ Some (going q counts births)
   pub since : q.since ≡ p.since
+
+-- silent steps after so many of a quantum, with which there are at most 64, and none of which leads beyond the limits
+pub record RunsUp (limits : Limits) (made : ℕ) (old : Process) (count : ℕ) (new : Process) : Type 0 where
+  pub from : made ≤ count
+  pub few : count ≤ 64
+  pub runs : RunsOn (count - made) old new
+  pub unmoved : count - made ≡ 0 → new ≡ old
+  pub within : is_within limits old ≡ true → is_within limits new ≡ true
 
 -- a quantum of so many steps goes no further: it has as many as it may have, or the process is due, or has no step
 abbrev pub goes_no_further : Limits → ℕ → ℕ → Process → Bool

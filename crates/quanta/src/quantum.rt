@@ -1,7 +1,7 @@
 //! A quantum of a process that runs, or the rest of one that it began otherwise.
 ghost use Rattle.std.specs.Prelude.{◌≡◌, ◌≤◌, ◌==◌, false, true, min, if◌then◌else◌};
 ghost use Rattle.quanta.specs.Limited.{is_due, is_within, steps_until_due};
-ghost use Rattle.quanta.specs.Quantum.{RunsRest, TellsRefusal};
+ghost use Rattle.quanta.specs.Quantum.{RunsRest, RunsUp, TellsRefusal};
 
 use crate::limits::Limits;
 use proc_state::process::Process;
@@ -43,14 +43,13 @@ pub fn run_rest(
     ensures runs { RunsRest limits 64 before p.old result p.new }
     ensures within { is_within limits p.old ≡ true → is_within limits p.new ≡ true }
 {
-    let most = until_due(p, limits, MOST - before);
-    let mut made = before + run_instructions(p, most);
+    let mut made = run_up(p, limits, before);
     'steps: while made < MOST && !due(p, limits.reads, limits.steps) {
         if exits_next(p) {
             return Ok(Ran::Ends(made));
         }
         match step(alloc, p) {
-            Ok(Step::Silent) => made += 1,
+            Ok(Step::Silent) => made = run_up(p, limits, made + 1),
             Ok(Step::Emit(Emission::Mail(letter))) => return Ok(Ran::Sent(letter)),
             Ok(Step::Emit(Emission::Exit(_))) => unreachable!(),
             Ok(Step::Blocked) => return Ok(moved_or_stuck(made)),
@@ -60,6 +59,15 @@ pub fn run_rest(
         }
     }
     Ok(Ran::Moved)
+}
+
+// Makes the instructions up to a system call that a process may make after so many steps of a quantum, and answers how many steps
+// they are with those.
+fn run_up(p: &mut Process, limits: Limits, made: u32) -> u32
+    requires { made ≤ 64 }
+    ensures { RunsUp limits made p.old result p.new }
+{
+    made + run_instructions(p, until_due(p, limits, MOST - made))
 }
 
 // How many steps that read no letter a process may make until it is due, and at most so many.
