@@ -3,6 +3,7 @@ use Rattle.std.proofs.Common.{◌≡◌, ◌+◌, ◌-◌, ◌*◌, ◌≤◌, r
 use Rattle.std.specs.Prelude.{find, option_map, replicate}
 use Rattle.std.proofs.lemmas.Bool.{not-true}
 use Rattle.t32_base.specs.declared.process.Pid.{Pid}
+use Rattle.sys_text.specs.declared.system.System.{System}
 use Rattle.sys_text.specs.Valid.{is_system}
 use Rattle.proc_state.specs.declared.process.Process.{Process}
 use Rattle.proc_state.specs.State.{state_of}
@@ -11,6 +12,7 @@ use Rattle.bus_msg.specs.declared.entry.Entry.{Entry}
 use Rattle.bus_msg.specs.Places.{same_pid}
 use Rattle.cert_sched.specs.Parts.{rising}
 use Rattle.cert_sched.specs.Schedule.{placement}
+use Rattle.cert_sched.specs.Kinds.{ChildrenSynced}
 use Rattle.cert_sched.specs.Record.{has_state}
 use Rattle.cert_sched.specs.Steps.{silent_upto}
 use Rattle.cert_sched.specs.Legal.{IsLegalBy, Stands}
@@ -27,7 +29,6 @@ use Rattle.batch_laws.proofs.BatchBegins.{batch_begins, batch_posts}
 use Rattle.batch_laws.proofs.NoBirths.{no_children}
 use Rattle.cluster_core.specs.View.{ClusterView, Held, Runs, disk_calls, held_at, held_of, limits_of, next_count}
 use Rattle.cluster_core.specs.Residents.{pids_in, with_changed}
-use Rattle.cluster_core.specs.Parts.{AllOwn}
 use Rattle.cluster_core.specs.Queue.{Nothing, with_queue}
 use Rattle.cluster_core.specs.Holds.{CarriesMarks, IsHeldAs, MarkedIfThere, unended_process}
 use Rattle.cluster_core.specs.Syncing.{Synchronises}
@@ -57,10 +58,25 @@ changed_there p now (e ∷ here) was there = by_test (same_pid e.0 p) refl there
     by_test true is at more = first (same_pid p p) (same_itself p)
     by_test false is at more = ap (λ b. option_map (λ (e : Pid × Held). e.1) (cond b (Some e) (find (λ (e : Pid × Held). same_pid e.0 p) (with_changed p now here)))) is ∙ more at
 
--- ---- a process of a cluster that follows a log, where nothing is queued and the process is due
+-- ---- who may synchronise
 
-module _ (c : ClusterView) (p : Pid) (process : Process) (valid : is_system c.system ≡ true) (empty : c.queue ≡ []) (there : held_at c p ≡ Some (Runs process)) (due : is_due (limits_of c.system) process ≡ true)
-    (log : List Entry) (go : IsOpen BuiltMayFollow c.system log) (f : FollowsBuilt c.system log c) where
+-- its children synchronised, and it is due or never synchronised
+pub record MayCut (system : System) (log : List Entry) (p : Pid) (process : Process) : Type 0 where
+  pub children : ChildrenSynced system log p
+  pub due : (is_due (limits_of system) process || not (has_state system log p)) ≡ true
+
+-- so it is in each log that the cluster follows
+abbrev pub MayCutIn : ClusterView → Pid → Process → Type 0
+MayCutIn c p process = (log : List Entry) → IsOpen BuiltMayFollow c.system log → FollowsBuilt c.system log c → MayCut c.system log p process
+
+-- one that is due may, as long as there are no children
+pub due_may : (c : ClusterView) (p : Pid) (process : Process) → is_due (limits_of c.system) process ≡ true → MayCutIn c p process
+due_may c p process due log go f = record { children = no_children c.system log p (built_stands c.system log go.0); due = ap (λ b. b || not (has_state c.system log p)) due }
+
+-- ---- a process of a cluster that follows a log, where nothing is queued and the process may synchronise
+
+module _ (c : ClusterView) (p : Pid) (process : Process) (valid : is_system c.system ≡ true) (empty : c.queue ≡ []) (there : held_at c p ≡ Some (Runs process)) (log : List Entry) (go : IsOpen BuiltMayFollow c.system log) (f : FollowsBuilt c.system log c)
+    (may : MayCut c.system log p process) where
   legal : IsLegalBy Stands c.system log
   legal = built_stands c.system log go.0
 
@@ -93,7 +109,7 @@ module _ (c : ClusterView) (p : Pid) (process : Process) (valid : is_system c.sy
 
   -- its batch is under way, with all its pages left
   begins : BatchMay c.system log c.number p (state_of process) process.read (marked_pages process)
-  begins = batch_begins c.system log p process c.number marked may_send (no_children c.system log p legal) (ap (λ b. b || not (has_state c.system log p)) due)
+  begins = batch_begins c.system log p process c.number marked may_send may.children may.due
 
   posts : batch process c.number ≡ posts_left c.number p (state_of process) process.read (marked_pages process)
   posts = batch_posts c.system log p process c.number marked
@@ -151,7 +167,7 @@ module _ (c : ClusterView) (p : Pid) (process : Process) (valid : is_system c.sy
   unfolding synchronises
   follows_batch = with_batch c.system log new synchronises valid go beside carries.sent
 
--- Where nothing is queued and a process that runs here is due, a cluster goes on with the process synchronised and its batch queued.
-pub batch_goes_on : (c : ClusterView) (p : Pid) (process : Process) → is_system c.system ≡ true → AllOwn c.cursor c.here → c.queue ≡ [] → held_at c p ≡ Some (Runs process) → is_due (limits_of c.system) process ≡ true
+-- Where nothing is queued and a process that runs here may synchronise, a cluster goes on with the process synchronised and its batch queued.
+pub batch_goes_on : (c : ClusterView) (p : Pid) (process : Process) → is_system c.system ≡ true → c.queue ≡ [] → held_at c p ≡ Some (Runs process) → MayCutIn c p process
     → GoesOn c (record c { here = with_changed p (Runs (synced process)) c.here; queue = batch process c.number; steps = next_count c.steps })
-batch_goes_on c p process valid own empty there due log go f = follows_batch c p process valid empty there due log go f
+batch_goes_on c p process valid empty there may log go f = follows_batch c p process valid empty there log go f (may log go f)

@@ -58,6 +58,7 @@ mod Homing
 pub mod Booted
 pub mod Following
 pub mod Owning
+mod RestTold
 mod Catching
 mod FirstServer
 pub mod Within

@@ -35,13 +35,13 @@ use Rattle.cluster_core.proofs.Homes.{differ_built}
 use Rattle.cluster_core.proofs.HomesMoved.{stays_home}
 use Rattle.cluster_core.proofs.Telling.{Telling, telling}
 use Rattle.cluster_core.proofs.Unmoved.{emission_same, page_moves_none}
-use Rattle.cluster_core.proofs.Following.{by_home_of, post_may}
+use Rattle.cluster_core.proofs.Following.{by_home_of, may_end_still, post_may}
 use Rattle.cluster_core.proofs.Posted.{moves_it, no_end}
 use Rattle.cert_sched.specs.Moved.{is_fetch}
 use Rattle.cluster_core.specs.Holds.{is_fetch_queued}
 use Rattle.cluster_core.proofs.PagePosts.{page_post_stays}
 use Rattle.cluster_core.proofs.HasPages.{waits_after}
-use Rattle.cert_sched.specs.Deeds.{is_birth_of, is_cut, letter_for}
+use Rattle.cert_sched.specs.Deeds.{deeds_in, is_birth_of, is_cut, letter_for}
 use Rattle.sys_calls.proofs.RunLemma.{all_delivered}
 use Rattle.record_laws.proofs.Standing.{built_stands}
 use Rattle.cert_sched.proofs.BuiltCuts.{by_home_there}
@@ -123,6 +123,7 @@ module _ (system : System) (valid : is_system system ≡ true) (log : List Entry
   told_stays post own may =
       post_may system later post u.pid u.at u.emission u.after n.more n.goes_on may.built u.tells (emission_same system log e none u.pid u.at ∙ u.is) at_home keeps
       (waits_after system log e k post valid n.legal (IsLegal-last BuiltMayFollow system log e n.more).stands (differ_built system log valid n.legal) not_here_lost may.built (ap (is_by_home places post.by) u.process ∙ u.by_home) own may.pages)
+      (may_end_still system log e (entry_of system log post) u.pid u.at u.emission post.what valid (built_stands system log n.legal) (IsLegal-last BuiltMayFollow system log e n.more).stands (ap (deeds_in u.pid) n.same) u.tells (may.stands).kind)
     where
       u : Telling system log (entry_of system log post)
       u = telling system log (entry_of system log post) may (no_end k places post.by post.what may.built own (may.stands).by_right)

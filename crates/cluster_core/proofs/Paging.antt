@@ -47,7 +47,7 @@ use Rattle.cluster_core.proofs.Homes.{HomeHere, differ_built, home_here, pids_ho
 use Rattle.cluster_core.proofs.Telling.{Telling, telling}
 use Rattle.cluster_core.proofs.Counted.{lost_before}
 use Rattle.cluster_core.proofs.Posted.{no_end}
-use Rattle.cluster_core.proofs.Following.{counted_foreign, post_may, Left, by_home_of, by_one, counted_left, letter_pids, page_queued, marked_own}
+use Rattle.cluster_core.proofs.Following.{counted_foreign, may_end_still, post_may, Left, by_home_of, by_one, counted_left, letter_pids, page_queued, marked_own}
 use Rattle.cluster_core.proofs.Served.{accounts_next, foreign_no_answer, accounts_sent, ahead_after}
 use Rattle.cluster_core.specs.Serving.{IsAheadThere, Serves}
 use Rattle.page_server.specs.Account.{PagerState}
@@ -204,6 +204,7 @@ module _ (system : System) (valid : is_system system ≡ true) (log : List Entry
   post_stays k post own may =
       post_may system later post u.pid u.at u.emission u.after next.0 next.1 may.built u.tells (emission_same system log e none u.pid u.at ∙ u.is) (ap (λ (places : Places). is_by_home places post.by (Some u.pid)) places_same ∙ u.by_home) keeps
       (waits_after system log e k post valid now.0 (IsLegal-last BuiltMayFollow system log e next.0).stands differ (loses_none k) may.built (ap (is_by_home (placement system log) post.by) u.process ∙ u.by_home) own may.pages)
+      (may_end_still system log e (entry_of system log post) u.pid u.at u.emission post.what valid (built_stands system log now.0) (IsLegal-last BuiltMayFollow system log e next.0).stands (by_page (λ w. deeds_in u.pid w ≡ []) (λ pid index. refl) (λ pid index bytes. refl) (what e) of) u.tells (may.stands).kind)
     where
       u : Telling system log (entry_of system log post)
       u = telling system log (entry_of system log post) may (no_end k (placement system log) post.by post.what may.built own (may.stands).by_right)

@@ -57,7 +57,7 @@ use Rattle.cluster_core.specs.Calls.{absorbed}
 use Rattle.cluster_core.specs.Serving.{Serves}
 use Rattle.cluster_core.proofs.ByKind.{by_kind, is_of_page, lone_is, may_told, told_may}
 use Rattle.cluster_core.proofs.Counted.{lost_before}
-use Rattle.cluster_core.proofs.Following.{counted_foreign, post_may}
+use Rattle.cluster_core.proofs.Following.{counted_foreign, may_end_still, post_may}
 use Rattle.cluster_core.proofs.Posted.{moves_it, no_end}
 use Rattle.cluster_core.proofs.Marking.{marked_after, queue_tells}
 use Rattle.cluster_core.proofs.HasPages.{home_of_sender, pages_after, waits_after}
@@ -149,6 +149,7 @@ module _ (system : System) (valid : is_system system ≡ true) (log : List Entry
   post_stays k post spares own may =
       post_may system later post u.pid u.at u.emission u.after next.0 next.1 may.built u.tells (s.emission u.at ∙ u.is) ((λ i. n.living post.by i && is_by post.by (s.home i)) ∙ u.by_home) keeps
       (waits_after system log e k post valid now.0 stands differ (loses_none k) may.built (ap (is_by_home places post.by) u.process ∙ u.by_home) own may.pages)
+      (may_end_still system log e (entry_of system log post) u.pid u.at u.emission post.what valid (built_stands system log now.0) stands s.no_deed u.tells (may.stands).kind)
     where
       u : Telling system log (entry_of system log post)
       u = telling system log (entry_of system log post) may (no_end k places post.by post.what may.built own (may.stands).by_right)

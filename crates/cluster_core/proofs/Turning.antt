@@ -35,7 +35,7 @@ use Rattle.cluster_core.proofs.Fetching.{asked_goes_on, asked_work, fetch_own}
 use Rattle.cluster_core.proofs.Lacking.{rested_work, waited_work}
 use Rattle.cluster_core.proofs.BirthTurn.{birth_goes_on}
 use Rattle.cluster_core.proofs.Owning.{own_asked, own_at, own_at_fork, own_before_sent, own_changed, own_quantum, own_sent, own_synced}
-use Rattle.cluster_core.proofs.BeginSync.{batch_goes_on}
+use Rattle.cluster_core.proofs.BeginSync.{batch_goes_on, due_may}
 use Rattle.cluster_core.proofs.Quanta.{fork_can, syncs_can}
 use Rattle.cluster_core.proofs.ByKind.{by_kind}
 use Rattle.cluster_core.proofs.Working.{moved_view, moved_goes_on, moved_work, posted_goes_on, posted_work, some_moves, goes_on_rested}
@@ -134,7 +134,7 @@ module _ (c : ClusterView) (empty : c.queue ≡ []) (own : AllOwn c.cursor c.her
       let changed : with_changed pid (Runs (synced s.process)) c.here ≡ here = ap (λ (h : Held). with_changed pid h c.here) (sym s.new_is) ∙ sym takes.here in
       subst (Works c Queued here c.server) (sym s.posts_are)
       (subst (λ hs. Works c Queued hs c.server (batch s.process c.number)) changed (record {
-        goes_on = batch_goes_on c pid s.process valid own empty there s.due;
+        goes_on = batch_goes_on c pid s.process valid empty there (due_may c pid s.process s.due);
         work = inr (inr (
           nothing,
           some_moves (limits_of c.system) c.here pid takes.was takes.there (syncs_can (limits_of c.system) c.number takes.was posts takes.now s),

@@ -4,6 +4,7 @@ use Rattle.t32_base.specs.declared.streams.NoMemory.{NoMemory}
 use Rattle.t32_base.specs.declared.process.Pid.{Pid}
 use Rattle.t32_base.specs.declared.process.ClusterNo.{ClusterNo}
 use Rattle.t32_base.specs.declared.process.Counts.{Counts}
+use Rattle.t32_base.specs.declared.process.End.{End}
 use Rattle.t32_base.specs.Small.{SmallState}
 use Rattle.proc_state.specs.declared.process.Process.{Process}
 use Rattle.proc_state.specs.Ends.{free_end}
@@ -11,7 +12,7 @@ use Rattle.proc_state.specs.State.{state_of}
 use Rattle.sys_calls.specs.declared.steps.Emission.{Emission}
 use Rattle.sys_calls.specs.declared.steps.Emission.TheVariants.{Mail as SentMail, Exit as SentExit}
 use Rattle.sys_calls.specs.Calls.{Emits, Forks}
-use Rattle.sys_calls.specs.Next.{next_step, has_step}
+use Rattle.sys_calls.specs.Next.{next_step, has_step, is_exit}
 use Rattle.roll_forward.specs.RunsOut.{RunsOut}
 use Rattle.roll_forward.specs.Advancing.{going, rolled_on}
 use Rattle.bus_msg.specs.declared.entry.What.{What}
@@ -21,9 +22,9 @@ use Rattle.bus_msg.specs.declared.entry.Post.{Post}
 use Rattle.sync_point.specs.Batch.{batch, synced}
 use Rattle.quanta.specs.declared.limits.Limits.{Limits}
 use Rattle.quanta.specs.declared.quantum.Ran.{Ran}
-use Rattle.quanta.specs.declared.quantum.Ran.TheVariants.{Moved as RanOn, Refused, Sent as RanSending, Stuck as RanStuck, Forks as RanToFork}
+use Rattle.quanta.specs.declared.quantum.Ran.TheVariants.{Moved as RanOn, Refused, Sent as RanSending, Stuck as RanStuck, Forks as RanToFork, Ends as RanToEnd}
 use Rattle.quanta.specs.Limited.{is_due, is_within}
-use Rattle.quanta.specs.Quantum.{RunsOn, Moves as MovesAlone, Sends as SendsAlone, StandsAtFork}
+use Rattle.quanta.specs.Quantum.{RunsOn, Moves as MovesAlone, StandsAtFork}
 use Rattle.cluster_core.specs.declared.quantum.Sending.{Sending}
 use Rattle.cluster_core.specs.declared.quantum.Forking.{Forking}
 use Rattle.cluster_core.specs.declared.quantum.Quantum.{Quantum}
@@ -125,27 +126,46 @@ RunsQuantum limits by most old (Err fault) new = new ≡ old
 
 -- ---- its part in which the process runs
 
--- what a cluster says of it, after which the process has this state
-abbrev pub quantum_of : SmallState → Ran → Quantum
-quantum_of small RanOn = Moved
-quantum_of small Refused = Moved
-quantum_of small (RanSending emission) = Sent (record { pid = small.pid; at = small.steps; emission = emission })
-quantum_of small RanStuck = Stuck
-quantum_of small RanToFork = AtFork (forking_of small)
+-- what the last step of a process with this state sent
+abbrev pub sending_of : SmallState → Emission → Sending
+sending_of small emission = record { pid = small.pid; at = small.steps; emission = emission }
 
--- one that is to fork has an instruction left
-abbrev pub HasStep : SmallState → Ran → Type 0
-HasStep small RanToFork = 0 < small.left
-HasStep small ran = ⊤
+-- one that stands before its end ends by its next step
+pub record EndsNow (old : Process) (quantum : Quantum) (new : Process) : Type 0 where
+  pub end : End
+  pub ends : next_step (state_of old) ≡ Emits (SentExit end) (state_of new)
+  pub touches : new ≡ record old { small = new.small }
+  pub is : quantum ≡ Sent (sending_of new.small (SentExit end))
+
+-- what a cluster says of it, and what becomes of the process
+abbrev pub Tells : Ran → Process → Quantum → Process → Type 0
+Tells RanOn old quantum new = (quantum ≡ Moved) × (new ≡ old)
+Tells Refused old quantum new = (quantum ≡ Moved) × (new ≡ old)
+Tells (RanSending letter) old quantum new = (quantum ≡ Sent (sending_of old.small (SentMail letter))) × (new ≡ old)
+Tells RanStuck old quantum new = (quantum ≡ Stuck) × (new ≡ old)
+Tells RanToFork old quantum new = (quantum ≡ AtFork (forking_of old.small)) × (new ≡ old)
+Tells (RanToEnd count) old quantum new = EndsNow old quantum new
+
+-- one that is to fork has an instruction left, and one that is to end stands before its end
+abbrev pub CanTell : Ran → Process → Type 0
+CanTell RanToFork p = 0 < (p.small).left
+CanTell (RanToEnd count) p = is_exit (next_step (state_of p)) ≡ true
+CanTell ran p = ⊤
 
 -- silent steps, none of which leads beyond the limits
 pub record RestMoves (limits : Limits) (most made : ℕ) (old new : Process) : Type 0 where
   pub moves : MovesAlone most made old new
   pub within : is_within limits old ≡ true → is_within limits new ≡ true
 
--- silent steps and one that sends something, none of which leads beyond the limits
+-- silent steps, and one of a process that is not due, which sends something and touches the state alone; none of them leads beyond the limits
 pub record RestSends (limits : Limits) (most made : ℕ) (old : Process) (sending : Sending) (new : Process) : Type 0 where
-  pub sends : SendsAlone limits most made old sending.emission new
+  pub steps : ℕ
+  pub before : Process
+  pub few : made + steps < most
+  pub silent : RunsOn steps old before
+  pub undue : is_due limits before ≡ false
+  pub sends : next_step (state_of before) ≡ Emits sending.emission (state_of new)
+  pub touches : new ≡ record before { small = new.small }
   pub within : is_within limits old ≡ true → is_within limits new ≡ true
   pub pid_is : sending.pid ≡ (new.small).pid
   pub at_is : sending.at ≡ (new.small).steps

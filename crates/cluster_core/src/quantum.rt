@@ -1,10 +1,11 @@
 //! What a process did when it had its turn.
 ghost use Rattle.std.specs.Prelude.{◌≡◌, ◌<◌};
-ghost use Rattle.cluster_core.specs.Quantum.{forking_of, quantum_of, HasStep};
+ghost use Rattle.cluster_core.specs.Quantum.{forking_of, sending_of, CanTell, Tells};
 
 use bus_msg::entry::Post;
-use proc_state::process::free_end;
+use proc_state::process::{Process, free_end};
 use quanta::quantum::Ran;
+use sys_calls::stepping::exit;
 use sys_calls::steps::Emission;
 use t32_base::lists::List;
 use t32_base::process::{Pid, Small};
@@ -37,21 +38,33 @@ pub struct Forking {
     pub end: u8,
 }
 
-/// What a process that runs did in a quantum, after which it has this state. A step for which memory was refused is not made. Takes no memory.
-pub fn quantum_of(small: &Small, ran: Ran) -> Quantum
-    requires { HasStep small.now ran }
-    ensures { result ≡ quantum_of small.now ran }
+/// What a process that runs did in a quantum; one that stands before its end ends now, by one step more. A step for which memory was refused is not
+/// made. Takes no memory.
+pub fn tell(process: &mut Process, ran: Ran) -> Quantum
+    requires { CanTell ran process.old }
+    ensures { Tells ran process.old result process.new }
 {
     match ran {
         Ran::Moved => Quantum::Moved,
         Ran::Refused => Quantum::Moved,
-        Ran::Sent(emission) => Quantum::Sent(Sending {
-            pid: small.pid,
-            at: small.steps,
-            emission,
-        }),
+        Ran::Sent(letter) => Quantum::Sent(sending_of(&process.small, Emission::Mail(letter))),
         Ran::Stuck => Quantum::Stuck,
-        Ran::Forks => Quantum::Forks(forking_of(small)),
+        Ran::Forks => Quantum::Forks(forking_of(&process.small)),
+        Ran::Ends(_) => {
+            let end = exit(process);
+            Quantum::Sent(sending_of(&process.small, Emission::Exit(end)))
+        }
+    }
+}
+
+// What a process that has this state sent by its last step. Takes no memory.
+fn sending_of(small: &Small, emission: Emission) -> Sending
+    ensures { result ≡ sending_of small.now emission }
+{
+    Sending {
+        pid: small.pid,
+        at: small.steps,
+        emission,
     }
 }
 

@@ -9,7 +9,7 @@ ghost use Rattle.cluster_core.specs.Quantum.{ActsOn, RunsQuantum};
 ghost use Rattle.cluster_core.specs.Bearing.{CanForkNow, HasForked};
 ghost use Rattle.cluster_core.specs.Resident.{gone_on, held_standing, running_on, CanComeTo, CanGoOnFrom, HasCaughtUp, HasRolled, StandsSo};
 
-use crate::quantum::{Quantum, quantum_of};
+use crate::quantum::{Quantum, tell};
 use page_waits::waiting::Waiting;
 use proc_state::process::Process;
 use quanta::limits::Limits;
@@ -193,7 +193,7 @@ fn act_on(
         return Ok(Quantum::Synced(build(alloc, process, by)?));
     }
     let ran = run_rest(alloc, process, limits, made)?;
-    Ok(quantum_of(&process.small, ran))
+    Ok(tell(process, ran))
 }
 
 // Whether one that runs is due to synchronise.

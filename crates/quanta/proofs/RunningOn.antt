@@ -6,6 +6,7 @@ use Rattle.proc_state.specs.State.{state_of}
 use Rattle.sys_calls.specs.Calls.{Silent}
 use Rattle.sys_calls.specs.Next.{letter_taken, next_step, silently_marked, step_marks}
 use Rattle.sys_calls.specs.Steps.{marked, SameCount, Took}
+use Rattle.sys_calls.proofs.Ahead.{more}
 use Rattle.sys_calls.proofs.Running.{silently-marked}
 use Rattle.roll_forward.specs.declared.rolled.Rolled.TheVariants.{Silent as WasSilent}
 use Rattle.roll_forward.specs.Advancing.{going}
@@ -34,3 +35,11 @@ one_more_on n p q r before is marks took =
           (one_rolled (going q counts births) (going r counts births) (gone_of (going q counts births) (state_of r) (r.ram).dirty r.read counts births WasSilent refl is marks took.read refl refl));
       since = took.since ∙ before.since;
     }
+
+-- silent steps and more of them
+pub run_on_more : (m n : ℕ) (p q r : Process) → RunsOn m p q → RunsOn n q r → RunsOn (m + n) p r
+run_on_more m n p q r first then = record {
+  silent = more m n (state_of p) (state_of q) (state_of r) first.silent then.silent;
+  ran = λ counts births. rolled_on-append m n (going p counts births) (going q counts births) (going r counts births) (first.ran counts births) (then.ran counts births);
+  since = then.since ∙ first.since;
+}

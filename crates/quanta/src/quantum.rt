@@ -1,34 +1,36 @@
 //! A quantum of a process that runs, or the rest of one that it began otherwise.
 ghost use Rattle.std.specs.Prelude.{◌≡◌, ◌≤◌, ◌==◌, false, true, min, if◌then◌else◌};
 ghost use Rattle.quanta.specs.Limited.{is_due, is_within, steps_until_due};
-ghost use Rattle.quanta.specs.Quantum.{RunsRest, TellsRefusal};
+ghost use Rattle.quanta.specs.Quantum.{RunsRest, RunsUp, TellsRefusal};
 
 use crate::limits::Limits;
 use proc_state::process::Process;
 use std::alloc::Global;
 use sync_point::due::due;
-use sys_calls::stepping::{run_instructions, step};
+use sys_calls::stepping::{exits_next, run_instructions, step};
 use sys_calls::steps::{Emission, Step};
+use t32_base::letter::Letter;
 use t32_base::streams::NoMemory;
 
 /// What a process did in a quantum: it made silent steps, and none more may be made; it made silent steps, and memory
-/// was refused for the next; its last step sent something; it had no step; or, after silent steps or none, it stands
-/// before its fork.
+/// was refused for the next; its last step sent a letter; it had no step; or, after silent steps or none, it stands
+/// before its fork, or before the step by which it ends, where so many steps of the quantum are made.
 #[derive(Drop)]
 pub enum Ran {
     Moved,
     Refused,
-    Sent(Emission),
+    Sent(Letter),
     Stuck,
     Forks,
+    Ends(u32),
 }
 
 /// The most steps of a quantum.
 pub const MOST: u32 = 64;
 
-/// The rest of a quantum in which a process made some steps: at most 64 with them, up to one that sends something, up
-/// to a read that waits, up to a fork, which is not made and counts as a step, or until it is due. Each step is made by
-/// a process that is not due; where none was made before, the caller has synchronised one that was. A later step for
+/// The rest of a quantum in which a process made some steps: at most 64 with them, up to one that sends a letter, up
+/// to a read that waits, up to a fork or the end of the process, which is not made and counts as a step, or until it is due. Each
+/// step is made by a process that is not due; where none was made before, the caller has synchronised one that was. A later step for
 /// which memory is refused is not made; where it is the first of the quantum, nothing has changed.
 pub fn run_rest(
     alloc: Global,
@@ -41,12 +43,15 @@ pub fn run_rest(
     ensures runs { RunsRest limits 64 before p.old result p.new }
     ensures within { is_within limits p.old ≡ true → is_within limits p.new ≡ true }
 {
-    let most = until_due(p, limits, MOST - before);
-    let mut made = before + run_instructions(p, most);
+    let mut made = run_up(p, limits, before);
     'steps: while made < MOST && !due(p, limits.reads, limits.steps) {
+        if exits_next(p) {
+            return Ok(Ran::Ends(made));
+        }
         match step(alloc, p) {
-            Ok(Step::Silent) => made += 1,
-            Ok(Step::Emit(emission)) => return Ok(Ran::Sent(emission)),
+            Ok(Step::Silent) => made = run_up(p, limits, made + 1),
+            Ok(Step::Emit(Emission::Mail(letter))) => return Ok(Ran::Sent(letter)),
+            Ok(Step::Emit(Emission::Exit(_))) => unreachable!(),
             Ok(Step::Blocked) => return Ok(moved_or_stuck(made)),
             Ok(Step::Over) => return Ok(moved_or_stuck(made)),
             Ok(Step::Forks) => return Ok(Ran::Forks),
@@ -54,6 +59,15 @@ pub fn run_rest(
         }
     }
     Ok(Ran::Moved)
+}
+
+// Makes the instructions up to a system call that a process may make after so many steps of a quantum, and answers how many steps
+// they are with those.
+fn run_up(p: &mut Process, limits: Limits, made: u32) -> u32
+    requires { made ≤ 64 }
+    ensures { RunsUp limits made p.old result p.new }
+{
+    made + run_instructions(p, until_due(p, limits, MOST - made))
 }
 
 // How many steps that read no letter a process may make until it is due, and at most so many.

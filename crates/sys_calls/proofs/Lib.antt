@@ -12,5 +12,6 @@ pub mod Clean
 pub mod ForkLaws
 pub mod Weighing
 pub mod Bearing
-mod Ahead
+pub mod Ahead
 mod Passing
+mod Ending

@@ -53,6 +53,18 @@ is_fork Forks = true
 is_fork (Emits e p) = false
 is_fork Over = false
 
+abbrev pub is_end : Emission → Bool
+is_end (Mail letter) = false
+is_end (Exit end) = true
+
+-- the step by which the process ends
+abbrev pub is_exit : Next → Bool
+is_exit (Silent p) = false
+is_exit Blocked = false
+is_exit Forks = false
+is_exit (Emits e p) = is_end e
+is_exit Over = false
+
 abbrev pub is_blocked : Next → Bool
 is_blocked (Silent p) = false
 is_blocked Blocked = true

@@ -1,5 +1,5 @@
 //! How the state of a process changes by a step, but for its memory and its mailbox.
-ghost use Rattle.std.specs.Prelude.{◌≡◌, ◌↔◌, IsTrue, min, ◌==◌, ◌<◌, ◌≤◌, ◌+◌, OnSome, IfSome, length, slice_index_or, true};
+ghost use Rattle.std.specs.Prelude.{◌≡◌, ◌↔◌, IsTrue, min, ◌==◌, ◌<◌, ◌≤◌, ◌+◌, OnSome, IfSome, length, slice_index_or, is_some, true};
 ghost use Rattle.t32_base.specs.Small.{is_unshut};
 ghost use Rattle.sys_calls.specs.Small.{spent, stepped, with_status, with_regs, answered, both_answered, lowest_linked as lowest_linked_of, shut_at, weight};
 ghost use Rattle.rv_cpu.specs.Exec.{onward};
@@ -114,6 +114,13 @@ pub fn shut_lowest(small: &mut Small) -> Option<(u8, To)>
         small.ends[end as usize] = EndState::Shut;
     }
     found
+}
+
+/// Whether an end is linked.
+pub fn has_linked(small: &Small) -> bool
+    ensures { result ≡ is_some (lowest_linked_of small.now.ends) }
+{
+    lowest_linked(&small.ends).is_some()
 }
 
 // The lowest linked end, and where it leads.

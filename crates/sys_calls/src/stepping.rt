@@ -3,7 +3,9 @@ ghost use Rattle.std.specs.Prelude.{◌≡◌, ◌<◌, ◌≤◌, ◌+◌, ◌=
 ghost use Rattle.rv_cpu.specs.Run.{machine_of, ran, Stops};
 ghost use Rattle.rv_cpu.specs.Exec.{bytes_after, did_of, exec, exec_marks, is_call, regs_after};
 ghost use Rattle.proc_state.specs.State.{state_of};
-ghost use Rattle.sys_calls.specs.Next.{closing_step, has_step, is_blocked, is_fork, letter_live, letter_taken, live_step, marks_live, next_step, silently_marked, step_marks};
+ghost use Rattle.sys_calls.specs.declared.steps.Emission.TheVariants.{Exit};
+ghost use Rattle.sys_calls.specs.Calls.{Emits};
+ghost use Rattle.sys_calls.specs.Next.{closing_step, has_step, is_blocked, is_exit, is_fork, letter_live, letter_taken, live_step, marks_live, next_step, silently_marked, step_marks};
 ghost use Rattle.sys_calls.specs.Small.{after_instructions, lowest_linked, weight, with_regs};
 ghost use Rattle.sys_calls.specs.Passing.{IsAtCall, Passes, PassesCall};
 ghost use Rattle.sys_calls.specs.Steps.{is_silent, marked, was_silent, Makes, Marks, RunsOn, SameCount, Shorter, Took, Touches, taken_by};
@@ -11,7 +13,8 @@ ghost use Rattle.sys_calls.specs.Steps.{is_silent, marked, was_silent, Makes, Ma
 use crate::calls::{call, would_fork};
 use crate::reading::{make_read, reading_next, waits};
 use crate::small::{
-    at_most, close, finish, instructions_left, is_live, is_spent_up, run_out, shut_lowest, spend,
+    at_most, close, finish, has_linked, instructions_left, is_live, is_spent_up, run_out,
+    shut_lowest, spend,
 };
 use crate::steps::{Emission, Step};
 use proc_state::process::Process;
@@ -192,6 +195,32 @@ pub fn can_step(p: &Process) -> bool
         Status::Ended(_) => false,
         Status::Closing(_) => true,
         Status::Live => !waits_next(p),
+    }
+}
+
+/// Whether `step` would be the one by which the process ends. Takes no memory.
+pub fn exits_next(p: &Process) -> bool
+    ensures { result ≡ is_exit (next_step (state_of p.now)) }
+{
+    match p.small.status {
+        Status::Ended(_) => false,
+        Status::Closing(_) => !has_linked(&p.small),
+        Status::Live => false,
+    }
+}
+
+/// The step by which a process ends, which sends this end. Takes no memory.
+pub fn exit(p: &mut Process) -> End
+    requires { is_exit (next_step (state_of p.old)) ≡ true }
+    ensures exits { next_step (state_of p.old) ≡ Emits (Exit result) (state_of p.new) }
+    ensures touches { p.new ≡ record p.old { small = p.new.small } }
+{
+    match p.small.status {
+        Status::Closing(end) => {
+            finish(&mut p.small, end);
+            end
+        }
+        _ => unreachable!(),
     }
 }
 

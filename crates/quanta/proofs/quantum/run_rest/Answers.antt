@@ -1,48 +1,31 @@
-use Rattle.std.proofs.Common.{◌≡◌, ◌+◌, ◌-◌, ◌≤◌, arith, ap, sym, ◌∙◌, subst, min}
-use Rattle.std.proofs.Math.Nat.{min-le_left, min-le_right}
-use Rattle.sys_calls.specs.Next.{letter_taken, silently_marked}
-use Rattle.sys_calls.specs.Steps.{marked}
+use Rattle.std.proofs.Common.{ℕ, ◌≡◌, ◌+◌, ◌-◌, arith, sym, ◌∙◌, subst}
+use Rattle.sys_calls.specs.Next.{letter_taken}
 use Rattle.proc_state.specs.State.{state_of}
-use Rattle.quanta.specs.Limited.{steps_until_due}
 use Rattle.quanta.specs.Quantum.{RunsOn}
-use Rattle.quanta.proofs.Silence.{unmoved}
-use Rattle.quanta.proofs.RunningOn.{instructions_on, one_more_on}
-use Rattle.quanta.proofs.Within.{step_within, steps_within}
+use Rattle.quanta.proofs.RunningOn.{one_more_on, run_on_more}
+use Rattle.quanta.proofs.Within.{step_within}
 use Rattle.quanta.proofs.Ending.{over_due, over_full}
 use Rattle.quanta.proofs.quantum.run_rest.Goals as goal
 use Rattle.quanta.proofs.quantum.run_rest.Goals.{then-steps-test+else-not-due, else-steps-test}
 
 pub steps-init : goal.steps-init
-steps-init c =
-    let more = c.run_instructions.result in
-    let ran = c.run_instructions.ensures in
-    let same : c.args.before + more - c.args.before ≡ more = omega arith in
-    let left = steps_until_due c.args.limits c.args.p.now in
-    let room : min (64 - c.args.before) left ≤ 64 - c.args.before = min-le_left (64 - c.args.before) left in
-    let due : min (64 - c.args.before) left ≤ left = min-le_right (64 - c.args.before) left in
-    let most = c.until_due-most.ensures in
-    let few : more ≤ 64 - c.args.before = omega (arith, ran.made, most, room) in
-    let undue : more ≤ left = omega (arith, ran.made, most, due) in
-    record {
-      from = omega arith;
-      runs = subst (λ n. RunsOn n c.args.p.now c.run_instructions.new.p) (sym same) (instructions_on more c.args.p.now c.run_instructions.new.p ran.silent ran.mail ran.count);
-      few = omega (arith, few, c.requires.few);
-      unmoved = λ none. unmoved c.args.p.now c.run_instructions.new.p (ap (λ m. silently_marked m (marked c.args.p.now)) (sym (sym same ∙ none)) ∙ ran.silent) ran.count;
-      within = steps_within c.args.limits more c.args.p.now c.run_instructions.new.p undue ran.count ran.shorter.1;
-    }
+steps-init c = let up = c.run_up-made.ensures in record { from = up.from; runs = up.runs; few = up.few; unmoved = up.unmoved; within = up.within }
 
 pub steps-preserved : goal.steps-preserved
 steps-preserved c =
-    let one : c.steps.made + 1 - c.args.before ≡ (c.steps.made - c.args.before) + 1 = omega (arith, c.steps.invariant.from) in
     let did = c.in-Ok-Silent.ensures in
+    let up = c.run_up-made-in-Ok-Silent.ensures in
     let count : (c.step.new.p.small).steps ≡ (c.steps.p.small).steps + 1 = (rw c.in-Ok-Silent.field-0-is at did.shorter).1 in
+    let before : ℕ = c.steps.made - c.args.before in
+    let more : ℕ = c.run_up-made-in-Ok-Silent.result - (c.steps.made + 1) in
+    let one = one_more_on before c.args.p.now c.steps.p c.step.new.p c.steps.invariant.runs (rw c.in-Ok-Silent.field-0-is at did.makes) did.marks did.count in
+    let all : c.run_up-made-in-Ok-Silent.result - c.args.before ≡ (before + 1) + more = omega (arith, c.steps.invariant.from, up.from) in
     record {
-      from = omega (arith, c.steps.invariant.from);
-      runs = subst (λ n. RunsOn n c.args.p.now c.step.new.p) (sym one)
-          (one_more_on (c.steps.made - c.args.before) c.args.p.now c.steps.p c.step.new.p c.steps.invariant.runs (rw c.in-Ok-Silent.field-0-is at did.makes) did.marks did.count);
-      few = omega (arith, c.steps-test.true);
-      unmoved = λ none. absurd (omega (arith, one, none));
-      within = λ inside. step_within c.args.limits (letter_taken (state_of c.steps.p)) c.steps.p c.step.new.p (sym c.due.ensures ∙ c.if-not-due.true) did.count count;
+      from = omega (arith, c.steps.invariant.from, up.from);
+      runs = subst (λ n. RunsOn n c.args.p.now c.run_up-made-in-Ok-Silent.new.p) (sym all) (run_on_more (before + 1) more c.args.p.now c.step.new.p c.run_up-made-in-Ok-Silent.new.p one up.runs);
+      few = up.few;
+      unmoved = λ none. absurd (omega (arith, all, none));
+      within = λ inside. up.within (step_within c.args.limits (letter_taken (state_of c.steps.p)) c.steps.p c.step.new.p (sym c.due.ensures ∙ c.if-not-due.true) did.count count);
     }
 
 pub returns-clause-runs : goal.returns-clause-runs
