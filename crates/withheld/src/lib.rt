@@ -51,6 +51,16 @@ fn is_loss(entry: &Entry) -> bool
 {
     match &entry.post.what {
         What::Crash { .. } => true,
-        _ => false,
+        What::Mail { .. }
+        | What::Birth { .. }
+        | What::Exit { .. }
+        | What::Page { .. }
+        | What::Sync { .. }
+        | What::Fetch { .. }
+        | What::PageIs { .. }
+        | What::Return { .. }
+        | What::Rebackup { .. }
+        | What::Done { .. }
+        | What::Stop => false,
     }
 }

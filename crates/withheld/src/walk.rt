@@ -73,7 +73,17 @@ fn total_after(
 {
     match &entry.post.what {
         What::Crash { k, .. } => with_moved(counts, places, *k, total),
-        _ => Ok(total),
+        What::Mail { .. }
+        | What::Birth { .. }
+        | What::Exit { .. }
+        | What::Page { .. }
+        | What::Sync { .. }
+        | What::Fetch { .. }
+        | What::PageIs { .. }
+        | What::Return { .. }
+        | What::Rebackup { .. }
+        | What::Done { .. }
+        | What::Stop => Ok(total),
     }
 }
 
