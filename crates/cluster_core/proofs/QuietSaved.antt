@@ -13,7 +13,7 @@ use Rattle.proc_state.specs.Mail.{carries_signal, is_signal}
 use Rattle.proc_state.specs.State.{ProcState}
 use Rattle.sys_calls.specs.declared.steps.Emission.TheVariants.{Mail as Sent}
 use Rattle.plain_kernel.specs.Kernel.{boot, process_at}
-use Rattle.bus_msg.specs.declared.entry.What.TheVariants.{Mail, Birth, Exit, Page, Sync, Fetch, PageIs, Crash, Return, Rebackup, Done, Stop}
+use Rattle.bus_msg.specs.declared.entry.What.TheVariants.{Birth}
 use Rattle.cert_sched.specs.Deeds.{is_birth_of}
 use Rattle.bus_msg.specs.declared.entry.What.{What}
 use Rattle.bus_msg.specs.declared.entry.Entry.{Entry}
@@ -124,17 +124,7 @@ one_more system p valid log e before may = record {
         let first : Some (record_of_child child) ≡ Some r = sym (child_record system log e valid (built_stands system (log ++ e ∷ []) legal) parent at child end same) ∙ ap (backup_record system (log ++ e ∷ [])) one ∙ is in
         let made : record_of_child child ≡ r = cc in
         ap (λ (x : BackRec). list_any is_signal x.saved) (sym made)
-    newborn (Mail at letter) same born r is = absurd (true≢false (sym born))
-    newborn (Exit pid at end) same born r is = absurd (true≢false (sym born))
-    newborn (Page pid at index bytes) same born r is = absurd (true≢false (sym born))
-    newborn (Sync pid small read took) same born r is = absurd (true≢false (sym born))
-    newborn (Fetch pid index) same born r is = absurd (true≢false (sym born))
-    newborn (PageIs pid index bytes) same born r is = absurd (true≢false (sym born))
-    newborn (Crash k cause) same born r is = absurd (true≢false (sym born))
-    newborn (Return k) same born r is = absurd (true≢false (sym born))
-    newborn (Rebackup to fresh recs) same born r is = absurd (true≢false (sym born))
-    newborn (Done rests) same born r is = absurd (true≢false (sym born))
-    newborn Stop same born r is = absurd (true≢false (sym born))
+    newborn _ same born r is = absurd (true≢false (sym born))
 
     by_record : IsUnended system log p → (r : BackRec) (o : Option BackRec) → backup_record system log p ≡ o → option_map (record_after (what e)) o ≡ Some r → list_any is_signal r.saved ≡ false
     by_record unended r None at is = cc
