@@ -1,6 +1,5 @@
-use Rattle.std.proofs.Common.{◌≡◌, ◌∙◌, sym, false, Ok, subst}
+use Rattle.std.proofs.Common.{◌≡◌, ◌∙◌, sym, false}
 use Rattle.quanta.specs.Limited.{is_due}
-use Rattle.quanta.specs.Quantum.{RunsRest}
 use Rattle.cluster_core.proofs.RestTold.{rest_told}
 use Rattle.cluster_core.proofs.resident.act_on.Goals as goal
 use Rattle.cluster_core.proofs.resident.act_on.Goals.{else-made-eq0-via-then-made-eq0+else-is_due, else-made-eq0-via-else-made-eq0}
