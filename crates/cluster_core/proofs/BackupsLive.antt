@@ -1,5 +1,5 @@
 -- The backup of a process that has not ended lives, while the entries are of the kinds that are built.
-use Rattle.std.proofs.Common.{◌≡◌, ◌⊎◌, ℕ, ◌+◌, ◌<◌, ◌≤◌, refl, sym, ◌∙◌, ap, subst, length, List, [], ◌∷◌, ◌++◌, map, Bool, true, false, cond, not, ◌&&◌, eqb, Option, Some, None, unwrap_or, inl, inr, true≢false}
+use Rattle.std.proofs.Common.{◌≡◌, ℕ, ◌+◌, ◌<◌, ◌≤◌, refl, sym, ◌∙◌, ap, subst, length, List, [], ◌∷◌, ◌++◌, map, Bool, true, false, cond, not, ◌&&◌, eqb, Option, Some, None, unwrap_or, inl, inr, true≢false}
 use Rattle.std.specs.Prelude.{count_by, find, option_map}
 use Rattle.std.specs.List.{list_all}
 use Rattle.std.specs.Option.{option_or}

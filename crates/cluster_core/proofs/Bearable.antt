@@ -1,17 +1,15 @@
 -- A birth that a cluster takes in may be made there: its parent, where it is here, can fork, and the child is not here.
-use Rattle.std.proofs.Common.{◌≡◌, ◌⊎◌, ℕ, sym, ◌∙◌, ap, subst, true, false, Some, None, true≢false, inl, inr}
+use Rattle.std.proofs.Common.{◌≡◌, ◌⊎◌, sym, ◌∙◌, ap, subst, true, false, Some, None, true≢false, inl, inr}
 use Rattle.std.specs.List.{list_any}
 use Rattle.t32_base.specs.declared.process.Pid.{Pid}
 use Rattle.sys_text.specs.Valid.{is_system}
-use Rattle.proc_state.specs.declared.process.Process.{Process}
 use Rattle.proc_state.specs.State.{state_of}
 use Rattle.sys_calls.proofs.ForkLaws.{forks_can}
-use Rattle.bus_msg.specs.declared.entry.What.{What}
 use Rattle.bus_msg.specs.declared.entry.What.TheVariants.{Birth}
 use Rattle.bus_msg.specs.declared.entry.Entry.{Entry}
 use Rattle.bus_msg.specs.Places.{same_pid}
 use Rattle.bus_msg.specs.PlacedAfter.{what}
-use Rattle.cluster_core.specs.View.{ClusterView, Held, Runs, after_sent, held_at, held_of}
+use Rattle.cluster_core.specs.View.{ClusterView, Held, Runs, after_sent, held_of}
 use Rattle.cluster_core.specs.Absorbing.{CanBeBorn}
 use Rattle.cluster_core.specs.Parts.{AllOwn}
 use Rattle.cluster_core.specs.Bearing.{BearsChild, CanBear, CanForkNow}

@@ -1,5 +1,5 @@
 -- A process forks where it is kept, and the others stay.
-use Rattle.std.proofs.Common.{◌≡◌, ℕ, refl, sym, ◌∙◌, ap, subst, List, [], ◌∷◌, Bool, true, false, cond, eqb, ◌||◌, find, Option, Some, None, is_some, true≢false}
+use Rattle.std.proofs.Common.{◌≡◌, ℕ, refl, sym, ◌∙◌, ap, subst, List, [], ◌∷◌, true, false, cond, eqb, ◌||◌, find, Option, Some, None, is_some, true≢false}
 use Rattle.std.specs.Prelude.{option_map, Result, Ok, Err, OnErr, IfOk}
 use Rattle.std.specs.List.{AllByRecursion, list_any}
 use Rattle.std.specs.Map.{lookup}

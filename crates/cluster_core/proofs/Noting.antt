@@ -1,5 +1,5 @@
 -- The entry for which a cluster is ready may be noted in its records, and leaves them as they are where it does not go to the cluster.
-use Rattle.std.proofs.Common.{◌≡◌, ◌⊎◌, ℕ, zero, suc, ◌+◌, ◌≤◌, ◌<◌, refl, sym, ◌∙◌, ap, arith, List, [], ◌∷◌, ◌++◌, length, map, Bool, true, false, cond, ◌||◌, eqb, eqb-true, Option, Some, None, is_some, slice_get, true≢false, inl, inr, ◌-◌, subst}
+use Rattle.std.proofs.Common.{◌≡◌, ℕ, zero, suc, ◌+◌, ◌≤◌, ◌<◌, refl, sym, ◌∙◌, ap, arith, List, [], ◌∷◌, ◌++◌, length, map, Bool, true, false, cond, ◌||◌, eqb, eqb-true, Option, Some, None, is_some, slice_get, true≢false, inl, inr, ◌-◌, subst}
 use Rattle.std.specs.Prelude.{◌^◌, bit_or}
 use Rattle.std.specs.Option.{option_map_or}
 use Rattle.std.specs.Int.{bit_at}

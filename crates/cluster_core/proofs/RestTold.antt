@@ -1,10 +1,9 @@
 -- What the rest of a turn is, by what the process did in it and what a cluster says of that.
-use Rattle.std.proofs.Common.{◌≡◌, ℕ, ◌+◌, refl, sym, ◌∙◌, ap, subst, true, false, None, Ok}
+use Rattle.std.proofs.Common.{◌≡◌, ℕ, refl, sym, ap, subst, true, false, None, Ok}
 use Rattle.t32_base.specs.declared.process.ClusterNo.{ClusterNo}
 use Rattle.proc_state.specs.declared.process.Process.{Process}
 use Rattle.proc_state.specs.State.{state_of}
 use Rattle.sys_calls.specs.declared.steps.Emission.TheVariants.{Mail as SentMail, Exit as SentExit}
-use Rattle.sys_calls.specs.Next.{next_step, has_step}
 use Rattle.sys_calls.proofs.Counting.{emits_counts}
 use Rattle.quanta.specs.declared.limits.Limits.{Limits}
 use Rattle.quanta.specs.declared.quantum.Ran.{Ran}

@@ -1,5 +1,5 @@
 -- A cluster has had no more children than the log has births, so that the pid of its next one fits 32 bits.
-use Rattle.std.proofs.Common.{◌≡◌, ℕ, suc, ◌+◌, ◌*◌, ◌^◌, ◌≤◌, ◌<◌, refl, sym, ◌∙◌, ap, subst, arith, List, [], ◌∷◌, ◌++◌, append-nil, length, length-append, map, Bool, true, false, eqb, eqb-true, eq-eqb, Option, Some, None, is_some, slice_get, true≢false}
+use Rattle.std.proofs.Common.{◌≡◌, ℕ, suc, ◌+◌, ◌^◌, ◌≤◌, ◌<◌, refl, sym, ◌∙◌, ap, subst, arith, List, [], ◌∷◌, ◌++◌, append-nil, length, length-append, map, Bool, true, false, eqb, eqb-true, eq-eqb, Option, Some, None, slice_get, true≢false}
 use Rattle.std.specs.Option.{option_map_or}
 use Rattle.std.specs.List.{count_by}
 use Rattle.std.proofs.lemmas.Grind.{flat_map-append}
@@ -26,7 +26,7 @@ use Rattle.cluster_core.specs.Work.{next_pid}
 use Rattle.cluster_core.specs.Calls.{FollowsSome}
 use Rattle.cert_sched.specs.Built.{BuiltMayFollow}
 use Rattle.cert_sched.specs.Family.{born, births_of}
-use Rattle.cert_sched.specs.Legal.{IsLegalBy, Stands}
+use Rattle.cert_sched.specs.Legal.{IsLegalBy}
 use Rattle.cert_sched.specs.Schedule.{placed_root, placement, places_at_boot}
 use Rattle.cert_sched.proofs.BirthsFew.{few_births}
 use Rattle.cert_sched.proofs.FreshLaws.{Was, was_changed, same_serials}

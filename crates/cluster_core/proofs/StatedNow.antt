@@ -8,7 +8,6 @@ use Rattle.bus_msg.specs.Places.{same_pid}
 use Rattle.bus_msg.specs.PlacedAfter.{what}
 use Rattle.cert_sched.specs.Built.{BuiltMayFollow}
 use Rattle.cert_sched.specs.Deeds.{is_cut}
-use Rattle.cert_sched.specs.Family.{births_of}
 use Rattle.cert_sched.specs.Legal.{IsLegalBy}
 use Rattle.cert_sched.specs.Record.{has_state, is_root}
 use Rattle.cert_sched.specs.Simulation.{IsUnended}

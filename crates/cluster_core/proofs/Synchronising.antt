@@ -1,5 +1,5 @@
 -- A cluster that takes in an entry by which a process of another cluster synchronises, a changed page or the cut, goes on to follow the log.
-use Rattle.std.proofs.Common.{◌≡◌, ℕ, ◌+◌, ◌-◌, refl, sym, ◌∙◌, ap, subst, List, [], ◌∷◌, ◌++◌, append-nil, Bool, true, false, cond, eq-eqb, ne_eqb, Option, Some, None, slice_get, true≢false}
+use Rattle.std.proofs.Common.{◌≡◌, ℕ, ◌+◌, refl, sym, ◌∙◌, ap, subst, List, [], ◌∷◌, ◌++◌, append-nil, Bool, true, false, cond, eq-eqb, ne_eqb, Option, Some, None, slice_get, true≢false}
 use Rattle.std.specs.Prelude.{◌≢◌, option_map}
 use Rattle.std.specs.Option.{option_map_or}
 use Rattle.t32_base.specs.declared.process.Pid.{Pid}

@@ -1,6 +1,6 @@
 -- A process that waits here for its pages, and what an entry makes of it.
-use Rattle.std.proofs.Common.{◌≡◌, ℕ, refl, sym, ◌∙◌, ap, subst, List, [], ◌∷◌, ◌++◌, Bool, true, false, cond, ◌||◌, Some, None, true≢false, ◌⊎◌}
-use Rattle.std.specs.Prelude.{◌≢◌, is_some}
+use Rattle.std.proofs.Common.{◌≡◌, ℕ, refl, sym, ◌∙◌, ap, subst, List, [], ◌∷◌, ◌++◌, Bool, true, false, cond, ◌||◌, Some, None, true≢false}
+use Rattle.std.specs.Prelude.{is_some}
 use Rattle.t32_base.specs.declared.process.Pid.{Pid}
 use Rattle.t32_base.specs.declared.letter.BackRec.{BackRec}
 use Rattle.t32_base.specs.declared.letter.Letter.{Letter}

@@ -1,5 +1,5 @@
 -- What a cluster does where it owes no answer and asks for no page: the turn of a process.
-use Rattle.std.proofs.Common.{◌≡◌, ◌⊎◌, sym, ◌∙◌, ap, subst, List, true, Ok, Err, inl, inr, Option, None, is_some}
+use Rattle.std.proofs.Common.{◌≡◌, sym, ◌∙◌, ap, subst, List, Ok, Err, inl, inr, Option}
 use Rattle.std.specs.Prelude.{Result}
 use Rattle.t32_base.specs.declared.process.ClusterNo.{ClusterNo}
 use Rattle.t32_base.specs.declared.streams.NoMemory.{NoMemory}

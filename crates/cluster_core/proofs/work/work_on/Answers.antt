@@ -1,4 +1,4 @@
-use Rattle.std.proofs.Common.{◌≡◌, sym, ◌∙◌, ap, None, Option, is_some}
+use Rattle.std.proofs.Common.{sym, ◌∙◌, ap, is_some}
 use Rattle.cluster_core.proofs.WorkedOn.{works_next}
 use Rattle.cluster_core.proofs.work.work_on.Goals as goal
 

@@ -1,0 +1,15 @@
+use Rattle.std.proofs.Common.{◌≡◌, ◌∙◌, sym, false}
+use Rattle.quanta.specs.Limited.{is_due}
+use Rattle.cluster_core.proofs.RestTold.{rest_told}
+use Rattle.cluster_core.proofs.resident.act_on.Goals as goal
+use Rattle.cluster_core.proofs.resident.act_on.Goals.{else-made-eq0-via-then-made-eq0+else-is_due, else-made-eq0-via-else-made-eq0}
+
+pub returns : goal.returns
+returns c =
+    rest_told c.args.limits c.args.by c.args.made c.args.process.now c.run_rest.new.p undue c.in_ok-ran.ensures.within c.in_ok-ran.ran c.tell.result c.tell.new.process c.in_ok-ran.ensures.runs c.tell.ensures
+  where
+    undue : c.args.made ≡ 0 → is_due c.args.limits c.args.process.now ≡ false
+    undue none = elim c.else-made-eq0.branch [
+      | else-made-eq0-via-then-made-eq0+else-is_due w ↦ sym w.is_due.ensures ∙ w.if-is_due.false
+      | else-made-eq0-via-else-made-eq0 w ↦ absurd (w.if-made-eq0.false none)
+    ]
