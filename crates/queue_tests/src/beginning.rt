@@ -16,6 +16,7 @@ use t32_base::letter::{Body, Letter, To};
 use t32_base::lists::List;
 use t32_base::process::Pid;
 use t32_base::streams::NoMemory;
+use test_asserts::same;
 
 // Two roots of two images in two clusters.
 static TEXT: &str =
@@ -59,27 +60,49 @@ fn begun(alloc: Global, system: &System, pid: u32) -> Result<Option<Rolling>, No
 }
 
 // The pages, the first two words, how many letters wait, and whether nothing is left to withhold.
-fn told(rolling: &Rolling) -> Result<(u16, u32, u32, usize, bool), BadAddr> {
+type Told = (u16, u32, u32, usize, bool);
+
+fn told(rolling: &Rolling) -> Result<Told, BadAddr> {
     let process = rolling.process();
     let first = process.ram.load(BASE, 4)?;
     let second = process.ram.load(BASE + 4, 4)?;
-    let letters = process.mail.len();
     Ok((
         process.ram.pages(),
         first,
         second,
-        letters,
+        process.mail.len(),
         rolling.caught_up(),
     ))
 }
 
+fn begun_told(alloc: Global, system: &System, pid: u32) -> Result<Option<Told>, NoMemory>
+    requires { is_system system.now ≡ true }
+{
+    match begun(alloc, system, pid)? {
+        Some(rolling) => Ok(told(&rolling).ok()),
+        None => Ok(None),
+    }
+}
+
+fn both_told(alloc: Global, system: &System) -> Result<[Option<Told>; 2], NoMemory>
+    requires { is_system system.now ≡ true }
+{
+    let hi = begun_told(alloc, system, 16)?;
+    let no = begun_told(alloc, system, 17)?;
+    Ok([hi, no])
+}
+
+const TOLD: [Option<Told>; 2] = [
+    Some((1, 0x0010_0893, 0x0000_0513, 1, true)),
+    Some((2, 0x0000_0073, 0x0010_0893, 1, true)),
+];
+
+fn all_told(alloc: Global) -> Result<[Option<Told>; 2], Fail> {
+    let system = read_system(alloc, TEXT.as_bytes())?;
+    Ok(both_told(alloc, &system)?)
+}
+
 #[test]
 fn a_root_begins_again_with_its_image_and_its_letters(rt: HostRuntime) -> Result<(), Fail> {
-    let alloc = rt.alloc();
-    let system = read_system(alloc, TEXT.as_bytes())?;
-    let hi = begun(alloc, &system, 16)?.expect(&rt, "the first root");
-    assert_eq!(rt; told(&hi)?, (1, 0x0010_0893, 0x0000_0513, 1, true));
-    let no = begun(alloc, &system, 17)?.expect(&rt, "the second root");
-    assert_eq!(rt; told(&no)?, (2, 0x0000_0073, 0x0010_0893, 1, true));
-    Ok(())
+    same("the two roots", &all_told(rt.alloc())?, &TOLD)
 }

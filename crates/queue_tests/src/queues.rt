@@ -7,6 +7,7 @@ use t32_base::lists::List;
 use t32_base::process::Pid;
 use t32_base::shared_bytes::SharedBytes;
 use t32_base::streams::NoMemory;
+use test_asserts::same;
 
 // A letter of some bytes from end 1 of the process 17 to end 1 of the process 16.
 fn said(alloc: Global, bytes: &[u8]) -> Result<Letter, NoMemory> {
@@ -18,64 +19,91 @@ fn said(alloc: Global, bytes: &[u8]) -> Result<Letter, NoMemory> {
     })
 }
 
-// A queue of letters with these arrival numbers.
-fn queue_of(alloc: Global, numbers: &[u64]) -> Result<List<Arrived>, NoMemory> {
-    let mut queue = List::new(alloc);
-    for number in numbers {
-        save(&mut queue, said(alloc, b"x")?, *number)?;
+fn save_said(queue: &mut List<Arrived>, bytes: &[u8], number: u64) -> Result<(), NoMemory> {
+    let letter = said(queue.allocator(), bytes)?;
+    save(queue, letter, number)
+}
+
+fn save_two(queue: &mut List<Arrived>) -> Result<(), NoMemory> {
+    save_said(queue, b"x", 0)?;
+    save_said(queue, b"\n", 1)
+}
+
+// The number of a letter, its sender, and what it says, if that is one byte.
+type Told = (u64, Pid, Option<u8>);
+
+fn only_byte(bytes: &[u8]) -> Option<u8> {
+    match bytes {
+        [byte] => Some(*byte),
+        _ => None,
     }
-    Ok(queue)
+}
+
+fn told(arrived: &Arrived) -> Told {
+    let byte = match &arrived.letter.body {
+        Body::Said(bytes) => only_byte(bytes.as_slice()),
+        Body::EndOf | Body::Signal(_) => None,
+    };
+    (arrived.number, arrived.letter.from, byte)
+}
+
+// What is told of a queue of two letters.
+fn two_told(queue: &[Arrived]) -> Option<(Told, Told)> {
+    match queue {
+        [first, second] => Some((told(first), told(second))),
+        _ => None,
+    }
+}
+
+const TWO: Option<(Told, Told)> = Some(((0, Pid(17), Some(b'x')), (1, Pid(17), Some(b'\n'))));
+
+#[test]
+fn letters_are_saved_in_order_with_what_they_say(rt: HostRuntime) -> Result<(), Fail> {
+    let mut queue = List::new(rt.alloc());
+    save_two(&mut queue)?;
+    same("the letters", &two_told(queue.as_slice()), &TWO)
+}
+
+// Saves letters with these arrival numbers.
+fn save_each(queue: &mut List<Arrived>, numbers: &[u64]) -> Result<(), NoMemory> {
+    for number in numbers {
+        save_said(queue, b"x", *number)?;
+    }
+    Ok(())
 }
 
 // Whether the letters of a queue have just these arrival numbers, in this order.
-fn has_numbers(queue: &List<Arrived>, numbers: &[u64]) -> bool {
+fn has_numbers(queue: &[Arrived], numbers: &[u64]) -> bool {
     queue.len() == numbers.len()
         && queue
-            .as_slice()
             .iter()
             .zip(numbers)
             .all(|(arrived, number)| arrived.number == *number)
 }
 
-// Whether a letter says these bytes.
-fn says(letter: &Letter, text: &[u8]) -> bool {
-    match &letter.body {
-        Body::Said(bytes) => bytes.as_slice() == text,
-        Body::EndOf | Body::Signal(_) => false,
-    }
+// Whether just these are left of a queue with the letters saved, once those read are dropped.
+fn leaves(alloc: Global, saved: &[u64], read: &[u64], left: &[u64]) -> Result<bool, NoMemory> {
+    let mut queue = List::new(alloc);
+    save_each(&mut queue, saved)?;
+    drop_read(&mut queue, read);
+    Ok(has_numbers(queue.as_slice(), left))
 }
 
-#[test]
-fn letters_are_saved_in_order_with_what_they_say(rt: HostRuntime) -> Result<(), Fail> {
-    let alloc = rt.alloc();
-    let mut queue = List::new(alloc);
-    save(&mut queue, said(alloc, b"x")?, 0)?;
-    save(&mut queue, said(alloc, b"\n")?, 1)?;
-    assert!(rt; has_numbers(&queue, &[0, 1]));
-    for (arrived, text) in queue.as_slice().iter().zip([b"x", b"\n"]) {
-        assert_eq!(rt; arrived.letter.from, Pid(17));
-        assert!(rt; says(&arrived.letter, text.as_slice()));
-    }
-    Ok(())
-}
+// The numbers saved, those read, and those left.
+static DROPPED: [(&[u64], &[u64], &[u64]); 6] = [
+    (&[0, 1], &[0, 1], &[]),
+    (&[3, 4, 5, 6], &[5, 3], &[4, 6]),
+    (&[3, 4, 5], &[], &[3, 4, 5]),
+    (&[3, 4, 5], &[2, 6], &[3, 4, 5]),
+    (&[7, 8, 9], &[9], &[7, 8]),
+    (&[], &[1], &[]),
+];
 
 #[test]
 fn the_letters_that_were_read_are_dropped_wherever_they_stand(rt: HostRuntime) -> Result<(), Fail> {
-    let alloc = rt.alloc();
-    // The numbers saved, those read, and those left.
-    let none: [u64; 0] = [];
-    let cases: [(&[u64], &[u64], &[u64]); 6] = [
-        (&[0, 1], &[0, 1], &none),
-        (&[3, 4, 5, 6], &[5, 3], &[4, 6]),
-        (&[3, 4, 5], &none, &[3, 4, 5]),
-        (&[3, 4, 5], &[2, 6], &[3, 4, 5]),
-        (&[7, 8, 9], &[9], &[7, 8]),
-        (&none, &[1], &none),
-    ];
-    for (saved, read, left) in cases {
-        let mut queue = queue_of(alloc, saved)?;
-        drop_read(&mut queue, read);
-        assert!(rt; has_numbers(&queue, left));
+    for row in DROPPED.iter() {
+        let shown = leaves(rt.alloc(), row.0, row.1, row.2)?;
+        same("whether these are left", &(row.2, shown), &(row.2, true))?;
     }
     Ok(())
 }
