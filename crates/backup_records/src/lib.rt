@@ -1,5 +1,5 @@
 //! The records that a cluster keeps of the processes whose backup it has.
 #![tactic(auto)]
 
-pub mod by_pid;
+mod by_pid;
 pub mod records;

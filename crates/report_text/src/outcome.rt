@@ -77,7 +77,15 @@ impl Outcome {
                 self.ends.insert(pid.0, Some(*end))?;
                 Ok(())
             }
-            _ => Ok(()),
+            What::Page { .. }
+            | What::Sync { .. }
+            | What::Fetch { .. }
+            | What::PageIs { .. }
+            | What::Crash { .. }
+            | What::Return { .. }
+            | What::Rebackup { .. }
+            | What::Done { .. }
+            | What::Stop => Ok(()),
         }
     }
 

@@ -139,7 +139,16 @@ fn put_loss(alloc: Global, text: &mut Text, entry: &Entry) -> Result<(), NoMemor
     match &entry.post.what {
         What::Crash { k, .. } => put_place(alloc, text, "crash ", *k, entry.place),
         What::Return { k } => put_place(alloc, text, "return ", *k, entry.place),
-        _ => Ok(()),
+        What::Mail { .. }
+        | What::Birth { .. }
+        | What::Exit { .. }
+        | What::Page { .. }
+        | What::Sync { .. }
+        | What::Fetch { .. }
+        | What::PageIs { .. }
+        | What::Rebackup { .. }
+        | What::Done { .. }
+        | What::Stop => Ok(()),
     }
 }
 

@@ -1,10 +1,10 @@
 //! The program: its words, its input and what it answers.
 #![tactic(auto)]
 
-pub mod built;
-pub mod input;
+mod built;
+mod input;
 pub mod output;
-pub mod reply;
+mod reply;
 mod runs;
 mod sections;
 pub mod top;
