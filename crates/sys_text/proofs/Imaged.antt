@@ -1,5 +1,5 @@
 -- The image blocks that are printed are read.
-use Rattle.std.proofs.Common.{◌≡◌, ℕ, zero, suc, ◌+◌, ◌*◌, ◌<◌, ◌≤◌, ◌^◌, Bool, true, false, not, ◌&&◌, cond, leb, List, [], ◌∷◌, ◌++◌, length, map, take, drop, Some, None, refl, sym, ap, ◌∙◌, arith, append_assoc, append-nil, length-append, length-drop}
+use Rattle.std.proofs.Common.{◌≡◌, ℕ, zero, suc, ◌+◌, ◌*◌, ◌<◌, ◌≤◌, ◌^◌, Bool, true, false, not, ◌&&◌, cond, leb, List, [], ◌∷◌, ◌++◌, length, map, take, drop, Some, None, Ok, refl, sym, ap, ◌∙◌, arith, append_assoc, append-nil, length-append, length-drop}
 use Rattle.std.specs.List.{flat_map, list_all}
 use Rattle.std.specs.Prelude.{codes, count_by, is_some}
 use Rattle.std.specs.Fmt.{decimal}
@@ -12,18 +12,17 @@ use Rattle.std.proofs.lemmas.List.Sums.{sum_by-cons, sum_by-append}
 use Rattle.std.proofs.lemmas.Slice.Eq.{bytes_eq-Decides}
 use Rattle.text_parts.specs.Numbers.{number_of, word_of}
 use Rattle.sys_text.specs.declared.stage.Keyword.TheVariants as keywords
-use Rattle.sys_text.specs.declared.stage.Kind.TheVariants.{Word}
 use Rattle.sys_text.specs.declared.stage.Stage.TheVariants.{InImage}
 use Rattle.sys_text.specs.declared.system.System.{System}
 use Rattle.sys_text.specs.declared.system.Image.{Image}
 use Rattle.sys_text.specs.declared.state.State.{State}
 use Rattle.sys_text.specs.Valid.{is_within, is_name, is_word, is_image, is_named_once, are_images}
-use Rattle.sys_text.specs.Kinds.{is_kind}
-use Rattle.sys_text.specs.Rules.{place_of, words_in, add}
+use Rattle.sys_text.specs.Line.{words_in, is_word_field, line_of}
+use Rattle.sys_text.specs.Line as lines
+use Rattle.sys_text.specs.Rules.{place_of, add}
 use Rattle.sys_text.specs.Text.{word_text, words_line, words_lines, words_lines_upto, image_lines}
 use Rattle.sys_text.proofs.Bounds.{first_of_two, second_of_two, image_fits}
 use Rattle.sys_text.proofs.Keeping.{Keeps}
-use Rattle.sys_text.proofs.Limits.{repeated_within}
 use Rattle.sys_text.proofs.Printed.{both, are_plain, plain_name, plain_word, word_again}
 use Rattle.sys_text.proofs.Headed.{with_lists, at_images, number_again, plain_number}
 use Rattle.sys_text.proofs.Leading.{Leads, leads_none, leads_then, leads_one}
@@ -34,17 +33,17 @@ abbrev in_image : System → List Image → List ℕ → ℕ → List ℕ → St
 in_image s done name pages words = record { stage = InImage; system = with_lists s done [] []; open_image = record { name = name; pages = pages; words = words } }
 
 keeps_image : (state : State) (name f : List ℕ) (pages : ℕ) → is_name name ≡ true → number_of f ≡ Some pages → is_within 1 256 pages ≡ true → place_of state.system.images name ≡ None → Keeps state keywords.Image (name ∷ f ∷ [])
-keeps_image state name f pages h e w none = record { count = refl; kinds = rw (h, e) refl; limits = rw (e, w) refl; same = refl; name = rw none refl; room = refl }
+keeps_image state name f pages h e w none = record { line = lines.Image name pages; read = rw (h, e) refl; rules = record { limits = rw w refl; same = refl; name = rw none refl; room = refl } }
 
-adds_image : (s : System) (done : List Image) (name f : List ℕ) (pages : ℕ) → number_of f ≡ Some pages → add (at_images s done) keywords.Image (name ∷ f ∷ []) ≡ in_image s done name pages []
-adds_image s done name f pages e = rw e refl
+adds_image : (s : System) (done : List Image) (name f : List ℕ) (pages : ℕ) → is_name name ≡ true → number_of f ≡ Some pages → add (at_images s done) keywords.Image (name ∷ f ∷ []) ≡ in_image s done name pages []
+adds_image s done name f pages h e = rw (h, e) refl
 
 -- ---- lines of words
 
-word_is_kind : (w : ℕ) → is_word w ≡ true → is_kind Word (word_text w) ≡ true
+word_is_kind : (w : ℕ) → is_word w ≡ true → is_word_field (word_text w) ≡ true
 word_is_kind w h = ap is_some (word_again w h)
 
-words_are_kinds : (ws : List ℕ) → list_all is_word ws ≡ true → list_all (is_kind Word) (map word_text ws) ≡ true
+words_are_kinds : (ws : List ℕ) → list_all is_word ws ≡ true → list_all (is_word_field) (map word_text ws) ≡ true
 words_are_kinds [] h = refl
 words_are_kinds (w ∷ ws) h = both _ _ (word_is_kind w (first_of_two (is_word w) _ h)) (words_are_kinds ws (second_of_two (is_word w) _ h))
 
@@ -62,18 +61,19 @@ words_again (w ∷ ws) h = one_word_more (word_text w) (map word_text ws) w (wor
 not_of : (b : Bool) → b ≡ true → not b ≡ false
 not_of b h = rw h refl
 
-keeps_words : (state : State) (fields : List (List ℕ)) → 1 ≤ length fields → list_all (is_kind Word) fields ≡ true → length state.open_image.words + length fields ≤ 64 * state.open_image.pages → Keeps state keywords.Words fields
-keeps_words state fields some kinds fits = record {
-  count = not_of (leb 1 (length fields)) (le-leb 1 (length fields) some);
-  kinds = not_of (list_all (is_kind Word) fields) kinds;
-  limits = not_of _ (sym (repeated_within state.system.clusters keywords.Words fields refl));
-  same = refl;
-  name = refl;
-  room = not_of (leb (length state.open_image.words + length fields) (64 * state.open_image.pages)) (le-leb (length state.open_image.words + length fields) (64 * state.open_image.pages) fits);
+words_read : (fields : List (List ℕ)) → 1 ≤ length fields → list_all is_word_field fields ≡ true → line_of keywords.Words fields ≡ Ok (lines.Words (words_in fields))
+words_read [] some kinds = absurd (omega (arith, some))
+words_read (field ∷ fields) some kinds = rw kinds refl
+
+keeps_words : (state : State) (fields : List (List ℕ)) (ws : List ℕ) → 1 ≤ length fields → list_all is_word_field fields ≡ true → words_in fields ≡ ws → length state.open_image.words + length ws ≤ 64 * state.open_image.pages → Keeps state keywords.Words fields
+keeps_words state fields ws some kinds is fits = record {
+  line = lines.Words ws;
+  read = words_read fields some kinds ∙ ap (λ (words : List ℕ). Ok (lines.Words words)) is;
+  rules = record { limits = refl; same = refl; name = refl; room = not_of (leb (length state.open_image.words + length ws) (64 * state.open_image.pages)) (le-leb (length state.open_image.words + length ws) (64 * state.open_image.pages) fits) };
 }
 
-adds_words : (s : System) (done : List Image) (name : List ℕ) (pages : ℕ) (before ws : List ℕ) (fields : List (List ℕ)) → words_in fields ≡ ws → add (in_image s done name pages before) keywords.Words fields ≡ in_image s done name pages (before ++ ws)
-adds_words s done name pages before ws fields e = rw e refl
+adds_words : (s : System) (done : List Image) (name : List ℕ) (pages : ℕ) (before ws : List ℕ) (fields : List (List ℕ)) → 1 ≤ length fields → list_all is_word_field fields ≡ true → words_in fields ≡ ws → add (in_image s done name pages before) keywords.Words fields ≡ in_image s done name pages (before ++ ws)
+adds_words s done name pages before ws fields some kinds is = rw (words_read fields some kinds) (ap (λ (words : List ℕ). in_image s done name pages (before ++ words)) is)
 
 leads_line : (s : System) (done : List Image) (name : List ℕ) (pages : ℕ) (before ws : List ℕ) → 1 ≤ length ws → list_all is_word ws ≡ true → length before + length ws ≤ 64 * pages
     → Leads (in_image s done name pages before) (words_line ws ∷ []) (in_image s done name pages (before ++ ws))
@@ -81,7 +81,7 @@ leads_line s done name pages before ws some words fits =
     let state = in_image s done name pages before in
     let same : length (map word_text ws) ≡ length ws = length-map ws word_text in
     leads_one state (in_image s done name pages (before ++ ws)) keywords.Words (codes "words") (map word_text ws) (both _ _ refl (plain_words ws)) refl refl refl
-    (keeps_words state (map word_text ws) (omega (arith, some, same)) (words_are_kinds ws words) (omega (arith, fits, same))) (adds_words s done name pages before ws (map word_text ws) (words_again ws words))
+    (keeps_words state (map word_text ws) ws (omega (arith, some, same)) (words_are_kinds ws words) (words_again ws words) fits) (adds_words s done name pages before ws (map word_text ws) (omega (arith, some, same)) (words_are_kinds ws words) (words_again ws words))
 
 split_words : (ws : List ℕ) → list_all is_word ws ≡ true → (list_all is_word (take 8 ws) && list_all is_word (drop 8 ws)) ≡ true
 split_words ws h = sym (list_all-append is_word (take 8 ws) (drop 8 ws)) ∙ ap (list_all is_word) (take-append-drop 8 ws) ∙ h
@@ -111,7 +111,7 @@ leads_all_words s done name pages ws words fits = leads_words s done name pages 
 -- ---- a block
 
 keeps_end : (state : State) → Keeps state keywords.End []
-keeps_end state = record { count = refl; kinds = refl; limits = refl; same = refl; name = refl; room = refl }
+keeps_end state = record { line = lines.End; read = refl; rules = record { limits = refl; same = refl; name = refl; room = refl } }
 
 within : (low high n : ℕ) → low ≤ n → n ≤ high → is_within low high n ≡ true
 within low high n p q = grind (arith, nat_tests)
@@ -124,7 +124,7 @@ leads_image s done image h none =
     let full = in_image s done image.name image.pages image.words in
     let closed = at_images s (done ++ image ∷ []) in
     let one = leads_one (at_images s done) opened keywords.Image (codes "image") (image.name ∷ decimal image.pages ∷ []) (both _ _ refl (both _ _ (plain_name image.name b.name) (both _ _ (plain_number image.pages small) refl))) refl refl refl
-    (keeps_image (at_images s done) image.name (decimal image.pages) image.pages b.name (number_again image.pages small) (within 1 256 image.pages b.least b.pages) none) (adds_image s done image.name (decimal image.pages) image.pages (number_again image.pages small)) in
+    (keeps_image (at_images s done) image.name (decimal image.pages) image.pages b.name (number_again image.pages small) (within 1 256 image.pages b.least b.pages) none) (adds_image s done image.name (decimal image.pages) image.pages b.name (number_again image.pages small)) in
     let words = leads_all_words s done image.name image.pages image.words b.words (omega (arith, b.fits)) in
     let end = leads_one full closed keywords.End (codes "end") [] refl refl refl refl (keeps_end full) refl in
     leads_then (at_images s done) opened closed _ _ one (leads_then opened full closed (words_lines image.words) ((codes "end" ∷ []) ∷ []) words end)

@@ -9,7 +9,6 @@ mod ImagePlaces
 mod Imaged
 mod Keeping
 mod Leading
-mod Limits
 mod LineSteps
 mod Lines
 mod Printed

@@ -1,24 +1,24 @@
 -- What a line that is read leads to.
-use Rattle.std.proofs.Common.{◌≡◌, ℕ, ◌+◌, ◌≤◌, Bool, true, false, not, ◌&&◌, ◌||◌, leb, nat_lt, List, [], ◌∷◌, length, Option, Some, None, Ok, refl, sym, ap, ◌∙◌, arith}
+use Rattle.std.proofs.Common.{◌≡◌, ℕ, ◌≤◌, Bool, true, false, not, ◌&&◌, ◌||◌, leb, nat_lt, List, ◌∷◌, length, Option, Some, None, Ok, refl, ◌∙◌, arith}
 use Rattle.std.proofs.lemmas.Bool.Decides.{nat_tests}
 use Rattle.text_parts.specs.Lines.{are_printable, fields_of}
 use Rattle.sys_text.specs.declared.stage.Keyword.{Keyword}
 use Rattle.sys_text.specs.declared.stage.Keyword.TheVariants.{Words}
 use Rattle.sys_text.specs.declared.refusal.Rule.{Rule}
-use Rattle.sys_text.specs.declared.refusal.Rule.TheVariants.{ForeignByte, Misplaced, Limit, Same, Name, Room}
+use Rattle.sys_text.specs.declared.refusal.Rule.TheVariants.{ForeignByte, Misplaced}
 use Rattle.sys_text.specs.declared.refusal.SystemRefused.{SystemRefused}
 use Rattle.sys_text.specs.declared.refusal.SystemRefused.TheVariants as refusals
 use Rattle.sys_text.specs.declared.state.State.{State}
 use Rattle.sys_text.specs.Valid.{is_within}
-use Rattle.sys_text.specs.Line.{Line}
+use Rattle.sys_text.specs.Line.{Line, line_of}
 use Rattle.sys_text.specs.Line as lines
-use Rattle.sys_text.specs.Rules.{keyword_in, begins_comment, is_skipped, broken_by, lowest_with, HasRoom}
-use Rattle.sys_text.specs.LineRules.{keeps_limits, are_same, misnames, overfills, breaks_as, lowest_of, add_line, Fits, Starts}
-use Rattle.sys_text.specs.Reading.{Step, is_asm, kept, kept_line, step_outside}
+use Rattle.sys_text.specs.Rules.{keyword_in, begins_comment, is_skipped, broken_by, lowest_of, add_line, add, HasRoom}
+use Rattle.sys_text.specs.Numbers.{Fits}
+use Rattle.sys_text.specs.Fronts.{Starts}
+use Rattle.sys_text.specs.Reading.{is_asm, kept, kept_line, step_outside}
 use Rattle.sys_text.specs.Answers.{RefusesStep, TakesLine}
 use Rattle.sys_text.specs.WordLines.{IsWordsLine, RefusesBy}
-use Rattle.sys_text.proofs.Keeping.{none_passes}
-use Rattle.sys_text.proofs.Spelling.{Agrees, same_lowest}
+use Rattle.sys_text.proofs.Keeping.{kept_rules, lowest_read, within_le}
 
 -- ---- the front of a line
 
@@ -38,23 +38,6 @@ pub words_start : (state : State) (line rest : List ℕ) → IsWordsLine state.s
 words_start state line rest w = record { broken = rw (w.printable, w.fields, w.in_image) refl; kept = rw (w.fields, w.in_image) refl }
 
 -- ---- a line that breaks no rule
-
-record KeptLine (state : State) (line : Line) : Type 0 where
-  limits : not (keeps_limits state.system.clusters line) ≡ false
-  same : are_same line ≡ false
-  name : misnames state.system line ≡ false
-  room : overfills state line ≡ false
-
-kept_rules : (state : State) (line : Line) → lowest_of state line ≡ None → KeptLine state line
-kept_rules state line e =
-    let p = breaks_as state line in
-    let s1 = none_passes p Limit (Same ∷ Name ∷ Room ∷ []) e in
-    let s2 = none_passes p Same (Name ∷ Room ∷ []) s1.1 in
-    let s3 = none_passes p Name (Room ∷ []) s2.1 in
-    record { limits = s1.0; same = s2.0; name = s3.0; room = (none_passes p Room [] s3.1).0 }
-
-within_le : (low high n : ℕ) → not (is_within low high n) ≡ false → n ≤ high
-within_le low high n h = grind (arith, nat_tests)
 
 pair_le : (clusters a b : ℕ) → not (nat_lt a clusters && nat_lt b clusters) ≡ false → (a ≤ clusters) × (b ≤ clusters)
 pair_le clusters a b h = (grind (arith, nat_tests), grind (arith, nat_tests))
@@ -95,11 +78,14 @@ fits state (lines.Chan first second) e r =
 
 -- ---- what it leads to
 
-pub none_broken : (state : State) (line : List ℕ) (keyword : Keyword) (fields : List (List ℕ)) (read : Line) → Starts state line keyword fields → Agrees state keyword fields read → lowest_of state read ≡ None → broken_by state line ≡ None
-none_broken state line keyword fields read s a none = s.broken ∙ same_lowest state keyword fields read a ∙ none
+pub none_broken : (state : State) (line : List ℕ) (keyword : Keyword) (fields : List (List ℕ)) (read : Line) → Starts state line keyword fields → line_of keyword fields ≡ Ok read → lowest_of state read ≡ None → broken_by state line ≡ None
+none_broken state line keyword fields read s e none = s.broken ∙ lowest_read state keyword fields read e ∙ none
 
-pub kept_read : (state after : State) (line : List ℕ) (keyword : Keyword) (fields : List (List ℕ)) (read : Line) (opens : Bool) → Starts state line keyword fields → Agrees state keyword fields read → lowest_of state read ≡ None → after ≡ add_line state read → opens ≡ is_asm keyword → kept state (fields_of line) ≡ (after, opens)
-kept_read state after line keyword fields read opens s a none is asm = rw (is, asm, ← a.added (kept_rules state read none).name) s.kept
+added : (state : State) (keyword : Keyword) (fields : List (List ℕ)) (read : Line) → line_of keyword fields ≡ Ok read → add state keyword fields ≡ add_line state read
+added state keyword fields read e = rw e refl
+
+pub kept_read : (state after : State) (line : List ℕ) (keyword : Keyword) (fields : List (List ℕ)) (read : Line) (opens : Bool) → Starts state line keyword fields → line_of keyword fields ≡ Ok read → after ≡ add_line state read → opens ≡ is_asm keyword → kept state (fields_of line) ≡ (after, opens)
+kept_read state after line keyword fields read opens s e is asm = rw (is, asm, ← added state keyword fields read e) s.kept
 
 opened : (state after : State) (n : ℕ) (line : List ℕ) (opens : Bool) → step_outside state n line ≡ kept_line n (after, opens) → TakesLine (Ok opens) after n (step_outside state n line)
 opened state after n line true e = e

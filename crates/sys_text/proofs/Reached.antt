@@ -6,7 +6,6 @@ use Rattle.text_parts.specs.Lines.{are_printable, lines_of, fields_of}
 use Rattle.rv_asm.specs.Program.{reading_of_lines}
 use Rattle.rv_asm.specs.declared.refusal.Rule.{Rule as AsmRule}
 use Rattle.sys_text.specs.declared.stage.Keyword.{Keyword}
-use Rattle.sys_text.specs.declared.stage.Keyword.TheVariants as keywords
 use Rattle.sys_text.specs.declared.stage.Stage.{Stage}
 use Rattle.sys_text.specs.declared.stage.Stage.TheVariants.{Start, AfterClusters, AfterPager, AfterSyncreads, Images, InImage, Roots, Chans}
 use Rattle.sys_text.specs.declared.refusal.Rule.{Rule}
@@ -16,10 +15,13 @@ use Rattle.sys_text.specs.declared.system.Root.{Root}
 use Rattle.sys_text.specs.declared.state.State.{State}
 use Rattle.sys_text.specs.Valid.{is_within, is_pair, is_word, is_image, is_root, births_of, links, are_images, are_roots, are_chans, is_system}
 use Rattle.sys_text.specs.Types.{have_words, have_numbers}
-use Rattle.sys_text.specs.Rules.{may_stand, keyword_in, allowed, first_of, rest_of, is_skipped, broken_by, fit_pages, closed, add}
+use Rattle.sys_text.specs.Line.{Line}
+use Rattle.sys_text.specs.Line as lines
+use Rattle.sys_text.specs.Rules.{may_stand, keyword_in, allowed, first_of, rest_of, is_skipped, broken_by, fit_pages, closed, add_line, add}
 use Rattle.sys_text.specs.Reading.{Answer, Place, Step, Goes, Refuses, Outside, InBlock, close_block, is_end, is_asm, kept, kept_line, line_or_rule, step, ended, ended_in_block, may_end, nothing_yet, reading_from, system_of_lines, reading_of}
 use Rattle.sys_text.proofs.Bounds.{first_of_two, second_of_two}
-use Rattle.sys_text.proofs.Keeping.{keeps}
+use Rattle.sys_text.proofs.Keeping.{Keeps, keeps}
+use Rattle.sys_text.proofs.Spelling.{keyword_said, said_keyword}
 use Rattle.sys_text.proofs.Taking.{lowest_none}
 use Rattle.sys_text.proofs.Printed.{both}
 use Rattle.sys_text.proofs.Standing.{rank, stands_at}
@@ -60,17 +62,20 @@ stands stage (Some other) keyword e = by_test (may_stand stage other) refl
     by_test true h = let f = rw h at e in let same : other ≡ keyword = cc in ap (may_stand stage) (sym same) ∙ h
     by_test false h = let f = rw h at e in absurd cc
 
-asm_opens : (state : State) (keyword : Keyword) (fields : List (List ℕ)) → is_asm keyword ≡ true → rank (add state keyword fields).stage ≡ 5
-asm_opens state keywords.Clusters fields h = absurd cc
-asm_opens state keywords.Pager fields h = absurd cc
-asm_opens state keywords.Syncreads fields h = absurd cc
-asm_opens state keywords.Syncsteps fields h = absurd cc
-asm_opens state keywords.Image fields h = absurd cc
-asm_opens state keywords.Asm fields h = refl
-asm_opens state keywords.Words fields h = absurd cc
-asm_opens state keywords.End fields h = absurd cc
-asm_opens state keywords.Root fields h = absurd cc
-asm_opens state keywords.Chan fields h = absurd cc
+asm_line : (state : State) (line : Line) → is_asm (keyword_said line) ≡ true → rank (add_line state line).stage ≡ 5
+asm_line state (lines.Clusters count) h = absurd cc
+asm_line state (lines.Pager first second) h = absurd cc
+asm_line state (lines.Syncreads count) h = absurd cc
+asm_line state (lines.Syncsteps count) h = absurd cc
+asm_line state (lines.Image name pages) h = absurd cc
+asm_line state (lines.Asm name pages) h = refl
+asm_line state (lines.Words words) h = absurd cc
+asm_line state lines.End h = absurd cc
+asm_line state (lines.Root root image) h = absurd cc
+asm_line state (lines.Chan first second) h = absurd cc
+
+asm_opens : (state : State) (keyword : Keyword) (fields : List (List ℕ)) → Keeps state keyword fields → is_asm keyword ≡ true → rank (add state keyword fields).stage ≡ 5
+asm_opens state keyword fields k h = rw k.read (asm_line state k.line (ap is_asm (said_keyword keyword fields k.line k.read) ∙ h))
 
 -- a state that is sound, and has an open image where it opens a block
 IsSoundAfter : State × Bool → Type 0
@@ -89,7 +94,8 @@ kept_sound state line e s = by_skip (is_skipped (fields_of line)) refl (keyword_
     by_skip false skip (Some keyword) key =
         let lowest = lowest_none state line keyword skip key e in
         let at = stands_at state.stage keyword (stands state.stage _ keyword key) in
-        rw (skip, key) (sound_add state keyword (rest_of (fields_of line)) (keeps state keyword (rest_of (fields_of line)) lowest) at s, asm_opens state keyword (rest_of (fields_of line)))
+        let k = keeps state keyword (rest_of (fields_of line)) lowest in
+        rw (skip, key) (sound_add state keyword (rest_of (fields_of line)) k at s, asm_opens state keyword (rest_of (fields_of line)) k)
 
 -- ---- a step
 

@@ -13,6 +13,7 @@ use Rattle.sys_text.specs.declared.stage.Stage.TheVariants.{Roots, Chans}
 use Rattle.sys_text.specs.declared.system.System.{System}
 use Rattle.sys_text.specs.declared.state.State.{State}
 use Rattle.sys_text.specs.Valid.{is_chan, links, is_system}
+use Rattle.sys_text.specs.Line as lines
 use Rattle.sys_text.specs.Rules.{keyword_in, is_full, has_root, no_image, add}
 use Rattle.sys_text.specs.Reading.{Outside, may_end, nothing_yet, reading_from, system_of_lines, reading_of}
 use Rattle.sys_text.specs.Text.{chan_line, root_line, image_lines, header_lines, system_lines, system_text}
@@ -51,7 +52,7 @@ chan_parts s chan h = record {
 
 keeps_chan : (state : State) (f g : List ℕ) (a b : ℕ) → number_of f ≡ Some a → number_of g ≡ Some b → eqb a b ≡ false → has_root state.system a ≡ true → has_root state.system b ≡ true → is_full state.system a ≡ false → is_full state.system b ≡ false
     → Keeps state keywords.Chan (f ∷ g ∷ [])
-keeps_chan state f g a b e1 e2 apart first second free_a free_b = record { count = refl; kinds = rw (e1, e2) refl; limits = refl; same = rw (e1, e2) apart; name = rw (e1, e2, first, second) refl; room = rw (e1, e2, free_a, free_b) refl }
+keeps_chan state f g a b e1 e2 apart first second free_a free_b = record { line = lines.Chan a b; read = rw (e1, e2) refl; rules = record { limits = refl; same = apart; name = rw (first, second) refl; room = rw (free_a, free_b) refl } }
 
 adds_chan : (stage : Stage) (s : System) (done : List (ℕ × ℕ)) (chan : ℕ × ℕ) (f g : List ℕ) → number_of f ≡ Some chan.0 → number_of g ≡ Some chan.1 → add (at_chans stage s done) keywords.Chan (f ∷ g ∷ []) ≡ at_chans Chans s (done ++ chan ∷ [])
 adds_chan stage s done chan f g e1 e2 = rw (e1, e2) refl

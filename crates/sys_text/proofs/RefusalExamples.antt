@@ -6,15 +6,15 @@ use Rattle.sys_text.specs.declared.refusal.Rule.TheVariants.{FieldKind, Limit, S
 use Rattle.sys_text.specs.Reading.{reading_of, system_of_lines}
 use Rattle.sys_text.specs.RuleByRule.{line_breaks}
 
--- `x` is no number, and there is no cluster 2: line 2 breaks the rules 4 and 5, and 4 is named
+-- `x` is no number: line 2 breaks rule 4, and the rules 5 to 8 are of lines that are read
 abbrev no_cluster : List ℕ
 no_cluster = codes "clusters 2\npager 2 x\n"
 
 no_number : line_breaks no_cluster 1 FieldKind ≡ true
 no_number = refl
 
-not_below : line_breaks no_cluster 1 Limit ≡ true
-not_below = refl
+not_asked : line_breaks no_cluster 1 Limit ≡ false
+not_asked = refl
 
 not_the_same : line_breaks no_cluster 1 Same ≡ false
 not_the_same = refl

@@ -16,7 +16,9 @@ use Rattle.sys_text.specs.declared.system.Image.{Image}
 use Rattle.sys_text.specs.declared.system.Root.{Root}
 use Rattle.sys_text.specs.declared.state.State.{State}
 use Rattle.sys_text.specs.Valid.{is_within, is_name, is_image, is_root, is_named_once, births_of, is_system}
+use Rattle.sys_text.specs.declared.line.RootFields.{RootFields}
 use Rattle.sys_text.specs.Kinds.{mode_named}
+use Rattle.sys_text.specs.Line as lines
 use Rattle.sys_text.specs.Rules.{keyword_in, place_of, places_with, no_image, add}
 use Rattle.sys_text.specs.Text.{image_name, root_line, mode_text}
 use Rattle.sys_text.proofs.Bounds.{first_of_two, second_of_two, root_fits, root_image, root_tests, tests, system_bounds}
@@ -100,20 +102,20 @@ root_parts s root c h =
     not_same : (a b : ℕ) → (a ≡ b → ⊥) → eqb a b ≡ false
     not_same a b p = grind (arith, nat_tests)
 
+abbrev fields_of_root : Root → RootFields
+fields_of_root root = record { home = (root.home).0; backup = (root.backup).0; mode = root.mode; limit = root.limit; births = root.births; tty = root.tty }
+
 keeps_root : (state : State) (s : System) (root : Root) (home backup mode name limit births tty : List ℕ) → state.system.clusters ≡ s.clusters → state.system.images ≡ s.images → Spells s root home backup mode name limit births tty → RootParts s root → places_with state.system root.births ≤ 32
     → Keeps state keywords.Root (home ∷ backup ∷ mode ∷ name ∷ limit ∷ births ∷ tty ∷ [])
 keeps_root state s root home backup mode name limit births tty ec ei f p room = record {
-  count = refl;
-  kinds = rw (f.home_is, f.backup_is, f.mode_is, f.name_is, f.limit_is, f.births_is, f.tty_is) refl;
-  limits = rw (f.home_is, f.backup_is, f.limit_is, f.births_is, f.tty_is, ec, p.home, p.backup, p.limit, p.births, p.tty) refl;
-  same = rw (f.home_is, f.backup_is) p.apart;
-  name = rw (ei, f.image_is) refl;
-  room = rw f.births_is (le-ltb 32 (places_with state.system root.births) room);
+  line = lines.Root (fields_of_root root) name;
+  read = rw (f.home_is, f.backup_is, f.mode_is, f.name_is, f.limit_is, f.births_is, f.tty_is) refl;
+  rules = record { limits = rw (ec, p.home, p.backup, p.limit, p.births, p.tty) refl; same = p.apart; name = rw (ei, f.image_is) refl; room = le-ltb 32 (places_with state.system root.births) room };
 }
 
 adds_root : (stage : Stage) (s : System) (done : List Root) (root : Root) (home backup mode name limit births tty : List ℕ) → Spells s root home backup mode name limit births tty
     → add (at_roots stage s done) keywords.Root (home ∷ backup ∷ mode ∷ name ∷ limit ∷ births ∷ tty ∷ []) ≡ at_roots Roots s (done ++ root ∷ [])
-adds_root stage s done root home backup mode name limit births tty f = rw (f.home_is, f.backup_is, f.mode_is, f.image_is, f.limit_is, f.births_is, f.tty_is) refl
+adds_root stage s done root home backup mode name limit births tty f = rw (f.home_is, f.backup_is, f.mode_is, f.name_is, f.limit_is, f.births_is, f.tty_is, f.image_is) refl
 
 image_name_is : (images : List Image) (i : ℕ) (image : Image) → slice_get images i ≡ Some image → image_name images i ≡ image.name
 image_name_is images i image e = rw e refl

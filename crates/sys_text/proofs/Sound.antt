@@ -1,5 +1,5 @@
 -- A system that is read keeps the rules.
-use Rattle.std.proofs.Common.{◌≡◌, ℕ, zero, suc, ◌+◌, ◌*◌, ◌<◌, ◌≤◌, Bool, true, false, not, ◌&&◌, ◌||◌, cond, eqb, leb, nat_le, nat_lt, List, [], ◌∷◌, ◌++◌, length, Option, Some, None, refl, sym, ap, ◌∙◌, arith}
+use Rattle.std.proofs.Common.{◌≡◌, ℕ, suc, ◌+◌, ◌*◌, ◌<◌, ◌≤◌, Bool, true, false, not, ◌&&◌, ◌||◌, cond, eqb, leb, nat_le, nat_lt, List, [], ◌∷◌, ◌++◌, length, Option, Some, None, refl, sym, ap, ◌∙◌, arith}
 use Rattle.std.specs.List.{list_all}
 use Rattle.std.specs.Prelude.{is_some}
 use Rattle.std.specs.Option.{option_map}
@@ -8,13 +8,10 @@ use Rattle.std.proofs.lemmas.Bool.{eqb-true, eq-eqb}
 use Rattle.std.proofs.lemmas.Bool.Decides.{nat_tests}
 use Rattle.std.proofs.lemmas.List.Sums.{sum_by-cons, sum_by-append}
 use Rattle.std.proofs.lemmas.Slice.Eq.{bytes_eq-Decides}
-use Rattle.sys_text.specs.declared.stage.Kind.{Kind}
-use Rattle.sys_text.specs.declared.stage.Kind.TheVariants as kinds
 use Rattle.sys_text.specs.declared.system.Image.{Image}
 use Rattle.sys_text.specs.declared.system.Root.{Root}
 use Rattle.sys_text.specs.declared.state.State.{State}
 use Rattle.sys_text.specs.Valid.{is_within, is_pair, is_name, is_named_once, births_of, is_chan, links}
-use Rattle.sys_text.specs.Kinds.{is_kind, keeps_limit, each, field_at, number}
 use Rattle.sys_text.specs.Rules.{place_of}
 use Rattle.sys_text.proofs.Bounds.{first_of_two, second_of_two}
 use Rattle.sys_text.proofs.Printed.{both, all_joined}
@@ -49,41 +46,10 @@ pub record IsSound (state : State) : Type 0 where
   pub linked : (root : ℕ) → links state.system.chans root ≤ 31
   pub block : rank state.stage ≡ 5 → (is_shaped state.open_image ≡ true) × (place_of state.system.images state.open_image.name ≡ None)
 
--- ---- fields by their places
-
-abbrev pub WithinBy : ℕ → Kind → ℕ → Type 0
-WithinBy clusters (kinds.Number low high) n = is_within low high n ≡ true
-WithinBy clusters kinds.Cluster n = nat_lt n clusters ≡ true
-WithinBy clusters kinds.Any n = Unit {0}
-WithinBy clusters kinds.Name n = Unit {0}
-WithinBy clusters kinds.Word n = Unit {0}
-WithinBy clusters kinds.Mode n = Unit {0}
-
-abbrev pub Within : ℕ → List Kind → ℕ → ℕ → Type 0
-Within clusters [] i n = Unit {0}
-Within clusters (kind ∷ ks) zero n = WithinBy clusters kind n
-Within clusters (kind ∷ ks) (suc i) n = Within clusters ks i n
-
-within_by : (clusters : ℕ) (kind : Kind) (field : List ℕ) → keeps_limit clusters kind field ≡ true → WithinBy clusters kind (number field)
-within_by clusters (kinds.Number low high) field h = h
-within_by clusters kinds.Cluster field h = h
-within_by clusters kinds.Any field h = tt
-within_by clusters kinds.Name field h = tt
-within_by clusters kinds.Word field h = tt
-within_by clusters kinds.Mode field h = tt
-
-pub within_at : (clusters i : ℕ) (ks : List Kind) (fields : List (List ℕ)) → length fields ≡ length ks → each (keeps_limit clusters) ks fields ≡ true → Within clusters ks i (number (field_at i fields))
-within_at clusters i [] fields e h = tt
-within_at clusters i (kind ∷ ks) [] e h = absurd (omega (arith, e))
-within_at clusters zero (kind ∷ ks) (field ∷ fields) e h = within_by clusters kind field (first_of_two (keeps_limit clusters kind field) _ h)
-within_at clusters (suc i) (kind ∷ ks) (field ∷ fields) e h = within_at clusters i ks fields (omega (arith, e)) (second_of_two (keeps_limit clusters kind field) _ h)
+-- ---- small facts
 
 pub not_true : (b : Bool) → b ≡ false → not b ≡ true
 not_true b e = rw e refl
-
-pub first_name : (fields : List (List ℕ)) (ks : List Kind) → 1 ≤ length fields → each is_kind (kinds.Name ∷ ks) fields ≡ true → is_name (field_at 0 fields) ≡ true
-first_name [] ks some h = absurd (omega (arith, some))
-first_name (f ∷ fields) ks some h = first_of_two (is_name f) _ h
 
 pub none_of : (o : Option ℕ) → is_some o ≡ false → o ≡ None
 none_of None h = refl

@@ -1,34 +1,31 @@
 -- Lines that break no rule keep a system sound.
-use Rattle.std.proofs.Common.{◌≡◌, ℕ, ◌+◌, ◌*◌, ◌<◌, ◌≤◌, Bool, true, false, not, ◌&&◌, ◌||◌, eqb, nat_le, nat_lt, List, [], ◌∷◌, ◌++◌, length, Option, Some, None, refl, ap, ◌∙◌, arith, length-append}
+use Rattle.std.proofs.Common.{◌≡◌, ℕ, ◌+◌, ◌*◌, ◌<◌, ◌≤◌, Bool, true, false, not, ◌&&◌, ◌||◌, eqb, leb, nat_le, nat_lt, List, [], ◌∷◌, ◌++◌, length, Option, Some, None, refl, ap, ◌∙◌, arith, length-append}
 use Rattle.std.specs.List.{list_all}
-use Rattle.std.specs.Prelude.{is_none, unwrap_or}
-use Rattle.std.proofs.lemmas.Bool.{not-false, eqb-true, le-leb, ltb-false, lt-ltb}
+use Rattle.std.specs.Prelude.{is_none}
+use Rattle.std.proofs.lemmas.Bool.{not-false, le-leb, ltb-false, lt-ltb}
 use Rattle.std.proofs.lemmas.Bool.Decides.{nat_tests}
 use Rattle.sys_text.specs.declared.stage.Keyword.{Keyword}
-use Rattle.sys_text.specs.declared.stage.Keyword.TheVariants as keywords
-use Rattle.sys_text.specs.declared.stage.Kind.TheVariants as kinds
-use Rattle.sys_text.specs.declared.system.System.{System}
+use Rattle.sys_text.specs.declared.line.RootFields.{RootFields}
 use Rattle.sys_text.specs.declared.system.Image.{Image}
 use Rattle.sys_text.specs.declared.state.State.{State}
 use Rattle.sys_text.specs.Valid.{is_within, is_name, is_chan}
-use Rattle.sys_text.specs.Kinds.{field_at, kinds_of}
-use Rattle.sys_text.specs.Rules.{place_of, has_root, places_with, words_in, root_in, opened, closed, add}
-use Rattle.sys_text.specs.Numbers.{number_at}
+use Rattle.sys_text.specs.Line.{Line}
+use Rattle.sys_text.specs.Line as lines
+use Rattle.sys_text.specs.Rules.{place_of, image_named, has_root, places_with, keeps_limits, root_of, with_root, with_open, closed, add_line, add}
 use Rattle.sys_text.proofs.Bounds.{first_of_two, second_of_two}
-use Rattle.sys_text.proofs.Keeping.{Keeps, words_in-le, le_of, births-root}
+use Rattle.sys_text.proofs.Keeping.{Keeps, KeepsRules, le_of, births-root}
 use Rattle.sys_text.proofs.Printed.{both, all_joined}
+use Rattle.sys_text.proofs.Spelling.{keyword_said, said_keyword, HasName, has_name}
 use Rattle.sys_text.proofs.Standing.{rank, StandsAt}
-use Rattle.sys_text.proofs.Sound.{IsSound, is_shaped, is_placed, within_at, not_true, first_name, none_of, once_push, place_within, more_images, more_roots, links_few}
+use Rattle.sys_text.proofs.Sound.{IsSound, is_shaped, is_placed, not_true, none_of, once_push, place_within, more_images, more_roots, links_few}
 
 -- ---- the header
 
 pair : (clusters a b : ℕ) → nat_lt a clusters ≡ true → nat_lt b clusters ≡ true → eqb a b ≡ false → (nat_lt a clusters && nat_lt b clusters && not (eqb a b)) ≡ true
 pair clusters a b h i e = both _ _ (both _ _ h i) (not_true (eqb a b) e)
 
-sound_clusters : (state : State) (fields : List (List ℕ)) → Keeps state keywords.Clusters fields → rank state.stage ≡ 0 → IsSound state → IsSound (add state keywords.Clusters fields)
-sound_clusters state fields k st s =
-    let count = eqb-true (length fields) 1 (not-false (eqb (length fields) 1) k.count) in
-    let n : is_within 2 16 (number_at 0 fields) ≡ true = within_at state.system.clusters 0 (kinds_of keywords.Clusters) fields count (not-false _ k.limits) in
+sound_clusters : (state : State) (count : ℕ) → is_within 2 16 count ≡ true → rank state.stage ≡ 0 → IsSound state → IsSound (add_line state (lines.Clusters count))
+sound_clusters state count n st s =
     record {
       clusters = λ r. n;
       pager = λ r. absurd (omega (arith, r));
@@ -37,7 +34,7 @@ sound_clusters state fields k st s =
       images = s.images;
       once = s.once;
       begins = λ e. absurd (omega (arith, e));
-      roots = ap (list_all (is_placed (number_at 0 fields) (length state.system.images))) (s.begins st);
+      roots = ap (list_all (is_placed count (length state.system.images))) (s.begins st);
       few = s.few;
       some = λ r. absurd (omega (arith, r));
       chans = s.chans;
@@ -45,15 +42,13 @@ sound_clusters state fields k st s =
       block = λ e. absurd (omega (arith, e));
     }
 
-sound_pager : (state : State) (fields : List (List ℕ)) → Keeps state keywords.Pager fields → 1 ≤ rank state.stage → IsSound state → IsSound (add state keywords.Pager fields)
-sound_pager state fields k st s =
+sound_pager : (state : State) (first second : ℕ) → KeepsRules state (lines.Pager first second) → 1 ≤ rank state.stage → IsSound state → IsSound (add_line state (lines.Pager first second))
+sound_pager state first second k st s =
     let c = state.system.clusters in
-    let count = eqb-true (length fields) 2 (not-false (eqb (length fields) 2) k.count) in
-    let a : nat_lt (number_at 0 fields) c ≡ true = within_at c 0 (kinds_of keywords.Pager) fields count (not-false _ k.limits) in
-    let b : nat_lt (number_at 1 fields) c ≡ true = within_at c 1 (kinds_of keywords.Pager) fields count (not-false _ k.limits) in
+    let limits = not-false (nat_lt first c && nat_lt second c) k.limits in
     record {
       clusters = λ r. s.clusters st;
-      pager = λ r. pair c (number_at 0 fields) (number_at 1 fields) a b k.same;
+      pager = λ r. pair c first second (first_of_two (nat_lt first c) _ limits) (second_of_two (nat_lt first c) _ limits) k.same;
       reads = λ r. absurd (omega (arith, r));
       steps = λ r. absurd (omega (arith, r));
       images = s.images;
@@ -67,10 +62,8 @@ sound_pager state fields k st s =
       block = λ e. absurd (omega (arith, e));
     }
 
-sound_syncreads : (state : State) (fields : List (List ℕ)) → Keeps state keywords.Syncreads fields → 2 ≤ rank state.stage → IsSound state → IsSound (add state keywords.Syncreads fields)
-sound_syncreads state fields k st s =
-    let count = eqb-true (length fields) 1 (not-false (eqb (length fields) 1) k.count) in
-    let n : is_within 1 1000 (number_at 0 fields) ≡ true = within_at state.system.clusters 0 (kinds_of keywords.Syncreads) fields count (not-false _ k.limits) in
+sound_syncreads : (state : State) (count : ℕ) → is_within 1 1000 count ≡ true → 2 ≤ rank state.stage → IsSound state → IsSound (add_line state (lines.Syncreads count))
+sound_syncreads state count n st s =
     record {
       clusters = λ r. s.clusters (omega (arith, st));
       pager = λ r. s.pager st;
@@ -87,10 +80,8 @@ sound_syncreads state fields k st s =
       block = λ e. absurd (omega (arith, e));
     }
 
-sound_syncsteps : (state : State) (fields : List (List ℕ)) → Keeps state keywords.Syncsteps fields → 3 ≤ rank state.stage → IsSound state → IsSound (add state keywords.Syncsteps fields)
-sound_syncsteps state fields k st s =
-    let count = eqb-true (length fields) 1 (not-false (eqb (length fields) 1) k.count) in
-    let n : is_within 64 100000 (number_at 0 fields) ≡ true = within_at state.system.clusters 0 (kinds_of keywords.Syncsteps) fields count (not-false _ k.limits) in
+sound_syncsteps : (state : State) (count : ℕ) → is_within 64 100000 count ≡ true → 3 ≤ rank state.stage → IsSound state → IsSound (add_line state (lines.Syncsteps count))
+sound_syncsteps state count n st s =
     record {
       clusters = λ r. s.clusters (omega (arith, st));
       pager = λ r. s.pager (omega (arith, st));
@@ -112,8 +103,8 @@ sound_syncsteps state fields k st s =
 fits_none : (n : ℕ) → nat_le (4 * 0) (256 * n) ≡ true
 fits_none n = le-leb (4 * 0) (256 * n) (omega arith)
 
-sound_opened : (state : State) (fields : List (List ℕ)) → is_name (field_at 0 fields) ≡ true → is_within 1 256 (number_at 1 fields) ≡ true → place_of state.system.images (field_at 0 fields) ≡ None → 4 ≤ rank state.stage → IsSound state → IsSound (opened state fields)
-sound_opened state fields name pages none st s = record {
+sound_opened : (state : State) (image : List ℕ) (pages : ℕ) → is_name image ≡ true → is_within 1 256 pages ≡ true → place_of state.system.images image ≡ None → 4 ≤ rank state.stage → IsSound state → IsSound (with_open state image pages)
+sound_opened state image pages name within none st s = record {
   clusters = λ r. s.clusters (omega (arith, st));
   pager = λ r. s.pager (omega (arith, st));
   reads = λ r. s.reads (omega (arith, st));
@@ -126,29 +117,17 @@ sound_opened state fields name pages none st s = record {
   some = λ r. absurd (omega (arith, r));
   chans = s.chans;
   linked = s.linked;
-  block = λ e. (both _ _ (both _ _ name pages) (fits_none (number_at 1 fields)), none);
+  block = λ e. (both _ _ (both _ _ name within) (fits_none pages), none);
 }
-
-sound_image : (state : State) (fields : List (List ℕ)) → Keeps state keywords.Image fields → 4 ≤ rank state.stage → IsSound state → IsSound (opened state fields)
-sound_image state fields k st s =
-    let count = eqb-true (length fields) 2 (not-false (eqb (length fields) 2) k.count) in
-    let pages : is_within 1 256 (number_at 1 fields) ≡ true = within_at state.system.clusters 1 (kinds_of keywords.Image) fields count (not-false _ k.limits) in
-    sound_opened state fields (first_name fields (kinds.Number 1 256 ∷ []) (omega (arith, count)) (not-false _ k.kinds)) pages (none_of (place_of state.system.images (field_at 0 fields)) k.name) st s
-
-sound_asm : (state : State) (fields : List (List ℕ)) → Keeps state keywords.Asm fields → 4 ≤ rank state.stage → IsSound state → IsSound (opened state fields)
-sound_asm state fields k st s =
-    let count = eqb-true (length fields) 2 (not-false (eqb (length fields) 2) k.count) in
-    let pages : is_within 1 256 (number_at 1 fields) ≡ true = within_at state.system.clusters 1 (kinds_of keywords.Asm) fields count (not-false _ k.limits) in
-    sound_opened state fields (first_name fields (kinds.Number 1 256 ∷ []) (omega (arith, count)) (not-false _ k.kinds)) pages (none_of (place_of state.system.images (field_at 0 fields)) k.name) st s
 
 shape_with : (image : Image) (words : List ℕ) → is_shaped image ≡ true → length words ≤ 64 * image.pages → is_shaped (record image { words = words }) ≡ true
 shape_with image words h few =
     both _ _ (first_of_two (is_name image.name && is_within 1 256 image.pages) _ h) (le-leb (4 * length words) (256 * image.pages) (omega (arith, few)))
 
-sound_words : (state : State) (fields : List (List ℕ)) → Keeps state keywords.Words fields → rank state.stage ≡ 5 → IsSound state → IsSound (add state keywords.Words fields)
-sound_words state fields k st s =
-    let room = le_of (length state.open_image.words + length fields) (64 * state.open_image.pages) k.room in
-    let few : length (state.open_image.words ++ words_in fields) ≤ 64 * state.open_image.pages = omega (arith, room, words_in-le fields, length-append state.open_image.words (words_in fields)) in
+sound_words : (state : State) (words : List ℕ) → not (leb (length state.open_image.words + length words) (64 * state.open_image.pages)) ≡ false → rank state.stage ≡ 5 → IsSound state → IsSound (add_line state (lines.Words words))
+sound_words state words room st s =
+    let fit = le_of (length state.open_image.words + length words) (64 * state.open_image.pages) room in
+    let few : length (state.open_image.words ++ words) ≤ 64 * state.open_image.pages = omega (arith, fit, length-append state.open_image.words words) in
     record {
       clusters = s.clusters;
       pager = s.pager;
@@ -162,7 +141,7 @@ sound_words state fields k st s =
       some = s.some;
       chans = s.chans;
       linked = s.linked;
-      block = λ e. (shape_with state.open_image (state.open_image.words ++ words_in fields) (s.block e).0 few, (s.block e).1);
+      block = λ e. (shape_with state.open_image (state.open_image.words ++ words) (s.block e).0 few, (s.block e).1);
     }
 
 pub sound_closed : (state : State) (words : List ℕ) → rank state.stage ≡ 5 → length words ≤ 64 * state.open_image.pages → IsSound state → IsSound (closed state words)
@@ -194,26 +173,28 @@ fit_of image h = by_size (length image.words) image.pages (second_of_two (is_nam
 
 -- ---- roots
 
-root_image_in : (system : System) (fields : List (List ℕ)) (o : Option ℕ) → place_of system.images (field_at 3 fields) ≡ o → is_none o ≡ false → unwrap_or (place_of system.images (field_at 3 fields)) 0 < length system.images
-root_image_in system fields None e h = absurd cc
-root_image_in system fields (Some i) e h = rw e (place_within system.images (field_at 3 fields) i e)
+there : (o : Option ℕ) → is_none o ≡ false → (n : ℕ) × (o ≡ Some n)
+there None h = absurd cc
+there (Some n) h = (n, refl)
 
-sound_root : (state : State) (fields : List (List ℕ)) → Keeps state keywords.Root fields → 4 ≤ rank state.stage → IsSound state → IsSound (add state keywords.Root fields)
-sound_root state fields k st s =
+sound_placed : (state : State) (fields : RootFields) (place : ℕ) → not (keeps_limits state.system.clusters (lines.Root fields [])) ≡ false → eqb fields.home fields.backup ≡ false → nat_lt 32 (places_with state.system fields.births) ≡ false → place < length state.system.images → 4 ≤ rank state.stage → IsSound state
+    → IsSound (with_root state fields (Some place))
+sound_placed state fields place limits same free below st s =
     let c = state.system.clusters in
     let roots = state.system.roots in
-    let root = root_in state.system fields in
-    let count = eqb-true (length fields) 7 (not-false (eqb (length fields) 7) k.count) in
-    let at = λ (i : ℕ). within_at c i (kinds_of keywords.Root) fields count (not-false _ k.limits) in
-    let home : nat_lt (number_at 0 fields) c ≡ true = at 0 in
-    let backup : nat_lt (number_at 1 fields) c ≡ true = at 1 in
-    let limit : is_within 1 100000 (number_at 4 fields) ≡ true = at 4 in
-    let births : is_within 0 31 (number_at 5 fields) ≡ true = at 5 in
-    let tty : is_within 0 15 (number_at 6 fields) ≡ true = at 6 in
-    let image = root_image_in state.system fields (place_of state.system.images (field_at 3 fields)) refl k.name in
-    let placed : is_placed c (length state.system.images) root ≡ true = both _ _ (both _ _ (both _ _ (both _ _ (pair c (number_at 0 fields) (number_at 1 fields) home backup k.same) (lt-ltb root.image (length state.system.images) image)) limit)
-    (second_of_two (nat_le 0 (number_at 5 fields)) _ births)) (second_of_two (nat_le 0 (number_at 6 fields)) _ tty) in
-    let room = ltb-false 32 (places_with state.system (number_at 5 fields)) k.room in
+    let root = root_of fields place in
+    let all = not-false (keeps_limits c (lines.Root fields [])) limits in
+    let abcd = first_of_two _ (is_within 0 15 fields.tty) all in
+    let tty = second_of_two _ (is_within 0 15 fields.tty) all in
+    let abc = first_of_two _ (is_within 0 31 fields.births) abcd in
+    let births = second_of_two _ (is_within 0 31 fields.births) abcd in
+    let ab = first_of_two _ (is_within 1 100000 fields.limit) abc in
+    let limit = second_of_two _ (is_within 1 100000 fields.limit) abc in
+    let home = first_of_two (nat_lt fields.home c) (nat_lt fields.backup c) ab in
+    let backup = second_of_two (nat_lt fields.home c) (nat_lt fields.backup c) ab in
+    let placed : is_placed c (length state.system.images) root ≡ true = both _ _ (both _ _ (both _ _ (both _ _ (pair c fields.home fields.backup home backup same) (lt-ltb place (length state.system.images) below)) limit)
+    (second_of_two (nat_le 0 fields.births) _ births)) (second_of_two (nat_le 0 fields.tty) _ tty) in
+    let room = ltb-false 32 (places_with state.system fields.births) free in
     let one_more : length (roots ++ root ∷ []) ≡ length roots + 1 = length-append roots (root ∷ []) in
     record {
       clusters = λ r. s.clusters (omega (arith, st));
@@ -231,6 +212,11 @@ sound_root state fields k st s =
       block = λ e. absurd (omega (arith, e));
     }
 
+sound_root : (state : State) (root : RootFields) (image : List ℕ) → KeepsRules state (lines.Root root image) → 4 ≤ rank state.stage → IsSound state → IsSound (add_line state (lines.Root root image))
+sound_root state root image k st s =
+    let place = there (image_named state.system image) k.name in
+    rw place.1 (sound_placed state root place.0 k.limits k.same k.room (place_within state.system.images image place.0 place.1) st s)
+
 -- ---- channels
 
 both_there : (a b : Bool) → (not a || not b) ≡ false → (a && b) ≡ true
@@ -238,10 +224,10 @@ both_there true true h = refl
 both_there true false h = absurd cc
 both_there false b h = absurd cc
 
-sound_chan : (state : State) (fields : List (List ℕ)) → Keeps state keywords.Chan fields → 6 ≤ rank state.stage → IsSound state → IsSound (add state keywords.Chan fields)
-sound_chan state fields k st s =
-    let chan : ℕ × ℕ = (number_at 0 fields, number_at 1 fields) in
-    let there = both_there (has_root state.system (number_at 0 fields)) (has_root state.system (number_at 1 fields)) k.name in
+sound_chan : (state : State) (first second : ℕ) → KeepsRules state (lines.Chan first second) → 6 ≤ rank state.stage → IsSound state → IsSound (add_line state (lines.Chan first second))
+sound_chan state first second k st s =
+    let chan : ℕ × ℕ = (first, second) in
+    let there = both_there (has_root state.system first) (has_root state.system second) k.name in
     record {
       clusters = λ r. s.clusters (omega (arith, st));
       pager = λ r. s.pager (omega (arith, st));
@@ -253,21 +239,26 @@ sound_chan state fields k st s =
       roots = s.roots;
       few = s.few;
       some = λ r. s.some st;
-      chans = all_joined (is_chan (length state.system.roots)) state.system.chans (chan ∷ []) s.chans (both _ _ (both _ _ there (not_true (eqb (number_at 0 fields) (number_at 1 fields)) k.same)) refl);
+      chans = all_joined (is_chan (length state.system.roots)) state.system.chans (chan ∷ []) s.chans (both _ _ (both _ _ there (not_true (eqb first second) k.same)) refl);
       linked = links_few state.system.chans chan k.room s.linked;
       block = λ e. absurd (omega (arith, e));
     }
 
 -- ---- any line
 
+sound_line : (state : State) (line : Line) → KeepsRules state line → HasName line → StandsAt (rank state.stage) (keyword_said line) → IsSound state → IsSound (add_line state line)
+sound_line state (lines.Clusters count) k named st s = sound_clusters state count (not-false _ k.limits) st s
+sound_line state (lines.Pager first second) k named st s = sound_pager state first second k st s
+sound_line state (lines.Syncreads count) k named st s = sound_syncreads state count (not-false _ k.limits) st s
+sound_line state (lines.Syncsteps count) k named st s = sound_syncsteps state count (not-false _ k.limits) st s
+sound_line state (lines.Image name pages) k named st s = sound_opened state name pages named (not-false _ k.limits) (none_of (place_of state.system.images name) k.name) st s
+sound_line state (lines.Asm name pages) k named st s = sound_opened state name pages named (not-false _ k.limits) (none_of (place_of state.system.images name) k.name) st s
+sound_line state (lines.Words words) k named st s = sound_words state words k.room st s
+sound_line state lines.End k named st s = sound_closed state state.open_image.words st (fit_of state.open_image (s.block st).0) s
+sound_line state (lines.Root root image) k named st s = sound_root state root image k st s
+sound_line state (lines.Chan first second) k named st s = sound_chan state first second k st s
+
 pub sound_add : (state : State) (keyword : Keyword) (fields : List (List ℕ)) → Keeps state keyword fields → StandsAt (rank state.stage) keyword → IsSound state → IsSound (add state keyword fields)
-sound_add state keywords.Clusters fields k st s = sound_clusters state fields k st s
-sound_add state keywords.Pager fields k st s = sound_pager state fields k st s
-sound_add state keywords.Syncreads fields k st s = sound_syncreads state fields k st s
-sound_add state keywords.Syncsteps fields k st s = sound_syncsteps state fields k st s
-sound_add state keywords.Image fields k st s = sound_image state fields k st s
-sound_add state keywords.Asm fields k st s = sound_asm state fields k st s
-sound_add state keywords.Words fields k st s = sound_words state fields k st s
-sound_add state keywords.End fields k st s = sound_closed state state.open_image.words st (fit_of state.open_image (s.block st).0) s
-sound_add state keywords.Root fields k st s = sound_root state fields k st s
-sound_add state keywords.Chan fields k st s = sound_chan state fields k st s
+sound_add state keyword fields k st s =
+    let at : StandsAt (rank state.stage) (keyword_said k.line) = rw (said_keyword keyword fields k.line k.read) st in
+    rw k.read (sound_line state k.line k.rules (has_name keyword fields k.line k.read) at s)

@@ -5,10 +5,9 @@ use Rattle.text_parts.specs.Lines.{fields_of}
 use Rattle.sys_text.specs.declared.stage.Keyword.{Keyword}
 use Rattle.sys_text.specs.declared.state.State.{State}
 use Rattle.sys_text.specs.declared.refusal.Rule.TheVariants.{ForeignByte, Misplaced, FieldCount, FieldKind, Limit, Same, Name, Room}
-use Rattle.sys_text.specs.Rules.{keyword_in, first_of, rest_of, is_skipped, begins_comment, breaks, broken_by, lowest_with, HasRoom}
-use Rattle.sys_text.specs.Numbers.{NumbersFit, LineFits}
+use Rattle.sys_text.specs.Rules.{keyword_in, first_of, rest_of, is_skipped, breaks, broken_by, lowest_with, HasRoom}
 use Rattle.sys_text.specs.Reading.{kept}
-use Rattle.sys_text.proofs.Keeping.{none_passes, numbers_fit, room_kept}
+use Rattle.sys_text.proofs.Keeping.{none_passes, room_kept}
 
 own_rules : (state : State) (line : List ℕ) → broken_by state line ≡ None → find (breaks state line) (FieldCount ∷ FieldKind ∷ Limit ∷ Same ∷ Name ∷ Room ∷ []) ≡ None
 own_rules state line e =
@@ -17,9 +16,6 @@ own_rules state line e =
 
 pub lowest_none : (state : State) (line : List ℕ) (keyword : Keyword) → is_skipped (fields_of line) ≡ false → keyword_in state.stage (first_of (fields_of line)) ≡ Some keyword → broken_by state line ≡ None → lowest_with state keyword (rest_of (fields_of line)) ≡ None
 lowest_none state line keyword skip key e = rw (skip, key) at (own_rules state line e)
-
-pub line_fits : (state : State) (line : List ℕ) → broken_by state line ≡ None → HasRoom state → LineFits state (fields_of line)
-line_fits state line e room = λ keyword skip key. numbers_fit state keyword (rest_of (fields_of line)) (lowest_none state line keyword skip key e) room
 
 line_keeps : (state : State) (line : List ℕ) → broken_by state line ≡ None → HasRoom state → HasRoom (kept state (fields_of line)).0
 line_keeps state line e room = by_skip (is_skipped (fields_of line)) refl (keyword_in state.stage (first_of (fields_of line))) refl
@@ -31,6 +27,3 @@ line_keeps state line e room = by_skip (is_skipped (fields_of line)) refl (keywo
 
 pub taken_keeps : (state after : State) (line : List ℕ) (opens : Bool) → broken_by state line ≡ None → kept state (fields_of line) ≡ (after, opens) → HasRoom state → HasRoom after
 taken_keeps state after line opens e is room = rw (← ap (λ (x : State × Bool). x.0) is) (line_keeps state line e room)
-
-pub line_fit_at : (state : State) (fields : List (List ℕ)) (first : List ℕ) (others : List (List ℕ)) (keyword : Keyword) → LineFits state fields → fields ≡ first ∷ others → begins_comment first ≡ false → keyword_in state.stage first ≡ Some keyword → NumbersFit keyword others
-line_fit_at state fields first others keyword fits cut skip key = (rw cut at fits) keyword skip key

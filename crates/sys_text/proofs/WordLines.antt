@@ -8,18 +8,17 @@ use Rattle.std.proofs.lemmas.List.Elements.{filter_map-append}
 use Rattle.std.proofs.lemmas.List.Folds.{list_all-append}
 use Rattle.text_parts.specs.Lines.{fields_of}
 use Rattle.text_parts.specs.Numbers.{word_of}
-use Rattle.sys_text.specs.declared.stage.Kind.TheVariants.{Word}
 use Rattle.sys_text.specs.declared.stage.Keyword.TheVariants.{Words}
 use Rattle.sys_text.specs.declared.refusal.Rule.TheVariants.{FieldCount, FieldKind, Room}
 use Rattle.sys_text.specs.declared.refusal.SystemRefused.{SystemRefused}
 use Rattle.sys_text.specs.declared.state.State.{State}
-use Rattle.sys_text.specs.Kinds.{is_kind}
-use Rattle.sys_text.specs.Rules.{words_in, broken_by, lowest_with, add, HasRoom}
-use Rattle.sys_text.specs.LineRules.{Starts}
+use Rattle.sys_text.specs.Line.{words_in, is_word_field, line_of}
+use Rattle.sys_text.specs.Line as lines
+use Rattle.sys_text.specs.Rules.{broken_by, lowest_with, add_line, add, HasRoom}
+use Rattle.sys_text.specs.Fronts.{Starts}
 use Rattle.sys_text.specs.Reading.{Goes, Outside, step_outside}
 use Rattle.sys_text.specs.Answers.{ClosesBlock}
 use Rattle.sys_text.specs.WordLines.{lowest_of_words, RefusesBy}
-use Rattle.sys_text.proofs.Limits.{words_within}
 use Rattle.sys_text.proofs.LineSteps.{refused_at}
 use Rattle.sys_text.proofs.Taking.{taken_keeps}
 
@@ -27,7 +26,7 @@ use Rattle.sys_text.proofs.Taking.{taken_keeps}
 pub record SoFar (old new rest : List ℕ) (all : List (List ℕ)) : Type 0 where
   pub front : List (List ℕ)
   pub cut : front ++ fields_of rest ≡ all
-  pub are : list_all (is_kind Word) front ≡ true
+  pub are : list_all (is_word_field) front ≡ true
   pub words : new ≡ old ++ words_in front
 
 pub so_far_none : (old text : List ℕ) → SoFar old old text (fields_of text)
@@ -36,7 +35,7 @@ so_far_none old text = record { front = []; cut = refl; are = refl; words = sym 
 one_field : (field : List ℕ) (w : ℕ) → word_of field ≡ Some w → words_in (field ∷ []) ≡ w ∷ []
 one_field field w e = rw e refl
 
-one_kind : (field : List ℕ) (w : ℕ) → word_of field ≡ Some w → list_all (is_kind Word) (field ∷ []) ≡ true
+one_kind : (field : List ℕ) (w : ℕ) → word_of field ≡ Some w → list_all (is_word_field) (field ∷ []) ≡ true
 one_kind field w e = rw e refl
 
 both_true : (a b : Bool) → a ≡ true → b ≡ true → (a && b) ≡ true
@@ -46,7 +45,7 @@ pub so_far_more : (old new next rest after : List ℕ) (all : List (List ℕ)) (
 so_far_more old new next rest after all field w s cut_is e next_is = record {
   front = s.front ++ field ∷ [];
   cut = append_assoc s.front (field ∷ []) (fields_of after) ∙ ap (λ (t : List (List ℕ)). s.front ++ t) (sym cut_is) ∙ s.cut;
-  are = list_all-append (is_kind Word) s.front (field ∷ []) ∙ both_true (list_all (is_kind Word) s.front) (list_all (is_kind Word) (field ∷ [])) s.are (one_kind field w e);
+  are = list_all-append (is_word_field) s.front (field ∷ []) ∙ both_true (list_all (is_word_field) s.front) (list_all (is_word_field) (field ∷ [])) s.are (one_kind field w e);
   words = next_is ∙ ap (λ (t : List ℕ). t ++ w ∷ []) s.words ∙ append_assoc old (words_in s.front) (w ∷ []) ∙ ap (λ (t : List ℕ). old ++ t) (sym (filter_map-append word_of s.front (field ∷ []) ∙ ap (λ (t : List ℕ). words_in s.front ++ t) (one_field field w e)));
 }
 
@@ -55,8 +54,8 @@ so_far_more old new next rest after all field w s cut_is e next_is = record {
 some_fields : (front more : List (List ℕ)) (field : List ℕ) → nat_le 1 (length (front ++ field ∷ more)) ≡ true
 some_fields front more field = le-leb 1 (length (front ++ field ∷ more)) (omega (arith, length-append front (field ∷ more)))
 
-no_kind : (front more : List (List ℕ)) (field : List ℕ) → word_of field ≡ None → list_all (is_kind Word) front ≡ true → list_all (is_kind Word) (front ++ field ∷ more) ≡ false
-no_kind front more field e are = list_all-append (is_kind Word) front (field ∷ more) ∙ rw (are, e) refl
+no_kind : (front more : List (List ℕ)) (field : List ℕ) → word_of field ≡ None → list_all (is_word_field) front ≡ true → list_all (is_word_field) (front ++ field ∷ more) ≡ false
+no_kind front more field e are = list_all-append (is_word_field) front (field ∷ more) ∙ rw (are, e) refl
 
 pub bad_word : (old new rest after : List ℕ) (all : List (List ℕ)) (field : List ℕ) (words pages : ℕ) → SoFar old new rest all → fields_of rest ≡ field ∷ fields_of after → word_of field ≡ None → lowest_of_words words pages all ≡ Some FieldKind
 bad_word old new rest after all field words pages s cut_is e =
@@ -66,22 +65,22 @@ bad_word old new rest after all field words pages s cut_is e =
 -- ---- all fields are words
 
 pub record Read (old new : List ℕ) (all : List (List ℕ)) : Type 0 where
-  pub are : list_all (is_kind Word) all ≡ true
+  pub are : list_all (is_word_field) all ≡ true
   pub words : new ≡ old ++ words_in all
   pub size : length new ≡ length old + length all
 
-words_length : (fields : List (List ℕ)) → list_all (is_kind Word) fields ≡ true → length (words_in fields) ≡ length fields
+words_length : (fields : List (List ℕ)) → list_all (is_word_field) fields ≡ true → length (words_in fields) ≡ length fields
 words_length [] h = refl
 words_length (field ∷ fields) h = by_word (λ k. words_length fields k) (word_of field) refl
   where
-    by_word : (list_all (is_kind Word) fields ≡ true → length (words_in fields) ≡ length fields) → (o : Option ℕ) → word_of field ≡ o → length (words_in (field ∷ fields)) ≡ length (field ∷ fields)
+    by_word : (list_all (is_word_field) fields ≡ true → length (words_in fields) ≡ length fields) → (o : Option ℕ) → word_of field ≡ o → length (words_in (field ∷ fields)) ≡ length (field ∷ fields)
     by_word next None e = let f = rw e at h in absurd cc
     by_word next (Some w) e = let f = rw e at h in rw e (omega (arith, next f))
 
 pub read_all : (old new rest : List ℕ) (all : List (List ℕ)) → SoFar old new rest all → fields_of rest ≡ [] → Read old new all
 read_all old new rest all s none =
     let whole : s.front ≡ all = sym (append-nil s.front) ∙ ap (λ (t : List (List ℕ)). s.front ++ t) (sym none) ∙ s.cut in
-    let are : list_all (is_kind Word) all ≡ true = ap (list_all (is_kind Word)) (sym whole) ∙ s.are in
+    let are : list_all (is_word_field) all ≡ true = ap (list_all (is_word_field)) (sym whole) ∙ s.are in
     let words : new ≡ old ++ words_in all = s.words ∙ ap (λ (t : List (List ℕ)). old ++ words_in t) whole in
     record { are = are; words = words; size = ap length words ∙ length-append old (words_in all) ∙ ap (λ (k : ℕ). length old + k) (words_length all are) }
 
@@ -112,15 +111,31 @@ in_room old new all pages r differ fits =
 -- ---- what the line leads to
 
 words_lowest : (state : State) (fields : List (List ℕ)) → lowest_with state Words fields ≡ lowest_of_words (length state.open_image.words) state.open_image.pages fields
-words_lowest state fields = rw (sym (words_within state.system.clusters fields)) refl
+words_lowest state [] = refl
+words_lowest state (field ∷ fields) = by_words (list_all is_word_field (field ∷ fields)) refl
+  where
+    by_words : (b : Bool) → list_all is_word_field (field ∷ fields) ≡ b → lowest_with state Words (field ∷ fields) ≡ lowest_of_words (length state.open_image.words) state.open_image.pages (field ∷ fields)
+    by_words true h = rw (some_fields [] fields field, h, words_length (field ∷ fields) h) refl
+    by_words false h = rw (some_fields [] fields field, h) refl
 
 words_rules : (state : State) (line rest : List ℕ) → Starts state line Words (fields_of rest) → broken_by state line ≡ lowest_of_words (length state.open_image.words) state.open_image.pages (fields_of rest)
 words_rules state line rest s = s.broken ∙ words_lowest state (fields_of rest)
 
-words_go : (state : State) (n : ℕ) (line rest : List ℕ) → Starts state line Words (fields_of rest) → lowest_of_words (length state.open_image.words) state.open_image.pages (fields_of rest) ≡ None → step_outside state n line ≡ Goes (Outside (add state Words (fields_of rest)))
+words_read : (words pages : ℕ) (fields : List (List ℕ)) → lowest_of_words words pages fields ≡ None → line_of Words fields ≡ Ok (lines.Words (words_in fields))
+words_read words pages [] e = absurd cc
+words_read words pages (field ∷ fields) e = by_words (list_all is_word_field (field ∷ fields)) refl
+  where
+    by_words : (b : Bool) → list_all is_word_field (field ∷ fields) ≡ b → line_of Words (field ∷ fields) ≡ Ok (lines.Words (words_in (field ∷ fields)))
+    by_words true h = rw h refl
+    by_words false h = let f = rw (some_fields [] fields field, h) at e in absurd cc
+
+words_kept : (state : State) (fields : List (List ℕ)) → lowest_of_words (length state.open_image.words) state.open_image.pages fields ≡ None → add state Words fields ≡ add_line state (lines.Words (words_in fields))
+words_kept state fields e = rw (words_read (length state.open_image.words) state.open_image.pages fields e) refl
+
+words_go : (state : State) (n : ℕ) (line rest : List ℕ) → Starts state line Words (fields_of rest) → lowest_of_words (length state.open_image.words) state.open_image.pages (fields_of rest) ≡ None → step_outside state n line ≡ Goes (Outside (add_line state (lines.Words (words_in (fields_of rest)))))
 words_go state n line rest s none =
     let broken : broken_by state line ≡ None = words_rules state line rest s ∙ none in
-    rw (broken, s.kept) refl
+    rw (broken, s.kept, words_kept state (fields_of rest) none) refl
 
 -- the state where the words of the open image are these
 abbrev pub with_words : State → List ℕ → State
@@ -135,5 +150,5 @@ words_step state n line rest (Err refused) new w added none by = refused_at stat
 pub words_room : (state : State) (line rest : List ℕ) (r : Result (Unit {0}) SystemRefused) (new : List ℕ) → Starts state line Words (fields_of rest) → HasRoom state
     → OnOk r (new ≡ state.open_image.words ++ words_in (fields_of rest)) → OnOk r (lowest_of_words (length state.open_image.words) state.open_image.pages (fields_of rest) ≡ None) → OnOk r (HasRoom (with_words state new))
 words_room state line rest (Ok done) new w room added none =
-    rw added (taken_keeps state (add state Words (fields_of rest)) line false (words_rules state line rest w ∙ none) w.kept room)
+    rw (added, ← words_kept state (fields_of rest) none) (taken_keeps state (add state Words (fields_of rest)) line false (words_rules state line rest w ∙ none) w.kept room)
 words_room state line rest (Err refused) new w room added none = tt

@@ -8,7 +8,7 @@ pub mod Rules
 pub mod WordLines
 pub mod ImageNames
 pub mod Reading
-pub mod LineRules
+pub mod Fronts
 pub mod Answers
 pub mod Numbers
 pub mod Types

@@ -1,13 +1,10 @@
 -- The rules of a line, by what the lines before it said, and what it adds to that.
-use Rattle.std.specs.Prelude.{ℕ, ◌+◌, ◌*◌, ◌≤◌, Bool, true, false, not, List, [], ◌∷◌, ◌++◌, length, Option, Some, None, nat_lt, nat_le, ◌==◌, ◌&&◌, ◌||◌, is_none, is_some, unwrap_or, if◌then◌else◌}
-use Rattle.std.specs.List.{find, filter_map}
+use Rattle.std.specs.Prelude.{ℕ, ◌+◌, ◌*◌, ◌≤◌, Bool, true, false, not, List, [], ◌∷◌, ◌++◌, length, Option, Some, None, Result, Ok, Err, nat_lt, nat_le, ◌==◌, ◌&&◌, ◌||◌, is_none, is_some, if◌then◌else◌}
+use Rattle.std.specs.List.{find}
 use Rattle.std.specs.Str.{bytes_eq}
 use Rattle.std.specs.Option.{option_map}
 use Rattle.text_parts.specs.Lines.{are_printable, fields_of}
-use Rattle.text_parts.specs.Numbers.{word_of}
 use Rattle.text_parts.specs.Table.{lookup}
-use Rattle.t32_base.specs.declared.process.ClusterNo.{ClusterNo}
-use Rattle.t32_base.specs.declared.process.Mode.TheVariants as modes
 use Rattle.sys_text.specs.declared.stage.Keyword.{Keyword}
 use Rattle.sys_text.specs.declared.stage.Keyword.TheVariants as keywords
 use Rattle.sys_text.specs.declared.stage.Stage.{Stage}
@@ -19,7 +16,10 @@ use Rattle.sys_text.specs.declared.system.Image.{Image}
 use Rattle.sys_text.specs.declared.system.Root.{Root}
 use Rattle.sys_text.specs.declared.state.State.{State}
 use Rattle.sys_text.specs.Valid.{is_within, births_of, links}
-use Rattle.sys_text.specs.Kinds.{keywords_by_name, mode_named, count_fits, is_kind, keeps_limit, each_field, field_at, number}
+use Rattle.sys_text.specs.declared.line.RootFields.{RootFields}
+use Rattle.sys_text.specs.Kinds.{keywords_by_name}
+use Rattle.sys_text.specs.Line.{Line, line_of}
+use Rattle.sys_text.specs.Line as lines
 
 -- ---- the order of the lines
 
@@ -97,44 +97,72 @@ places_with system births = length system.roots + births_of system.roots + 1 + b
 abbrev pub is_full : System → ℕ → Bool
 is_full system root = nat_le 31 (links system.chans root)
 
--- ---- the rules, of a line with this keyword and these fields after it
+-- ---- the rules 5 to 8, of a line that keeps the rules 3 and 4
 
--- the two clusters of `pager` or `root`, or the two roots of `chan`, are the same
-abbrev pub breaks_same : Keyword → List (List ℕ) → Bool
-breaks_same keywords.Pager fields = number (field_at 0 fields) == number (field_at 1 fields)
-breaks_same keywords.Root fields = number (field_at 0 fields) == number (field_at 1 fields)
-breaks_same keywords.Chan fields = number (field_at 0 fields) == number (field_at 1 fields)
-breaks_same keyword fields = false
+-- the numbers are within their limits, and the clusters are some of so many
+abbrev pub keeps_limits : (clusters : ℕ) → Line → Bool
+keeps_limits clusters (lines.Clusters count) = is_within 2 16 count
+keeps_limits clusters (lines.Pager first second) = nat_lt first clusters && nat_lt second clusters
+keeps_limits clusters (lines.Syncreads count) = is_within 1 1000 count
+keeps_limits clusters (lines.Syncsteps count) = is_within 64 100000 count
+keeps_limits clusters (lines.Image name pages) = is_within 1 256 pages
+keeps_limits clusters (lines.Asm name pages) = is_within 1 256 pages
+keeps_limits clusters (lines.Root root image) = nat_lt root.home clusters && nat_lt root.backup clusters && is_within 1 100000 root.limit && is_within 0 31 root.births && is_within 0 15 root.tty
+keeps_limits clusters line = true
 
--- an image name is used twice, a root's image is not there, or a `chan` names a root that is not there
-abbrev pub breaks_name : System → Keyword → List (List ℕ) → Bool
-breaks_name system keywords.Image fields = is_some (image_named system (field_at 0 fields))
-breaks_name system keywords.Asm fields = is_some (image_named system (field_at 0 fields))
-breaks_name system keywords.Root fields = is_none (image_named system (field_at 3 fields))
-breaks_name system keywords.Chan fields = not (has_root system (number (field_at 0 fields))) || not (has_root system (number (field_at 1 fields)))
-breaks_name system keyword fields = false
+-- the two clusters or the two roots are the same
+abbrev pub are_same : Line → Bool
+are_same (lines.Pager first second) = first == second
+are_same (lines.Root root image) = root.home == root.backup
+are_same (lines.Chan first second) = first == second
+are_same line = false
 
--- the words so far do not fit the pages, the roots so far and their births exceed 32, or a `chan` needs an end above 31
-abbrev pub breaks_room : State → Keyword → List (List ℕ) → Bool
-breaks_room state keywords.Words fields = not (fit_pages (length state.open_image.words + length fields) state.open_image.pages)
-breaks_room state keywords.Root fields = nat_lt 32 (places_with state.system (number (field_at 5 fields)))
-breaks_room state keywords.Chan fields = is_full state.system (number (field_at 0 fields)) || is_full state.system (number (field_at 1 fields))
-breaks_room state keyword fields = false
+-- an image name is used twice, or what is named is not there
+abbrev pub misnames : System → Line → Bool
+misnames system (lines.Image name pages) = is_some (image_named system name)
+misnames system (lines.Asm name pages) = is_some (image_named system name)
+misnames system (lines.Root root image) = is_none (image_named system image)
+misnames system (lines.Chan first second) = not (has_root system first) || not (has_root system second)
+misnames system line = false
 
--- the rules 3 to 8, each by its number
+-- there is no room for the words, the root and its births, or one end more
+abbrev pub overfills : State → Line → Bool
+overfills state (lines.Words words) = not (fit_pages (length state.open_image.words + length words) state.open_image.pages)
+overfills state (lines.Root root image) = nat_lt 32 (places_with state.system root.births)
+overfills state (lines.Chan first second) = is_full state.system first || is_full state.system second
+overfills state line = false
+
+-- the rules 5 to 8, each by its number
+abbrev pub breaks_as : State → Line → Rule → Bool
+breaks_as state line Limit = not (keeps_limits state.system.clusters line)
+breaks_as state line Same = are_same line
+breaks_as state line Name = misnames state.system line
+breaks_as state line Room = overfills state line
+breaks_as state line rule = false
+
+-- the lowest of them that the line breaks
+abbrev pub lowest_of : State → Line → Option Rule
+lowest_of state line = find (breaks_as state line) (Limit ∷ Same ∷ Name ∷ Room ∷ [])
+
+-- ---- the rules 3 to 8
+
+-- a line is not read where it breaks rule 3 or else rule 4; the others are of what was read
+abbrev pub breaks_said : State → Result Line Rule → Rule → Bool
+breaks_said state (Ok line) rule = breaks_as state line rule
+breaks_said state (Err FieldCount) FieldCount = true
+breaks_said state (Err FieldCount) rule = false
+breaks_said state (Err broken) FieldKind = true
+breaks_said state (Err broken) rule = false
+
+-- the same of a keyword and the fields after it
 abbrev pub breaks_with : State → Keyword → List (List ℕ) → Rule → Bool
-breaks_with state keyword fields FieldCount = not (count_fits keyword fields)
-breaks_with state keyword fields FieldKind = not (each_field is_kind keyword fields)
-breaks_with state keyword fields Limit = not (each_field (keeps_limit state.system.clusters) keyword fields)
-breaks_with state keyword fields Same = breaks_same keyword fields
-breaks_with state keyword fields Name = breaks_name state.system keyword fields
-breaks_with state keyword fields Room = breaks_room state keyword fields
-breaks_with state keyword fields rule = false
+breaks_with state keyword fields rule = breaks_said state (line_of keyword fields) rule
 
 -- the same of a line whose first field may not stand here, or says this
 abbrev pub breaks_at : State → Option Keyword → List (List ℕ) → Rule → Bool
 breaks_at state None fields Misplaced = true
 breaks_at state None fields rule = false
+breaks_at state (Some keyword) fields Misplaced = false
 breaks_at state (Some keyword) fields rule = breaks_with state keyword fields rule
 
 -- the line, which stands outside assembler blocks, breaks the rule
@@ -156,58 +184,60 @@ lowest_with state keyword fields = find (breaks_with state keyword fields) (Fiel
 
 -- ---- what a line that breaks no rule adds
 
--- the cluster that a field stands for
-abbrev pub cluster_in : List ℕ → ClusterNo
-cluster_in field = record { 0 = number field }
-
--- the root of a line, of which the image is named by the fourth field
-abbrev pub root_in : System → List (List ℕ) → Root
-root_in system fields = record {
-  home = cluster_in (field_at 0 fields);
-  backup = cluster_in (field_at 1 fields);
-  mode = unwrap_or (mode_named (field_at 2 fields)) modes.Quarter;
-  image = unwrap_or (image_named system (field_at 3 fields)) 0;
-  limit = number (field_at 4 fields);
-  births = number (field_at 5 fields);
-  tty = number (field_at 6 fields);
-}
-
 -- the image that is open where none is
 abbrev pub no_image : Image
 no_image = record { name = []; pages = 0; words = [] }
-
--- the image of a block that begins, which has no words yet
-abbrev pub image_in : List (List ℕ) → Image
-image_in fields = record { name = field_at 0 fields; pages = number (field_at 1 fields); words = [] }
-
--- the words that fields stand for
-abbrev pub words_in : List (List ℕ) → List ℕ
-words_in fields = filter_map word_of fields
 
 -- the next stage, and what is known of the system there
 abbrev pub at : Stage → State → System → State
 at stage state system = record { stage = stage; system = system; open_image = state.open_image }
 
+-- the root of these fields, whose image has this place
+abbrev pub root_of : RootFields → (image : ℕ) → Root
+root_of root image = record {
+  home = record { 0 = root.home };
+  backup = record { 0 = root.backup };
+  mode = root.mode;
+  image = image;
+  limit = root.limit;
+  births = root.births;
+  tty = root.tty;
+}
+
+-- a root more, where its image is there
+abbrev pub with_root : State → RootFields → Option ℕ → State
+with_root state root None = state
+with_root state root (Some image) = at Roots state (record state.system { roots = state.system.roots ++ root_of root image ∷ [] })
+
 -- a block begins
-abbrev pub opened : State → List (List ℕ) → State
-opened state fields = record { stage = InImage; system = state.system; open_image = image_in fields }
+abbrev pub with_open : State → (name : List ℕ) → (pages : ℕ) → State
+with_open state name pages = record { stage = InImage; system = state.system; open_image = record { name = name; pages = pages; words = [] } }
 
 -- the block ends, and its image has these words
 abbrev pub closed : State → List ℕ → State
 closed state words = record { stage = Images; system = record state.system { images = state.system.images ++ record state.open_image { words = words } ∷ [] }; open_image = no_image }
 
+-- the state after the line
+abbrev pub add_line : State → Line → State
+add_line state (lines.Clusters count) = at AfterClusters state (record state.system { clusters = count })
+add_line state (lines.Pager first second) = at AfterPager state (record state.system { pager = (record { 0 = first }, record { 0 = second }) })
+add_line state (lines.Syncreads count) = at AfterSyncreads state (record state.system { syncreads = count })
+add_line state (lines.Syncsteps count) = at Images state (record state.system { syncsteps = count })
+add_line state (lines.Image name pages) = with_open state name pages
+add_line state (lines.Asm name pages) = with_open state name pages
+add_line state (lines.Words words) = record state { open_image = record state.open_image { words = state.open_image.words ++ words } }
+add_line state lines.End = closed state state.open_image.words
+add_line state (lines.Root root image) = with_root state root (image_named state.system image)
+add_line state (lines.Chan first second) = at Chans state (record state.system { chans = state.system.chans ++ (first, second) ∷ [] })
+
+-- a line that is not read adds nothing
+abbrev pub add_said : State → Result Line Rule → State
+add_said state (Ok line) = add_line state line
+add_said state (Err rule) = state
+
 -- the state after a line with this keyword and these fields after it
 abbrev pub add : State → Keyword → List (List ℕ) → State
-add state keywords.Clusters fields = at AfterClusters state (record state.system { clusters = number (field_at 0 fields) })
-add state keywords.Pager fields = at AfterPager state (record state.system { pager = (cluster_in (field_at 0 fields), cluster_in (field_at 1 fields)) })
-add state keywords.Syncreads fields = at AfterSyncreads state (record state.system { syncreads = number (field_at 0 fields) })
-add state keywords.Syncsteps fields = at Images state (record state.system { syncsteps = number (field_at 0 fields) })
-add state keywords.Image fields = opened state fields
-add state keywords.Asm fields = opened state fields
-add state keywords.Words fields = record state { open_image = record state.open_image { words = state.open_image.words ++ words_in fields } }
-add state keywords.End fields = closed state state.open_image.words
-add state keywords.Root fields = at Roots state (record state.system { roots = state.system.roots ++ root_in state.system fields ∷ [] })
-add state keywords.Chan fields = at Chans state (record state.system { chans = state.system.chans ++ (number (field_at 0 fields), number (field_at 1 fields)) ∷ [] })
+add state keyword fields = add_said state (line_of keyword fields)
 
 -- ---- what the rules have kept so far
 

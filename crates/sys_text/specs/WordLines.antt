@@ -5,13 +5,12 @@ use Rattle.text_parts.specs.Lines.{are_printable, fields_of}
 use Rattle.text_parts.specs.Numbers.{word_of}
 use Rattle.sys_text.specs.declared.stage.Stage.{Stage}
 use Rattle.sys_text.specs.declared.stage.Stage.TheVariants.{InImage}
-use Rattle.sys_text.specs.declared.stage.Kind.TheVariants.{Word}
 use Rattle.sys_text.specs.declared.refusal.Rule.{Rule}
 use Rattle.sys_text.specs.declared.refusal.Rule.TheVariants.{FieldCount, FieldKind, Room}
 use Rattle.sys_text.specs.declared.refusal.SystemRefused.{SystemRefused}
 use Rattle.sys_text.specs.declared.refusal.SystemRefused.TheVariants as refusals
 use Rattle.sys_text.specs.Refusal.{number_of_rule}
-use Rattle.sys_text.specs.Kinds.{is_kind}
+use Rattle.sys_text.specs.Line.{is_word_field}
 use Rattle.sys_text.specs.Rules.{fit_pages}
 
 -- the first field of the line is `words`, and these bytes stand after it
@@ -31,7 +30,7 @@ pub record FirstWord (line : List ℕ) (value : Option ℕ) (rest : List ℕ) : 
 abbrev pub lowest_of_words : (words pages : ℕ) → List (List ℕ) → Option Rule
 lowest_of_words words pages fields =
     if not (nat_le 1 (length fields)) then Some FieldCount
-    else (if not (list_all (is_kind Word) fields) then Some FieldKind
+    else (if not (list_all (is_word_field) fields) then Some FieldKind
     else (if not (fit_pages (words + length fields) pages) then Some Room else None))
 
 -- line n is refused by this rule

@@ -1,8 +1,8 @@
 //! What a line that breaks no rule adds.
 ghost use Rattle.std.specs.Prelude.{◌≡◌, ◌≤◌, OnOk};
-ghost use Rattle.sys_text.specs.Rules.{closed, no_image};
+ghost use Rattle.sys_text.specs.Rules.{no_image, root_of, with_open, closed, add_line};
 ghost use Rattle.sys_text.specs.Line.{said, Clusters, Pager, Syncreads, Syncsteps, Root as ARoot, Chan};
-ghost use Rattle.sys_text.specs.LineRules.{root_of, with_open, add_line, Fits, RootFits};
+ghost use Rattle.sys_text.specs.Numbers.{Fits, RootFits};
 ghost use Rattle.sys_text.specs.ImageNames.{KnowsImages};
 
 use crate::line::{Line, RootFields};

@@ -3,7 +3,7 @@ ghost use Rattle.std.specs.Prelude.{◌≡◌, ◌+◌, ◌≤◌, ◌<◌, ◌^
 ghost use Rattle.text_parts.specs.Lines.{lines_of, fields_of};
 ghost use Rattle.sys_text.specs.declared.stage.Keyword.TheVariants.{Words as WordsOf};
 ghost use Rattle.sys_text.specs.Rules.{HasRoom};
-ghost use Rattle.sys_text.specs.LineRules.{Starts};
+ghost use Rattle.sys_text.specs.Fronts.{Starts};
 ghost use Rattle.sys_text.specs.ImageNames.{KnowsImages};
 ghost use Rattle.sys_text.specs.Reading.{Outside, reading_from, reading_of, step_outside, is_asm, may_end, last_line, ended, nothing_yet};
 ghost use Rattle.sys_text.specs.declared.system.System.{System as Described};

@@ -1,9 +1,9 @@
 //! The rules that a line may break, by what the lines before it said.
 ghost use Rattle.std.specs.Prelude.{◌≡◌, ◌≤◌, ◌+◌, length, nat_lt, ◌&&◌, ◌||◌};
 ghost use Rattle.sys_text.specs.Valid.{births_of, is_within};
-ghost use Rattle.sys_text.specs.Rules.{may_stand, keyword_in, begins_comment, has_root, places_with, is_full, HasRoom};
+ghost use Rattle.sys_text.specs.Rules.{may_stand, keyword_in, begins_comment, has_root, places_with, is_full, keeps_limits, are_same, misnames, overfills, lowest_of, HasRoom};
 ghost use Rattle.sys_text.specs.Line.{said};
-ghost use Rattle.sys_text.specs.LineRules.{keeps_limits, are_same, misnames, overfills, lowest_of, IsFront};
+ghost use Rattle.sys_text.specs.Fronts.{IsFront};
 ghost use Rattle.sys_text.specs.ImageNames.{KnowsImages};
 
 use crate::kinds::keyword_named;

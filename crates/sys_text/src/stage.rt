@@ -30,17 +30,3 @@ pub enum Stage {
     Roots,
     Chans,
 }
-
-/// What a field is to be.
-#[derive(Clone, Copy)]
-pub enum Kind {
-    /// A number with its limits.
-    Number(u64, u64),
-    /// The number of a cluster.
-    Cluster,
-    /// Any number.
-    Any,
-    Name,
-    Word,
-    Mode,
-}

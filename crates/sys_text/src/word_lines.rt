@@ -3,7 +3,7 @@ ghost use Rattle.std.specs.Prelude.{◌≡◌, ◌++◌, [], take, None, OnOk, I
 ghost use Rattle.std.specs.List.{list_all};
 ghost use Rattle.std.specs.Str.{bytes_eq};
 ghost use Rattle.text_parts.specs.Lines.{fields_of, is_space};
-ghost use Rattle.sys_text.specs.Rules.{words_in};
+ghost use Rattle.sys_text.specs.Line.{words_in};
 ghost use Rattle.sys_text.specs.WordLines.{IsWordsLine, FirstWord, lowest_of_words, RefusesBy};
 
 use crate::refusal::{Rule, SystemRefused};

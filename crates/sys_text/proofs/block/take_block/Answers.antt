@@ -1,4 +1,4 @@
-use Rattle.std.proofs.Common.{◌≡◌, ◌+◌, [], None, rules, sym, ap, ◌∙◌}
+use Rattle.std.proofs.Common.{◌≡◌, ◌+◌, [], None, rules, ap, ◌∙◌}
 use Rattle.text_parts.specs.Lines.{lines_of}
 use Rattle.sys_text.specs.Reading.{lines_before_end, reading_from, goes_on}
 use Rattle.sys_text.proofs.Blocks.{no_end, block_read, refused_read}

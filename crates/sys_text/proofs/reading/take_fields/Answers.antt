@@ -1,9 +1,8 @@
-use Rattle.std.proofs.Common.{◌≡◌, Ok, Err, None, Some, sym, ap, ◌∙◌}
+use Rattle.std.proofs.Common.{Some, sym, ◌∙◌}
 use Rattle.text_parts.specs.Lines.{fields_of}
-use Rattle.sys_text.specs.Line.{line_of, said}
-use Rattle.sys_text.specs.LineRules.{lowest_of}
-use Rattle.sys_text.specs.Rules.{lowest_with}
-use Rattle.sys_text.proofs.Spelling.{agrees, rule_named, same_lowest}
+use Rattle.sys_text.specs.Line.{said}
+use Rattle.sys_text.proofs.Spelling.{rule_named}
+use Rattle.sys_text.proofs.Keeping.{lowest_read}
 use Rattle.sys_text.proofs.LineSteps.{fits, none_broken, kept_read, goes_on, refused_at}
 use Rattle.sys_text.proofs.Taking.{taken_keeps}
 use Rattle.sys_text.proofs.reading.take_fields.Goals as goal
@@ -13,29 +12,26 @@ add_line-requires-clause-numbers c = fits c.args.reader.now.state (said c.in-Ok.
 
 pub returns-in-Err-clause-step : goal.returns-in-Err-clause-step
 returns-in-Err-clause-step c =
-    let named = rule_named c.args.reader.now.state c.args.keyword (fields_of c.args.text.now) c.in-Err.rule c.requires.others (sym c.in-Err.ensures) in
+    let named = rule_named c.args.reader.now.state c.args.keyword (fields_of c.args.text.now) c.in-Err.rule (sym c.in-Err.ensures) in
     refused_at c.args.reader.now.state c.args.number c.args.line.now (Some c.in-Err.rule) c.refused.result (c.requires.starts.broken ∙ named) c.refused.ensures
 
 pub returns-in-Some-clause-step : goal.returns-in-Some-clause-step
 returns-in-Some-clause-step c =
-    let agree = agrees c.args.reader.now.state c.args.keyword (fields_of c.args.text.now) (said c.in-Ok.read) c.requires.others (sym c.in-Ok.ensures) in
-    let named = same_lowest c.args.reader.now.state c.args.keyword (fields_of c.args.text.now) (said c.in-Ok.read) agree ∙ sym c.in-Some.ensures in
+    let named = lowest_read c.args.reader.now.state c.args.keyword (fields_of c.args.text.now) (said c.in-Ok.read) (sym c.in-Ok.ensures) ∙ sym c.in-Some.ensures in
     refused_at c.args.reader.now.state c.args.number c.args.line.now (Some c.in-Some.rule) c.refused-in-Some.result (c.requires.starts.broken ∙ named) c.refused-in-Some.ensures
 
 pub returns-in_ok-add_line-in-None-clause-step : goal.returns-in_ok-add_line-in-None-clause-step
 returns-in_ok-add_line-in-None-clause-step c =
     let state = c.args.reader.now.state in
     let read = said c.in-Ok.read in
-    let agree = agrees state c.args.keyword (fields_of c.args.text.now) read c.requires.others (sym c.in-Ok.ensures) in
-    let none = none_broken state c.args.line.now c.args.keyword (fields_of c.args.text.now) read c.requires.starts agree (sym c.in-None.ensures) in
-    let kept = kept_read state c.add_line.new.reader.state c.args.line.now c.args.keyword (fields_of c.args.text.now) read c.opens_block.result c.requires.starts agree (sym c.in-None.ensures) c.in_ok-add_line-in-None.ensures.added c.opens_block.ensures in
+    let none = none_broken state c.args.line.now c.args.keyword (fields_of c.args.text.now) read c.requires.starts (sym c.in-Ok.ensures) (sym c.in-None.ensures) in
+    let kept = kept_read state c.add_line.new.reader.state c.args.line.now c.args.keyword (fields_of c.args.text.now) read c.opens_block.result c.requires.starts (sym c.in-Ok.ensures) c.in_ok-add_line-in-None.ensures.added c.opens_block.ensures in
     goes_on state c.add_line.new.reader.state c.args.number c.args.line.now c.opens_block.result none kept
 
 pub returns-in_ok-add_line-in-None-clause-room : goal.returns-in_ok-add_line-in-None-clause-room
 returns-in_ok-add_line-in-None-clause-room c =
     let state = c.args.reader.now.state in
     let read = said c.in-Ok.read in
-    let agree = agrees state c.args.keyword (fields_of c.args.text.now) read c.requires.others (sym c.in-Ok.ensures) in
-    let none = none_broken state c.args.line.now c.args.keyword (fields_of c.args.text.now) read c.requires.starts agree (sym c.in-None.ensures) in
-    let kept = kept_read state c.add_line.new.reader.state c.args.line.now c.args.keyword (fields_of c.args.text.now) read c.opens_block.result c.requires.starts agree (sym c.in-None.ensures) c.in_ok-add_line-in-None.ensures.added c.opens_block.ensures in
+    let none = none_broken state c.args.line.now c.args.keyword (fields_of c.args.text.now) read c.requires.starts (sym c.in-Ok.ensures) (sym c.in-None.ensures) in
+    let kept = kept_read state c.add_line.new.reader.state c.args.line.now c.args.keyword (fields_of c.args.text.now) read c.opens_block.result c.requires.starts (sym c.in-Ok.ensures) c.in_ok-add_line-in-None.ensures.added c.opens_block.ensures in
     taken_keeps state c.add_line.new.reader.state c.args.line.now c.opens_block.result none kept c.requires.room
