@@ -199,6 +199,7 @@ pub fn can_step(p: &Process) -> bool
 }
 
 /// Whether `step` would be the one by which the process ends. Takes no memory.
+#[inline(always)]
 pub fn exits_next(p: &Process) -> bool
     ensures { result ≡ is_exit (next_step (state_of p.now)) }
 {
