@@ -1,10 +1,11 @@
-use Rattle.std.proofs.Common.{ℕ, ◌≡◌, ◌+◌, ◌-◌, arith, sym, ◌∙◌, subst}
-use Rattle.sys_calls.specs.Next.{letter_taken}
+use Rattle.std.proofs.Common.{ℕ, ◌≡◌, ◌+◌, ◌-◌, arith, ap, sym, ◌∙◌, subst, Ok}
+use Rattle.sys_calls.specs.Next.{has_step, letter_taken}
 use Rattle.proc_state.specs.State.{state_of}
-use Rattle.quanta.specs.Quantum.{RunsOn}
+use Rattle.quanta.specs.declared.quantum.Ran.{Ran}
+use Rattle.quanta.specs.Quantum.{RunsOn, RunsRest}
 use Rattle.quanta.proofs.RunningOn.{one_more_on, run_on_more}
 use Rattle.quanta.proofs.Within.{step_within}
-use Rattle.quanta.proofs.Ending.{over_due, over_full}
+use Rattle.quanta.proofs.Ending.{none_left, over_due, over_full}
 use Rattle.quanta.proofs.quantum.run_rest.Goals as goal
 use Rattle.quanta.proofs.quantum.run_rest.Goals.{then-steps-test+else-not-due, else-steps-test}
 
@@ -39,3 +40,19 @@ returns-clause-runs c =
       | else-steps-test w ↦
           over_full c.args.limits c.args.before (c.steps.made - c.args.before) c.steps.made c.args.p.now c.steps.p made c.steps.invariant.runs c.steps.invariant.few (omega (arith, w.steps-test.false))
     ]
+
+pub returns-in-Ok-Blocked-clause-runs : goal.returns-in-Ok-Blocked-clause-runs
+returns-in-Ok-Blocked-clause-runs c =
+    let did = c.in-Ok-Blocked.ensures in
+    let made : c.steps.made ≡ c.args.before + (c.steps.made - c.args.before) = omega (arith, c.steps.invariant.from) in
+    subst (λ (r : Ran). RunsRest c.args.limits 64 c.args.before c.args.p.now (Ok r) c.make_step.new.p) (sym c.moved_or_stuck.ensures)
+    (none_left c.args.limits c.args.before (c.steps.made - c.args.before) c.steps.made c.args.p.now c.steps.p c.make_step.new.p made c.steps.invariant.runs c.steps.invariant.few c.steps.invariant.unmoved
+    (ap has_step (rw c.in-Ok-Blocked.field-0-is at did.makes).0) (rw c.in-Ok-Blocked.field-0-is at did.touches))
+
+pub returns-in-Ok-Over-clause-runs : goal.returns-in-Ok-Over-clause-runs
+returns-in-Ok-Over-clause-runs c =
+    let did = c.in-Ok-Over.ensures in
+    let made : c.steps.made ≡ c.args.before + (c.steps.made - c.args.before) = omega (arith, c.steps.invariant.from) in
+    subst (λ (r : Ran). RunsRest c.args.limits 64 c.args.before c.args.p.now (Ok r) c.make_step.new.p) (sym c.moved_or_stuck-in-Ok-Over.ensures)
+    (none_left c.args.limits c.args.before (c.steps.made - c.args.before) c.steps.made c.args.p.now c.steps.p c.make_step.new.p made c.steps.invariant.runs c.steps.invariant.few c.steps.invariant.unmoved
+    (ap has_step (rw c.in-Ok-Over.field-0-is at did.makes).0) (rw c.in-Ok-Over.field-0-is at did.touches))
