@@ -9,6 +9,7 @@ use t32_base::streams::NoMemory;
 
 /// Tells the family of an entry: a child that is born joins it, and one that synchronised or ended leaves it. After
 /// want of memory it is as it was.
+#[inline(always)]
 pub fn join(family: &mut Family, entry: &Entry) -> Result<(), NoMemory>
     requires { CanJoin (what entry.now) family.old }
     ensures ok { OnOk result (family.new ≡ family_after (what entry.now) family.old) }

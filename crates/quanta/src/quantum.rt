@@ -1,5 +1,9 @@
 //! A quantum of a process that runs, or the rest of one that it began otherwise.
 ghost use Rattle.std.specs.Prelude.{◌≡◌, ◌≤◌, ◌==◌, false, true, min, if◌then◌else◌};
+ghost use Rattle.proc_state.specs.State.{state_of};
+ghost use Rattle.sys_calls.specs.Next.{letter_taken, next_step, step_marks};
+ghost use Rattle.sys_calls.specs.Passing.{IsAtCall};
+ghost use Rattle.sys_calls.specs.Steps.{Makes, Marks, Shorter, Took, Touches, taken_by};
 ghost use Rattle.quanta.specs.Limited.{is_due, is_within, steps_until_due};
 ghost use Rattle.quanta.specs.Quantum.{RunsRest, RunsUp, TellsRefusal};
 
@@ -7,7 +11,7 @@ use crate::limits::Limits;
 use proc_state::process::Process;
 use std::alloc::Global;
 use sync_point::due::due;
-use sys_calls::stepping::{exits_next, run_instructions, step};
+use sys_calls::stepping::{exits_next, run_to_call, step, step_at_call};
 use sys_calls::steps::{Emission, Step};
 use t32_base::letter::Letter;
 use t32_base::streams::NoMemory;
@@ -43,13 +47,17 @@ pub fn run_rest(
     ensures runs { RunsRest limits 64 before p.old result p.new }
     ensures within { is_within limits p.old ≡ true → is_within limits p.new ≡ true }
 {
-    let mut made = run_up(p, limits, before);
+    let (mut made, mut calls) = run_up(p, limits, before);
     'steps: while made < MOST && !due(p, limits.reads, limits.steps) {
         if exits_next(p) {
             return Ok(Ran::Ends(made));
         }
-        match step(alloc, p) {
-            Ok(Step::Silent) => made = run_up(p, limits, made + 1),
+        match make_step(alloc, p, calls) {
+            Ok(Step::Silent) => {
+                let up = run_up(p, limits, made + 1);
+                made = up.0;
+                calls = up.1;
+            }
             Ok(Step::Emit(Emission::Mail(letter))) => return Ok(Ran::Sent(letter)),
             Ok(Step::Emit(Emission::Exit(_))) => unreachable!(),
             Ok(Step::Blocked) => return Ok(moved_or_stuck(made)),
@@ -62,12 +70,30 @@ pub fn run_rest(
 }
 
 // Makes the instructions up to a system call that a process may make after so many steps of a quantum, and answers how many steps
-// they are with those.
-fn run_up(p: &mut Process, limits: Limits, made: u32) -> u32
+// they are with those, and whether it stands at the call.
+fn run_up(p: &mut Process, limits: Limits, made: u32) -> (u32, bool)
     requires { made ≤ 64 }
-    ensures { RunsUp limits made p.old result p.new }
+    ensures runs { RunsUp limits made p.old result.0 p.new }
+    ensures calls { result.1 ≡ true → IsAtCall p.new }
 {
-    made + run_instructions(p, until_due(p, limits, MOST - made))
+    let (more, calls) = run_to_call(p, until_due(p, limits, MOST - made));
+    (made + more, calls)
+}
+
+// The next step of a process, which may be known to stand at a system call.
+fn make_step(alloc: Global, p: &mut Process, calls: bool) -> Result<Step, NoMemory>
+    requires { calls ≡ true → IsAtCall p.old }
+    ensures makes { Makes (next_step (state_of p.old)) result (state_of p.old) (state_of p.new) }
+    ensures marks { Marks result (step_marks (state_of p.old) p.old.ram.dirty) p.old.ram.dirty p.new.ram.dirty }
+    ensures count { Took (taken_by result (letter_taken (state_of p.old))) p.old p.new }
+    ensures shorter { Shorter result p.old.small p.new.small }
+    ensures touches { Touches result p.old p.new }
+{
+    if calls {
+        step_at_call(alloc, p)
+    } else {
+        step(alloc, p)
+    }
 }
 
 // How many steps that read no letter a process may make until it is due, and at most so many.

@@ -1,5 +1,5 @@
 -- What a process that runs on comes to: silent steps, and what comes after them.
-use Rattle.std.proofs.Common.{◌≡◌, ℕ, suc, ◌+◌, ◌<◌, ◌≤◌, sym, ◌∙◌, ap, subst, arith, Bool, true, false, Some, Result, Ok, Err}
+use Rattle.std.proofs.Common.{◌≡◌, ℕ, suc, ◌+◌, ◌-◌, ◌<◌, ◌≤◌, sym, ◌∙◌, ap, subst, arith, Bool, true, false, Some, Result, Ok, Err}
 use Rattle.std.specs.Prelude.{IfOk}
 use Rattle.proc_state.specs.declared.process.Process.{Process}
 use Rattle.proc_state.specs.State.{state_of, with_small}
@@ -15,7 +15,8 @@ use Rattle.sys_calls.specs.declared.stepping.Passed.{Passed}
 use Rattle.sys_calls.specs.declared.stepping.Passed.TheVariants.{Silently, Waiting, Calling, Leaving}
 use Rattle.t32_base.specs.declared.streams.NoMemory.{NoMemory}
 use Rattle.sys_calls.specs.Calls.{call_of, called, read_call, reading_of}
-use Rattle.sys_calls.specs.Next.{live_step, next_step, silently, step_by}
+use Rattle.t32_base.specs.Small.{SmallState}
+use Rattle.sys_calls.specs.Next.{letter_by, letter_live, letter_taken, live_step, marks_by, marks_live, next_step, silently, step_by, step_marks}
 use Rattle.sys_calls.specs.Passing.{IsAtCall, Passes, PassesCall, Went}
 use Rattle.sys_calls.specs.Small.{after_instructions, spent, weight}
 use Rattle.sys_calls.specs.Steps.{is_silent, was_silent, Makes, RunsOn, Shorter, Touches, step_of_read}
@@ -104,6 +105,24 @@ pub stands : (p mid : Process) (n most : ℕ) (did : Did) → (p.small).status �
 stands p mid n most did live made most_is small stops all is =
     let below = some_left n most made (λ spent. not_stepped did is (all spent)) in
     (left_some n most p.small mid.small _ small most_is below, live_still n p.small mid.small _ small live, subst (λ d. Stops (exec (mid.small).regs (mid.ram).bytes) d) is (stops below))
+
+-- so it is where it makes fewer than it has left
+pub stands_within : (p mid : Process) (n most : ℕ) (did : Did) → (p.small).status ≡ Live → n ≤ most → most ≤ (p.small).left → mid.small ≡ after_instructions n p.small (mid.small).regs
+    → (n < most → Stops (exec (mid.small).regs (mid.ram).bytes) did) → (most ≤ n → did ≡ Stepped) → did ≡ Call → IsAtCall mid
+stands_within p mid n most did live made within small stops all is =
+    let below : n < most = some_left n most made (λ spent. not_stepped did is (all spent)) in
+    let left : (mid.small).left ≡ (p.small).left - n = ap (λ (s : SmallState). s.left) small in
+    (omega (arith, left, below, within), live_still n p.small mid.small _ small live, subst (λ d. Stops (exec (mid.small).regs (mid.ram).bytes) d) is (stops below))
+
+-- the next step of a live process with an instruction left, what it marks and the letter that it takes
+pub call_by : (p : Process) → IsAtCall p → next_step (state_of p) ≡ live_step false (state_of p)
+call_by p at = ap (λ s. step_by s (state_of p)) at.1 ∙ ap (λ b. live_step b (state_of p)) (not_none (p.small).left at.0)
+
+pub call_marks : (p : Process) → IsAtCall p → step_marks (state_of p) (p.ram).dirty ≡ marks_live false (state_of p) (p.ram).dirty
+call_marks p at = ap (λ s. marks_by s (state_of p) (p.ram).dirty) at.1 ∙ ap (λ b. marks_live b (state_of p) (p.ram).dirty) (not_none (p.small).left at.0)
+
+pub call_letter : (p : Process) → IsAtCall p → letter_taken (state_of p) ≡ letter_live false (state_of p)
+call_letter p at = ap (λ s. letter_by s (state_of p)) at.1 ∙ ap (λ b. letter_live b (state_of p)) (not_none (p.small).left at.0)
 
 pub went_by : (p mid : Process) (n most : ℕ) → (p.small).status ≡ Live → n ≤ most → most ≡ (p.small).left → ran n (machine_of (p.small).regs p.ram) ≡ Some (machine_of (mid.small).regs mid.ram)
     → mid.small ≡ after_instructions n p.small (mid.small).regs → mid.mail ≡ p.mail → weight mid.small + n ≡ weight p.small → Went p mid

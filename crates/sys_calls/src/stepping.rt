@@ -51,11 +51,43 @@ pub fn run_instructions(p: &mut Process, most: u32) -> u32
     ensures mail { p.new.mail ≡ p.old.mail }
     ensures count { SameCount p.old p.new }
 {
+    run_to_call(p, most).0
+}
+
+/// The same, and whether the process then stands at a system call for which it has an instruction left.
+pub fn run_to_call(p: &mut Process, most: u32) -> (u32, bool)
+    ensures made { result.0 ≤ most }
+    ensures silent { silently_marked result.0 (marked p.old) ≡ Some (marked p.new) }
+    ensures shorter { (weight p.new.small + result.0 ≡ weight p.old.small) × (p.new.small.steps ≡ p.old.small.steps + result.0) }
+    ensures mail { p.new.mail ≡ p.old.mail }
+    ensures count { SameCount p.old p.new }
+    ensures calls { result.1 ≡ true → IsAtCall p.new }
+{
     if !is_live(&p.small) {
-        return 0;
+        return (0, false);
     }
     let most = at_most(&p.small, most);
-    instructions(&mut p.small, &mut p.ram, most).0
+    let (made, did) = instructions(&mut p.small, &mut p.ram, most);
+    (made, is_call(did))
+}
+
+// Whether an instruction is a system call.
+fn is_call(did: Did) -> bool
+    ensures { result ≡ true → did ≡ Did.Call }
+{
+    matches!(did, Did::Call)
+}
+
+/// The step of a process that stands at a system call, as `step` makes it, but that it is not looked for anew.
+pub fn step_at_call(alloc: Global, p: &mut Process) -> Result<Step, NoMemory>
+    requires { IsAtCall p.old }
+    ensures makes { Makes (next_step (state_of p.old)) result (state_of p.old) (state_of p.new) }
+    ensures marks { Marks result (step_marks (state_of p.old) p.old.ram.dirty) p.old.ram.dirty p.new.ram.dirty }
+    ensures count { Took (taken_by result (letter_taken (state_of p.old))) p.old p.new }
+    ensures shorter { Shorter result p.old.small p.new.small }
+    ensures touches { Touches result p.old p.new }
+{
+    stopped(alloc, p, Did::Call)
 }
 
 // At most so many instructions of a live process; and what the one did that was tried last.
@@ -199,6 +231,7 @@ pub fn can_step(p: &Process) -> bool
 }
 
 /// Whether `step` would be the one by which the process ends. Takes no memory.
+#[inline(always)]
 pub fn exits_next(p: &Process) -> bool
     ensures { result ≡ is_exit (next_step (state_of p.now)) }
 {

@@ -9,10 +9,10 @@ use Rattle.quanta.proofs.RunningOn.{instructions_on}
 use Rattle.quanta.proofs.Within.{steps_within}
 use Rattle.quanta.proofs.quantum.run_up.Goals as goal
 
-pub returns : goal.returns
-returns c =
-    let more = c.run_instructions.result in
-    let ran = c.run_instructions.ensures in
+pub returns-clause-runs : goal.returns-clause-runs
+returns-clause-runs c =
+    let more = c.run_to_call-more.result.0 in
+    let ran = c.run_to_call-more.ensures in
     let same : c.args.made + more - c.args.made ≡ more = omega arith in
     let left = steps_until_due c.args.limits c.args.p.now in
     let room : min (64 - c.args.made) left ≤ 64 - c.args.made = min-le_left (64 - c.args.made) left in
@@ -22,8 +22,8 @@ returns c =
     let undue : more ≤ left = omega (arith, ran.made, most, due) in
     record {
       from = omega arith;
-      runs = subst (λ n. RunsOn n c.args.p.now c.run_instructions.new.p) (sym same) (instructions_on more c.args.p.now c.run_instructions.new.p ran.silent ran.mail ran.count);
+      runs = subst (λ n. RunsOn n c.args.p.now c.run_to_call-more.new.p) (sym same) (instructions_on more c.args.p.now c.run_to_call-more.new.p ran.silent ran.mail ran.count);
       few = omega (arith, few, c.requires);
-      unmoved = λ none. unmoved c.args.p.now c.run_instructions.new.p (ap (λ m. silently_marked m (marked c.args.p.now)) (sym (sym same ∙ none)) ∙ ran.silent) ran.count;
-      within = steps_within c.args.limits more c.args.p.now c.run_instructions.new.p undue ran.count ran.shorter.1;
+      unmoved = λ none. unmoved c.args.p.now c.run_to_call-more.new.p (ap (λ m. silently_marked m (marked c.args.p.now)) (sym (sym same ∙ none)) ∙ ran.silent) ran.count;
+      within = steps_within c.args.limits more c.args.p.now c.run_to_call-more.new.p undue ran.count ran.shorter.1;
     }
