@@ -4,51 +4,81 @@ use std::alloc::Global;
 use std::test::Fail;
 use t32_base::process::Pid;
 use t32_base::streams::NoMemory;
+use test_asserts::same;
+
+fn add_birth(family: &mut Family, parent: Pid, child: Pid) -> Result<(), NoMemory> {
+    if child.0 != parent.0 && !family.knows(child) {
+        family.born(parent, child)?;
+    }
+    Ok(())
+}
+
+fn add_births(family: &mut Family, births: &[(u32, u32)]) -> Result<(), NoMemory> {
+    for birth in births {
+        add_birth(family, Pid(birth.0), Pid(birth.1))?;
+    }
+    Ok(())
+}
 
 // The family of these births, each a parent and its child.
 fn family_of(alloc: Global, births: &[(u32, u32)]) -> Result<Family, NoMemory> {
     let mut family = Family::none(alloc);
-    for (parent, child) in births {
-        let parent = Pid(*parent);
-        let child = Pid(*child);
-        if child.0 != parent.0 && !family.knows(child) {
-            family.born(parent, child)?;
-        }
-    }
+    add_births(&mut family, births)?;
     Ok(family)
+}
+
+// Whether a process has a child that never synchronised, and which is first.
+type Next = (bool, Option<Pid>);
+
+fn next_of(family: &Family, parent: u32) -> Next {
+    let parent = Pid(parent);
+    (family.has_unsynced(parent), family.first_unsynced(parent))
+}
+
+// The births, and the children that go, in the order in which they come first.
+static BIRTHS: [(u32, u32); 7] = [
+    (16, 48),
+    (16, 32),
+    (32, 80),
+    (80, 64),
+    (48, 96),
+    (17, 18),
+    (16, 33),
+];
+
+static ORDER: [u32; 6] = [64, 80, 32, 33, 96, 48];
+
+fn go_in_order(family: &mut Family) -> Result<(), Fail> {
+    for pid in ORDER.iter() {
+        let first = Pid(*pid);
+        same("the first", &next_of(family, 16), &(true, Some(first)))?;
+        family.gone(first);
+    }
+    Ok(())
 }
 
 #[test]
 fn children_of_children_are_first_and_of_children_the_lowest(rt: HostRuntime) -> Result<(), Fail> {
-    let births = [
-        (16, 48),
-        (16, 32),
-        (32, 80),
-        (80, 64),
-        (48, 96),
-        (17, 18),
-        (16, 33),
-    ];
-    let mut family = family_of(rt.alloc(), &births)?;
-    for pid in [64, 80, 32, 33, 96, 48] {
-        assert!(rt; family.has_unsynced(Pid(16)));
-        assert_eq!(rt; family.first_unsynced(Pid(16)), Some(Pid(pid)));
-        family.gone(Pid(pid));
-    }
-    assert!(rt; !family.has_unsynced(Pid(16)));
-    assert_eq!(rt; family.first_unsynced(Pid(16)), None);
-    assert_eq!(rt; family.first_unsynced(Pid(17)), Some(Pid(18)));
-    Ok(())
+    let mut family = family_of(rt.alloc(), &BIRTHS)?;
+    go_in_order(&mut family)?;
+    same(
+        "the first of 16 and of 17",
+        &(next_of(&family, 16), next_of(&family, 17)),
+        &((false, None), (true, Some(Pid(18)))),
+    )
 }
 
 #[test]
 fn a_child_that_ends_leaves_its_own_children(rt: HostRuntime) -> Result<(), Fail> {
     let mut family = family_of(rt.alloc(), &[(16, 32), (32, 48)])?;
     family.gone(Pid(32));
-    assert!(rt; !family.has_unsynced(Pid(16)));
-    assert_eq!(rt; family.first_unsynced(Pid(16)), None);
-    assert!(rt; family.knows(Pid(32)));
-    assert!(rt; family.has_unsynced(Pid(32)));
-    assert_eq!(rt; family.first_unsynced(Pid(32)), Some(Pid(48)));
-    Ok(())
+    same(
+        "the first of 16 and of 32, and whether 32 is known",
+        &(
+            next_of(&family, 16),
+            next_of(&family, 32),
+            family.knows(Pid(32)),
+        ),
+        &((false, None), (true, Some(Pid(48))), true),
+    )
 }

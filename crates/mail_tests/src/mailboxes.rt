@@ -5,6 +5,7 @@ use std::test::Fail;
 use t32_base::letter::{Arrived, Body, Letter, To};
 use t32_base::process::{EndState, Pid};
 use t32_base::streams::NoMemory;
+use test_asserts::same;
 
 fn letter(to: To) -> Letter {
     Letter {
@@ -22,14 +23,25 @@ fn receive(mailbox: &mut Mailbox, to: To) -> Result<(), NoMemory> {
     mailbox.receive(letter(to))
 }
 
-// A mailbox with a letter for each of these ends of the process 16.
+// A letter comes for each of these ends of the process 16.
+fn receive_for(mailbox: &mut Mailbox, ends: &[u8]) -> Result<(), NoMemory> {
+    for end in ends {
+        receive(mailbox, To::Proc(Pid(16), *end))?;
+    }
+    Ok(())
+}
+
 fn mailbox_of(alloc: Global, ends: &[u8]) -> Result<Mailbox, NoMemory> {
     let mut mailbox = Mailbox::new(alloc);
-    for end in ends {
-        receive(&mut mailbox, To::Proc(Pid(16), *end))?;
-    }
+    receive_for(&mut mailbox, ends)?;
     Ok(mailbox)
 }
+
+const LINKED: EndState = EndState::Linked {
+    peer: Pid(17),
+    far: 1,
+    finished: false,
+};
 
 // The ends of a process of which these are linked, end 0 is a terminal and end 3, if not linked, is shut.
 fn ends_with(linked: &[u8]) -> [EndState; 32] {
@@ -38,91 +50,181 @@ fn ends_with(linked: &[u8]) -> [EndState; 32] {
     ends[3] = EndState::Shut;
     for number in linked {
         if let Some(end) = ends.get_mut(usize::from(*number)) {
-            *end = EndState::Linked {
-                peer: Pid(17),
-                far: 1,
-                finished: false,
-            };
+            *end = LINKED;
         }
     }
     ends
 }
 
-fn number_seen(arrived: Option<&Arrived>) -> Option<u64> {
-    Some(arrived?.number)
+// The numbers of letters: of the first for an end, or for a linked one; and of those that are taken out.
+fn first_on(mailbox: &Mailbox, end: u8) -> Option<u64> {
+    Some(mailbox.first_on(end)?.number)
+}
+
+fn first_linked(mailbox: &Mailbox, ends: &[EndState; 32]) -> Option<u64> {
+    Some(mailbox.first_linked(ends)?.number)
 }
 
 fn number_of(arrived: Option<Arrived>) -> Option<u64> {
     Some(arrived?.number)
 }
 
+fn take_on(mailbox: &mut Mailbox, end: u8) -> Option<u64> {
+    number_of(mailbox.take_on(end))
+}
+
+fn take_linked(mailbox: &mut Mailbox, ends: &[EndState; 32]) -> Option<u64> {
+    number_of(mailbox.take_linked(ends))
+}
+
+// The first letter for end 1, and three takes from it; the first for a linked end, and a take from one.
+type Early = ([Option<u64>; 4], [Option<u64>; 2]);
+
+fn read_early(mailbox: &mut Mailbox, linked: &[EndState; 32]) -> Early {
+    let on_one = [
+        first_on(mailbox, 1),
+        take_on(mailbox, 1),
+        take_on(mailbox, 1),
+        take_on(mailbox, 1),
+    ];
+    (
+        on_one,
+        [first_linked(mailbox, linked), take_linked(mailbox, linked)],
+    )
+}
+
+// The letters are counted on; one for a terminal is on end 0.
+fn receive_late(mailbox: &mut Mailbox) -> Result<(), NoMemory> {
+    receive(mailbox, To::Tty(7))?;
+    receive(mailbox, To::Proc(Pid(16), 5))
+}
+
+// Three takes from linked ends and one from end 0, and how many letters are left then.
+fn read_late(mailbox: &mut Mailbox, linked: &[EndState; 32]) -> ([Option<u64>; 4], usize) {
+    let taken = [
+        take_linked(mailbox, linked),
+        take_linked(mailbox, linked),
+        take_linked(mailbox, linked),
+        take_on(mailbox, 0),
+    ];
+    (taken, mailbox.len())
+}
+
+// A take from end 200, whether no letter is left then, and the number of the next one.
+fn read_last(mailbox: &mut Mailbox) -> (Option<u64>, bool, u64) {
+    let taken = take_on(mailbox, 200);
+    (taken, mailbox.is_empty(), mailbox.next())
+}
+
+type Read = (Early, ([Option<u64>; 4], usize), (Option<u64>, bool, u64));
+
+fn read_all(mailbox: &mut Mailbox) -> Result<Read, NoMemory> {
+    let linked = ends_with(&[2, 5]);
+    let early = read_early(mailbox, &linked);
+    receive_late(mailbox)?;
+    let late = read_late(mailbox, &linked);
+    Ok((early, late, read_last(mailbox)))
+}
+
+const EARLY: Early = ([Some(0), Some(0), Some(2), None], [Some(1), Some(1)]);
+
 #[test]
 fn letters_are_read_by_end_in_order_of_arrival(rt: HostRuntime) -> Result<(), Fail> {
     let mut mailbox = mailbox_of(rt.alloc(), &[1, 2, 1, 200, 2])?;
-    let linked = ends_with(&[2, 5]);
-    assert_eq!(rt; number_seen(mailbox.first_on(1)), Some(0));
-    assert_eq!(rt; number_of(mailbox.take_on(1)), Some(0));
-    assert_eq!(rt; number_of(mailbox.take_on(1)), Some(2));
-    assert_eq!(rt; number_of(mailbox.take_on(1)), None);
-    assert_eq!(rt; number_seen(mailbox.first_linked(&linked)), Some(1));
-    assert_eq!(rt; number_of(mailbox.take_linked(&linked)), Some(1));
-    // The letters are counted on; one for a terminal is on end 0.
-    receive(&mut mailbox, To::Tty(7))?;
-    receive(&mut mailbox, To::Proc(Pid(16), 5))?;
-    assert_eq!(rt; number_of(mailbox.take_linked(&linked)), Some(4));
-    assert_eq!(rt; number_of(mailbox.take_linked(&linked)), Some(6));
-    assert_eq!(rt; number_of(mailbox.take_linked(&linked)), None);
-    assert_eq!(rt; number_of(mailbox.take_on(0)), Some(5));
-    assert_eq!(rt; mailbox.len(), 1);
-    assert_eq!(rt; number_of(mailbox.take_on(200)), Some(3));
-    assert!(rt; mailbox.is_empty());
-    assert_eq!(rt; mailbox.next(), 7);
-    Ok(())
+    let late = ([Some(4), Some(6), None, Some(5)], 1);
+    same(
+        "the letters",
+        &read_all(&mut mailbox)?,
+        &(EARLY, late, (Some(3), true, 7)),
+    )
 }
+
+// Whether the letters that are taken from linked ends have just these numbers, in this order.
+fn gives(mailbox: &mut Mailbox, ends: &[EndState; 32], numbers: &[u64]) -> bool {
+    for number in numbers {
+        if take_linked(mailbox, ends) != Some(*number) {
+            return false;
+        }
+    }
+    take_linked(mailbox, ends).is_none()
+}
+
+fn gives_linked(alloc: Global, linked: &[u8], numbers: &[u64]) -> Result<bool, NoMemory> {
+    let ends = ends_with(linked);
+    let mut mailbox = mailbox_of(alloc, &[3, 1, 2, 1, 31, 0, 2, 32])?;
+    Ok(gives(&mut mailbox, &ends, numbers))
+}
+
+// The linked ends, and the numbers of the letters that are taken, one after the other.
+static TAKEN: [(&[u8], &[u64]); 7] = [
+    (&[1, 2, 3, 31], &[0, 1, 2, 3, 4, 6]),
+    (&[31, 2, 1], &[1, 2, 3, 4, 6]),
+    (&[1], &[1, 3]),
+    (&[2, 31], &[2, 4, 6]),
+    (&[31, 30], &[4]),
+    (&[4], &[]),
+    (&[], &[]),
+];
 
 #[test]
 fn the_first_letter_of_several_linked_ends_is_taken(rt: HostRuntime) -> Result<(), Fail> {
-    // The linked ends, and the numbers of the letters that are taken, one after the other.
-    let none: [u64; 0] = [];
-    let cases: [(&[u8], &[u64]); 7] = [
-        (&[1, 2, 3, 31], &[0, 1, 2, 3, 4, 6]),
-        (&[31, 2, 1], &[1, 2, 3, 4, 6]),
-        (&[1], &[1, 3]),
-        (&[2, 31], &[2, 4, 6]),
-        (&[31, 30], &[4]),
-        (&[4], &none),
-        (&[], &none),
-    ];
-    for (linked, numbers) in cases {
-        let mut mailbox = mailbox_of(rt.alloc(), &[3, 1, 2, 1, 31, 0, 2, 32])?;
-        let ends = ends_with(linked);
-        for number in numbers {
-            assert_eq!(rt; number_of(mailbox.take_linked(&ends)), Some(*number));
-        }
-        assert_eq!(rt; number_of(mailbox.take_linked(&ends)), None);
+    for row in TAKEN.iter() {
+        let shown = gives_linked(rt.alloc(), row.0, row.1)?;
+        same("whether it gives these", &(row.1, shown), &(row.1, true))?;
     }
     Ok(())
+}
+
+static TWENTY: [u8; 20] = [
+    1, 2, 3, 4, 5, 6, 7, 8, 9, 10, 11, 12, 13, 14, 15, 16, 17, 18, 19, 20,
+];
+
+fn receive_many(mailbox: &mut Mailbox) -> Result<(), NoMemory> {
+    for _ in 0..5000 {
+        receive_for(mailbox, &TWENTY)?;
+    }
+    Ok(())
+}
+
+// The first of 50 000 numbers that is not that of the letter taken.
+fn first_wrong(mailbox: &mut Mailbox) -> Option<u64> {
+    let all = ends_with(&TWENTY);
+    for number in 0..50_000 {
+        if take_linked(mailbox, &all) != Some(number) {
+            return Some(number);
+        }
+    }
+    None
+}
+
+// Whether each of the twenty ends has a letter, which is taken.
+fn takes_each(mailbox: &mut Mailbox) -> bool {
+    for end in TWENTY.iter() {
+        if take_on(mailbox, *end).is_none() {
+            return false;
+        }
+    }
+    true
+}
+
+fn takes_rest(mailbox: &mut Mailbox) -> bool {
+    for _ in 0..2500 {
+        if !takes_each(mailbox) {
+            return false;
+        }
+    }
+    true
 }
 
 #[test]
 fn many_letters_are_read_in_time_linear_in_them(rt: HostRuntime) -> Result<(), Fail> {
     let mut mailbox = Mailbox::new(rt.alloc());
-    let all = ends_with(&[
-        1, 2, 3, 4, 5, 6, 7, 8, 9, 10, 11, 12, 13, 14, 15, 16, 17, 18, 19, 20,
-    ]);
-    for _ in 0..5000 {
-        for end in 1..=20 {
-            receive(&mut mailbox, To::Proc(Pid(16), end))?;
-        }
-    }
-    for number in 0..50_000 {
-        assert_eq!(rt; number_of(mailbox.take_linked(&all)), Some(number));
-    }
-    for _ in 0..2500 {
-        for end in 1..=20 {
-            assert!(rt; mailbox.take_on(end).is_some());
-        }
-    }
-    assert!(rt; mailbox.is_empty());
-    Ok(())
+    receive_many(&mut mailbox)?;
+    let wrong = first_wrong(&mut mailbox);
+    let rest = takes_rest(&mut mailbox);
+    same(
+        "the first half, the rest, and whether none is left",
+        &(wrong, rest, mailbox.is_empty()),
+        &(None, true, true),
+    )
 }
