@@ -152,7 +152,17 @@ fn take_in(cert: &mut Cert, places: &mut Placement, entry: &Entry) -> Result<(),
             }
             Ok(())
         }
-        _ => take_in_other(cert, places, entry),
+        What::Mail { .. }
+        | What::Exit { .. }
+        | What::Page { .. }
+        | What::Sync { .. }
+        | What::Fetch { .. }
+        | What::PageIs { .. }
+        | What::Crash { .. }
+        | What::Return { .. }
+        | What::Rebackup { .. }
+        | What::Done { .. }
+        | What::Stop => take_in_other(cert, places, entry),
     }
 }
 
