@@ -1,8 +1,7 @@
 //! The fetches that wait, in the order in which they came.
 ghost use Rattle.std.specs.Prelude.{◌≡◌, [], ◌∷◌, ◌++◌, OnOk, OnErr, Some, true, false, slice_get};
-ghost use Rattle.std.specs.BTreeMap.{get};
-ghost use Rattle.std.specs.Ordering.{nat_cmp};
 ghost use Rattle.page_server.specs.Account.{fetches_without, fetches_but};
+ghost use Rattle.page_server.specs.Fetches.{notes_without};
 
 use std::alloc::Global;
 use std::collections::{BTreeMap, VecDeque};
@@ -10,12 +9,13 @@ use std::marker::Model;
 use t32_base::process::Pid;
 use t32_base::streams::NoMemory;
 
-/// The fetches that wait, the earliest first. Each process that has one is noted, with false as long as it
-/// was one at a time: the answer to the earliest fetch then need not look for another of its page.
+/// The fetches that wait, the earliest first. Each page that is fetched is noted by its process and number,
+/// with false where it was fetched once: the answer to the earliest fetch then need not look for another of
+/// its page.
 #[derive(Drop)]
 pub struct Fetches {
     waiting: VecDeque<(Pid, u16)>,
-    notes: BTreeMap<u32, bool>,
+    notes: BTreeMap<(u32, u16), bool>,
 }
 
 impl Model for Fetches {
@@ -46,8 +46,8 @@ impl Fetches {
         ensures ok { OnOk result (self.new ≡ self.old ++ (pid, i) ∷ []) }
         ensures err { OnErr result (self.new ≡ self.old) }
     {
-        let again = self.notes.contains_key(&pid.0);
-        self.notes.insert(pid.0, again)?;
+        let again = self.notes.contains_key(&(pid.0, i));
+        self.notes.insert((pid.0, i), again)?;
         self.waiting.push_back((pid, i))?;
         Ok(())
     }
@@ -63,9 +63,9 @@ impl Fetches {
     pub fn drop_page(&mut self, pid: Pid, i: u16)
         ensures { self.new ≡ fetches_but pid i self.old }
     {
-        if is_first_alone(&self.waiting, &self.notes, pid, i) {
+        let note = self.notes.remove(&(pid.0, i));
+        if is_first_alone(&self.waiting, note, pid, i) {
             self.waiting.pop_front();
-            self.notes.remove(&pid.0);
         } else {
             drop_fetch(&mut self.waiting, pid, i);
         }
@@ -75,23 +75,17 @@ impl Fetches {
     pub fn drop_process(&mut self, pid: Pid)
         ensures { self.new ≡ fetches_without pid self.old }
     {
-        if self.notes.remove(&pid.0).is_some() {
-            drop_fetches(&mut self.waiting, pid);
-        }
+        drop_fetches(&mut self.waiting, pid);
+        drop_notes(&mut self.notes, pid);
     }
 }
 
-// Whether the earliest fetch is one of this page, and no other of its process waits.
-fn is_first_alone(
-    waiting: &VecDeque<(Pid, u16)>,
-    notes: &BTreeMap<u32, bool>,
-    pid: Pid,
-    i: u16,
-) -> bool
+// Whether the earliest fetch is one of this page, and by its note no other of the page waits.
+fn is_first_alone(waiting: &VecDeque<(Pid, u16)>, note: Option<bool>, pid: Pid, i: u16) -> bool
     ensures first { result ≡ true → slice_get waiting.now.items 0 ≡ Some (pid, i) }
-    ensures alone { result ≡ true → get nat_cmp notes.now pid.0 ≡ Some false }
+    ensures alone { result ≡ true → note ≡ Some false }
 {
-    match (waiting.front(), notes.get(&pid.0)) {
+    match (waiting.front(), note) {
         (Some(first), Some(false)) => first.0.0 == pid.0 && first.1 == i,
         _ => false,
     }
@@ -102,6 +96,13 @@ fn drop_fetches(fetches: &mut VecDeque<(Pid, u16)>, pid: Pid)
     ensures { fetches.new.items ≡ fetches_without pid fetches.old.items }
 {
     fetches.retain(|fetch| fetch.0.0 != pid.0);
+}
+
+// Drops the notes of the pages of a process.
+fn drop_notes(notes: &mut BTreeMap<(u32, u16), bool>, pid: Pid)
+    ensures { notes.new.entries ≡ notes_without pid notes.old.entries }
+{
+    notes.retain(|page, _| page.0 != pid.0);
 }
 
 // Drops the fetches of a page.
