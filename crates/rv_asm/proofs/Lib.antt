@@ -11,4 +11,6 @@ pub mod WordFields
 pub mod Refusing
 pub mod PartedTables
 pub mod NumberedNames
+pub mod CleanTexts
+mod ParsedTexts
 mod ParsedLines

@@ -4,6 +4,7 @@ pub mod FirstByte
 pub mod Registers
 pub mod Forms
 pub mod Line
+pub mod Clean
 pub mod Number
 pub mod Instructions
 pub mod Quoted

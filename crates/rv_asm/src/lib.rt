@@ -1,6 +1,7 @@
 //! The assembler for RV32I, and words as a text.
 #![tactic(auto)]
 
+mod clean;
 mod form;
 mod instruction;
 mod labels;

@@ -1,7 +1,8 @@
 //! A line by itself.
-ghost use Rattle.std.specs.Prelude.{◌≡◌, IfOk};
+ghost use Rattle.std.specs.Prelude.{◌≡◌, true, IfOk};
 ghost use Rattle.std.specs.Result.{ForOk};
 ghost use Rattle.std.specs.Option.{option_copied};
+ghost use Rattle.text_parts.specs.Lines.{are_printable};
 ghost use Rattle.rv_asm.specs.Line.{label_of};
 ghost use Rattle.rv_asm.specs.View.{seen, seen_result, FieldsFit};
 ghost use Rattle.rv_asm.specs.Labels.{own_code, code_or_nothing, if_label, defined_in, size_of};
@@ -11,6 +12,7 @@ use crate::line::{cut_line, is_label};
 use crate::quoted::text_len;
 use crate::refusal::Rule;
 use crate::statement::{Statement, read_statement};
+use text_parts::are_printable;
 
 /// A line and what stands in it.
 #[derive(Clone, Copy)]
@@ -19,16 +21,28 @@ pub struct Parsed<'a> {
     /// The label that the line defines: what stands before the colon, if it is well formed.
     pub defines: Option<&'a [u8]>,
     pub has_bad_label: bool,
+    /// Each byte of the line is one from 0x20 to 0x7E.
+    pub is_printable: bool,
     /// The statement, or which of the rules on its form it breaks.
     pub statement: Result<Statement<'a>, Rule>,
     pub ghost defines_is: { option_copied defines ≡ defined_in line.now },
+    pub ghost printable_is: { is_printable ≡ are_printable line.now },
     pub ghost bad_label_is: { has_bad_label ≡ bad_label (label_of line.now) },
     pub ghost statement_is: { seen_result statement ≡ own_code line.now },
     pub ghost fits: { ForOk statement FieldsFit },
 }
 
-/// The parts of a line, each looked at by itself.
-pub fn parse_line(line: &[u8]) -> Parsed<'_>
+/// Is the line printable, as each line of a clean text is?
+fn is_printable_line(line: &[u8], clean: bool) -> bool
+    requires { clean ≡ true → are_printable line.now ≡ true }
+    ensures { result ≡ are_printable line.now }
+{
+    clean || are_printable(line)
+}
+
+/// The parts of a line, each looked at by itself. In a clean text its bytes need not be tested.
+pub fn parse_line(line: &[u8], clean: bool) -> Parsed<'_>
+    requires { clean ≡ true → are_printable line.now ≡ true }
     ensures { result.line.now ≡ line.now }
 {
     let parts = cut_line(line);
@@ -37,6 +51,7 @@ pub fn parse_line(line: &[u8]) -> Parsed<'_>
         line,
         defines,
         has_bad_label: is_bad_label(parts.label, defines),
+        is_printable: is_printable_line(line, clean),
         statement: read_statement(parts.statement),
     }
 }

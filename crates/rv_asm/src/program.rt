@@ -10,6 +10,7 @@ ghost use Rattle.rv_asm.specs.Answers.{Answers, LineAnswers};
 ghost use Rattle.rv_asm.specs.Parsed.{texts_of};
 ghost use Rattle.rv_asm.specs.RuleByRule.{AreWordsOf, HasCause};
 
+use crate::clean::is_clean;
 use crate::labels::{Labels, Place};
 use crate::parsed::{Parsed, parse_line, size_of_statement, statement_or_nothing};
 use crate::refusal::AsmRefused;
@@ -21,15 +22,17 @@ use t32_base::lists::List;
 use text_parts::first_line;
 
 /// The lines of a text, each parsed once.
+#[tactic(auto, using(crate::proofs::CleanTexts::clean_line, crate::proofs::CleanTexts::clean_rest))]
 fn parse_lines(alloc: Global, text: &[u8]) -> Result<Vec<Parsed<'_>>, AsmRefused>
     ensures lines { IfOk result (λ lines. texts_of lines.items ≡ lines_of text.now) }
     ensures memory { IsOkUnless result AsmRefused.NoMemory }
 {
+    let clean = is_clean(text);
     let mut lines = Vec::new(alloc);
     let mut rest = text;
     while !rest.is_empty() {
         let (line, after) = first_line(rest);
-        lines.push(parse_line(line))?;
+        lines.push(parse_line(line, clean))?;
         rest = after;
     }
     Ok(lines)

@@ -10,7 +10,6 @@ use crate::labels::{Labels, Place};
 use crate::parsed::{Parsed, breaks_rule, size_of_statement, statement_or_nothing, target};
 use crate::refusal::Rule;
 use crate::statement::Statement;
-use text_parts::are_printable;
 
 /// Does an earlier line define the label that this line defines, which follows so many words?
 fn defined_before(labels: &Labels<'_>, number: u64, words: u64, name: Option<&[u8]>) -> bool
@@ -83,7 +82,7 @@ pub fn broken_rule<'a>(
     ensures { result ≡ broken_by labels.now number words parsed.now.line.now }
 {
     let statement = statement_or_nothing(parsed.statement);
-    if !are_printable(parsed.line) {
+    if !parsed.is_printable {
         Some(Rule::ForeignByte)
     } else if breaks_rule(parsed.statement, Rule::UnknownWord) {
         Some(Rule::UnknownWord)
