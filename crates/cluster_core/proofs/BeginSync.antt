@@ -26,7 +26,6 @@ use Rattle.sync_laws.specs.Running.{RunsMarked}
 use Rattle.sync_laws.specs.Sending.{MaySend}
 use Rattle.batch_laws.specs.Underway.{BatchMay, posts_left}
 use Rattle.batch_laws.proofs.BatchBegins.{batch_begins, batch_posts}
-use Rattle.batch_laws.proofs.NoBirths.{no_children}
 use Rattle.cluster_core.specs.View.{ClusterView, Held, Runs, disk_calls, held_at, held_of, limits_of, next_count}
 use Rattle.cluster_core.specs.Residents.{pids_in, with_changed}
 use Rattle.cluster_core.specs.Queue.{Nothing, with_queue}
@@ -68,10 +67,6 @@ pub record MayCut (system : System) (log : List Entry) (p : Pid) (process : Proc
 -- so it is in each log that the cluster follows
 abbrev pub MayCutIn : ClusterView → Pid → Process → Type 0
 MayCutIn c p process = (log : List Entry) → IsOpen BuiltMayFollow c.system log → FollowsBuilt c.system log c → MayCut c.system log p process
-
--- one that is due may, as long as there are no children
-pub due_may : (c : ClusterView) (p : Pid) (process : Process) → is_due (limits_of c.system) process ≡ true → MayCutIn c p process
-due_may c p process due log go f = record { children = no_children c.system log p (built_stands c.system log go.0); due = ap (λ b. b || not (has_state c.system log p)) due }
 
 -- ---- a process of a cluster that follows a log, where nothing is queued and the process may synchronise
 

@@ -1,9 +1,9 @@
 -- Which process is chosen: among the pids of those that may have a step, the first that has one is the first of all that have one.
-use Rattle.std.proofs.Common.{◌≡◌, ℕ, refl, sym, ◌∙◌, ap, subst, List, [], ◌∷◌, arith, Bool, true, false, cond, Ok, not, ◌&&◌, ◌||◌, ltb, eqb-true, eq-eqb, Option, Some, None, true≢false}
+use Rattle.std.proofs.Common.{◌≡◌, ℕ, refl, sym, ◌∙◌, ap, subst, List, [], ◌∷◌, arith, Bool, true, false, cond, Ok, not, ◌&&◌, ◌||◌, ltb, eqb-true, eq-eqb, Option, Some, None, true≢false, inl, inr}
 use Rattle.std.specs.Prelude.{filter, find, option_map}
 use Rattle.std.specs.List.{list_all, list_any, AllByRecursion}
 use Rattle.std.specs.Option.{option_or}
-use Rattle.std.proofs.lemmas.Bool.{and_parts}
+use Rattle.std.proofs.lemmas.Bool.{and_from, and_parts, or_left, or_right}
 use Rattle.std.proofs.lemmas.Bool.Decides.{nat_tests}
 use Rattle.slab.specs.Slab.{Slab, get}
 use Rattle.t32_base.specs.declared.process.Pid.{Pid}
@@ -15,9 +15,14 @@ use Rattle.cert_sched.specs.Parts.{first_of}
 use Rattle.quanta.specs.declared.limits.Limits.{Limits}
 use Rattle.cluster_core.specs.declared.quantum.Quantum.{Quantum}
 use Rattle.cluster_core.specs.declared.quantum.Quantum.TheVariants.{Moved, Sent, Synced, Stuck, Forks}
-use Rattle.cluster_core.specs.Residents.{ResidentsView, NextAble, is_stuck, are_rising, pids_in, pids_able, next_ready, ChosenTurn, TurnIs, TakesTurn, GivenTurnIs}
+use Rattle.cluster_core.specs.ChildrenFirst.{has_turn, is_free, is_hindered}
+use Rattle.cluster_core.specs.Residents.{ResidentsView, NextAble, are_rising, pids_in, pids_able, next_ready, none_has_turn, ChosenTurn, HasTurn, TurnIs, GivenTurnIs}
 use Rattle.cluster_core.specs.Slots.{in_slot, stands_in, IsSlot, IsKept}
 use Rattle.cluster_core.specs.View.{Held, can_act, held_of}
+use Rattle.cluster_core.proofs.ChildFirst.{before_is, comes_acts}
+use Rattle.cluster_core.proofs.Free.{any_filtered, filter_rises, filtered_passes, none_passes_next}
+use Rattle.cluster_core.proofs.Here.{pid_same}
+use Rattle.cluster_core.proofs.Kept.{next_is_ready}
 use Rattle.cluster_core.proofs.Slots.{at_key_is}
 use Rattle.cluster_core.proofs.Quanta.{fork_can, moves_can, sends_can, syncs_can}
 
@@ -145,87 +150,127 @@ next_of_those ready able last n rise rise_able among next there = by_case (find 
         ap (λ o. option_or o (first_of able)) none ∙ sym (first_found able)
         ∙ found_first always able n rise_able there (always_passes n) (λ q any above. first_is_least always ready n rise at q (among q any) above)
 
--- ---- those that have a step
+-- ---- those that can have a turn
 
-fewer_rise : (limits : Limits) (here : List (Pid × Held)) → are_rising (pids_in here) ≡ true → are_rising (pids_able limits here) ≡ true
-fewer_rise limits [] rise = refl
-fewer_rise limits (e ∷ here) rise = by_test (not (is_stuck limits e.1)) (fewer_rise limits here parts.1)
+fewer_rise : (t : Pid × Held → Bool) (here : List (Pid × Held)) → are_rising (pids_in here) ≡ true → are_rising (pids_in (filter t here)) ≡ true
+fewer_rise t [] rise = refl
+fewer_rise t (e ∷ here) rise = by_test (t e) (fewer_rise t here parts.1)
   where
     parts : (list_all (λ m. ltb (e.0).0 m) (pids_in here) ≡ true) × (are_rising (pids_in here) ≡ true)
     parts = and_parts (list_all (λ m. ltb (e.0).0 m) (pids_in here)) (are_rising (pids_in here)) rise
 
-    all_fewer : (here : List (Pid × Held)) → list_all (λ m. ltb (e.0).0 m) (pids_in here) ≡ true → list_all (λ m. ltb (e.0).0 m) (pids_able limits here) ≡ true
+    all_fewer : (here : List (Pid × Held)) → list_all (λ m. ltb (e.0).0 m) (pids_in here) ≡ true → list_all (λ m. ltb (e.0).0 m) (pids_in (filter t here)) ≡ true
     all_fewer [] all = refl
-    all_fewer (f ∷ here) all = by_stuck (not (is_stuck limits f.1)) (and_parts (ltb (e.0).0 (f.0).0) (list_all (λ m. ltb (e.0).0 m) (pids_in here)) all) (all_fewer here)
+    all_fewer (f ∷ here) all = by_turn (t f) (and_parts (ltb (e.0).0 (f.0).0) (list_all (λ m. ltb (e.0).0 m) (pids_in here)) all) (all_fewer here)
       where
-        by_stuck : (b : Bool) → (ltb (e.0).0 (f.0).0 ≡ true) × (list_all (λ m. ltb (e.0).0 m) (pids_in here) ≡ true)
-            → (list_all (λ m. ltb (e.0).0 m) (pids_in here) ≡ true → list_all (λ m. ltb (e.0).0 m) (pids_able limits here) ≡ true)
-            → list_all (λ m. ltb (e.0).0 m) (pids_in (cond b (f ∷ filter (λ (e : Pid × Held). not (is_stuck limits e.1)) here) (filter (λ (e : Pid × Held). not (is_stuck limits e.1)) here))) ≡ true
-        by_stuck true both more = ap (λ b. b && list_all (λ m. ltb (e.0).0 m) (pids_able limits here)) both.0 ∙ more both.1
-        by_stuck false both more = more both.1
+        by_turn : (b : Bool) → (ltb (e.0).0 (f.0).0 ≡ true) × (list_all (λ m. ltb (e.0).0 m) (pids_in here) ≡ true)
+            → (list_all (λ m. ltb (e.0).0 m) (pids_in here) ≡ true → list_all (λ m. ltb (e.0).0 m) (pids_in (filter t here)) ≡ true)
+            → list_all (λ m. ltb (e.0).0 m) (pids_in (cond b (f ∷ filter t here) (filter t here))) ≡ true
+        by_turn true both more = ap (λ b. b && list_all (λ m. ltb (e.0).0 m) (pids_in (filter t here))) both.0 ∙ more both.1
+        by_turn false both more = more both.1
 
-    by_test : (b : Bool) → are_rising (pids_able limits here) ≡ true → are_rising (pids_in (cond b (e ∷ filter (λ (e : Pid × Held). not (is_stuck limits e.1)) here) (filter (λ (e : Pid × Held). not (is_stuck limits e.1)) here))) ≡ true
-    by_test true more = ap (λ b. b && are_rising (pids_able limits here)) (all_fewer here parts.0) ∙ more
+    by_test : (b : Bool) → are_rising (pids_in (filter t here)) ≡ true → are_rising (pids_in (cond b (e ∷ filter t here) (filter t here))) ≡ true
+    by_test true more = ap (λ b. b && are_rising (pids_in (filter t here))) (all_fewer here parts.0) ∙ more
     by_test false more = more
 
--- each of them is ready
-able_ready : (limits : Limits) (slots : Slab Held) (ready asking : List ℕ) (es : List (ℕ × ℕ)) → AllByRecursion (IsSlot limits slots ready asking) es → (q : ℕ) → list_any (at_key q) (pids_able limits (stands_in slots es)) ≡ true → list_any (at_key q) ready ≡ true
-able_ready limits slots ready asking [] kept q any = cc
-able_ready limits slots ready asking (e ∷ es) kept q any = in_front (get slots e.1) (λ p is steps. (kept.0).able p is steps) any (able_ready limits slots ready asking es kept.1 q)
-  where
-    by_step : (p : Held) (b c : Bool) → can_act limits p ≡ b → at_key q e.0 ≡ c → (b ≡ true → list_any (at_key e.0) ready ≡ true)
-        → list_any (at_key q) (pids_in (cond (not (not b)) ((pid_of e.0, p) ∷ filter (λ (e : Pid × Held). not (is_stuck limits e.1)) (stands_in slots es)) (filter (λ (e : Pid × Held). not (is_stuck limits e.1)) (stands_in slots es)))) ≡ true
-        → (list_any (at_key q) (pids_able limits (stands_in slots es)) ≡ true → list_any (at_key q) ready ≡ true) → list_any (at_key q) ready ≡ true
-    by_step p true true steps at ready_if any more = ap (λ n. list_any (at_key n) ready) (sym (eqb-true e.0 q (sym (at_key_is q e.0) ∙ at))) ∙ ready_if refl
-    by_step p true false steps at ready_if any more = more (sym (ap (λ b. b || list_any (at_key q) (pids_able limits (stands_in slots es))) at) ∙ any)
-    by_step p false c steps at ready_if any more = more any
+module _ (limits : Limits) (family : List (Pid × Pid)) (whole : List (Pid × Held)) where
+  abbrev turns : Pid × Held → Bool
+  turns = has_turn limits family whole
 
-    in_front : (o : Option Held) → ((p : Held) → o ≡ Some p → can_act limits p ≡ true → list_any (at_key e.0) ready ≡ true) → list_any (at_key q) (pids_able limits (in_slot (pid_of e.0) o (stands_in slots es))) ≡ true
-        → (list_any (at_key q) (pids_able limits (stands_in slots es)) ≡ true → list_any (at_key q) ready ≡ true) → list_any (at_key q) ready ≡ true
-    in_front None ready_if any more = more any
-    in_front (Some p) ready_if any more = by_step p (can_act limits p) (at_key q e.0) refl refl (ready_if p refl) any more
+  -- each of them is ready, and no child hinders it
+  able_ready : (slots : Slab Held) (ready asking : List ℕ) (es : List (ℕ × ℕ)) → AllByRecursion (IsSlot limits slots ready asking) es → (q : ℕ) → list_any (at_key q) (pids_in (filter turns (stands_in slots es))) ≡ true
+      → (list_any (at_key q) ready ≡ true) × (is_free limits family whole q ≡ true)
+  able_ready slots ready asking [] kept q any = cc
+  able_ready slots ready asking (e ∷ es) kept q any = in_front (get slots e.1) (λ p is steps. (kept.0).able p is steps) any (able_ready slots ready asking es kept.1 q)
+    where
+      abbrev Both : Type 0
+      Both = (list_any (at_key q) ready ≡ true) × (is_free limits family whole q ≡ true)
 
--- the process with a pid is one of them, where it has a step
-able_there : (limits : Limits) (n : ℕ) (here : List (Pid × Held)) (p : Held) → held_of here (pid_of n) ≡ Some p → can_act limits p ≡ true → list_any (at_key n) (pids_able limits here) ≡ true
-able_there limits n [] p there steps = cc
-able_there limits n (e ∷ here) p there steps = by_tests (same_pid e.0 (pid_of n)) (can_act limits e.1) refl refl there (able_there limits n here p)
-  where
-    or_true : (b : Bool) → (b || true) ≡ true
-    or_true true = refl
-    or_true false = refl
+      by_step : (p : Held) (b h c : Bool) → is_hindered limits family whole (pid_of e.0) ≡ h → at_key q e.0 ≡ c → (b ≡ true → list_any (at_key e.0) ready ≡ true)
+          → list_any (at_key q) (pids_in (cond (b && not h) ((pid_of e.0, p) ∷ filter turns (stands_in slots es)) (filter turns (stands_in slots es)))) ≡ true
+          → (list_any (at_key q) (pids_in (filter turns (stands_in slots es))) ≡ true → Both) → Both
+      by_step p true false true free at ready_if any more =
+          let same : e.0 ≡ q = eqb-true e.0 q (sym (at_key_is q e.0) ∙ at) in
+          (ap (λ n. list_any (at_key n) ready) (sym same) ∙ ready_if refl, ap (is_free limits family whole) (sym same) ∙ ap not free)
+      by_step p true false false free at ready_if any more = more (sym (ap (λ b. b || list_any (at_key q) (pids_in (filter turns (stands_in slots es)))) at) ∙ any)
+      by_step p true true c free at ready_if any more = more any
+      by_step p false h c free at ready_if any more = more any
 
-    by_tests : (b c : Bool) → same_pid e.0 (pid_of n) ≡ b → can_act limits e.1 ≡ c
-        → option_map (λ (e : Pid × Held). e.1) (cond b (Some e) (find (λ (e : Pid × Held). same_pid e.0 (pid_of n)) here)) ≡ Some p
-        → (held_of here (pid_of n) ≡ Some p → can_act limits p ≡ true → list_any (at_key n) (pids_able limits here) ≡ true)
-        → list_any (at_key n) (pids_in (cond (not (not c)) (e ∷ filter (λ (e : Pid × Held). not (is_stuck limits e.1)) here) (filter (λ (e : Pid × Held). not (is_stuck limits e.1)) here))) ≡ true
-    by_tests true true at has there more = ap (λ b. b || list_any (at_key n) (pids_able limits here)) (at_key_is n (e.0).0 ∙ at)
-    by_tests true false at has there more =
-        let same : e.1 ≡ p = some_same e.1 p there in
-        absurd (true≢false (sym steps ∙ ap (can_act limits) (sym same) ∙ has))
-    by_tests false true at has there more = ap (λ b. at_key n (e.0).0 || b) (more there steps) ∙ or_true (at_key n (e.0).0)
-    by_tests false false at has there more = more there steps
+      in_front : (o : Option Held) → ((p : Held) → o ≡ Some p → can_act limits p ≡ true → list_any (at_key e.0) ready ≡ true) → list_any (at_key q) (pids_in (filter turns (in_slot (pid_of e.0) o (stands_in slots es)))) ≡ true
+          → (list_any (at_key q) (pids_in (filter turns (stands_in slots es))) ≡ true → Both) → Both
+      in_front None ready_if any more = more any
+      in_front (Some p) ready_if any more = by_step p (can_act limits p) (is_hindered limits family whole (pid_of e.0)) (at_key q e.0) refl refl (ready_if p refl) any more
 
--- where the next of those that are ready has a step, it is the next of those that have one
-pub next_able : (limits : Limits) (slots : Slab Held) (keys : List (ℕ × ℕ)) (ready asking : List ℕ) (last n : ℕ) (p : Held) → IsKept limits slots keys ready asking → are_rising ready ≡ true → are_rising (pids_in (stands_in slots keys)) ≡ true → next_ready ready last ≡ Some n
-    → held_of (stands_in slots keys) (pid_of n) ≡ Some p → can_act limits p ≡ true → next_ready (pids_able limits (stands_in slots keys)) last ≡ Some n
-next_able limits slots keys ready asking last n p kept rise rise_here next there steps =
-    next_of_those ready (pids_able limits (stands_in slots keys)) last n rise (fewer_rise limits (stands_in slots keys) rise_here) (able_ready limits slots ready asking keys kept.each) next (able_there limits n (stands_in slots keys) p there steps)
+  -- the process with a pid is one of them, where it has a step
+  able_there : (n : ℕ) (here : List (Pid × Held)) (p : Held) → held_of here (pid_of n) ≡ Some p → can_act limits p ≡ true → is_free limits family whole n ≡ true → list_any (at_key n) (pids_in (filter turns here)) ≡ true
+  able_there n [] p there steps free = cc
+  able_there n (e ∷ here) p there steps free = by_tests (same_pid e.0 (pid_of n)) (can_act limits e.1) (is_hindered limits family whole e.0) refl refl refl there (λ there. able_there n here p there steps free)
+    where
+      abbrev Among : Bool → Type 0
+      Among b = list_any (at_key n) (pids_in (cond b (e ∷ filter turns here) (filter turns here))) ≡ true
+
+      by_tests : (b c h : Bool) → same_pid e.0 (pid_of n) ≡ b → can_act limits e.1 ≡ c → is_hindered limits family whole e.0 ≡ h
+          → option_map (λ (e : Pid × Held). e.1) (cond b (Some e) (find (λ (e : Pid × Held). same_pid e.0 (pid_of n)) here)) ≡ Some p
+          → (held_of here (pid_of n) ≡ Some p → list_any (at_key n) (pids_in (filter turns here)) ≡ true) → Among (c && not h)
+      by_tests true true false at has hinders there more = or_left (at_key n (e.0).0) (list_any (at_key n) (pids_in (filter turns here))) (at_key_is n (e.0).0 ∙ at)
+      by_tests true true true at has hinders there more =
+          let same : e.0 ≡ pid_of n = pid_same e.0 (pid_of n) (eqb-true (e.0).0 n at) in
+          absurd (true≢false (sym free ∙ ap (λ p. not (is_hindered limits family whole p)) (sym same) ∙ ap not hinders))
+      by_tests true false h at has hinders there more =
+          let same : e.1 ≡ p = some_same e.1 p there in
+          absurd (true≢false (sym steps ∙ ap (can_act limits) (sym same) ∙ has))
+      by_tests false true false at has hinders there more = or_right (at_key n (e.0).0) (list_any (at_key n) (pids_in (filter turns here))) (more there)
+      by_tests false true true at has hinders there more = more there
+      by_tests false false h at has hinders there more = more there
+
+  -- where none that is ready is free, none has a turn
+  none_turns : (slots : Slab Held) (ready asking : List ℕ) (es : List (ℕ × ℕ)) → AllByRecursion (IsSlot limits slots ready asking) es → ((q : ℕ) → list_any (at_key q) ready ≡ true → is_free limits family whole q ≡ false) → list_all (λ (e : Pid × Held). not (turns e)) (stands_in slots es) ≡ true
+  none_turns slots ready asking [] kept none = refl
+  none_turns slots ready asking (e ∷ es) kept none = in_front (get slots e.1) (λ p is steps. none e.0 ((kept.0).able p is steps)) (none_turns slots ready asking es kept.1 none)
+    where
+      abbrev rest : Bool
+      rest = list_all (λ (e : Pid × Held). not (turns e)) (stands_in slots es)
+
+      quiet : (b h : Bool) → (b ≡ true → not h ≡ false) → not (b && not h) ≡ true
+      quiet true h hinders = ap not (hinders refl)
+      quiet false h hinders = refl
+
+      in_front : (o : Option Held) → ((p : Held) → o ≡ Some p → can_act limits p ≡ true → is_free limits family whole e.0 ≡ false) → rest ≡ true → list_all (λ (e : Pid × Held). not (turns e)) (in_slot (pid_of e.0) o (stands_in slots es)) ≡ true
+      in_front None hinders more = more
+      in_front (Some p) hinders more = and_from (not (turns (pid_of e.0, p))) rest (quiet (can_act limits p) (is_hindered limits family whole (pid_of e.0)) (hinders p refl)) more
+
+module _ (limits : Limits) (family : List (Pid × Pid)) (slots : Slab Held) (keys : List (ℕ × ℕ)) (ready asking : List ℕ) (last : ℕ) (kept : IsKept limits slots keys ready asking) where
+  abbrev here : List (Pid × Held)
+  here = stands_in slots keys
+
+  -- where the next of those that are free can move, it is the next of those that can have a turn
+  pub next_able : (n : ℕ) (p : Held) → are_rising ready ≡ true → are_rising (pids_in here) ≡ true → next_ready (filter (is_free limits family here) ready) last ≡ Some n → held_of here (pid_of n) ≡ Some p → can_act limits p ≡ true
+      → next_ready (pids_able limits family here) last ≡ Some n
+  next_able n p rise rise_here next there steps =
+      let free = filtered_passes (is_free limits family here) ready n (next_is_ready (filter (is_free limits family here) ready) last n next) in
+      next_of_those (filter (is_free limits family here) ready) (pids_able limits family here) last n (filter_rises (is_free limits family here) ready rise) (fewer_rise (has_turn limits family here) here rise_here)
+      (λ q any. let both = able_ready limits family here slots ready asking keys kept.each q any in any_filtered (is_free limits family here) ready q both.0 both.1) next (able_there limits family here n here p there steps free)
+
+  -- where none of them is next, none has a turn
+  pub none_next : next_ready (filter (is_free limits family here) ready) last ≡ None → none_has_turn limits family here ≡ true
+  none_next none = none_turns limits family here slots ready asking keys kept.each (none_passes_next (is_free limits family here) ready last none)
 
 -- ---- the turn of the one that was chosen
 
 -- what a turn of the process with a pid makes is the turn of the one that was chosen
-module _ (by : ClusterNo) (n : ℕ) (was old given new : ResidentsView) (limits : old.limits ≡ was.limits) (here : old.here ≡ was.here) (last : old.last ≡ was.last) (able : NextAble n old) (now : new.here ≡ given.here) (chosen : new.last ≡ n) where
-  took : (quantum : Quantum) (takes : TakesTurn old.limits by (pid_of n) old.here quantum given.here) → can_act old.limits takes.was ≡ true → ChosenTurn by was quantum new
-  took quantum takes acts = record {
-    chosen = (λ i. next_ready (pids_able (sym limits i) (sym here i)) (sym last i)) ∙ able takes.was takes.there acts ∙ ap Some (sym chosen);
-    takes = subst (λ m. TakesTurn was.limits by (pid_of m) was.here quantum new.here) (sym chosen)
-        (subst (λ ls. TakesTurn ls by (pid_of n) was.here quantum new.here) limits
-        (subst (λ hs. TakesTurn old.limits by (pid_of n) hs quantum new.here) here (subst (λ hs. TakesTurn old.limits by (pid_of n) old.here quantum hs) (sym now) takes)));
+module _ (by : ClusterNo) (family : List (Pid × Pid)) (n : ℕ) (was old given new : ResidentsView) (limits : old.limits ≡ was.limits) (here : old.here ≡ was.here) (last : old.last ≡ was.last) (able : NextAble n family old) (now : new.here ≡ given.here) (chosen : new.last ≡ n) where
+  took : (quantum : Quantum) (h : Held) → held_of old.here (pid_of n) ≡ Some h → can_act old.limits h ≡ true → HasTurn old.limits by family (pid_of n) old.here quantum given.here → ChosenTurn by family was quantum new
+  took quantum h there acts takes = record {
+    chosen = (λ i. next_ready (pids_able (sym limits i) family (sym here i)) (sym last i)) ∙ able h there acts ∙ ap Some (sym chosen);
+    takes = subst (λ m. HasTurn was.limits by family (pid_of m) was.here quantum new.here) (sym chosen)
+        (subst (λ ls. HasTurn ls by family (pid_of n) was.here quantum new.here) limits
+        (subst (λ hs. HasTurn old.limits by family (pid_of n) hs quantum new.here) here (subst (λ hs. HasTurn old.limits by family (pid_of n) old.here quantum hs) (sym now) takes)));
   }
 
-  pub chosen_turn : (quantum : Quantum) → GivenTurnIs old.limits by (pid_of n) old.here (Ok quantum) given.here → (quantum ≡ Stuck → ⊥) → TurnIs by was (Ok quantum) new
-  chosen_turn Moved takes ran = took Moved takes (moves_can old.limits 64 takes.was takes.now takes.ran)
-  chosen_turn (Sent sending) takes ran = took (Sent sending) takes (sends_can old.limits 64 takes.was sending takes.now takes.ran)
-  chosen_turn (Synced posts) takes ran = took (Synced posts) takes (syncs_can old.limits by takes.was posts takes.now takes.ran)
-  chosen_turn (Forks forking) takes ran = took (Forks forking) takes (fork_can old.limits 64 takes.was forking takes.now takes.ran)
+  pub chosen_turn : (quantum : Quantum) → GivenTurnIs old.limits by family (pid_of n) old.here (Ok quantum) given.here → (quantum ≡ Stuck → ⊥) → TurnIs by family was (Ok quantum) new
+  chosen_turn Moved takes ran = let r = takes.ran in took Moved r.was r.there (moves_can old.limits 64 r.was r.now r.ran) takes
+  chosen_turn (Sent sending) takes ran = let r = takes.ran in took (Sent sending) r.was r.there (sends_can old.limits 64 r.was sending r.now (r.ran).0) takes
+  chosen_turn (Synced posts) (inl takes) ran = let r = takes.ran in took (Synced posts) r.was r.there (syncs_can old.limits by r.was posts r.now r.ran) (inl takes)
+  chosen_turn (Synced posts) (inr syncs) ran = let b = before_is old.limits family old.here (pid_of n) syncs.child syncs.before in took (Synced posts) b.held b.there (comes_acts old.limits b.held b.comes) (inr syncs)
+  chosen_turn (Forks forking) takes ran = let r = takes.ran in took (Forks forking) r.was r.there (fork_can old.limits 64 r.was forking r.now r.ran) takes
   chosen_turn Stuck takes ran = absurd (ran refl)

@@ -24,12 +24,13 @@ use Rattle.plain_kernel.specs.Maps.{at_key, pid_of}
 use Rattle.plain_kernel.proofs.Entries.{some_same}
 use Rattle.cert_sched.specs.Parts.{first_of}
 use Rattle.cert_sched.proofs.RisingLaws.{NoTwo, either_not}
-use Rattle.cluster_core.specs.Residents.{is_stuck, are_rising, are_settled, are_stuck, pids_in, next_ready, is_settled, is_stuck_at, lacks_none_at, TakesTurn, GivenTurnIs, with_more}
+use Rattle.cluster_core.specs.Residents.{is_stuck, are_rising, are_settled, are_stuck, pids_in, next_ready, is_settled, is_stuck_at, lacks_none_at, RunsAt, RunsOne, SyncsAt, with_changed, with_more}
 use Rattle.cluster_core.specs.Slots.{in_slot, stands_in, IsSlot, IsKept}
 use Rattle.t32_base.specs.declared.streams.NoMemory.{NoMemory}
 use Rattle.cluster_core.specs.declared.quantum.Quantum.{Quantum}
 use Rattle.cluster_core.specs.declared.quantum.Quantum.TheVariants.{Moved, Sent, Synced, Stuck, Forks}
-use Rattle.cluster_core.specs.Quantum.{RunsQuantum}
+use Rattle.bus_msg.specs.declared.entry.Post.{Post}
+use Rattle.cluster_core.specs.Quantum.{RunsQuantum, SyncsNow}
 use Rattle.cluster_core.proofs.Slots.{IsOne, all_more, all_removed, all_with, at_key_is, entry_goes, later_is_other, none_not_some, not_true, one_key, passes_each, passes_there, pids, process_there, slot_keys, taken_out, turned, written}
 
 -- ---- what is kept
@@ -284,18 +285,6 @@ none_ready ready last none = by_case (find (λ n. ltb last n) ready) none
     by_case None none = first_some ready none
     by_case (Some n) none = cc
 
-pub all_stuck : (limits : Limits) (slots : Slab Held) (asking : List ℕ) (es : List (ℕ × ℕ)) → AllByRecursion (IsSlot limits slots [] asking) es → are_stuck limits (stands_in slots es) ≡ true
-all_stuck limits slots asking [] kept = refl
-all_stuck limits slots asking (e ∷ es) kept = in_front (get slots e.1) (λ p is. (kept.0).able p is) (all_stuck limits slots asking es kept.1)
-  where
-    quiet : (b : Bool) → (b ≡ true → false ≡ true) → not b ≡ true
-    quiet true steps = steps refl
-    quiet false steps = refl
-
-    in_front : (o : Option Held) → ((p : Held) → o ≡ Some p → can_act limits p ≡ true → false ≡ true) → are_stuck limits (stands_in slots es) ≡ true → are_stuck limits (in_slot (pid_of e.0) o (stands_in slots es)) ≡ true
-    in_front None steps more = more
-    in_front (Some p) steps more = λ i. ((λ j. quiet (can_act limits p) (steps p refl) j && are_stuck limits (stands_in slots es)) ∙ more) i
-
 find_any : (t : ℕ → Bool) (n : ℕ) (xs : List ℕ) → find t xs ≡ Some n → list_any (at_key n) xs ≡ true
 find_any t n [] found = cc
 find_any t n (x ∷ xs) found = by_test (t x) found (λ found. find_any t n xs found)
@@ -388,11 +377,11 @@ written_back slots new key was now (e ∷ es) there updates same =
     by_test false is = updates.others e.1 (λ same. true≢false (sym (eq-eqb e.1 key same) ∙ is))
 
 -- a process had its turn
-module _ (limits : Limits) (by : ClusterNo) (slots new : Slab Held) (n key : ℕ) (keys : List (ℕ × ℕ)) (ready asking : List ℕ) (was now : Held) (old : List (Pid × Held)) (kept : IsKept limits slots keys ready asking) (found : lookup (at_key n) keys ≡ Some key)
+module _ (limits : Limits) (by : ClusterNo) (childless : Bool) (slots new : Slab Held) (n key : ℕ) (keys : List (ℕ × ℕ)) (ready asking : List ℕ) (was now : Held) (old : List (Pid × Held)) (kept : IsKept limits slots keys ready asking) (found : lookup (at_key n) keys ≡ Some key)
     (there : get slots key ≡ Some was) (updates : Updates slots new key (Some now)) (same : stands_in slots keys ≡ old) where
-  took : (quantum : Quantum) → RunsQuantum limits by 64 was (Ok quantum) now → TakesTurn limits by (pid_of n) old quantum (stands_in new keys)
+  took : (quantum : Quantum) → RunsQuantum limits by 64 childless was (Ok quantum) now → RunsOne limits by childless (pid_of n) old quantum (stands_in new keys)
   took quantum ran =
-      subst (λ old. TakesTurn limits by (pid_of n) old quantum (stands_in new keys)) same
+      subst (λ old. RunsOne limits by childless (pid_of n) old quantum (stands_in new keys)) same
       (record {
         was = was;
         now = now;
@@ -401,14 +390,26 @@ module _ (limits : Limits) (by : ClusterNo) (slots new : Slab Held) (n key : ℕ
         here = written slots new n key was now (λ e. (pid_of n, now)) keys (one_key n key keys kept.ordered kept.apart found) there updates refl;
       })
 
-  pub given_turn : (r : Result Quantum NoMemory) → RunsQuantum limits by 64 was r now → GivenTurnIs limits by (pid_of n) old r (stands_in new keys)
-  given_turn (Ok Moved) ran = took Moved ran
-  given_turn (Ok (Sent sending)) ran = took (Sent sending) ran
-  given_turn (Ok (Synced posts)) ran = took (Synced posts) ran
-  given_turn (Ok (Forks forking)) ran = took (Forks forking) ran
-  given_turn (Ok Stuck) ran =
+  pub ran_at : (r : Result Quantum NoMemory) → RunsQuantum limits by 64 childless was r now → RunsAt limits by childless (pid_of n) old r (stands_in new keys)
+  ran_at (Ok Moved) ran = took Moved ran
+  ran_at (Ok (Sent sending)) ran = took (Sent sending) ran
+  ran_at (Ok (Synced posts)) ran = took (Synced posts) ran
+  ran_at (Ok (Forks forking)) ran = took (Forks forking) ran
+  ran_at (Ok Stuck) ran =
       (ap (is_stuck_at limits (pid_of n)) (sym same) ∙ passes_there (λ p. is_stuck limits p) slots n key was keys (one_key n key keys kept.ordered kept.apart found) there (ap not ran.0), written_back slots new key was now keys there updates ran.1 ∙ same)
-  given_turn (Err fault) ran = written_back slots new key was now keys there updates ran ∙ same
+  ran_at (Err fault) ran = written_back slots new key was now keys there updates ran ∙ same
+
+-- a process that runs synchronised
+pub synced_at : (limits : Limits) (by : ClusterNo) (slots new : Slab Held) (n key : ℕ) (keys : List (ℕ × ℕ)) (ready asking : List ℕ) (was now : Held) (old : List (Pid × Held)) → IsKept limits slots keys ready asking → lookup (at_key n) keys ≡ Some key → get slots key ≡ Some was
+    → Updates slots new key (Some now) → stands_in slots keys ≡ old → (posts : List Post) → SyncsNow by was posts now → SyncsAt by (pid_of n) old posts (stands_in new keys)
+synced_at limits by slots new n key keys ready asking was now old kept found there updates same posts s =
+    subst (λ old. SyncsAt by (pid_of n) old posts (stands_in new keys)) same
+    (record {
+      process = s.process;
+      there = process_there slots n key was keys found there ∙ ap Some s.old_is;
+      posts_are = s.posts_are;
+      here = written slots new n key was now (λ e. (pid_of n, now)) keys (one_key n key keys kept.ordered kept.apart found) there updates refl ∙ ap (λ (h : Held). with_changed (pid_of n) h (stands_in slots keys)) s.new_is;
+    })
 
 -- a process goes with its entry
 pub goes : (limits : Limits) (slots new : Slab Held) (n key : ℕ) (keys : List (ℕ × ℕ)) (ready asking : List ℕ) → IsKept limits slots keys ready asking → lookup (at_key n) keys ≡ Some key → Updates slots new key None
@@ -417,7 +418,7 @@ goes limits slots new n key keys ready asking kept found updates = entry_goes ne
 
 -- ---- the first of those above
 
-first_filtered : (t u : ℕ → Bool) → ((n : ℕ) → t n ≡ u n) → (xs : List ℕ) → first_of (filter t xs) ≡ find u xs
+pub first_filtered : (t u : ℕ → Bool) → ((n : ℕ) → t n ≡ u n) → (xs : List ℕ) → first_of (filter t xs) ≡ find u xs
 first_filtered t u same [] = refl
 first_filtered t u same (x ∷ xs) = by_test (t x) (u x) (same x) (first_filtered t u same xs)
   where
@@ -427,27 +428,23 @@ first_filtered t u same (x ∷ xs) = by_test (t x) (u x) (same x) (first_filtere
     by_test false true is more = absurd (false≢true is)
     by_test false false is more = more
 
-pub next_above : (t : ℕ → Bool) (ready : List ℕ) (last n : ℕ) → ((m : ℕ) → t m ≡ ltb last m) → first_of (filter t ready) ≡ Some n → Some n ≡ next_ready ready last
-next_above t ready last n same first = sym (ap (λ o. option_or o (first_of ready)) (sym (first_filtered t (λ m. ltb last m) same ready) ∙ first))
-
-pub next_around : (t : ℕ → Bool) (ready : List ℕ) (last : ℕ) → ((m : ℕ) → t m ≡ ltb last m) → first_of (filter t ready) ≡ None → first_of ready ≡ next_ready ready last
-next_around t ready last same first = sym (ap (λ o. option_or o (first_of ready)) (sym (first_filtered t (λ m. ltb last m) same ready) ∙ first))
-
-pub none_where_empty : (ready : List ℕ) (last : ℕ) → length ready ≡ 0 → next_ready ready last ≡ None
-none_where_empty [] last empty = refl
-none_where_empty (n ∷ ready) last empty = cc
-
-pub none_next : (limits : Limits) (slots : Slab Held) (keys : List (ℕ × ℕ)) (ready asking : List ℕ) (last : ℕ) → IsKept limits slots keys ready asking → next_ready ready last ≡ None → are_stuck limits (stands_in slots keys) ≡ true
-none_next limits slots keys ready asking last kept none = all_stuck limits slots asking keys (subst (λ ready. AllByRecursion (IsSlot limits slots ready asking) keys) (none_ready ready last none) kept.each)
-
 in_range : (last m : ℕ) → range_contains nat_cmp (Excluded last) Unbounded m ≡ ltb last m
 in_range last m = grind (arith, nat_tests)
 
-pub above_in : (ready range more : List ℕ) (last n : ℕ) → range ≡ filter (range_contains nat_cmp (Excluded last) Unbounded) ready → range ≡ n ∷ more → Some n ≡ next_ready ready last
-above_in ready range more last n between first = next_above (range_contains nat_cmp (Excluded last) Unbounded) ready last n (in_range last) (ap first_of (sym between ∙ first))
+-- those of a set above a number
+find_above : (u : ℕ → Bool) (last : ℕ) (xs : List ℕ) → find u (filter (range_contains nat_cmp (Excluded last) Unbounded) xs) ≡ find (λ n. ltb last n && u n) xs
+find_above u last [] = refl
+find_above u last (x ∷ xs) = by_test (range_contains nat_cmp (Excluded last) Unbounded x) (ltb last x) (in_range last x) (find_above u last xs)
+  where
+    by_test : (b c : Bool) → b ≡ c → find u (filter (range_contains nat_cmp (Excluded last) Unbounded) xs) ≡ find (λ n. ltb last n && u n) xs
+        → find u (cond b (x ∷ filter (range_contains nat_cmp (Excluded last) Unbounded) xs) (filter (range_contains nat_cmp (Excluded last) Unbounded) xs)) ≡ cond (c && u x) (Some x) (find (λ n. ltb last n && u n) xs)
+    by_test true true is more = ap (cond (u x) (Some x)) more
+    by_test true false is more = absurd (true≢false is)
+    by_test false true is more = absurd (false≢true is)
+    by_test false false is more = more
 
-pub around_in : (ready range : List ℕ) (last : ℕ) → range ≡ filter (range_contains nat_cmp (Excluded last) Unbounded) ready → range ≡ [] → first_of ready ≡ next_ready ready last
-around_in ready range last between none = next_around (range_contains nat_cmp (Excluded last) Unbounded) ready last (in_range last) (ap first_of (sym between ∙ none))
+pub above_in : (u : ℕ → Bool) (ready range : List ℕ) (last : ℕ) → range ≡ filter (range_contains nat_cmp (Excluded last) Unbounded) ready → find u range ≡ find (λ n. ltb last n && u n) ready
+above_in u ready range last between = ap (find u) between ∙ find_above u last ready
 
 -- the first of a set
 pub first_is : (r : Option (Bor ℕ)) (xs : List ℕ) → IfSome r (λ k. slice_get xs 0 ≡ Some k.now) → (0 < length xs → IsSome r) → option_copied r ≡ first_of xs

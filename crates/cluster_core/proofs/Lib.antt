@@ -5,6 +5,8 @@ pub mod Here
 pub mod Slots
 pub mod Kept
 pub mod Told
+pub mod ChildFirst
+pub mod Free
 pub mod Choosing
 pub mod Asking
 pub mod Coming
@@ -64,10 +66,13 @@ mod FirstServer
 pub mod Within
 mod KeptLimits
 mod BeginSync
+mod ChildrenSynced
+mod ChildrenKept
 pub mod Working
 mod Answering
 mod Fetching
 mod Lacking
+mod Hindering
 pub mod Resting
 pub mod Turning
 mod Absorbed

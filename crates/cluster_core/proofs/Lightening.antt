@@ -9,7 +9,6 @@ use Rattle.t32_base.specs.declared.process.ClusterNo.{ClusterNo}
 use Rattle.t32_base.specs.declared.process.Counts.{Counts}
 use Rattle.sys_text.specs.declared.system.System.{System}
 use Rattle.sys_text.specs.Valid.{is_system}
-use Rattle.sys_text.proofs.Bounds.{system_bounds}
 use Rattle.proc_state.specs.declared.process.Process.{Process}
 use Rattle.proc_state.specs.State.{state_of}
 use Rattle.sync_point.specs.Batch.{synced}
@@ -27,7 +26,6 @@ use Rattle.cert_sched.proofs.RisingLaws.{NoTwo, either_not, rising-any, rising-a
 use Rattle.cert_sched.proofs.RollLaws.{all_roll, two_apart}
 use Rattle.cluster_core.specs.declared.worked.Worked.TheVariants.{Moved, Queued}
 use Rattle.quanta.specs.declared.limits.Limits.{Limits}
-use Rattle.quanta.specs.Limited.{is_due}
 use Rattle.roll_forward.specs.Advancing.{Going, going, rolled_on}
 use Rattle.write_count.specs.Counting.{no_counts}
 use Rattle.quanta.specs.Quantum.{RunsOn}
@@ -179,23 +177,17 @@ sent_lightens old new valid f one =
     omega (arith, same, rolled_leaves s.rolled one.was (Runs s.between) s.rolls, silently_leaves s.silent (state_of s.between) (state_of s.before) (s.runs).silent, emits_leaves (state_of s.before) (state_of s.now) one.emission s.sends) in
     subst (λ (c : ClusterView). load c + 1 ≤ load old) (sym one.rest) (one_lighter one.pid one.was (Runs one.now) 1 old.here (held_apart old valid f) one.there (fewer_loads one.was (Runs one.now) fewer))
 
--- who is due has moved since its last synchronisation, where no limit is 0
-due_moved : (limits : Limits) (p : Process) → 1 ≤ limits.reads → 1 ≤ limits.steps → is_due limits p ≡ true → has_moved p ≡ true
-due_moved limits p reads steps due = grind (arith, nat_tests)
-
--- and has not when it has just synchronised
+-- one that has just synchronised has not moved since
 synced_unmoved : (p : Process) → has_moved (synced p) ≡ false
 synced_unmoved p = grind (arith, nat_tests)
 
 -- one that synchronised has as many steps left, and no synchronisation before the next of them
-batch_lightens : (old new : ClusterView) → is_system old.system ≡ true → FollowsSome old → QueuesBatch old new → load new + 1 ≤ load old
+batch_lightens : (old new : ClusterView) → is_system old.system ≡ true → FollowsSome old → QueuesBatch old new → load new ≤ load old
 batch_lightens old new valid f one =
-    let bounds = system_bounds old.system valid in
-    let moved : has_moved one.process ≡ true = due_moved (limits_of old.system) one.process bounds.least_reads (omega (arith, bounds.least_steps)) one.due in
-    let before : process_load one.process ≡ 2 * weight (one.process).small + 1 = ap (λ b. 2 * weight (one.process).small + cond b 1 0) moved in
     let after : process_load (synced one.process) ≡ 2 * weight (one.process).small + 0 = ap (λ b. 2 * weight (one.process).small + cond b 1 0) (synced_unmoved one.process) in
-    let less : held_load (Runs (synced one.process)) + 1 ≤ held_load (Runs one.process) = omega (arith, before, after) in
-    subst (λ (c : ClusterView). load c + 1 ≤ load old) (sym one.rest) (one_lighter one.pid (Runs one.process) (Runs (synced one.process)) 1 old.here (held_apart old valid f) one.there less)
+    let less : held_load (Runs (synced one.process)) + 0 ≤ held_load (Runs one.process) = omega (arith, (process_bounds one.process).0, after) in
+    let fewer : sum_held (with_changed one.pid (Runs (synced one.process)) old.here) + 0 ≤ sum_held old.here = one_lighter one.pid (Runs one.process) (Runs (synced one.process)) 0 old.here (held_apart old valid f) one.there less in
+    omega (arith, fewer, ap load one.rest)
 
 -- where no step was made all is as it was
 same_load : (p q : Process) (counts left : Counts) (births unborn : List Pid) → rolled_on 0 (going p counts births) ≡ Some (going q left unborn) → q.since ≡ p.since → process_load q ≡ process_load p
@@ -253,5 +245,5 @@ queued_lightens old new valid f (inr (inr acted)) = by_kind acted.2
   where
     by_kind : QueuesOne old new ⊎ QueuesBatch old new ⊎ QueuesBirth old new → load new ≤ load old
     by_kind (inl sent) = omega (arith, sent_lightens old new valid f sent)
-    by_kind (inr (inl batch)) = omega (arith, batch_lightens old new valid f batch)
+    by_kind (inr (inl batch)) = batch_lightens old new valid f batch
     by_kind (inr (inr birth)) = birth_lightens old new valid f birth

@@ -129,6 +129,11 @@ no_entry n (e ∷ es) none = by_test (eqb e.0 n) refl (subst (λ b. cond b (Some
     by_test true is none more = absurd (none_not_some (Some e.1) none refl)
     by_test false is none more = (is, more none)
 
+-- none is held of it
+pub nobody_held : (slots : Slab Held) (n : ℕ) (es : List (ℕ × ℕ)) → AllByRecursion (λ (e : ℕ × ℕ). eqb e.0 n ≡ false) es → held_of (stands_in slots es) (pid_of n) ≡ None
+nobody_held slots n [] none = refl
+nobody_held slots n (e ∷ es) none = in_slot_find (pid_of e.0) (pid_of n) (get slots e.1) (stands_in slots es) none.0 ∙ nobody_held slots n es none.1
+
 -- a change of the process with that pid changes nothing
 pub nobody_changed : (slots : Slab Held) (n : ℕ) (g : Pid × Held → Pid × Held) (es : List (ℕ × ℕ)) → AllByRecursion (λ (e : ℕ × ℕ). eqb e.0 n ≡ false) es
     → map (λ (e : Pid × Held). cond (same_pid e.0 (pid_of n)) (g e) e) (stands_in slots es) ≡ stands_in slots es

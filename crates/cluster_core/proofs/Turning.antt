@@ -1,7 +1,7 @@
 -- What a work of its parts makes of a cluster.
-use Rattle.std.proofs.Common.{◌≡◌, ◌⊎◌, ℕ, ◌<◌, Bool, ◌&&◌, refl, sym, ◌∙◌, ap, subst, List, [], ◌∷◌, ◌++◌, map, Option, Some, true, false, eq-eqb, inl, inr}
+use Rattle.std.proofs.Common.{◌≡◌, ◌⊎◌, ℕ, ◌<◌, Bool, ◌&&◌, not, refl, sym, ◌∙◌, ap, subst, List, [], ◌∷◌, ◌++◌, map, Option, Some, None, true, false, eq-eqb, inl, inr}
 use Rattle.std.specs.List.{list_all}
-use Rattle.std.proofs.lemmas.Bool.{and_from}
+use Rattle.std.proofs.lemmas.Bool.{and_from, or_left}
 use Rattle.t32_base.specs.declared.process.Pid.{Pid}
 use Rattle.proc_state.specs.declared.process.Process.{Process}
 use Rattle.proc_state.specs.State.{state_of}
@@ -22,11 +22,16 @@ use Rattle.cluster_core.specs.declared.quantum.Forking.{Forking}
 use Rattle.cluster_core.specs.declared.quantum.Quantum.TheVariants.{Moved as QuantumMoved, Sent as QuantumSent, Synced as QuantumSynced, Forks as QuantumForks}
 use Rattle.cluster_core.specs.declared.worked.Worked.{Worked}
 use Rattle.cluster_core.specs.declared.worked.Worked.TheVariants.{Moved, Queued, Waits, Rests}
-use Rattle.cluster_core.specs.View.{ClusterView, Held, Runs, asked_held, counted_once, held_at, limits_of, next_count}
+use Rattle.cluster_core.specs.View.{ClusterView, Held, Runs, asked_held, can_act, counted_once, held_at, limits_of, next_count}
 use Rattle.plain_kernel.specs.Maps.{pid_of}
-use Rattle.cluster_core.specs.Residents.{ChosenTurn, ResidentsView, TakesTurn, are_stuck, with_changed}
+use Rattle.cluster_core.specs.Residents.{ChosenTurn, HasTurn, ResidentsView, SyncsChild, TakesTurn, none_has_turn, with_changed}
 use Rattle.cluster_core.specs.Parts.{AllOwn}
-use Rattle.cluster_core.specs.Calls.{GoesOn, OwesNothing, WorkIs}
+use Rattle.birth_notice.specs.Family.{first_unsynced}
+use Rattle.cert_sched.specs.Record.{has_state}
+use Rattle.quanta.specs.Limited.{is_due}
+use Rattle.sys_calls.specs.Next.{is_exit, next_step}
+use Rattle.cluster_core.specs.ChildrenFirst.{comes_after_children}
+use Rattle.cluster_core.specs.Calls.{FollowsSome, GoesOn, IsNextToSync, OwesNothing, WorkIs}
 use Rattle.cluster_core.specs.Bearing.{birth_post}
 use Rattle.cluster_core.specs.Quantum.{ComesToFork, Sends, Syncs, forking_of, post_told}
 use Rattle.cluster_core.specs.Work.{AnswersNext, AsksNext, NoPages, QueuesAnswer, QueuesFetch, RunsNext, WorksOn, any_lacks, any_waits, birth_told, child_of, fetch_post, owes_answer}
@@ -35,7 +40,11 @@ use Rattle.cluster_core.proofs.Fetching.{asked_goes_on, asked_work, fetch_own}
 use Rattle.cluster_core.proofs.Lacking.{rested_work, waited_work}
 use Rattle.cluster_core.proofs.BirthTurn.{birth_goes_on}
 use Rattle.cluster_core.proofs.Owning.{own_asked, own_at, own_at_fork, own_before_sent, own_changed, own_quantum, own_sent, own_synced}
-use Rattle.cluster_core.proofs.BeginSync.{batch_goes_on, due_may}
+use Rattle.cluster_core.proofs.BeginSync.{MayCutIn, batch_goes_on}
+use Rattle.cluster_core.proofs.ChildFirst.{before_from, before_is, comes_acts}
+use Rattle.cluster_core.proofs.ChildrenKept.{synced_where_none}
+use Rattle.cluster_core.proofs.ChildrenSynced.{first_childless, first_may}
+use Rattle.cluster_core.proofs.Hindering.{none_moves}
 use Rattle.cluster_core.proofs.Quanta.{fork_can, syncs_can}
 use Rattle.cluster_core.proofs.ByKind.{by_kind}
 use Rattle.cluster_core.proofs.Working.{moved_view, moved_goes_on, moved_work, posted_goes_on, posted_work, some_moves, goes_on_rested}
@@ -76,7 +85,10 @@ pub record Works (c : ClusterView) (worked : Worked) (here : List (Pid × Held))
   pub own : list_all (λ (post : Post). is_from c.number post.by) queue ≡ true
   pub built : list_all (λ (post : Post). is_unlost post.what) queue ≡ true
 
-module _ (c : ClusterView) (empty : c.queue ≡ []) (own : AllOwn c.cursor c.here) (valid : is_system c.system ≡ true) (has : (c.number).0 < (c.system).clusters) where
+module _ (c : ClusterView) (some : FollowsSome c) (empty : c.queue ≡ []) (own : AllOwn c.cursor c.here) (valid : is_system c.system ≡ true) (has : (c.number).0 < (c.system).clusters) where
+  abbrev Took : Pid → Quantum → List (Pid × Held) → Type 0
+  Took pid quantum here = TakesTurn (limits_of c.system) c.number c.family pid c.here quantum here
+
   -- an answer is queued
   answered : (served : Option PagerState) (post : Post) → owes_answer c.places c.number c.server ≡ true → AnswersNext c.number c.server served post → Works c Queued c.here served (post ∷ [])
   answered served post owed answers = record {
@@ -98,69 +110,92 @@ module _ (c : ClusterView) (empty : c.queue ≡ []) (own : AllOwn c.cursor c.her
   }
 
   -- who had a turn moved
-  took_moved : (pid : Pid) (here : List (Pid × Held)) → OwesNothing c → TakesTurn (limits_of c.system) c.number pid c.here QuantumMoved here → Works c Moved here c.server []
-  took_moved pid here nothing takes = subst (λ hs. Works c Moved hs c.server []) (sym takes.here) (record {
-    goes_on = subst (λ ps. GoesOn c (record (moved_view c (with_changed pid takes.now c.here)) { queue = ps })) empty (moved_goes_on c pid takes.was takes.now valid empty takes.there takes.ran);
-    work = subst (λ ps. WorkIs c Moved (record (moved_view c (with_changed pid takes.now c.here)) { queue = ps })) empty (moved_work c pid takes.was takes.now nothing takes.there takes.ran);
-    residents = own_changed c.cursor pid takes.now c.here own (own_quantum (limits_of c.system) c.cursor pid takes.was takes.now (own_at c.cursor c.here pid takes.was own takes.there) takes.ran);
-    own = refl;
-    built = refl;
-  })
+  took_moved : (pid : Pid) (here : List (Pid × Held)) → OwesNothing c → Took pid QuantumMoved here → Works c Moved here c.server []
+  took_moved pid here nothing takes =
+      let one = takes.ran in
+      subst (λ hs. Works c Moved hs c.server []) (sym one.here) (record {
+        goes_on = subst (λ ps. GoesOn c (record (moved_view c (with_changed pid one.now c.here)) { queue = ps })) empty (moved_goes_on c pid one.was one.now valid empty one.there one.ran);
+        work = subst (λ ps. WorkIs c Moved (record (moved_view c (with_changed pid one.now c.here)) { queue = ps })) empty (moved_work c pid one.was one.now nothing one.there one.ran);
+        residents = own_changed c.cursor pid one.now c.here own (own_quantum (limits_of c.system) c.cursor pid one.was one.now (own_at c.cursor c.here pid one.was own one.there) one.ran);
+        own = refl;
+        built = refl;
+      })
 
   -- or sent something
-  took_sent : (pid : Pid) (sending : Sending) (here : List (Pid × Held)) → OwesNothing c → TakesTurn (limits_of c.system) c.number pid c.here (QuantumSent sending) here → Works c Queued here c.server (post_told c.number sending.pid sending.at sending.emission ∷ [])
+  took_sent : (pid : Pid) (sending : Sending) (here : List (Pid × Held)) → OwesNothing c → Took pid (QuantumSent sending) here → Works c Queued here c.server (post_told c.number sending.pid sending.at sending.emission ∷ [])
   took_sent pid sending here nothing takes =
-      let s : Sends (limits_of c.system) 64 takes.was sending takes.now = takes.ran in
-      let mine = own_at c.cursor c.here pid takes.was own takes.there in
-      let before_own = own_before_sent (limits_of c.system) c.cursor pid takes.was sending takes.now mine s in
-      let now_own = own_sent (limits_of c.system) c.cursor pid takes.was sending takes.now mine s in
+      let one = takes.ran in
+      let s : Sends (limits_of c.system) 64 one.was sending one.now = (one.ran).0 in
+      let mine = own_at c.cursor c.here pid one.was own one.there in
+      let before_own = own_before_sent (limits_of c.system) c.cursor pid one.was sending one.now mine s in
+      let now_own = own_sent (limits_of c.system) c.cursor pid one.was sending one.now mine s in
       let named : sending.pid ≡ pid = s.pid_is ∙ now_own.pid_is in
       let post : Post = post_told c.number sending.pid sending.at sending.emission in
       let is : post ≡ post_told c.number pid ((s.now).small).steps sending.emission = λ i. post_told c.number (named i) (s.at_is i) sending.emission in
-      let changed : with_changed pid (Runs s.now) c.here ≡ here = ap (λ (h : Held). with_changed pid h c.here) (sym s.new_is) ∙ sym takes.here in
+      let changed : with_changed pid (Runs s.now) c.here ≡ here = ap (λ (h : Held). with_changed pid h c.here) (sym s.new_is) ∙ sym one.here in
       subst (λ hs. Works c Queued hs c.server (post ∷ [])) changed (record {
-        goes_on = posted_goes_on c pid takes.was sending takes.now s post is empty takes.there before_own valid has;
-        work = posted_work c pid takes.was sending takes.now s post is empty takes.there before_own nothing;
+        goes_on = posted_goes_on c pid one.was sending one.now s post is empty one.there before_own (one.ran).1 valid has;
+        work = posted_work c pid one.was sending one.now s post is empty one.there before_own (one.ran).1 nothing;
         residents = own_changed c.cursor pid (Runs s.now) c.here own now_own;
         own = told_own c.number sending.pid sending.at sending.emission;
         built = told_built c.number sending.pid sending.at sending.emission;
       })
 
-  -- or synchronised
-  took_synced : (pid : Pid) (posts : List Post) (here : List (Pid × Held)) → OwesNothing c → TakesTurn (limits_of c.system) c.number pid c.here (QuantumSynced posts) here → Works c Queued here c.server posts
-  took_synced pid posts here nothing takes =
-      let s : Syncs (limits_of c.system) c.number takes.was posts takes.now = takes.ran in
-      let there : held_at c pid ≡ Some (Runs s.process) = takes.there ∙ ap Some s.old_is in
-      let changed : with_changed pid (Runs (synced s.process)) c.here ≡ here = ap (λ (h : Held). with_changed pid h c.here) (sym s.new_is) ∙ sym takes.here in
-      subst (Works c Queued here c.server) (sym s.posts_are)
-      (subst (λ hs. Works c Queued hs c.server (batch s.process c.number)) changed (record {
-        goes_on = batch_goes_on c pid s.process valid empty there (due_may c pid s.process s.due);
+  -- a process that may be cut synchronised, where one could move
+  batched : (mover : Pid) (h : Held) (pid : Pid) (process : Process) (here : List (Pid × Held)) → OwesNothing c → held_at c mover ≡ Some h → can_act (limits_of c.system) h ≡ true → held_at c pid ≡ Some (Runs process) → IsNextToSync c pid process
+      → first_unsynced c.family pid ≡ None → MayCutIn c pid process → here ≡ with_changed pid (Runs (synced process)) c.here → Works c Queued here c.server (batch process c.number)
+  batched mover h pid process here nothing moves acts there next childless may changed =
+      subst (λ hs. Works c Queued hs c.server (batch process c.number)) (sym changed) (record {
+        goes_on = batch_goes_on c pid process valid empty there may;
         work = inr (inr (
           nothing,
-          some_moves (limits_of c.system) c.here pid takes.was takes.there (syncs_can (limits_of c.system) c.number takes.was posts takes.now s),
-          inr (inl (record { pid = pid; process = s.process; there = there; due = s.due; rest = refl })),
+          some_moves (limits_of c.system) c.here mover h moves acts,
+          inr (inl (record { pid = pid; process = process; there = there; next = next; childless = childless; rest = refl })),
         ));
-        residents = own_changed c.cursor pid (Runs (synced s.process)) c.here own (own_synced c.cursor pid s.process (own_at c.cursor c.here pid (Runs s.process) own there));
-        own = synced_own c.number s.process;
-        built = synced_built c.number s.process;
-      }))
+        residents = own_changed c.cursor pid (Runs (synced process)) c.here own (own_synced c.cursor pid process (own_at c.cursor c.here pid (Runs process) own there));
+        own = synced_own c.number process;
+        built = synced_built c.number process;
+      })
+
+  -- or synchronised,
+  took_synced : (pid : Pid) (posts : List Post) (here : List (Pid × Held)) → OwesNothing c → Took pid (QuantumSynced posts) here → Works c Queued here c.server posts
+  took_synced pid posts here nothing takes =
+      let one = takes.ran in
+      let s : Syncs (limits_of c.system) c.number one.was posts one.now = one.ran in
+      let there : held_at c pid ≡ Some (Runs s.process) = one.there ∙ ap Some s.old_is in
+      let comes : comes_after_children (limits_of c.system) (Runs s.process) ≡ true = or_left (is_due (limits_of c.system) s.process) (is_exit (next_step (state_of s.process))) s.due in
+      let none : first_unsynced c.family pid ≡ None = sym (before_from (limits_of c.system) c.family c.here pid (Runs s.process) there comes) ∙ takes.alone in
+      subst (Works c Queued here c.server) (sym s.posts_are)
+      (batched pid one.was pid s.process here nothing one.there (syncs_can (limits_of c.system) c.number one.was posts one.now s) there (inl s.due) none
+      (λ log go f. record { children = synced_where_none c log f pid none; due = or_left (is_due (limits_of c.system) s.process) (not (has_state c.system log pid)) s.due })
+      (one.here ∙ ap (λ (h : Held). with_changed pid h c.here) s.new_is))
+
+  -- or the child that comes before it did
+  child_synced : (pid : Pid) (posts : List Post) (here : List (Pid × Held)) → OwesNothing c → SyncsChild (limits_of c.system) c.number c.family pid c.here posts here → Works c Queued here c.server posts
+  child_synced pid posts here nothing syncs =
+      let b = before_is (limits_of c.system) c.family c.here pid syncs.child syncs.before in
+      let s = syncs.syncs in
+      subst (Works c Queued here c.server) (sym s.posts_are)
+      (batched pid b.held syncs.child s.process here nothing b.there (comes_acts (limits_of c.system) b.held b.comes) s.there (inr (pid, syncs.before))
+      (first_childless c some.log some.follows valid some.open_log pid syncs.child b.first) (λ log go f. first_may c log f valid go pid syncs.child b.first s.process) s.here)
 
   -- or came to its fork, and the birth of its child is queued
-  took_fork : (pid : Pid) (forking : Forking) (here : List (Pid × Held)) → OwesNothing c → TakesTurn (limits_of c.system) c.number pid c.here (QuantumForks forking) here → Works c Queued here c.server (birth_told c.number c.places forking ∷ [])
+  took_fork : (pid : Pid) (forking : Forking) (here : List (Pid × Held)) → OwesNothing c → Took pid (QuantumForks forking) here → Works c Queued here c.server (birth_told c.number c.places forking ∷ [])
   took_fork pid forking here nothing takes =
-      let k : ComesToFork (limits_of c.system) 64 takes.was forking takes.now = takes.ran in
-      let mine = own_at_fork (limits_of c.system) c.cursor pid takes.was forking takes.now (own_at c.cursor c.here pid takes.was own takes.there) k in
+      let one = takes.ran in
+      let k : ComesToFork (limits_of c.system) 64 one.was forking one.now = one.ran in
+      let mine = own_at_fork (limits_of c.system) c.cursor pid one.was forking one.now (own_at c.cursor c.here pid one.was own one.there) k in
       let child : Pid = child_of c.number c.places in
       let told : birth_told c.number c.places forking ≡ birth_told c.number c.places (forking_of (k.now).small) = ap (birth_told c.number c.places) k.forking_is in
       let post : birth_told c.number c.places forking ≡ birth_post c.number pid (state_of k.now) child = told ∙ ap (λ p. birth_post c.number p (state_of k.now) child) mine.pid_is in
-      let changed : with_changed pid (Runs k.now) c.here ≡ here = ap (λ (h : Held). with_changed pid h c.here) (sym k.new_is) ∙ sym takes.here in
+      let changed : with_changed pid (Runs k.now) c.here ≡ here = ap (λ (h : Held). with_changed pid h c.here) (sym k.new_is) ∙ sym one.here in
       subst (λ (p : Post). Works c Queued here c.server (p ∷ [])) (sym post)
       (subst (λ hs. Works c Queued hs c.server (birth_post c.number pid (state_of k.now) child ∷ [])) changed (record {
-        goes_on = birth_goes_on c pid takes.was forking takes.now k valid empty takes.there;
+        goes_on = birth_goes_on c pid one.was forking one.now k valid empty one.there;
         work = inr (inr (
           nothing,
-          some_moves (limits_of c.system) c.here pid takes.was takes.there (fork_can (limits_of c.system) 64 takes.was forking takes.now k),
-          inr (inr (record { pid = pid; was = takes.was; forking = forking; now = takes.now; there = takes.there; comes = k; rest = refl })),
+          some_moves (limits_of c.system) c.here pid one.was one.there (fork_can (limits_of c.system) 64 one.was forking one.now k),
+          inr (inr (record { pid = pid; was = one.was; forking = forking; now = one.now; there = one.there; comes = k; rest = refl })),
         ));
         residents = own_changed c.cursor pid (Runs k.now) c.here own mine;
         own = ap (λ b. b && true) (eq-eqb (c.number).0 (c.number).0 refl);
@@ -174,11 +209,17 @@ module _ (c : ClusterView) (empty : c.queue ≡ []) (own : AllOwn c.cursor c.her
       record { goes_on = subst (GoesOn c) (sym whole) (goes_on_rested c); work = subst (WorkIs c worked) (sym whole) work; residents = own; own = refl; built = refl }
 
   -- a turn by the limits of the system is one of a process of the cluster
-  turn_here : (old new : ResidentsView) (quantum : Quantum) → old.limits ≡ limits_of c.system → old.here ≡ c.here → ChosenTurn c.number old quantum new → TakesTurn (limits_of c.system) c.number (pid_of new.last) c.here quantum new.here
-  turn_here old new quantum limits here turn = subst (λ hs. TakesTurn (limits_of c.system) c.number (pid_of new.last) hs quantum new.here) here (subst (λ l. TakesTurn l c.number (pid_of new.last) old.here quantum new.here) limits turn.takes)
+  turn_here : (old new : ResidentsView) (quantum : Quantum) → old.limits ≡ limits_of c.system → old.here ≡ c.here → ChosenTurn c.number c.family old quantum new → HasTurn (limits_of c.system) c.number c.family (pid_of new.last) c.here quantum new.here
+  turn_here old new quantum limits here turn =
+      subst (λ hs. HasTurn (limits_of c.system) c.number c.family (pid_of new.last) hs quantum new.here) here (subst (λ l. HasTurn l c.number c.family (pid_of new.last) old.here quantum new.here) limits turn.takes)
+
+  -- one that synchronised, itself or the child before it
+  either_synced : (pid : Pid) (posts : List Post) (here : List (Pid × Held)) → OwesNothing c → HasTurn (limits_of c.system) c.number c.family pid c.here (QuantumSynced posts) here → Works c Queued here c.server posts
+  either_synced pid posts here nothing (inl takes) = took_synced pid posts here nothing takes
+  either_synced pid posts here nothing (inr syncs) = child_synced pid posts here nothing syncs
 
   -- what runs next, where it owes nothing
-  runs : (old new : ResidentsView) (worked : Worked) (queue : List Post) → old.limits ≡ limits_of c.system → old.here ≡ c.here → OwesNothing c → RunsNext c.number c.places old worked new queue → Works c worked new.here c.server queue
+  runs : (old new : ResidentsView) (worked : Worked) (queue : List Post) → old.limits ≡ limits_of c.system → old.here ≡ c.here → OwesNothing c → RunsNext c.number c.places c.family old worked new queue → Works c worked new.here c.server queue
   runs old new Moved queue limits here nothing turn =
       subst (Works c Moved new.here c.server) (sym turn.1) (took_moved (pid_of new.last) new.here nothing (turn_here old new QuantumMoved limits here turn.0))
   runs old new Queued queue limits here nothing (inl turn) =
@@ -186,23 +227,23 @@ module _ (c : ClusterView) (empty : c.queue ≡ []) (own : AllOwn c.cursor c.her
   runs old new Queued queue limits here nothing (inr (inr turn)) =
       subst (Works c Queued new.here c.server) (sym turn.2) (took_fork (pid_of new.last) turn.0 new.here nothing (turn_here old new (QuantumForks turn.0) limits here turn.1))
   runs old new Queued queue limits here nothing (inr (inl turn)) =
-      subst (Works c Queued new.here c.server) (sym turn.2) (took_synced (pid_of new.last) turn.0 new.here nothing (turn_here old new (QuantumSynced turn.0) limits here turn.1))
+      subst (Works c Queued new.here c.server) (sym turn.2) (either_synced (pid_of new.last) turn.0 new.here nothing (turn_here old new (QuantumSynced turn.0) limits here turn.1))
   runs old new Waits queue limits here nothing turn =
       let same : new.here ≡ c.here = (turn.0).1 ∙ here in
       subst (Works c Waits new.here c.server) (sym turn.2)
       (subst (λ hs. Works c Waits hs c.server []) (sym same) (still Waits (waited_work c valid empty own nothing (ap any_waits (sym here) ∙ turn.1))))
   runs old new Rests queue limits here nothing turn =
       let same : new.here ≡ c.here = (turn.0).1 ∙ here in
-      let stuck : are_stuck (limits_of c.system) c.here ≡ true = (λ i. are_stuck (sym limits i) (sym here i)) ∙ (turn.0).0 in
-      subst (Works c Rests new.here c.server) (sym turn.2)
-      (subst (λ hs. Works c Rests hs c.server []) (sym same) (still Rests (rested_work c own nothing stuck (ap any_waits (sym here) ∙ turn.1))))
+      let none : none_has_turn (limits_of c.system) c.family c.here ≡ true = (λ i. none_has_turn (sym limits i) c.family (sym here i)) ∙ (turn.0).0 in
+      let unwaited : any_waits c.here ≡ false = ap any_waits (sym here) ∙ turn.1 in
+      subst (Works c Rests new.here c.server) (sym turn.2) (subst (λ hs. Works c Rests hs c.server []) (sym same) (still Rests (rested_work c own nothing (none_moves c valid some none unwaited) unwaited)))
 
-  after_none : (old new : ResidentsView) (served : Option PagerState) (worked : Worked) (queue : List Post) → old.limits ≡ limits_of c.system → old.here ≡ c.here → NoPages c.number c.places old c.server served → RunsNext c.number c.places old worked new queue → Works c worked new.here served queue
+  after_none : (old new : ResidentsView) (served : Option PagerState) (worked : Worked) (queue : List Post) → old.limits ≡ limits_of c.system → old.here ≡ c.here → NoPages c.number c.places old c.server served → RunsNext c.number c.places c.family old worked new queue → Works c worked new.here served queue
   after_none old new served worked queue limits here none turn =
       subst (λ server. Works c worked new.here server queue) (sym none.kept) (runs old new worked queue limits here (record { unowed = none.unowed; none = ap any_lacks (sym here) ∙ none.none }) turn)
 
   queued : (old new : ResidentsView) (served : Option PagerState) (queue : List Post) → old.limits ≡ limits_of c.system → old.here ≡ c.here
-      → QueuesAnswer c.number c.places old c.server new served queue ⊎ QueuesFetch c.number c.places old c.server new served queue ⊎ (NoPages c.number c.places old c.server served × RunsNext c.number c.places old Queued new queue)
+      → QueuesAnswer c.number c.places old c.server new served queue ⊎ QueuesFetch c.number c.places old c.server new served queue ⊎ (NoPages c.number c.places old c.server served × RunsNext c.number c.places c.family old Queued new queue)
       → Works c Queued new.here served queue
   queued old new served queue limits here (inl answer) =
       let same : new.here ≡ c.here = ap (λ (r : ResidentsView). r.here) answer.same ∙ here in
@@ -212,7 +253,7 @@ module _ (c : ClusterView) (empty : c.queue ≡ []) (own : AllOwn c.cursor c.her
       (subst (Works c Queued new.here c.server) (sym fetch.queue_is) (fetched new.here fetch.pid fetch.index fetch.unowed (subst (λ hs. AsksNext hs new.here fetch.pid fetch.index) here fetch.asks)))
   queued old new served queue limits here (inr (inr sent)) = after_none old new served Queued queue limits here sent.0 sent.1
 
-  pub works : (old new : ResidentsView) (served : Option PagerState) (worked : Worked) (queue : List Post) → old.limits ≡ limits_of c.system → old.here ≡ c.here → WorksOn c.number c.places old c.server worked new served queue → Works c worked new.here served queue
+  pub works : (old new : ResidentsView) (served : Option PagerState) (worked : Worked) (queue : List Post) → old.limits ≡ limits_of c.system → old.here ≡ c.here → WorksOn c.number c.places c.family old c.server worked new served queue → Works c worked new.here served queue
   works old new served Moved queue limits here on = after_none old new served Moved queue limits here on.0 on.1
   works old new served Queued queue limits here on = queued old new served queue limits here on
   works old new served Waits queue limits here on = after_none old new served Waits queue limits here on.0 on.1

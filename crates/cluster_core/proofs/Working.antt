@@ -1,5 +1,5 @@
 -- A cluster that works goes on to follow each log that it followed.
-use Rattle.std.proofs.Common.{◌≡◌, ◌⊎◌, ℕ, zero, suc, ◌+◌, ◌-◌, ◌≤◌, ◌<◌, refl, sym, ◌∙◌, ap, subst, arith, List, [], ◌∷◌, Bool, true, false, cond, not, ◌&&◌, ◌||◌, eqb-true, eq-eqb, add-zero, Option, Some, None, is_some, inl, inr, true≢false}
+use Rattle.std.proofs.Common.{◌≡◌, ◌⊎◌, ℕ, zero, suc, ◌+◌, ◌-◌, ◌≤◌, ◌<◌, refl, sym, ◌∙◌, ap, subst, arith, List, [], ◌∷◌, Bool, true, false, cond, not, ◌&&◌, ◌||◌, eqb-true, eq-eqb, add-zero, Option, Some, None, is_none, is_some, inl, inr, true≢false}
 use Rattle.std.specs.Prelude.{option_map, option_and_then, find}
 use Rattle.std.specs.Option.{option_map_or}
 use Rattle.t32_base.specs.declared.process.Pid.{Pid}
@@ -11,7 +11,7 @@ use Rattle.proc_state.specs.State.{ProcState, state_of, can_take}
 use Rattle.sys_calls.specs.declared.steps.Emission.{Emission}
 use Rattle.sys_calls.specs.declared.steps.Emission.TheVariants.{Mail as Sent, Exit as Ended}
 use Rattle.sys_calls.specs.Calls.{Emits}
-use Rattle.sys_calls.specs.Next.{next_step, has_step, silently, silent_of, emission_of, last_emission}
+use Rattle.sys_calls.specs.Next.{next_step, has_step, is_end, silently, silent_of, emission_of, last_emission}
 use Rattle.sys_calls.proofs.Counting.{silently_counts, emits_counts, letter_is_own}
 use Rattle.bus_msg.specs.declared.entry.What.TheVariants.{Mail, Exit}
 use Rattle.bus_msg.specs.declared.entry.By.TheVariants.{Cluster}
@@ -23,12 +23,12 @@ use Rattle.cert_sched.specs.Parts.{rising}
 use Rattle.cert_sched.specs.Schedule.{placement, process_after, done_after}
 use Rattle.cert_sched.specs.Steps.{silent_upto, emission_at, after_items}
 use Rattle.cert_sched.specs.Rules.{has_its_pages, keeps_limits, is_by, is_living, is_by_home, is_by_right, is_new_page, home_at}
-use Rattle.cert_sched.specs.Kinds.{KindHolds}
+use Rattle.birth_notice.specs.Family.{first_unsynced}
+use Rattle.cert_sched.specs.Kinds.{ChildrenSynced, KindHolds}
 use Rattle.cert_sched.specs.Legal.{IsLegalBy, Stands}
 use Rattle.cert_sched.specs.Built.{is_unlost, BuiltMayFollow, KeepsWaits, UnlostMayFollow}
 use Rattle.cert_sched.specs.Losses.{least_steps, capped, is_from, is_page_is_entry}
 use Rattle.cert_sched.specs.Appended.{entry_of}
-use Rattle.batch_laws.proofs.NoBirths.{no_children}
 use Rattle.cert_sched.proofs.StepLaws.{Tells, sent_applies}
 use Rattle.cluster_core.specs.declared.worked.Worked.TheVariants.{Moved, Queued}
 use Rattle.quanta.specs.declared.limits.Limits.{Limits}
@@ -44,7 +44,8 @@ use Rattle.cluster_core.specs.Bearing.{BearsChild}
 use Rattle.cluster_core.specs.Follows.{FollowsBuilt, IsOpen}
 use Rattle.cluster_core.specs.Calls.{GoesOn, OwesNothing, WorkIs, is_at_rest, are_at_rest}
 use Rattle.cluster_core.specs.declared.quantum.Sending.{Sending}
-use Rattle.cluster_core.specs.Quantum.{Moves, RollsTo, RunsTo, Sends, told_of, post_told}
+use Rattle.cluster_core.specs.Quantum.{EndsChildless, Moves, RollsTo, RunsTo, Sends, told_of, post_told}
+use Rattle.cluster_core.proofs.ChildrenKept.{synced_where_none}
 use Rattle.cluster_core.proofs.Here.{FoundChanged, found_changed, is_among, pid_same, pids_changed}
 use Rattle.cluster_core.proofs.Telling.{done_is}
 use Rattle.cluster_core.proofs.Quanta.{moves_can, sends_can}
@@ -423,10 +424,10 @@ items_of_post system log pid at (Sent letter) t tells is =
     ap (λ p. option_map (taken_by (Mail at letter)) (option_map (λ (r : Emission × ProcState). r.1) (emission_at system log p at))) tells.0 ∙ ap (λ o. option_map (taken_by (Mail at letter)) (option_map (λ (r : Emission × ProcState). r.1) o)) is
 items_of_post system log pid at (Ended end) t tells is = ap (λ o. option_map (taken_by (Exit pid at end)) (option_map (λ (r : Emission × ProcState). r.1) o)) is
 
-kind_of_post : (system : System) (log : List Entry) (k : ClusterNo) (pid : Pid) (at : ℕ) (e : Emission) (t : ProcState) → Tells pid at e (told_of pid at e) → emission_at system log pid at ≡ Some (e, t) → IsLegalBy BuiltMayFollow system log
+kind_of_post : (system : System) (log : List Entry) (k : ClusterNo) (pid : Pid) (at : ℕ) (e : Emission) (t : ProcState) → Tells pid at e (told_of pid at e) → emission_at system log pid at ≡ Some (e, t) → (is_end e ≡ true → ChildrenSynced system log pid)
     → KindHolds system log (entry_of system log (post_told k pid at e)) (told_of pid at e)
-kind_of_post system log k pid at (Sent letter) t tells is legal = ap (λ p. option_map (λ (r : Emission × ProcState). r.0) (emission_at system log p at)) tells.0 ∙ ap (option_map (λ (r : Emission × ProcState). r.0)) is
-kind_of_post system log k pid at (Ended end) t tells is legal = (ap (option_map (λ (r : Emission × ProcState). r.0)) is, no_children system log pid (built_stands system log legal))
+kind_of_post system log k pid at (Sent letter) t tells is children = ap (λ p. option_map (λ (r : Emission × ProcState). r.0) (emission_at system log p at)) tells.0 ∙ ap (option_map (λ (r : Emission × ProcState). r.0)) is
+kind_of_post system log k pid at (Ended end) t tells is children = (ap (option_map (λ (r : Emission × ProcState). r.0)) is, children refl)
 
 right_of_post : (places : Places) (k : ClusterNo) (pid : Pid) (at : ℕ) (e : Emission) → Tells pid at e (told_of pid at e) → is_by_home places (Cluster k) (Some pid) ≡ true → is_by_right places (Cluster k) (told_of pid at e) ≡ true
 right_of_post places k pid at (Sent letter) tells h = ap (λ p. is_by_home places (Cluster k) (Some p)) tells.0 ∙ h
@@ -457,7 +458,11 @@ fetches_none pid q at k (Ended end) i = refl
 
 -- what it was, where its quantum sent something
 module _ (c : ClusterView) (p : Pid) (was : Held) (sending : Sending) (new : Held) (s : Sends (limits_of c.system) 64 was sending new) (post : Post)
-    (post_is : post ≡ post_told c.number p ((s.now).small).steps sending.emission) (empty : c.queue ≡ []) (there : held_at c p ≡ Some was) (own : IsOwn c.cursor p s.between) where
+    (post_is : post ≡ post_told c.number p ((s.now).small).steps sending.emission) (empty : c.queue ≡ []) (there : held_at c p ≡ Some was) (own : IsOwn c.cursor p s.between) (childless : EndsChildless (is_none (first_unsynced c.family p)) sending.emission) where
+  none_is : {X : Type 0} → (o : Option X) → is_none o ≡ true → o ≡ None
+  none_is None is = refl
+  none_is (Some x) is = absurd (true≢false (sym is))
+
   abbrev at : ℕ
   at = ((s.now).small).steps
 
@@ -507,7 +512,7 @@ module _ (c : ClusterView) (p : Pid) (was : Held) (sending : Sending) (new : Hel
             right_of_post (placement c.system log) c.number p at e tells
             (home_by (placement c.system log) c.number p (home_lives c.system log p c.number valid go.0 go.1 (home_of_it c p was empty there valid log go f)) (home_of_it c p was empty there valid log go f));
         applies = sent_applies c.system log (entry_of c.system log (post_told c.number p at e)) p at e (state_of s.now) emission_is tells;
-        kind = kind_of_post c.system log c.number p at e (state_of s.now) tells emission_is go.0;
+        kind = kind_of_post c.system log c.number p at e (state_of s.now) tells emission_is (λ end. synced_where_none c log f p (none_is (first_unsynced c.family p) (childless end)));
       };
       built = built_of p at e;
       limits = told_keeps c.system log p at e (state_of s.now) emission_is (told_of p at e) tells keeps;
@@ -597,6 +602,7 @@ module _ (c : ClusterView) (p : Pid) (was : Held) (sending : Sending) (new : Hel
           emission = e;
           there = there;
           sends = subst (λ (x : Held). Sends (limits_of c.system) 64 was one x) s.new_is (subst (λ (x : Sending). Sends (limits_of c.system) 64 was x new) same s);
+          childless = childless;
           rest = λ i. record c { here = with_changed p (Runs s.now) c.here; queue = post_is i ∷ []; steps = next_count c.steps };
         }),
       ))

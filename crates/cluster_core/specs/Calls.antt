@@ -1,5 +1,5 @@
 -- What the calls on a cluster ask and promise. What a call asks holds of some log; what it promises, of every log that the cluster follows.
-use Rattle.std.specs.Prelude.{ℕ, ◌+◌, ◌≡◌, ◌≢◌, ◌⊎◌, ◌&&◌, Bool, true, false, not, if◌then◌else◌, List, [], ◌∷◌, ◌++◌, map, filter, Some, ⊤}
+use Rattle.std.specs.Prelude.{ℕ, ◌+◌, ◌≡◌, ◌≢◌, ◌⊎◌, ◌&&◌, Bool, true, false, not, if◌then◌else◌, List, [], ◌∷◌, ◌++◌, map, filter, Some, None, is_none, ⊤}
 use Rattle.std.specs.List.{list_all}
 use Rattle.t32_base.specs.declared.process.Pid.{Pid}
 use Rattle.t32_base.specs.declared.process.ClusterNo.{ClusterNo}
@@ -24,6 +24,7 @@ use Rattle.cert_sched.specs.Schedule.{placement}
 use Rattle.cluster_core.specs.declared.worked.Worked.{Worked}
 use Rattle.cluster_core.specs.declared.worked.Worked.TheVariants.{Moved, Queued, Waits as IsWaiting, Rests}
 use Rattle.backup_records.specs.Records.{records_after}
+use Rattle.birth_notice.specs.Family.{first_unsynced}
 use Rattle.sync_point.specs.Batch.{batch, synced}
 use Rattle.quanta.specs.declared.limits.Limits.{Limits}
 use Rattle.quanta.specs.Limited.{is_due}
@@ -31,7 +32,8 @@ use Rattle.cluster_core.specs.View.{ClusterView, Held, Runs, Rolls, Waits, arriv
 use Rattle.cluster_core.specs.declared.hurt.Hurt.{Hurt}
 use Rattle.cluster_core.specs.declared.hurt.Hurt.TheVariants.{Disk, NoMemory}
 use Rattle.cluster_core.specs.declared.quantum.Forking.{Forking}
-use Rattle.cluster_core.specs.Quantum.{ComesToFork, Moves, Sends, post_told}
+use Rattle.cluster_core.specs.ChildrenFirst.{child_before}
+use Rattle.cluster_core.specs.Quantum.{ComesToFork, EndsChildless, Moves, Sends, post_told}
 use Rattle.cluster_core.specs.Serving.{FailsNext}
 use Rattle.cluster_core.specs.Residents.{with_changed}
 use Rattle.cluster_core.specs.Recovered.{left_by, moved_by, with_all_waiting}
@@ -144,7 +146,7 @@ pub record MovedOne (old new : ClusterView) : Type 0 where
   pub moves : Moves (limits_of old.system) 64 was now
   pub rest : new ≡ record old { here = with_changed pid now old.here; steps = next_count old.steps }
 
--- one process made 1 to 64 steps, of which the last alone sent something that was not withheld, and this is the one post to be sent
+-- one process made 1 to 64 steps, of which the last alone sent something that was not withheld, and this is the one post to be sent; where it ended by it no child was to synchronise before it
 pub record QueuesOne (old new : ClusterView) : Type 0 where
   pub pid : Pid
   pub was : Held
@@ -152,14 +154,20 @@ pub record QueuesOne (old new : ClusterView) : Type 0 where
   pub emission : Emission
   pub there : held_at old pid ≡ Some was
   pub sends : Sends (limits_of old.system) 64 was (record { pid = pid; at = (now.small).steps; emission = emission }) (Runs now)
+  pub childless : EndsChildless (is_none (first_unsynced old.family pid)) emission
   pub rest : new ≡ record old { here = with_changed pid (Runs now) old.here; queue = post_told old.number pid (now.small).steps emission ∷ []; steps = next_count old.steps }
 
--- one process that was due has synchronised, and the posts of its batch are those to be sent
+-- it is due; or it is the child that is to synchronise in the place of a process that is due or is to end
+abbrev pub IsNextToSync : ClusterView → Pid → Process → Type 0
+IsNextToSync c p process = (is_due (limits_of c.system) process ≡ true) ⊎ ((parent : Pid) × (child_before (limits_of c.system) c.family c.here parent ≡ Some p))
+
+-- one process whose turn it is to synchronise has done so, after its children, and the posts of its batch are those to be sent
 pub record QueuesBatch (old new : ClusterView) : Type 0 where
   pub pid : Pid
   pub process : Process
   pub there : held_at old pid ≡ Some (Runs process)
-  pub due : is_due (limits_of old.system) process ≡ true
+  pub next : IsNextToSync old pid process
+  pub childless : first_unsynced old.family pid ≡ None
   pub rest : new ≡ record old { here = with_changed pid (Runs (synced process)) old.here; queue = batch process old.number; steps = next_count old.steps }
 
 -- one process made up to 63 steps, of which none sent anything that was not withheld, and the birth of its next child is the one post to be sent

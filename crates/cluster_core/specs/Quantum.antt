@@ -1,5 +1,5 @@
 -- The turn of a process. It synchronises where it is due; else a quantum: steps that it did before, in which what it sends is withheld; silent steps; and at most one emission at their end.
-use Rattle.std.specs.Prelude.{ℕ, ◌+◌, ◌≤◌, ◌<◌, ◌≡◌, true, false, List, Some, Result, Ok, Err, ⊤}
+use Rattle.std.specs.Prelude.{ℕ, ◌+◌, ◌≤◌, ◌<◌, ◌≡◌, Bool, true, false, List, Some, Result, Ok, Err, ⊤}
 use Rattle.t32_base.specs.declared.streams.NoMemory.{NoMemory}
 use Rattle.t32_base.specs.declared.process.Pid.{Pid}
 use Rattle.t32_base.specs.declared.process.ClusterNo.{ClusterNo}
@@ -12,7 +12,7 @@ use Rattle.proc_state.specs.State.{state_of}
 use Rattle.sys_calls.specs.declared.steps.Emission.{Emission}
 use Rattle.sys_calls.specs.declared.steps.Emission.TheVariants.{Mail as SentMail, Exit as SentExit}
 use Rattle.sys_calls.specs.Calls.{Emits, Forks}
-use Rattle.sys_calls.specs.Next.{next_step, has_step, is_exit}
+use Rattle.sys_calls.specs.Next.{next_step, has_step, is_end, is_exit}
 use Rattle.roll_forward.specs.RunsOut.{RunsOut}
 use Rattle.roll_forward.specs.Advancing.{going, rolled_on}
 use Rattle.bus_msg.specs.declared.entry.What.{What}
@@ -115,14 +115,25 @@ pub record Syncs (limits : Limits) (by : ClusterNo) (old : Held) (posts : List P
   pub posts_are : posts ≡ batch process by
   pub new_is : new ≡ Runs (synced process)
 
+-- it ends by it only where it has no child that is to synchronise first
+abbrev pub EndsChildless : Bool → Emission → Type 0
+EndsChildless childless e = is_end e ≡ true → childless ≡ true
+
 -- in a cluster it moved, or sent something, or synchronised, or could not move, or came to its fork; after want of memory nothing has changed
-abbrev pub RunsQuantum : Limits → ClusterNo → ℕ → Held → Result Quantum NoMemory → Held → Type 0
-RunsQuantum limits by most old (Ok Moved) new = Moves limits most old new
-RunsQuantum limits by most old (Ok (Sent sending)) new = Sends limits most old sending new
-RunsQuantum limits by most old (Ok (Synced posts)) new = Syncs limits by old posts new
-RunsQuantum limits by most old (Ok Stuck) new = (can_act limits old ≡ false) × (new ≡ old)
-RunsQuantum limits by most old (Ok (AtFork forking)) new = ComesToFork limits most old forking new
-RunsQuantum limits by most old (Err fault) new = new ≡ old
+abbrev pub RunsQuantum : Limits → ClusterNo → ℕ → Bool → Held → Result Quantum NoMemory → Held → Type 0
+RunsQuantum limits by most childless old (Ok Moved) new = Moves limits most old new
+RunsQuantum limits by most childless old (Ok (Sent sending)) new = Sends limits most old sending new × EndsChildless childless sending.emission
+RunsQuantum limits by most childless old (Ok (Synced posts)) new = Syncs limits by old posts new
+RunsQuantum limits by most childless old (Ok Stuck) new = (can_act limits old ≡ false) × (new ≡ old)
+RunsQuantum limits by most childless old (Ok (AtFork forking)) new = ComesToFork limits most old forking new
+RunsQuantum limits by most childless old (Err fault) new = new ≡ old
+
+-- one that runs synchronised, by the posts of its batch
+pub record SyncsNow (by : ClusterNo) (old : Held) (posts : List Post) (new : Held) : Type 0 where
+  pub process : Process
+  pub old_is : old ≡ Runs process
+  pub posts_are : posts ≡ batch process by
+  pub new_is : new ≡ Runs (synced process)
 
 -- ---- its part in which the process runs
 
@@ -137,14 +148,19 @@ pub record EndsNow (old : Process) (quantum : Quantum) (new : Process) : Type 0 
   pub touches : new ≡ record old { small = new.small }
   pub is : quantum ≡ Sent (sending_of new.small (SentExit end))
 
+-- one that stands before its end ends where it has no child that is to synchronise first, and stays there else
+abbrev pub EndsOrStays : Bool → Process → Quantum → Process → Type 0
+EndsOrStays true old quantum new = EndsNow old quantum new
+EndsOrStays false old quantum new = (quantum ≡ Moved) × (new ≡ old)
+
 -- what a cluster says of it, and what becomes of the process
-abbrev pub Tells : Ran → Process → Quantum → Process → Type 0
-Tells RanOn old quantum new = (quantum ≡ Moved) × (new ≡ old)
-Tells Refused old quantum new = (quantum ≡ Moved) × (new ≡ old)
-Tells (RanSending letter) old quantum new = (quantum ≡ Sent (sending_of old.small (SentMail letter))) × (new ≡ old)
-Tells RanStuck old quantum new = (quantum ≡ Stuck) × (new ≡ old)
-Tells RanToFork old quantum new = (quantum ≡ AtFork (forking_of old.small)) × (new ≡ old)
-Tells (RanToEnd count) old quantum new = EndsNow old quantum new
+abbrev pub Tells : Ran → Bool → Process → Quantum → Process → Type 0
+Tells RanOn childless old quantum new = (quantum ≡ Moved) × (new ≡ old)
+Tells Refused childless old quantum new = (quantum ≡ Moved) × (new ≡ old)
+Tells (RanSending letter) childless old quantum new = (quantum ≡ Sent (sending_of old.small (SentMail letter))) × (new ≡ old)
+Tells RanStuck childless old quantum new = (quantum ≡ Stuck) × (new ≡ old)
+Tells RanToFork childless old quantum new = (quantum ≡ AtFork (forking_of old.small)) × (new ≡ old)
+Tells (RanToEnd count) childless old quantum new = EndsOrStays childless old quantum new
 
 -- one that is to fork has an instruction left, and one that is to end stands before its end
 abbrev pub CanTell : Ran → Process → Type 0
@@ -177,13 +193,13 @@ pub record RestComesToFork (limits : Limits) (most made : ℕ) (old : Process) (
   pub forking_is : forking ≡ forking_of new.small
 
 -- the rest of a turn after so many steps: where there were none, it may be due and synchronise, or have no step, or no memory for the first
-abbrev pub ActsOn : Limits → ClusterNo → ℕ → ℕ → Process → Result Quantum NoMemory → Process → Type 0
-ActsOn limits by most made old (Ok Moved) new = RestMoves limits most made old new
-ActsOn limits by most made old (Ok (Sent sending)) new = RestSends limits most made old sending new
-ActsOn limits by most made old (Ok (Synced posts)) new = (made ≡ 0) × (is_due limits old ≡ true) × (posts ≡ batch old by) × (new ≡ synced old)
-ActsOn limits by most made old (Ok Stuck) new = (made ≡ 0) × (is_due limits old ≡ false) × (has_step (next_step (state_of old)) ≡ false) × (new ≡ old)
-ActsOn limits by most made old (Ok (AtFork forking)) new = RestComesToFork limits most made old forking new
-ActsOn limits by most made old (Err fault) new = (made ≡ 0) × (new ≡ old)
+abbrev pub ActsOn : Limits → ClusterNo → ℕ → Bool → ℕ → Process → Result Quantum NoMemory → Process → Type 0
+ActsOn limits by most childless made old (Ok Moved) new = RestMoves limits most made old new
+ActsOn limits by most childless made old (Ok (Sent sending)) new = RestSends limits most made old sending new × EndsChildless childless sending.emission
+ActsOn limits by most childless made old (Ok (Synced posts)) new = (made ≡ 0) × (is_due limits old ≡ true) × (posts ≡ batch old by) × (new ≡ synced old)
+ActsOn limits by most childless made old (Ok Stuck) new = (made ≡ 0) × (is_due limits old ≡ false) × (has_step (next_step (state_of old)) ≡ false) × (new ≡ old)
+ActsOn limits by most childless made old (Ok (AtFork forking)) new = RestComesToFork limits most made old forking new
+ActsOn limits by most childless made old (Err fault) new = (made ≡ 0) × (new ≡ old)
 
 -- ---- what is posted
 

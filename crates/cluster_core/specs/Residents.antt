@@ -1,18 +1,23 @@
 -- The processes at home in a cluster, as its code keeps them.
-use Rattle.std.specs.Prelude.{ℕ, ◌≡◌, ◌<◌, ◌-◌, ◌^◌, Bool, true, not, ◌&&◌, nat_lt, if◌then◌else◌, List, [], ◌∷◌, map, filter, find, Option, Some, None, is_none, ◌||◌, Result, Ok, Err}
+use Rattle.std.specs.Prelude.{ℕ, ◌≡◌, ◌⊎◌, ◌<◌, ◌-◌, ◌^◌, Bool, true, not, ◌&&◌, nat_lt, if◌then◌else◌, List, [], ◌∷◌, map, filter, find, Option, Some, None, is_none, ◌||◌, Result, Ok, Err}
 use Rattle.std.specs.List.{list_all}
 use Rattle.std.specs.Option.{option_or}
 use Rattle.t32_base.specs.declared.process.Pid.{Pid}
 use Rattle.t32_base.specs.declared.process.ClusterNo.{ClusterNo}
 use Rattle.t32_base.specs.declared.streams.NoMemory.{NoMemory}
+use Rattle.proc_state.specs.declared.process.Process.{Process}
+use Rattle.bus_msg.specs.declared.entry.Post.{Post}
 use Rattle.bus_msg.specs.Places.{same_pid}
+use Rattle.birth_notice.specs.Family.{first_unsynced}
+use Rattle.sync_point.specs.Batch.{batch, synced}
 use Rattle.plain_kernel.specs.Maps.{pid_of}
 use Rattle.cert_sched.specs.Parts.{first_of}
 use Rattle.quanta.specs.declared.limits.Limits.{Limits}
 use Rattle.cluster_core.specs.declared.quantum.Quantum.{Quantum}
 use Rattle.cluster_core.specs.declared.quantum.Quantum.TheVariants.{Moved, Sent, Synced, Stuck, Forks}
 use Rattle.cluster_core.specs.Quantum.{RunsQuantum}
-use Rattle.cluster_core.specs.View.{Held, asked_held, can_act, held_of, is_waiting, next_number, page_lacked}
+use Rattle.cluster_core.specs.ChildrenFirst.{child_before, has_turn}
+use Rattle.cluster_core.specs.View.{Held, Runs, asked_held, can_act, held_of, is_waiting, next_number, page_lacked}
 
 -- the limits by which they synchronise; the processes by rising pid; the pids of those that may move, rising; those of which some may have pages to ask for, rising; and the pid that was chosen last, 0 before any was
 pub record ResidentsView : Type 0 where
@@ -46,9 +51,13 @@ are_stuck limits here = list_all (λ (e : Pid × Held). is_stuck limits e.1) her
 abbrev pub pids_in : List (Pid × Held) → List ℕ
 pids_in here = map (λ (e : Pid × Held). (e.0).0) here
 
--- the pids of those that can move
-abbrev pub pids_able : Limits → List (Pid × Held) → List ℕ
-pids_able limits here = pids_in (filter (λ (e : Pid × Held). not (is_stuck limits e.1)) here)
+-- the pids of those that can have a turn
+abbrev pub pids_able : Limits → List (Pid × Pid) → List (Pid × Held) → List ℕ
+pids_able limits family here = pids_in (filter (has_turn limits family here) here)
+
+-- none of them can
+abbrev pub none_has_turn : Limits → List (Pid × Pid) → List (Pid × Held) → Bool
+none_has_turn limits family here = list_all (λ (e : Pid × Held). not (has_turn limits family here e)) here
 
 -- each number is below those after it
 abbrev pub are_rising : List ℕ → Bool
@@ -59,33 +68,59 @@ are_rising (n ∷ ns) = list_all (λ m. nat_lt n m) ns && are_rising ns
 abbrev pub next_ready : List ℕ → ℕ → Option ℕ
 next_ready ready last = option_or (find (λ n. nat_lt last n) ready) (first_of ready)
 
--- the process with a pid is the next one that can move, where it can
-abbrev pub NextAble : ℕ → ResidentsView → Type 0
-NextAble n rs = (h : Held) → held_of rs.here (pid_of n) ≡ Some h → can_act rs.limits h ≡ true → next_ready (pids_able rs.limits rs.here) rs.last ≡ Some n
+-- the process with a pid is the next one that can have a turn, where it can move
+abbrev pub NextAble : ℕ → List (Pid × Pid) → ResidentsView → Type 0
+NextAble n family rs = (h : Held) → held_of rs.here (pid_of n) ≡ Some h → can_act rs.limits h ≡ true → next_ready (pids_able rs.limits family rs.here) rs.last ≡ Some n
 
 -- ---- a turn
 
--- the process with a pid had its turn in a cluster, and the others stayed
-pub record TakesTurn (limits : Limits) (by : ClusterNo) (pid : Pid) (old : List (Pid × Held)) (quantum : Quantum) (new : List (Pid × Held)) : Type 0 where
+-- the process with a pid, which runs here, synchronised by the posts of its batch
+pub record SyncsAt (by : ClusterNo) (pid : Pid) (old : List (Pid × Held)) (posts : List Post) (new : List (Pid × Held)) : Type 0 where
+  pub process : Process
+  pub there : held_of old pid ≡ Some (Runs process)
+  pub posts_are : posts ≡ batch process by
+  pub here : new ≡ with_changed pid (Runs (synced process)) old
+
+-- the process with a pid ran for a quantum or synchronised, and the others stayed
+pub record RunsOne (limits : Limits) (by : ClusterNo) (childless : Bool) (pid : Pid) (old : List (Pid × Held)) (quantum : Quantum) (new : List (Pid × Held)) : Type 0 where
   pub was : Held
   pub now : Held
   pub there : held_of old pid ≡ Some was
-  pub ran : RunsQuantum limits by 64 was (Ok quantum) now
+  pub ran : RunsQuantum limits by 64 childless was (Ok quantum) now
   pub here : new ≡ with_changed pid now old
 
--- it was the next process that can move, in rising pid order after the one that was chosen last, cyclically
-pub record ChosenTurn (by : ClusterNo) (old : ResidentsView) (quantum : Quantum) (new : ResidentsView) : Type 0 where
-  pub chosen : next_ready (pids_able old.limits old.here) old.last ≡ Some new.last
-  pub takes : TakesTurn old.limits by (pid_of new.last) old.here quantum new.here
+-- the process with a pid, before which no child is to synchronise, had its turn in a cluster, and the others stayed
+pub record TakesTurn (limits : Limits) (by : ClusterNo) (family : List (Pid × Pid)) (pid : Pid) (old : List (Pid × Held)) (quantum : Quantum) (new : List (Pid × Held)) : Type 0 where
+  pub alone : child_before limits family old pid ≡ None
+  pub ran : RunsOne limits by (is_none (first_unsynced family pid)) pid old quantum new
 
--- one of them moved, or sent something, or synchronised, or came to its fork, or none can move; after want of memory no process has changed
-abbrev pub TurnIs : ClusterNo → ResidentsView → Result Quantum NoMemory → ResidentsView → Type 0
-TurnIs by old (Ok Moved) new = ChosenTurn by old Moved new
-TurnIs by old (Ok (Sent sending)) new = ChosenTurn by old (Sent sending) new
-TurnIs by old (Ok (Synced posts)) new = ChosenTurn by old (Synced posts) new
-TurnIs by old (Ok (Forks forking)) new = ChosenTurn by old (Forks forking) new
-TurnIs by old (Ok Stuck) new = (are_stuck old.limits old.here ≡ true) × (new.here ≡ old.here) × (new.last ≡ old.last)
-TurnIs by old (Err fault) new = new.here ≡ old.here
+-- in its place the child that is to synchronise before it did so, by the posts of its batch
+pub record SyncsChild (limits : Limits) (by : ClusterNo) (family : List (Pid × Pid)) (pid : Pid) (old : List (Pid × Held)) (posts : List Post) (new : List (Pid × Held)) : Type 0 where
+  pub child : Pid
+  pub before : child_before limits family old pid ≡ Some child
+  pub syncs : SyncsAt by child old posts new
+
+-- one or the other
+abbrev pub HasTurn : Limits → ClusterNo → List (Pid × Pid) → Pid → List (Pid × Held) → Quantum → List (Pid × Held) → Type 0
+HasTurn limits by family pid old Moved new = TakesTurn limits by family pid old Moved new
+HasTurn limits by family pid old (Sent sending) new = TakesTurn limits by family pid old (Sent sending) new
+HasTurn limits by family pid old (Synced posts) new = TakesTurn limits by family pid old (Synced posts) new ⊎ SyncsChild limits by family pid old posts new
+HasTurn limits by family pid old (Forks forking) new = TakesTurn limits by family pid old (Forks forking) new
+HasTurn limits by family pid old Stuck new = TakesTurn limits by family pid old Stuck new
+
+-- it was the next process that can have a turn, in rising pid order after the one that was chosen last, cyclically
+pub record ChosenTurn (by : ClusterNo) (family : List (Pid × Pid)) (old : ResidentsView) (quantum : Quantum) (new : ResidentsView) : Type 0 where
+  pub chosen : next_ready (pids_able old.limits family old.here) old.last ≡ Some new.last
+  pub takes : HasTurn old.limits by family (pid_of new.last) old.here quantum new.here
+
+-- one of them moved, or sent something, or synchronised, or came to its fork, or none can have a turn; after want of memory no process has changed
+abbrev pub TurnIs : ClusterNo → List (Pid × Pid) → ResidentsView → Result Quantum NoMemory → ResidentsView → Type 0
+TurnIs by family old (Ok Moved) new = ChosenTurn by family old Moved new
+TurnIs by family old (Ok (Sent sending)) new = ChosenTurn by family old (Sent sending) new
+TurnIs by family old (Ok (Synced posts)) new = ChosenTurn by family old (Synced posts) new
+TurnIs by family old (Ok (Forks forking)) new = ChosenTurn by family old (Forks forking) new
+TurnIs by family old (Ok Stuck) new = (none_has_turn old.limits family old.here ≡ true) × (new.here ≡ old.here) × (new.last ≡ old.last)
+TurnIs by family old (Err fault) new = new.here ≡ old.here
 
 -- it cannot move, and does not wait for a page
 abbrev pub is_settled : Limits → Held → Bool
@@ -119,11 +154,20 @@ AsksOf pid old (Some index) new = AsksPage pid old index new
 abbrev pub is_stuck_at : Limits → Pid → List (Pid × Held) → Bool
 is_stuck_at limits pid here = list_all (λ (e : Pid × Held). not (same_pid e.0 pid) || is_stuck limits e.1) here
 
--- the process with a pid moved, or sent something, or synchronised, or came to its fork, or cannot move; after want of memory nothing has changed
-abbrev pub GivenTurnIs : Limits → ClusterNo → Pid → List (Pid × Held) → Result Quantum NoMemory → List (Pid × Held) → Type 0
-GivenTurnIs limits by pid old (Ok Moved) new = TakesTurn limits by pid old Moved new
-GivenTurnIs limits by pid old (Ok (Sent sending)) new = TakesTurn limits by pid old (Sent sending) new
-GivenTurnIs limits by pid old (Ok (Synced posts)) new = TakesTurn limits by pid old (Synced posts) new
-GivenTurnIs limits by pid old (Ok (Forks forking)) new = TakesTurn limits by pid old (Forks forking) new
-GivenTurnIs limits by pid old (Ok Stuck) new = (is_stuck_at limits pid old ≡ true) × (new ≡ old)
-GivenTurnIs limits by pid old (Err fault) new = new ≡ old
+-- so it did, or it cannot move, if it is there; after want of memory nothing has changed
+abbrev pub RunsAt : Limits → ClusterNo → Bool → Pid → List (Pid × Held) → Result Quantum NoMemory → List (Pid × Held) → Type 0
+RunsAt limits by childless pid old (Ok Moved) new = RunsOne limits by childless pid old Moved new
+RunsAt limits by childless pid old (Ok (Sent sending)) new = RunsOne limits by childless pid old (Sent sending) new
+RunsAt limits by childless pid old (Ok (Synced posts)) new = RunsOne limits by childless pid old (Synced posts) new
+RunsAt limits by childless pid old (Ok (Forks forking)) new = RunsOne limits by childless pid old (Forks forking) new
+RunsAt limits by childless pid old (Ok Stuck) new = (is_stuck_at limits pid old ≡ true) × (new ≡ old)
+RunsAt limits by childless pid old (Err fault) new = new ≡ old
+
+-- the process with a pid, which no child hinders, had its turn, or cannot move; after want of memory nothing has changed
+abbrev pub GivenTurnIs : Limits → ClusterNo → List (Pid × Pid) → Pid → List (Pid × Held) → Result Quantum NoMemory → List (Pid × Held) → Type 0
+GivenTurnIs limits by family pid old (Ok Moved) new = HasTurn limits by family pid old Moved new
+GivenTurnIs limits by family pid old (Ok (Sent sending)) new = HasTurn limits by family pid old (Sent sending) new
+GivenTurnIs limits by family pid old (Ok (Synced posts)) new = HasTurn limits by family pid old (Synced posts) new
+GivenTurnIs limits by family pid old (Ok (Forks forking)) new = HasTurn limits by family pid old (Forks forking) new
+GivenTurnIs limits by family pid old (Ok Stuck) new = (is_stuck_at limits pid old ≡ true) × (new ≡ old)
+GivenTurnIs limits by family pid old (Err fault) new = new ≡ old

@@ -112,22 +112,22 @@ pub record NoPages (k : ClusterNo) (places : Places) (old : ResidentsView) (serv
   pub none : any_lacks old.here ≡ false
   pub kept : served ≡ server
 
--- a turn of one that is here, and what it sent or synchronises by, or the birth of its child, is queued; where none can move, whether a process waits for its pages
-abbrev pub RunsNext : ClusterNo → Places → ResidentsView → Worked → ResidentsView → List Post → Type 0
-RunsNext k places old Moved new queue = TurnIs k old (Ok QuantumMoved) new × (queue ≡ [])
-RunsNext k places old Queued new queue =
-    ((sending : Sending) × TurnIs k old (Ok (Sent sending)) new × (queue ≡ post_told k sending.pid sending.at sending.emission ∷ []))
-    ⊎ ((posts : List Post) × TurnIs k old (Ok (Synced posts)) new × (queue ≡ posts))
-    ⊎ ((forking : Forking) × TurnIs k old (Ok (Forks forking)) new × (queue ≡ birth_told k places forking ∷ []))
-RunsNext k places old IsWaiting new queue = TurnIs k old (Ok Stuck) new × (any_waits old.here ≡ true) × (queue ≡ [])
-RunsNext k places old Rests new queue = TurnIs k old (Ok Stuck) new × (any_waits old.here ≡ false) × (queue ≡ [])
+-- a turn of one that is here, and what it sent or synchronises by, or the birth of its child, is queued; where none can have a turn, whether a process waits for its pages
+abbrev pub RunsNext : ClusterNo → Places → List (Pid × Pid) → ResidentsView → Worked → ResidentsView → List Post → Type 0
+RunsNext k places family old Moved new queue = TurnIs k family old (Ok QuantumMoved) new × (queue ≡ [])
+RunsNext k places family old Queued new queue =
+    ((sending : Sending) × TurnIs k family old (Ok (Sent sending)) new × (queue ≡ post_told k sending.pid sending.at sending.emission ∷ []))
+    ⊎ ((posts : List Post) × TurnIs k family old (Ok (Synced posts)) new × (queue ≡ posts))
+    ⊎ ((forking : Forking) × TurnIs k family old (Ok (Forks forking)) new × (queue ≡ birth_told k places forking ∷ []))
+RunsNext k places family old IsWaiting new queue = TurnIs k family old (Ok Stuck) new × (any_waits old.here ≡ true) × (queue ≡ [])
+RunsNext k places family old Rests new queue = TurnIs k family old (Ok Stuck) new × (any_waits old.here ≡ false) × (queue ≡ [])
 
 -- an answer that is owed comes first, then a page that is to be asked for, and then the turn of one that is here; what it sent is queued
-abbrev pub WorksOn : ClusterNo → Places → ResidentsView → Option PagerState → Worked → ResidentsView → Option PagerState → List Post → Type 0
-WorksOn k places old server Queued new served queue =
+abbrev pub WorksOn : ClusterNo → Places → List (Pid × Pid) → ResidentsView → Option PagerState → Worked → ResidentsView → Option PagerState → List Post → Type 0
+WorksOn k places family old server Queued new served queue =
     QueuesAnswer k places old server new served queue
     ⊎ QueuesFetch k places old server new served queue
-    ⊎ (NoPages k places old server served × RunsNext k places old Queued new queue)
-WorksOn k places old server Moved new served queue = NoPages k places old server served × RunsNext k places old Moved new queue
-WorksOn k places old server IsWaiting new served queue = NoPages k places old server served × RunsNext k places old IsWaiting new queue
-WorksOn k places old server Rests new served queue = NoPages k places old server served × RunsNext k places old Rests new queue
+    ⊎ (NoPages k places old server served × RunsNext k places family old Queued new queue)
+WorksOn k places family old server Moved new served queue = NoPages k places old server served × RunsNext k places family old Moved new queue
+WorksOn k places family old server IsWaiting new served queue = NoPages k places old server served × RunsNext k places family old IsWaiting new queue
+WorksOn k places family old server Rests new served queue = NoPages k places old server served × RunsNext k places family old Rests new queue

@@ -1,6 +1,8 @@
 //! What a process did when it had its turn.
-ghost use Rattle.std.specs.Prelude.{◌≡◌, ◌<◌};
-ghost use Rattle.cluster_core.specs.Quantum.{forking_of, sending_of, CanTell, Tells};
+ghost use Rattle.std.specs.Prelude.{◌≡◌, ◌<◌, true};
+ghost use Rattle.proc_state.specs.State.{state_of};
+ghost use Rattle.sys_calls.specs.Next.{is_exit, next_step};
+ghost use Rattle.cluster_core.specs.Quantum.{forking_of, sending_of, CanTell, EndsOrStays, Tells};
 
 use bus_msg::entry::Post;
 use proc_state::process::{Process, free_end};
@@ -38,11 +40,11 @@ pub struct Forking {
     pub end: u8,
 }
 
-/// What a process that runs did in a quantum; one that stands before its end ends now, by one step more. A step for which memory was refused is not
-/// made. Takes no memory.
-pub fn tell(process: &mut Process, ran: Ran) -> Quantum
+/// What a process that runs did in a quantum; one that stands before its end ends now, by one step more, where it has no child that is to
+/// synchronise first. A step for which memory was refused is not made. Takes no memory.
+pub fn tell(process: &mut Process, ran: Ran, childless: bool) -> Quantum
     requires { CanTell ran process.old }
-    ensures { Tells ran process.old result process.new }
+    ensures { Tells ran childless process.old result process.new }
 {
     match ran {
         Ran::Moved => Quantum::Moved,
@@ -50,11 +52,20 @@ pub fn tell(process: &mut Process, ran: Ran) -> Quantum
         Ran::Sent(letter) => Quantum::Sent(sending_of(&process.small, Emission::Mail(letter))),
         Ran::Stuck => Quantum::Stuck,
         Ran::Forks => Quantum::Forks(forking_of(&process.small)),
-        Ran::Ends(_) => {
-            let end = exit(process);
-            Quantum::Sent(sending_of(&process.small, Emission::Exit(end)))
-        }
+        Ran::Ends(_) => end_or_stay(process, childless),
     }
+}
+
+// The end of a process that stands before it, where no child of it is to synchronise first.
+fn end_or_stay(process: &mut Process, childless: bool) -> Quantum
+    requires { is_exit (next_step (state_of process.old)) ≡ true }
+    ensures { EndsOrStays childless process.old result process.new }
+{
+    if !childless {
+        return Quantum::Moved;
+    }
+    let end = exit(process);
+    Quantum::Sent(sending_of(&process.small, Emission::Exit(end)))
 }
 
 // What a process that has this state sent by its last step. Takes no memory.

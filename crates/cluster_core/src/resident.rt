@@ -1,15 +1,17 @@
 //! A process at home in a cluster: it runs, or it rolls forward, or it waits for its pages.
-ghost use Rattle.std.specs.Prelude.{◌≡◌, ◌≤◌, ◌<◌, ◌^◌, ◌-◌, ◌+◌, OnOk, OnErr, IfOk, Some, is_some, if◌then◌else◌};
+ghost use Rattle.std.specs.Prelude.{◌≡◌, ◌≤◌, ◌<◌, ◌^◌, ◌-◌, ◌+◌, true, OnOk, OnErr, IfOk, Some, is_some, if◌then◌else◌};
 ghost use Rattle.proc_state.specs.State.{state_of};
 ghost use Rattle.roll_forward.specs.RunsOut.{RunsOut, nothing_left};
 ghost use Rattle.page_waits.specs.Waiting.{next_page};
 ghost use Rattle.cluster_core.specs.View.{Runs, Rolls, Waits, arrived_held, asked_held, can_act, is_waiting, next_number, page_held, page_lacked, rolling_held, steps_of_held};
 ghost use Rattle.quanta.specs.Limited.{is_due};
-ghost use Rattle.cluster_core.specs.Quantum.{ActsOn, RunsQuantum};
+ghost use Rattle.cluster_core.specs.ChildrenFirst.{comes_after_children, is_running};
+ghost use Rattle.cluster_core.specs.Quantum.{ActsOn, RunsQuantum, SyncsNow};
 ghost use Rattle.cluster_core.specs.Bearing.{CanForkNow, HasForked};
 ghost use Rattle.cluster_core.specs.Resident.{gone_on, held_standing, running_on, CanComeTo, CanGoOnFrom, HasCaughtUp, HasRolled, StandsSo};
 
 use crate::quantum::{Quantum, tell};
+use bus_msg::entry::Post;
 use page_waits::waiting::Waiting;
 use proc_state::process::Process;
 use quanta::limits::Limits;
@@ -20,8 +22,9 @@ use std::marker::Model;
 use sync_point::batch::build;
 use sync_point::due::due;
 use sys_calls::forking::fork;
-use sys_calls::stepping::can_step;
+use sys_calls::stepping::{can_step, exits_next};
 use t32_base::letter::Letter;
+use t32_base::lists::List;
 use t32_base::process::{ClusterNo, Pid, Small};
 use t32_base::streams::NoMemory;
 
@@ -142,6 +145,38 @@ impl Resident {
         }
     }
 
+    /// Whether its children that never synchronised are to do so before it goes on: it runs, and is due by these limits or stands
+    /// before its end. Takes no memory.
+    pub fn comes_after_children(&self, limits: Limits) -> bool
+        ensures { result ≡ comes_after_children limits self.now }
+    {
+        match &self.standing {
+            Some(Standing::Runs(process)) => is_due(process, limits) || exits_next(process),
+            Some(Standing::Rolls(_)) => false,
+            Some(Standing::Waits(_)) => false,
+            None => unreachable!(),
+        }
+    }
+
+    /// Whether it runs. Takes no memory.
+    pub fn runs(&self) -> bool
+        ensures { result ≡ is_running self.now }
+    {
+        matches!(&self.standing, Some(Standing::Runs(_)))
+    }
+
+    /// One that runs synchronises, in the cluster `by`: the posts by which it does. After want of memory nothing has changed.
+    pub fn synchronise(&mut self, alloc: Global, by: ClusterNo) -> Result<List<Post>, NoMemory>
+        requires { is_running self.old ≡ true }
+        ensures ok { IfOk result (λ posts. SyncsNow by self.old posts self.new) }
+        ensures err { OnErr result (self.new ≡ self.old) }
+    {
+        match &mut self.standing {
+            Some(Standing::Runs(process)) => build(alloc, process, by),
+            _ => unreachable!(),
+        }
+    }
+
     /// One that runs forks, and its child is handed over; no other does. After want of memory nothing has changed.
     pub fn fork(&mut self, alloc: Global, child: Pid) -> Result<Option<Process>, NoMemory>
         requires { CanForkNow self.old }
@@ -157,20 +192,22 @@ impl Resident {
     /// Its turn in the cluster `by`. One that runs and is due by these limits synchronises. Else it has a quantum, of at most 64
     /// steps. One that rolls forward does again what it did, and withholds what it
     /// sent; where nothing is left to withhold it runs, and the same quantum goes on. One that runs goes up to a
-    /// step that sends something, up to a read that waits, or until it is due. A later step for which memory is refused is not
-    /// made; where it is the first, nothing has changed. No step that is not withheld leads one beyond these limits that is within
-    /// them.
+    /// step that sends something, up to a read that waits, or until it is due; up to its end where it has a child that is to synchronise
+    /// first. A later step for which memory is refused is not made; where it is the first, nothing has changed. No step that is not
+    /// withheld leads one beyond these limits that is within them.
     pub fn run_quantum(
         &mut self,
         alloc: Global,
         by: ClusterNo,
         limits: Limits,
+        childless: bool,
     ) -> Result<Quantum, NoMemory>
-        ensures { RunsQuantum limits by 64 self.old result self.new }
+        requires { comes_after_children limits self.old ≡ true → childless ≡ true }
+        ensures { RunsQuantum limits by 64 childless self.old result self.new }
     {
         let made = roll(&mut self.standing)?;
         match &mut self.standing {
-            Some(Standing::Runs(process)) => act_on(alloc, process, by, limits, made),
+            Some(Standing::Runs(process)) => act_on(alloc, process, by, limits, childless, made),
             Some(Standing::Rolls(_)) => Ok(Quantum::Moved),
             Some(Standing::Waits(_)) => Ok(Quantum::Stuck),
             None => unreachable!(),
@@ -184,16 +221,18 @@ fn act_on(
     process: &mut Process,
     by: ClusterNo,
     limits: Limits,
+    childless: bool,
     made: u32,
 ) -> Result<Quantum, NoMemory>
-    requires { made ≤ 64 }
-    ensures { ActsOn limits by 64 made process.old result process.new }
+    requires few { made ≤ 64 }
+    requires last { made ≡ 0 → comes_after_children limits (Runs process.old) ≡ true → childless ≡ true }
+    ensures { ActsOn limits by 64 childless made process.old result process.new }
 {
     if made == 0 && is_due(process, limits) {
         return Ok(Quantum::Synced(build(alloc, process, by)?));
     }
     let ran = run_rest(alloc, process, limits, made)?;
-    Ok(tell(process, ran))
+    Ok(tell(process, ran, childless))
 }
 
 // Whether one that runs is due to synchronise.

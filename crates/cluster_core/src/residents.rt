@@ -1,19 +1,24 @@
 //! The processes at home in a cluster.
-ghost use Rattle.std.specs.Prelude.{ℕ, ◌≡◌, ◌⊎◌, ◌+◌, [], IfOk, IfSome, OnOk, OnErr, Some, None, true, length, filter, map, not, if◌then◌else◌, false};
+ghost use Rattle.std.specs.Prelude.{ℕ, ◌≡◌, ◌⊎◌, ◌+◌, ◌&&◌, [], IfOk, IfSome, OnOk, OnErr, Some, None, true, is_none, length, filter, find, map, nat_lt, not, if◌then◌else◌, false};
 ghost use Rattle.std.specs.List.{list_any};
+ghost use Rattle.std.specs.Option.{option_copied};
 ghost use Rattle.slab.specs.Slab.{Updates};
 ghost use Rattle.bus_msg.specs.Places.{same_pid};
+ghost use Rattle.birth_notice.specs.Family.{first_unsynced};
 ghost use Rattle.plain_kernel.specs.Maps.{at_key, pid_of};
 ghost use Rattle.cert_sched.specs.Parts.{first_of};
 ghost use Rattle.cluster_core.specs.Calls.{rests_in, with_letter, with_page_come};
 ghost use Rattle.cluster_core.specs.Bearing.{CanBear, CanForkAt, ForksAt, with_born};
-ghost use Rattle.cluster_core.specs.Residents.{AsksOf, GivenTurnIs, HasRoom, NextAble, TurnIs, are_rising, are_settled, are_stuck, is_settled, is_stuck_at, lacks_none_at, next_ready, pids_in, with_more};
+ghost use Rattle.cluster_core.specs.ChildrenFirst.{child_before, comes_after_at, is_free, is_hindered, runs_at};
+ghost use Rattle.cluster_core.specs.Residents.{AsksOf, GivenTurnIs, HasRoom, NextAble, RunsAt, SyncsAt, TurnIs, are_rising, are_settled, is_settled, is_stuck_at, lacks_none_at, next_ready, none_has_turn, pids_in, with_more};
 ghost use Rattle.cluster_core.specs.Resident.{CanComeTo};
 ghost use Rattle.cluster_core.specs.View.{Held, arrived_held, held_of};
 ghost use Rattle.cluster_core.specs.Work.{AsksNext, any_lacks, any_waits, is_lowest_lacking};
 
 use crate::quantum::Quantum;
 use crate::resident::Resident;
+use birth_notice::family::Family;
+use bus_msg::entry::Post;
 use bus_msg::shared::Shared;
 use proc_state::process::Process;
 use quanta::limits::Limits;
@@ -97,14 +102,20 @@ impl Residents {
     }
 
     /// Gives the next process that can move its turn in the cluster `by`: the next one in rising pid order after the
-    /// one that was chosen last, cyclically. It synchronises where it is due, and else runs for a quantum. `Stuck` is that of all. After
-    /// want of memory no process has changed.
-    pub fn take_turn(&mut self, alloc: Global, by: ClusterNo) -> Result<Quantum, NoMemory>
-        ensures turn { TurnIs by self.old result self.new }
+    /// one that was chosen last, cyclically. It synchronises where it is due, and else runs for a quantum. Where it is due or is to end and one of
+    /// these children is to synchronise before it, that child does so in its place; where that child does not run yet, it is passed over.
+    /// `Stuck` is that of all. After want of memory no process has changed.
+    pub fn take_turn(
+        &mut self,
+        alloc: Global,
+        by: ClusterNo,
+        family: &Family,
+    ) -> Result<Quantum, NoMemory>
+        ensures turn { TurnIs by family.now self.old result self.new }
         ensures limits { self.new.limits ≡ self.old.limits }
     {
-        'choices: while let Some(pid) = self.next() {
-            match self.give_turn(alloc, by, pid)? {
+        'choices: while let Some(pid) = self.next(family) {
+            match self.give_turn(alloc, by, pid, family)? {
                 Quantum::Stuck => self.rest(pid),
                 quantum => {
                     self.choose(pid);
@@ -115,26 +126,156 @@ impl Residents {
         Ok(Quantum::Stuck)
     }
 
-    // The next of those that may move. Takes no memory.
-    fn next(&self) -> Option<u32>
-        ensures next { result ≡ next_ready self.now.ready self.now.last }
-        ensures stuck { result ≡ None → are_stuck self.now.limits self.now.here ≡ true }
-        ensures able { (pid : ℕ) → result ≡ Some pid → NextAble pid self.now }
+    // The next of those that may move, but for those that a child hinders. Takes no memory.
+    fn next(&self, family: &Family) -> Option<u32>
+        ensures next { result ≡ next_ready (filter (is_free self.now.limits family.now self.now.here) self.now.ready) self.now.last }
+        ensures stuck { result ≡ None → none_has_turn self.now.limits family.now self.now.here ≡ true }
+        ensures able { (pid : ℕ) → result ≡ Some pid → NextAble pid family.now self.now }
     {
-        if self.ready.is_empty() {
-            return None;
-        }
-        let above = (Bound::Excluded(self.last), Bound::Unbounded);
-        match self.ready.range(above).next() {
-            Some(pid) => Some(*pid),
-            None => self.ready.first().copied(),
+        match self.next_above(family) {
+            Some(pid) => Some(pid),
+            None => self.lowest_free(family),
         }
     }
 
-    // Gives the process with a pid its turn in the cluster `by`, if it is here.
-    fn give_turn(&mut self, alloc: Global, by: ClusterNo, pid: u32) -> Result<Quantum, NoMemory>
-        requires { list_any (at_key pid) self.old.ready ≡ true }
-        ensures turn { GivenTurnIs self.old.limits by (pid_of pid) self.old.here result self.new.here }
+    // The next of them above the one that was chosen last. Takes no memory.
+    fn next_above(&self, family: &Family) -> Option<u32>
+        ensures { result ≡ find (λ n. nat_lt self.now.last n && is_free self.now.limits family.now self.now.here n) self.now.ready }
+    {
+        let above = (Bound::Excluded(self.last), Bound::Unbounded);
+        for pid in self.ready.range(above) {
+            if !self.is_hindered(*pid, family) {
+                return Some(*pid);
+            }
+        }
+        None
+    }
+
+    // The lowest of them. Takes no memory.
+    fn lowest_free(&self, family: &Family) -> Option<u32>
+        ensures { result ≡ find (is_free self.now.limits family.now self.now.here) self.now.ready }
+    {
+        for pid in &self.ready {
+            if !self.is_hindered(*pid, family) {
+                return Some(*pid);
+            }
+        }
+        None
+    }
+
+    // Whether the child that is to synchronise before the process with a pid does not run yet. Takes no memory.
+    fn is_hindered(&self, pid: u32, family: &Family) -> bool
+        ensures { result ≡ is_hindered self.now.limits family.now self.now.here (pid_of pid) }
+    {
+        match self.child_before(pid, family) {
+            Some(child) => !self.runs(child),
+            None => false,
+        }
+    }
+
+    // The child that is to synchronise in the place of the process with a pid. Takes no memory.
+    fn child_before(&self, pid: u32, family: &Family) -> Option<Pid>
+        ensures { result ≡ child_before self.now.limits family.now self.now.here (pid_of pid) }
+    {
+        let first = family.first_unsynced(Pid(pid));
+        if first.is_none() {
+            return None;
+        }
+        match self.resident(pid) {
+            Some(resident) => {
+                if resident.comes_after_children(self.limits) {
+                    first
+                } else {
+                    None
+                }
+            }
+            None => None,
+        }
+    }
+
+    // Whether a process is here and runs. Takes no memory.
+    fn runs(&self, pid: Pid) -> bool
+        ensures { result ≡ runs_at self.now.here pid }
+    {
+        match self.resident(pid.0) {
+            Some(resident) => resident.runs(),
+            None => false,
+        }
+    }
+
+    // The process with a pid, if it is here. Takes no memory.
+    fn resident(&self, pid: u32) -> Option<&Resident>
+        ensures { option_copied result ≡ held_of self.now.here (pid_of pid) }
+    {
+        match self.keys.get(&pid) {
+            Some(key) => match self.residents.get(*key) {
+                Some(resident) => Some(resident),
+                None => unreachable!(),
+            },
+            None => None,
+        }
+    }
+
+    // Gives the process with a pid its turn in the cluster `by`, if it is here; the child that is to synchronise before it does so in
+    // its place.
+    fn give_turn(
+        &mut self,
+        alloc: Global,
+        by: ClusterNo,
+        pid: u32,
+        family: &Family,
+    ) -> Result<Quantum, NoMemory>
+        requires ready { list_any (at_key pid) self.old.ready ≡ true }
+        requires free { is_hindered self.old.limits family.now self.old.here (pid_of pid) ≡ false }
+        ensures turn { GivenTurnIs self.old.limits by family.now (pid_of pid) self.old.here result self.new.here }
+        ensures ready { self.new.ready ≡ self.old.ready }
+        ensures last { self.new.last ≡ self.old.last }
+        ensures limits { self.new.limits ≡ self.old.limits }
+    {
+        match self.child_before(pid, family) {
+            Some(child) => Ok(Quantum::Synced(self.synchronise(alloc, by, child)?)),
+            None => {
+                let childless = family.first_unsynced(Pid(pid)).is_none();
+                self.run(alloc, by, pid, childless)
+            }
+        }
+    }
+
+    // The process with a pid, which runs here, synchronises in the cluster `by`.
+    fn synchronise(
+        &mut self,
+        alloc: Global,
+        by: ClusterNo,
+        pid: Pid,
+    ) -> Result<List<Post>, NoMemory>
+        requires { runs_at self.old.here pid ≡ true }
+        ensures ok { IfOk result (λ posts. SyncsAt by pid self.old.here posts self.new.here) }
+        ensures err { OnErr result (self.new.here ≡ self.old.here) }
+        ensures ready { self.new.ready ≡ self.old.ready }
+        ensures last { self.new.last ≡ self.old.last }
+        ensures limits { self.new.limits ≡ self.old.limits }
+    {
+        self.told = None;
+        match self.keys.get(&pid.0) {
+            Some(key) => match self.residents.get_mut(*key) {
+                Some(resident) => resident.synchronise(alloc, by),
+                None => unreachable!(),
+            },
+            None => unreachable!(),
+        }
+    }
+
+    // The process with a pid has its turn itself, if it is here.
+    fn run(
+        &mut self,
+        alloc: Global,
+        by: ClusterNo,
+        pid: u32,
+        childless: bool,
+    ) -> Result<Quantum, NoMemory>
+        requires ready { list_any (at_key pid) self.old.ready ≡ true }
+        requires last { comes_after_at self.old.limits self.old.here (pid_of pid) ≡ true → childless ≡ true }
+        ensures turn { RunsAt self.old.limits by childless (pid_of pid) self.old.here result self.new.here }
         ensures ready { self.new.ready ≡ self.old.ready }
         ensures last { self.new.last ≡ self.old.last }
         ensures limits { self.new.limits ≡ self.old.limits }
@@ -142,7 +283,7 @@ impl Residents {
         self.told = None;
         match self.keys.get(&pid) {
             Some(key) => match self.residents.get_mut(*key) {
-                Some(resident) => resident.run_quantum(alloc, by, self.limits),
+                Some(resident) => resident.run_quantum(alloc, by, self.limits, childless),
                 None => unreachable!(),
             },
             None => Ok(Quantum::Stuck),

@@ -10,6 +10,7 @@ use crate::quantum::{Forking, Quantum, Sending};
 use crate::residents::Residents;
 use crate::serving::answer_next;
 use crate::worked::Worked;
+use birth_notice::family::Family;
 use bus_msg::entry::{By, Post, What};
 use channel_table::placement::Placement;
 use page_server::disk::PageDisk;
@@ -21,13 +22,14 @@ use t32_base::process::{ClusterNo, Pid};
 use t32_base::streams::NoMemory;
 
 /// Does the next thing that is to be done in the cluster with a number. An answer that it owes as a page server is queued;
-/// or a fetch of a page that a process here lacks; or the next process that can move synchronises or runs for a quantum, and
-/// what it sends, or the birth of its child, is queued; or nothing can move, where a process may wait for its pages. After want of memory, or where the call of the disk
+/// or a fetch of a page that a process here lacks; or the next process that can move synchronises or runs for a quantum, or one of these
+/// children synchronises in its place, and what it sends, or the birth of its child, is queued; or nothing can move, where a process may wait for its pages. After want of memory, or where the call of the disk
 /// failed, nothing is queued, and nothing else is said but that the values can be dropped.
 pub fn work_on<D: PageDisk>(
     alloc: Global,
     number: ClusterNo,
     places: &Placement,
+    family: &Family,
     here: &mut Residents,
     server: &mut Option<Pager<D>>,
     queue: &mut VecDeque<Post>,
@@ -35,7 +37,7 @@ pub fn work_on<D: PageDisk>(
     requires queue { queue.old.items ≡ [] }
     requires can { CanAnswer server.old }
     requires pids { next_pid number places.now < 2 ^ 32 }
-    ensures ok { IfOk result (λ worked. WorksOn number places.now here.old server.old worked here.new server.new queue.new.items) }
+    ensures ok { IfOk result (λ worked. WorksOn number places.now family.now here.old server.old worked here.new server.new queue.new.items) }
     ensures here { OnErr result (here.new.here ≡ here.old.here) }
     ensures limits { here.new.limits ≡ here.old.limits }
     ensures queue { OnErr result (queue.new.items ≡ []) }
@@ -50,7 +52,7 @@ pub fn work_on<D: PageDisk>(
         queue.push_back_reserved(fetch_of(number, pid, index));
         return Ok(Worked::Queued);
     }
-    Ok(run_next(alloc, number, places, here, queue)?)
+    Ok(run_next(alloc, number, places, family, here, queue)?)
 }
 
 // Room for one post more.
@@ -67,18 +69,19 @@ fn run_next(
     alloc: Global,
     number: ClusterNo,
     places: &Placement,
+    family: &Family,
     here: &mut Residents,
     queue: &mut VecDeque<Post>,
 ) -> Result<Worked, NoMemory>
     requires empty { queue.old.items ≡ [] }
     requires room { deque_len queue.old < deque_capacity queue.old }
     requires pids { next_pid number places.now < 2 ^ 32 }
-    ensures ok { IfOk result (λ worked. RunsNext number places.now here.old worked here.new queue.new.items) }
+    ensures ok { IfOk result (λ worked. RunsNext number places.now family.now here.old worked here.new queue.new.items) }
     ensures here { OnErr result (here.new.here ≡ here.old.here) }
     ensures limits { here.new.limits ≡ here.old.limits }
     ensures queue { OnErr result (queue.new.items ≡ []) }
 {
-    match here.take_turn(alloc, number)? {
+    match here.take_turn(alloc, number, family)? {
         Quantum::Moved => Ok(Worked::Moved),
         Quantum::Sent(sending) => {
             queue.push_back_reserved(post_of(number, sending));

@@ -6,7 +6,7 @@ use Rattle.cluster_core.proofs.resident.act_on.Goals.{else-made-eq0-via-then-mad
 
 pub returns : goal.returns
 returns c =
-    rest_told c.args.limits c.args.by c.args.made c.args.process.now c.run_rest.new.p undue c.in_ok-ran.ensures.within c.in_ok-ran.ran c.tell.result c.tell.new.process c.in_ok-ran.ensures.runs c.tell.ensures
+    rest_told c.args.limits c.args.by c.args.childless c.args.made c.args.process.now c.run_rest.new.p undue c.requires.last c.in_ok-ran.ensures.within c.in_ok-ran.ran c.tell.result c.tell.new.process c.in_ok-ran.ensures.runs c.tell.ensures
   where
     undue : c.args.made ≡ 0 → is_due c.args.limits c.args.process.now ≡ false
     undue none = elim c.else-made-eq0.branch [

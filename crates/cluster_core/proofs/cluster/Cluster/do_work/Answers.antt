@@ -33,9 +33,9 @@ returns-clause-follows g c =
     let own = subst (λ (v : ClusterView). AllOwn v.cursor v.here) c.self.view_is c.self.invariant.residents in
     let has = subst (λ (v : ClusterView). (v.number).0 < (v.system).clusters) c.self.view_is c.self.invariant.has in
     let valid = subst (λ (v : ClusterView). is_system v.system ≡ true) c.self.view_is c.self.invariant.valid in
-    let on = subst (λ (v : ClusterView). WorksOn v.number v.places c.self.inside.here v.server c.in_ok-worked.worked c.work_on.new.here c.work_on.new.server c.work_on.new.queue.items) c.self.view_is c.in_ok-worked.ensures.ok in
+    let on = subst (λ (v : ClusterView). WorksOn v.number v.places v.family c.self.inside.here v.server c.in_ok-worked.worked c.work_on.new.here c.work_on.new.server c.work_on.new.queue.items) c.self.view_is c.in_ok-worked.ensures.ok in
     let limits = c.self.invariant.limits_are ∙ ap (λ (v : ClusterView). limits_of v.system) c.self.view_is in
-    let done = works old c.requires.empty own valid has c.self.inside.here c.work_on.new.here c.work_on.new.server c.in_ok-worked.worked c.work_on.new.queue.items limits (ap (λ (v : ClusterView). v.here) c.self.view_is) on in
+    let done = works old c.requires.follows c.requires.empty own valid has c.self.inside.here c.work_on.new.here c.work_on.new.server c.in_ok-worked.worked c.work_on.new.queue.items limits (ap (λ (v : ClusterView). v.here) c.self.view_is) on in
     let whole : c.count_step.new.self ≡ worked_view old c.work_on.new.here.here c.work_on.new.server c.work_on.new.queue.items =
     c.count_step.ensures ∙ ap (λ (v : ClusterView). worked_view v c.work_on.new.here.here c.work_on.new.server c.work_on.new.queue.items) c.self.view_is in
     subst (GoesOn old) (sym whole) done.goes_on
@@ -46,9 +46,9 @@ returns-clause-work g c =
     let own = subst (λ (v : ClusterView). AllOwn v.cursor v.here) c.self.view_is c.self.invariant.residents in
     let has = subst (λ (v : ClusterView). (v.number).0 < (v.system).clusters) c.self.view_is c.self.invariant.has in
     let valid = subst (λ (v : ClusterView). is_system v.system ≡ true) c.self.view_is c.self.invariant.valid in
-    let on = subst (λ (v : ClusterView). WorksOn v.number v.places c.self.inside.here v.server c.in_ok-worked.worked c.work_on.new.here c.work_on.new.server c.work_on.new.queue.items) c.self.view_is c.in_ok-worked.ensures.ok in
+    let on = subst (λ (v : ClusterView). WorksOn v.number v.places v.family c.self.inside.here v.server c.in_ok-worked.worked c.work_on.new.here c.work_on.new.server c.work_on.new.queue.items) c.self.view_is c.in_ok-worked.ensures.ok in
     let limits = c.self.invariant.limits_are ∙ ap (λ (v : ClusterView). limits_of v.system) c.self.view_is in
-    let done = works old c.requires.empty own valid has c.self.inside.here c.work_on.new.here c.work_on.new.server c.in_ok-worked.worked c.work_on.new.queue.items limits (ap (λ (v : ClusterView). v.here) c.self.view_is) on in
+    let done = works old c.requires.follows c.requires.empty own valid has c.self.inside.here c.work_on.new.here c.work_on.new.server c.in_ok-worked.worked c.work_on.new.queue.items limits (ap (λ (v : ClusterView). v.here) c.self.view_is) on in
     let whole : c.count_step.new.self ≡ worked_view old c.work_on.new.here.here c.work_on.new.server c.work_on.new.queue.items =
     c.count_step.ensures ∙ ap (λ (v : ClusterView). worked_view v c.work_on.new.here.here c.work_on.new.server c.work_on.new.queue.items) c.self.view_is in
     subst (WorkIs old c.in_ok-worked.worked) (sym whole) done.work
@@ -59,9 +59,9 @@ invariant_of-self-2 g c =
     let own = subst (λ (v : ClusterView). AllOwn v.cursor v.here) c.self.view_is c.self.invariant.residents in
     let has = subst (λ (v : ClusterView). (v.number).0 < (v.system).clusters) c.self.view_is c.self.invariant.has in
     let valid = subst (λ (v : ClusterView). is_system v.system ≡ true) c.self.view_is c.self.invariant.valid in
-    let on = subst (λ (v : ClusterView). WorksOn v.number v.places c.self.inside.here v.server c.in_ok-worked.worked c.work_on.new.here c.work_on.new.server c.work_on.new.queue.items) c.self.view_is c.in_ok-worked.ensures.ok in
+    let on = subst (λ (v : ClusterView). WorksOn v.number v.places v.family c.self.inside.here v.server c.in_ok-worked.worked c.work_on.new.here c.work_on.new.server c.work_on.new.queue.items) c.self.view_is c.in_ok-worked.ensures.ok in
     let limits = c.self.invariant.limits_are ∙ ap (λ (v : ClusterView). limits_of v.system) c.self.view_is in
-    let done = works old c.requires.empty own valid has c.self.inside.here c.work_on.new.here c.work_on.new.server c.in_ok-worked.worked c.work_on.new.queue.items limits (ap (λ (v : ClusterView). v.here) c.self.view_is) on in
+    let done = works old c.requires.follows c.requires.empty own valid has c.self.inside.here c.work_on.new.here c.work_on.new.server c.in_ok-worked.worked c.work_on.new.queue.items limits (ap (λ (v : ClusterView). v.here) c.self.view_is) on in
     record {
       valid = c.self.invariant.valid;
       has = c.self.invariant.has;
