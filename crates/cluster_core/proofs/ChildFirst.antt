@@ -104,6 +104,12 @@ last_childless limits family here p none comes = by_held (held_of here p) refl c
     by_held None there comes = absurd (true≢false (sym comes))
     by_held (Some h) there comes = ap is_none (sym (before_from limits family here p h there comes) ∙ none)
 
+-- it is told that there is none where there is none
+pub none_told : (o : Option Pid) (b : Bool) → is_some o ≡ not b → is_none o ≡ true → b ≡ true
+none_told None true told none = refl
+none_told None false told none = absurd (true≢false (sym told))
+none_told (Some p) b told none = absurd (true≢false (sym none))
+
 -- ---- who is hindered
 
 -- the child before one that is not hindered runs

@@ -1,8 +1,8 @@
 -- What a cluster keeps of children that never synchronised is what the log says: who has synchronised them, who may be cut, and which of them are here.
-use Rattle.std.proofs.Common.{◌≡◌, ℕ, refl, sym, ◌∙◌, ap, List, [], ◌∷◌, Bool, cond, not, ◌&&◌, ◌||◌, eqb, eqb-true, eq-eqb, Option, Some, None, is_none, is_some, true, false, true≢false}
-use Rattle.std.specs.Prelude.{filter, find, map, option_map}
+use Rattle.std.proofs.Common.{◌≡◌, ℕ, refl, sym, ◌∙◌, ap, List, [], ◌∷◌, Bool, cond, not, ◌&&◌, ◌||◌, eqb, Option, Some, None, is_some, true, false, true≢false}
+use Rattle.std.specs.Prelude.{find, option_map}
 use Rattle.std.specs.List.{list_any}
-use Rattle.std.proofs.lemmas.Bool.{or_left, or_right}
+use Rattle.std.proofs.lemmas.Bool.{and_from, or_left, or_right}
 use Rattle.t32_base.specs.declared.process.Pid.{Pid}
 use Rattle.t32_base.specs.declared.process.ClusterNo.{ClusterNo}
 use Rattle.sys_text.specs.Valid.{is_system}
@@ -27,7 +27,7 @@ use Rattle.quanta.specs.Limited.{is_due}
 use Rattle.cluster_core.specs.View.{ClusterView, Held, held_at, held_of, limits_of}
 use Rattle.cluster_core.specs.Residents.{pids_in}
 use Rattle.cluster_core.specs.Follows.{FollowsBuilt, IsOpen}
-use Rattle.cluster_core.proofs.BeginSync.{MayCut, MayCutIn}
+use Rattle.cluster_core.proofs.BeginSync.{MayCut}
 use Rattle.cluster_core.proofs.Here.{is_among}
 use Rattle.cluster_core.proofs.Homes.{HomeHere, differ_built, home_here, home_more, pids_home}
 
@@ -57,7 +57,7 @@ home_among k p q (r ∷ qs) found home = by_tests (same_pid r.pid p) r.ended ref
     first false is same = absurd (true≢false (sym is))
 
     at_home : r.ended ≡ false → r ≡ q → is_at_home k r ≡ true
-    at_home lives same = ap (λ b. not b && same_cluster r.home k) lives ∙ ap (λ (x : Placed). same_cluster x.home k) same ∙ home
+    at_home lives same = and_from (same_cluster r.home k) (not r.ended) (ap (λ (x : Placed). same_cluster x.home k) same ∙ home) (ap not lives)
 
     by_tests : (b c : Bool) → same_pid r.pid p ≡ b → r.ended ≡ c → cond (b && not c) (Some r) (find (λ (q : Placed). same_pid q.pid p && not q.ended) qs) ≡ Some q
         → (find (λ (q : Placed). same_pid q.pid p && not q.ended) qs ≡ Some q → list_any (λ n. eqb n p.0) (pids_home k qs) ≡ true) → list_any (λ n. eqb n p.0) (pids_home k (r ∷ qs)) ≡ true

@@ -183,12 +183,9 @@ module _ (limits : Limits) (family : List (Pid × Pid)) (whole : List (Pid × He
   able_ready slots ready asking [] kept q any = cc
   able_ready slots ready asking (e ∷ es) kept q any = in_front (get slots e.1) (λ p is steps. (kept.0).able p is steps) any (able_ready slots ready asking es kept.1 q)
     where
-      abbrev Both : Type 0
-      Both = (list_any (at_key q) ready ≡ true) × (is_free limits family whole q ≡ true)
-
       by_step : (p : Held) (b h c : Bool) → is_hindered limits family whole (pid_of e.0) ≡ h → at_key q e.0 ≡ c → (b ≡ true → list_any (at_key e.0) ready ≡ true)
           → list_any (at_key q) (pids_in (cond (b && not h) ((pid_of e.0, p) ∷ filter turns (stands_in slots es)) (filter turns (stands_in slots es)))) ≡ true
-          → (list_any (at_key q) (pids_in (filter turns (stands_in slots es))) ≡ true → Both) → Both
+          → (list_any (at_key q) (pids_in (filter turns (stands_in slots es))) ≡ true → (list_any (at_key q) ready ≡ true) × (is_free limits family whole q ≡ true)) → (list_any (at_key q) ready ≡ true) × (is_free limits family whole q ≡ true)
       by_step p true false true free at ready_if any more =
           let same : e.0 ≡ q = eqb-true e.0 q (sym (at_key_is q e.0) ∙ at) in
           (ap (λ n. list_any (at_key n) ready) (sym same) ∙ ready_if refl, ap (is_free limits family whole) (sym same) ∙ ap not free)
@@ -197,7 +194,7 @@ module _ (limits : Limits) (family : List (Pid × Pid)) (whole : List (Pid × He
       by_step p false h c free at ready_if any more = more any
 
       in_front : (o : Option Held) → ((p : Held) → o ≡ Some p → can_act limits p ≡ true → list_any (at_key e.0) ready ≡ true) → list_any (at_key q) (pids_in (filter turns (in_slot (pid_of e.0) o (stands_in slots es)))) ≡ true
-          → (list_any (at_key q) (pids_in (filter turns (stands_in slots es))) ≡ true → Both) → Both
+          → (list_any (at_key q) (pids_in (filter turns (stands_in slots es))) ≡ true → (list_any (at_key q) ready ≡ true) × (is_free limits family whole q ≡ true)) → (list_any (at_key q) ready ≡ true) × (is_free limits family whole q ≡ true)
       in_front None ready_if any more = more any
       in_front (Some p) ready_if any more = by_step p (can_act limits p) (is_hindered limits family whole (pid_of e.0)) (at_key q e.0) refl refl (ready_if p refl) any more
 
@@ -206,12 +203,9 @@ module _ (limits : Limits) (family : List (Pid × Pid)) (whole : List (Pid × He
   able_there n [] p there steps free = cc
   able_there n (e ∷ here) p there steps free = by_tests (same_pid e.0 (pid_of n)) (can_act limits e.1) (is_hindered limits family whole e.0) refl refl refl there (λ there. able_there n here p there steps free)
     where
-      abbrev Among : Bool → Type 0
-      Among b = list_any (at_key n) (pids_in (cond b (e ∷ filter turns here) (filter turns here))) ≡ true
-
       by_tests : (b c h : Bool) → same_pid e.0 (pid_of n) ≡ b → can_act limits e.1 ≡ c → is_hindered limits family whole e.0 ≡ h
           → option_map (λ (e : Pid × Held). e.1) (cond b (Some e) (find (λ (e : Pid × Held). same_pid e.0 (pid_of n)) here)) ≡ Some p
-          → (held_of here (pid_of n) ≡ Some p → list_any (at_key n) (pids_in (filter turns here)) ≡ true) → Among (c && not h)
+          → (held_of here (pid_of n) ≡ Some p → list_any (at_key n) (pids_in (filter turns here)) ≡ true) → list_any (at_key n) (pids_in (cond (c && not h) (e ∷ filter turns here) (filter turns here))) ≡ true
       by_tests true true false at has hinders there more = or_left (at_key n (e.0).0) (list_any (at_key n) (pids_in (filter turns here))) (at_key_is n (e.0).0 ∙ at)
       by_tests true true true at has hinders there more =
           let same : e.0 ≡ pid_of n = pid_same e.0 (pid_of n) (eqb-true (e.0).0 n at) in
@@ -228,16 +222,13 @@ module _ (limits : Limits) (family : List (Pid × Pid)) (whole : List (Pid × He
   none_turns slots ready asking [] kept none = refl
   none_turns slots ready asking (e ∷ es) kept none = in_front (get slots e.1) (λ p is steps. none e.0 ((kept.0).able p is steps)) (none_turns slots ready asking es kept.1 none)
     where
-      abbrev rest : Bool
-      rest = list_all (λ (e : Pid × Held). not (turns e)) (stands_in slots es)
-
       quiet : (b h : Bool) → (b ≡ true → not h ≡ false) → not (b && not h) ≡ true
       quiet true h hinders = ap not (hinders refl)
       quiet false h hinders = refl
 
-      in_front : (o : Option Held) → ((p : Held) → o ≡ Some p → can_act limits p ≡ true → is_free limits family whole e.0 ≡ false) → rest ≡ true → list_all (λ (e : Pid × Held). not (turns e)) (in_slot (pid_of e.0) o (stands_in slots es)) ≡ true
+      in_front : (o : Option Held) → ((p : Held) → o ≡ Some p → can_act limits p ≡ true → is_free limits family whole e.0 ≡ false) → list_all (λ (e : Pid × Held). not (turns e)) (stands_in slots es) ≡ true → list_all (λ (e : Pid × Held). not (turns e)) (in_slot (pid_of e.0) o (stands_in slots es)) ≡ true
       in_front None hinders more = more
-      in_front (Some p) hinders more = and_from (not (turns (pid_of e.0, p))) rest (quiet (can_act limits p) (is_hindered limits family whole (pid_of e.0)) (hinders p refl)) more
+      in_front (Some p) hinders more = and_from (not (turns (pid_of e.0, p))) (list_all (λ (e : Pid × Held). not (turns e)) (stands_in slots es)) (quiet (can_act limits p) (is_hindered limits family whole (pid_of e.0)) (hinders p refl)) more
 
 module _ (limits : Limits) (family : List (Pid × Pid)) (slots : Slab Held) (keys : List (ℕ × ℕ)) (ready asking : List ℕ) (last : ℕ) (kept : IsKept limits slots keys ready asking) where
   abbrev here : List (Pid × Held)

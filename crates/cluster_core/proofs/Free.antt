@@ -1,5 +1,5 @@
 -- The next of those that may move and that no child hinders.
-use Rattle.std.proofs.Common.{◌≡◌, ℕ, Bool, ◌&&◌, ◌||◌, eqb-true, eq-eqb, cond, find, refl, sym, ◌∙◌, ap, List, [], ◌∷◌, Option, Some, None, true, false, true≢false}
+use Rattle.std.proofs.Common.{◌≡◌, ℕ, Bool, ◌&&◌, ◌||◌, eqb-true, cond, find, length, refl, sym, ◌∙◌, ap, List, [], ◌∷◌, Option, Some, None, true, false, true≢false}
 use Rattle.std.specs.Prelude.{filter, nat_lt}
 use Rattle.std.specs.List.{list_any, list_all}
 use Rattle.std.specs.Option.{option_or}
@@ -7,7 +7,7 @@ use Rattle.std.proofs.lemmas.Bool.{or_left, or_right}
 use Rattle.plain_kernel.specs.Maps.{at_key}
 use Rattle.cert_sched.specs.Parts.{first_of}
 use Rattle.cluster_core.specs.Residents.{are_rising, next_ready}
-use Rattle.cluster_core.proofs.Kept.{first_filtered, none_ready}
+use Rattle.cluster_core.proofs.Kept.{first_filtered, next_is_ready, none_ready}
 use Rattle.cluster_core.proofs.Slots.{at_key_is, both_true}
 
 -- ---- numbers that pass a test
@@ -62,7 +62,20 @@ any_filtered u (x ∷ xs) q any passes = by_tests (at_key q x) (u x) refl refl a
     by_tests false true is at any more = or_right (at_key q x) (list_any (at_key q) (filter u xs)) (more any)
     by_tests false false is at any more = more any
 
--- and each of them passes
+-- each of them was there before,
+pub any_unfiltered : (u : ℕ → Bool) (xs : List ℕ) (q : ℕ) → list_any (at_key q) (filter u xs) ≡ true → list_any (at_key q) xs ≡ true
+any_unfiltered u [] q any = cc
+any_unfiltered u (x ∷ xs) q any = by_test (u x) any (any_unfiltered u xs q)
+  where
+    by_key : (b : Bool) → (b || list_any (at_key q) (filter u xs)) ≡ true → (list_any (at_key q) (filter u xs) ≡ true → list_any (at_key q) xs ≡ true) → (b || list_any (at_key q) xs) ≡ true
+    by_key true any more = refl
+    by_key false any more = more any
+
+    by_test : (b : Bool) → list_any (at_key q) (cond b (x ∷ filter u xs) (filter u xs)) ≡ true → (list_any (at_key q) (filter u xs) ≡ true → list_any (at_key q) xs ≡ true) → (at_key q x || list_any (at_key q) xs) ≡ true
+    by_test true any more = by_key (at_key q x) any more
+    by_test false any more = or_right (at_key q x) (list_any (at_key q) xs) (more any)
+
+-- and passes
 pub filtered_passes : (u : ℕ → Bool) (xs : List ℕ) (q : ℕ) → list_any (at_key q) (filter u xs) ≡ true → u q ≡ true
 filtered_passes u [] q any = cc
 filtered_passes u (x ∷ xs) q any = by_test (u x) refl any (filtered_passes u xs q)
@@ -85,6 +98,11 @@ next_above_last u ready last n found = ap (λ o. option_or o (first_of (filter u
 pub next_from_start : (u : ℕ → Bool) (ready : List ℕ) (last : ℕ) → find (λ m. nat_lt last m && u m) ready ≡ None → next_ready (filter u ready) last ≡ find u ready
 next_from_start u ready last none = ap (λ o. option_or o (first_of (filter u ready))) (find_filtered (λ m. nat_lt last m) u ready ∙ none) ∙ first_filtered u u (λ n. refl) ready
 
+-- none where none is ready
+pub none_where_empty : (u : ℕ → Bool) (ready : List ℕ) (last : ℕ) → length ready ≡ 0 → next_ready (filter u ready) last ≡ None
+none_where_empty u [] last empty = refl
+none_where_empty u (n ∷ ready) last empty = cc
+
 -- where there is none, none that is ready passes
 pub none_passes_next : (u : ℕ → Bool) (ready : List ℕ) (last : ℕ) → next_ready (filter u ready) last ≡ None → (q : ℕ) → list_any (at_key q) ready ≡ true → u q ≡ false
 none_passes_next u ready last none q any = by_test (u q) refl
@@ -92,3 +110,9 @@ none_passes_next u ready last none q any = by_test (u q) refl
     by_test : (b : Bool) → u q ≡ b → u q ≡ false
     by_test true is = absurd (true≢false (sym (any_filtered u ready q any is) ∙ ap (list_any (at_key q)) (none_ready (filter u ready) last none)))
     by_test false is = is
+
+-- the next of them is ready, and passes
+pub next_passes : (u : ℕ → Bool) (ready : List ℕ) (last n : ℕ) → next_ready (filter u ready) last ≡ Some n → (list_any (at_key n) ready ≡ true) × (u n ≡ true)
+next_passes u ready last n next =
+    let there = next_is_ready (filter u ready) last n next in
+    (any_unfiltered u ready n there, filtered_passes u ready n there)

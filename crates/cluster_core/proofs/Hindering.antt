@@ -1,7 +1,7 @@
 -- Where no process here can have a turn, and none waits for its pages, none can move: no child hinders any.
-use Rattle.std.proofs.Common.{◌≡◌, refl, sym, ◌∙◌, ap, List, [], ◌∷◌, Bool, cond, not, ◌&&◌, ◌||◌, eqb-true, Option, Some, None, is_some, true, false, true≢false}
+use Rattle.std.proofs.Common.{◌≡◌, refl, sym, ◌∙◌, ap, List, [], ◌∷◌, Bool, cond, not, ◌&&◌, eqb-true, Option, Some, None, is_some, true, false, true≢false}
 use Rattle.std.specs.Prelude.{find, option_map}
-use Rattle.std.specs.List.{list_all, list_any}
+use Rattle.std.specs.List.{list_all}
 use Rattle.std.specs.Option.{option_map_or}
 use Rattle.std.proofs.lemmas.Bool.{and_from, and_parts}
 use Rattle.t32_base.specs.declared.process.Pid.{Pid}

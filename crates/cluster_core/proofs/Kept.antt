@@ -1,6 +1,6 @@
 -- The processes of a cluster in their slots stay as they have to: what is kept over a write, a removal and one more.
 use Rattle.std.proofs.Common.{◌≡◌, ℕ, ◌<◌, Bool, true, false, cond, not, ◌||◌, ◌&&◌, eqb, ltb, eqb-true, eq-eqb, ne_eqb, List, [], ◌∷◌, ◌++◌, find, length, refl, sym, ap, subst, ◌∙◌, arith, Option, Some, None, IsSome, is_none, is_some, true≢false, append_assoc}
-use Rattle.std.specs.Prelude.{filter, Result, Ok, Err, slice_get, slice_index_or, IfSome}
+use Rattle.std.specs.Prelude.{filter, Result, Ok, Err, slice_get, slice_index_or, IfOk, IfSome}
 use Rattle.std.specs.Borrow.{Bor}
 use Rattle.std.specs.BTreeMap.Range.{range_contains}
 use Rattle.std.specs.declared.ops.Bound.TheVariants.{Excluded, Unbounded}
@@ -24,7 +24,7 @@ use Rattle.plain_kernel.specs.Maps.{at_key, pid_of}
 use Rattle.plain_kernel.proofs.Entries.{some_same}
 use Rattle.cert_sched.specs.Parts.{first_of}
 use Rattle.cert_sched.proofs.RisingLaws.{NoTwo, either_not}
-use Rattle.cluster_core.specs.Residents.{is_stuck, are_rising, are_settled, are_stuck, pids_in, next_ready, is_settled, is_stuck_at, lacks_none_at, RunsAt, RunsOne, SyncsAt, with_changed, with_more}
+use Rattle.cluster_core.specs.Residents.{is_stuck, are_rising, are_settled, pids_in, next_ready, is_settled, is_stuck_at, lacks_none_at, RunsAt, RunsOne, SyncsAt, with_changed, with_more}
 use Rattle.cluster_core.specs.Slots.{in_slot, stands_in, IsSlot, IsKept}
 use Rattle.t32_base.specs.declared.streams.NoMemory.{NoMemory}
 use Rattle.cluster_core.specs.declared.quantum.Quantum.{Quantum}
@@ -400,9 +400,9 @@ module _ (limits : Limits) (by : ClusterNo) (childless : Bool) (slots new : Slab
   ran_at (Err fault) ran = written_back slots new key was now keys there updates ran ∙ same
 
 -- a process that runs synchronised
-pub synced_at : (limits : Limits) (by : ClusterNo) (slots new : Slab Held) (n key : ℕ) (keys : List (ℕ × ℕ)) (ready asking : List ℕ) (was now : Held) (old : List (Pid × Held)) → IsKept limits slots keys ready asking → lookup (at_key n) keys ≡ Some key → get slots key ≡ Some was
-    → Updates slots new key (Some now) → stands_in slots keys ≡ old → (posts : List Post) → SyncsNow by was posts now → SyncsAt by (pid_of n) old posts (stands_in new keys)
-synced_at limits by slots new n key keys ready asking was now old kept found there updates same posts s =
+pub syncs_at : (limits : Limits) (by : ClusterNo) (slots new : Slab Held) (n key : ℕ) (keys : List (ℕ × ℕ)) (ready asking : List ℕ) (was now : Held) (old : List (Pid × Held)) → IsKept limits slots keys ready asking → lookup (at_key n) keys ≡ Some key → get slots key ≡ Some was
+    → Updates slots new key (Some now) → stands_in slots keys ≡ old → (r : Result (List Post) NoMemory) → IfOk r (λ posts. SyncsNow by was posts now) → IfOk r (λ posts. SyncsAt by (pid_of n) old posts (stands_in new keys))
+syncs_at limits by slots new n key keys ready asking was now old kept found there updates same (Ok posts) s =
     subst (λ old. SyncsAt by (pid_of n) old posts (stands_in new keys)) same
     (record {
       process = s.process;
@@ -410,6 +410,7 @@ synced_at limits by slots new n key keys ready asking was now old kept found the
       posts_are = s.posts_are;
       here = written slots new n key was now (λ e. (pid_of n, now)) keys (one_key n key keys kept.ordered kept.apart found) there updates refl ∙ ap (λ (h : Held). with_changed (pid_of n) h (stands_in slots keys)) s.new_is;
     })
+syncs_at limits by slots new n key keys ready asking was now old kept found there updates same (Err fault) s = tt
 
 -- a process goes with its entry
 pub goes : (limits : Limits) (slots new : Slab Held) (n key : ℕ) (keys : List (ℕ × ℕ)) (ready asking : List ℕ) → IsKept limits slots keys ready asking → lookup (at_key n) keys ≡ Some key → Updates slots new key None

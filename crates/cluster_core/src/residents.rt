@@ -132,6 +132,9 @@ impl Residents {
         ensures stuck { result ≡ None → none_has_turn self.now.limits family.now self.now.here ≡ true }
         ensures able { (pid : ℕ) → result ≡ Some pid → NextAble pid family.now self.now }
     {
+        if self.ready.is_empty() {
+            return None;
+        }
         match self.next_above(family) {
             Some(pid) => Some(pid),
             None => self.lowest_free(family),
@@ -140,7 +143,8 @@ impl Residents {
 
     // The next of them above the one that was chosen last. Takes no memory.
     fn next_above(&self, family: &Family) -> Option<u32>
-        ensures { result ≡ find (λ n. nat_lt self.now.last n && is_free self.now.limits family.now self.now.here n) self.now.ready }
+        ensures found { result ≡ find (λ n. nat_lt self.now.last n && is_free self.now.limits family.now self.now.here n) self.now.ready }
+        ensures ordered { are_rising self.now.ready ≡ true }
     {
         let above = (Bound::Excluded(self.last), Bound::Unbounded);
         for pid in self.ready.range(above) {

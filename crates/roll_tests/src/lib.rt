@@ -1,6 +1,8 @@
-//! Tests of processes that roll forward, by themselves and as residents of a cluster.
+//! Tests of processes that roll forward, by themselves and as residents of a cluster, and of residents that come after their children.
 #![tactic(auto)]
 
+#[cfg(test)]
+mod children;
 #[cfg(test)]
 mod residents;
 #[cfg(test)]

@@ -37,7 +37,7 @@ fn never() -> Limits {
 }
 
 fn run_quantum(alloc: Global, resident: &mut Resident) -> Result<Option<u64>, NoMemory> {
-    let quantum = resident.run_quantum(alloc, ClusterNo(0), never())?;
+    let quantum = resident.run_quantum(alloc, ClusterNo(0), never(), true)?;
     Ok(sent_at(&quantum))
 }
 
