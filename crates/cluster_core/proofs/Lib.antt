@@ -76,6 +76,7 @@ mod Hindering
 pub mod Resting
 pub mod Turning
 mod Absorbed
+mod RolledLoad
 pub mod Lightening
 pub mod WorkedViews
 mod WorkedRecords

@@ -12,8 +12,8 @@ use Rattle.sys_text.specs.Valid.{is_system}
 use Rattle.proc_state.specs.declared.process.Process.{Process}
 use Rattle.proc_state.specs.State.{state_of}
 use Rattle.sync_point.specs.Batch.{synced}
-use Rattle.sys_calls.specs.Small.{weight}
-use Rattle.sys_calls.proofs.Weighing.{emits_leaves, silently_leaves}
+use Rattle.sys_calls.specs.Small.{weight_with_children}
+use Rattle.sys_calls.proofs.Bearing.{emits_lightens, silently_lightens}
 use Rattle.bus_msg.specs.declared.entry.Entry.{Entry}
 use Rattle.bus_msg.specs.Places.{same_pid, is_at_home}
 use Rattle.cert_sched.specs.Built.{BuiltMayFollow}
@@ -29,7 +29,7 @@ use Rattle.quanta.specs.declared.limits.Limits.{Limits}
 use Rattle.roll_forward.specs.Advancing.{Going, going, rolled_on}
 use Rattle.write_count.specs.Counting.{no_counts}
 use Rattle.quanta.specs.Quantum.{RunsOn}
-use Rattle.roll_forward.proofs.RolledLaws.{rolled_keeps}
+use Rattle.cluster_core.proofs.RolledLoad.{rolled_lightens}
 use Rattle.cluster_core.specs.View.{ClusterView, Held, Runs, Rolls, Waits, asked_held, has_moved, held_load, held_of, limits_of, load, process_load}
 use Rattle.cluster_core.specs.Follows.{FollowsBuilt}
 use Rattle.cluster_core.specs.declared.quantum.Forking.{Forking}
@@ -119,17 +119,17 @@ one_lighter p was now n (e ∷ here) two at less = by_test (same_pid e.0 p) refl
 
 -- ---- a work
 
--- the most steps that what is held has left
+-- the most steps that what is held, and the children that it may still fork, have left
 abbrev held_weight : Held → ℕ
-held_weight (Runs p) = weight p.small
-held_weight (Rolls p counts births) = weight p.small
+held_weight (Runs p) = weight_with_children p.small
+held_weight (Rolls p counts births) = weight_with_children p.small
 held_weight (Waits waiting) = 0
 
 -- two are counted for each, and one more at most
-process_bounds : (p : Process) → (2 * weight p.small ≤ process_load p) × (process_load p ≤ 2 * weight p.small + 1)
+process_bounds : (p : Process) → (2 * weight_with_children p.small ≤ process_load p) × (process_load p ≤ 2 * weight_with_children p.small + 1)
 process_bounds p = by_test (has_moved p)
   where
-    by_test : (b : Bool) → (2 * weight p.small ≤ 2 * weight p.small + cond b 1 0) × (2 * weight p.small + cond b 1 0 ≤ 2 * weight p.small + 1)
+    by_test : (b : Bool) → (2 * weight_with_children p.small ≤ 2 * weight_with_children p.small + cond b 1 0) × (2 * weight_with_children p.small + cond b 1 0 ≤ 2 * weight_with_children p.small + 1)
     by_test true = (omega arith, omega arith)
     by_test false = (omega arith, omega arith)
 
@@ -144,17 +144,17 @@ fewer_loads was now fewer = omega (arith, fewer, (load_bounds was).0, (load_boun
 
 -- steps that are withheld leave so many fewer
 rolled_leaves : (n : ℕ) (was between : Held) → RollsTo n was between → held_weight between + n ≤ held_weight was
-rolled_leaves n (Runs p) (Runs q) rolls = omega (arith, rolls.0, ap (λ (x : Process). weight x.small) rolls.1)
+rolled_leaves n (Runs p) (Runs q) rolls = omega (arith, rolls.0, ap (λ (x : Process). weight_with_children x.small) rolls.1)
 rolled_leaves n (Runs p) (Rolls q left unborn) rolls = absurd rolls
 rolled_leaves n (Runs p) (Waits waiting) rolls = absurd rolls
-rolled_leaves n (Rolls p counts births) (Runs q) rolls = (rolled_keeps n (going p counts births) (going q rolls.0 rolls.1) (rolls.2).rolled).weight
-rolled_leaves n (Rolls p counts births) (Rolls q left unborn) rolls = (rolled_keeps n (going p counts births) (going q left unborn) (rolls.2).rolled).weight
+rolled_leaves n (Rolls p counts births) (Runs q) rolls = rolled_lightens n (going p counts births) (going q rolls.0 rolls.1) (rolls.2).rolled
+rolled_leaves n (Rolls p counts births) (Rolls q left unborn) rolls = rolled_lightens n (going p counts births) (going q left unborn) (rolls.2).rolled
 rolled_leaves n (Rolls p counts births) (Waits waiting) rolls = absurd rolls
 rolled_leaves n (Waits waiting) between rolls = absurd rolls
 
 -- and so do silent ones
 silent_leaves : (m : ℕ) (between now : Held) → RunsTo m between now → held_weight now + m ≤ held_weight between
-silent_leaves m (Runs p) (Runs q) runs = silently_leaves m (state_of p) (state_of q) runs.silent
+silent_leaves m (Runs p) (Runs q) runs = silently_lightens m (state_of p) (state_of q) runs.silent
 silent_leaves m (Runs p) (Rolls q left unborn) runs = absurd runs
 silent_leaves m (Runs p) (Waits waiting) runs = absurd runs
 silent_leaves m (Rolls p counts births) now runs = omega (arith, runs.0, ap held_weight runs.1)
@@ -172,9 +172,9 @@ moved_lightens old new valid f work =
 sent_lightens : (old new : ClusterView) → is_system old.system ≡ true → FollowsSome old → QueuesOne old new → load new + 1 ≤ load old
 sent_lightens old new valid f one =
     let s = one.sends in
-    let same : weight (s.now).small ≡ weight (one.now).small = ap held_weight (sym s.new_is) in
+    let same : weight_with_children (s.now).small ≡ weight_with_children (one.now).small = ap held_weight (sym s.new_is) in
     let fewer : held_weight (Runs one.now) + 1 ≤ held_weight one.was =
-    omega (arith, same, rolled_leaves s.rolled one.was (Runs s.between) s.rolls, silently_leaves s.silent (state_of s.between) (state_of s.before) (s.runs).silent, emits_leaves (state_of s.before) (state_of s.now) one.emission s.sends) in
+    omega (arith, same, rolled_leaves s.rolled one.was (Runs s.between) s.rolls, silently_lightens s.silent (state_of s.between) (state_of s.before) (s.runs).silent, emits_lightens (state_of s.before) (state_of s.now) one.emission s.sends) in
     subst (λ (c : ClusterView). load c + 1 ≤ load old) (sym one.rest) (one_lighter one.pid one.was (Runs one.now) 1 old.here (held_apart old valid f) one.there (fewer_loads one.was (Runs one.now) fewer))
 
 -- one that has just synchronised has not moved since
@@ -184,7 +184,7 @@ synced_unmoved p = grind (arith, nat_tests)
 -- one that synchronised has as many steps left, and no synchronisation before the next of them
 batch_lightens : (old new : ClusterView) → is_system old.system ≡ true → FollowsSome old → QueuesBatch old new → load new ≤ load old
 batch_lightens old new valid f one =
-    let after : process_load (synced one.process) ≡ 2 * weight (one.process).small + 0 = ap (λ b. 2 * weight (one.process).small + cond b 1 0) (synced_unmoved one.process) in
+    let after : process_load (synced one.process) ≡ 2 * weight_with_children (one.process).small + 0 = ap (λ b. 2 * weight_with_children (one.process).small + cond b 1 0) (synced_unmoved one.process) in
     let less : held_load (Runs (synced one.process)) + 0 ≤ held_load (Runs one.process) = omega (arith, (process_bounds one.process).0, after) in
     let fewer : sum_held (with_changed one.pid (Runs (synced one.process)) old.here) + 0 ≤ sum_held old.here = one_lighter one.pid (Runs one.process) (Runs (synced one.process)) 0 old.here (held_apart old valid f) one.there less in
     omega (arith, fewer, ap load one.rest)
@@ -197,7 +197,7 @@ same_load p q counts left births unborn is since =
     λ i. load_of (sym same i) (since i)
   where
     load_of : Going → ℕ → ℕ
-    load_of g since = 2 * weight ((g.state).small) + cond (ltb since ((g.state).small).steps || ltb 0 (length g.read)) 1 0
+    load_of g since = 2 * weight_with_children ((g.state).small) + cond (ltb since ((g.state).small).steps || ltb 0 (length g.read)) 1 0
 
 -- steps that are withheld leave no more
 rolled_load : (n : ℕ) (was : Held) (q : Process) → RollsTo n was (Runs q) → held_load (Runs q) ≤ held_load was
@@ -212,7 +212,7 @@ rolled_load n (Waits waiting) q rolls = absurd rolls
 silent_load : (m : ℕ) (p q : Process) → RunsOn m p q → held_load (Runs q) ≤ held_load (Runs p)
 silent_load zero p q runs = omega (arith, same_load p q no_counts no_counts [] [] (runs.ran no_counts []) runs.since)
 silent_load (suc m) p q runs =
-    let fewer : held_weight (Runs q) + 1 ≤ held_weight (Runs p) = omega (arith, silently_leaves (suc m) (state_of p) (state_of q) runs.silent) in
+    let fewer : held_weight (Runs q) + 1 ≤ held_weight (Runs p) = omega (arith, silently_lightens (suc m) (state_of p) (state_of q) runs.silent) in
     omega (arith, fewer_loads (Runs p) (Runs q) fewer)
 
 forks_no_heavier : (limits : Limits) (was : Held) (forking : Forking) (new : Held) → (k : ComesToFork limits 64 was forking new) → held_load (Runs k.now) + 0 ≤ held_load was

@@ -12,6 +12,7 @@ pub mod Holds
 pub mod Syncing
 pub mod Bearing
 pub mod Families
+pub mod ForkingAgain
 pub mod Follows
 pub mod Calls
 pub mod Booting

@@ -11,7 +11,7 @@ use Rattle.sys_text.specs.declared.system.System.{System}
 use Rattle.proc_state.specs.declared.process.Process.{Process}
 use Rattle.proc_state.specs.State.{state_of}
 use Rattle.sys_calls.specs.Next.{next_step, has_step}
-use Rattle.sys_calls.specs.Small.{weight}
+use Rattle.sys_calls.specs.Small.{weight_with_children}
 use Rattle.bus_msg.specs.declared.entry.Post.{Post}
 use Rattle.bus_msg.specs.declared.entry.What.{What}
 use Rattle.bus_msg.specs.declared.entry.What.TheVariants.{Rebackup}
@@ -195,9 +195,9 @@ tried_once c = record c { tried = true; steps = next_count c.steps }
 abbrev pub has_moved : Process → Bool
 has_moved p = nat_lt p.since (p.small).steps || nat_lt 0 (length p.read)
 
--- two for each step that a process has left at most, and one for a synchronisation
+-- two for each step that a process and the children that it may still fork have left at most, and one for a synchronisation
 abbrev pub process_load : Process → ℕ
-process_load p = 2 * weight p.small + (if has_moved p then 1 else 0)
+process_load p = 2 * weight_with_children p.small + (if has_moved p then 1 else 0)
 
 abbrev pub held_load : Held → ℕ
 held_load (Runs p) = process_load p

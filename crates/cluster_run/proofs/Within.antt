@@ -15,7 +15,7 @@ use Rattle.sys_text.specs.declared.system.System.{System}
 use Rattle.sys_text.specs.Valid.{is_system}
 use Rattle.proc_state.specs.declared.process.Process.{Process}
 use Rattle.proc_state.specs.State.{ProcState, state_of}
-use Rattle.sys_calls.specs.Small.{weight}
+use Rattle.sys_calls.specs.Small.{weight_with_children}
 use Rattle.sys_calls.specs.Calls.{Next, Silent, Blocked, Forks, Emits, Over}
 use Rattle.sys_calls.specs.Fork.{before_fork, fork_parent}
 use Rattle.sys_calls.specs.Next.{next_step}
@@ -40,7 +40,7 @@ use Rattle.cert_sched.specs.Rules.{is_over}
 use Rattle.cert_sched.specs.Built.{BuiltMayFollow, UnlostMayFollow, is_unlost}
 use Rattle.cert_sched.specs.Legal.{IsLegalBy}
 use Rattle.cert_sched.specs.Losses.{was_lost_in}
-use Rattle.cert_sched.proofs.ForkWeight.{fork_weighs}
+use Rattle.cert_sched.proofs.KernelSums.{one_of_sum}
 use Rattle.cert_sched.proofs.ReplayLaws.{fork_after}
 use Rattle.cert_sched.proofs.RisingLaws.{NoTwo}
 use Rattle.cert_sched.proofs.StepLaws.{sent_from, silent_from}
@@ -54,7 +54,7 @@ use Rattle.cluster_core.specs.Residents.{pids_in}
 use Rattle.cluster_core.proofs.Lightening.{held_apart}
 use Rattle.sys_calls.proofs.Counting.{last_sent}
 use Rattle.sys_calls.proofs.ForkLaws.{forks_can}
-use Rattle.sys_calls.proofs.Weighing.{Leaves, emits_leaves, next_leaves, silently_leaves}
+use Rattle.sys_calls.proofs.Bearing.{emits_lightens, fork_lightens, silent_lightens, silently_lightens}
 use Rattle.bus_order.specs.View.{BusView}
 use Rattle.cluster_run.specs.Disks.{HasFailed}
 use Rattle.cluster_run.specs.Gone.{IsGone, StoodAs, StoodBeside, StoodBetween}
@@ -63,7 +63,7 @@ use Rattle.record_laws.proofs.Standing.{built_stands}
 use Rattle.sync_left.specs.Left.{left_of_syncs, left_to_send, most_syncs}
 use Rattle.sync_left.specs.Load.{kernel_load, log_load}
 use Rattle.sync_left.proofs.Bounded.{syncs_within}
-use Rattle.sync_left.proofs.StepsLeft.{after_log, one_of_all}
+use Rattle.sync_left.proofs.StepsLeft.{after_log}
 use Rattle.cluster_run.specs.Progress.{Falls, IsOver, Remaining, remaining, total, unseen}
 use Rattle.cluster_run.proofs.Posting.{follows_some}
 use Rattle.cluster_run.proofs.Prefixes.{goes_on_before, legal_prefix}
@@ -79,96 +79,94 @@ use Rattle.page_laws.specs.Left.{left_of_pages}
 abbrev pub boot_load : System → ℕ
 boot_load system = kernel_load (boot system)
 
-within_kernel : (system : System) (log : List Entry) (p : Pid) (s : ProcState) (k : Kernel) → plain_after system log ≡ Some k → process_at k p ≡ Some s → weight s.small ≤ boot_load system
-within_kernel system log p s k before there = omega (arith, one_of_all p s k.processes there, after_log system log k before)
+within_kernel : (system : System) (log : List Entry) (p : Pid) (s : ProcState) (k : Kernel) → plain_after system log ≡ Some k → process_at k p ≡ Some s → weight_with_children s.small ≤ boot_load system
+within_kernel system log p s k before there = omega (arith, one_of_sum weight_with_children p s k there, after_log system log k before)
 
 -- a process after any log
-process_within : (system : System) (log : List Entry) (p : Pid) (s : ProcState) → process_after system log p ≡ Some s → weight s.small ≤ boot_load system
+process_within : (system : System) (log : List Entry) (p : Pid) (s : ProcState) → process_after system log p ≡ Some s → weight_with_children s.small ≤ boot_load system
 process_within system log p s is = by_kernel (plain_after system log) refl is
   where
-    by_kernel : (o : Option Kernel) → plain_after system log ≡ o → option_and_then (λ k. process_at k p) o ≡ Some s → weight s.small ≤ boot_load system
+    by_kernel : (o : Option Kernel) → plain_after system log ≡ o → option_and_then (λ k. process_at k p) o ≡ Some s → weight_with_children s.small ≤ boot_load system
     by_kernel None before there = cc
     by_kernel (Some k) before there = within_kernel system log p s k before there
 
 -- some silent steps on
-silent_within : (system : System) (log : List Entry) (p : Pid) (at : ℕ) (t : ProcState) → silent_upto system log p at ≡ Some t → weight t.small ≤ boot_load system
+silent_within : (system : System) (log : List Entry) (p : Pid) (at : ℕ) (t : ProcState) → silent_upto system log p at ≡ Some t → weight_with_children t.small ≤ boot_load system
 silent_within system log p at t is =
     let f = silent_from system log p at t is in
-    omega (arith, silently_leaves _ f.was t f.silent, within_kernel system log p f.was f.kernel f.before f.there)
+    omega (arith, silently_lightens _ f.was t f.silent, within_kernel system log p f.was f.kernel f.before f.there)
 
 -- ---- a process that rolls forward
 
 -- it has no more left than where it started
 abbrev NoMore : ℕ → Type 0
-NoMore n = (s t : ProcState) (births : List Pid) (ds : List Deed) → replayed n s births ≡ Some (t, ds) → weight t.small ≤ weight s.small
+NoMore n = (s t : ProcState) (births : List Pid) (ds : List Deed) → replayed n s births ≡ Some (t, ds) → weight_with_children t.small ≤ weight_with_children s.small
 
 replayed_leaves : (n : ℕ) → NoMore n
-replayed_leaves zero s t births ds is = let same : s ≡ t = ap (λ o. option_map_or (λ (r : ProcState × List Deed). r.0) o s) is in omega (arith, ap (λ (p : ProcState). weight p.small) same)
+replayed_leaves zero s t births ds is = let same : s ≡ t = ap (λ o. option_map_or (λ (r : ProcState × List Deed). r.0) o s) is in omega (arith, ap (λ (p : ProcState). weight_with_children p.small) same)
 replayed_leaves (suc n) s t births ds is = by_next (next_step s) refl is (replayed_leaves n)
   where
-    goes_on : (d : Deed) (u : ProcState) (left : List Pid) (o : Option (ProcState × List Deed)) → replayed n u left ≡ o → option_map (put_first d) o ≡ Some (t, ds) → NoMore n → weight t.small ≤ weight u.small
+    goes_on : (d : Deed) (u : ProcState) (left : List Pid) (o : Option (ProcState × List Deed)) → replayed n u left ≡ o → option_map (put_first d) o ≡ Some (t, ds) → NoMore n → weight_with_children t.small ≤ weight_with_children u.small
     goes_on d u left None made e more = cc
     goes_on d u left (Some r) made e more =
         let here : r.0 ≡ t = ap (λ o. option_map_or (λ (r : ProcState × List Deed). r.0) o t) e in
         more u t left r.1 (made ∙ (λ i. Some (here i, r.1)))
 
-    by_next : (next : Next) → next_step s ≡ next → replay_step s (λ u rest. replayed n u rest) next births ≡ Some (t, ds) → NoMore n → weight t.small ≤ weight s.small
+    by_next : (next : Next) → next_step s ≡ next → replay_step s (λ u rest. replayed n u rest) next births ≡ Some (t, ds) → NoMore n → weight_with_children t.small ≤ weight_with_children s.small
     by_next (Silent u) step e more =
-        let less : weight u.small + 1 ≤ weight s.small = subst (Leaves s) step (next_leaves s) in
-        omega (arith, less, more u t births ds e)
+        omega (arith, silent_lightens s u step, more u t births ds e)
     by_next Blocked step e more = cc
     by_next Forks step e more = by_births births e
       where
-        by_births : (bs : List Pid) → replay_step s (λ u rest. replayed n u rest) Forks bs ≡ Some (t, ds) → weight t.small ≤ weight s.small
+        by_births : (bs : List Pid) → replay_step s (λ u rest. replayed n u rest) Forks bs ≡ Some (t, ds) → weight_with_children t.small ≤ weight_with_children s.small
         by_births [] made = cc
-        by_births (child ∷ rest) made = omega (arith, fork_weighs s child (forks_can s step), goes_on (Bears child) (fork_parent s child) rest (replayed n (fork_parent s child) rest) refl made more)
+        by_births (child ∷ rest) made = omega (arith, fork_lightens s child (forks_can s step), goes_on (Bears child) (fork_parent s child) rest (replayed n (fork_parent s child) rest) refl made more)
     by_next (Emits m u) step e more =
-        let less : weight u.small + 1 ≤ weight s.small = subst (Leaves s) step (next_leaves s) in
-        omega (arith, less, goes_on (Sends m) u births (replayed n u births) refl e more)
+        omega (arith, emits_lightens s u m step, goes_on (Sends m) u births (replayed n u births) refl e more)
     by_next Over step e more = cc
 
 -- ---- what is held
 
 -- what a process has left after what it sent
-emitted_within : (system : System) (log : List Entry) (p : Pid) (at : ℕ) (t : ProcState) (o : Option (Emission × ProcState)) → emission_at system log p at ≡ o → option_map (λ (r : Emission × ProcState). r.1) o ≡ Some t → weight t.small ≤ boot_load system
+emitted_within : (system : System) (log : List Entry) (p : Pid) (at : ℕ) (t : ProcState) (o : Option (Emission × ProcState)) → emission_at system log p at ≡ o → option_map (λ (r : Emission × ProcState). r.1) o ≡ Some t → weight_with_children t.small ≤ boot_load system
 emitted_within system log p at t None is there = cc
 emitted_within system log p at t (Some sent) is there =
     let s = sent_from system log p at sent.0 sent.1 is in
     let l = last_sent _ s.was sent.0 sent.1 s.sends in
-    let same : weight (sent.1).small ≡ weight t.small = ap (λ o. option_map_or (λ (u : ProcState). weight u.small) o (weight t.small)) there in
-    omega (arith, same, silently_leaves l.earlier s.was l.before l.silent, emits_leaves l.before sent.1 sent.0 l.last, within_kernel system log p s.was s.kernel s.before s.there)
+    let same : weight_with_children (sent.1).small ≡ weight_with_children t.small = ap (λ o. option_map_or (λ (u : ProcState). weight_with_children u.small) o (weight_with_children t.small)) there in
+    omega (arith, same, silently_lightens l.earlier s.was l.before l.silent, emits_lightens l.before sent.1 sent.0 l.last, within_kernel system log p s.was s.kernel s.before s.there)
 
 -- a process that has moved ahead of the log
-moved_within : (system : System) (log : List Entry) (p : Pid) (steps : ℕ) (t : ProcState) (w : What) → is_unlost w ≡ true → state_by system log p steps (Some w) ≡ Some t → weight t.small ≤ boot_load system
+moved_within : (system : System) (log : List Entry) (p : Pid) (steps : ℕ) (t : ProcState) (w : What) → is_unlost w ≡ true → state_by system log p steps (Some w) ≡ Some t → weight_with_children t.small ≤ boot_load system
 unfolding before_fork_at
 moved_within system log p steps t =
-    by_unlost (λ w. state_by system log p steps (Some w) ≡ Some t → weight t.small ≤ boot_load system)
+    by_unlost (λ w. state_by system log p steps (Some w) ≡ Some t → weight_with_children t.small ≤ boot_load system)
     (λ at letter there. emitted_within system log letter.from at t (emission_at system log letter.from at) refl (same_option _ ∙ there))
     (λ parent at child end there. forked_within parent at child (before_fork_at system log parent at) refl there)
     (λ pid at end there. emitted_within system log pid at t (emission_at system log pid at) refl (same_option _ ∙ there))
     (λ pid index there. cc) (λ pid index bytes there. cc) (λ pid at index bytes there. cc) (λ pid small read there. cut_within pid small (silent_upto system log pid small.steps) refl there) (λ rests there. cc) (λ there. cc)
   where
     -- a fork leaves its parent less
-    forked_within : (parent : Pid) (at : ℕ) (child : Pid) (o : Option ProcState) → before_fork_at system log parent at ≡ o → option_map (λ s. s) (option_map (λ s. fork_parent s child) o) ≡ Some t → weight t.small ≤ boot_load system
+    forked_within : (parent : Pid) (at : ℕ) (child : Pid) (o : Option ProcState) → before_fork_at system log parent at ≡ o → option_map (λ s. s) (option_map (λ s. fork_parent s child) o) ≡ Some t → weight_with_children t.small ≤ boot_load system
     forked_within parent at child None is there = cc
     forked_within parent at child (Some u) is there = by_process (process_after system log parent) refl is
       where
         same : fork_parent u child ≡ t
         same = cc
 
-        by_process : (o : Option ProcState) → process_after system log parent ≡ o → option_and_then (before_fork (at - 1 - done_after system log parent)) o ≡ Some u → weight t.small ≤ boot_load system
+        by_process : (o : Option ProcState) → process_after system log parent ≡ o → option_and_then (before_fork (at - 1 - done_after system log parent)) o ≡ Some u → weight_with_children t.small ≤ boot_load system
         by_process None there before = cc
         by_process (Some s) there before =
             let f = fork_after (at - 1 - done_after system log parent) s u before in
-            let less = fork_weighs u child (forks_can u f.forks) in
-            let here : weight (fork_parent u child).small ≡ weight t.small = ap (λ (x : ProcState). weight x.small) same in
-            omega (arith, here, less, silently_leaves _ s u f.silent, process_within system log parent s there)
+            let less = fork_lightens u child (forks_can u f.forks) in
+            let here : weight_with_children (fork_parent u child).small ≡ weight_with_children t.small = ap (λ (x : ProcState). weight_with_children x.small) same in
+            omega (arith, here, less, silently_lightens _ s u f.silent, process_within system log parent s there)
 
-    cut_within : (pid : Pid) (small : SmallState) (o : Option ProcState) → silent_upto system log pid small.steps ≡ o → option_map (after_take None) o ≡ Some t → weight t.small ≤ boot_load system
+    cut_within : (pid : Pid) (small : SmallState) (o : Option ProcState) → silent_upto system log pid small.steps ≡ o → option_map (after_take None) o ≡ Some t → weight_with_children t.small ≤ boot_load system
     cut_within pid small None is there = cc
     cut_within pid small (Some u) is there =
         let same : u ≡ t = cc in
-        subst (λ (u : ProcState). weight u.small ≤ boot_load system) same (silent_within system log pid small.steps u is)
+        subst (λ (u : ProcState). weight_with_children u.small ≤ boot_load system) same (silent_within system log pid small.steps u is)
 
     same_option : (o : Option ProcState) → o ≡ option_map (λ (s : ProcState). s) o
     same_option None = refl
@@ -184,7 +182,7 @@ queued_unlost system log (first ∷ queue) test post legal found = by_test (test
     by_test false found more = more found
 
 runs_within : (system : System) (log : List Entry) (queue : List Post) (p : Pid) (steps : ℕ) (t : ProcState) → IsQueueLegal UnlostMayFollow system log queue → (o : Option Post) → find (is_move_of p) queue ≡ o
-    → state_by system log p steps (option_map (λ (post : Post). post.what) o) ≡ Some t → weight t.small ≤ boot_load system
+    → state_by system log p steps (option_map (λ (post : Post). post.what) o) ≡ Some t → weight_with_children t.small ≤ boot_load system
 runs_within system log queue p steps t legal None found is = silent_within system log p steps t is
 runs_within system log queue p steps t legal (Some post) found is = moved_within system log p steps t post.what (queued_unlost system log queue (is_move_of p) post legal found) is
 
@@ -192,10 +190,10 @@ runs_within system log queue p steps t legal (Some post) found is = moved_within
 abbrev pub most_held : System → ℕ
 most_held system = 2 * boot_load system + 1
 
-process_load_within : (system : System) (process : Process) → weight process.small ≤ boot_load system → process_load process ≤ most_held system
+process_load_within : (system : System) (process : Process) → weight_with_children process.small ≤ boot_load system → process_load process ≤ most_held system
 process_load_within system process within = by_test (has_moved process)
   where
-    by_test : (b : Bool) → 2 * weight process.small + cond b 1 0 ≤ 2 * boot_load system + 1
+    by_test : (b : Bool) → 2 * weight_with_children process.small + cond b 1 0 ≤ 2 * boot_load system + 1
     by_test true = omega (arith, within)
     by_test false = omega (arith, within)
 
