@@ -19,8 +19,8 @@ pub fn steps_lighten()
 {}
 
 /// A law and no code: where a process of a cluster moved, the processes there have less left to do, which counts two for each
-/// step and one for each process that has moved since its last synchronisation; where something is queued, which may be a
-/// fetch or an answer, they have no more.
+/// step of theirs and of the children that they may still fork, and one for each process that has moved since its last
+/// synchronisation; where something is queued, which may be a fetch or an answer, they have no more.
 pub fn work_lightens()
     ensures moved { (old new : ClusterView) → is_system old.system ≡ true → FollowsSome old → WorkIs old Worked.Moved new → load new + 1 ≤ load old }
     ensures queued { (old new : ClusterView) → is_system old.system ≡ true → FollowsSome old → WorkIs old Worked.Queued new → load new ≤ load old }
