@@ -8,11 +8,11 @@ use Rattle.record_laws.proofs.Standing.{built_stands}
 use Rattle.cluster_run.proofs.GoodRun.{good_run}
 use Rattle.cluster_run.proofs.leaving.run_of.Goals as goal
 
-pub counts_of-counts-requires-clause-valid : goal.counts_of-counts-requires-clause-valid
-counts_of-counts-requires-clause-valid c = ap is_system (sym c.requires.system) ∙ c.requires.left.valid
+pub counts_of-requires-clause-valid : goal.counts_of-requires-clause-valid
+counts_of-requires-clause-valid c = ap is_system (sym c.requires.system) ∙ c.requires.left.valid
 
-pub counts_of-counts-requires-clause-legal : goal.counts_of-counts-requires-clause-legal
-counts_of-counts-requires-clause-legal c =
+pub counts_of-requires-clause-legal : goal.counts_of-requires-clause-legal
+counts_of-requires-clause-legal c =
     let Of : System → Type 0 = λ system. IsLegalBy Stands system c.args.bus.log in
     let At : List Entry → Type 0 = λ log. IsLegalBy Stands c.args.system.now log in
     subst At (sym (c.as_slice.ensures ∙ c.in_ok-log.ensures.log)) (subst Of c.requires.system (built_stands c.args.bus.system c.args.bus.log c.in_ok-log.ensures.lawful.legal))
