@@ -93,7 +93,7 @@ given_loses b w k keeps built goes_on first given = record {
 
 pub place_loses : (b : BusView) (over : Bool) (places : Places) (cert : CertView) (number : ℕ) (w : ScriptWord) (k : ClusterNo) → IsKept b over places cert → is_over b.system b.log ≡ false → IsFirst (is_reached (length b.log)) b.left number w
     → given_by (placement b.system b.log) w ≡ Some (Crash k Place) → MayLose b k Place (remove b.left number)
-place_loses b over places cert number w k kept goes_on first given = subst (MayLose b k Place) (sym first.2) (given_loses b w k kept.scripted kept.words goes_on first.0 given)
+place_loses b over places cert number w k kept goes_on first given = subst (MayLose b k Place) (sym first.2) (given_loses b w k kept.lawful.scripted kept.words goes_on first.0 given)
 
 -- a word that was reached and loses no cluster gives nothing
 pub passes : (b : BusView) (number : ℕ) (w : ScriptWord) (o : Option ClusterNo) → IsFirst (is_reached (length b.log)) b.left number w → o ≡ None → given_by (placement b.system b.log) w ≡ option_map (λ k. Crash k Place) o → MayPass b number
@@ -147,9 +147,9 @@ word_loses b over places cert number w k cause kept going lives first scripted =
   words = all-without (is_word_for k cause) is_built_word b.left kept.words;
   looked =
       subst (Looked b.system b.script (b.log ++ crash_entry b.system b.log k cause ∷ [])) (sym (filter-without (is_word_for k cause) is_bus_word (word_not_bus k cause) b.left))
-      (goes_by (kept.scripted).looked (crash_entry b.system b.log k cause) (word_unlooked k cause w is_for));
+      (goes_by (kept.lawful.scripted).looked (crash_entry b.system b.log k cause) (word_unlooked k cause w is_for));
   scripted = scripted;
-  used = accounts_more b.script b.left (without_first (is_word_for k cause) b.left) b.log (crash_entry b.system b.log k cause) (kept.scripted).used (λ j other.
+  used = accounts_more b.script b.left (without_first (is_word_for k cause) b.left) b.log (crash_entry b.system b.log k cause) (kept.lawful.scripted).used (λ j other.
       let counted = count-without (is_word_for k cause) (is_word_for j other) b.left w first.0 in
       let same : ◌≡◌ {A = ℕ} (cond (is_word_for j other w) 1 0) (cond (is_loss_for j other (Crash k cause)) 1 0) = ap (λ (c : Bool). cond c 1 0) (same_loss k cause w j other is_for) in
       omega (arith, counted, same));

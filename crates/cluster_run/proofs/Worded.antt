@@ -1,5 +1,5 @@
 -- What the words that are due add to a bus, and what is known of a bus whose script has few.
-use Rattle.std.proofs.Common.{◌≡◌, ℕ, zero, suc, ◌^◌, ◌≤◌, ◌<◌, refl, sym, ◌∙◌, ap, subst, arith, inl, List, [], ◌∷◌, ◌++◌, length, append-nil, append_assoc, Bool, true, false, cond, ◌||◌, Option, Some, None}
+use Rattle.std.proofs.Common.{◌≡◌, ℕ, zero, suc, ◌≤◌, refl, sym, ◌∙◌, ap, subst, arith, inl, List, [], ◌∷◌, ◌++◌, length, append-nil, append_assoc, Bool, true, false, cond, ◌||◌, Option, Some, None}
 use Rattle.std.specs.Prelude.{All}
 use Rattle.std.specs.List.{list_all, list_any}
 use Rattle.std.proofs.lemmas.List.Elements.{All-nil, All-cons, All-append}
@@ -15,15 +15,14 @@ use Rattle.bus_msg.specs.Places.{Places, lives_in}
 use Rattle.cert_sched.specs.declared.script.ScriptWord.{ScriptWord}
 use Rattle.cert_sched.specs.declared.script.ScriptWord.TheVariants.{CrashAt, CrashStep, DiskAt, ReturnAt}
 use Rattle.cert_sched.specs.Appended.{entry_of}
-use Rattle.cert_sched.specs.Built.{BuiltMayFollow, is_built_word}
-use Rattle.cert_sched.specs.Legal.{IsLegalBy}
+use Rattle.cert_sched.specs.Built.{is_built_word}
 use Rattle.cert_sched.specs.Looked.{first_reached, given_by}
 use Rattle.cert_sched.specs.Rules.{is_over}
 use Rattle.cert_sched.specs.Schedule.{placement}
 use Rattle.cert_sched.specs.Scripted.{is_closed}
 use Rattle.bus_lock.specs.Lists.{MayAdd, is_author}
 use Rattle.bus_order.specs.Log.{author, author_of}
-use Rattle.bus_order.specs.View.{BusView, HasLooked, KeepsScript, after_words, look_once, looks, with_given, with_look}
+use Rattle.bus_order.specs.View.{BusView, HasLooked, IsLawful, after_words, look_once, looks, with_given, with_look}
 use Rattle.bus_order.proofs.Looking.{look_over, look_some}
 use Rattle.bus_order.proofs.OverLaws.{open_not_closed}
 use Rattle.script_laws.proofs.CoveredLosses.{few_losses_close}
@@ -112,12 +111,12 @@ may_add k more none i d low = inl (none i d low)
 -- ---- few words
 
 -- a bus is sound, as far as its script is
-pub sound_of : (b : BusView) → is_system b.system ≡ true → list_all is_built_word b.script ≡ true → length b.script ≤ 1 → IsLegalBy BuiltMayFollow b.system b.log → KeepsScript b → length b.log < 2 ^ 64 → IsSound b
-sound_of b valid words one legal keeps fits = record { valid = valid; words = words; one = one; legal = legal; losses = crashes_within b keeps legal words; fits = fits }
+pub sound_of : (b : BusView) → is_system b.system ≡ true → list_all is_built_word b.script ≡ true → length b.script ≤ 1 → IsLawful b → IsSound b
+sound_of b valid words one lawful = record { valid = valid; words = words; one = one; legal = lawful.legal; losses = crashes_within b lawful.scripted lawful.legal words; fits = lawful.fits }
 
-pub sound_again : (old new : BusView) → IsSound old → new.system ≡ old.system → new.script ≡ old.script → IsLegalBy BuiltMayFollow new.system new.log → KeepsScript new → length new.log < 2 ^ 64 → IsSound new
-sound_again old new sound system script legal keeps fits =
-    sound_of new (ap is_system system ∙ sound.valid) (ap (list_all is_built_word) script ∙ sound.words) (let long = ap length script in omega (arith, long, sound.one)) legal keeps fits
+pub sound_again : (old new : BusView) → IsSound old → new.system ≡ old.system → new.script ≡ old.script → IsLawful new → IsSound new
+sound_again old new sound system script lawful =
+    sound_of new (ap is_system system ∙ sound.valid) (ap (list_all is_built_word) script ∙ sound.words) (let long = ap length script in omega (arith, long, sound.one)) lawful
 
 -- its log is over exactly where it is closed
 pub sound_closed : (b : BusView) → IsSound b → is_over b.system b.log ≡ is_closed b.log

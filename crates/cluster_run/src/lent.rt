@@ -48,7 +48,6 @@ impl Port for Bus {
     }
 
     fn names_step(&self, cluster: &Member) -> bool {
-        let _scripted = self.length();
         self.unused(cluster.number(), Cause::Step(cluster.steps()))
     }
 

@@ -9,7 +9,7 @@ pub returns-then-is_some-clause-caught : goal.returns-then-is_some-clause-caught
 returns-then-is_some-clause-caught c =
     let b : BusView = c.args.bus.now in
     let v = c.args.cluster.now in
-    let off : is_some (off_at b.log v.number) ≡ true = ap (λ k. is_some (off_at b.log k)) (sym c.number.ensures) ∙ ap is_some (sym c.off_at.ensures) ∙ sym c.is_some.ensures ∙ c.if-is_some.true in
+    let off : is_some (off_at b.log v.number) ≡ true = ap (λ k. is_some (off_at b.log k)) (sym c.number.ensures) ∙ ap is_some (sym c.off_at.ensures.off) ∙ sym c.is_some.ensures ∙ c.if-is_some.true in
     member_caught b v c.requires.sound (lost_off b.system b.log v.number c.requires.sound.legal ∙ off) c.requires.along
 
 none_is : (o : Option ℕ) → is_some o ≡ false → o ≡ None
@@ -20,12 +20,12 @@ pub take_unnamed-requires-clause-shown : goal.take_unnamed-requires-clause-shown
 take_unnamed-requires-clause-shown c =
     let b : BusView = c.args.bus.now in
     let v = c.args.cluster.now in
-    let on : is_some (off_at b.log v.number) ≡ false = ap (λ k. is_some (off_at b.log k)) (sym c.number.ensures) ∙ ap is_some (sym c.off_at.ensures) ∙ sym c.is_some.ensures ∙ c.if-is_some.false in
+    let on : is_some (off_at b.log v.number) ≡ false = ap (λ k. is_some (off_at b.log k)) (sym c.number.ensures) ∙ ap is_some (sym c.off_at.ensures.off) ∙ sym c.is_some.ensures ∙ c.if-is_some.false in
     record { shows = tt; from_there = omega arith; sound = c.requires.sound; along = still_along b v (lost_off b.system b.log v.number c.requires.sound.legal ∙ on) (none_is (v.failed) (ap is_some (sym c.failed.ensures) ∙ sym c.is_some-2.ensures ∙ c.if-is_some-2.false)) c.requires.along }
 
 pub returns-clause-caught : goal.returns-clause-caught
 returns-clause-caught c =
     let b : BusView = c.args.bus.now in
     let v = c.args.cluster.now in
-    let on : is_some (off_at b.log v.number) ≡ false = ap (λ k. is_some (off_at b.log k)) (sym c.number.ensures) ∙ ap is_some (sym c.off_at.ensures) ∙ sym c.is_some.ensures ∙ c.if-is_some.false in
+    let on : is_some (off_at b.log v.number) ≡ false = ap (λ k. is_some (off_at b.log k)) (sym c.number.ensures) ∙ ap is_some (sym c.off_at.ensures.off) ∙ sym c.is_some.ensures ∙ c.if-is_some.false in
     rest_caught b v c.take_unnamed.new.cluster (lost_off b.system b.log v.number c.requires.sound.legal ∙ on) (c.in_ok-take_unnamed.ensures.taken c.if-branch.false) (c.in_ok-take_unnamed.ensures.caught c.if-branch.false)

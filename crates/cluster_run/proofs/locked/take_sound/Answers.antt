@@ -1,11 +1,10 @@
-use Rattle.std.proofs.Common.{◌≡◌, ◌∙◌, ap, subst, arith, length}
+use Rattle.std.proofs.Common.{◌≡◌, ◌∙◌, ap, arith, length}
 use Rattle.std.specs.List.{list_all}
 use Rattle.sys_text.specs.Valid.{is_system}
-use Rattle.cert_sched.specs.Legal.{IsLegalBy}
-use Rattle.cert_sched.specs.Built.{BuiltMayFollow, is_built_word}
+use Rattle.cert_sched.specs.Built.{is_built_word}
 use Rattle.bus_lock.specs.Seats.{seat_origin}
 use Rattle.bus_order.specs.declared.shared.Origin.{Origin}
-use Rattle.bus_order.specs.View.{BusView, KeepsScript}
+use Rattle.bus_order.specs.View.{BusView}
 use Rattle.cluster_run.specs.Seated.{made_of, origin_of}
 use Rattle.cluster_run.proofs.Answering.{same_from}
 use Rattle.cluster_run.proofs.Worded.{sound_of}
@@ -13,21 +12,18 @@ use Rattle.cluster_run.proofs.locked.take_sound.Goals as goal
 
 pub returns-clause-sound : goal.returns-clause-sound
 returns-clause-sound g c =
-    let b : BusView = c.take-bus.result.value in
+    let b : BusView = c.take.result.value in
     let v = c.args.cluster.now in
     let from = c.requires.from in
-    let origin : origin_of b ≡ made_of v.system from.script = same_from (origin_of b) (made_of v.system from.script) (seat_origin c.args.seat.now) c.take-bus.ensures.origin from.from in
+    let origin : origin_of b ≡ made_of v.system from.script = same_from (origin_of b) (made_of v.system from.script) (seat_origin c.args.seat.now) c.take.ensures.origin from.from in
     let system : b.system ≡ v.system = ap (λ (o : Origin). o.system) origin in
     let script : b.script ≡ from.script = ap (λ (o : Origin). o.script) origin in
-    let same : c.deref.result.now ≡ b = c.deref.ensures in
-    let long = ap (λ (v : BusView). length v.log) same in
     let few = from.word.one in
-    sound_of b (ap is_system system ∙ c.requires.valid) (ap (list_all is_built_word) script ∙ from.word.words) (let words = ap length script in omega (arith, words, few)) (subst (λ (v : BusView). IsLegalBy BuiltMayFollow v.system v.log) same c.length-sound.ensures.legal) (subst KeepsScript same c.length-sound.ensures.scripted)
-    (omega (arith, c.length-sound.ensures.length, c.length-sound.type_inv, long))
+    sound_of b (ap is_system system ∙ c.requires.valid) (ap (list_all is_built_word) script ∙ from.word.words) (let words = ap length script in omega (arith, words, few)) c.take.ensures.lawful
 
 pub returns-clause-system : goal.returns-clause-system
 returns-clause-system g c =
-    let b : BusView = c.take-bus.result.value in
+    let b : BusView = c.take.result.value in
     let v = c.args.cluster.now in
     let from = c.requires.from in
-    ap (λ (o : Origin). o.system) (same_from (origin_of b) (made_of v.system from.script) (seat_origin c.args.seat.now) c.take-bus.ensures.origin from.from)
+    ap (λ (o : Origin). o.system) (same_from (origin_of b) (made_of v.system from.script) (seat_origin c.args.seat.now) c.take.ensures.origin from.from)

@@ -1,4 +1,4 @@
-use Rattle.std.proofs.Common.{arith, subst}
+use Rattle.std.proofs.Common.{subst}
 use Rattle.t32_base.specs.declared.process.ClusterNo.{ClusterNo}
 use Rattle.bus_order.specs.View.{BusView}
 use Rattle.cluster_run.specs.Offers.{Adds}
@@ -6,24 +6,24 @@ use Rattle.cluster_run.proofs.Answering.{adds_told, may_be_told, tell_answers}
 use Rattle.cluster_run.proofs.Worded.{sound_again}
 use Rattle.cluster_run.proofs.offers.idle_for.Goals as goal
 
-pub idle-answer-requires : goal.idle-answer-requires
-idle-answer-requires c = may_be_told c.args.bus.now c.args.cluster.now c.args.mark c.number.result c.cursor.result c.requires.sound c.requires.along c.requires.told c.number.ensures c.cursor.ensures
+pub idle-requires : goal.idle-requires
+idle-requires c = may_be_told c.args.bus.now c.args.cluster.now c.args.mark c.number.result c.cursor.result c.requires.sound c.requires.along c.requires.told c.number.ensures c.cursor.ensures
 
 pub returns-clause-adds : goal.returns-clause-adds
 returns-clause-adds c =
     let old : BusView = c.args.bus.now in
-    let new : BusView = c.idle-answer.new.self in
-    subst (λ (k : ClusterNo). Adds k old new) c.number.ensures (adds_told old new c.number.result c.cursor.result c.args.mark c.idle-answer.result c.idle-answer.ensures)
+    let new : BusView = c.idle.new.self in
+    subst (λ (k : ClusterNo). Adds k old new) c.number.ensures (adds_told old new c.number.result c.cursor.result c.args.mark c.idle.result c.idle.ensures.idles)
 
 pub returns-clause-sound : goal.returns-clause-sound
 returns-clause-sound c =
     let old : BusView = c.args.bus.now in
-    let new : BusView = c.idle-answer.new.self in
-    let adds = adds_told old new c.number.result c.cursor.result c.args.mark c.idle-answer.result c.idle-answer.ensures in
-    sound_again old new c.requires.sound adds.system adds.script c.length-sound.ensures.legal c.length-sound.ensures.scripted (omega (arith, c.length-sound.ensures.length, c.length-sound.type_inv))
+    let new : BusView = c.idle.new.self in
+    let adds = adds_told old new c.number.result c.cursor.result c.args.mark c.idle.result c.idle.ensures.idles in
+    sound_again old new c.requires.sound adds.system adds.script c.idle.ensures.lawful
 
 pub returns-clause-answers : goal.returns-clause-answers
 returns-clause-answers c =
     let old : BusView = c.args.bus.now in
-    let new : BusView = c.idle-answer.new.self in
-    tell_answers old new c.args.cluster.now c.number.result c.cursor.result c.requires.along c.length-sound.ensures.legal c.number.ensures c.cursor.ensures c.args.mark c.idle-answer.result c.idle-answer.ensures
+    let new : BusView = c.idle.new.self in
+    tell_answers old new c.args.cluster.now c.number.result c.cursor.result c.requires.along c.idle.ensures.lawful.legal c.number.ensures c.cursor.ensures c.args.mark c.idle.result c.idle.ensures.idles

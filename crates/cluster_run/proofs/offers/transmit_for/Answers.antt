@@ -1,4 +1,4 @@
-use Rattle.std.proofs.Common.{arith, subst}
+use Rattle.std.proofs.Common.{subst}
 use Rattle.t32_base.specs.declared.process.ClusterNo.{ClusterNo}
 use Rattle.bus_order.specs.View.{BusView}
 use Rattle.cluster_run.specs.Offers.{Adds}
@@ -6,24 +6,24 @@ use Rattle.cluster_run.proofs.Answering.{adds_sent, may_be_sent, offer_answers, 
 use Rattle.cluster_run.proofs.Worded.{sound_again}
 use Rattle.cluster_run.proofs.offers.transmit_for.Goals as goal
 
-pub transmit-answer-requires : goal.transmit-answer-requires
-transmit-answer-requires c = may_be_sent c.args.bus.now c.args.cluster.now c.args.post.now c.number.result c.cursor.result c.requires.along c.requires.head c.number.ensures c.cursor.ensures
+pub transmit-requires : goal.transmit-requires
+transmit-requires c = may_be_sent c.args.bus.now c.args.cluster.now c.args.post.now c.number.result c.cursor.result c.requires.along c.requires.head c.number.ensures c.cursor.ensures
 
 pub returns-clause-adds : goal.returns-clause-adds
 returns-clause-adds c =
     let old : BusView = c.args.bus.now in
-    let new : BusView = c.transmit-answer.new.self in
-    subst (λ (k : ClusterNo). Adds k old new) c.number.ensures (adds_sent old new c.number.result c.cursor.result c.args.post.now c.transmit-answer.result (own_of c.args.bus.now c.args.cluster.now c.args.post.now c.number.result c.requires.along c.requires.head c.number.ensures) c.transmit-answer.ensures)
+    let new : BusView = c.transmit.new.self in
+    subst (λ (k : ClusterNo). Adds k old new) c.number.ensures (adds_sent old new c.number.result c.cursor.result c.args.post.now c.transmit.result (own_of c.args.bus.now c.args.cluster.now c.args.post.now c.number.result c.requires.along c.requires.head c.number.ensures) c.transmit.ensures.transmits)
 
 pub returns-clause-sound : goal.returns-clause-sound
 returns-clause-sound c =
     let old : BusView = c.args.bus.now in
-    let new : BusView = c.transmit-answer.new.self in
-    let adds = adds_sent old new c.number.result c.cursor.result c.args.post.now c.transmit-answer.result (own_of c.args.bus.now c.args.cluster.now c.args.post.now c.number.result c.requires.along c.requires.head c.number.ensures) c.transmit-answer.ensures in
-    sound_again old new c.requires.sound adds.system adds.script c.length-sound.ensures.legal c.length-sound.ensures.scripted (omega (arith, c.length-sound.ensures.length, c.length-sound.type_inv))
+    let new : BusView = c.transmit.new.self in
+    let adds = adds_sent old new c.number.result c.cursor.result c.args.post.now c.transmit.result (own_of c.args.bus.now c.args.cluster.now c.args.post.now c.number.result c.requires.along c.requires.head c.number.ensures) c.transmit.ensures.transmits in
+    sound_again old new c.requires.sound adds.system adds.script c.transmit.ensures.lawful
 
 pub returns-clause-answers : goal.returns-clause-answers
 returns-clause-answers c =
     let old : BusView = c.args.bus.now in
-    let new : BusView = c.transmit-answer.new.self in
-    offer_answers old new c.args.cluster.now c.number.result c.cursor.result c.requires.along c.length-sound.ensures.legal c.number.ensures c.cursor.ensures c.args.post.now c.transmit-answer.result c.transmit-answer.ensures
+    let new : BusView = c.transmit.new.self in
+    offer_answers old new c.args.cluster.now c.number.result c.cursor.result c.requires.along c.transmit.ensures.lawful.legal c.number.ensures c.cursor.ensures c.args.post.now c.transmit.result c.transmit.ensures.transmits

@@ -8,8 +8,8 @@ use Rattle.bus_msg.specs.PlacedAfter.{what}
 use Rattle.channel_table.specs.Changes.{CanBeAbsorbed}
 use Rattle.cert_sched.specs.Rules.{ends_run}
 use Rattle.cert_sched.specs.Simulation.{crash_entry}
-use Rattle.bus_order.specs.View.{BusView, IsKept, MayLose, no_marks}
-use Rattle.bus_order.proofs.Keeping.{IsMore, kept_more}
+use Rattle.bus_order.specs.View.{BusView, IsKept, IsLawful, MayLose, no_marks}
+use Rattle.bus_order.proofs.Keeping.{IsMore, fits_as, kept_more, lawful_more}
 use Rattle.bus_order.proofs.Losing.{loss_more}
 use Rattle.bus_order.proofs.OverLaws.{open_inside}
 use Rattle.bus_order.proofs.bus.Bus.lose.Goals as goal
@@ -31,12 +31,27 @@ invariant_of-self-2 c =
     let e : Entry = c.entry_of-entry.result in
     let same : e ≡ crash_entry b.system b.log k cause = c.entry_of-entry.ensures ∙ ap (λ (v : BusView). crash_entry v.system v.log k cause) (sym c.self.view_is) in
     let may : MayLose b k cause left = subst (λ (v : BusView). MayLose v k cause (remove v.left c.args.number)) (sym c.self.view_is) c.requires.may in
-    let more : IsMore b e left = subst (λ e. IsMore b e left) (sym same) (loss_more b k cause left c.self.invariant.legal may) in
+    let more : IsMore b e left = subst (λ e. IsMore b e left) (sym same) (loss_more b k cause left c.self.invariant.lawful.legal may) in
     let ends : not c.covered-over.result ≡ ends_run places (what e) = ap not c.covered-over.ensures ∙ sym (ap (λ e. ends_run places (what e)) same) in
     let cleared : c.clear.new.marks ≡ no_marks b.marks = c.clear.ensures ∙ ap no_marks c.deref_mut.ensures.value in
     let long : length c.clear.new.marks ≡ c.self.inside.marks.len = omega (arith, c.deref_mut.ensures.len, c.clear.auto.marks) in
     let marks = (with_items c.self.inside.marks c.clear.new.marks).items in
     subst (λ l. IsKept (record b { left = c.remove.new.self.items; log = l; marks = marks }) (not c.covered-over.result) c.append.new.places c.append.new.cert) (sym c.in_ok-place.ensures.log)
     (subst (λ ws. IsKept (record b { left = ws; log = b.log ++ e ∷ []; marks = marks }) (not c.covered-over.result) c.append.new.places c.append.new.cert) (sym c.remove.ensures.items)
-    (kept_more b over (not c.covered-over.result) places c.append.new.places c.self.inside.cert c.append.new.cert e left marks c.self.invariant more ends c.in_ok-place.ensures.places c.in_ok-place.ensures.cert
+    (kept_more b over (not c.covered-over.result) places c.append.new.places c.self.inside.cert c.append.new.cert e left marks c.self.invariant more (fits_as c.in_ok-place.ensures.log c.in_ok-place.ensures.fits) ends c.in_ok-place.ensures.places c.in_ok-place.ensures.cert
     (with_items_is c.self.inside.marks c.clear.new.marks long ∙ cleared)))
+
+pub returns-clause-lawful : goal.returns-clause-lawful
+returns-clause-lawful c =
+    let b : BusView = record { system = arc_value c.self.inside.system; script = c.self.inside.script.items; left = c.self.inside.left.items; log = c.self.inside.log; marks = c.self.inside.marks.items } in
+    let k = c.args.k in
+    let cause = c.args.cause in
+    let left = remove b.left c.args.number in
+    let e : Entry = c.entry_of-entry.result in
+    let same : e ≡ crash_entry b.system b.log k cause = c.entry_of-entry.ensures ∙ ap (λ (v : BusView). crash_entry v.system v.log k cause) (sym c.self.view_is) in
+    let may : MayLose b k cause left = subst (λ (v : BusView). MayLose v k cause (remove v.left c.args.number)) (sym c.self.view_is) c.requires.may in
+    let more : IsMore b e left = subst (λ e. IsMore b e left) (sym same) (loss_more b k cause left c.self.invariant.lawful.legal may) in
+    let marks = (with_items c.self.inside.marks c.clear.new.marks).items in
+    subst (λ l. IsLawful (record b { left = c.remove.new.self.items; log = l; marks = marks })) (sym c.in_ok-place.ensures.log)
+    (subst (λ ws. IsLawful (record b { left = ws; log = b.log ++ e ∷ []; marks = marks })) (sym c.remove.ensures.items)
+    (lawful_more b e left marks c.self.invariant.lawful more (fits_as c.in_ok-place.ensures.log c.in_ok-place.ensures.fits)))

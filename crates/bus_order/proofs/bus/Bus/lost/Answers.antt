@@ -12,12 +12,12 @@ use Rattle.bus_order.proofs.bus.Bus.lost.Goals as goal
 pub overflow_sub-result : goal.overflow_sub-result
 overflow_sub-result c =
     let over : is_over c.args.self.now.system c.args.self.now.log ≡ true = sym (over_as_kept c.self.view_is c.self.invariant) ∙ c.if-self.true in
-    omega (arith, over_long c.args.self.now.system c.args.self.now.log c.length.ensures.legal over, c.length.ensures.length)
+    omega (arith, over_long c.args.self.now.system c.args.self.now.log c.length.ensures.lawful.legal over, c.length.ensures.length)
 
-pub returns-then-self : goal.returns-then-self
-returns-then-self c =
+pub returns-then-self-clause-loses : goal.returns-then-self-clause-loses
+returns-then-self-clause-loses c =
     let over : is_over c.args.self.now.system c.args.self.now.log ≡ true = sym (over_as_kept c.self.view_is c.self.invariant) ∙ c.if-self.true in
-    (over, omega (arith, over_long c.args.self.now.system c.args.self.now.log c.length.ensures.legal over, c.length.ensures.length), refl)
+    (over, omega (arith, over_long c.args.self.now.system c.args.self.now.log c.length.ensures.lawful.legal over, c.length.ensures.length), refl)
 
 pub lose-requires-clause-may : goal.lose-requires-clause-may
 lose-requires-clause-may c =
@@ -29,11 +29,11 @@ lose-requires-clause-may c =
     let cert = c.self.inside.cert in
     let kept : IsKept b over places cert = subst (λ b. IsKept b over places cert) c.self.view_is c.self.invariant in
     let goes_on : is_over b.system b.log ≡ false = sym (over_as_kept c.self.view_is c.self.invariant) ∙ c.if-self.false in
-    let off : off_at b.log by ≡ None = sym c.off_at.ensures ∙ c.in_default.is in
+    let off : off_at b.log by ≡ None = sym c.off_at.ensures.off ∙ c.in_default.is in
     let words : c.deref.result.now ≡ b.left = c.deref.ensures.value ∙ ap (λ (v : BusView). v.left) c.self.view_is in
     let first : IsFirst (is_word_for by cause) b.left c.in-Some-first_for.number c.in-Some-first_for.field-0-1 =
     subst (λ ws. IsFirst (is_word_for by cause) ws c.in-Some-first_for.number c.in-Some-first_for.field-0-1) words c.in-Some-first_for.ensures.some in
-    word_loses b over places cert c.in-Some-first_for.number c.in-Some-first_for.field-0-1 by cause kept goes_on (not_off_lives b.system b.log by kept.legal c.requires.has off) first (c.requires.may goes_on off)
+    word_loses b over places cert c.in-Some-first_for.number c.in-Some-first_for.field-0-1 by cause kept goes_on (not_off_lives b.system b.log by kept.lawful.legal c.requires.has off) first (c.requires.may goes_on off)
 
 pub unreachable-requires : goal.unreachable-requires
 unreachable-requires c =

@@ -9,4 +9,4 @@ pub returns : goal.returns
 returns c =
     let b : BusView = c.args.self.now in
     let v = c.args.cluster.now in
-    c.unused.ensures ∙ (λ i. has_unused b.left (c.number.ensures i) (Step (c.steps.ensures i))) ∙ unused_as_named b v.number (Step v.steps) c.length-scripted.ensures.scripted c.requires.before.kept
+    c.unused.ensures.unused ∙ (λ i. has_unused b.left (c.number.ensures i) (Step (c.steps.ensures i))) ∙ unused_as_named b v.number (Step v.steps) c.unused.ensures.lawful.scripted c.requires.before.kept

@@ -1,0 +1,28 @@
+use Rattle.std.proofs.Common.{◌≡◌, sym, ap, subst, ◌∙◌, List}
+use Rattle.sys_text.specs.declared.system.System.{System}
+use Rattle.sys_text.specs.Valid.{is_system}
+use Rattle.bus_msg.specs.declared.entry.Entry.{Entry}
+use Rattle.cert_sched.specs.Legal.{IsLegalBy, Stands}
+use Rattle.cert_sched.specs.Counted.{counted}
+use Rattle.record_laws.proofs.Standing.{built_stands}
+use Rattle.cluster_run.proofs.GoodRun.{good_run}
+use Rattle.cluster_run.proofs.leaving.run_of.Goals as goal
+
+pub counts_of-requires-clause-valid : goal.counts_of-requires-clause-valid
+counts_of-requires-clause-valid c = ap is_system (sym c.requires.system) ∙ c.requires.left.valid
+
+pub counts_of-requires-clause-legal : goal.counts_of-requires-clause-legal
+counts_of-requires-clause-legal c =
+    let Of : System → Type 0 = λ system. IsLegalBy Stands system c.args.bus.log in
+    let At : List Entry → Type 0 = λ log. IsLegalBy Stands c.args.system.now log in
+    subst At (sym (c.as_slice.ensures ∙ c.in_ok-log.ensures.log)) (subst Of c.requires.system (built_stands c.args.bus.system c.args.bus.log c.in_ok-log.ensures.lawful.legal))
+
+pub returns-clause-good : goal.returns-clause-good
+returns-clause-good c =
+    let b = c.args.bus in
+    let lawful = c.in_ok-log.ensures.lawful in
+    let counts = c.in_ok-counts.counts in
+    let log : c.as_slice.result.now ≡ b.log = c.as_slice.ensures ∙ c.in_ok-log.ensures.log in
+    let count : counts.withheld ≡ counted b.system b.log = c.in_ok-counts.ensures.withheld ∙ (λ i. counted (sym c.requires.system i) (log i)) in
+    good_run b c.args.clusters.now c.in_ok-log.log c.in_ok-log.items counts.steps counts.disk_calls counts.withheld lawful.legal lawful.scripted c.requires.finished c.requires.left c.in_ok-log.ensures.log c.in_ok-log.ensures.items
+    c.in_ok-counts.ensures.steps c.in_ok-counts.ensures.calls count
