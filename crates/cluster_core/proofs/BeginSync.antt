@@ -33,29 +33,12 @@ use Rattle.cluster_core.specs.Holds.{CarriesMarks, IsHeldAs, MarkedIfThere, unen
 use Rattle.cluster_core.specs.Syncing.{Synchronises}
 use Rattle.cluster_core.specs.Follows.{FollowsBuilt, IsOpen}
 use Rattle.cluster_core.specs.Calls.{GoesOn}
-use Rattle.cluster_core.proofs.Here.{found_changed, is_among, pids_changed, same_itself}
+use Rattle.cluster_core.proofs.Here.{changed_there, found_changed, is_among, pids_changed}
 use Rattle.cluster_core.proofs.Homes.{HomeHere, differ_built, home_here, home_lives}
 use Rattle.cluster_core.proofs.Batching.{all_but, unqueued, with_batch}
 use Rattle.cluster_core.proofs.Beside.{FollowsBeside}
 use Rattle.cluster_core.proofs.Within.{carried, own_within, runs_marked, synced_within}
 use Rattle.cluster_core.proofs.Working.{held_beside, home_by, limits_beside, more_counted, pages_beside, turned}
-
--- ---- a process that runs
-
--- a process that has changed is found as it is now
-changed_there : (p : Pid) (now : Held) (here : List (Pid × Held)) (was : Held) → held_of here p ≡ Some was → held_of (with_changed p now here) p ≡ Some now
-changed_there p now [] was there = cc
-changed_there p now (e ∷ here) was there = by_test (same_pid e.0 p) refl there (changed_there p now here was)
-  where
-    first : (b : Bool) → b ≡ true → option_map (λ (e : Pid × Held). e.1) (cond b (Some (p, now)) (find (λ (e : Pid × Held). same_pid e.0 p) (with_changed p now here))) ≡ Some now
-    first true is = refl
-    first false is = absurd (true≢false (sym is))
-
-    by_test : (b : Bool) → same_pid e.0 p ≡ b → option_map (λ (e : Pid × Held). e.1) (cond b (Some e) (find (λ (e : Pid × Held). same_pid e.0 p) here)) ≡ Some was
-        → (held_of here p ≡ Some was → held_of (with_changed p now here) p ≡ Some now)
-        → option_map (λ (e : Pid × Held). e.1) (find (λ (e : Pid × Held). same_pid e.0 p) (cond b (p, now) e ∷ with_changed p now here)) ≡ Some now
-    by_test true is at more = first (same_pid p p) (same_itself p)
-    by_test false is at more = ap (λ b. option_map (λ (e : Pid × Held). e.1) (cond b (Some e) (find (λ (e : Pid × Held). same_pid e.0 p) (with_changed p now here)))) is ∙ more at
 
 -- ---- who may synchronise
 

@@ -1,14 +1,18 @@
 pub mod Telling
 pub mod Standing
 pub mod Quanta
+mod ForkStanding
 pub mod Here
+mod RollingParts
 pub mod Slots
 pub mod Kept
 pub mod Told
 pub mod ChildFirst
 pub mod Free
+mod Acting
 pub mod Choosing
 pub mod Asking
+mod RollingSlots
 pub mod Coming
 mod BeginWaits
 pub mod Homes
@@ -74,9 +78,15 @@ mod Fetching
 mod Lacking
 mod Hindering
 pub mod Resting
+mod RollsAgain
+mod GoingHeld
+mod FollowsAgain
+mod OwningAgain
 pub mod Turning
 mod Absorbed
 mod RolledLoad
+mod HeldLoads
+mod AgainLightens
 pub mod Lightening
 pub mod WorkedViews
 mod WorkedRecords

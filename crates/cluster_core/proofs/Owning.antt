@@ -130,7 +130,7 @@ own_rolled cursor pid was counts left births unborn n now rolled own =
     record { pid_is = kept.pid ∙ own.pid_is; quiet = kept.quiet own.quiet; arrived = subst (λ n. n ≤ cursor) (sym kept.next) own.arrived }
 
 -- one that made steps that are withheld is its own
-own_between : (cursor : ℕ) (pid : Pid) (n : ℕ) (was between : Held) → IsHeldOwn cursor pid was → RollsTo n was between → IsHeldOwn cursor pid between
+pub own_between : (cursor : ℕ) (pid : Pid) (n : ℕ) (was between : Held) → IsHeldOwn cursor pid was → RollsTo n was between → IsHeldOwn cursor pid between
 own_between cursor pid n (Runs p) (Runs q) own rolls = subst (IsOwn cursor pid) (sym rolls.1) own
 own_between cursor pid n (Runs p) (Rolls q left unborn) own rolls = absurd rolls
 own_between cursor pid n (Runs p) (Waits kept) own rolls = absurd rolls
@@ -147,15 +147,15 @@ own_after_silent cursor pid m (Rolls p counts births) now own runs = subst (IsHe
 own_after_silent cursor pid m (Waits kept) now own runs = absurd runs
 
 -- so is one that had a quantum
-pub own_quantum : (limits : Limits) (cursor : ℕ) (pid : Pid) (was now : Held) → IsHeldOwn cursor pid was → Moves limits 64 was now → IsHeldOwn cursor pid now
-own_quantum limits cursor pid was now own m = own_after_silent cursor pid m.silent m.between now (own_between cursor pid m.rolled was m.between own m.rolls) m.runs
+pub own_quantum : (limits : Limits) (cursor : ℕ) (pid : Pid) (made : ℕ) (was now : Held) → IsHeldOwn cursor pid was → Moves limits 64 made was now → IsHeldOwn cursor pid now
+own_quantum limits cursor pid made was now own m = own_after_silent cursor pid m.silent was now own m.runs
 
-pub own_before_sent : (limits : Limits) (cursor : ℕ) (pid : Pid) (was : Held) (sending : Sending) (new : Held) → IsHeldOwn cursor pid was → (s : Sends limits 64 was sending new) → IsOwn cursor pid s.between
-own_before_sent limits cursor pid was sending new own s = own_between cursor pid s.rolled was (Runs s.between) own s.rolls
+pub own_before_sent : (limits : Limits) (cursor : ℕ) (pid : Pid) (made : ℕ) (was : Held) (sending : Sending) (new : Held) → IsHeldOwn cursor pid was → (s : Sends limits 64 made was sending new) → IsOwn cursor pid s.between
+own_before_sent limits cursor pid made was sending new own s = subst (IsHeldOwn cursor pid) s.old_is own
 
-pub own_sent : (limits : Limits) (cursor : ℕ) (pid : Pid) (was : Held) (sending : Sending) (new : Held) → IsHeldOwn cursor pid was → (s : Sends limits 64 was sending new) → IsOwn cursor pid s.now
-own_sent limits cursor pid was sending new own s =
-    let mine = own_before_sent limits cursor pid was sending new own s in
+pub own_sent : (limits : Limits) (cursor : ℕ) (pid : Pid) (made : ℕ) (was : Held) (sending : Sending) (new : Held) → IsHeldOwn cursor pid was → (s : Sends limits 64 made was sending new) → IsOwn cursor pid s.now
+own_sent limits cursor pid made was sending new own s =
+    let mine = own_before_sent limits cursor pid made was sending new own s in
     let counts = silently_counts s.silent (state_of s.between) (state_of s.before) (s.runs).silent in
     let last = emits_counts (state_of s.before) (state_of s.now) sending.emission s.sends in
     record {
@@ -165,8 +165,8 @@ own_sent limits cursor pid was sending new own s =
     }
 
 -- so is one that came to its fork
-pub own_at_fork : (limits : Limits) (cursor : ℕ) (pid : Pid) (was : Held) (forking : Forking) (new : Held) → IsHeldOwn cursor pid was → (k : ComesToFork limits 64 was forking new) → IsOwn cursor pid k.now
-own_at_fork limits cursor pid was forking new own k = own_moved cursor pid k.between k.now k.silent (own_between cursor pid k.rolled was (Runs k.between) own k.rolls) (k.runs).silent
+pub own_at_fork : (limits : Limits) (cursor : ℕ) (pid : Pid) (made : ℕ) (was : Held) (forking : Forking) (new : Held) → IsHeldOwn cursor pid was → (k : ComesToFork limits 64 made was forking new) → IsOwn cursor pid k.now
+own_at_fork limits cursor pid made was forking new own k = own_moved cursor pid k.between k.now k.silent (subst (IsHeldOwn cursor pid) k.old_is own) (k.runs).silent
 
 -- one that synchronised is its own as before
 pub own_synced : (cursor : ℕ) (pid : Pid) (p : Process) → IsOwn cursor pid p → IsOwn cursor pid (synced p)

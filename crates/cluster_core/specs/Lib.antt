@@ -2,6 +2,7 @@ pub mod View
 pub mod Quantum
 pub mod Resident
 pub mod Recovered
+pub mod Changed
 pub mod ChildrenFirst
 pub mod Residents
 pub mod Serving

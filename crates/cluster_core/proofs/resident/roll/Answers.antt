@@ -2,7 +2,8 @@ use Rattle.std.proofs.Common.{◌≡◌, ◌∙◌, ap, subst, sym, Option, Some
 use Rattle.roll_forward.specs.Rolling.{RollingState}
 use Rattle.cluster_core.specs.declared.resident.Standing.{Standing}
 use Rattle.cluster_core.specs.declared.resident.Standing.TheVariants.{Rolls as IsRolling}
-use Rattle.cluster_core.specs.Resident.{HasRolled, StandsSo, held_standing}
+use Rattle.cluster_core.specs.ForkingAgain.{HasRolled}
+use Rattle.cluster_core.specs.Resident.{StandsSo, held_standing}
 use Rattle.cluster_core.proofs.Standing.{Rolled, left_if, stands_still, still_rolls}
 use Rattle.cluster_core.proofs.resident.roll.Goals as goal
 
@@ -11,14 +12,14 @@ returns-else-caught_up-clause-stands c =
     let old : RollingState = c.in-Some-Rolls.rolling in
     let run = c.in_ok-made-in-Some-Rolls.ensures in
     let whole : c.args.standing.now ≡ Some (IsRolling old) = c.in-Some-Rolls.is ∙ ap Some c.in-Some-Rolls.field-0-is in
-    let rolled : Rolled c.in_ok-made-in-Some-Rolls.made old c.run.new.self = record { few = run.most; forks = run.some; rolled = run.rolled; ahead = run.ahead; since = run.since } in
-    stands_still c.in_ok-made-in-Some-Rolls.made old c.run.new.self (subst StandsSo whole c.requires) rolled (left_if c.run.new.self.ahead c.if-caught_up.ensures.1)
+    let rolled : Rolled c.args.most c.in_ok-made-in-Some-Rolls.made old c.run.new.self = record { few = run.most; forks = run.some; rolled = run.rolled; ahead = run.ahead; since = run.since } in
+    stands_still c.args.most old c.run.new.self c.requires.most (subst StandsSo whole c.requires.stands) c.in_ok-made-in-Some-Rolls.made rolled (left_if c.run.new.self.ahead c.if-caught_up.ensures.1)
 
 pub returns-else-caught_up-clause-ok : goal.returns-else-caught_up-clause-ok
 returns-else-caught_up-clause-ok c =
     let old : RollingState = c.in-Some-Rolls.rolling in
     let run = c.in_ok-made-in-Some-Rolls.ensures in
     let whole : c.args.standing.now ≡ Some (IsRolling old) = c.in-Some-Rolls.is ∙ ap Some c.in-Some-Rolls.field-0-is in
-    let rolled : Rolled c.in_ok-made-in-Some-Rolls.made old c.run.new.self = record { few = run.most; forks = run.some; rolled = run.rolled; ahead = run.ahead; since = run.since } in
-    subst (λ (o : Option Standing). HasRolled c.in_ok-made-in-Some-Rolls.made (held_standing o) (held_standing (Some (IsRolling c.run.new.self)))) (sym whole)
-    (still_rolls c.in_ok-made-in-Some-Rolls.made old c.run.new.self (subst StandsSo whole c.requires) rolled (left_if c.run.new.self.ahead c.if-caught_up.ensures.1))
+    let rolled : Rolled c.args.most c.in_ok-made-in-Some-Rolls.made old c.run.new.self = record { few = run.most; forks = run.some; rolled = run.rolled; ahead = run.ahead; since = run.since } in
+    subst (λ (o : Option Standing). HasRolled c.args.most c.in_ok-made-in-Some-Rolls.made (held_standing o) (held_standing (Some (IsRolling c.run.new.self)))) (sym whole)
+    (still_rolls c.args.most old c.run.new.self c.requires.most (subst StandsSo whole c.requires.stands) c.in_ok-made-in-Some-Rolls.made rolled (left_if c.run.new.self.ahead c.if-caught_up.ensures.1))

@@ -1,0 +1,1 @@
+use Rattle.cluster_core.proofs.residents.Residents.fork_again.Goals as goal

@@ -1,0 +1,1 @@
+use Rattle.cluster_core.proofs.residents.Residents.roll_part.Goals as goal
