@@ -11,6 +11,8 @@ pub mod Holds
 pub mod Syncing
 pub mod Bearing
 pub mod Families
+pub mod ForkingAgain
+pub mod ForksAgain
 pub mod Follows
 pub mod Calls
 pub mod Booting
