@@ -1,5 +1,5 @@
 -- Which forks are still to be made again: a turn and a letter leave them, and entries of another kind change the births alone.
-use Rattle.std.proofs.Common.{◌≡◌, ◌⊎◌, ℕ, zero, suc, ◌+◌, refl, sym, ◌∙◌, ap, subst, List, [], ◌∷◌, ◌++◌, Bool, true, false, cond, ◌&&◌, ◌||◌, eqb-true, inl, inr, Option, Some, None, true≢false}
+use Rattle.std.proofs.Common.{◌≡◌, ◌⊎◌, ℕ, zero, suc, ◌+◌, refl, sym, ◌∙◌, ap, subst, List, [], ◌∷◌, ◌++◌, Bool, true, false, cond, not, ◌&&◌, ◌||◌, eqb-true, inl, inr, Option, Some, None, true≢false}
 use Rattle.std.specs.Prelude.{filter, option_and_then}
 use Rattle.std.specs.List.{list_any}
 use Rattle.std.proofs.lemmas.Bool.{and_parts}
@@ -82,12 +82,14 @@ pub rolled_forks : (n : ℕ) (was between : Held) → RollsTo n was between → 
 rolled_forks n (Runs p) (Runs q) rolls = record { waits = refl; bears = λ child. refl }
 rolled_forks n (Runs p) (Rolls q left unborn) rolls = absurd rolls
 rolled_forks n (Runs p) (Waits w) rolls = absurd rolls
-rolled_forks n (Rolls p counts births) (Runs q) (left, unborn, r) =
-    let same : unborn ≡ births = rolled_births n (going p counts births) (going q left unborn) r.rolled in
-    let none : unborn ≡ [] = none_left left unborn (runs_on n 0 (going p counts births) (going q left unborn) r.runs_out r.rolled) in
+rolled_forks n (Rolls p counts births) (Runs q) rolls =
+    let left = rolls.0 in
+    let unborn = rolls.1 in
+    let same : unborn ≡ births = rolled_births n (going p counts births) (going q left unborn) (rolls.2).rolled in
+    let none : unborn ≡ [] = none_left left unborn (runs_on n 0 (going p counts births) (going q left unborn) (rolls.2).runs_out (rolls.2).rolled) in
     record { waits = refl; bears = λ child. ap (list_any (same_pid child)) (sym none ∙ same) }
-rolled_forks n (Rolls p counts births) (Rolls q left unborn) (ahead, some, r) =
-    record { waits = refl; bears = λ child. ap (list_any (same_pid child)) (rolled_births n (going p counts births) (going q left unborn) r.rolled) }
+rolled_forks n (Rolls p counts births) (Rolls q left unborn) rolls =
+    record { waits = refl; bears = λ child. ap (list_any (same_pid child)) (rolled_births n (going p counts births) (going q left unborn) (rolls.2).rolled) }
 rolled_forks n (Rolls p counts births) (Waits w) rolls = absurd rolls
 rolled_forks n (Waits w) between rolls = absurd rolls
 
@@ -161,7 +163,7 @@ pub forks_told : (w : What) (births : List Pair) (here : List (Pid × Held)) →
 forks_told w births here tells = forks_kept births (family_after w births) here (here_after w here) among found
   where
     among : AreAmong (family_after w births) births
-    among = by_kind (λ w. AreAmong (family_after w births) births) (λ at letter parent child born. born) (λ pid at end. filter_among _ births) (λ rests parent child born. born) (λ parent child born. born) w tells
+    among = by_kind (λ w. AreAmong (family_after w births) births) (λ at letter parent child born. born) (λ pid at end. filter_among (λ (b : Pair). not (same_pid b.1 pid)) births) (λ rests parent child born. born) (λ parent child born. born) w tells
 
     found : (p : Pid) (h : Held) → held_of (here_after w here) p ≡ Some h → WasBearing here p h
     found p h at =
@@ -172,7 +174,7 @@ forks_told w births here tells = forks_kept births (family_after w births) here 
 
 pub forks_synced : (w : What) (births : List Pair) (here : List (Pid × Held)) → is_of_sync w ≡ true → ForksLeft births here → ForksLeft (family_after w births) here
 forks_synced w births here of =
-    forks_kept births (family_after w births) here here (by_sync (λ w. AreAmong (family_after w births) births) (λ pid at index bytes parent child born. born) (λ pid small read. filter_among _ births) w of) (λ p h at. record { was = h; there = at; same = same_forks h })
+    forks_kept births (family_after w births) here here (by_sync (λ w. AreAmong (family_after w births) births) (λ pid at index bytes parent child born. born) (λ pid small read. filter_among (λ (b : Pair). not (same_pid b.1 pid)) births) w of) (λ p h at. record { was = h; there = at; same = same_forks h })
 
 -- ---- a birth
 

@@ -159,7 +159,7 @@ module _ (c : ClusterView) (valid : is_system c.system ≡ true) (empty : c.queu
 
       by_held : (q : Held) → held_of c.here parent ≡ Some q → has_to_bear child q ≡ true → option_map_or is_waiting (held_of c.here parent) false ≡ true
       by_held (Runs s) at bears = absurd (true≢false (sym bears))
-      by_held (Rolls s counts births) at bears = absurd (true≢false (sym (none_passes (can_act (limits_of c.system)) c.here parent (Rolls s counts births) (none_acts (limits_of c.system) c.here stuck) at)))
+      by_held (Rolls s counts births) at bears = absurd (true≢false (none_passes (can_act (limits_of c.system)) c.here parent (Rolls s counts births) (none_acts (limits_of c.system) c.here stuck) at))
       by_held (Waits w) at bears = ap (λ o. option_map_or is_waiting o false) at
 
   -- so some process waits for its pages

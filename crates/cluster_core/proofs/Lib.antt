@@ -86,3 +86,12 @@ pub mod ByKind
 pub mod Posted
 pub mod Marking
 pub mod RunMarks
+mod RollsAgain
+mod CanFork
+mod KeptForks
+mod ForkedHere
+mod GoingHeld
+mod OneParent
+mod BegunChild
+mod ForkedFamily
+mod ForkedOn

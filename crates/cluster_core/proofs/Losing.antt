@@ -277,7 +277,7 @@ module _ (system : System) (valid : is_system system ≡ true) (log : List Entry
     held.0,
     subst (λ w. WaitsSo system later p (is_fetch_queued p (posts_of q)) (record waiting { kept = record_after w waiting.kept })) n.same
         (so_follows system log e p (is_fetch_queued p (posts_of q)) waiting valid n.more (ap is_some home.found) (home_not_moved system log e p k (differ_built system log valid n.legal) home spared) (ap (is_cut p) n.same) (ap (deeds_in p) n.same)
-        (λ i. ap (is_page_is p i) n.same) (subst (λ w. WaitsSo system log p (λ i. is_fetch p i w || is_fetch_queued p (posts_of q) i) waiting) (sym n.same) held.1)),
+        (λ i. ap (is_page_is p i) n.same) (ap (is_some_page p) n.same) (subst (λ w. WaitsSo system log p (λ i. is_fetch p i w || is_fetch_queued p (posts_of q) i) waiting) (sym n.same) held.1)),
   )
 
   -- one that is at home here was here, and is held as it was

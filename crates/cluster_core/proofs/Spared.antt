@@ -217,7 +217,7 @@ module _ (system : System) (valid : is_system system ≡ true) (log : List Entry
   held_stays k q p (Waits waiting) together home s own held = (
     held.0,
     subst (λ r. WaitsSo system later p (is_fetch_queued p (posts_of q)) (record waiting { kept = r })) (s.kept waiting.kept (own waiting refl))
-        (so_follows system log e p (is_fetch_queued p (posts_of q)) waiting valid next.0 (ap is_some home.found) (home_not_moved system log e p k differ home (loses_none k)) s.no_cut s.no_deed (n.no_page_is p)
+        (so_follows system log e p (is_fetch_queued p (posts_of q)) waiting valid next.0 (ap is_some home.found) (home_not_moved system log e p k differ home (loses_none k)) s.no_cut s.no_deed (n.no_page_is p) s.no_page
         (so_alike system log p (is_fetch_queued p (posts_of q)) (λ i. is_fetch p i (what e) || is_fetch_queued p (posts_of q) i) waiting (λ i. ap (λ b. b || is_fetch_queued p (posts_of q) i) (sym (n.no_fetch p i))) held.1)),
   )
 

@@ -30,6 +30,7 @@ use Rattle.wait_laws.proofs.Follows.{page_within, page_entry}
 use Rattle.wait_laws.proofs.GoesOn.{can_go_on, goes_on}
 use Rattle.wait_laws.proofs.PagesCame.{has_all}
 use Rattle.backup_records.specs.Records.{counted_by_sender, is_receiver, record_after, with_counted, with_saved}
+use Rattle.mark_laws.specs.Beside.{is_some_page}
 use Rattle.page_waits.specs.Waiting.{WaitingState, is_whole, rolling_of, with_page}
 use Rattle.wait_laws.specs.Waits.{WaitsAs}
 use Rattle.child_waits.specs.ForkWaits.{WaitsSo}
@@ -97,6 +98,9 @@ told_fetches_none p i = by_kind (λ w. is_fetch p i w ≡ false) (λ at letter. 
 told_brings_none : (p : Pid) (i : ℕ) (w : What) → tells_or_closes w ≡ true → is_page_is p i w ≡ false
 told_brings_none p i = by_kind (λ w. is_page_is p i w ≡ false) (λ at letter. refl) (λ pid at end. refl) (λ rests. refl) refl
 
+told_sends_none : (p : Pid) (w : What) → tells_or_closes w ≡ true → is_some_page p w ≡ false
+told_sends_none p = by_kind (λ w. is_some_page p w ≡ false) (λ at letter. refl) (λ pid at end. refl) (λ rests. refl) refl
+
 -- so after it the process waits on, with what it brings
 pub waits_told : (system : System) (log : List Entry) (e : Entry) (before after : List Post) (p : Pid) (waiting : WaitingState) → is_system system ≡ true → IsLegalBy BuiltMayFollow system (log ++ e ∷ []) → IsUnended system log p
     → tells_or_closes (what e) ≡ true → (waiting.kept).pid ≡ p → deeds_in p (what e) ≡ [] → move_of p after ≡ None → ((i : ℕ) → is_fetch_queued p before i ≡ is_fetch_queued p after i) → WaitsSo system log p (is_fetch_queued p before) waiting
@@ -104,7 +108,7 @@ pub waits_told : (system : System) (log : List Entry) (e : Entry) (before after 
 waits_told system log e before after p waiting valid legal unended tells own none unmoved alike is =
     subst (IsHeldAs system (log ++ e ∷ []) after p) (sym (waits_arrival (what e) p waiting tells own none)) (
       unmoved,
-      so_follows system log e p (is_fetch_queued p after) waiting valid legal unended (quiet_moves_none system log e p (told_moves_none (what e) tells)) (told_cuts_none p (what e) tells) none (λ i. told_brings_none p i (what e) tells)
+      so_follows system log e p (is_fetch_queued p after) waiting valid legal unended (quiet_moves_none system log e p (told_moves_none (what e) tells)) (told_cuts_none p (what e) tells) none (λ i. told_brings_none p i (what e) tells) (told_sends_none p (what e) tells)
           (so_alike system log p (is_fetch_queued p before) (λ i. is_fetch p i (what e) || is_fetch_queued p after i) waiting (λ i. alike i ∙ ap (λ b. b || is_fetch_queued p after i) (sym (told_fetches_none p i (what e) tells))) is),
     )
 
@@ -118,7 +122,7 @@ waits_page system log e before after p waiting valid legal unended of other unmo
   unmoved,
   subst (λ r. WaitsSo system (log ++ e ∷ []) p (is_fetch_queued p after) (record waiting { kept = r })) (by_page (λ w. record_after w waiting.kept ≡ waiting.kept) (λ pid index. refl) (λ pid index bytes. refl) (what e) of)
       (so_follows system log e p (is_fetch_queued p after) waiting valid legal unended (quiet_moves_none system log e p (by_page (λ w. cluster_lost w ≡ None) (λ pid index. refl) (λ pid index bytes. refl) (what e) of))
-      (by_page (λ w. is_cut p w ≡ false) (λ pid index. refl) (λ pid index bytes. refl) (what e) of) (by_page (λ w. deeds_in p w ≡ []) (λ pid index. refl) (λ pid index bytes. refl) (what e) of) other
+      (by_page (λ w. is_cut p w ≡ false) (λ pid index. refl) (λ pid index bytes. refl) (what e) of) (by_page (λ w. deeds_in p w ≡ []) (λ pid index. refl) (λ pid index bytes. refl) (what e) of) other (by_page (λ w. is_some_page p w ≡ false) (λ pid index. refl) (λ pid index bytes. refl) (what e) of)
       (so_alike system log p (is_fetch_queued p before) (λ i. is_fetch p i (what e) || is_fetch_queued p after i) waiting alike is)),
 )
 

@@ -11,6 +11,7 @@ pub mod resident;
 mod residents;
 mod serving;
 pub mod steps_left;
+pub mod trial;
 mod taking_over;
 mod work;
 pub mod worked;
