@@ -18,6 +18,7 @@ use Rattle.backup_records.specs.Records.{record_after}
 use Rattle.record_laws.proofs.Standing.{built_stands}
 use Rattle.page_laws.specs.Next.{moves_next}
 use Rattle.page_laws.proofs.MovedStated.{moved_stated}
+use Rattle.mark_laws.specs.Beside.{is_some_page}
 use Rattle.page_waits.specs.Waiting.{WaitingState, next_page}
 use Rattle.recovery_laws.proofs.FromStart.{record_stated}
 use Rattle.wait_laws.specs.Waits.{WaitsAs, first_wait, none_queued}
@@ -46,6 +47,11 @@ lacks_pages system log p queued w i (inr waits) lacks = absurd (true≢false (sy
 pub stated_record : (system : System) (log : List Entry) (p : Pid) (queued : ℕ → Bool) (w : WaitingState) → IsLegalBy BuiltMayFollow system log → WaitsAs system log p queued w → is_some (w.kept).state ≡ true
 stated_record system log p queued w legal waits = record_stated system log p w.kept waits.kept ∙ moved_stated system log p (built_stands system log legal) waits.moved
 
+-- so where its record has none it waits for its parent's fork
+pub for_fork : (system : System) (log : List Entry) (p : Pid) (queued : ℕ → Bool) (w : WaitingState) → IsLegalBy BuiltMayFollow system log → WaitsSo system log p queued w → (w.kept).state ≡ None → WaitsForFork system log p w
+for_fork system log p queued w legal (inl waits) none = absurd (true≢false (sym (stated_record system log p queued w legal waits) ∙ ap is_some none))
+for_fork system log p queued w legal (inr waits) none = waits
+
 -- the fetches that are queued are the same by another question
 pub so_alike : (system : System) (log : List Entry) (p : Pid) (queued others : ℕ → Bool) (w : WaitingState) → ((i : ℕ) → queued i ≡ others i) → WaitsSo system log p queued w → WaitsSo system log p others w
 so_alike system log p queued others w alike (inl is) = inl (record {
@@ -68,11 +74,11 @@ so_begins system log e p kept valid legal unended moves is = by_state (has_state
     by_state true stated = inl (pages_begin system log e p kept valid (built_stands system (log ++ e ∷ []) legal) unended stated moves is)
     by_state false stateless = inr (begins_so system log e p kept valid (built_stands system (log ++ e ∷ []) legal) unended stateless moves is)
 
--- it waits on after an entry that is no page of it, does not cut it and tells of no deed of it
+-- it waits on after an entry by which no page of it comes or is sent, that does not cut it and tells of no deed of it
 pub so_follows : (system : System) (log : List Entry) (e : Entry) (p : Pid) (queued : ℕ → Bool) (w : WaitingState) → is_system system ≡ true → IsLegalBy BuiltMayFollow system (log ++ e ∷ []) → IsUnended system log p → moves_next system log e p ≡ false
-    → is_cut p (what e) ≡ false → deeds_in p (what e) ≡ [] → ((i : ℕ) → is_page_is p i (what e) ≡ false) → WaitsSo system log p (λ i. is_fetch p i (what e) || queued i) w → WaitsSo system (log ++ e ∷ []) p queued (record w { kept = record_after (what e) w.kept })
-so_follows system log e p queued w valid legal unended stays no_cut none no_page (inl is) = inl (other_entry system log e p queued w valid legal unended stays no_cut none no_page is)
-so_follows system log e p queued w valid legal unended stays no_cut none no_page (inr is) = inr (follows_so system log e p w valid (built_stands system (log ++ e ∷ []) legal) unended no_cut is)
+    → is_cut p (what e) ≡ false → deeds_in p (what e) ≡ [] → ((i : ℕ) → is_page_is p i (what e) ≡ false) → is_some_page p (what e) ≡ false → WaitsSo system log p (λ i. is_fetch p i (what e) || queued i) w → WaitsSo system (log ++ e ∷ []) p queued (record w { kept = record_after (what e) w.kept })
+so_follows system log e p queued w valid legal unended stays no_cut none no_page unsent (inl is) = inl (other_entry system log e p queued w valid legal unended stays no_cut none no_page is)
+so_follows system log e p queued w valid legal unended stays no_cut none no_page unsent (inr is) = inr (follows_so system log e p w valid (built_stands system (log ++ e ∷ []) legal) unended no_cut unsent is)
 
 -- a page that comes is of a process that waits for pages
 pub page_for : (system : System) (log : List Entry) (e : Entry) (p : Pid) (i : ℕ) (bytes : List ℕ) (queued : ℕ → Bool) (w : WaitingState) → IsLegalBy BuiltMayFollow system (log ++ e ∷ []) → what e ≡ PageIs p i bytes → WaitsSo system log p queued w → WaitsAs system log p queued w

@@ -13,6 +13,7 @@ ghost use Rattle.cert_sched.specs.Record.{backup_record, has_state};
 ghost use Rattle.cert_sched.specs.Simulation.{IsUnended};
 ghost use Rattle.backup_records.specs.Records.{record_after};
 ghost use Rattle.page_laws.specs.Next.{moves_next};
+ghost use Rattle.mark_laws.specs.Beside.{is_some_page};
 ghost use Rattle.page_waits.specs.Waiting.{next_page, rolling_of, WaitingState};
 ghost use Rattle.wait_laws.specs.Waits.{first_wait};
 ghost use Rattle.child_waits.specs.ForkWaits.{WaitsForFork};
@@ -25,9 +26,9 @@ pub fn child_waits_begin()
     ensures memory { (system : System) (log : List Entry) (p : Pid) (w : WaitingState) → WaitsForFork system log p w → rolling_of w ≡ None }
 {}
 
-/// A law and no code: after an entry that does not cut it, it waits on, and its record follows the entry: a letter that arrives is saved there.
+/// A law and no code: after an entry that does not cut it and is no page of it, it waits on, and its record follows the entry: a letter that arrives is saved there.
 pub fn child_waits_follow()
-    ensures { (system : System) (log : List Entry) (e : Entry) (p : Pid) (w : WaitingState) → is_system system ≡ true → IsLegalBy Stands system (log ++ e ∷ []) → IsUnended system log p → is_cut p (what e) ≡ false → WaitsForFork system log p w → WaitsForFork system (log ++ e ∷ []) p (record w { kept = record_after (what e) w.kept }) }
+    ensures { (system : System) (log : List Entry) (e : Entry) (p : Pid) (w : WaitingState) → is_system system ≡ true → IsLegalBy Stands system (log ++ e ∷ []) → IsUnended system log p → is_cut p (what e) ≡ false → is_some_page p (what e) ≡ false → WaitsForFork system log p w → WaitsForFork system (log ++ e ∷ []) p (record w { kept = record_after (what e) w.kept }) }
 {}
 
 /// A law and no code: of a process without a state in its record no page is asked for, and none comes.

@@ -26,6 +26,7 @@ pub record FollowsBeside (which : Pid → Bool) (system : System) (entries : Lis
   pub marks : HoldsMarksOf which system entries c
   pub records : HoldsRecords system entries c
   pub family : HoldsFamily system entries c
+  pub forks : HoldsForks c
   pub accounts : HoldsAccounts system entries c
   pub disk : HasNotFailed c
 
@@ -46,6 +47,7 @@ beside_of system log c f queued = record {
   marks = λ p h there all. f.marks p h there;
   records = f.records;
   family = f.family;
+  forks = f.forks;
   accounts = f.accounts;
   disk = f.disk;
 }
@@ -62,6 +64,7 @@ built_of system log c f = record {
   marks = λ p h there. f.marks p h there refl;
   records = f.records;
   family = f.family;
+  forks = f.forks;
   accounts = f.accounts;
   disk = f.disk;
 }

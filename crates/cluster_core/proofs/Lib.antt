@@ -16,6 +16,7 @@ mod RollingSlots
 pub mod Coming
 mod BeginWaits
 pub mod Homes
+mod HeldAtHome
 mod NotMoved
 mod SyncedHomes
 mod HasPages
@@ -42,12 +43,15 @@ mod Paging
 mod Spared
 mod Synchronising
 mod BirthHomes
-mod StatedNow
 mod FamilyNext
 mod Births
 mod BirthQueued
 mod OwnBirth
 mod BornHere
+mod ForksAgain
+mod ForksBorn
+mod Paged
+mod ForksPaged
 mod BeginBirth
 mod BirthTurn
 mod Serials
@@ -79,7 +83,14 @@ mod Lacking
 mod Hindering
 pub mod Resting
 mod RollsAgain
+mod CanFork
+mod KeptForks
+mod ForkedHere
 mod GoingHeld
+mod OneParent
+mod BegunChild
+mod ForkedFamily
+mod ForkedOn
 mod FollowsAgain
 mod OwningAgain
 pub mod Turning

@@ -14,6 +14,7 @@ pub mod Syncing
 pub mod Bearing
 pub mod Families
 pub mod ForkingAgain
+pub mod ForksAgain
 pub mod Follows
 pub mod Calls
 pub mod Booting
