@@ -1,5 +1,5 @@
 -- A child that a crash moves without a state waits for its parent's fork, and waits on after the entries that do not cut it.
-use Rattle.std.proofs.Common.{◌≡◌, ℕ, refl, sym, ◌∙◌, ap, List, [], ◌∷◌, ◌++◌, Bool, true, false, cond, ◌||◌, Option, Some, None, is_some, replicate, true≢false}
+use Rattle.std.proofs.Common.{◌≡◌, ℕ, refl, ◌∙◌, ap, List, [], ◌∷◌, ◌++◌, Bool, true, false, cond, ◌||◌, Option, Some, None, is_some, replicate, true≢false}
 use Rattle.std.specs.Option.{option_map_or}
 use Rattle.t32_base.specs.declared.process.Pid.{Pid}
 use Rattle.t32_base.specs.declared.letter.BackRec.{BackRec}
@@ -21,7 +21,7 @@ use Rattle.page_laws.specs.Next.{moves_next}
 use Rattle.page_laws.proofs.OneEntry.{any_since-snoc}
 use Rattle.mark_laws.specs.Beside.{is_some_page}
 use Rattle.recovery_laws.proofs.FromStart.{record_stated}
-use Rattle.page_waits.specs.Waiting.{WaitingState, next_page, page_count, rolling_of}
+use Rattle.page_waits.specs.Waiting.{WaitingState, next_page, rolling_of}
 use Rattle.wait_laws.specs.Waits.{first_wait}
 use Rattle.wait_laws.proofs.Begins.{loss_cuts_none}
 use Rattle.wait_laws.proofs.Records.{loss_leaves, record_next}

@@ -32,8 +32,8 @@ part_pids p n old new (inr fork) =
     ap pids_in f.here ∙ pids_begun f.child (newborn f.process f.child) (with_changed p now old) ∙ pids_changed p now old
 
 pub again_pids : (p : Pid) (n : ℕ) (old new : List (Pid × Held)) → RollsAgain p n old new → pids_in new ≡ pids_in old
-again_pids p n old new (NoPart n old new none same) = ap pids_in same
-again_pids p n old new (Part n m k old mid new count before part) = part_pids p k mid new part ∙ again_pids p m old mid before
+again_pids p _ _ _ NoPart = refl
+again_pids p _ _ _ (Part {m} {old} {mid} before k new part) = part_pids p k mid new part ∙ again_pids p m old mid before
 
 -- ---- a child that begins
 
@@ -54,7 +54,7 @@ module _ (process : Process) (child : Pid) where
   begun_load (Rolls q counts births) = omega arith
   begun_load (Waits w) = by_none (is_none (w.kept).state)
     where
-      by_none : (b : Bool) → held_load (cond b (going_held (with_mail_of w.kept (newborn process child)) (w.kept).counts (w.kept).births) (Waits w)) ≤ left
+      by_none : (b : Bool) → held_load (cond b (going_held (with_mail_of w.kept (newborn process child)) (w.kept).counts (w.kept).births) (Waits w)) ≤ held_load (Waits w) + left
       by_none true = omega (arith, going_load (with_mail_of w.kept (newborn process child)) (w.kept).counts (w.kept).births)
       by_none false = omega arith
 
@@ -93,10 +93,10 @@ part_lightens p n old new two (inl steps) =
     omega (arith, one_lighter p steps.was steps.now 1 old two steps.there (fewer_loads steps.was steps.now (omega (arith, steps.some, rolled_leaves n steps.was steps.now steps.rolls))), ap sum_held steps.here)
 part_lightens p n old new two (inr fork) = forks_lighter p old new two fork.1
 
-pub again_no_heavier : (p : Pid) (n : ℕ) (old new : List (Pid × Held)) → NoTwo (pids_in old) → RollsAgain p n old new → sum_held new ≤ sum_held old
-again_no_heavier p n old new two (NoPart n old new none same) = omega (arith, ap sum_held same)
-again_no_heavier p n old new two (Part n m k old mid new count before part) = omega (arith, again_no_heavier p m old mid two before, part_lightens p k mid new (subst NoTwo (sym (again_pids p m old mid before)) two) part)
+pub again_no_heavier : (p : Pid) (n : ℕ) (old new : List (Pid × Held)) → RollsAgain p n old new → NoTwo (pids_in old) → sum_held new ≤ sum_held old
+again_no_heavier p _ _ _ NoPart two = omega arith
+again_no_heavier p _ _ _ (Part {m} {old} {mid} before k new part) two = omega (arith, again_no_heavier p m old mid before two, part_lightens p k mid new (subst NoTwo (sym (again_pids p m old mid before)) two) part)
 
-pub again_lightens : (p : Pid) (n : ℕ) (old new : List (Pid × Held)) → NoTwo (pids_in old) → RollsAgain p n old new → 1 ≤ n → sum_held new + 1 ≤ sum_held old
-again_lightens p n old new two (NoPart n old new none same) some = absurd (omega (arith, none, some))
-again_lightens p n old new two (Part n m k old mid new count before part) some = omega (arith, again_no_heavier p m old mid two before, part_lightens p k mid new (subst NoTwo (sym (again_pids p m old mid before)) two) part)
+pub again_lightens : (p : Pid) (n : ℕ) (old new : List (Pid × Held)) → RollsAgain p n old new → NoTwo (pids_in old) → 1 ≤ n → sum_held new + 1 ≤ sum_held old
+again_lightens p _ _ _ NoPart two some = absurd (omega (arith, some))
+again_lightens p _ _ _ (Part {m} {old} {mid} before k new part) two some = omega (arith, again_no_heavier p m old mid before two, part_lightens p k mid new (subst NoTwo (sym (again_pids p m old mid before)) two) part)

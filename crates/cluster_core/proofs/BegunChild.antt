@@ -1,5 +1,5 @@
 -- A fork that is made again, beside a log: the parent rolls forward after it, and a child that waits for it begins there.
-use Rattle.std.proofs.Common.{◌≡◌, ℕ, ◌≤◌, refl, sym, ◌∙◌, ap, subst, arith, List, [], ◌∷◌, true, false, length, Option, Some}
+use Rattle.std.proofs.Common.{◌≡◌, ◌≤◌, refl, sym, ◌∙◌, ap, subst, arith, List, [], ◌∷◌, true, false, length, Option, Some}
 use Rattle.std.specs.Option.{option_map_or}
 use Rattle.std.proofs.lemmas.List.{length-replicate}
 use Rattle.t32_base.specs.declared.process.Pid.{Pid}
@@ -10,7 +10,7 @@ use Rattle.sys_text.specs.Valid.{is_system}
 use Rattle.proc_state.specs.declared.process.Process.{Process}
 use Rattle.proc_state.specs.State.{ProcState, state_of}
 use Rattle.sys_calls.specs.Calls.{Forks}
-use Rattle.sys_calls.specs.Fork.{fork_child, fork_parent}
+use Rattle.sys_calls.specs.Fork.{fork_child}
 use Rattle.sys_calls.specs.Next.{next_step}
 use Rattle.bus_msg.specs.declared.entry.Entry.{Entry}
 use Rattle.roll_forward.specs.RunsOut.{RunsOn}
@@ -19,7 +19,7 @@ use Rattle.cert_sched.specs.Moved.{any_since_moved}
 use Rattle.cert_sched.specs.Record.{backup_record, has_state}
 use Rattle.cert_sched.specs.Legal.{IsLegalBy, Stands}
 use Rattle.cert_sched.specs.Simulation.{IsUnended}
-use Rattle.cert_sched.specs.Steps.{saved_of, start_steps}
+use Rattle.cert_sched.specs.Steps.{saved_of}
 use Rattle.cert_sched.proofs.RunsOutLaws.{record_of}
 use Rattle.recovery_laws.specs.Behind.{RollsBehind}
 use Rattle.recovery_laws.proofs.ByRule.{itself, standing_from_kept}

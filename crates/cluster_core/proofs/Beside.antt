@@ -9,6 +9,7 @@ use Rattle.cluster_core.specs.View.{ClusterView, Held, held_at}
 use Rattle.cluster_core.specs.Queue.{IsQueued, with_queue}
 use Rattle.cluster_core.specs.Holds.{CarriesMarks, HasNotFailed, HoldsAccounts, HoldsLimits, HoldsLog, HoldsPages, HoldsProcesses, HoldsQueue, HoldsRecords, HoldsSteps, MarkedIfThere, unended_process}
 use Rattle.cluster_core.specs.Families.{HoldsFamily}
+use Rattle.cluster_core.specs.ForksAgain.{HoldsForks}
 use Rattle.cluster_core.specs.Follows.{FollowsBuilt}
 
 -- those of the processes that pass a test are marked as the log says

@@ -1,6 +1,6 @@
 -- The birth of a child that is queued while an entry of another cluster is taken in: the parent still stands before its fork, and its next child has the pid that it had.
 use Rattle.std.proofs.Common.{◌≡◌, ℕ, zero, suc, ◌+◌, ◌-◌, refl, sym, ◌∙◌, ap, subst, List, [], ◌∷◌, ◌++◌, Bool, true, false, cond, not, ◌&&◌, ◌||◌, eqb, eqb-true, eq-eqb, ltb, Option, Some, None, slice_get, true≢false}
-use Rattle.std.specs.Prelude.{find, length, nat_le, option_map}
+use Rattle.std.specs.Prelude.{length, nat_le, option_map}
 use Rattle.std.specs.List.{list_any}
 use Rattle.std.specs.Option.{option_map_or}
 use Rattle.t32_base.specs.declared.process.Pid.{Pid}
@@ -22,7 +22,7 @@ use Rattle.bus_msg.specs.declared.entry.By.TheVariants.{Cluster}
 use Rattle.bus_msg.specs.declared.entry.Entry.{Entry}
 use Rattle.bus_msg.specs.declared.entry.Post.{Post}
 use Rattle.bus_msg.specs.declared.placed.Placed.{Placed}
-use Rattle.bus_msg.specs.Places.{ClusterPlace, Places, is_at_home, next_serial_in, placed_at, same_cluster, same_pid, unended_at}
+use Rattle.bus_msg.specs.Places.{ClusterPlace, Places, next_serial_in, placed_at, same_cluster, unended_at}
 use Rattle.bus_msg.specs.PlacedAfter.{changed_at, lost_cluster, placed_after, raised_serial, what, with_birth}
 use Rattle.channel_table.specs.Changes.{pids_differ}
 use Rattle.cert_sched.specs.Built.{BuiltMayFollow}

@@ -9,14 +9,12 @@ use Rattle.sys_calls.specs.Calls.{Next, Silent, Blocked, Forks, Emits, Over}
 use Rattle.sys_calls.specs.Fork.{fork_child}
 use Rattle.sys_calls.specs.Next.{next_step}
 use Rattle.bus_msg.specs.declared.entry.Entry.{Entry}
-use Rattle.roll_forward.specs.RunsOut.{RunsOn, nothing_left}
-use Rattle.roll_forward.specs.Rolling.{CanRoll, with_saved}
+use Rattle.roll_forward.specs.RunsOut.{RunsOn}
+use Rattle.roll_forward.specs.Rolling.{with_saved}
 use Rattle.cert_sched.specs.Built.{BuiltMayFollow}
 use Rattle.cert_sched.specs.Legal.{IsLegalBy, Stands}
-use Rattle.cert_sched.specs.Record.{backup_record, has_state}
-use Rattle.cert_sched.specs.Schedule.{placement}
+use Rattle.cert_sched.specs.Record.{has_state}
 use Rattle.cert_sched.specs.Simulation.{IsUnended}
-use Rattle.page_waits.specs.Waiting.{WaitingState}
 use Rattle.record_laws.proofs.Standing.{built_stands}
 use Rattle.recovery_laws.specs.Behind.{RollsBehind}
 use Rattle.recovery_laws.proofs.ByRule.{itself, standing_always, standing_from_kept}
@@ -25,7 +23,7 @@ use Rattle.recovery_laws.proofs.FromStart.{record_stated}
 use Rattle.recovery_laws.proofs.Reaching.{led_there}
 use Rattle.recovery_laws.proofs.Stepping.{rolls_on}
 use Rattle.child_waits.proofs.EitherWait.{kept_so}
-use Rattle.cluster_core.specs.View.{ClusterView, Held, Runs, Rolls, Waits, held_at}
+use Rattle.cluster_core.specs.View.{ClusterView, Held, Rolls, Waits, held_at}
 use Rattle.cluster_core.specs.ForkingAgain.{AtForks, AtFront, CanBeginAgain, CanForkAgain}
 use Rattle.cluster_core.specs.Follows.{FollowsBuilt, IsOpen}
 use Rattle.cluster_core.specs.Holds.{IsHeldAs, is_fetch_queued}
@@ -68,10 +66,12 @@ module _ (c : ClusterView) (log : List Entry) (valid : is_system c.system ≡ tr
   -- so at each fork that comes within some steps
   at_forks : (n : ℕ) (p : Pid) (s : ProcState) (counts : Counts) (births : List Pid) → IsUnended c.system log p → RollsBehind c.system log p s counts births → AtForks (CanBeginAgain c.here) n s counts births
   at_forks zero p s counts births unended rolls = tt
-  at_forks (suc n) p s counts births unended rolls left =
-      let l = led_there Stands itself c.system log p valid legal unended in
-      (at_front p s counts births unended rolls, runs_less s counts (λ t left rest. RollsBehind c.system log p t left rest) (λ t left rest. AtForks (CanBeginAgain c.here) n t left rest) (next_step s) births (λ t left rest on. at_forks n p t left rest unended on)
-      (rolls_on c.system log p l.now l.led s counts births rolls.rolls left))
+  at_forks (suc n) p s counts births unended rolls = λ left.
+      let l = led_there Stands itself c.system log p valid legal unended in (
+        at_front p s counts births unended rolls,
+        runs_less s counts (λ t left rest. RollsBehind c.system log p t left rest) (λ t left rest. AtForks (CanBeginAgain c.here) n t left rest) (next_step s) births (λ t left rest on. at_forks n p t left rest unended on)
+            (rolls_on c.system log p l.now l.led s counts births rolls.rolls left),
+      )
 
 pub can_fork_again : (c : ClusterView) (log : List Entry) → is_system c.system ≡ true → c.queue ≡ [] → IsOpen BuiltMayFollow c.system log → FollowsBuilt c.system log c → CanForkAgain c.here
 can_fork_again c log valid empty go f p process counts births at n =

@@ -18,6 +18,6 @@ module _ (c : ClusterView) (log : List Entry) (p : Pid) (valid : is_system c.sys
   part_follows n old new f (inl steps) = subst Follows (sym steps.here) (rolls_again_follows (record c { here = old }) log p n steps.was steps.now valid empty go f steps.there steps.some steps.rolls)
   part_follows n old new f (inr fork) = let k = fork.1 in subst Follows (sym k.here) (forks_again_follows (record c { here = old }) log p k.process k.counts k.child k.births valid empty go f k.there k.forks)
 
-  pub again_follows : (n : ℕ) (old new : List (Pid × Held)) → Follows old → RollsAgain p n old new → Follows new
-  again_follows n old new f (NoPart n old new none same) = subst Follows (sym same) f
-  again_follows n old new f (Part n m k old mid new count before part) = part_follows k mid new (again_follows m old mid f before) part
+  pub again_follows : (n : ℕ) (old new : List (Pid × Held)) → RollsAgain p n old new → Follows old → Follows new
+  again_follows _ _ _ NoPart f = f
+  again_follows _ _ _ (Part {m} {old} {mid} before k new part) f = part_follows k mid new (again_follows m old mid before f) part

@@ -1,5 +1,5 @@
 -- Who is here after a fork that was made again: the parent has its half made, the child has begun where it waited, and the others stay.
-use Rattle.std.proofs.Common.{◌≡◌, refl, sym, ◌∙◌, ap, subst, ℕ, List, [], ◌∷◌, Bool, true, false, cond, eqb-true, Option, Some, None, true≢false}
+use Rattle.std.proofs.Common.{◌≡◌, refl, sym, ◌∙◌, ap, subst, List, [], ◌∷◌, Bool, true, false, cond, eqb-true, Option, Some, None, true≢false}
 use Rattle.std.specs.Prelude.{find, is_none, map, option_map}
 use Rattle.t32_base.specs.declared.process.Pid.{Pid}
 use Rattle.t32_base.specs.declared.process.Counts.{Counts}
@@ -20,7 +20,7 @@ use Rattle.cluster_core.proofs.Here.{FoundChanged, found_changed, pid_same, pids
 -- ---- the child
 
 -- a process begins here where it waited
-abbrev begun_here : Process → Pid → List (Pid × Held) → List (Pid × Held)
+abbrev pub begun_here : Process → Pid → List (Pid × Held) → List (Pid × Held)
 begun_here process child here = map (λ (e : Pid × Held). cond (same_pid e.0 child) (e.0, begun_with (newborn process child) e.1) e) here
 
 record FoundBegun (process : Process) (child : Pid) (here : List (Pid × Held)) (q : Pid) (h : Held) : Type 0 where

@@ -8,7 +8,6 @@ use Rattle.t32_base.specs.declared.process.Pid.{Pid}
 use Rattle.t32_base.specs.declared.process.Counts.{Counts}
 use Rattle.t32_base.specs.declared.letter.Letter.{Letter}
 use Rattle.proc_state.specs.declared.process.Process.{Process}
-use Rattle.proc_state.specs.State.{ProcState, state_of}
 use Rattle.sys_calls.specs.declared.steps.Emission.TheVariants.{Mail as Sent, Exit as Ended}
 use Rattle.sys_calls.specs.Calls.{Next, Silent, Blocked, Forks, Emits, Over}
 use Rattle.sys_calls.specs.Next.{next_step}
@@ -93,19 +92,16 @@ rolled_forks n (Rolls p counts births) (Rolls q left unborn) rolls =
 rolled_forks n (Rolls p counts births) (Waits w) rolls = absurd rolls
 rolled_forks n (Waits w) between rolls = absurd rolls
 
-ran_forks : (m : ℕ) (between now : Held) → RunsTo m between now → SameForks between now
+pub ran_forks : (m : ℕ) (between now : Held) → RunsTo m between now → SameForks between now
 ran_forks m (Runs p) (Runs q) runs = record { waits = refl; bears = λ child. refl }
 ran_forks m (Runs p) (Rolls q left unborn) runs = absurd runs
 ran_forks m (Runs p) (Waits w) runs = absurd runs
 ran_forks m (Rolls p counts births) now runs = subst (SameForks (Rolls p counts births)) (sym runs.1) (same_forks (Rolls p counts births))
 ran_forks m (Waits w) now runs = absurd runs
 
-pub turn_forks : (n m : ℕ) (was between now : Held) → RollsTo n was between → RunsTo m between now → SameForks was now
-turn_forks n m was between now rolls runs = then_same was between now (rolled_forks n was between rolls) (ran_forks m between now runs)
-
--- one that runs then, whatever it did, has none to make
-pub run_forks : (n : ℕ) (was : Held) (between now : Process) → RollsTo n was (Runs between) → SameForks was (Runs now)
-run_forks n was between now rolls = then_same was (Runs between) (Runs now) (rolled_forks n was (Runs between) rolls) (record { waits = refl; bears = λ child. refl })
+-- one that runs on has none to make
+pub run_forks : (was now : Process) → SameForks (Runs was) (Runs now)
+run_forks was now = record { waits = refl; bears = λ child. refl }
 
 -- ---- all that are here
 

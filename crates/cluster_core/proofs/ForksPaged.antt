@@ -10,7 +10,6 @@ use Rattle.t32_base.specs.Small.{SmallState}
 use Rattle.proc_state.specs.declared.process.Process.{Process}
 use Rattle.sys_text.specs.declared.system.System.{System}
 use Rattle.sys_text.specs.Valid.{is_system}
-use Rattle.bus_msg.specs.declared.entry.What.{What}
 use Rattle.bus_msg.specs.declared.entry.What.TheVariants.{PageIs}
 use Rattle.bus_msg.specs.declared.entry.Entry.{Entry}
 use Rattle.bus_msg.specs.declared.entry.Post.{Post}
@@ -30,7 +29,7 @@ use Rattle.family_laws.proofs.Filters.{any_kept, kept_passes, one_passes, passes
 use Rattle.family_laws.proofs.UnsyncedChild.{stateless}
 use Rattle.recovery.specs.Begun.{begun}
 use Rattle.roll_forward.specs.RunsOut.{nothing_left}
-use Rattle.page_waits.specs.Waiting.{WaitingState, is_whole, rolling_of, start_of, with_page}
+use Rattle.page_waits.specs.Waiting.{WaitingState, is_whole, start_of, with_page}
 use Rattle.child_waits.proofs.EitherWait.{kept_so, page_for}
 use Rattle.child_waits.proofs.StatedAbove.{in_the_record}
 use Rattle.cluster_core.specs.View.{Held, Runs, Rolls, Waits, going_on, held_of, is_waiting, page_held, rolling_held}

@@ -16,7 +16,7 @@ use Rattle.record_laws.proofs.Standing.{built_stands}
 use Rattle.recovery_laws.specs.Behind.{RollsBehind}
 use Rattle.recovery_laws.proofs.CaughtUp.{caught_up}
 use Rattle.recovery_cost.proofs.CaughtLimits.{caught_keeps}
-use Rattle.cluster_core.specs.View.{Held, Runs, Rolls, IsHeldWithin, limits_of}
+use Rattle.cluster_core.specs.View.{Runs, Rolls, IsHeldWithin, limits_of}
 use Rattle.cluster_core.specs.Follows.{IsOpen}
 use Rattle.cluster_core.specs.ForkingAgain.{going_held}
 use Rattle.cluster_core.specs.Holds.{CarriesMarks, IsHeldAs, MarkedIfThere, unended_process}

@@ -467,7 +467,7 @@ adds false c d is h = is ∙ h
 abbrev pub PutsOne : ℕ → List ℕ → List ℕ → Type 0
 PutsOne n old more = (q : ℕ) → list_any (at_key q) more ≡ cond (at_key n q) true (list_any (at_key q) old)
 
-puts_more : (n : ℕ) (old more : List ℕ) → PutsOne n old more → (q : ℕ) → list_any (at_key q) old ≡ true → list_any (at_key q) more ≡ true
+pub puts_more : (n : ℕ) (old more : List ℕ) → PutsOne n old more → (q : ℕ) → list_any (at_key q) old ≡ true → list_any (at_key q) more ≡ true
 puts_more n old more puts q h = adds (at_key n q) (list_any (at_key q) old) (list_any (at_key q) more) (puts q) h
 
 pub ready_put : (limits : Limits) (slots : Slab Held) (keys : List (ℕ × ℕ)) (n : ℕ) (ready more asking : List ℕ) → PutsOne n ready more → IsKept limits slots keys ready asking → IsKept limits slots keys more asking

@@ -63,7 +63,7 @@ at_forks_after Holds process counts child births forks holds m = subst (λ next.
 -- less may be asked at each fork
 pub at_forks_less : (More Less : ProcState → Pid → Type 0) → ((s : ProcState) (q : Pid) → More s q → Less s q) → (n : ℕ) (s : ProcState) (counts : Counts) (births : List Pid) → AtForks More n s counts births → AtForks Less n s counts births
 at_forks_less More Less less zero s counts births holds = tt
-at_forks_less More Less less (suc n) s counts births holds left =
+at_forks_less More Less less (suc n) s counts births holds = λ left.
     let now = holds left in
     (λ forks. front births (now.0 forks), runs_less s counts (λ t left rest. AtForks More n t left rest) (λ t left rest. AtForks Less n t left rest) (next_step s) births (λ t left rest on. at_forks_less More Less less n t left rest on) now.1)
   where

@@ -78,7 +78,7 @@ found_any test (e ∷ here) two any = by_test (test e.1) refl any (found_any tes
         record { pid = one.pid; held = one.held; there = beside one.pid one.held one.there (same_pid e.0 one.pid) refl; passes = one.passes }
 
 -- where none passes a test, no one does that is found
-pub none_passes : (test : Held → Bool) (here : List (Pid × Held)) (p : Pid) (h : Held) → list_any (λ (e : Pid × Held). test e.1) here ≡ false → held_of here p ≡ Some h → test h ≡ false
+none_passes : (test : Held → Bool) (here : List (Pid × Held)) (p : Pid) (h : Held) → list_any (λ (e : Pid × Held). test e.1) here ≡ false → held_of here p ≡ Some h → test h ≡ false
 none_passes test [] p h none there = cc
 none_passes test (e ∷ here) p h none there = by_pid (same_pid e.0 p) there (none_passes test here p h parts.1)
   where

@@ -4,6 +4,8 @@ pub mod Quanta
 mod ForkStanding
 pub mod Here
 mod RollingParts
+mod KeepsForking
+mod RollingQuantum
 pub mod Slots
 pub mod Kept
 pub mod Told

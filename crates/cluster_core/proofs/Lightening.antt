@@ -108,9 +108,9 @@ module _ (old : ClusterView) (valid : is_system old.system ≡ true) (f : Follow
       by_made : (made : ℕ) (mid : List (Pid × Held)) (was now : Held) → RollsAgain (work.2).pid made old.here mid → Moves (limits_of old.system) 64 made was now → held_of mid (work.2).pid ≡ Some was → NoTwo (pids_in mid) → sum_held (with_changed (work.2).pid now mid) + 1 ≤ sum_held old.here
       by_made zero mid was now again m there two =
           let fewer : held_weight now + 1 ≤ held_weight was = omega (arith, m.some, silent_leaves m.silent was now m.runs) in
-          omega (arith, one_lighter (work.2).pid was now 1 mid two there (fewer_loads was now fewer), again_no_heavier (work.2).pid 0 old.here mid (held_apart old valid f) again)
+          omega (arith, one_lighter (work.2).pid was now 1 mid two there (fewer_loads was now fewer), again_no_heavier (work.2).pid 0 old.here mid again (held_apart old valid f))
       by_made (suc n) mid was now again m there two =
-          omega (arith, one_lighter (work.2).pid was now 0 mid two there (silent_no_heavier m.silent was now m.runs), again_lightens (work.2).pid (suc n) old.here mid (held_apart old valid f) again (omega arith))
+          omega (arith, one_lighter (work.2).pid was now 0 mid two there (silent_no_heavier m.silent was now m.runs), again_lightens (work.2).pid (suc n) old.here mid again (held_apart old valid f) (omega arith))
 
   -- one that sent something has a step fewer left
   sent_lightens : (new : ClusterView) → QueuesOne old new → load new + 1 ≤ load old
@@ -120,7 +120,7 @@ module _ (old : ClusterView) (valid : is_system old.system ≡ true) (f : Follow
       let fewer : held_weight (Runs one.now) + 1 ≤ held_weight one.was =
       omega (arith, same, ap held_weight s.old_is, silently_lightens s.silent (state_of s.between) (state_of s.before) (s.runs).silent, emits_lightens (state_of s.before) (state_of s.now) one.emission s.sends) in
       let less = one_lighter one.pid one.was (Runs one.now) 1 one.mid (apart_again one.pid one.made one.mid one.again) one.there (fewer_loads one.was (Runs one.now) fewer) in
-      omega (arith, less, again_no_heavier one.pid one.made old.here one.mid (held_apart old valid f) one.again, ap load one.rest)
+      omega (arith, less, again_no_heavier one.pid one.made old.here one.mid one.again (held_apart old valid f), ap load one.rest)
 
   -- one that came to its fork has no more left
   birth_lightens : (new : ClusterView) → QueuesBirth old new → load new ≤ load old
@@ -128,7 +128,7 @@ module _ (old : ClusterView) (valid : is_system old.system ≡ true) (f : Follow
       let k = one.comes in
       let same : held_load (Runs k.now) + 0 ≤ held_load one.was = omega (arith, ap held_load k.old_is, silent_load k.silent k.between k.now k.runs) in
       let less = one_lighter one.pid one.was (Runs k.now) 0 one.mid (apart_again one.pid one.made one.mid one.again) one.there same in
-      omega (arith, less, again_no_heavier one.pid one.made old.here one.mid (held_apart old valid f) one.again, ap load one.rest)
+      omega (arith, less, again_no_heavier one.pid one.made old.here one.mid one.again (held_apart old valid f), ap load one.rest)
 
 -- one that has just synchronised has not moved since
 synced_unmoved : (p : Process) → has_moved (synced p) ≡ false

@@ -18,7 +18,7 @@ use Rattle.bus_msg.specs.Places.{same_pid}
 use Rattle.bus_msg.specs.PlacedAfter.{what}
 use Rattle.birth_notice.specs.Family.{are_births, stands_in}
 use Rattle.birth_notice.proofs.BirthLaws.{three}
-use Rattle.roll_forward.specs.Deeds.{Deed, Sends, Bears, births_in, child_in}
+use Rattle.roll_forward.specs.Deeds.{Sends, Bears, births_in, child_in}
 use Rattle.cert_sched.specs.Deeds.{deeds_in, since, starts}
 use Rattle.cert_sched.specs.Family.{births_of, born}
 use Rattle.cert_sched.specs.Parts.{after_last}
@@ -45,19 +45,20 @@ stands_later b bs parent child own any =
 
 pub one_parent : (bs : List Pair) (p q child : Pid) → are_births bs ≡ true → list_any (bears_by p child) bs ≡ true → list_any (bears_by q child) bs ≡ true → same_pid q p ≡ true
 one_parent [] p q child ok by_p by_q = absurd (true≢false (sym by_p))
-one_parent (b ∷ bs) p q child ok by_p by_q = by_tests (bears_by p child b) (bears_by q child b) refl refl by_p by_q
+one_parent (b ∷ bs) p q child ok by_p by_q = by_tests (bears_by p child b) (bears_by q child b) refl refl by_p by_q (one_parent bs p q child parts.2)
   where
     parts : (same_pid b.1 b.0 ≡ false) × (list_any (λ (x : Pair). stands_in x.1 b) bs ≡ false) × (are_births bs ≡ true)
     parts = three (same_pid b.1 b.0) (list_any (λ (x : Pair). stands_in x.1 b) bs) (are_births bs) ok
 
-    by_tests : (x y : Bool) → bears_by p child b ≡ x → bears_by q child b ≡ y → (x || list_any (bears_by p child) bs) ≡ true → (y || list_any (bears_by q child) bs) ≡ true → same_pid q p ≡ true
-    by_tests true true is_p is_q any_p any_q =
+    by_tests : (x y : Bool) → bears_by p child b ≡ x → bears_by q child b ≡ y → (x || list_any (bears_by p child) bs) ≡ true → (y || list_any (bears_by q child) bs) ≡ true
+        → (list_any (bears_by p child) bs ≡ true → list_any (bears_by q child) bs ≡ true → same_pid q p ≡ true) → same_pid q p ≡ true
+    by_tests true true is_p is_q any_p any_q later =
         let one = and_parts (same_pid b.0 p) (same_pid b.1 child) is_p in
         let two = and_parts (same_pid b.0 q) (same_pid b.1 child) is_q in
         eq-eqb q.0 p.0 (sym (eqb-true (b.0).0 q.0 two.0) ∙ eqb-true (b.0).0 p.0 one.0)
-    by_tests true false is_p is_q any_p any_q = absurd (true≢false (sym (stands_later b bs q child (and_parts (same_pid b.0 p) (same_pid b.1 child) is_p).1 any_q) ∙ parts.1))
-    by_tests false true is_p is_q any_p any_q = absurd (true≢false (sym (stands_later b bs p child (and_parts (same_pid b.0 q) (same_pid b.1 child) is_q).1 any_p) ∙ parts.1))
-    by_tests false false is_p is_q any_p any_q = one_parent bs p q child parts.2 any_p any_q
+    by_tests true false is_p is_q any_p any_q later = absurd (true≢false (sym (stands_later b bs q child (and_parts (same_pid b.0 p) (same_pid b.1 child) is_p).1 any_q) ∙ parts.1))
+    by_tests false true is_p is_q any_p any_q later = absurd (true≢false (sym (stands_later b bs p child (and_parts (same_pid b.0 q) (same_pid b.1 child) is_q).1 any_p) ∙ parts.1))
+    by_tests false false is_p is_q any_p any_q later = later any_p any_q
 
 -- ---- what a process forked since it started
 

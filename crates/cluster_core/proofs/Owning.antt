@@ -30,7 +30,7 @@ use Rattle.cert_sched.specs.Built.{tells_or_closes}
 use Rattle.cluster_core.proofs.Here.{pid_same}
 use Rattle.cluster_core.proofs.ByKind.{by_kind}
 use Rattle.t32_base.specs.Small.{SmallState}
-use Rattle.page_waits.specs.Waiting.{WaitingState, is_whole, rolling_of, start_of, with_page}
+use Rattle.page_waits.specs.Waiting.{WaitingState, is_whole, start_of, with_page}
 use Rattle.cluster_core.specs.Work.{any_waits}
 use Rattle.recovery.specs.Begun.{begun}
 use Rattle.cert_sched.proofs.RisingLaws.{either_not}

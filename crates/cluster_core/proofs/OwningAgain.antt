@@ -45,6 +45,6 @@ part_own cursor p n old new own (inr fork) =
     let now = going_held (forked f.process f.child) f.counts f.births in
     subst (AllOwn cursor) (sym f.here) (all_begun cursor f.child f.process _ (own_changed cursor p now old own (own_going cursor p (forked f.process f.child) f.counts f.births (own_forked cursor p f.child f.process parent))))
 
-pub own_again : (cursor : ℕ) (p : Pid) (n : ℕ) (old new : List (Pid × Held)) → AllOwn cursor old → RollsAgain p n old new → AllOwn cursor new
-own_again cursor p n old new own (NoPart n old new none same) = subst (AllOwn cursor) (sym same) own
-own_again cursor p n old new own (Part n m k old mid new count before part) = part_own cursor p k mid new (own_again cursor p m old mid own before) part
+pub own_again : (cursor : ℕ) (p : Pid) (n : ℕ) (old new : List (Pid × Held)) → RollsAgain p n old new → AllOwn cursor old → AllOwn cursor new
+own_again cursor p _ _ _ NoPart own = own
+own_again cursor p _ _ _ (Part {m} {old} {mid} before k new part) own = part_own cursor p k mid new (own_again cursor p m old mid before own) part

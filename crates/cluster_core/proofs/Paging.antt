@@ -38,7 +38,7 @@ use Rattle.cluster_core.specs.Queue.{AreTogether, Queued, Nothing, One, posts_of
 use Rattle.cluster_core.specs.Recovered.{left_by, moved_by, with_all_waiting}
 use Rattle.cluster_core.specs.Holds.{IsHeldAs, is_fetch_queued, process_in, CarriesMarks, MarkedIfThere, unended_process, HoldsLimits}
 use Rattle.cluster_core.specs.Follows.{FollowsBuilt, IsOpen}
-use Rattle.cluster_core.specs.Calls.{absorbed, here_after, with_page_come}
+use Rattle.cluster_core.specs.Calls.{absorbed, here_after}
 use Rattle.cluster_core.proofs.FamilyNext.{family_next}
 use Rattle.cluster_core.proofs.ByKind.{by_page, is_of_page, lone_is, may_told, page_unlost, told_may}
 use Rattle.cluster_core.proofs.Beside.{FollowsBeside}
@@ -63,7 +63,7 @@ use Rattle.cert_sched.specs.Moved.{is_fetch, is_page_is}
 use Rattle.channel_table.specs.Changes.{pids_differ}
 use Rattle.cluster_core.proofs.HasPages.{pages_after, waits_after}
 use Rattle.cluster_core.proofs.PagePosts.{page_post_stays}
-use Rattle.std.specs.Prelude.{find, option_map}
+use Rattle.std.specs.Prelude.{option_map}
 use Rattle.bus_msg.specs.declared.entry.What.TheVariants.{PageIs}
 use Rattle.bus_msg.specs.declared.entry.By.TheVariants.{Cluster}
 use Rattle.bus_msg.specs.declared.placed.Placed.{Placed}

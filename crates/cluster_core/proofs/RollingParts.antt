@@ -9,13 +9,14 @@ use Rattle.t32_base.specs.declared.process.Pid.{Pid}
 use Rattle.t32_base.specs.declared.process.Counts.{Counts}
 use Rattle.proc_state.specs.declared.process.Process.{Process}
 use Rattle.proc_state.specs.State.{state_of}
+use Rattle.plain_kernel.proofs.Entries.{some_same}
 use Rattle.roll_forward.specs.RunsOut.{nothing_left}
 use Rattle.bus_msg.specs.Places.{same_pid}
 use Rattle.page_waits.specs.Waiting.{WaitingState}
 use Rattle.cluster_core.specs.Bearing.{forked, newborn}
 use Rattle.cluster_core.specs.Changed.{with_changed}
 use Rattle.cluster_core.specs.ChildrenFirst.{is_running, runs_at}
-use Rattle.cluster_core.specs.ForkingAgain.{begun_with, child_again, going_held, is_rolling, rolls_at, waits_at, waits_for_fork, with_begun, with_mail_of, BearsAgain, CanBeginAgain, CanBeginWith, CanForkAgainNow, ForksAgain, HasForkedAgain, NoPart, Part, RollsAgain, RollsPart, StandsAtForkAgain}
+use Rattle.cluster_core.specs.ForkingAgain.{begun_with, child_again, going_held, is_rolling, rolls_at, waits_at, waits_for_fork, with_begun, with_mail_of, AtFront, BearsAgain, CanBeginAgain, CanBeginWith, CanForkAgainNow, ForksAgain, HasForkedAgain, NoPart, Part, RollsAgain, RollsPart, StandsAtForkAgain}
 use Rattle.cluster_core.specs.Quantum.{RollsTo}
 use Rattle.cluster_core.specs.Residents.{are_rising, pids_in}
 use Rattle.cluster_core.specs.View.{Held, Runs, Rolls, Waits, held_of}
@@ -162,17 +163,45 @@ part_some p n old new (inr fork) = omega (arith, fork.0)
 
 -- no steps leave all as it was
 pub none_again : (p : Pid) (n : ℕ) (old new : List (Pid × Held)) → RollsAgain p n old new → n ≡ 0 → new ≡ old
-none_again p n old new (NoPart n old new none same) is = same
-none_again p n old new (Part n m k old mid new count before part) is = absurd (omega (arith, is, count, part_some p k mid new part))
+none_again p _ _ _ NoPart is = refl
+none_again p _ _ _ (Part {m} {old} {mid} before k new part) is = absurd (omega (arith, is, part_some p k mid new part))
 
 -- who makes some again rolled forward before the first
 pub again_rolls : (p : Pid) (n : ℕ) (old new : List (Pid × Held)) → RollsAgain p n old new → 1 ≤ n → RollsThere p old
-again_rolls p n old new (NoPart n old new none same) some = absurd (omega (arith, none, some))
-again_rolls p n old new (Part n m k old mid new count before part) some = by_count m refl
+again_rolls p _ _ _ NoPart some = absurd (omega (arith, some))
+again_rolls p _ _ _ (Part {m} {old} {mid} before k new part) some = by_count m refl (λ made. again_rolls p m old mid before made)
   where
-    by_count : (i : ℕ) → m ≡ i → RollsThere p old
-    by_count zero none = subst (RollsThere p) (none_again p m old mid before none) (part_rolls p k mid new part)
-    by_count (suc i) is = again_rolls p m old mid before (omega (arith, is))
+    by_count : (i : ℕ) → m ≡ i → (1 ≤ m → RollsThere p old) → RollsThere p old
+    by_count zero none more = subst (RollsThere p) (none_again p m old mid before none) (part_rolls p k mid new part)
+    by_count (suc i) is more = more (omega (arith, is))
+
+-- who made a fork again is here after it, and goes on from there
+pub fork_there : (p : Pid) (old new : List (Pid × Held)) → (f : ForksAgain p old new) → held_of new p ≡ Some (going_held (forked f.process f.child) f.counts f.births)
+fork_there p old new f =
+    ap (λ hs. held_of hs p) f.here ∙ begun_found f.child (newborn f.process f.child) (with_changed p goes old) p
+    ∙ ap (option_map (λ (h : Held). cond (same_pid p f.child) (begun_with (newborn f.process f.child) h) h)) (changed_there p goes old (Rolls f.process f.counts (f.child ∷ f.births)) f.there) ∙ ap Some (kept (same_pid p f.child) (nothing_left f.counts f.births))
+  where
+    goes : Held
+    goes = going_held (forked f.process f.child) f.counts f.births
+
+    kept : (b left : Bool) → cond b (begun_with (newborn f.process f.child) (cond left (Runs (forked f.process f.child)) (Rolls (forked f.process f.child) f.counts f.births))) (cond left (Runs (forked f.process f.child)) (Rolls (forked f.process f.child) f.counts f.births))
+        ≡ cond left (Runs (forked f.process f.child)) (Rolls (forked f.process f.child) f.counts f.births)
+    kept true true = refl
+    kept true false = refl
+    kept false left = refl
+
+-- who rolls forward is here
+pub rolls_there : (p : Pid) (here : List (Pid × Held)) → rolls_at here p ≡ true → RollsThere p here
+rolls_there p here rolls = by_found (held_of here p) refl rolls
+  where
+    by_held : (h : Held) → held_of here p ≡ Some h → is_rolling h ≡ true → RollsThere p here
+    by_held (Runs q) at rolls = absurd (true≢false (sym rolls))
+    by_held (Rolls q counts births) at rolls = record { process = q; counts = counts; births = births; there = at }
+    by_held (Waits w) at rolls = absurd (true≢false (sym rolls))
+
+    by_found : (o : Option Held) → held_of here p ≡ o → option_map_or is_rolling o false ≡ true → RollsThere p here
+    by_found None at rolls = absurd (true≢false (sym rolls))
+    by_found (Some h) at rolls = by_held h at rolls
 
 -- and runs after the last, where it does not roll forward still
 part_runs : (p : Pid) (n : ℕ) (old new : List (Pid × Held)) → RollsPart p n old new → rolls_at new p ≡ false → runs_at new p ≡ true
@@ -189,30 +218,16 @@ part_runs p n old new (inr fork) stopped = by_going (nothing_left f.counts f.bir
     f : ForksAgain p old new
     f = fork.1
 
-    mid : List (Pid × Held)
-    mid = with_changed p (going_held (forked f.process f.child) f.counts f.births) old
-
-    kept : (b : Bool) (h : Held) → is_running h ≡ true ⊎ (is_rolling h ≡ true) → cond b (begun_with (newborn f.process f.child) h) h ≡ h
-    kept true (Runs q) one = refl
-    kept true (Rolls q counts births) one = refl
-    kept true (Waits w) (inl one) = absurd (true≢false (sym one))
-    kept true (Waits w) (inr one) = absurd (true≢false (sym one))
-    kept false h one = refl
-
-    there : (h : Held) → going_held (forked f.process f.child) f.counts f.births ≡ h → is_running h ≡ true ⊎ (is_rolling h ≡ true) → held_of new p ≡ Some h
-    there h is one =
-        ap (λ hs. held_of hs p) f.here ∙ begun_found f.child (newborn f.process f.child) mid p
-        ∙ ap (option_map (λ (h : Held). cond (same_pid p f.child) (begun_with (newborn f.process f.child) h) h)) (changed_there p (going_held (forked f.process f.child) f.counts f.births) old (Rolls f.process f.counts (f.child ∷ f.births)) f.there ∙ ap Some is)
-        ∙ ap Some (kept (same_pid p f.child) h one)
+    goes : Process
+    goes = forked f.process f.child
 
     by_going : (b : Bool) → nothing_left f.counts f.births ≡ b → runs_at new p ≡ true
-    by_going true is = ap (λ o. option_map_or is_running o false) (there (Runs (forked f.process f.child)) (ap (λ b. cond b (Runs (forked f.process f.child)) (Rolls (forked f.process f.child) f.counts f.births)) is) (inl refl))
-    by_going false is =
-        absurd (true≢false (sym (ap (λ o. option_map_or is_rolling o false) (there (Rolls (forked f.process f.child) f.counts f.births) (ap (λ b. cond b (Runs (forked f.process f.child)) (Rolls (forked f.process f.child) f.counts f.births)) is) (inr refl))) ∙ stopped))
+    by_going true is = ap (λ o. option_map_or is_running o false) (fork_there p old new f ∙ ap (λ b. Some (cond b (Runs goes) (Rolls goes f.counts f.births))) is)
+    by_going false is = absurd (true≢false (sym (ap (λ o. option_map_or is_rolling o false) (fork_there p old new f ∙ ap (λ b. Some (cond b (Runs goes) (Rolls goes f.counts f.births))) is)) ∙ stopped))
 
 pub again_runs : (p : Pid) (n : ℕ) (old new : List (Pid × Held)) → RollsAgain p n old new → 1 ≤ n → rolls_at new p ≡ false → runs_at new p ≡ true
-again_runs p n old new (NoPart n old new none same) some stopped = absurd (omega (arith, none, some))
-again_runs p n old new (Part n m k old mid new count before part) some stopped = part_runs p k mid new part stopped
+again_runs p _ _ _ NoPart some stopped = absurd (omega (arith, some))
+again_runs p _ _ _ (Part {m} {old} {mid} before k new part) some stopped = part_runs p k mid new part stopped
 
 -- ---- the fork
 
@@ -231,6 +246,12 @@ going_unwaiting p counts births = by_left (nothing_left counts births)
 pub next_is : (p : Pid) (here : List (Pid × Held)) (n : CanForkAgainNow p here) → option_and_then child_again (held_of here p) ≡ Some (n.stands).child
 next_is p here n = ap (option_and_then child_again) n.there ∙ ap child_again (n.stands).is
 
+-- the child of the next fork of what is held can begin again
+abbrev BeginsAt : List (Pid × Held) → Held → Type 0
+BeginsAt here (Runs q) = Unit {0}
+BeginsAt here (Rolls q counts births) = AtFront (CanBeginAgain here) (state_of q) births
+BeginsAt here (Waits w) = Unit {0}
+
 module _ (p : Pid) (old mid : List (Pid × Held)) (made : Bool) (born : Option Process) (b : BearsAgain made p old born mid) where
   abbrev f : HasForkedAgain made b.was born b.now
   f = b.forks
@@ -244,11 +265,22 @@ module _ (p : Pid) (old mid : List (Pid × Held)) (made : Bool) (born : Option P
   mid_is : mid ≡ with_changed p (going_held (forked (f.stood).process child) (f.stood).counts (f.stood).births) old
   mid_is = b.here ∙ ap (λ (h : Held). with_changed p h old) f.now
 
+  -- the child that its next fork takes is the one that it took
+  pub bears_next : (next : Pid) → option_and_then child_again (held_of old p) ≡ Some next → next ≡ child
+  bears_next next is = some_same next child (sym is ∙ ap (option_and_then child_again) there)
+
+  -- what was asked of it before the fork is asked of the fork
+  pub begins_same : CanForkAgainNow p old → CanBeginAgain old (state_of (f.stood).process) child
+  begins_same n =
+      let s = n.stands in
+      let one : Some (Rolls s.process s.counts (s.child ∷ s.births)) ≡ Some (Rolls (f.stood).process (f.stood).counts (child ∷ (f.stood).births)) = sym (n.there ∙ ap Some s.is) ∙ there in
+      subst (BeginsAt old) (some_same (Rolls s.process s.counts (s.child ∷ s.births)) (Rolls (f.stood).process (f.stood).counts (child ∷ (f.stood).births)) one) n.begins
+
   -- where the child waited, it begins
   pub fork_made : (q : Process) (new : List (Pid × Held)) → made ≡ true → born ≡ Some q → new ≡ with_begun child q mid → ForksAgain p old new
   fork_made q new is is_born begun =
       let same : Some (newborn (f.stood).process child) ≡ Some q = sym (f.child ∙ ap (λ b. cond b (Some (newborn (f.stood).process child)) None) is) ∙ is_born in
-      let who : newborn (f.stood).process child ≡ q = ap (λ o. option_map_or (λ (x : Process). x) o q) same in
+      let who : newborn (f.stood).process child ≡ q = some_same (newborn (f.stood).process child) q same in
       record {
         process = (f.stood).process;
         counts = (f.stood).counts;
@@ -288,7 +320,7 @@ module _ (p : Pid) (old mid : List (Pid × Held)) (made : Bool) (born : Option P
   begins_with q can waits is is_born h at = by_old (held_of old child) refl waits
     where
       same : newborn (f.stood).process child ≡ q
-      same = ap (λ o. option_map_or (λ (x : Process). x) o q) (sym (f.child ∙ ap (λ b. cond b (Some (newborn (f.stood).process child)) None) is) ∙ is_born)
+      same = some_same (newborn (f.stood).process child) q (sym (f.child ∙ ap (λ b. cond b (Some (newborn (f.stood).process child)) None) is) ∙ is_born)
 
       apart : same_pid child p ≡ false
       apart = by_pid (same_pid child p) refl
@@ -309,12 +341,12 @@ module _ (p : Pid) (old mid : List (Pid × Held)) (made : Bool) (born : Option P
           none_is (Some x) is = absurd (true≢false (sym is))
 
       by_held : (k : Held) → k ≡ h → held_of old child ≡ Some k → waits_for_fork k ≡ true → CanBeginWith (newborn (f.stood).process child) k
-      by_held (Runs x) is there waits = absurd (true≢false (sym waits))
-      by_held (Rolls x counts births) is there waits = absurd (true≢false (sym waits))
-      by_held (Waits w) is there waits = (stateless w waits, refl, refl, refl, can w there (stateless w waits))
+      by_held (Runs x) is at_old waits = absurd (true≢false (sym waits))
+      by_held (Rolls x counts births) is at_old waits = absurd (true≢false (sym waits))
+      by_held (Waits w) is at_old waits = (stateless w waits, refl, refl, refl, can w at_old (stateless w waits))
 
       by_old : (o : Option Held) → held_of old child ≡ o → option_map_or waits_for_fork o false ≡ true → CanBeginWith q h
-      by_old None there waits = absurd (true≢false (sym waits))
-      by_old (Some k) there waits =
-          let kept : k ≡ h = ap (λ o. option_map_or (λ (x : Held). x) o k) (sym there ∙ found) in
-          subst (λ (x : Process). CanBeginWith x h) same (subst (CanBeginWith (newborn (f.stood).process child)) kept (by_held k kept there waits))
+      by_old None at_old waits = absurd (true≢false (sym waits))
+      by_old (Some k) at_old waits =
+          let kept : k ≡ h = some_same k h (sym at_old ∙ found) in
+          subst (λ (x : Process). CanBeginWith x h) same (subst (CanBeginWith (newborn (f.stood).process child)) kept (by_held k kept at_old waits))

@@ -103,9 +103,9 @@ module _ (limits : Limits) (slots new : Slab Held) (n key : ℕ) (keys : List (�
       written slots new n key was now (λ e. (e.0, begun_with born e.1)) keys (one_key n key keys kept.ordered kept.apart found) there updates (ap (λ h. (pid_of n, h)) (sym is)) ∙ ap (with_begun (pid_of n) born) same
 
 -- one that is not here makes no step, and no child begins
-pub no_steps_at : (slots : Slab Held) (n most : ℕ) (keys : List (ℕ × ℕ)) (old : List (Pid × Held)) → lookup (at_key n) keys ≡ None → stands_in slots keys ≡ old → RollsStepsAt most 0 (pid_of n) old old
+pub no_steps_at : (slots : Slab Held) (n most : ℕ) (keys : List (ℕ × ℕ)) (old : List (Pid × Held)) → lookup (at_key n) keys ≡ None → stands_in slots keys ≡ old → RollsStepsAt most 0 (pid_of n) old (stands_in slots keys)
 no_steps_at slots n most keys old none same = (
-  refl,
+  same,
   λ h held rolls. let nothing : None ≡ Some h = sym (ap (λ hs. held_of hs (pid_of n)) (sym same) ∙ nobody_held slots n keys (no_entry n keys none)) ∙ held in cc,
 )
 

@@ -119,10 +119,10 @@ module _ (c : ClusterView) (some : FollowsSome c) (empty : c.queue ≡ []) (own 
 
   -- what a cluster makes of one of its processes after steps that it made again, that cluster makes of it
   after_again : (pid : Pid) (made : ℕ) (mid : List (Pid × Held)) (new : ClusterView) → RollsAgain pid made c.here mid → GoesOn (record c { here = mid }) new → GoesOn c new
-  after_again pid made mid new again on log go f = on log go (again_follows c log pid valid empty go made c.here mid f again)
+  after_again pid made mid new again on log go f = on log go (again_follows c log pid valid empty go made c.here mid again f)
 
   own_mid : (pid : Pid) (made : ℕ) (mid : List (Pid × Held)) → RollsAgain pid made c.here mid → AllOwn c.cursor mid
-  own_mid pid made mid again = own_again c.cursor pid made c.here mid own again
+  own_mid pid made mid again = own_again c.cursor pid made c.here mid again own
 
   -- who had a turn moved
   took_moved : (pid : Pid) (here : List (Pid × Held)) → OwesNothing c → Took pid QuantumMoved here → Works c Moved here c.server []
@@ -256,14 +256,15 @@ module _ (c : ClusterView) (some : FollowsSome c) (empty : c.queue ≡ []) (own 
       subst (Works c Queued new.here c.server) (sym turn.2) (either_synced (pid_of new.last) turn.0 new.here nothing (turn_here old new (QuantumSynced turn.0) limits here turn.1))
   runs old new Waits queue limits here nothing turn =
       let same : new.here ≡ c.here = (turn.0).1 ∙ here in
-      let stuck : are_stuck (limits_of c.system) c.here ≡ true = (λ i. are_stuck (sym limits i) (sym here i)) ∙ (turn.0).0 in
+      let none : none_has_turn (limits_of c.system) c.family c.here ≡ true = (λ i. none_has_turn (sym limits i) c.family (sym here i)) ∙ (turn.0).0 in
+      let stuck = none_moves c valid some none in
       subst (Works c Waits new.here c.server) (sym turn.2)
       (subst (λ hs. Works c Waits hs c.server []) (sym same) (still Waits (waited_work c valid empty own nothing stuck (ap any_waits (sym here) ∙ turn.1))))
   runs old new Rests queue limits here nothing turn =
       let same : new.here ≡ c.here = (turn.0).1 ∙ here in
       let none : none_has_turn (limits_of c.system) c.family c.here ≡ true = (λ i. none_has_turn (sym limits i) c.family (sym here i)) ∙ (turn.0).0 in
       let unwaited : any_waits c.here ≡ false = ap any_waits (sym here) ∙ turn.1 in
-      subst (Works c Rests new.here c.server) (sym turn.2) (subst (λ hs. Works c Rests hs c.server []) (sym same) (still Rests (rested_work c own nothing (none_moves c valid some none unwaited) unwaited)))
+      subst (Works c Rests new.here c.server) (sym turn.2) (subst (λ hs. Works c Rests hs c.server []) (sym same) (still Rests (rested_work c own nothing (none_moves c valid some none) unwaited)))
 
   after_none : (old new : ResidentsView) (served : Option PagerState) (worked : Worked) (queue : List Post) → old.limits ≡ limits_of c.system → old.here ≡ c.here → NoPages c.number c.places old c.server served → RunsNext c.number c.places c.family old worked new queue → Works c worked new.here served queue
   after_none old new served worked queue limits here none turn =

@@ -54,7 +54,7 @@ use Rattle.limit_laws.proofs.SendingLimits.{sent_keeps}
 use Rattle.cluster_core.proofs.Within.{carried, rolled_within, runs_marked}
 use Rattle.cluster_core.proofs.KeptLimits.{told_keeps}
 use Rattle.child_waits.proofs.EitherWait.{so_alike}
-use Rattle.cluster_core.proofs.ForksAgain.{forks_changed, run_forks, turn_forks}
+use Rattle.cluster_core.proofs.ForksAgain.{forks_changed, ran_forks, run_forks}
 use Rattle.cluster_core.proofs.Marking.{marked_queued, queue_tells}
 use Rattle.cluster_core.proofs.RunMarks.{marked_ran, marked_rolled, marked_runs, marked_sends}
 use Rattle.record_laws.proofs.Standing.{built_stands}
@@ -372,7 +372,7 @@ moved_goes_on c p made was new valid empty there moves log go f = record {
   marks = marks_beside c log p new c.queue f (subst (λ ps. MarkedIfThere CarriesMarks c.system (with_queue c.system log ps) p (unended_process new)) (sym empty) (moved_marked c p was empty there valid log go f made new moves)) (λ q h other held m. m);
   records = f.records;
   family = f.family;
-  forks = forks_changed c.family p was new c.here there (turn_forks moves.rolled moves.silent was moves.between new moves.rolls moves.runs) f.forks;
+  forks = forks_changed c.family p was new c.here there (ran_forks moves.silent was new moves.runs) f.forks;
   accounts = record { keeps = (f.accounts).keeps; there = (f.accounts).there; calls = (f.accounts).calls };
   disk = f.disk;
 }
@@ -578,7 +578,7 @@ module _ (c : ClusterView) (p : Pid) (made : ℕ) (was : Held) (sending : Sendin
     marks = marks_beside c log p (Runs s.now) (post ∷ []) f (sent_marked valid has log go f) (others_marked valid has log go f);
     records = f.records;
     family = f.family;
-    forks = forks_changed c.family p was (Runs s.now) c.here there (run_forks s.rolled was s.between s.now s.rolls) f.forks;
+    forks = forks_changed c.family p (Runs s.between) (Runs s.now) c.here runs_there (run_forks s.between s.now) f.forks;
     accounts = accounts_queued c.system log c (posted_view c (with_changed p (Runs s.now) c.here) post) post refl refl empty refl no_page f.accounts;
     disk = f.disk;
   }

@@ -77,8 +77,8 @@ RollsPart p n old new = RollsSome p n old new ⊎ ((n ≡ 1) × ForksAgain p old
 
 -- Part after part, a process that rolls forward makes so many steps again: its own are withheld, and its forks let the children begin that waited for them.
 pub data RollsAgain (p : Pid) : ℕ → List (Pid × Held) → List (Pid × Held) → Type 0 where
-  NoPart : (n : ℕ) (old new : List (Pid × Held)) → n ≡ 0 → new ≡ old → RollsAgain p n old new
-  Part : (n m k : ℕ) (old mid new : List (Pid × Held)) → n ≡ m + k → RollsAgain p m old mid → RollsPart p k mid new → RollsAgain p n old new
+  NoPart : {old : List (Pid × Held)} → RollsAgain p 0 old old
+  Part : {m : ℕ} {old mid : List (Pid × Held)} → RollsAgain p m old mid → (k : ℕ) (new : List (Pid × Held)) → RollsPart p k mid new → RollsAgain p (m + k) old new
 
 -- ---- what it takes
 

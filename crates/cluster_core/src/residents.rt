@@ -212,7 +212,8 @@ impl Residents {
 
     // The process with a pid, if it is here. Takes no memory.
     fn resident(&self, pid: u32) -> Option<&Resident>
-        ensures { option_copied result ≡ held_of self.now.here (pid_of pid) }
+        ensures there { option_copied result ≡ held_of self.now.here (pid_of pid) }
+        ensures ordered { are_rising (pids_in self.now.here) ≡ true }
     {
         match self.keys.get(&pid) {
             Some(key) => match self.residents.get(*key) {
@@ -402,13 +403,27 @@ impl Residents {
         let Some(child) = self.next_child(pid) else {
             unreachable!()
         };
-        let waits = self.waits_for_fork(child);
-        if waits {
-            self.ready.insert(child.0)?;
+        if !self.waits_for_fork(child) {
+            self.bear_again(pid, false)?;
+            return Ok(());
         }
-        if let Some(born) = self.bear_again(pid, waits)? {
-            self.begin_again(alloc, child, born);
+        self.make_ready(child.0)?;
+        match self.bear_again(pid, true)? {
+            Some(born) => self.begin_again(alloc, child, born),
+            None => unreachable!(),
         }
+        Ok(())
+    }
+
+    // A process is asked for its turn from now on, where it can have one.
+    fn make_ready(&mut self, pid: u32) -> Result<(), NoMemory>
+        ensures here { self.new.here ≡ self.old.here }
+        ensures there { OnOk result (list_any (at_key pid) self.new.ready ≡ true) }
+        ensures others { (n : ℕ) → list_any (at_key n) self.old.ready ≡ true → list_any (at_key n) self.new.ready ≡ true }
+        ensures last { self.new.last ≡ self.old.last }
+        ensures limits { self.new.limits ≡ self.old.limits }
+    {
+        self.ready.insert(pid)?;
         Ok(())
     }
 
@@ -462,7 +477,8 @@ impl Residents {
 
     // Whether a process is here and waits for its parent's fork. Takes no memory.
     fn waits_for_fork(&self, pid: Pid) -> bool
-        ensures { result ≡ waits_at self.now.here pid }
+        ensures waits { result ≡ waits_at self.now.here pid }
+        ensures ordered { are_rising (pids_in self.now.here) ≡ true }
     {
         match self.resident(pid.0) {
             Some(resident) => resident.waits_for_fork(),
@@ -472,7 +488,8 @@ impl Residents {
 
     // Whether the process with a pid is here and rolls forward. Takes no memory.
     fn rolls(&self, pid: u32) -> bool
-        ensures { result ≡ rolls_at self.now.here (pid_of pid) }
+        ensures rolls { result ≡ rolls_at self.now.here (pid_of pid) }
+        ensures ordered { are_rising (pids_in self.now.here) ≡ true }
     {
         match self.resident(pid) {
             Some(resident) => resident.rolls(),
