@@ -1,12 +1,12 @@
 -- Steps that are made again leave less to the processes of a cluster, and so does a fork with the child that begins by it.
-use Rattle.std.proofs.Common.{◌≡◌, ℕ, zero, suc, ◌+◌, ◌*◌, ◌≤◌, refl, sym, ◌∙◌, ap, subst, arith, List, [], ◌∷◌, Bool, true, false, cond, ◌||◌, eqb, ltb, eqb-true, is_none, true≢false, Some, inl, inr}
-use Rattle.std.specs.List.{list_any, sum_by}
+use Rattle.std.proofs.Common.{◌≡◌, ℕ, ◌+◌, ◌*◌, ◌≤◌, refl, sym, ◌∙◌, ap, subst, arith, List, [], ◌∷◌, Bool, true, false, cond, eqb, eqb-true, is_none, inl, inr}
+use Rattle.std.specs.List.{list_any}
 use Rattle.std.proofs.lemmas.List.Sums.{sum_by-cons}
 use Rattle.t32_base.specs.declared.process.Pid.{Pid}
 use Rattle.t32_base.specs.declared.process.Counts.{Counts}
 use Rattle.proc_state.specs.declared.process.Process.{Process}
 use Rattle.proc_state.specs.State.{state_of}
-use Rattle.sys_calls.specs.Fork.{child_small, fork_child, fork_parent}
+use Rattle.sys_calls.specs.Fork.{child_small}
 use Rattle.sys_calls.specs.Small.{weight_with_children}
 use Rattle.sys_calls.proofs.Bearing.{fork_lightens}
 use Rattle.sys_calls.proofs.ForkLaws.{forks_can}

@@ -4,7 +4,6 @@ use Rattle.std.specs.Prelude.{find, option_and_then, option_map}
 use Rattle.t32_base.specs.declared.process.Pid.{Pid}
 use Rattle.sys_text.specs.declared.system.System.{System}
 use Rattle.sys_text.specs.Valid.{is_system}
-use Rattle.proc_state.specs.declared.process.Process.{Process}
 use Rattle.proc_state.specs.State.{ProcState, state_of}
 use Rattle.sys_calls.specs.Next.{next_step, silent_of, silently}
 use Rattle.sys_calls.proofs.Counting.{silently_counts}
@@ -18,13 +17,13 @@ use Rattle.cert_sched.specs.Built.{BuiltMayFollow}
 use Rattle.cert_sched.specs.Losses.{capped, least_calls, least_steps}
 use Rattle.record_laws.proofs.Standing.{built_stands}
 use Rattle.cluster_core.specs.declared.quantum.Forking.{Forking}
-use Rattle.cluster_core.specs.View.{ClusterView, Held, Runs, Rolls, Waits, disk_calls, held_at, held_of, limits_of, next_count}
+use Rattle.cluster_core.specs.View.{ClusterView, Held, Runs, disk_calls, held_at, held_of, limits_of, next_count}
 use Rattle.cluster_core.specs.Residents.{with_changed}
 use Rattle.cluster_core.specs.Queue.{Nothing, with_queue}
 use Rattle.cluster_core.specs.Holds.{CarriesMarks, IsHeldAs, MarkedIfThere, process_in, unended_process}
 use Rattle.cluster_core.specs.Bearing.{BearsChild, birth_post}
 use Rattle.cluster_core.specs.Follows.{FollowsBuilt, IsOpen}
-use Rattle.cluster_core.specs.Quantum.{ComesToFork, RollsTo}
+use Rattle.cluster_core.specs.Quantum.{ComesToFork}
 use Rattle.cluster_core.proofs.Here.{pids_changed, same_itself}
 use Rattle.cluster_core.proofs.Batching.{unqueued}
 use Rattle.cluster_core.proofs.ForksAgain.{forks_changed, run_forks}

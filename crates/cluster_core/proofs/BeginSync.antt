@@ -1,6 +1,6 @@
 -- A process that is due synchronises: with its batch queued a cluster goes on to follow each log that it followed.
-use Rattle.std.proofs.Common.{◌≡◌, ◌+◌, ◌≤◌, refl, sym, ◌∙◌, ap, subst, List, [], ◌∷◌, Bool, true, false, cond, not, ◌||◌, Some, is_some, true≢false}
-use Rattle.std.specs.Prelude.{find, option_map, replicate}
+use Rattle.std.proofs.Common.{◌≡◌, ◌+◌, ◌≤◌, refl, sym, ◌∙◌, ap, subst, List, [], true, false, cond, not, ◌||◌, Some, is_some}
+use Rattle.std.specs.Prelude.{replicate}
 use Rattle.std.proofs.lemmas.Bool.{not-true}
 use Rattle.t32_base.specs.declared.process.Pid.{Pid}
 use Rattle.sys_text.specs.declared.system.System.{System}
@@ -26,7 +26,7 @@ use Rattle.sync_laws.specs.Running.{RunsMarked}
 use Rattle.sync_laws.specs.Sending.{MaySend}
 use Rattle.batch_laws.specs.Underway.{BatchMay, posts_left}
 use Rattle.batch_laws.proofs.BatchBegins.{batch_begins, batch_posts}
-use Rattle.cluster_core.specs.View.{ClusterView, Held, Runs, disk_calls, held_at, held_of, limits_of, next_count}
+use Rattle.cluster_core.specs.View.{ClusterView, Held, Runs, disk_calls, held_at, limits_of, next_count}
 use Rattle.cluster_core.specs.Residents.{pids_in, with_changed}
 use Rattle.cluster_core.specs.Queue.{Nothing, with_queue}
 use Rattle.cluster_core.specs.Holds.{CarriesMarks, IsHeldAs, MarkedIfThere, unended_process}

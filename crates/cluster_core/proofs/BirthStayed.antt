@@ -1,5 +1,5 @@
 -- The birth of a child that is queued while an entry of another cluster is taken in: the parent still stands before its fork, and its next child has the pid that it had.
-use Rattle.std.proofs.Common.{◌≡◌, ℕ, zero, suc, ◌+◌, ◌-◌, refl, sym, ◌∙◌, ap, subst, List, [], ◌∷◌, ◌++◌, Bool, true, false, cond, not, ◌&&◌, ◌||◌, eqb, eqb-true, eq-eqb, ltb, Option, Some, None, slice_get, true≢false}
+use Rattle.std.proofs.Common.{◌≡◌, ℕ, zero, suc, ◌+◌, ◌-◌, refl, sym, ◌∙◌, ap, subst, List, [], ◌∷◌, ◌++◌, Bool, true, false, cond, not, ◌||◌, eqb, eqb-true, eq-eqb, ltb, Option, Some, None, slice_get, true≢false}
 use Rattle.std.specs.Prelude.{length, nat_le, option_map}
 use Rattle.std.specs.List.{list_any}
 use Rattle.std.specs.Option.{option_map_or}

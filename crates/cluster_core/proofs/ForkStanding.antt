@@ -1,13 +1,11 @@
 -- How a process stands that rolled forward and made a fork again, and how its child stands where it begins.
-use Rattle.std.proofs.Common.{◌≡◌, ℕ, zero, suc, ◌+◌, ◌≤◌, ◌<◌, cond, List, [], ◌∷◌, ◌++◌, Bool, true, false, Option, Some, None, is_none, length, replicate, refl, sym, ◌∙◌, ap, subst, arith}
-use Rattle.std.specs.Option.{option_map_or}
-use Rattle.std.proofs.lemmas.Bool.{false≢true}
+use Rattle.std.proofs.Common.{◌≡◌, ℕ, zero, suc, ◌≤◌, cond, List, [], ◌∷◌, Bool, true, false, Option, Some, None, is_none, length, sym, ◌∙◌, ap, subst, arith}
 use Rattle.t32_base.specs.declared.process.Pid.{Pid}
 use Rattle.t32_base.specs.declared.process.Counts.{Counts}
 use Rattle.proc_state.specs.declared.process.Process.{Process}
 use Rattle.proc_state.specs.State.{ProcState, state_of}
-use Rattle.sys_calls.specs.Calls.{Next, Forks}
-use Rattle.sys_calls.specs.Fork.{fork_child, fork_parent}
+use Rattle.sys_calls.specs.Calls.{Forks}
+use Rattle.sys_calls.specs.Fork.{fork_parent}
 use Rattle.sys_calls.specs.Next.{next_step}
 use Rattle.sys_calls.specs.Steps.{read_after}
 use Rattle.sys_calls.proofs.ForkLaws.{forks_marks_none, forks_takes_none}
@@ -18,8 +16,7 @@ use Rattle.roll_forward.specs.Rolling.{RollingState, with_saved}
 use Rattle.page_waits.specs.Waiting.{WaitingState}
 use Rattle.t32_base.specs.declared.letter.BackRec.{BackRec}
 use Rattle.roll_forward.specs.RunsOut.{RunsOut, nothing_left}
-use Rattle.cluster_core.specs.declared.resident.Standing.{Standing}
-use Rattle.cluster_core.specs.declared.resident.Standing.TheVariants.{Runs as IsRunning, Rolls as IsRolling, Waits as IsWaiting}
+use Rattle.cluster_core.specs.declared.resident.Standing.TheVariants.{Runs as IsRunning, Rolls as IsRolling}
 use Rattle.cluster_core.specs.Bearing.{forked, newborn}
 use Rattle.cluster_core.specs.ForkingAgain.{begun_with, born_by, going_held, with_mail_of, HasForkedAgain, StandsAtForkAgain}
 use Rattle.cluster_core.specs.Resident.{StandsSo, held_standing}

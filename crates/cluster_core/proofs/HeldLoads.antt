@@ -1,40 +1,22 @@
 -- What the processes of a cluster have left, where one of them changes.
-use Rattle.std.proofs.Common.{◌≡◌, ◌⊎◌, ℕ, zero, suc, length, ◌+◌, ◌*◌, ◌≤◌, refl, sym, ◌∙◌, ap, subst, arith, List, [], ◌∷◌, Bool, true, false, cond, ◌||◌, eqb, ltb, eqb-true, eq-eqb, true≢false, Some, inl, inr}
+use Rattle.std.proofs.Common.{◌≡◌, ℕ, zero, suc, length, ◌+◌, ◌*◌, ◌≤◌, refl, sym, ◌∙◌, ap, arith, List, [], ◌∷◌, Bool, true, false, cond, ◌||◌, eqb, ltb, eqb-true, Some}
 use Rattle.std.specs.Prelude.{find, option_map}
 use Rattle.std.specs.List.{list_any, sum_by}
-use Rattle.std.proofs.lemmas.Bool.Decides.{nat_tests}
 use Rattle.std.proofs.lemmas.List.Sums.{sum_by-cons}
 use Rattle.t32_base.specs.declared.process.Pid.{Pid}
-use Rattle.t32_base.specs.declared.process.ClusterNo.{ClusterNo}
 use Rattle.t32_base.specs.declared.process.Counts.{Counts}
-use Rattle.sys_text.specs.declared.system.System.{System}
-use Rattle.sys_text.specs.Valid.{is_system}
 use Rattle.proc_state.specs.declared.process.Process.{Process}
 use Rattle.proc_state.specs.State.{state_of}
-use Rattle.sync_point.specs.Batch.{synced}
 use Rattle.sys_calls.specs.Small.{weight_with_children}
-use Rattle.sys_calls.proofs.Bearing.{emits_lightens, silently_lightens}
-use Rattle.bus_msg.specs.declared.entry.Entry.{Entry}
-use Rattle.bus_msg.specs.Places.{same_pid, is_at_home}
-use Rattle.cert_sched.specs.Built.{BuiltMayFollow}
-use Rattle.cert_sched.specs.Legal.{IsLegalBy}
-use Rattle.cert_sched.specs.Parts.{put_rising, rising}
-use Rattle.cert_sched.specs.Rests.{home_pids}
-use Rattle.cert_sched.specs.Schedule.{placement}
-use Rattle.cert_sched.proofs.PidLaws.{apart_fewer}
-use Rattle.cert_sched.proofs.RisingLaws.{NoTwo, either_not, rising-any, rising-apart}
-use Rattle.cert_sched.proofs.RollLaws.{all_roll, two_apart}
-use Rattle.cluster_core.specs.declared.worked.Worked.TheVariants.{Moved, Queued}
-use Rattle.quanta.specs.declared.limits.Limits.{Limits}
+use Rattle.sys_calls.proofs.Bearing.{silently_lightens}
+use Rattle.bus_msg.specs.Places.{same_pid}
+use Rattle.cert_sched.proofs.RisingLaws.{NoTwo, either_not}
 use Rattle.roll_forward.specs.Advancing.{Going, going, rolled_on}
 use Rattle.write_count.specs.Counting.{no_counts}
 use Rattle.quanta.specs.Quantum.{RunsOn}
 use Rattle.cluster_core.proofs.RolledLoad.{rolled_lightens}
-use Rattle.cluster_core.specs.View.{ClusterView, Held, Runs, Rolls, Waits, asked_held, has_moved, held_load, held_of, limits_of, load, process_load}
-use Rattle.cluster_core.specs.Follows.{FollowsBuilt}
-use Rattle.cluster_core.specs.declared.quantum.Forking.{Forking}
-use Rattle.cluster_core.specs.Calls.{FollowsSome, QueuesBatch, QueuesBirth, QueuesFetch, QueuesOne, WorkIs}
-use Rattle.cluster_core.specs.Quantum.{ComesToFork, RollsTo, RunsTo}
+use Rattle.cluster_core.specs.View.{Held, Runs, Rolls, Waits, has_moved, held_load, held_of, process_load}
+use Rattle.cluster_core.specs.Quantum.{RollsTo, RunsTo}
 use Rattle.cluster_core.specs.Residents.{pids_in, with_changed}
 -- ---- one of them has fewer steps left
 

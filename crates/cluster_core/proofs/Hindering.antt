@@ -1,5 +1,5 @@
 -- Where no process here can have a turn, none can move: no child hinders any.
-use Rattle.std.proofs.Common.{◌≡◌, refl, sym, ◌∙◌, ap, subst, length, List, [], ◌∷◌, Bool, cond, not, ◌&&◌, eqb-true, Option, Some, None, is_some, true, false, true≢false}
+use Rattle.std.proofs.Common.{◌≡◌, refl, sym, ◌∙◌, ap, subst, length, List, [], ◌∷◌, Bool, cond, not, ◌&&◌, eqb-true, Option, Some, None, true, false, true≢false}
 use Rattle.std.specs.Prelude.{find, option_map}
 use Rattle.std.specs.List.{list_all, list_any}
 use Rattle.std.specs.Option.{option_map_or}

@@ -1,12 +1,9 @@
 -- A cluster that works has less left to do: fewer steps, or a synchronisation fewer before the next of them; or as much where it answers or asks for a page.
-use Rattle.std.proofs.Common.{◌≡◌, ◌⊎◌, ℕ, zero, suc, length, ◌+◌, ◌*◌, ◌≤◌, refl, sym, ◌∙◌, ap, subst, arith, List, [], ◌∷◌, Bool, true, false, cond, ◌||◌, eqb, ltb, eqb-true, eq-eqb, true≢false, Some, inl, inr}
-use Rattle.std.specs.Prelude.{find, option_map}
-use Rattle.std.specs.List.{list_any, sum_by}
+use Rattle.std.proofs.Common.{◌≡◌, ◌⊎◌, ℕ, zero, suc, ◌+◌, ◌*◌, ◌≤◌, refl, sym, ◌∙◌, ap, subst, arith, List, [], ◌∷◌, Bool, true, false, cond, ◌||◌, eqb, ltb, eqb-true, eq-eqb, true≢false, Some, inl, inr}
+use Rattle.std.specs.List.{list_any}
 use Rattle.std.proofs.lemmas.Bool.Decides.{nat_tests}
-use Rattle.std.proofs.lemmas.List.Sums.{sum_by-cons}
 use Rattle.t32_base.specs.declared.process.Pid.{Pid}
 use Rattle.t32_base.specs.declared.process.ClusterNo.{ClusterNo}
-use Rattle.t32_base.specs.declared.process.Counts.{Counts}
 use Rattle.sys_text.specs.declared.system.System.{System}
 use Rattle.sys_text.specs.Valid.{is_system}
 use Rattle.proc_state.specs.declared.process.Process.{Process}
@@ -15,7 +12,7 @@ use Rattle.sync_point.specs.Batch.{synced}
 use Rattle.sys_calls.specs.Small.{weight_with_children}
 use Rattle.sys_calls.proofs.Bearing.{emits_lightens, silently_lightens}
 use Rattle.bus_msg.specs.declared.entry.Entry.{Entry}
-use Rattle.bus_msg.specs.Places.{same_pid, is_at_home}
+use Rattle.bus_msg.specs.Places.{is_at_home}
 use Rattle.cert_sched.specs.Built.{BuiltMayFollow}
 use Rattle.cert_sched.specs.Legal.{IsLegalBy}
 use Rattle.cert_sched.specs.Parts.{put_rising, rising}
@@ -25,16 +22,11 @@ use Rattle.cert_sched.proofs.PidLaws.{apart_fewer}
 use Rattle.cert_sched.proofs.RisingLaws.{NoTwo, either_not, rising-any, rising-apart}
 use Rattle.cert_sched.proofs.RollLaws.{all_roll, two_apart}
 use Rattle.cluster_core.specs.declared.worked.Worked.TheVariants.{Moved, Queued}
-use Rattle.quanta.specs.declared.limits.Limits.{Limits}
-use Rattle.roll_forward.specs.Advancing.{Going, going, rolled_on}
-use Rattle.write_count.specs.Counting.{no_counts}
-use Rattle.quanta.specs.Quantum.{RunsOn}
 use Rattle.cluster_core.proofs.AgainLightens.{again_lightens, again_no_heavier, again_pids}
 use Rattle.cluster_core.proofs.HeldLoads.{fewer_loads, held_weight, one_lighter, process_bounds, silent_leaves, silent_load, silent_no_heavier, sum_held}
 use Rattle.cluster_core.specs.ForkingAgain.{RollsAgain}
 use Rattle.cluster_core.specs.View.{ClusterView, Held, Runs, Rolls, Waits, asked_held, has_moved, held_load, held_of, limits_of, load, process_load}
 use Rattle.cluster_core.specs.Follows.{FollowsBuilt}
-use Rattle.cluster_core.specs.declared.quantum.Forking.{Forking}
 use Rattle.cluster_core.specs.Calls.{FollowsSome, QueuesBatch, QueuesBirth, QueuesFetch, QueuesOne, WorkIs}
 use Rattle.cluster_core.specs.Quantum.{Moves}
 use Rattle.cluster_core.specs.Residents.{pids_in, with_changed}

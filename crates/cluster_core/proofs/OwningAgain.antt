@@ -1,5 +1,5 @@
 -- Who made steps again, or a fork, and the child that began by it stand under their own pids.
-use Rattle.std.proofs.Common.{◌≡◌, ℕ, refl, sym, ◌∙◌, subst, eqb-true, List, [], ◌∷◌, Bool, true, false, cond, is_none, inl, inr}
+use Rattle.std.proofs.Common.{◌≡◌, ℕ, refl, sym, subst, eqb-true, List, [], ◌∷◌, Bool, true, false, cond, is_none, inl, inr}
 use Rattle.t32_base.specs.declared.process.Pid.{Pid}
 use Rattle.t32_base.specs.declared.process.Counts.{Counts}
 use Rattle.proc_state.specs.declared.process.Process.{Process}

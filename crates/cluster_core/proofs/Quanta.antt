@@ -1,5 +1,5 @@
 -- Who moved, or sent something, or synchronised, or came to its fork could act.
-use Rattle.std.proofs.Common.{◌≡◌, ℕ, zero, suc, ◌≤◌, refl, ◌∙◌, ap, subst, arith, Option, Some, None, true}
+use Rattle.std.proofs.Common.{◌≡◌, ℕ, zero, suc, ◌≤◌, refl, ◌∙◌, ap, arith, Option, Some, None, true}
 use Rattle.std.specs.Prelude.{List, option_and_then}
 use Rattle.std.proofs.lemmas.Bool.{or_left, or_right}
 use Rattle.t32_base.specs.declared.process.ClusterNo.{ClusterNo}
@@ -11,11 +11,10 @@ use Rattle.sys_calls.specs.Next.{next_step, has_step, silently, silent_of}
 use Rattle.bus_msg.specs.declared.entry.Post.{Post}
 use Rattle.quanta.specs.declared.limits.Limits.{Limits}
 use Rattle.quanta.specs.Limited.{is_due}
-use Rattle.quanta.specs.Quantum.{RunsOn}
 use Rattle.cluster_core.specs.declared.quantum.Forking.{Forking}
 use Rattle.cluster_core.specs.declared.quantum.Sending.{Sending}
 use Rattle.cluster_core.specs.View.{Held, Runs, Rolls, Waits, can_act}
-use Rattle.cluster_core.specs.Quantum.{ComesToFork, Moves, RollsTo, RunsTo, Sends, Syncs}
+use Rattle.cluster_core.specs.Quantum.{ComesToFork, Moves, Sends, Syncs}
 
 -- ---- silent steps
 

@@ -1,5 +1,5 @@
 -- The steps of a quantum that a process makes again, part by part, over what is here.
-use Rattle.std.proofs.Common.{◌≡◌, ◌⊎◌, ℕ, zero, suc, ◌+◌, ◌≤◌, inl, inr, is_none, cond, not, ◌&&◌, ◌||◌, ltb, List, [], ◌∷◌, map, Bool, true, false, true≢false, eqb, eqb-true, eq-eqb, Option, Some, None, refl, sym, ◌∙◌, ap, subst, arith}
+use Rattle.std.proofs.Common.{◌≡◌, ℕ, zero, suc, ◌≤◌, inl, inr, is_none, cond, ltb, List, [], ◌∷◌, Bool, true, false, true≢false, eqb, eqb-true, eq-eqb, Option, Some, None, refl, sym, ◌∙◌, ap, subst, arith}
 use Rattle.std.specs.Prelude.{find, option_and_then, option_map}
 use Rattle.std.specs.List.{list_all}
 use Rattle.std.specs.Option.{option_map_or}
@@ -20,7 +20,7 @@ use Rattle.cluster_core.specs.ForkingAgain.{begun_with, child_again, going_held,
 use Rattle.cluster_core.specs.Quantum.{RollsTo}
 use Rattle.cluster_core.specs.Residents.{are_rising, pids_in}
 use Rattle.cluster_core.specs.View.{Held, Runs, Rolls, Waits, held_of}
-use Rattle.cluster_core.proofs.Here.{changed_there, found_changed, is_among, pid_same, pids_changed, same_itself}
+use Rattle.cluster_core.proofs.Here.{changed_there, pid_same, pids_changed}
 
 -- ---- who is where
 

@@ -1,5 +1,5 @@
 -- The steps that a process makes again in a quantum, as its calls give them, and the rest of the quantum after them.
-use Rattle.std.proofs.Common.{◌≡◌, ℕ, zero, suc, ◌+◌, ◌-◌, ◌≤◌, ◌∙◌, refl, sym, ap, subst, arith, List, Bool, true, false, Some, Ok, Err, inl, inr, true≢false}
+use Rattle.std.proofs.Common.{◌≡◌, ℕ, zero, suc, ◌+◌, ◌≤◌, ◌∙◌, refl, sym, ap, subst, arith, List, Bool, true, false, Ok, Err, inl, inr, true≢false}
 use Rattle.std.specs.Prelude.{Result}
 use Rattle.t32_base.specs.declared.process.ClusterNo.{ClusterNo}
 use Rattle.t32_base.specs.declared.process.Pid.{Pid}
@@ -9,7 +9,7 @@ use Rattle.cluster_core.specs.declared.quantum.Quantum.{Quantum}
 use Rattle.cluster_core.specs.declared.quantum.Quantum.TheVariants.{Moved, Sent, Synced, Stuck, Forks}
 use Rattle.cluster_core.specs.ChildrenFirst.{comes_after_at, runs_at}
 use Rattle.cluster_core.specs.ForkingAgain.{rolls_at, CanForkAgainAt, CanForkAgainNow, ForksAgain, Part, RollsAgain, RollsPartAt, RollsQuantum, RollsStepsAt}
-use Rattle.cluster_core.specs.Residents.{RunsAt, RunsOnAt, RunsOne, are_rising, is_stuck_at, pids_in}
+use Rattle.cluster_core.specs.Residents.{RunsAt, RunsOnAt, are_rising, is_stuck_at, pids_in}
 use Rattle.cluster_core.specs.View.{Held, Rolls}
 use Rattle.cluster_core.proofs.KeepsForking.{forks_now, part_keeps}
 use Rattle.cluster_core.proofs.RollingParts.{again_runs, changed_same, none_again, rolls_there}

@@ -1,7 +1,6 @@
 -- A process makes steps again in its slot: what is here then, and which pages are still to be asked for.
 use Rattle.std.proofs.Common.{◌≡◌, ℕ, zero, suc, cond, List, Bool, true, false, Option, Some, None, is_none, is_some, refl, sym, ◌∙◌, ap, subst, arith}
 use Rattle.std.specs.Prelude.{Result, Ok, Err, IfOk, OnErr}
-use Rattle.std.specs.List.{AllByRecursion}
 use Rattle.std.specs.Map.{lookup}
 use Rattle.std.specs.Option.{option_map_or}
 use Rattle.std.proofs.lemmas.Bool.{false≢true}
