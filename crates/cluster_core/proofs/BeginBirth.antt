@@ -27,6 +27,7 @@ use Rattle.cluster_core.specs.Follows.{FollowsBuilt, IsOpen}
 use Rattle.cluster_core.specs.Quantum.{ComesToFork, RollsTo}
 use Rattle.cluster_core.proofs.Here.{pids_changed, same_itself}
 use Rattle.cluster_core.proofs.Batching.{unqueued}
+use Rattle.cluster_core.proofs.ForksAgain.{forks_changed, run_forks}
 use Rattle.cluster_core.proofs.Beside.{FollowsBeside, all_of}
 use Rattle.cluster_core.proofs.RunMarks.{marked_ran}
 use Rattle.cluster_core.proofs.Working.{ahead, held_beside, held_between, home_of_it, limits_beside, marked_between, marks_beside, more_counted, pages_beside, within_between}
@@ -110,6 +111,7 @@ module _ (c : ClusterView) (p : Pid) (was : Held) (forking : Forking) (new : Hel
     marks = λ q h at all. marks_beside c log p (Runs k.now) [] f marked (λ q h other at m. subst (λ ps. MarkedIfThere CarriesMarks c.system (with_queue c.system log ps) q (unended_process h)) empty m) q h at;
     records = f.records;
     family = f.family;
+    forks = forks_changed c.family p was (Runs k.now) c.here there (run_forks k.rolled was k.between k.now k.rolls) f.forks;
     accounts = record {
       keeps = (f.accounts).keeps;
       there = (f.accounts).there;

@@ -37,6 +37,7 @@ use Rattle.cluster_core.specs.Calls.{GoesOn}
 use Rattle.cluster_core.proofs.Here.{found_changed, is_among, pids_changed, same_itself}
 use Rattle.cluster_core.proofs.Homes.{HomeHere, differ_built, home_here, home_lives}
 use Rattle.cluster_core.proofs.Batching.{all_but, unqueued, with_batch}
+use Rattle.cluster_core.proofs.ForksAgain.{forks_changed}
 use Rattle.cluster_core.proofs.Beside.{FollowsBeside}
 use Rattle.cluster_core.proofs.Within.{carried, own_within, runs_marked, synced_within}
 use Rattle.cluster_core.proofs.Working.{held_beside, home_by, limits_beside, more_counted, pages_beside, turned}
@@ -155,6 +156,7 @@ module _ (c : ClusterView) (p : Pid) (process : Process) (valid : is_system c.sy
     marks = others_marked;
     records = f.records;
     family = f.family;
+    forks = forks_changed c.family p (Runs process) (Runs (synced process)) c.here there (record { waits = refl; bears = λ child. refl }) f.forks;
     accounts = record {
       keeps = (f.accounts).keeps;
       there = (f.accounts).there;

@@ -10,6 +10,7 @@ pub mod Asking
 pub mod Coming
 mod BeginWaits
 pub mod Homes
+mod HeldAtHome
 mod NotMoved
 mod SyncedHomes
 mod HasPages
@@ -36,12 +37,15 @@ mod Paging
 mod Spared
 mod Synchronising
 mod BirthHomes
-mod StatedNow
 mod FamilyNext
 mod Births
 mod BirthQueued
 mod OwnBirth
 mod BornHere
+mod ForksAgain
+mod ForksBorn
+mod Paged
+mod ForksPaged
 mod BeginBirth
 mod BirthTurn
 mod Serials

@@ -2,7 +2,7 @@
 use Rattle.std.proofs.Common.{◌≡◌, ℕ, zero, suc, ◌+◌, ◌≤◌, ◌<◌, false, Option, Some, None, option_map, option_and_then, refl, sym, subst, arith}
 use Rattle.std.proofs.lemmas.Bool.{false≢true}
 use Rattle.std.specs.Prelude.{IsTrue, min, Result, Ok, Err, OnOk, OnErr}
-use Rattle.std.specs.Option.{IfSome}
+use Rattle.std.specs.Option.{IsSomeAnd}
 use Rattle.t32_base.specs.Small.{SmallState}
 use Rattle.t32_base.specs.declared.process.Counts.{Counts}
 use Rattle.t32_base.specs.declared.letter.Letter.{Letter}
@@ -47,7 +47,7 @@ delivered_stands old new letter (Err fault) stands is left same = subst (λ (r :
 pub goes_on_runs_out : (w : WaitingState) (r : RollingState) → CanGoOn w → rolling_of w ≡ Some r → RunsOut (state_of r.process) r.counts r.births r.ahead
 goes_on_runs_out w r can is = by_state (w.kept).state can is
   where
-    by_state : (o : Option SmallState) → IfSome o (λ small. CanRoll (start_of w small) (w.kept).counts (w.kept).births) → option_map (λ (small : SmallState). begun (start_of w small) w.kept) o ≡ Some r
+    by_state : (o : Option SmallState) → IsSomeAnd o (λ small. CanRoll (start_of w small) (w.kept).counts (w.kept).births) → option_map (λ (small : SmallState). begun (start_of w small) w.kept) o ≡ Some r
         → RunsOut (state_of r.process) r.counts r.births r.ahead
     by_state None can is = cc
     by_state (Some small) can is =

@@ -189,8 +189,9 @@ module _ (c : ClusterView) (empty : c.queue ≡ []) (own : AllOwn c.cursor c.her
       subst (Works c Queued new.here c.server) (sym turn.2) (took_synced (pid_of new.last) turn.0 new.here nothing (turn_here old new (QuantumSynced turn.0) limits here turn.1))
   runs old new Waits queue limits here nothing turn =
       let same : new.here ≡ c.here = (turn.0).1 ∙ here in
+      let stuck : are_stuck (limits_of c.system) c.here ≡ true = (λ i. are_stuck (sym limits i) (sym here i)) ∙ (turn.0).0 in
       subst (Works c Waits new.here c.server) (sym turn.2)
-      (subst (λ hs. Works c Waits hs c.server []) (sym same) (still Waits (waited_work c valid empty own nothing (ap any_waits (sym here) ∙ turn.1))))
+      (subst (λ hs. Works c Waits hs c.server []) (sym same) (still Waits (waited_work c valid empty own nothing stuck (ap any_waits (sym here) ∙ turn.1))))
   runs old new Rests queue limits here nothing turn =
       let same : new.here ≡ c.here = (turn.0).1 ∙ here in
       let stuck : are_stuck (limits_of c.system) c.here ≡ true = (λ i. are_stuck (sym limits i) (sym here i)) ∙ (turn.0).0 in

@@ -52,7 +52,8 @@ use Rattle.cluster_core.proofs.Catching.{rolled_held}
 use Rattle.limit_laws.proofs.SendingLimits.{sent_keeps}
 use Rattle.cluster_core.proofs.Within.{carried, rolled_within, runs_marked}
 use Rattle.cluster_core.proofs.KeptLimits.{told_keeps}
-use Rattle.cluster_core.proofs.Waiting.{queued_alike}
+use Rattle.child_waits.proofs.EitherWait.{so_alike}
+use Rattle.cluster_core.proofs.ForksAgain.{forks_changed, run_forks, turn_forks}
 use Rattle.cluster_core.proofs.Marking.{marked_queued, queue_tells}
 use Rattle.cluster_core.proofs.RunMarks.{marked_ran, marked_rolled, marked_runs, marked_sends}
 use Rattle.record_laws.proofs.Standing.{built_stands}
@@ -173,6 +174,7 @@ goes_on_rested c log now f = record {
   marks = f.marks;
   records = f.records;
   family = f.family;
+  forks = f.forks;
   accounts = record { keeps = (f.accounts).keeps; there = (f.accounts).there; calls = (f.accounts).calls };
   disk = f.disk;
 }
@@ -196,6 +198,7 @@ follows_tried c log f = record {
   marks = f.marks;
   records = f.records;
   family = f.family;
+  forks = f.forks;
   accounts = record { keeps = (f.accounts).keeps; there = (f.accounts).there; calls = (f.accounts).calls };
   disk = f.disk;
 }
@@ -374,6 +377,7 @@ moved_goes_on c p was new valid empty there moves log go f = record {
   marks = marks_beside c log p new c.queue f (subst (λ ps. MarkedIfThere CarriesMarks c.system (with_queue c.system log ps) p (unended_process new)) (sym empty) (moved_marked c p was empty there valid log go f new moves)) (λ q h other held m. m);
   records = f.records;
   family = f.family;
+  forks = forks_changed c.family p was new c.here there (turn_forks moves.rolled moves.silent was moves.between new moves.rolls moves.runs) f.forks;
   accounts = record { keeps = (f.accounts).keeps; there = (f.accounts).there; calls = (f.accounts).calls };
   disk = f.disk;
 }
@@ -530,7 +534,7 @@ module _ (c : ClusterView) (p : Pid) (was : Held) (sending : Sending) (new : Hel
     others q (Rolls r counts births) other as_before = (ap (λ (x : Post). move_of q (x ∷ [])) post_is ∙ moves_no_other p q at c.number e tells other, as_before.1)
     others q (Waits waiting) other as_before = (
       ap (λ (x : Post). move_of q (x ∷ [])) post_is ∙ moves_no_other p q at c.number e tells other,
-      queued_alike c.system log q (is_fetch_queued q c.queue) (is_fetch_queued q (post ∷ [])) waiting (λ i. ap (λ ps. is_fetch_queued q ps i) empty ∙ sym (ap (λ (x : Post). is_fetch_queued q (x ∷ []) i) post_is ∙ fetches_none p q at c.number e i)) as_before.1,
+      so_alike c.system log q (is_fetch_queued q c.queue) (is_fetch_queued q (post ∷ [])) waiting (λ i. ap (λ ps. is_fetch_queued q ps i) empty ∙ sym (ap (λ (x : Post). is_fetch_queued q (x ∷ []) i) post_is ∙ fetches_none p q at c.number e i)) as_before.1,
     )
 
     may_post : UnlostMayFollow c.system log (entry_of c.system log post)
@@ -572,6 +576,7 @@ module _ (c : ClusterView) (p : Pid) (was : Held) (sending : Sending) (new : Hel
     marks = marks_beside c log p (Runs s.now) (post ∷ []) f (sent_marked valid has log go f) (others_marked valid has log go f);
     records = f.records;
     family = f.family;
+    forks = forks_changed c.family p was (Runs s.now) c.here there (run_forks s.rolled was s.between s.now s.rolls) f.forks;
     accounts = accounts_queued c.system log c (posted_view c (with_changed p (Runs s.now) c.here) post) post refl refl empty refl no_page f.accounts;
     disk = f.disk;
   }

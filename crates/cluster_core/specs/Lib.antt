@@ -11,6 +11,7 @@ pub mod Holds
 pub mod Syncing
 pub mod Bearing
 pub mod Families
+pub mod ForksAgain
 pub mod Follows
 pub mod Calls
 pub mod Booting
