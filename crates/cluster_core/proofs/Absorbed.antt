@@ -41,7 +41,8 @@ use Rattle.cluster_core.proofs.ByKind.{IsLoss, OneOf, by_kind, by_page, by_sync,
 use Rattle.cluster_core.proofs.Homes.{HomeHere, differ_built, home_here}
 use Rattle.cluster_core.proofs.Losing.{follows_lost, can_wait, still_here}
 use Rattle.cluster_core.proofs.LostQueue.{home_stays}
-use Rattle.cluster_core.proofs.Paging.{follows_page, follows_own_page, page_at, page_taken, places_same, was_paged}
+use Rattle.cluster_core.proofs.Paged.{page_at, was_paged}
+use Rattle.cluster_core.proofs.Paging.{follows_page, follows_own_page, page_taken, places_same}
 use Rattle.cluster_core.proofs.Synchronising.{follows_sync, home_same, sync_not_alone, sync_taken}
 use Rattle.cluster_core.proofs.Births.{birth_taken, follows_birth, parent_not_here, spares_here}
 use Rattle.cluster_core.specs.Serving.{Serves}

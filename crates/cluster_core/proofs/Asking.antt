@@ -59,13 +59,13 @@ not_moved m (Rolls p counts births) new runs some = false≢true (ap (λ (h : He
 not_moved m (Waits w) new runs some = runs
 
 -- one that lacks a page after a quantum lacked it before
-pub ran_lacks : (limits : Limits) (by : ClusterNo) (childless : Bool) (was now : Held) (r : Result Quantum NoMemory) → RunsQuantum limits by 64 childless was r now → is_some (page_lacked now) ≡ true → is_some (page_lacked was) ≡ true
-ran_lacks limits by childless was now (Ok Moved) ran some = absurd (not_moved ran.silent ran.between now ran.runs some)
-ran_lacks limits by childless was now (Ok (Sent sending)) ran some = absurd (false≢true (ap (λ (h : Held). is_some (page_lacked h)) (sym (ran.0).new_is) ∙ some))
-ran_lacks limits by childless was now (Ok (Synced posts)) ran some = absurd (false≢true (ap (λ (h : Held). is_some (page_lacked h)) (sym ran.new_is) ∙ some))
-ran_lacks limits by childless was now (Ok (Forks forking)) ran some = absurd (false≢true (ap (λ (h : Held). is_some (page_lacked h)) (sym ran.new_is) ∙ some))
-ran_lacks limits by childless was now (Ok Stuck) ran some = ap (λ (h : Held). is_some (page_lacked h)) (sym ran.1) ∙ some
-ran_lacks limits by childless was now (Err fault) ran some = ap (λ (h : Held). is_some (page_lacked h)) (sym ran) ∙ some
+pub ran_lacks : (limits : Limits) (by : ClusterNo) (childless : Bool) (made : ℕ) (was now : Held) (r : Result Quantum NoMemory) → RunsQuantum limits by 64 childless made was r now → is_some (page_lacked now) ≡ true → is_some (page_lacked was) ≡ true
+ran_lacks limits by childless made was now (Ok Moved) ran some = absurd (not_moved ran.silent was now ran.runs some)
+ran_lacks limits by childless made was now (Ok (Sent sending)) ran some = absurd (false≢true (ap (λ (h : Held). is_some (page_lacked h)) (sym (ran.0).new_is) ∙ some))
+ran_lacks limits by childless made was now (Ok (Synced posts)) ran some = absurd (false≢true (ap (λ (h : Held). is_some (page_lacked h)) (sym (ran.1).new_is) ∙ some))
+ran_lacks limits by childless made was now (Ok (Forks forking)) ran some = absurd (false≢true (ap (λ (h : Held). is_some (page_lacked h)) (sym ran.new_is) ∙ some))
+ran_lacks limits by childless made was now (Ok Stuck) ran some = ap (λ (h : Held). is_some (page_lacked h)) (sym ran.2) ∙ some
+ran_lacks limits by childless made was now (Err fault) ran some = ap (λ (h : Held). is_some (page_lacked h)) (sym ran.1) ∙ some
 
 -- ---- a page is asked for
 

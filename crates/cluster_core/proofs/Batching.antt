@@ -36,7 +36,7 @@ use Rattle.cluster_core.proofs.ByKind.{is_of_sync}
 use Rattle.cluster_core.proofs.Here.{is_among, pid_same}
 use Rattle.cluster_core.proofs.Homes.{differ_built, home_here}
 use Rattle.cluster_core.proofs.Marking.{came_to}
-use Rattle.cluster_core.proofs.Waiting.{queued_alike}
+use Rattle.child_waits.proofs.EitherWait.{so_alike}
 
 -- every process but one
 abbrev pub all_but : Pid → Pid → Bool
@@ -51,7 +51,7 @@ pub held_alike : (system : System) (log : List Entry) (before after : List Post)
     → IsHeldAs system log before q h → IsHeldAs system log after q h
 held_alike system log before after q (Runs process) none still fetches held = ap (state_by system log q (process.small).steps) still ∙ sym (ap (state_by system log q (process.small).steps) none) ∙ held
 held_alike system log before after q (Rolls process counts births) none still fetches held = (still, held.1)
-held_alike system log before after q (Waits waiting) none still fetches held = (still, queued_alike system log q (is_fetch_queued q before) (is_fetch_queued q after) waiting fetches held.1)
+held_alike system log before after q (Waits waiting) none still fetches held = (still, so_alike system log q (is_fetch_queued q before) (is_fetch_queued q after) waiting fetches held.1)
 
 -- as many letters have come to a process that is held where nothing is queued as the log has for it
 arrived_low : (system : System) (log : List Entry) (q : Pid) (h : Held) → is_system system ≡ true → IsLegalBy Stands system log → IsUnended system log q → IsHeldAs system log [] q h
@@ -102,6 +102,7 @@ module _ (system : System) (log : List Entry) (c : ClusterView) (y : Synchronise
     marks = marks;
     records = f.records;
     family = f.family;
+    forks = f.forks;
     accounts = record { keeps = (f.accounts).keeps; there = (f.accounts).there; calls = λ kept server. subst (λ n. capped n ≤ disk_calls c) calls ((f.accounts).calls kept server) };
     disk = f.disk;
   }
@@ -155,6 +156,7 @@ module _ (system : System) (log : List Entry) (c : ClusterView) (y : Synchronise
     marks = marks;
     records = f.records;
     family = f.family;
+    forks = f.forks;
     accounts = record { keeps = (f.accounts).keeps; there = (f.accounts).there; calls = λ kept server. subst (λ n. capped n ≤ disk_calls c) (sym calls) ((f.accounts).calls kept server) };
     disk = f.disk;
   }

@@ -4,7 +4,6 @@ use Rattle.std.specs.Prelude.{find, option_and_then, option_map}
 use Rattle.t32_base.specs.declared.process.Pid.{Pid}
 use Rattle.sys_text.specs.declared.system.System.{System}
 use Rattle.sys_text.specs.Valid.{is_system}
-use Rattle.proc_state.specs.declared.process.Process.{Process}
 use Rattle.proc_state.specs.State.{ProcState, state_of}
 use Rattle.sys_calls.specs.Next.{next_step, silent_of, silently}
 use Rattle.sys_calls.proofs.Counting.{silently_counts}
@@ -18,18 +17,19 @@ use Rattle.cert_sched.specs.Built.{BuiltMayFollow}
 use Rattle.cert_sched.specs.Losses.{capped, least_calls, least_steps}
 use Rattle.record_laws.proofs.Standing.{built_stands}
 use Rattle.cluster_core.specs.declared.quantum.Forking.{Forking}
-use Rattle.cluster_core.specs.View.{ClusterView, Held, Runs, Rolls, Waits, disk_calls, held_at, held_of, limits_of, next_count}
+use Rattle.cluster_core.specs.View.{ClusterView, Held, Runs, disk_calls, held_at, held_of, limits_of, next_count}
 use Rattle.cluster_core.specs.Residents.{with_changed}
 use Rattle.cluster_core.specs.Queue.{Nothing, with_queue}
 use Rattle.cluster_core.specs.Holds.{CarriesMarks, IsHeldAs, MarkedIfThere, process_in, unended_process}
 use Rattle.cluster_core.specs.Bearing.{BearsChild, birth_post}
 use Rattle.cluster_core.specs.Follows.{FollowsBuilt, IsOpen}
-use Rattle.cluster_core.specs.Quantum.{ComesToFork, RollsTo}
+use Rattle.cluster_core.specs.Quantum.{ComesToFork}
 use Rattle.cluster_core.proofs.Here.{pids_changed, same_itself}
 use Rattle.cluster_core.proofs.Batching.{unqueued}
+use Rattle.cluster_core.proofs.ForksAgain.{forks_changed, run_forks}
 use Rattle.cluster_core.proofs.Beside.{FollowsBeside, all_of}
 use Rattle.cluster_core.proofs.RunMarks.{marked_ran}
-use Rattle.cluster_core.proofs.Working.{ahead, held_beside, held_between, home_of_it, limits_beside, marked_between, marks_beside, more_counted, pages_beside, within_between}
+use Rattle.cluster_core.proofs.Working.{ahead, held_beside, held_there, home_of_it, limits_beside, marked_now, marks_beside, more_counted, pages_beside}
 
 -- ---- silent steps
 
@@ -71,28 +71,25 @@ changed_there p now (e ∷ here) was there = by_test (same_pid e.0 p) refl there
     by_test true is at more = first (same_pid p p) (same_itself p)
     by_test false is at more = ap (λ b. option_map (λ (e : Pid × Held). e.1) (cond b (Some e) (find (λ (e : Pid × Held). same_pid e.0 p) (with_changed p now here)))) is ∙ more at
 
--- what makes steps that are withheld, if any, and then runs does not wait
-rolls_in : (n : ℕ) (was : Held) (q : Process) → RollsTo n was (Runs q) → is_some (process_in was) ≡ true
-rolls_in n (Runs s) q rolls = refl
-rolls_in n (Rolls s counts births) q rolls = refl
-rolls_in n (Waits waiting) q rolls = absurd rolls
-
 -- ---- a process of a cluster that follows a log, where nothing is queued, and which comes to its fork
 
-module _ (c : ClusterView) (p : Pid) (was : Held) (forking : Forking) (new : Held) (k : ComesToFork (limits_of c.system) 64 was forking new) (child : Pid) (valid : is_system c.system ≡ true) (empty : c.queue ≡ []) (there : held_at c p ≡ Some was)
+module _ (c : ClusterView) (p : Pid) (made : ℕ) (was : Held) (forking : Forking) (new : Held) (k : ComesToFork (limits_of c.system) 64 made was forking new) (child : Pid) (valid : is_system c.system ≡ true) (empty : c.queue ≡ []) (there : held_at c p ≡ Some was)
     (log : List Entry) (go : IsOpen BuiltMayFollow c.system log) (f : FollowsBuilt c.system log c) where
   -- the cluster with the birth queued
   abbrev pub bearing : ClusterView
   bearing = record c { here = with_changed p (Runs k.now) c.here; queue = birth_post c.number p (state_of k.now) child ∷ []; steps = next_count c.steps }
 
+  runs_there : held_at c p ≡ Some (Runs k.between)
+  runs_there = there ∙ ap Some k.old_is
+
   -- the process stands in the log before its fork
   reached : silent_upto c.system log p ((k.now).small).steps ≡ Some (state_of k.now)
-  reached = ahead_moved c.system log p (state_of k.between) (state_of k.now) k.silent (held_between c p was empty there valid log go f k.rolled (Runs k.between) k.rolls) (k.runs).silent
+  reached = ahead_moved c.system log p (state_of k.between) (state_of k.now) k.silent (held_there c p (Runs k.between) empty runs_there valid log go f) (k.runs).silent
 
   marked : MarkedIfThere CarriesMarks c.system log p (unended_process (Runs k.now))
   marked =
       marked_ran c.system log p valid (built_stands c.system log go.0) (ap is_some (home_of_it c p was empty there valid log go f).found) k.silent k.between k.now
-      (held_between c p was empty there valid log go f k.rolled (Runs k.between) k.rolls) k.runs (marked_between c p was empty there valid log go f k.rolled (Runs k.between) k.rolls)
+      (held_there c p (Runs k.between) empty runs_there valid log go f) k.runs (marked_now c p (Runs k.between) empty runs_there valid log go f)
 
   -- Beside the birth the cluster follows the log.
   pub birth_beside : FollowsBeside all_of c.system log (unqueued bearing)
@@ -105,11 +102,12 @@ module _ (c : ClusterView) (p : Pid) (was : Held) (forking : Forking) (new : Hel
     queue = record { own = refl; legal = tt };
     queued = record { queued = Nothing; posts = refl; together = tt };
     steps = record { counted = λ kept. more_counted (least_steps log log c.number + cond c.tried 1 0) c.steps ((f.steps).counted kept) };
-    limits = limits_beside c p (Runs k.now) f.limits (k.within (within_between c p was empty there valid log go f k.rolled (Runs k.between) k.rolls));
-    pages = pages_beside c log p (Runs k.now) f.pages (λ some. f.pages p was there (rolls_in k.rolled was k.between k.rolls));
+    limits = limits_beside c p (Runs k.now) f.limits (k.within (f.limits p (Runs k.between) runs_there));
+    pages = pages_beside c log p (Runs k.now) f.pages (λ some. f.pages p was there (ap (λ (h : Held). is_some (process_in h)) k.old_is));
     marks = λ q h at all. marks_beside c log p (Runs k.now) [] f marked (λ q h other at m. subst (λ ps. MarkedIfThere CarriesMarks c.system (with_queue c.system log ps) q (unended_process h)) empty m) q h at;
     records = f.records;
     family = f.family;
+    forks = forks_changed c.family p (Runs k.between) (Runs k.now) c.here runs_there (run_forks k.between k.now) f.forks;
     accounts = record {
       keeps = (f.accounts).keeps;
       there = (f.accounts).there;

@@ -1,6 +1,6 @@
 -- A process that is due synchronises: with its batch queued a cluster goes on to follow each log that it followed.
-use Rattle.std.proofs.Common.{◌≡◌, ◌+◌, ◌≤◌, refl, sym, ◌∙◌, ap, subst, List, [], ◌∷◌, Bool, true, false, cond, not, ◌||◌, Some, is_some, true≢false}
-use Rattle.std.specs.Prelude.{find, option_map, replicate}
+use Rattle.std.proofs.Common.{◌≡◌, ◌+◌, ◌≤◌, refl, sym, ◌∙◌, ap, subst, List, [], true, false, cond, not, ◌||◌, Some, is_some}
+use Rattle.std.specs.Prelude.{replicate}
 use Rattle.std.proofs.lemmas.Bool.{not-true}
 use Rattle.t32_base.specs.declared.process.Pid.{Pid}
 use Rattle.sys_text.specs.declared.system.System.{System}
@@ -26,36 +26,20 @@ use Rattle.sync_laws.specs.Running.{RunsMarked}
 use Rattle.sync_laws.specs.Sending.{MaySend}
 use Rattle.batch_laws.specs.Underway.{BatchMay, posts_left}
 use Rattle.batch_laws.proofs.BatchBegins.{batch_begins, batch_posts}
-use Rattle.cluster_core.specs.View.{ClusterView, Held, Runs, disk_calls, held_at, held_of, limits_of, next_count}
+use Rattle.cluster_core.specs.View.{ClusterView, Held, Runs, disk_calls, held_at, limits_of, next_count}
 use Rattle.cluster_core.specs.Residents.{pids_in, with_changed}
 use Rattle.cluster_core.specs.Queue.{Nothing, with_queue}
 use Rattle.cluster_core.specs.Holds.{CarriesMarks, IsHeldAs, MarkedIfThere, unended_process}
 use Rattle.cluster_core.specs.Syncing.{Synchronises}
 use Rattle.cluster_core.specs.Follows.{FollowsBuilt, IsOpen}
 use Rattle.cluster_core.specs.Calls.{GoesOn}
-use Rattle.cluster_core.proofs.Here.{found_changed, is_among, pids_changed, same_itself}
+use Rattle.cluster_core.proofs.Here.{changed_there, found_changed, is_among, pids_changed}
 use Rattle.cluster_core.proofs.Homes.{HomeHere, differ_built, home_here, home_lives}
 use Rattle.cluster_core.proofs.Batching.{all_but, unqueued, with_batch}
+use Rattle.cluster_core.proofs.ForksAgain.{forks_changed}
 use Rattle.cluster_core.proofs.Beside.{FollowsBeside}
 use Rattle.cluster_core.proofs.Within.{carried, own_within, runs_marked, synced_within}
 use Rattle.cluster_core.proofs.Working.{held_beside, home_by, limits_beside, more_counted, pages_beside, turned}
-
--- ---- a process that runs
-
--- a process that has changed is found as it is now
-changed_there : (p : Pid) (now : Held) (here : List (Pid × Held)) (was : Held) → held_of here p ≡ Some was → held_of (with_changed p now here) p ≡ Some now
-changed_there p now [] was there = cc
-changed_there p now (e ∷ here) was there = by_test (same_pid e.0 p) refl there (changed_there p now here was)
-  where
-    first : (b : Bool) → b ≡ true → option_map (λ (e : Pid × Held). e.1) (cond b (Some (p, now)) (find (λ (e : Pid × Held). same_pid e.0 p) (with_changed p now here))) ≡ Some now
-    first true is = refl
-    first false is = absurd (true≢false (sym is))
-
-    by_test : (b : Bool) → same_pid e.0 p ≡ b → option_map (λ (e : Pid × Held). e.1) (cond b (Some e) (find (λ (e : Pid × Held). same_pid e.0 p) here)) ≡ Some was
-        → (held_of here p ≡ Some was → held_of (with_changed p now here) p ≡ Some now)
-        → option_map (λ (e : Pid × Held). e.1) (find (λ (e : Pid × Held). same_pid e.0 p) (cond b (p, now) e ∷ with_changed p now here)) ≡ Some now
-    by_test true is at more = first (same_pid p p) (same_itself p)
-    by_test false is at more = ap (λ b. option_map (λ (e : Pid × Held). e.1) (cond b (Some e) (find (λ (e : Pid × Held). same_pid e.0 p) (with_changed p now here)))) is ∙ more at
 
 -- ---- who may synchronise
 
@@ -150,6 +134,7 @@ module _ (c : ClusterView) (p : Pid) (process : Process) (valid : is_system c.sy
     marks = others_marked;
     records = f.records;
     family = f.family;
+    forks = forks_changed c.family p (Runs process) (Runs (synced process)) c.here there (record { waits = refl; bears = λ child. refl }) f.forks;
     accounts = record {
       keeps = (f.accounts).keeps;
       there = (f.accounts).there;

@@ -1,5 +1,5 @@
 -- The processes of records wait for their pages one after another.
-use Rattle.std.proofs.Common.{◌≡◌, ◌≤◌, sym, ◌∙◌, ap, List, [], ◌∷◌, Bool, true, false, cond, ltb, ◌||◌, Some}
+use Rattle.std.proofs.Common.{◌≡◌, ◌≤◌, sym, ◌∙◌, ap, List, [], ◌∷◌, Bool, true, false, cond, ltb, ◌||◌, Some, is_some}
 use Rattle.std.specs.Prelude.{nat_lt}
 use Rattle.std.specs.List.{list_all, list_any}
 use Rattle.std.proofs.lemmas.Bool.{and_parts}
@@ -27,7 +27,7 @@ none_beside q x (e ∷ here) p other none =
     by_order false first more = λ i. first i || more i
 
 -- the first of the records can wait
-pub first_waits : (r : BackRec) (rest : List BackRec) (here : List (Pid × Held)) → CanWait (r ∷ rest) here → (1 ≤ page_count r) × (page_count r ≤ 256) × (list_any (λ (e : Pid × Held). same_pid e.0 r.pid) here ≡ false)
+pub first_waits : (r : BackRec) (rest : List BackRec) (here : List (Pid × Held)) → CanWait (r ∷ rest) here → (is_some r.state ≡ true → 1 ≤ page_count r) × (page_count r ≤ 256) × (list_any (λ (e : Pid × Held). same_pid e.0 r.pid) here ≡ false)
 first_waits r rest here can = can r.pid r (ap (λ b. cond b (Some r) (record_in rest r.pid)) (same_itself r.pid))
 
 -- the others rise

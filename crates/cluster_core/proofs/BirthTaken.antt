@@ -30,6 +30,10 @@ use Rattle.record_laws.specs.Kept.{changes_in_place}
 use Rattle.record_laws.proofs.KeptLaws.{records_kept}
 use Rattle.record_laws.proofs.Standing.{built_stands}
 use Rattle.cluster_core.specs.Families.{family_after}
+use Rattle.birth_notice.specs.Family.{stands_in}
+use Rattle.family_laws.proofs.NewBirth.{stands_in_none}
+use Rattle.cluster_core.specs.ForksAgain.{ForksLeft}
+use Rattle.cluster_core.proofs.ForksBorn.{forks_born}
 use Rattle.cluster_core.proofs.FamilyNext.{family_next}
 use Rattle.cluster_core.specs.View.{ClusterView, Held, Runs, IsHeldWithin, after_sent, held_at, held_of, limits_of, next_count, with_server}
 use Rattle.cluster_core.specs.Residents.{pids_in}
@@ -149,6 +153,13 @@ module _ (system : System) (valid : is_system system ≡ true) (log : List Entry
       let pages = count_by-snoc (λ (e : Entry). is_page_entry (what e)) log e in
       omega (arith, same, pages)
 
+  -- the child runs, as its parent does
+  forks_after : ForksLeft (family_after (what e) v.family) (with_born p child v.here)
+  forks_after =
+      let new = subst (λ births. list_any (stands_in child) births ≡ false) (sym g.family)
+      (stands_in_none system log e p (((b.process).small).steps + 1) child (next_end (state_of b.process)) valid (built_stands system log now.0) (IsLegal-last BuiltMayFollow system log e next.0).stands is) in
+      subst (λ w. ForksLeft (family_after w v.family) (with_born p child v.here)) (sym is) (forks_born v.family v.here p child b.process b.there absent new g.forks)
+
   pub follows_born : (server : Option PagerState) → Serves places e v.server server → FollowsBuilt system later (with_server server born_view)
   follows_born server serves = record {
     log = record {
@@ -168,6 +179,7 @@ module _ (system : System) (valid : is_system system ≡ true) (log : List Entry
     marks = each (λ q h. MarkedIfThere CarriesMarks system later q (unended_process h)) (parent_marked system valid log e v f b whole now next) (child_marked system valid log e v f b whole now next)
         (other_marked system valid log e v f b whole now next);
     family = family_next system log e v.family valid now next g.family;
+    forks = forks_after;
     records = records_kept system log e v.number v.records valid (built_stands system later next.0) (ap changes_in_place is) g.records;
     accounts = accounts_on system log e v (with_server server born_view) serves refl calls g.accounts;
     disk = ((g.disk).0, ahead_after places e v.server server serves (g.disk).1);

@@ -1,5 +1,5 @@
 -- A turn that ends before a fork: with the birth of the child queued a cluster goes on to follow each log that it followed.
-use Rattle.std.proofs.Common.{◌≡◌, ◌∙◌, ap, sym, [], ◌∷◌, true, Some, eqb-true}
+use Rattle.std.proofs.Common.{◌≡◌, ℕ, ◌∙◌, ap, sym, [], ◌∷◌, true, Some, eqb-true}
 use Rattle.std.specs.Prelude.{option_map}
 use Rattle.t32_base.specs.declared.process.Pid.{Pid}
 use Rattle.t32_base.specs.declared.process.ClusterNo.{ClusterNo}
@@ -27,11 +27,11 @@ next_here places p k here =
     let home : (here.placed).home ≡ k = λ i. record { 0 = eqb-true ((here.placed).home).0 k.0 here.home i } in
     ap (option_map (next_child_at places)) here.found ∙ ap (λ (h : ClusterNo). Some (pid_of h.0 (next_serial_in places h))) home
 
-pub birth_goes_on : (c : ClusterView) (p : Pid) (was : Held) (forking : Forking) (new : Held) (k : ComesToFork (limits_of c.system) 64 was forking new) → is_system c.system ≡ true → c.queue ≡ [] → held_at c p ≡ Some was
+pub birth_goes_on : (c : ClusterView) (p : Pid) (made : ℕ) (was : Held) (forking : Forking) (new : Held) (k : ComesToFork (limits_of c.system) 64 made was forking new) → is_system c.system ≡ true → c.queue ≡ [] → held_at c p ≡ Some was
     → GoesOn c (record c { here = with_changed p (Runs k.now) c.here; queue = birth_post c.number p (state_of k.now) (child_of c.number c.places) ∷ []; steps = next_count c.steps })
-birth_goes_on c p was forking new k valid empty there log go f =
+birth_goes_on c p made was forking new k valid empty there log go f =
     let child = child_of c.number c.places in
     let home = home_here (placement c.system log) c.number (pids_in c.here) p (differ_built c.system log valid go.0) (f.processes).each_once (is_among c.here p was there) in
     let next = next_here (placement c.system log) p c.number home ∙ ap (λ (ps : Places). Some (child_of c.number ps)) (sym (f.log).places) in
-    with_birth c.system log (bearing c p was forking new k child valid empty there log go f) (birth_begins c p was forking new k child valid empty there log go f next) valid go
-    (birth_beside c p was forking new k child valid empty there log go f)
+    with_birth c.system log (bearing c p made was forking new k child valid empty there log go f) (birth_begins c p made was forking new k child valid empty there log go f next) valid go
+    (birth_beside c p made was forking new k child valid empty there log go f)

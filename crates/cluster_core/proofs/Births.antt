@@ -54,6 +54,8 @@ use Rattle.cluster_core.proofs.BirthHomes.{child_elsewhere}
 use Rattle.cluster_core.proofs.Following.{by_home_of, by_one}
 use Rattle.cluster_core.proofs.Here.{is_among, pid_same}
 use Rattle.cluster_core.proofs.Homes.{HomeHere, differ_built, home_here, pids_home}
+use Rattle.cluster_core.specs.ForksAgain.{ForksLeft}
+use Rattle.cluster_core.proofs.ForksAgain.{forks_elsewhere}
 use Rattle.cluster_core.proofs.Spared.{BringsNothing, Spares, emission_stays, follows_passed, passed, silent_stays}
 use Rattle.cluster_core.proofs.Telling.{done_is}
 
@@ -174,4 +176,5 @@ module _ (system : System) (valid : is_system system ≡ true) (log : List Entry
   pub follows_birth : (which : Pid → Bool) (c : ClusterView) (server : Option PagerState) → KeepsRecords system later c.number (records_after (what e) c.records) → AllOwn c.cursor c.here → Serves places e c.server server → FollowsBeside which system log c → is_by_cluster c.number e ≡ false
       → FollowsBeside which system later (with_server server (absorbed c e))
   follows_birth which c server records own serves f foreign =
-      follows_passed system valid log e now next brings_nothing which c server (birth_taken c e parent at child end is (parent_not_here c.number foreign c.here (f.processes).each_once)) (spares_here c.number foreign) (pids_same c.number foreign) records own serves f foreign
+      follows_passed system valid log e now next brings_nothing which c server (birth_taken c e parent at child end is (parent_not_here c.number foreign c.here (f.processes).each_once)) (spares_here c.number foreign) (pids_same c.number foreign) records
+      (subst (λ w. ForksLeft (family_after w c.family) c.here) (sym is) (forks_elsewhere c.family c.here parent child (parent_not_here c.number foreign c.here (f.processes).each_once) f.forks)) own serves f foreign

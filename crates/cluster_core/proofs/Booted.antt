@@ -244,6 +244,7 @@ boot_follows system number here recs server failed valid is kept there begins so
   marks = marks_at_boot system number here is valid;
   records = kept;
   family = none_yet system;
+  forks = λ parent child q h at_parent at_child born. absurd (true≢false (sym born));
   accounts = accounts_begin system (boot_view system number here recs server failed) refl there begins;
   disk = sound;
 }

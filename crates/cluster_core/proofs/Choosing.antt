@@ -1,5 +1,5 @@
 -- Which process is chosen: among the pids of those that may have a step, the first that has one is the first of all that have one.
-use Rattle.std.proofs.Common.{◌≡◌, ℕ, refl, sym, ◌∙◌, ap, subst, List, [], ◌∷◌, arith, Bool, true, false, cond, Ok, not, ◌&&◌, ◌||◌, ltb, eqb-true, eq-eqb, Option, Some, None, true≢false, inl, inr}
+use Rattle.std.proofs.Common.{◌≡◌, ℕ, refl, sym, ◌∙◌, ap, subst, List, [], ◌∷◌, arith, Bool, true, false, cond, Ok, not, ◌&&◌, ◌||◌, ltb, eqb-true, eq-eqb, Option, Some, None, is_none, true≢false, inl, inr}
 use Rattle.std.specs.Prelude.{filter, find, option_map}
 use Rattle.std.specs.List.{list_all, list_any, AllByRecursion}
 use Rattle.std.specs.Option.{option_or}
@@ -24,7 +24,8 @@ use Rattle.cluster_core.proofs.Free.{any_filtered, filter_rises, filtered_passes
 use Rattle.cluster_core.proofs.Here.{pid_same}
 use Rattle.cluster_core.proofs.Kept.{next_is_ready}
 use Rattle.cluster_core.proofs.Slots.{at_key_is}
-use Rattle.cluster_core.proofs.Quanta.{fork_can, moves_can, sends_can, syncs_can}
+use Rattle.cluster_core.proofs.Acting.{fork_acts, moved_acts, sent_acts, synced_acts}
+use Rattle.birth_notice.specs.Family.{first_unsynced}
 
 -- ---- the first that passes, among numbers that rise
 
@@ -259,9 +260,9 @@ module _ (by : ClusterNo) (family : List (Pid × Pid)) (n : ℕ) (was old given 
   }
 
   pub chosen_turn : (quantum : Quantum) → GivenTurnIs old.limits by family (pid_of n) old.here (Ok quantum) given.here → (quantum ≡ Stuck → ⊥) → TurnIs by family was (Ok quantum) new
-  chosen_turn Moved takes ran = let r = takes.ran in took Moved r.was r.there (moves_can old.limits 64 r.was r.now r.ran) takes
-  chosen_turn (Sent sending) takes ran = let r = takes.ran in took (Sent sending) r.was r.there (sends_can old.limits 64 r.was sending r.now (r.ran).0) takes
-  chosen_turn (Synced posts) (inl takes) ran = let r = takes.ran in took (Synced posts) r.was r.there (syncs_can old.limits by r.was posts r.now r.ran) (inl takes)
+  chosen_turn Moved takes ran = let a = moved_acts old.limits by (is_none (first_unsynced family (pid_of n))) (pid_of n) old.here given.here takes.ran in took Moved a.held a.there a.acts takes
+  chosen_turn (Sent sending) takes ran = let a = sent_acts old.limits by (is_none (first_unsynced family (pid_of n))) (pid_of n) old.here given.here sending takes.ran in took (Sent sending) a.held a.there a.acts takes
+  chosen_turn (Synced posts) (inl takes) ran = let a = synced_acts old.limits by (is_none (first_unsynced family (pid_of n))) (pid_of n) old.here given.here posts takes.ran in took (Synced posts) a.held a.there a.acts (inl takes)
   chosen_turn (Synced posts) (inr syncs) ran = let b = before_is old.limits family old.here (pid_of n) syncs.child syncs.before in took (Synced posts) b.held b.there (comes_acts old.limits b.held b.comes) (inr syncs)
-  chosen_turn (Forks forking) takes ran = let r = takes.ran in took (Forks forking) r.was r.there (fork_can old.limits 64 r.was forking r.now r.ran) takes
+  chosen_turn (Forks forking) takes ran = let a = fork_acts old.limits by (is_none (first_unsynced family (pid_of n))) (pid_of n) old.here given.here forking takes.ran in took (Forks forking) a.held a.there a.acts takes
   chosen_turn Stuck takes ran = absurd (ran refl)

@@ -24,10 +24,11 @@ use Rattle.cluster_core.specs.Queue.{One}
 use Rattle.cluster_core.specs.Calls.{GoesOn, WorkIs}
 use Rattle.cluster_core.specs.Residents.{with_changed}
 use Rattle.cluster_core.specs.Work.{AsksNext, fetch_post, owes_answer}
+use Rattle.cluster_core.proofs.ForksAgain.{asked_forks, forks_changed}
 use Rattle.cluster_core.proofs.Here.{pids_changed, same_itself}
 use Rattle.cluster_core.proofs.Homes.{home_lives}
 use Rattle.cluster_core.proofs.Served.{accounts_queued}
-use Rattle.cluster_core.proofs.Waiting.{queued_alike}
+use Rattle.child_waits.proofs.EitherWait.{lacks_pages, so_alike}
 use Rattle.cluster_core.proofs.Working.{held_beside, home_by, home_of_it, limits_beside, more_counted, pages_beside, turned, marks_beside, marks_queued}
 
 -- ---- the fetch
@@ -77,17 +78,17 @@ module _ (c : ClusterView) (p : Pid) (index : ℕ) (waiting : WaitingState) (emp
       by_held (Runs s) held = held
       by_held (Rolls s counts births) held = held
       by_held (Waits w) held =
-          (refl, queued_alike c.system log q none_queued (is_fetch_queued q (fetch_post c.number p index ∷ [])) w (λ i. sym (fetch_elsewhere c.number p q index i (turned p q other))) held.1)
+          (refl, so_alike c.system log q none_queued (is_fetch_queued q (fetch_post c.number p index ∷ [])) w (λ i. sym (fetch_elsewhere c.number p q index i (turned p q other))) held.1)
 
   module _ (valid : is_system c.system ≡ true) (log : List Entry) (go : IsOpen BuiltMayFollow c.system log) (f : FollowsBuilt c.system log c) where
     -- it waits as the log says
     waits : WaitsAs c.system log p none_queued waiting
-    waits = (subst (λ queue. IsHeldAs c.system log queue p (Waits waiting)) empty ((f.processes).held p (Waits waiting) there)).1
+    waits = lacks_pages c.system log p none_queued waiting index (subst (λ queue. IsHeldAs c.system log queue p (Waits waiting)) empty ((f.processes).held p (Waits waiting) there)).1 next
 
     -- and still does, with the fetch in the queue
     held_asked : IsHeldAs c.system log (fetch_post c.number p index ∷ []) p asked
     held_asked =
-        (refl, queued_alike c.system log p (λ i. eqb i index) (is_fetch_queued p (fetch_post c.number p index ∷ [])) (record waiting { asked = waiting.asked + 1 }) (fetch_queued c.number p index) (next_asked c.system log p waiting waits index next))
+        (refl, so_alike c.system log p (λ i. eqb i index) (is_fetch_queued p (fetch_post c.number p index ∷ [])) (record waiting { asked = waiting.asked + 1 }) (fetch_queued c.number p index) (inl (next_asked c.system log p waiting waits index next)))
 
     fetch_follows : UnlostMayFollow c.system log (entry_of c.system log (fetch_post c.number p index))
     fetch_follows = record {
@@ -121,6 +122,7 @@ module _ (c : ClusterView) (p : Pid) (index : ℕ) (waiting : WaitingState) (emp
           (λ q h other at. marks_queued c log (fetch_post c.number p index) valid empty go f refl (eq-eqb (c.number).0 (c.number).0 refl) fetch_follows q h at (others log q h other ((f.processes).held q h at)));
       records = f.records;
       family = f.family;
+      forks = forks_changed c.family p (Waits waiting) asked c.here there (asked_forks (Waits waiting)) f.forks;
       accounts = accounts_queued c.system log c (record c { here = with_changed p asked c.here; queue = fetch_post c.number p index ∷ []; steps = next_count c.steps }) (fetch_post c.number p index) refl refl empty refl refl f.accounts;
       disk = f.disk;
     }

@@ -239,3 +239,18 @@ found_changed p now (e ∷ here) q h at = by_tests (same_pid e.0 p) (same_pid e.
     by_tests false false is other at more =
         let rest = more (sym (ap (λ b. option_map (λ (e : Pid × Held). e.1) (cond b (Some e) (find (λ (e : Pid × Held). same_pid e.0 q) (with_changed p now here)))) other) ∙ at) in
         record { was = rest.was; there = skip (same_pid e.0 q) refl other ∙ rest.there; is = rest.is }
+
+-- a process that has changed is found as it is now
+pub changed_there : (p : Pid) (now : Held) (here : List (Pid × Held)) (was : Held) → held_of here p ≡ Some was → held_of (with_changed p now here) p ≡ Some now
+changed_there p now [] was there = cc
+changed_there p now (e ∷ here) was there = by_test (same_pid e.0 p) refl there (changed_there p now here was)
+  where
+    first : (b : Bool) → b ≡ true → option_map (λ (e : Pid × Held). e.1) (cond b (Some (p, now)) (find (λ (e : Pid × Held). same_pid e.0 p) (with_changed p now here))) ≡ Some now
+    first true is = refl
+    first false is = absurd (true≢false (sym is))
+
+    by_test : (b : Bool) → same_pid e.0 p ≡ b → option_map (λ (e : Pid × Held). e.1) (cond b (Some e) (find (λ (e : Pid × Held). same_pid e.0 p) here)) ≡ Some was
+        → (held_of here p ≡ Some was → held_of (with_changed p now here) p ≡ Some now)
+        → option_map (λ (e : Pid × Held). e.1) (find (λ (e : Pid × Held). same_pid e.0 p) (cond b (p, now) e ∷ with_changed p now here)) ≡ Some now
+    by_test true is at more = first (same_pid p p) (same_itself p)
+    by_test false is at more = ap (λ b. option_map (λ (e : Pid × Held). e.1) (cond b (Some e) (find (λ (e : Pid × Held). same_pid e.0 p) (with_changed p now here)))) is ∙ more at

@@ -24,7 +24,7 @@ use Rattle.plain_kernel.specs.Maps.{at_key, pid_of}
 use Rattle.plain_kernel.proofs.Entries.{some_same}
 use Rattle.cert_sched.specs.Parts.{first_of}
 use Rattle.cert_sched.proofs.RisingLaws.{NoTwo, either_not}
-use Rattle.cluster_core.specs.Residents.{is_stuck, are_rising, are_settled, pids_in, next_ready, is_settled, is_stuck_at, lacks_none_at, RunsAt, RunsOne, SyncsAt, with_changed, with_more}
+use Rattle.cluster_core.specs.Residents.{is_stuck, are_rising, are_settled, pids_in, next_ready, is_settled, is_stuck_at, lacks_none_at, RunsOnAt, RunsRest, SyncsAt, with_changed, with_more}
 use Rattle.cluster_core.specs.Slots.{in_slot, stands_in, IsSlot, IsKept}
 use Rattle.t32_base.specs.declared.streams.NoMemory.{NoMemory}
 use Rattle.cluster_core.specs.declared.quantum.Quantum.{Quantum}
@@ -377,11 +377,11 @@ written_back slots new key was now (e ∷ es) there updates same =
     by_test false is = updates.others e.1 (λ same. true≢false (sym (eq-eqb e.1 key same) ∙ is))
 
 -- a process had its turn
-module _ (limits : Limits) (by : ClusterNo) (childless : Bool) (slots new : Slab Held) (n key : ℕ) (keys : List (ℕ × ℕ)) (ready asking : List ℕ) (was now : Held) (old : List (Pid × Held)) (kept : IsKept limits slots keys ready asking) (found : lookup (at_key n) keys ≡ Some key)
+module _ (limits : Limits) (by : ClusterNo) (childless : Bool) (made : ℕ) (slots new : Slab Held) (n key : ℕ) (keys : List (ℕ × ℕ)) (ready asking : List ℕ) (was now : Held) (old : List (Pid × Held)) (kept : IsKept limits slots keys ready asking) (found : lookup (at_key n) keys ≡ Some key)
     (there : get slots key ≡ Some was) (updates : Updates slots new key (Some now)) (same : stands_in slots keys ≡ old) where
-  took : (quantum : Quantum) → RunsQuantum limits by 64 childless was (Ok quantum) now → RunsOne limits by childless (pid_of n) old quantum (stands_in new keys)
+  took : (quantum : Quantum) → RunsQuantum limits by 64 childless made was (Ok quantum) now → RunsRest limits by childless made (pid_of n) old quantum (stands_in new keys)
   took quantum ran =
-      subst (λ old. RunsOne limits by childless (pid_of n) old quantum (stands_in new keys)) same
+      subst (λ old. RunsRest limits by childless made (pid_of n) old quantum (stands_in new keys)) same
       (record {
         was = was;
         now = now;
@@ -390,14 +390,17 @@ module _ (limits : Limits) (by : ClusterNo) (childless : Bool) (slots new : Slab
         here = written slots new n key was now (λ e. (pid_of n, now)) keys (one_key n key keys kept.ordered kept.apart found) there updates refl;
       })
 
-  pub ran_at : (r : Result Quantum NoMemory) → RunsQuantum limits by 64 childless was r now → RunsAt limits by childless (pid_of n) old r (stands_in new keys)
+  pub ran_at : (r : Result Quantum NoMemory) → RunsQuantum limits by 64 childless made was r now → RunsOnAt limits by childless made (pid_of n) old r (stands_in new keys)
   ran_at (Ok Moved) ran = took Moved ran
   ran_at (Ok (Sent sending)) ran = took (Sent sending) ran
   ran_at (Ok (Synced posts)) ran = took (Synced posts) ran
   ran_at (Ok (Forks forking)) ran = took (Forks forking) ran
-  ran_at (Ok Stuck) ran =
-      (ap (is_stuck_at limits (pid_of n)) (sym same) ∙ passes_there (λ p. is_stuck limits p) slots n key was keys (one_key n key keys kept.ordered kept.apart found) there (ap not ran.0), written_back slots new key was now keys there updates ran.1 ∙ same)
-  ran_at (Err fault) ran = written_back slots new key was now keys there updates ran ∙ same
+  ran_at (Ok Stuck) ran = (
+    ran.0,
+    ap (is_stuck_at limits (pid_of n)) (sym same) ∙ passes_there (λ p. is_stuck limits p) slots n key was keys (one_key n key keys kept.ordered kept.apart found) there (ap not ran.1),
+    written_back slots new key was now keys there updates ran.2 ∙ same,
+  )
+  ran_at (Err fault) ran = (ran.0, written_back slots new key was now keys there updates ran.1 ∙ same)
 
 -- a process that runs synchronised
 pub syncs_at : (limits : Limits) (by : ClusterNo) (slots new : Slab Held) (n key : ℕ) (keys : List (ℕ × ℕ)) (ready asking : List ℕ) (was now : Held) (old : List (Pid × Held)) → IsKept limits slots keys ready asking → lookup (at_key n) keys ≡ Some key → get slots key ≡ Some was
@@ -464,7 +467,7 @@ adds false c d is h = is ∙ h
 abbrev pub PutsOne : ℕ → List ℕ → List ℕ → Type 0
 PutsOne n old more = (q : ℕ) → list_any (at_key q) more ≡ cond (at_key n q) true (list_any (at_key q) old)
 
-puts_more : (n : ℕ) (old more : List ℕ) → PutsOne n old more → (q : ℕ) → list_any (at_key q) old ≡ true → list_any (at_key q) more ≡ true
+pub puts_more : (n : ℕ) (old more : List ℕ) → PutsOne n old more → (q : ℕ) → list_any (at_key q) old ≡ true → list_any (at_key q) more ≡ true
 puts_more n old more puts q h = adds (at_key n q) (list_any (at_key q) old) (list_any (at_key q) more) (puts q) h
 
 pub ready_put : (limits : Limits) (slots : Slab Held) (keys : List (ℕ × ℕ)) (n : ℕ) (ready more asking : List ℕ) → PutsOne n ready more → IsKept limits slots keys ready asking → IsKept limits slots keys more asking

@@ -1,17 +1,24 @@
 pub mod Telling
 pub mod Standing
 pub mod Quanta
+mod ForkStanding
 pub mod Here
+mod RollingParts
+mod KeepsForking
+mod RollingQuantum
 pub mod Slots
 pub mod Kept
 pub mod Told
 pub mod ChildFirst
 pub mod Free
+mod Acting
 pub mod Choosing
 pub mod Asking
+mod RollingSlots
 pub mod Coming
 mod BeginWaits
 pub mod Homes
+mod HeldAtHome
 mod NotMoved
 mod SyncedHomes
 mod HasPages
@@ -38,12 +45,15 @@ mod Paging
 mod Spared
 mod Synchronising
 mod BirthHomes
-mod StatedNow
 mod FamilyNext
 mod Births
 mod BirthQueued
 mod OwnBirth
 mod BornHere
+mod ForksAgain
+mod ForksBorn
+mod Paged
+mod ForksPaged
 mod BeginBirth
 mod BirthTurn
 mod Serials
@@ -74,9 +84,22 @@ mod Fetching
 mod Lacking
 mod Hindering
 pub mod Resting
+mod RollsAgain
+mod CanFork
+mod KeptForks
+mod ForkedHere
+mod GoingHeld
+mod OneParent
+mod BegunChild
+mod ForkedFamily
+mod ForkedOn
+mod FollowsAgain
+mod OwningAgain
 pub mod Turning
 mod Absorbed
 mod RolledLoad
+mod HeldLoads
+mod AgainLightens
 pub mod Lightening
 pub mod WorkedViews
 mod WorkedRecords

@@ -1,5 +1,5 @@
 -- A cluster that takes in the loss of another goes on to follow the log: the processes that it moves here wait for their pages, beside their records.
-use Rattle.std.proofs.Common.{◌≡◌, ◌⊎◌, ℕ, ◌+◌, refl, sym, ◌∙◌, ap, subst, List, [], ◌∷◌, ◌++◌, map, length-append, Bool, true, false, cond, not, ◌&&◌, ◌||◌, arith, eqb, eqb-true, eq-eqb, Option, Some, None, is_some, inl, inr, true≢false}
+use Rattle.std.proofs.Common.{◌≡◌, ◌⊎◌, ℕ, ◌+◌, ◌≤◌, refl, sym, ◌∙◌, ap, subst, List, [], ◌∷◌, ◌++◌, map, length-append, Bool, true, false, cond, not, ◌&&◌, ◌||◌, arith, eqb, eqb-true, eq-eqb, Option, Some, None, is_some, inl, inr, true≢false}
 use Rattle.std.specs.Prelude.{filter, find, nat_lt, option_map}
 use Rattle.std.specs.List.{list_all, list_any}
 use Rattle.std.specs.Option.{option_map_or}
@@ -25,7 +25,7 @@ use Rattle.cert_sched.specs.Built.{BuiltMayFollow, UnlostMayFollow}
 use Rattle.cert_sched.specs.Deeds.{deeds_in, is_birth_of, is_cut, letter_for, start_of}
 use Rattle.cert_sched.specs.Losses.{is_by_cluster, is_from, is_crash_of}
 use Rattle.cert_sched.specs.Parts.{rising}
-use Rattle.cert_sched.specs.Record.{backup_record, record_from}
+use Rattle.cert_sched.specs.Record.{backup_record, has_state, record_from}
 use Rattle.cert_sched.specs.Rests.{home_pids}
 use Rattle.cert_sched.specs.Rules.{home_at, has_its_pages}
 use Rattle.cert_sched.specs.Schedule.{items_of, placement}
@@ -39,20 +39,23 @@ use Rattle.backup_records.specs.Records.{are_rising, record_in, records_after, r
 use Rattle.record_laws.specs.Kept.{KeepsRecords, has_backup_in}
 use Rattle.record_laws.proofs.LossLaws.{loss_kept}
 use Rattle.record_laws.proofs.Standing.{built_stands}
+use Rattle.t32_base.specs.Small.{SmallState}
+use Rattle.page_waits.specs.Waiting.{page_count}
 use Rattle.recovery.specs.Begun.{number_of}
 use Rattle.recovery_laws.specs.Behind.{RollsBehind}
+use Rattle.recovery_laws.proofs.FromStart.{record_stated}
 use Rattle.recovery_laws.proofs.KeepingBehind.{behind_standing}
+use Rattle.child_waits.proofs.Begins.{state_none}
 use Rattle.recovery_laws.proofs.ByRule.{built_stands as standing}
 use Rattle.family_laws.specs.Unsynced.{unsynced_births}
 use Rattle.cluster_core.specs.Families.{family_after}
 use Rattle.cluster_core.proofs.FamilyNext.{family_next}
-use Rattle.cluster_core.specs.View.{ClusterView, Held, Runs, Rolls, Waits, held_of, next_count, with_server, IsHeldWithin, limits_of}
+use Rattle.cluster_core.specs.View.{ClusterView, Held, Runs, Rolls, Waits, held_of, is_waiting, next_count, with_server, IsHeldWithin, limits_of}
 use Rattle.cluster_core.specs.Residents.{pids_in}
 use Rattle.cluster_core.specs.Parts.{AllOwn}
 use Rattle.cluster_core.specs.Queue.{AreTogether, Queued, posts_of, IsQueueLegal, move_of, with_queue}
 use Rattle.cluster_core.specs.Recovered.{left_by, moved_by, CanWait, with_all_waiting}
 use Rattle.cluster_core.specs.Holds.{IsHeldAs, is_fetch_queued, process_in, CarriesMarks, MarkedIfThere, unended_process}
-use Rattle.cluster_core.proofs.StatedNow.{stated_now}
 use Rattle.cluster_core.proofs.Beside.{FollowsBeside}
 use Rattle.cluster_core.specs.Calls.{absorbed, here_after}
 use Rattle.cluster_core.proofs.Here.{is_among, pid_same}
@@ -69,15 +72,17 @@ use Rattle.page_server.specs.Account.{PagerState}
 use Rattle.wait_laws.proofs.RecordPages.{HasPages, has_pages, starts_so}
 use Rattle.cluster_core.proofs.LostQueue.{NextLoss, no_fetch_queued, no_move_queued, not_here_lost, places_after, queue_stays, found_after}
 use Rattle.cert_sched.specs.Legal.{Stands}
-use Rattle.wait_laws.specs.Waits.{WaitsAs, first_wait, none_queued}
-use Rattle.wait_laws.proofs.Begins.{begins}
+use Rattle.wait_laws.specs.Waits.{first_wait, none_queued}
 use Rattle.cert_sched.specs.Told.{cluster_lost, is_moved}
 use Rattle.cluster_core.proofs.NotMoved.{home_not_moved}
 use Rattle.cert_sched.specs.Moved.{is_fetch, is_page_is}
 use Rattle.page_laws.specs.Next.{moves_next}
-use Rattle.wait_laws.proofs.Follows.{other_entry}
 use Rattle.cluster_core.proofs.HasPages.{pages_after}
-use Rattle.cluster_core.proofs.Waiting.{queued_alike}
+use Rattle.family_laws.proofs.UnsyncedChild.{lives_with_parent}
+use Rattle.cluster_core.specs.ForksAgain.{ForksLeft, has_to_bear}
+use Rattle.cluster_core.proofs.ForksAgain.{bears_by}
+use Rattle.child_waits.specs.ForkWaits.{WaitsSo}
+use Rattle.child_waits.proofs.EitherWait.{so_alike, so_begins, so_follows}
 use Rattle.cert_sched.specs.Account.{is_exit_of}
 use Rattle.mark_laws.specs.Beside.{is_some_page}
 use Rattle.cluster_core.proofs.Marking.{Leaves, marked_after, queue_tells}
@@ -222,15 +227,22 @@ module _ (system : System) (valid : is_system system ≡ true) (log : List Entry
   unended_of : (recs : List BackRec) (p : Pid) (r : BackRec) → Moves recs p r → IsUnended system log p
   unended_of recs p r m = ap is_some m.found
 
-  -- so each of them has 1 to 256 pages, and is not here yet
+  -- so each of them has 1 to 256 pages, or none where its record has no state, and is not here yet
   pub can_wait : (recs : List BackRec) (here : List (Pid × Held)) → KeepsRecords system log k recs → rising (pids_in here) ≡ rising (home_pids system log k) → CanWait (filter (moves_here places lost k) recs) here
-  can_wait recs here keeps once p r at = (pages.some, pages.at_most, away (list_any (λ (e : Pid × Held). same_pid e.0 p) here) refl)
+  can_wait recs here keeps once p r at = (λ some. (pages (stated ∙ some)).some, few (has_state system log p) refl, away (list_any (λ (e : Pid × Held). same_pid e.0 p) here) refl)
     where
       m : Moves recs p r
       m = moving recs p r keeps at
 
-      pages : HasPages system log p r
-      pages = has_pages system log p r valid n.legal (unended_of recs p r m) (stated_now system log p n.legal (unended_of recs p r m)) m.kept
+      stated : has_state system log p ≡ is_some r.state
+      stated = sym (record_stated system log p r m.kept)
+
+      pages : has_state system log p ≡ true → HasPages system log p r
+      pages has = has_pages system log p r valid n.legal (unended_of recs p r m) has m.kept
+
+      few : (b : Bool) → has_state system log p ≡ b → page_count r ≤ 256
+      few true has = (pages has).at_most
+      few false none = subst (λ n. n ≤ 256) (sym (ap (λ (o : Option SmallState). option_map_or (λ (small : SmallState). small.pages) o 0) (state_none system log p r none m.kept))) (omega arith)
 
       away : (b : Bool) → list_any (λ (e : Pid × Held). same_pid e.0 p) here ≡ b → b ≡ false
       away true is = absurd (not_here recs p r m (home_is p (home_here places k (pids_in here) p (differ_built system log valid n.legal) once (sym (any_pids here) ∙ is))))
@@ -246,11 +258,11 @@ module _ (system : System) (valid : is_system system ≡ true) (log : List Entry
   moves_it_here : (recs : List BackRec) (p : Pid) (r : BackRec) → Moves recs p r → moves_next system log e p ≡ true
   moves_it_here recs p r m = ap (λ w. option_map_or (is_moved p places) (cluster_lost w) false) n.same ∙ found_passes (is_moved_by lost) p places.placed m.placed m.found m.leaves
 
-  -- so it waits for all its pages, as the log with the loss says
+  -- so it waits for all its pages, or for its parent's fork, as the log with the loss says
   waiting_held : (q : Queued) (recs : List BackRec) (p : Pid) (r : BackRec) → Moves recs p r → move_of p (posts_of q) ≡ None → ((i : ℕ) → is_fetch_queued p (posts_of q) i ≡ false) → IsHeldAs system later (posts_of q) p (Waits (first_wait r))
   waiting_held q recs p r m unmoved unasked = (
     unmoved,
-    queued_alike system later p none_queued (is_fetch_queued p (posts_of q)) (first_wait r) (λ i. sym (unasked i)) (begins system log e p r valid n.more (unended_of recs p r m) (stated_now system log p n.legal (unended_of recs p r m)) (moves_it_here recs p r m) m.kept),
+    so_alike system later p none_queued (is_fetch_queued p (posts_of q)) (first_wait r) (λ i. sym (unasked i)) (so_begins system log e p r valid n.more (unended_of recs p r m) (moves_it_here recs p r m) m.kept),
   )
 
   -- one that was here is held as before
@@ -263,9 +275,9 @@ module _ (system : System) (valid : is_system system ≡ true) (log : List Entry
   )
   held_still q p (Waits waiting) together home held = (
     held.0,
-    subst (λ w. WaitsAs system later p (is_fetch_queued p (posts_of q)) (record waiting { kept = record_after w waiting.kept })) n.same
-        (other_entry system log e p (is_fetch_queued p (posts_of q)) waiting valid n.more (ap is_some home.found) (home_not_moved system log e p k (differ_built system log valid n.legal) home spared) (ap (is_cut p) n.same) (ap (deeds_in p) n.same)
-        (λ i. ap (is_page_is p i) n.same) (subst (λ w. WaitsAs system log p (λ i. is_fetch p i w || is_fetch_queued p (posts_of q) i) waiting) (sym n.same) held.1)),
+    subst (λ w. WaitsSo system later p (is_fetch_queued p (posts_of q)) (record waiting { kept = record_after w waiting.kept })) n.same
+        (so_follows system log e p (is_fetch_queued p (posts_of q)) waiting valid n.more (ap is_some home.found) (home_not_moved system log e p k (differ_built system log valid n.legal) home spared) (ap (is_cut p) n.same) (ap (deeds_in p) n.same)
+        (λ i. ap (is_page_is p i) n.same) (ap (is_some_page p) n.same) (subst (λ w. WaitsSo system log p (λ i. is_fetch p i w || is_fetch_queued p (posts_of q) i) waiting) (sym n.same) held.1)),
   )
 
   -- one that is at home here was here, and is held as it was
@@ -342,6 +354,7 @@ module _ (system : System) (valid : is_system system ≡ true) (log : List Entry
     marks = marks;
     records = subst (λ k. KeepsRecords system later k (filter (stays places lost k) c.records)) (sym number_is) (loss_kept system log e lost k cause c.records valid (built_stands system later n.more) n.same apart keeps);
     family = subst (λ w. family_after w c.family ≡ unsynced_births system later) n.same (family_next system log e c.family valid (n.legal, n.before) (n.more, n.goes_on) f.family);
+    forks = forks;
     accounts =
         accounts_next system log e c (with_server server after) q (foreign_no_answer c.number e (ap (λ k. is_by_cluster k e) number_is ∙ foreign)) serves refl queue_is queue_is posts_legal f.accounts;
     disk = ((f.disk).0, ahead_after places e c.server server serves (f.disk).1);
@@ -434,6 +447,24 @@ module _ (system : System) (valid : is_system system ≡ true) (log : List Entry
           by_either : (held_of c.here p ≡ Some h) ⊎ Recovery (λ r. Moves c.records r.pid r) p h → MarkedIfThere CarriesMarks system (with_queue system later (posts_of q)) p (unended_process h)
           by_either (inl there) = marks_still p h among there (held_still q p h (f.queued).together (home_of p h there) (subst (λ ps. IsHeldAs system log ps p h) queue_is ((f.processes).held p h there)))
           by_either (inr y) = subst (λ x. MarkedIfThere CarriesMarks system (with_queue system later (posts_of q)) p (unended_process x)) (sym y.is) tt
+
+      -- a child that is moved lives with its parent, which is moved too; so each of its forks is to be made again
+      forks : ForksLeft c.family (with_all_waiting moved c.here)
+      forks parent child x h at_parent at_child born = by_either (found parent x at_parent) (found child h at_child)
+        where
+          one_home : home_at places child ≡ home_at places parent
+          one_home = lives_with_parent system log parent child valid (built_stands system log n.legal) (subst (λ bs. list_any (bears_by parent child) bs ≡ true) f.family born)
+
+          moved_away : (p : Pid) (h : Held) → Recovery (λ r. Moves c.records r.pid r) p h → home_at places p ≡ Some k → ⊥
+          moved_away p h y =
+              let pids : (y.kept).pid ≡ p = pid_same (y.kept).pid p (eqb-true ((y.kept).pid).0 p.0 y.own) in
+              not_here c.records p y.kept (subst (λ p. Moves c.records p y.kept) pids y.has)
+
+          by_either : (held_of c.here parent ≡ Some x) ⊎ Recovery (λ r. Moves c.records r.pid r) parent x → (held_of c.here child ≡ Some h) ⊎ Recovery (λ r. Moves c.records r.pid r) child h → is_waiting h ≡ has_to_bear child x
+          by_either (inl a) (inl b) = f.forks parent child x h a b born
+          by_either (inr y) (inr z) = ap is_waiting z.is ∙ sym (ap (has_to_bear child) y.is)
+          by_either (inl a) (inr z) = absurd (moved_away child h z (one_home ∙ home_is parent (home_of parent x a)))
+          by_either (inr y) (inl b) = absurd (moved_away parent x y (sym one_home ∙ home_is child (home_of child h b)))
 
       limits : (p : Pid) (h : Held) → held_of (with_all_waiting moved c.here) p ≡ Some h → IsHeldWithin (limits_of system) h
       limits p h at = by_either (found p h at)

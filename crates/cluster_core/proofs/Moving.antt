@@ -1,23 +1,25 @@
 -- A process whose record moves waits under its own pid.
-use Rattle.std.proofs.Common.{◌≡◌, ℕ, ◌≤◌, refl, sym, ap, arith, List, length, true, false, Some, None, is_some, suc, zero}
+use Rattle.std.proofs.Common.{◌≡◌, ℕ, ◌≤◌, refl, sym, ◌∙◌, ap, arith, List, length, true, false, Option, Some, None, is_some, suc, zero}
 use Rattle.std.specs.Prelude.{replicate}
 use Rattle.std.specs.List.{list_all}
+use Rattle.std.specs.Option.{IfSome}
 use Rattle.t32_base.specs.declared.process.Pid.{Pid}
 use Rattle.t32_base.specs.declared.letter.BackRec.{BackRec}
+use Rattle.t32_base.specs.Small.{SmallState}
 use Rattle.sys_text.specs.declared.system.System.{System}
 use Rattle.sys_text.specs.Valid.{is_system}
+use Rattle.plain_kernel.proofs.Entries.{some_same}
 use Rattle.bus_msg.specs.declared.entry.Entry.{Entry}
 use Rattle.cert_sched.specs.Built.{BuiltMayFollow}
 use Rattle.cert_sched.specs.Deeds.{starts}
 use Rattle.cert_sched.specs.Legal.{IsLegalBy}
 use Rattle.cert_sched.specs.Parts.{upto_last}
-use Rattle.cert_sched.specs.Record.{backup_record, record_from}
+use Rattle.cert_sched.specs.Record.{backup_record, has_state, record_from}
 use Rattle.cert_sched.specs.Simulation.{IsUnended}
 use Rattle.cert_sched.proofs.RunsOutLaws.{record_of}
 use Rattle.cert_sched.proofs.StepLaws.{process_after-own}
 use Rattle.record_laws.proofs.Counts.{next_fits}
-use Rattle.recovery_laws.proofs.FromStart.{stated_at_start}
-use Rattle.cluster_core.proofs.StatedNow.{stated_now}
+use Rattle.recovery_laws.proofs.FromStart.{record_stated, stated_at_start}
 use Rattle.page_waits.specs.Waiting.{page_count}
 use Rattle.wait_laws.specs.Waits.{first_wait}
 use Rattle.wait_laws.proofs.RecordPages.{StartsSo, has_pages, starts_so}
@@ -36,14 +38,21 @@ module _ (system : System) (valid : is_system system ≡ true) (log : List Entry
   record_is : record_from system log p s.start ≡ r
   record_is = record_of system log p s.start r s.started kept
 
-  -- it waits under its own pid and lacks a page: no signal was saved for it, and no more letters came to it than the log has entries
+  -- it waits under its own pid, and lacks a page where its record has a state: no signal was saved for it, and no more letters came to it than the log has entries
   pub waits_own : WaitsOwn (length log) p (first_wait r)
   waits_own = record {
     pid_is = sym (ap (λ (r : BackRec). r.pid) record_is);
-    small = (s.start).small;
-    state_is = stated_at_start system log p s.start r (stated_now system log p legal unended) s.started kept;
-    small_is = process_after-own system (upto_last (starts p) log) p s.start s.started;
+    state = own_state r.state refl;
     quiet = saved_quiet system log p r valid legal unended kept;
     arrived = next_fits system log p r kept;
-    lacks = none_come (page_count r) (has_pages system log p r valid legal unended (stated_now system log p legal unended) kept).some;
+    lacks = λ some. none_come (page_count r) (has_pages system log p r valid legal unended (stated some) kept).some;
   }
+    where
+      stated : is_some r.state ≡ true → has_state system log p ≡ true
+      stated some = sym (record_stated system log p r kept) ∙ some
+
+      own_state : (o : Option SmallState) → r.state ≡ o → IfSome o (λ small. small.pid ≡ p)
+      own_state None is = tt
+      own_state (Some small) is =
+          let same : Some (s.start).small ≡ Some small = sym (stated_at_start system log p s.start r (stated (ap is_some is)) s.started kept) ∙ is in
+          ap (λ (small : SmallState). small.pid) (some_same small (s.start).small (sym same)) ∙ process_after-own system (upto_last (starts p) log) p s.start s.started

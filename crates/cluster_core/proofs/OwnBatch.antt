@@ -51,7 +51,8 @@ use Rattle.cluster_core.proofs.Served.{accounts_on, ahead_after, brought}
 use Rattle.cluster_core.proofs.Spared.{passed}
 use Rattle.cluster_core.proofs.Synchronising.{s as tells, differ, held_still, loses_none, pids_same, records_stay, stands, sync_taken}
 use Rattle.cluster_core.proofs.Telling.{at_once}
-use Rattle.cluster_core.proofs.Waiting.{queued_alike}
+use Rattle.child_waits.proofs.EitherWait.{so_alike}
+use Rattle.cluster_core.proofs.ForksAgain.{forks_synced}
 use Rattle.limit_laws.proofs.RestLimits.{page_keeps}
 
 -- ---- what a batch leaves of the other processes
@@ -65,13 +66,13 @@ record AsideOf (p : Pid) (posts : List Post) : Type 0 where
 unqueued : (system : System) (log : List Entry) (p q : Pid) (posts : List Post) (h : Held) → AsideOf p posts → same_pid p q ≡ false → IsHeldAs system log posts q h → IsHeldAs system log [] q h
 unqueued system log p q posts (Runs process) aside apart held = ap (state_by system log q (process.small).steps) (sym (aside.moves q apart)) ∙ held
 unqueued system log p q posts (Rolls process counts births) aside apart held = (refl, held.1)
-unqueued system log p q posts (Waits waiting) aside apart held = (refl, queued_alike system log q (is_fetch_queued q posts) (is_fetch_queued q []) waiting (aside.fetches q) held.1)
+unqueued system log p q posts (Waits waiting) aside apart held = (refl, so_alike system log q (is_fetch_queued q posts) (is_fetch_queued q []) waiting (aside.fetches q) held.1)
 
 -- and with them
 requeued : (system : System) (log : List Entry) (p q : Pid) (posts : List Post) (h : Held) → AsideOf p posts → same_pid p q ≡ false → IsHeldAs system log [] q h → IsHeldAs system log posts q h
 requeued system log p q posts (Runs process) aside apart held = ap (state_by system log q (process.small).steps) (aside.moves q apart) ∙ held
 requeued system log p q posts (Rolls process counts births) aside apart held = (aside.moves q apart, held.1)
-requeued system log p q posts (Waits waiting) aside apart held = (aside.moves q apart, queued_alike system log q (is_fetch_queued q []) (is_fetch_queued q posts) waiting (λ i. sym (aside.fetches q i)) held.1)
+requeued system log p q posts (Waits waiting) aside apart held = (aside.moves q apart, so_alike system log q (is_fetch_queued q []) (is_fetch_queued q posts) waiting (λ i. sym (aside.fetches q i)) held.1)
 
 none_aside : (p : Pid) → AsideOf p []
 none_aside p = record { moves = λ q apart. refl; fetches = λ q i. refl }
@@ -154,6 +155,7 @@ module _ (system : System) (valid : is_system system ≡ true) (log : List Entry
     pages = λ q h at runs. pages_after system log e q b.number valid now.0 (stands system valid log e of now next) (differ system valid log e of now next) (home q h at) (loses_none system valid log e of now next b.number) (f.pages q h at runs);
     marks = λ q h at. subst (λ whole. MarkedIfThere CarriesMarks system whole q (unended_process h)) same_whole (f.marks q h at);
     family = family_next system log e b.family valid now next f.family;
+    forks = forks_synced (what e) b.family b.here of f.forks;
     records = records_stay system valid log e of now next b.number b.records f.records;
     accounts = accounts_on system log e b (with_server server (passed (left b rest) e)) serves refl calls f.accounts;
     disk = ((f.disk).0, ahead_after (placement system log) e b.server server serves (f.disk).1);

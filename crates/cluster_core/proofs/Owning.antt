@@ -1,5 +1,5 @@
 -- What is here keeps its pid, and no signal comes to it.
-use Rattle.std.proofs.Common.{◌≡◌, ℕ, ◌+◌, ◌-◌, ◌^◌, ◌<◌, ◌≤◌, ◌∙◌, refl, sym, subst, arith, List, [], ◌∷◌, Bool, true, false, cond, not, ◌&&◌, ◌||◌, eqb-true, Some, ap, true≢false}
+use Rattle.std.proofs.Common.{◌≡◌, ℕ, ◌+◌, ◌-◌, ◌^◌, ◌<◌, ◌≤◌, ◌∙◌, refl, sym, subst, arith, List, [], ◌∷◌, Bool, true, false, cond, not, ◌&&◌, ◌||◌, eqb-true, Option, Some, None, is_some, ap, true≢false}
 use Rattle.std.specs.Prelude.{filter, find, option_map}
 use Rattle.t32_base.specs.declared.process.Pid.{Pid}
 use Rattle.t32_base.specs.declared.process.Counts.{Counts}
@@ -19,7 +19,7 @@ use Rattle.quanta.specs.declared.limits.Limits.{Limits}
 use Rattle.quanta.specs.Limited.{is_due}
 use Rattle.cluster_core.specs.View.{Held, Runs, Rolls, Waits, arrived, arrived_held, held_of, next_number, asked_held, going_on, page_held, rolling_held, is_waiting}
 use Rattle.cluster_core.specs.Residents.{with_changed, are_stuck, is_stuck, HasRoom, are_settled, is_settled}
-use Rattle.cluster_core.specs.Parts.{IsHeldOwn, IsOwn, AllOwn}
+use Rattle.cluster_core.specs.Parts.{IsHeldOwn, IsOwn, WaitsOwn, AllOwn}
 use Rattle.cluster_core.specs.Calls.{are_at_rest, here_after, is_at_rest, with_page_come}
 use Rattle.cluster_core.specs.declared.quantum.Sending.{Sending}
 use Rattle.cluster_core.specs.declared.quantum.Forking.{Forking}
@@ -30,13 +30,13 @@ use Rattle.cert_sched.specs.Built.{tells_or_closes}
 use Rattle.cluster_core.proofs.Here.{pid_same}
 use Rattle.cluster_core.proofs.ByKind.{by_kind}
 use Rattle.t32_base.specs.Small.{SmallState}
-use Rattle.page_waits.specs.Waiting.{WaitingState, is_whole, rolling_of, start_of, with_page}
+use Rattle.page_waits.specs.Waiting.{WaitingState, is_whole, start_of, with_page}
 use Rattle.cluster_core.specs.Work.{any_waits}
 use Rattle.recovery.specs.Begun.{begun}
 use Rattle.cert_sched.proofs.RisingLaws.{either_not}
 use Rattle.roll_forward.specs.RunsOut.{nothing_left}
 use Rattle.std.specs.List.{list_any}
-use Rattle.std.specs.Option.{option_map_or}
+use Rattle.std.specs.Option.{IfSome, option_map_or}
 use Rattle.std.proofs.lemmas.List.Folds.{list_any-append}
 
 -- ---- one of them
@@ -130,7 +130,7 @@ own_rolled cursor pid was counts left births unborn n now rolled own =
     record { pid_is = kept.pid ∙ own.pid_is; quiet = kept.quiet own.quiet; arrived = subst (λ n. n ≤ cursor) (sym kept.next) own.arrived }
 
 -- one that made steps that are withheld is its own
-own_between : (cursor : ℕ) (pid : Pid) (n : ℕ) (was between : Held) → IsHeldOwn cursor pid was → RollsTo n was between → IsHeldOwn cursor pid between
+pub own_between : (cursor : ℕ) (pid : Pid) (n : ℕ) (was between : Held) → IsHeldOwn cursor pid was → RollsTo n was between → IsHeldOwn cursor pid between
 own_between cursor pid n (Runs p) (Runs q) own rolls = subst (IsOwn cursor pid) (sym rolls.1) own
 own_between cursor pid n (Runs p) (Rolls q left unborn) own rolls = absurd rolls
 own_between cursor pid n (Runs p) (Waits kept) own rolls = absurd rolls
@@ -147,15 +147,15 @@ own_after_silent cursor pid m (Rolls p counts births) now own runs = subst (IsHe
 own_after_silent cursor pid m (Waits kept) now own runs = absurd runs
 
 -- so is one that had a quantum
-pub own_quantum : (limits : Limits) (cursor : ℕ) (pid : Pid) (was now : Held) → IsHeldOwn cursor pid was → Moves limits 64 was now → IsHeldOwn cursor pid now
-own_quantum limits cursor pid was now own m = own_after_silent cursor pid m.silent m.between now (own_between cursor pid m.rolled was m.between own m.rolls) m.runs
+pub own_quantum : (limits : Limits) (cursor : ℕ) (pid : Pid) (made : ℕ) (was now : Held) → IsHeldOwn cursor pid was → Moves limits 64 made was now → IsHeldOwn cursor pid now
+own_quantum limits cursor pid made was now own m = own_after_silent cursor pid m.silent was now own m.runs
 
-pub own_before_sent : (limits : Limits) (cursor : ℕ) (pid : Pid) (was : Held) (sending : Sending) (new : Held) → IsHeldOwn cursor pid was → (s : Sends limits 64 was sending new) → IsOwn cursor pid s.between
-own_before_sent limits cursor pid was sending new own s = own_between cursor pid s.rolled was (Runs s.between) own s.rolls
+pub own_before_sent : (limits : Limits) (cursor : ℕ) (pid : Pid) (made : ℕ) (was : Held) (sending : Sending) (new : Held) → IsHeldOwn cursor pid was → (s : Sends limits 64 made was sending new) → IsOwn cursor pid s.between
+own_before_sent limits cursor pid made was sending new own s = subst (IsHeldOwn cursor pid) s.old_is own
 
-pub own_sent : (limits : Limits) (cursor : ℕ) (pid : Pid) (was : Held) (sending : Sending) (new : Held) → IsHeldOwn cursor pid was → (s : Sends limits 64 was sending new) → IsOwn cursor pid s.now
-own_sent limits cursor pid was sending new own s =
-    let mine = own_before_sent limits cursor pid was sending new own s in
+pub own_sent : (limits : Limits) (cursor : ℕ) (pid : Pid) (made : ℕ) (was : Held) (sending : Sending) (new : Held) → IsHeldOwn cursor pid was → (s : Sends limits 64 made was sending new) → IsOwn cursor pid s.now
+own_sent limits cursor pid made was sending new own s =
+    let mine = own_before_sent limits cursor pid made was sending new own s in
     let counts = silently_counts s.silent (state_of s.between) (state_of s.before) (s.runs).silent in
     let last = emits_counts (state_of s.before) (state_of s.now) sending.emission s.sends in
     record {
@@ -165,8 +165,8 @@ own_sent limits cursor pid was sending new own s =
     }
 
 -- so is one that came to its fork
-pub own_at_fork : (limits : Limits) (cursor : ℕ) (pid : Pid) (was : Held) (forking : Forking) (new : Held) → IsHeldOwn cursor pid was → (k : ComesToFork limits 64 was forking new) → IsOwn cursor pid k.now
-own_at_fork limits cursor pid was forking new own k = own_moved cursor pid k.between k.now k.silent (own_between cursor pid k.rolled was (Runs k.between) own k.rolls) (k.runs).silent
+pub own_at_fork : (limits : Limits) (cursor : ℕ) (pid : Pid) (made : ℕ) (was : Held) (forking : Forking) (new : Held) → IsHeldOwn cursor pid was → (k : ComesToFork limits 64 made was forking new) → IsOwn cursor pid k.now
+own_at_fork limits cursor pid made was forking new own k = own_moved cursor pid k.between k.now k.silent (subst (IsHeldOwn cursor pid) k.old_is own) (k.runs).silent
 
 -- one that synchronised is its own as before
 pub own_synced : (cursor : ℕ) (pid : Pid) (p : Process) → IsOwn cursor pid p → IsOwn cursor pid (synced p)
@@ -192,9 +192,7 @@ one_later cursor pid (Runs s) own = record { pid_is = own.pid_is; quiet = own.qu
 one_later cursor pid (Rolls s counts births) own = record { pid_is = own.pid_is; quiet = own.quiet; arrived = omega (arith, own.arrived) }
 one_later cursor pid (Waits waiting) own = record {
   pid_is = own.pid_is;
-  small = own.small;
-  state_is = own.state_is;
-  small_is = own.small_is;
+  state = own.state;
   quiet = own.quiet;
   arrived = omega (arith, own.arrived);
   lacks = own.lacks;
@@ -212,9 +210,7 @@ one_letter cursor pid (Runs s) letter other own = own_arrived cursor pid s lette
 one_letter cursor pid (Rolls s counts births) letter other own = own_arrived cursor pid s letter other own
 one_letter cursor pid (Waits waiting) letter other own = record {
   pid_is = own.pid_is;
-  small = own.small;
-  state_is = own.state_is;
-  small_is = own.small_is;
+  state = own.state;
   quiet = list_any-append is_signal (waiting.kept).saved (record { number = (waiting.kept).next; letter = letter } ∷ []) ∙ (λ i. own.quiet i || (other i || false));
   arrived = omega (arith, own.arrived);
   lacks = own.lacks;
@@ -245,25 +241,35 @@ own_after cursor w here =
 -- ---- a page comes
 
 -- where all pages have come to one that waits under its own pid, what goes on from there is its own
-own_going_on : (cursor : ℕ) (pid : Pid) (w : WaitingState) (small : SmallState) → (w.kept).state ≡ Some small → small.pid ≡ pid → (w.kept).pid ≡ pid → list_any is_signal (w.kept).saved ≡ false → (w.kept).next ≤ cursor
+own_going_on : (cursor : ℕ) (pid : Pid) (w : WaitingState) (o : Option SmallState) → (w.kept).state ≡ o → IfSome o (λ small. small.pid ≡ pid) → (w.kept).pid ≡ pid → list_any is_signal (w.kept).saved ≡ false → (w.kept).next ≤ cursor
     → IsHeldOwn cursor pid (going_on w)
-own_going_on cursor pid w small state_is small_is pid_is quiet arrived = by_whole (is_whole w) refl
+own_going_on cursor pid w o state_is small_is pid_is quiet arrived =
+    subst (λ o. IsHeldOwn cursor pid (cond (is_whole w) (option_map_or rolling_held (option_map (λ (small : SmallState). begun (start_of w small) w.kept) o) (Waits w)) (Waits w))) (sym state_is) (by_state o state_is small_is)
   where
-    own : IsOwn cursor pid (begun (start_of w small) w.kept).process
-    own = record { pid_is = small_is; quiet = quiet; arrived = arrived }
+    by_left : (small : SmallState) → small.pid ≡ pid → (b : Bool) → IsHeldOwn cursor pid (cond b (Runs (begun (start_of w small) w.kept).process) (Rolls (begun (start_of w small) w.kept).process (w.kept).counts (w.kept).births))
+    by_left small is true = record { pid_is = is; quiet = quiet; arrived = arrived }
+    by_left small is false = record { pid_is = is; quiet = quiet; arrived = arrived }
 
-    by_left : (b : Bool) → IsHeldOwn cursor pid (cond b (Runs (begun (start_of w small) w.kept).process) (Rolls (begun (start_of w small) w.kept).process (w.kept).counts (w.kept).births))
-    by_left true = own
-    by_left false = own
+    waits_on : (o : Option SmallState) → (w.kept).state ≡ o → IfSome o (λ small. small.pid ≡ pid) → (is_some o ≡ true → is_whole w ≡ false) → WaitsOwn cursor pid w
+    waits_on o is own lacks = record { pid_is = pid_is; state = subst (λ o. IfSome o (λ small. small.pid ≡ pid)) (sym is) own; quiet = quiet; arrived = arrived; lacks = λ some. lacks (ap is_some (sym is) ∙ some) }
 
-    by_whole : (b : Bool) → is_whole w ≡ b → IsHeldOwn cursor pid (cond b (option_map_or rolling_held (rolling_of w) (Waits w)) (Waits w))
-    by_whole true is = subst (λ o. IsHeldOwn cursor pid (option_map_or rolling_held (option_map (λ (small : SmallState). begun (start_of w small) w.kept) o) (Waits w))) (sym state_is) (by_left (nothing_left (w.kept).counts (w.kept).births))
-    by_whole false is = record { pid_is = pid_is; small = small; state_is = state_is; small_is = small_is; quiet = quiet; arrived = arrived; lacks = is }
+    by_state : (o : Option SmallState) → (w.kept).state ≡ o → IfSome o (λ small. small.pid ≡ pid)
+        → IsHeldOwn cursor pid (cond (is_whole w) (option_map_or rolling_held (option_map (λ (small : SmallState). begun (start_of w small) w.kept) o) (Waits w)) (Waits w))
+    by_state None is own = by_whole (is_whole w)
+      where
+        by_whole : (b : Bool) → IsHeldOwn cursor pid (cond b (Waits w) (Waits w))
+        by_whole true = waits_on None is own (λ some. absurd (true≢false (sym some)))
+        by_whole false = waits_on None is own (λ some. absurd (true≢false (sym some)))
+    by_state (Some small) is own = by_whole (is_whole w) refl
+      where
+        by_whole : (b : Bool) → is_whole w ≡ b → IsHeldOwn cursor pid (cond b (rolling_held (begun (start_of w small) w.kept)) (Waits w))
+        by_whole true whole = by_left small own (nothing_left (w.kept).counts (w.kept).births)
+        by_whole false lacks = waits_on (Some small) is own (λ some. lacks)
 
 one_page : (cursor : ℕ) (pid : Pid) (i : ℕ) (bytes : List ℕ) (h : Held) → IsHeldOwn cursor pid h → IsHeldOwn cursor pid (page_held i bytes h)
 one_page cursor pid i bytes (Runs s) own = own
 one_page cursor pid i bytes (Rolls s counts births) own = own
-one_page cursor pid i bytes (Waits waiting) own = own_going_on cursor pid (with_page i bytes waiting) own.small own.state_is own.small_is own.pid_is own.quiet own.arrived
+one_page cursor pid i bytes (Waits waiting) own = own_going_on cursor pid (with_page i bytes waiting) (waiting.kept).state refl own.state own.pid_is own.quiet own.arrived
 
 pub own_page : (cursor : ℕ) (p : Pid) (i : ℕ) (bytes : List ℕ) (here : List (Pid × Held)) → AllOwn cursor here → AllOwn cursor (with_page_come p i bytes here)
 own_page cursor p i bytes [] own = tt
@@ -278,4 +284,4 @@ own_page cursor p i bytes (e ∷ here) own = (by_test (same_pid e.0 p), own_page
 pub own_asked : (cursor : ℕ) (pid : Pid) (h : Held) → IsHeldOwn cursor pid h → IsHeldOwn cursor pid (asked_held h)
 own_asked cursor pid (Runs s) own = own
 own_asked cursor pid (Rolls s counts births) own = own
-own_asked cursor pid (Waits waiting) own = record { pid_is = own.pid_is; small = own.small; state_is = own.state_is; small_is = own.small_is; quiet = own.quiet; arrived = own.arrived; lacks = own.lacks }
+own_asked cursor pid (Waits waiting) own = record { pid_is = own.pid_is; state = own.state; quiet = own.quiet; arrived = own.arrived; lacks = own.lacks }

@@ -65,7 +65,7 @@ own_waiting cursor (r ∷ rest) here each own = own_waiting cursor rest (with_wa
 
 -- as many entries or more were taken in
 pub own_longer : (n m : ℕ) (p : Pid) (w : WaitingState) → n ≤ m → WaitsOwn n p w → WaitsOwn m p w
-own_longer n m p w fewer own = record { pid_is = own.pid_is; small = own.small; state_is = own.state_is; small_is = own.small_is; quiet = own.quiet; arrived = omega (arith, fewer, own.arrived); lacks = own.lacks }
+own_longer n m p w fewer own = record { pid_is = own.pid_is; state = own.state; quiet = own.quiet; arrived = omega (arith, fewer, own.arrived); lacks = own.lacks }
 
 -- ---- the whole
 

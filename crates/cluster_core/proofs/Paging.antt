@@ -38,7 +38,7 @@ use Rattle.cluster_core.specs.Queue.{AreTogether, Queued, Nothing, One, posts_of
 use Rattle.cluster_core.specs.Recovered.{left_by, moved_by, with_all_waiting}
 use Rattle.cluster_core.specs.Holds.{IsHeldAs, is_fetch_queued, process_in, CarriesMarks, MarkedIfThere, unended_process, HoldsLimits}
 use Rattle.cluster_core.specs.Follows.{FollowsBuilt, IsOpen}
-use Rattle.cluster_core.specs.Calls.{absorbed, here_after, with_page_come}
+use Rattle.cluster_core.specs.Calls.{absorbed, here_after}
 use Rattle.cluster_core.proofs.FamilyNext.{family_next}
 use Rattle.cluster_core.proofs.ByKind.{by_page, is_of_page, lone_is, may_told, page_unlost, told_may}
 use Rattle.cluster_core.proofs.Beside.{FollowsBeside}
@@ -54,12 +54,16 @@ use Rattle.page_server.specs.Account.{PagerState}
 use Rattle.cluster_core.proofs.Unmoved.{emission_same, state_same, silent_same}
 use Rattle.cert_sched.specs.Simulation.{IsUnended}
 use Rattle.page_waits.specs.Waiting.{WaitingState, is_whole, rolling_of, start_of, with_page}
-use Rattle.cluster_core.proofs.Waiting.{has_come, queued_alike, waits_page, waits_come, come_marked}
+use Rattle.child_waits.proofs.EitherWait.{so_alike}
+use Rattle.cluster_core.specs.ForksAgain.{HoldsForks}
+use Rattle.cluster_core.proofs.ForksPaged.{forks_paged}
+use Rattle.cluster_core.proofs.Paged.{page_at, was_paged}
+use Rattle.cluster_core.proofs.Waiting.{has_come, waits_page, waits_come, come_marked}
 use Rattle.cert_sched.specs.Moved.{is_fetch, is_page_is}
 use Rattle.channel_table.specs.Changes.{pids_differ}
 use Rattle.cluster_core.proofs.HasPages.{pages_after, waits_after}
 use Rattle.cluster_core.proofs.PagePosts.{page_post_stays}
-use Rattle.std.specs.Prelude.{find, option_map}
+use Rattle.std.specs.Prelude.{option_map}
 use Rattle.bus_msg.specs.declared.entry.What.TheVariants.{PageIs}
 use Rattle.bus_msg.specs.declared.entry.By.TheVariants.{Cluster}
 use Rattle.bus_msg.specs.declared.placed.Placed.{Placed}
@@ -78,17 +82,6 @@ use Rattle.cluster_core.proofs.KeptLimits.{told_within}
 use Rattle.limit_laws.proofs.StayingLimits.{sent_stays}
 
 -- ---- what is here then
-
--- what an entry of a page makes of one process
-abbrev pub page_at : What → Pid → Held → Held
-page_at (PageIs pid index bytes) p h = cond (same_pid pid p) (page_held index bytes h) h
-page_at w p h = h
-
--- a process that is here after it was here before
-pub record WasPaged (w : What) (here : List (Pid × Held)) (p : Pid) (h : Held) : Type 0 where
-  pub was : Held
-  pub there : held_of here p ≡ Some was
-  pub same : h ≡ page_at w p was
 
 -- who goes on once all its pages have come has read nothing and made no step since its start
 pub page_within : (limits : Limits) (w : What) (p : Pid) (h : Held) → is_of_page w ≡ true → IsHeldWithin limits h → IsHeldWithin limits (page_at w p h)
@@ -114,50 +107,6 @@ page_within limits w p h of within = by_page (λ w. IsHeldWithin limits (page_at
     by_pid : (index : ℕ) (bytes : List ℕ) (b : Bool) → IsHeldWithin limits (cond b (page_held index bytes h) h)
     by_pid index bytes true = by_held index bytes h within
     by_pid index bytes false = within
-
-abbrev PageFound : Pid → ℕ → List ℕ → List (Pid × Held) → Pid → Type 0
-PageFound q i bytes here p = held_of (with_page_come q i bytes here) p ≡ option_map (λ (h : Held). cond (same_pid q p) (page_held i bytes h) h) (held_of here p)
-
-page_found : (q : Pid) (i : ℕ) (bytes : List ℕ) (here : List (Pid × Held)) (p : Pid) → PageFound q i bytes here p
-page_found q i bytes [] p = refl
-page_found q i bytes (e ∷ here) p = by_tests (same_pid e.0 q) refl (page_found q i bytes here p)
-  where
-    by_pid : (x : Held) (b : Bool) → (b ≡ true → x ≡ cond (same_pid q p) (page_held i bytes e.1) e.1) → PageFound q i bytes here p
-        → option_map (λ (e : Pid × Held). e.1) (cond b (Some (e.0, x)) (find (λ (e : Pid × Held). same_pid e.0 p) (with_page_come q i bytes here)))
-        ≡ option_map (λ (h : Held). cond (same_pid q p) (page_held i bytes h) h) (option_map (λ (e : Pid × Held). e.1) (cond b (Some e) (find (λ (e : Pid × Held). same_pid e.0 p) here)))
-    by_pid x true is more = ap Some (is refl)
-    by_pid x false is more = more
-
-    -- where the process at p is this one, the page is for it where it is for p
-    for_it : (c : Bool) → same_pid e.0 q ≡ c → same_pid e.0 p ≡ true → c ≡ same_pid q p
-    for_it true is own =
-        let named : e.0 ≡ q = pid_same e.0 q (eqb-true (e.0).0 q.0 is) in
-        sym own ∙ ap (λ r. same_pid r p) named
-    for_it false is own =
-        let mine : e.0 ≡ p = pid_same e.0 p (eqb-true (e.0).0 p.0 own) in
-        sym (not_it (same_pid q p) refl mine)
-      where
-        not_it : (b : Bool) → same_pid q p ≡ b → e.0 ≡ p → b ≡ false
-        not_it true same mine = absurd (true≢false (sym (eq-eqb (e.0).0 q.0 (ap (λ (r : Pid). r.0) mine ∙ sym (eqb-true q.0 p.0 same))) ∙ is))
-        not_it false same mine = refl
-
-    by_tests : (c : Bool) → same_pid e.0 q ≡ c → PageFound q i bytes here p
-        → option_map (λ (e : Pid × Held). e.1) (find (λ (e : Pid × Held). same_pid e.0 p) (cond c (e.0, page_held i bytes e.1) e ∷ with_page_come q i bytes here))
-        ≡ option_map (λ (h : Held). cond (same_pid q p) (page_held i bytes h) h) (held_of (e ∷ here) p)
-    by_tests true is more = by_pid (page_held i bytes e.1) (same_pid e.0 p) (λ own. ap (λ c. cond c (page_held i bytes e.1) e.1) (for_it true is own)) more
-    by_tests false is more = by_pid e.1 (same_pid e.0 p) (λ own. ap (λ c. cond c (page_held i bytes e.1) e.1) (for_it false is own)) more
-
-page_was : (q : Pid) (i : ℕ) (bytes : List ℕ) (here : List (Pid × Held)) (p : Pid) (h : Held) (o : Option Held) → held_of here p ≡ o → option_map (λ (h : Held). cond (same_pid q p) (page_held i bytes h) h) o ≡ Some h
-    → WasPaged (PageIs q i bytes) here p h
-page_was q i bytes here p h None there is = cc
-page_was q i bytes here p h (Some was) there is = record { was = was; there = there; same = cc }
-
-pub was_paged : (w : What) (here : List (Pid × Held)) (p : Pid) (h : Held) → is_of_page w ≡ true → held_of (here_after w here) p ≡ Some h → WasPaged w here p h
-was_paged w here p h =
-    by_page (λ w. held_of (here_after w here) p ≡ Some h → WasPaged w here p h)
-    (λ pid index is. record { was = h; there = is; same = refl })
-    (λ pid index bytes is. page_was pid index bytes here p h (held_of here p) refl (sym (page_found pid index bytes here p) ∙ is))
-    w
 
 pids_paged : (w : What) (here : List (Pid × Held)) → is_of_page w ≡ true → pids_in (here_after w here) ≡ pids_in here
 pids_paged w here = by_page (λ w. pids_in (here_after w here) ≡ pids_in here) (λ pid index. refl) (λ pid index bytes. letter_pids (λ q. same_pid q pid) (λ h. page_held index bytes h) here) w
@@ -267,7 +216,7 @@ module _ (system : System) (valid : is_system system ≡ true) (log : List Entry
   held_come before after p i bytes (Rolls s counts births) unended alike is held = rolls_still before after p s counts births unended alike held
   held_come before after p i bytes (Waits waiting) unended alike is held =
       waits_come system log e after p i bytes waiting valid next unended (unended_later p unended) is (alike.unmoved held.0)
-      (queued_alike system log p (is_fetch_queued p before) (is_fetch_queued p after) waiting (λ j. alike.fetches j ∙ ap (λ w. is_fetch p j w || is_fetch_queued p after j) is) held.1)
+      (so_alike system log p (is_fetch_queued p before) (is_fetch_queued p after) waiting (λ j. alike.fetches j ∙ ap (λ w. is_fetch p j w || is_fetch_queued p after j) is) held.1)
 
   held_after : (before after : List Post) (p : Pid) (was : Held) → IsUnended system log p → QueuesAlike before after p → IsHeldAs system log before p was → IsHeldAs system later after p (page_at (what e) p was)
   held_after before after p was unended alike held =
@@ -396,6 +345,7 @@ module _ (system : System) (valid : is_system system ≡ true) (log : List Entry
     pages = pages;
     marks = marks;
     family = family_next system log e c.family valid now next f.family;
+    forks = forks_paged system valid log e now.0 next.0 of c.queue c.family c.here f.family (f.processes).held f.forks;
     records = records_stay c.number c.records f.records;
     accounts = accounts_next system log e c (with_server server (paged c e)) q (foreign_no_answer c.number e foreign) serves refl queue_is queue_is posts_legal f.accounts;
     disk = ((f.disk).0, ahead_after (placement system log) e c.server server serves (f.disk).1);
@@ -466,6 +416,7 @@ module _ (system : System) (valid : is_system system ≡ true) (log : List Entry
     pages = pages;
     marks = λ p h at. subst (λ ps. MarkedIfThere CarriesMarks system (with_queue system later ps) p (unended_process h)) (sym empty) (marks p h at);
     family = family_next system log e c.family valid now next (ap (λ (d : ClusterView). d.family) l.same ∙ f.family);
+    forks = forks_paged system valid log e now.0 next.0 of (e.post ∷ []) c.family c.here (ap (λ (d : ClusterView). d.family) l.same ∙ f.family) was_held (subst HoldsForks (sym l.same) f.forks);
     records = records_stay c.number c.records (subst (λ recs. KeepsRecords system log c.number recs) (sym (ap (λ (d : ClusterView). d.records) l.same)) (subst (λ k. KeepsRecords system log k (l.before).records) number f.records));
     accounts =
         accounts_sent system log e l.before (with_server server (paged c e)) (page_unlost (what e) of) (subst (λ old. Serves (placement system log) e old server) (ap (λ (d : ClusterView). d.server) l.same) serves) (sym number) l.posts empty f.accounts;

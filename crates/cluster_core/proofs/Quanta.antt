@@ -1,5 +1,5 @@
 -- Who moved, or sent something, or synchronised, or came to its fork could act.
-use Rattle.std.proofs.Common.{◌≡◌, ℕ, zero, suc, ◌≤◌, refl, ◌∙◌, ap, subst, arith, Option, Some, None, true}
+use Rattle.std.proofs.Common.{◌≡◌, ℕ, zero, suc, ◌≤◌, refl, ◌∙◌, ap, arith, Option, Some, None, true}
 use Rattle.std.specs.Prelude.{List, option_and_then}
 use Rattle.std.proofs.lemmas.Bool.{or_left, or_right}
 use Rattle.t32_base.specs.declared.process.ClusterNo.{ClusterNo}
@@ -11,11 +11,10 @@ use Rattle.sys_calls.specs.Next.{next_step, has_step, silently, silent_of}
 use Rattle.bus_msg.specs.declared.entry.Post.{Post}
 use Rattle.quanta.specs.declared.limits.Limits.{Limits}
 use Rattle.quanta.specs.Limited.{is_due}
-use Rattle.quanta.specs.Quantum.{RunsOn}
 use Rattle.cluster_core.specs.declared.quantum.Forking.{Forking}
 use Rattle.cluster_core.specs.declared.quantum.Sending.{Sending}
 use Rattle.cluster_core.specs.View.{Held, Runs, Rolls, Waits, can_act}
-use Rattle.cluster_core.specs.Quantum.{ComesToFork, Moves, RollsTo, RunsTo, Sends, Syncs}
+use Rattle.cluster_core.specs.Quantum.{ComesToFork, Moves, Sends, Syncs}
 
 -- ---- silent steps
 
@@ -60,66 +59,28 @@ forks_has zero s now silent forks =
     ap (λ (q : ProcState). has_step (next_step q)) same ∙ ap has_step forks
 forks_has (suc n) s now silent forks = silent_has n s now silent
 
--- ---- of one that runs
-
--- one that ran made silent steps, one at least, and runs
-pub record MovedAlone (most : ℕ) (p : Process) (new : Held) : Type 0 where
-  pub now : Process
-  pub steps : ℕ
-  pub some : 1 ≤ steps
-  pub few : steps ≤ most
-  pub silent : RunsOn steps p now
-  pub is : new ≡ Runs now
-
--- so moves one that runs
-pub moved_alone : (limits : Limits) (most : ℕ) (p : Process) (new : Held) → Moves limits most (Runs p) new → MovedAlone most p new
-moved_alone limits most p new m = by_parts m.between new m.rolls m.runs
-  where
-    by_parts : (b h : Held) → RollsTo m.rolled (Runs p) b → RunsTo m.silent b h → MovedAlone most p h
-    by_parts (Runs q) (Runs r) rolls runs =
-        let none : m.rolled ≡ 0 = rolls.0 in
-        record {
-          now = r;
-          steps = m.silent;
-          some = omega (arith, m.some, none);
-          few = omega (arith, m.few, none);
-          silent = subst (λ (x : Process). RunsOn m.silent x r) rolls.1 runs;
-          is = refl;
-        }
-    by_parts (Runs q) (Rolls r left unborn) rolls runs = absurd runs
-    by_parts (Runs q) (Waits waiting) rolls runs = absurd runs
-    by_parts (Rolls q left unborn) h rolls runs = absurd rolls
-    by_parts (Waits waiting) h rolls runs = absurd rolls
-
 -- ---- who could act
 
 -- one that runs and has a step can act
 step_acts : (limits : Limits) (p : Process) → has_step (next_step (state_of p)) ≡ true → can_act limits (Runs p) ≡ true
 step_acts limits p has = or_left (has_step (next_step (state_of p))) (is_due limits p) has
 
--- who moved could act
-pub moves_can : (limits : Limits) (most : ℕ) (old new : Held) → Moves limits most old new → can_act limits old ≡ true
-moves_can limits most (Runs p) new m = let a = moved_alone limits most p new m in step_acts limits p (some_has a.steps (state_of p) (state_of a.now) a.some (a.silent).silent)
+-- who moved could act, where it made no step before
+pub moves_can : (limits : Limits) (most : ℕ) (old new : Held) → Moves limits most 0 old new → can_act limits old ≡ true
+moves_can limits most (Runs p) (Runs q) m = step_acts limits p (some_has m.silent (state_of p) (state_of q) (omega (arith, m.some)) (m.runs).silent)
+moves_can limits most (Runs p) (Rolls q left unborn) m = absurd m.runs
+moves_can limits most (Runs p) (Waits waiting) m = absurd m.runs
 moves_can limits most (Rolls p counts births) new m = refl
-moves_can limits most (Waits waiting) new m = absurd m.rolls
+moves_can limits most (Waits waiting) new m = absurd m.runs
 
 -- who sent something could act
-pub sends_can : (limits : Limits) (most : ℕ) (old : Held) (sending : Sending) (new : Held) → Sends limits most old sending new → can_act limits old ≡ true
-sends_can limits most (Runs p) sending new s =
-    let rolls = s.rolls in
-    let alone : RunsOn s.silent p s.before = subst (λ (x : Process). RunsOn s.silent x s.before) rolls.1 s.runs in
-    step_acts limits p (sends_has s.silent (state_of p) (state_of s.before) (state_of s.now) sending.emission alone.silent s.sends)
-sends_can limits most (Rolls p counts births) sending new s = refl
-sends_can limits most (Waits waiting) sending new s = absurd s.rolls
+pub sends_can : (limits : Limits) (most made : ℕ) (old : Held) (sending : Sending) (new : Held) → Sends limits most made old sending new → can_act limits old ≡ true
+sends_can limits most made old sending new s =
+    ap (can_act limits) s.old_is ∙ step_acts limits s.between (sends_has s.silent (state_of s.between) (state_of s.before) (state_of s.now) sending.emission (s.runs).silent s.sends)
 
 -- who came to its fork could act
-pub fork_can : (limits : Limits) (most : ℕ) (old : Held) (forking : Forking) (new : Held) → ComesToFork limits most old forking new → can_act limits old ≡ true
-fork_can limits most (Runs p) forking new s =
-    let rolls = s.rolls in
-    let alone : RunsOn s.silent p s.now = subst (λ (x : Process). RunsOn s.silent x s.now) rolls.1 s.runs in
-    step_acts limits p (forks_has s.silent (state_of p) (state_of s.now) alone.silent s.forks)
-fork_can limits most (Rolls p counts births) forking new s = refl
-fork_can limits most (Waits waiting) forking new s = absurd s.rolls
+pub fork_can : (limits : Limits) (most made : ℕ) (old : Held) (forking : Forking) (new : Held) → ComesToFork limits most made old forking new → can_act limits old ≡ true
+fork_can limits most made old forking new s = ap (can_act limits) s.old_is ∙ step_acts limits s.between (forks_has s.silent (state_of s.between) (state_of s.now) (s.runs).silent s.forks)
 
 -- who synchronised could act
 pub syncs_can : (limits : Limits) (by : ClusterNo) (old : Held) (posts : List Post) (new : Held) → Syncs limits by old posts new → can_act limits old ≡ true

@@ -42,8 +42,10 @@ use Rattle.recovery_laws.proofs.ByRule.{built_stands as standing}
 use Rattle.recovery_laws.proofs.KeepingBehind.{behind_standing}
 use Rattle.page_server.specs.Account.{PagerState}
 use Rattle.page_waits.specs.Waiting.{WaitingState}
-use Rattle.wait_laws.specs.Waits.{WaitsAs}
-use Rattle.wait_laws.proofs.Follows.{other_entry}
+use Rattle.child_waits.specs.ForkWaits.{WaitsSo}
+use Rattle.cluster_core.specs.Families.{family_after}
+use Rattle.cluster_core.specs.ForksAgain.{ForksLeft}
+use Rattle.child_waits.proofs.EitherWait.{so_alike, so_follows}
 use Rattle.cluster_core.specs.Families.{family_after}
 use Rattle.cluster_core.specs.View.{ClusterView, Held, Runs, Rolls, Waits, held_of, next_count, with_server}
 use Rattle.cluster_core.specs.Residents.{pids_in}
@@ -69,7 +71,6 @@ use Rattle.cluster_core.proofs.PagePosts.{page_post_stays}
 use Rattle.cluster_core.proofs.Served.{accounts_next, ahead_after, foreign_no_answer}
 use Rattle.cluster_core.proofs.Telling.{Telling, telling}
 use Rattle.cluster_core.proofs.Unmoved.{page_moves_none}
-use Rattle.cluster_core.proofs.Waiting.{queued_alike}
 use Rattle.cert_sched.specs.Account.{is_exit_of}
 use Rattle.cert_sched.specs.Told.{cluster_lost, is_moved}
 use Rattle.mark_laws.specs.Beside.{is_some_page}
@@ -215,17 +216,17 @@ module _ (system : System) (valid : is_system system ≡ true) (log : List Entry
   )
   held_stays k q p (Waits waiting) together home s own held = (
     held.0,
-    subst (λ r. WaitsAs system later p (is_fetch_queued p (posts_of q)) (record waiting { kept = r })) (s.kept waiting.kept (own waiting refl))
-        (other_entry system log e p (is_fetch_queued p (posts_of q)) waiting valid next.0 (ap is_some home.found) (home_not_moved system log e p k differ home (loses_none k)) s.no_cut s.no_deed (n.no_page_is p)
-        (queued_alike system log p (is_fetch_queued p (posts_of q)) (λ i. is_fetch p i (what e) || is_fetch_queued p (posts_of q) i) waiting (λ i. ap (λ b. b || is_fetch_queued p (posts_of q) i) (sym (n.no_fetch p i))) held.1)),
+    subst (λ r. WaitsSo system later p (is_fetch_queued p (posts_of q)) (record waiting { kept = r })) (s.kept waiting.kept (own waiting refl))
+        (so_follows system log e p (is_fetch_queued p (posts_of q)) waiting valid next.0 (ap is_some home.found) (home_not_moved system log e p k differ home (loses_none k)) s.no_cut s.no_deed (n.no_page_is p) s.no_page
+        (so_alike system log p (is_fetch_queued p (posts_of q)) (λ i. is_fetch p i (what e) || is_fetch_queued p (posts_of q) i) waiting (λ i. ap (λ b. b || is_fetch_queued p (posts_of q) i) (sym (n.no_fetch p i))) held.1)),
   )
 
   -- ---- the whole
 
   pub follows_passed : (which : Pid → Bool) (c : ClusterView) (server : Option PagerState) → absorbed c e ≡ passed c e → ((p : Pid) → HomeHere places p c.number → Spares system log e p)
-      → pids_home c.number (placement system later).placed ≡ pids_home c.number places.placed → KeepsRecords system later c.number (records_after (what e) c.records) → AllOwn c.cursor c.here → Serves places e c.server server → FollowsBeside which system log c
+      → pids_home c.number (placement system later).placed ≡ pids_home c.number places.placed → KeepsRecords system later c.number (records_after (what e) c.records) → ForksLeft (family_after (what e) c.family) c.here → AllOwn c.cursor c.here → Serves places e c.server server → FollowsBeside which system log c
       → is_by_cluster c.number e ≡ false → FollowsBeside which system later (with_server server (absorbed c e))
-  follows_passed which c server taken spares pids records own serves f foreign = subst (λ v. FollowsBeside which system later (with_server server v)) (sym taken) (record {
+  follows_passed which c server taken spares pids records forks own serves f foreign = subst (λ v. FollowsBeside which system later (with_server server v)) (sym taken) (record {
     log = record {
       cursor = ap (λ m. m + 1) (f.log).cursor ∙ sym (length-append log (e ∷ []));
       places = ap (λ (places : Places). placed_after places (what e)) (f.log).places ∙ sym (placement-snoc system log e);
@@ -241,6 +242,7 @@ module _ (system : System) (valid : is_system system ≡ true) (log : List Entry
     pages = λ p h at runs. pages_after system log e p c.number valid now.0 stands differ (home_of p h at) (loses_none c.number) (f.pages p h at runs);
     marks = marks;
     family = family_next system log e c.family valid now next f.family;
+    forks = forks;
     records = records;
     accounts = accounts_next system log e c (with_server server (passed c e)) q (foreign_no_answer c.number e foreign) serves refl queue_is queue_is posts_legal f.accounts;
     disk = ((f.disk).0, ahead_after places e c.server server serves (f.disk).1);

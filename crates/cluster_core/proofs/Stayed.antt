@@ -47,7 +47,7 @@ use Rattle.cluster_core.proofs.Beside.{FollowsBeside}
 use Rattle.cluster_core.proofs.ByKind.{by_kind, by_page, is_of_page}
 use Rattle.cluster_core.proofs.Here.{arrival_at, is_among}
 use Rattle.cluster_core.proofs.Homes.{HomeHere, differ_built, home_here, home_lives, home_more, pids_home}
-use Rattle.cluster_core.proofs.Paging.{page_at}
+use Rattle.cluster_core.proofs.Paged.{page_at}
 use Rattle.cluster_core.proofs.Working.{home_by}
 
 -- ---- what stays of a process

@@ -58,6 +58,7 @@ use Rattle.cluster_core.proofs.Unmoved.{emission_same, silent_same}
 use Rattle.cert_sched.specs.Account.{is_exit_of}
 use Rattle.cert_sched.specs.Told.{cluster_lost}
 use Rattle.mark_laws.specs.Beside.{is_some_page}
+use Rattle.cluster_core.proofs.ForksAgain.{forks_synced}
 use Rattle.cluster_core.proofs.Spared.{BringsNothing, Spares, emission_stays, follows_passed, held_stays, passed, silent_stays}
 
 pub sync_taken : (c : ClusterView) (e : Entry) → is_of_sync (what e) ≡ true → absorbed c e ≡ passed c e
@@ -217,7 +218,7 @@ module _ (system : System) (valid : is_system system ≡ true) (log : List Entry
       → FollowsBeside which system later (with_server server (absorbed c e))
   follows_sync which c server own serves f foreign =
       follows_passed system valid log e now next brings_nothing which c server (sync_taken c e of) (λ p home. spares_other p (other_here c.number p home foreign)) (pids_same c.number)
-      (records_stay c.number c.records f.records) own serves f foreign
+      (records_stay c.number c.records f.records) (forks_synced (what e) c.family c.here of f.forks) own serves f foreign
 
 -- one that is sent alone is no such entry
 pub sync_not_alone : (w : What) → is_of_sync w ≡ true → is_lone w ≡ false

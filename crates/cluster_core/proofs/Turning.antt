@@ -1,5 +1,5 @@
 -- What a work of its parts makes of a cluster.
-use Rattle.std.proofs.Common.{◌≡◌, ◌⊎◌, ℕ, ◌<◌, Bool, ◌&&◌, not, refl, sym, ◌∙◌, ap, subst, List, [], ◌∷◌, ◌++◌, map, Option, Some, None, true, false, eq-eqb, inl, inr}
+use Rattle.std.proofs.Common.{◌≡◌, ◌⊎◌, ℕ, ◌<◌, Bool, ◌&&◌, not, refl, sym, ◌∙◌, ap, subst, List, [], ◌∷◌, ◌++◌, map, Option, Some, None, is_none, true, false, eq-eqb, inl, inr}
 use Rattle.std.specs.List.{list_all}
 use Rattle.std.proofs.lemmas.Bool.{and_from, or_left}
 use Rattle.t32_base.specs.declared.process.Pid.{Pid}
@@ -22,7 +22,7 @@ use Rattle.cluster_core.specs.declared.quantum.Forking.{Forking}
 use Rattle.cluster_core.specs.declared.quantum.Quantum.TheVariants.{Moved as QuantumMoved, Sent as QuantumSent, Synced as QuantumSynced, Forks as QuantumForks}
 use Rattle.cluster_core.specs.declared.worked.Worked.{Worked}
 use Rattle.cluster_core.specs.declared.worked.Worked.TheVariants.{Moved, Queued, Waits, Rests}
-use Rattle.cluster_core.specs.View.{ClusterView, Held, Runs, asked_held, can_act, counted_once, held_at, limits_of, next_count}
+use Rattle.cluster_core.specs.View.{ClusterView, Held, Runs, asked_held, can_act, counted_once, held_at, held_of, limits_of, next_count}
 use Rattle.plain_kernel.specs.Maps.{pid_of}
 use Rattle.cluster_core.specs.Residents.{ChosenTurn, HasTurn, ResidentsView, SyncsChild, TakesTurn, none_has_turn, with_changed}
 use Rattle.cluster_core.specs.Parts.{AllOwn}
@@ -31,7 +31,7 @@ use Rattle.cert_sched.specs.Record.{has_state}
 use Rattle.quanta.specs.Limited.{is_due}
 use Rattle.sys_calls.specs.Next.{is_exit, next_step}
 use Rattle.cluster_core.specs.ChildrenFirst.{comes_after_children}
-use Rattle.cluster_core.specs.Calls.{FollowsSome, GoesOn, IsNextToSync, OwesNothing, WorkIs}
+use Rattle.cluster_core.specs.Calls.{FollowsSome, GoesOn, IsNextToSync, OwesNothing, WorkIs, is_resting}
 use Rattle.cluster_core.specs.Bearing.{birth_post}
 use Rattle.cluster_core.specs.Quantum.{ComesToFork, Sends, Syncs, forking_of, post_told}
 use Rattle.cluster_core.specs.Work.{AnswersNext, AsksNext, NoPages, QueuesAnswer, QueuesFetch, RunsNext, WorksOn, any_lacks, any_waits, birth_told, child_of, fetch_post, owes_answer}
@@ -45,9 +45,13 @@ use Rattle.cluster_core.proofs.ChildFirst.{before_from, before_is, comes_acts}
 use Rattle.cluster_core.proofs.ChildrenKept.{synced_where_none}
 use Rattle.cluster_core.proofs.ChildrenSynced.{first_childless, first_may}
 use Rattle.cluster_core.proofs.Hindering.{none_moves}
-use Rattle.cluster_core.proofs.Quanta.{fork_can, syncs_can}
+use Rattle.cluster_core.specs.ForkingAgain.{RollsAgain}
+use Rattle.cluster_core.proofs.Acting.{ActsThere, fork_acts, moved_acts, sent_acts, synced_acts}
+use Rattle.cluster_core.proofs.FollowsAgain.{again_follows}
+use Rattle.cluster_core.proofs.OwningAgain.{own_again}
+use Rattle.cluster_core.proofs.RollingParts.{none_again}
 use Rattle.cluster_core.proofs.ByKind.{by_kind}
-use Rattle.cluster_core.proofs.Working.{moved_view, moved_goes_on, moved_work, posted_goes_on, posted_work, some_moves, goes_on_rested}
+use Rattle.cluster_core.proofs.Working.{moved_view, moved_goes_on, moved_work, posted_goes_on, posted_view, posted_work, some_moves, goes_on_rested}
 
 -- an entry of a kind that is built is no birth
 pub built_no_birth : (w : What) → tells_or_closes w ≡ true → is_birth w ≡ false
@@ -109,14 +113,28 @@ module _ (c : ClusterView) (some : FollowsSome c) (empty : c.queue ≡ []) (own 
     built = refl;
   }
 
+  -- who acts there does not let all rest
+  busy : (pid : Pid) → ActsThere (limits_of c.system) pid c.here → is_resting c ≡ false
+  busy pid a = some_moves (limits_of c.system) c.here pid a.held a.there a.acts
+
+  -- what a cluster makes of one of its processes after steps that it made again, that cluster makes of it
+  after_again : (pid : Pid) (made : ℕ) (mid : List (Pid × Held)) (new : ClusterView) → RollsAgain pid made c.here mid → GoesOn (record c { here = mid }) new → GoesOn c new
+  after_again pid made mid new again on log go f = on log go (again_follows c log pid valid empty go made c.here mid again f)
+
+  own_mid : (pid : Pid) (made : ℕ) (mid : List (Pid × Held)) → RollsAgain pid made c.here mid → AllOwn c.cursor mid
+  own_mid pid made mid again = own_again c.cursor pid made c.here mid again own
+
   -- who had a turn moved
   took_moved : (pid : Pid) (here : List (Pid × Held)) → OwesNothing c → Took pid QuantumMoved here → Works c Moved here c.server []
   took_moved pid here nothing takes =
       let one = takes.ran in
+      let acts = moved_acts (limits_of c.system) c.number (is_none (first_unsynced c.family pid)) pid c.here here one in
+      let on = after_again pid one.made one.mid (moved_view c (with_changed pid one.now one.mid)) one.again (moved_goes_on (record c { here = one.mid }) pid one.made one.was one.now valid empty one.there one.ran) in
+      let mine = own_mid pid one.made one.mid one.again in
       subst (λ hs. Works c Moved hs c.server []) (sym one.here) (record {
-        goes_on = subst (λ ps. GoesOn c (record (moved_view c (with_changed pid one.now c.here)) { queue = ps })) empty (moved_goes_on c pid one.was one.now valid empty one.there one.ran);
-        work = subst (λ ps. WorkIs c Moved (record (moved_view c (with_changed pid one.now c.here)) { queue = ps })) empty (moved_work c pid one.was one.now nothing one.there one.ran);
-        residents = own_changed c.cursor pid one.now c.here own (own_quantum (limits_of c.system) c.cursor pid one.was one.now (own_at c.cursor c.here pid one.was own one.there) one.ran);
+        goes_on = subst (λ ps. GoesOn c (record (moved_view c (with_changed pid one.now one.mid)) { queue = ps })) empty on;
+        work = subst (λ ps. WorkIs c Moved (record (moved_view c (with_changed pid one.now one.mid)) { queue = ps })) empty (moved_work c pid one.made one.mid one.was one.now nothing (busy pid acts) one.again one.there one.ran);
+        residents = own_changed c.cursor pid one.now one.mid mine (own_quantum (limits_of c.system) c.cursor pid one.made one.was one.now (own_at c.cursor one.mid pid one.was mine one.there) one.ran);
         own = refl;
         built = refl;
       })
@@ -125,18 +143,21 @@ module _ (c : ClusterView) (some : FollowsSome c) (empty : c.queue ≡ []) (own 
   took_sent : (pid : Pid) (sending : Sending) (here : List (Pid × Held)) → OwesNothing c → Took pid (QuantumSent sending) here → Works c Queued here c.server (post_told c.number sending.pid sending.at sending.emission ∷ [])
   took_sent pid sending here nothing takes =
       let one = takes.ran in
-      let s : Sends (limits_of c.system) 64 one.was sending one.now = (one.ran).0 in
-      let mine = own_at c.cursor c.here pid one.was own one.there in
-      let before_own = own_before_sent (limits_of c.system) c.cursor pid one.was sending one.now mine s in
-      let now_own = own_sent (limits_of c.system) c.cursor pid one.was sending one.now mine s in
+      let acts = sent_acts (limits_of c.system) c.number (is_none (first_unsynced c.family pid)) pid c.here here sending one in
+      let s : Sends (limits_of c.system) 64 one.made one.was sending one.now = (one.ran).0 in
+      let all = own_mid pid one.made one.mid one.again in
+      let mine = own_at c.cursor one.mid pid one.was all one.there in
+      let before_own = own_before_sent (limits_of c.system) c.cursor pid one.made one.was sending one.now mine s in
+      let now_own = own_sent (limits_of c.system) c.cursor pid one.made one.was sending one.now mine s in
       let named : sending.pid ≡ pid = s.pid_is ∙ now_own.pid_is in
       let post : Post = post_told c.number sending.pid sending.at sending.emission in
       let is : post ≡ post_told c.number pid ((s.now).small).steps sending.emission = λ i. post_told c.number (named i) (s.at_is i) sending.emission in
-      let changed : with_changed pid (Runs s.now) c.here ≡ here = ap (λ (h : Held). with_changed pid h c.here) (sym s.new_is) ∙ sym one.here in
+      let changed : with_changed pid (Runs s.now) one.mid ≡ here = ap (λ (h : Held). with_changed pid h one.mid) (sym s.new_is) ∙ sym one.here in
       subst (λ hs. Works c Queued hs c.server (post ∷ [])) changed (record {
-        goes_on = posted_goes_on c pid one.was sending one.now s post is empty one.there before_own (one.ran).1 valid has;
-        work = posted_work c pid one.was sending one.now s post is empty one.there before_own (one.ran).1 nothing;
-        residents = own_changed c.cursor pid (Runs s.now) c.here own now_own;
+        goes_on = after_again pid one.made one.mid (posted_view c (with_changed pid (Runs s.now) one.mid) post) one.again
+            (posted_goes_on (record c { here = one.mid }) pid one.made one.was sending one.now s post is empty one.there before_own (one.ran).1 valid has);
+        work = posted_work c pid one.made one.mid one.was sending one.now s post is named nothing (busy pid acts) one.again one.there (one.ran).1;
+        residents = own_changed c.cursor pid (Runs s.now) one.mid all now_own;
         own = told_own c.number sending.pid sending.at sending.emission;
         built = told_built c.number sending.pid sending.at sending.emission;
       })
@@ -161,14 +182,16 @@ module _ (c : ClusterView) (some : FollowsSome c) (empty : c.queue ≡ []) (own 
   took_synced : (pid : Pid) (posts : List Post) (here : List (Pid × Held)) → OwesNothing c → Took pid (QuantumSynced posts) here → Works c Queued here c.server posts
   took_synced pid posts here nothing takes =
       let one = takes.ran in
-      let s : Syncs (limits_of c.system) c.number one.was posts one.now = one.ran in
-      let there : held_at c pid ≡ Some (Runs s.process) = one.there ∙ ap Some s.old_is in
+      let acts = synced_acts (limits_of c.system) c.number (is_none (first_unsynced c.family pid)) pid c.here here posts one in
+      let s : Syncs (limits_of c.system) c.number one.was posts one.now = (one.ran).1 in
+      let same : one.mid ≡ c.here = none_again pid one.made c.here one.mid one.again (one.ran).0 in
+      let there : held_at c pid ≡ Some (Runs s.process) = ap (λ hs. held_of hs pid) (sym same) ∙ one.there ∙ ap Some s.old_is in
       let comes : comes_after_children (limits_of c.system) (Runs s.process) ≡ true = or_left (is_due (limits_of c.system) s.process) (is_exit (next_step (state_of s.process))) s.due in
       let none : first_unsynced c.family pid ≡ None = sym (before_from (limits_of c.system) c.family c.here pid (Runs s.process) there comes) ∙ takes.alone in
       subst (Works c Queued here c.server) (sym s.posts_are)
-      (batched pid one.was pid s.process here nothing one.there (syncs_can (limits_of c.system) c.number one.was posts one.now s) there (inl s.due) none
+      (batched pid acts.held pid s.process here nothing acts.there acts.acts there (inl s.due) none
       (λ log go f. record { children = synced_where_none c log f pid none; due = or_left (is_due (limits_of c.system) s.process) (not (has_state c.system log pid)) s.due })
-      (one.here ∙ ap (λ (h : Held). with_changed pid h c.here) s.new_is))
+      (one.here ∙ (λ i. with_changed pid (s.new_is i) (same i))))
 
   -- or the child that comes before it did
   child_synced : (pid : Pid) (posts : List Post) (here : List (Pid × Held)) → OwesNothing c → SyncsChild (limits_of c.system) c.number c.family pid c.here posts here → Works c Queued here c.server posts
@@ -183,21 +206,24 @@ module _ (c : ClusterView) (some : FollowsSome c) (empty : c.queue ≡ []) (own 
   took_fork : (pid : Pid) (forking : Forking) (here : List (Pid × Held)) → OwesNothing c → Took pid (QuantumForks forking) here → Works c Queued here c.server (birth_told c.number c.places forking ∷ [])
   took_fork pid forking here nothing takes =
       let one = takes.ran in
-      let k : ComesToFork (limits_of c.system) 64 one.was forking one.now = one.ran in
-      let mine = own_at_fork (limits_of c.system) c.cursor pid one.was forking one.now (own_at c.cursor c.here pid one.was own one.there) k in
+      let acts = fork_acts (limits_of c.system) c.number (is_none (first_unsynced c.family pid)) pid c.here here forking one in
+      let k : ComesToFork (limits_of c.system) 64 one.made one.was forking one.now = one.ran in
+      let all = own_mid pid one.made one.mid one.again in
+      let mine = own_at_fork (limits_of c.system) c.cursor pid one.made one.was forking one.now (own_at c.cursor one.mid pid one.was all one.there) k in
       let child : Pid = child_of c.number c.places in
       let told : birth_told c.number c.places forking ≡ birth_told c.number c.places (forking_of (k.now).small) = ap (birth_told c.number c.places) k.forking_is in
       let post : birth_told c.number c.places forking ≡ birth_post c.number pid (state_of k.now) child = told ∙ ap (λ p. birth_post c.number p (state_of k.now) child) mine.pid_is in
-      let changed : with_changed pid (Runs k.now) c.here ≡ here = ap (λ (h : Held). with_changed pid h c.here) (sym k.new_is) ∙ sym one.here in
+      let changed : with_changed pid (Runs k.now) one.mid ≡ here = ap (λ (h : Held). with_changed pid h one.mid) (sym k.new_is) ∙ sym one.here in
+      let new : ClusterView = record c { here = with_changed pid (Runs k.now) one.mid; queue = birth_post c.number pid (state_of k.now) child ∷ []; steps = next_count c.steps } in
       subst (λ (p : Post). Works c Queued here c.server (p ∷ [])) (sym post)
       (subst (λ hs. Works c Queued hs c.server (birth_post c.number pid (state_of k.now) child ∷ [])) changed (record {
-        goes_on = birth_goes_on c pid one.was forking one.now k valid empty one.there;
+        goes_on = after_again pid one.made one.mid new one.again (birth_goes_on (record c { here = one.mid }) pid one.made one.was forking one.now k valid empty one.there);
         work = inr (inr (
           nothing,
-          some_moves (limits_of c.system) c.here pid one.was one.there (fork_can (limits_of c.system) 64 one.was forking one.now k),
-          inr (inr (record { pid = pid; was = one.was; forking = forking; now = one.now; there = one.there; comes = k; rest = refl })),
+          busy pid acts,
+          inr (inr (record { pid = pid; made = one.made; mid = one.mid; again = one.again; was = one.was; forking = forking; now = one.now; there = one.there; comes = k; rest = refl })),
         ));
-        residents = own_changed c.cursor pid (Runs k.now) c.here own mine;
+        residents = own_changed c.cursor pid (Runs k.now) one.mid all mine;
         own = ap (λ b. b && true) (eq-eqb (c.number).0 (c.number).0 refl);
         built = refl;
       }))
@@ -230,13 +256,15 @@ module _ (c : ClusterView) (some : FollowsSome c) (empty : c.queue ≡ []) (own 
       subst (Works c Queued new.here c.server) (sym turn.2) (either_synced (pid_of new.last) turn.0 new.here nothing (turn_here old new (QuantumSynced turn.0) limits here turn.1))
   runs old new Waits queue limits here nothing turn =
       let same : new.here ≡ c.here = (turn.0).1 ∙ here in
+      let none : none_has_turn (limits_of c.system) c.family c.here ≡ true = (λ i. none_has_turn (sym limits i) c.family (sym here i)) ∙ (turn.0).0 in
+      let stuck = none_moves c valid some none in
       subst (Works c Waits new.here c.server) (sym turn.2)
-      (subst (λ hs. Works c Waits hs c.server []) (sym same) (still Waits (waited_work c valid empty own nothing (ap any_waits (sym here) ∙ turn.1))))
+      (subst (λ hs. Works c Waits hs c.server []) (sym same) (still Waits (waited_work c valid empty own nothing stuck (ap any_waits (sym here) ∙ turn.1))))
   runs old new Rests queue limits here nothing turn =
       let same : new.here ≡ c.here = (turn.0).1 ∙ here in
       let none : none_has_turn (limits_of c.system) c.family c.here ≡ true = (λ i. none_has_turn (sym limits i) c.family (sym here i)) ∙ (turn.0).0 in
       let unwaited : any_waits c.here ≡ false = ap any_waits (sym here) ∙ turn.1 in
-      subst (Works c Rests new.here c.server) (sym turn.2) (subst (λ hs. Works c Rests hs c.server []) (sym same) (still Rests (rested_work c own nothing (none_moves c valid some none unwaited) unwaited)))
+      subst (Works c Rests new.here c.server) (sym turn.2) (subst (λ hs. Works c Rests hs c.server []) (sym same) (still Rests (rested_work c own nothing (none_moves c valid some none) unwaited)))
 
   after_none : (old new : ResidentsView) (served : Option PagerState) (worked : Worked) (queue : List Post) → old.limits ≡ limits_of c.system → old.here ≡ c.here → NoPages c.number c.places old c.server served → RunsNext c.number c.places c.family old worked new queue → Works c worked new.here served queue
   after_none old new served worked queue limits here none turn =

@@ -1,5 +1,5 @@
--- A process that waits here for its pages, and what an entry makes of it.
-use Rattle.std.proofs.Common.{◌≡◌, ℕ, refl, sym, ◌∙◌, ap, subst, List, [], ◌∷◌, ◌++◌, Bool, true, false, cond, ◌||◌, Some, None, true≢false}
+-- A process that waits here, and what an entry makes of it.
+use Rattle.std.proofs.Common.{◌≡◌, ℕ, refl, sym, ◌∙◌, ap, subst, List, [], ◌∷◌, ◌++◌, Bool, true, false, cond, ◌||◌, inl, Some, None, true≢false}
 use Rattle.std.specs.Prelude.{is_some}
 use Rattle.t32_base.specs.declared.process.Pid.{Pid}
 use Rattle.t32_base.specs.declared.letter.BackRec.{BackRec}
@@ -18,7 +18,7 @@ use Rattle.bus_msg.specs.PlacedAfter.{what}
 use Rattle.roll_forward.specs.Deeds.{Sends}
 use Rattle.cert_sched.specs.Built.{tells_or_closes, BuiltMayFollow}
 use Rattle.cert_sched.specs.Deeds.{deeds_in, is_cut, is_end_of}
-use Rattle.cert_sched.specs.Moved.{any_since_moved, is_fetch, is_page_is}
+use Rattle.cert_sched.specs.Moved.{is_fetch, is_page_is}
 use Rattle.cert_sched.specs.Simulation.{IsUnended}
 use Rattle.cert_sched.specs.Told.{cluster_lost, is_moved}
 use Rattle.cert_sched.specs.Schedule.{placement}
@@ -26,12 +26,15 @@ use Rattle.page_laws.specs.Next.{moves_next}
 use Rattle.cert_sched.proofs.LogLaws.{placement-snoc}
 use Rattle.bus_msg.specs.Places.{unended_at}
 use Rattle.bus_msg.specs.PlacedAfter.{placed_after}
-use Rattle.wait_laws.proofs.Follows.{other_entry, page_within, page_entry}
+use Rattle.wait_laws.proofs.Follows.{page_within, page_entry}
 use Rattle.wait_laws.proofs.GoesOn.{can_go_on, goes_on}
 use Rattle.wait_laws.proofs.PagesCame.{has_all}
 use Rattle.backup_records.specs.Records.{counted_by_sender, is_receiver, record_after, with_counted, with_saved}
+use Rattle.mark_laws.specs.Beside.{is_some_page}
 use Rattle.page_waits.specs.Waiting.{WaitingState, is_whole, rolling_of, with_page}
 use Rattle.wait_laws.specs.Waits.{WaitsAs}
+use Rattle.child_waits.specs.ForkWaits.{WaitsSo}
+use Rattle.child_waits.proofs.EitherWait.{page_for, so_alike, so_follows}
 use Rattle.cluster_core.specs.View.{Waits, Rolls, Runs, page_held, rolling_held}
 use Rattle.cluster_core.specs.Queue.{move_of, state_by}
 use Rattle.cluster_core.specs.Holds.{IsHeldAs, is_fetch_queued, process_in, CarriesMarks, MarkedIfThere, unended_process}
@@ -48,20 +51,6 @@ use Rattle.roll_forward.specs.RunsOut.{nothing_left}
 use Rattle.std.specs.Option.{option_map_or}
 use Rattle.proc_state.specs.State.{state_of, has_ended}
 use Rattle.cluster_core.proofs.MarksBegin.{goes_on_carries}
-
--- ---- what is queued of it
-
--- where the same fetches are queued it waits alike
-pub queued_alike : (system : System) (log : List Entry) (p : Pid) (queued others : ℕ → Bool) (w : WaitingState) → ((i : ℕ) → queued i ≡ others i) → WaitsAs system log p queued w → WaitsAs system log p others w
-queued_alike system log p queued others w alike is = record {
-  kept = is.kept;
-  moved = is.moved;
-  pages = is.pages;
-  some = is.some;
-  at_most = is.at_most;
-  asked = λ i within. is.asked i within ∙ ap (λ b. any_since_moved system log p (is_fetch p i) || b) (alike i);
-  come = is.come;
-}
 
 -- ---- an entry that tells of another process
 
@@ -109,35 +98,38 @@ told_fetches_none p i = by_kind (λ w. is_fetch p i w ≡ false) (λ at letter. 
 told_brings_none : (p : Pid) (i : ℕ) (w : What) → tells_or_closes w ≡ true → is_page_is p i w ≡ false
 told_brings_none p i = by_kind (λ w. is_page_is p i w ≡ false) (λ at letter. refl) (λ pid at end. refl) (λ rests. refl) refl
 
+told_sends_none : (p : Pid) (w : What) → tells_or_closes w ≡ true → is_some_page p w ≡ false
+told_sends_none p = by_kind (λ w. is_some_page p w ≡ false) (λ at letter. refl) (λ pid at end. refl) (λ rests. refl) refl
+
 -- so after it the process waits on, with what it brings
 pub waits_told : (system : System) (log : List Entry) (e : Entry) (before after : List Post) (p : Pid) (waiting : WaitingState) → is_system system ≡ true → IsLegalBy BuiltMayFollow system (log ++ e ∷ []) → IsUnended system log p
-    → tells_or_closes (what e) ≡ true → (waiting.kept).pid ≡ p → deeds_in p (what e) ≡ [] → move_of p after ≡ None → ((i : ℕ) → is_fetch_queued p before i ≡ is_fetch_queued p after i) → WaitsAs system log p (is_fetch_queued p before) waiting
+    → tells_or_closes (what e) ≡ true → (waiting.kept).pid ≡ p → deeds_in p (what e) ≡ [] → move_of p after ≡ None → ((i : ℕ) → is_fetch_queued p before i ≡ is_fetch_queued p after i) → WaitsSo system log p (is_fetch_queued p before) waiting
     → IsHeldAs system (log ++ e ∷ []) after p (arrival_at (what e) p (Waits waiting))
 waits_told system log e before after p waiting valid legal unended tells own none unmoved alike is =
     subst (IsHeldAs system (log ++ e ∷ []) after p) (sym (waits_arrival (what e) p waiting tells own none)) (
       unmoved,
-      other_entry system log e p (is_fetch_queued p after) waiting valid legal unended (quiet_moves_none system log e p (told_moves_none (what e) tells)) (told_cuts_none p (what e) tells) none (λ i. told_brings_none p i (what e) tells)
-          (queued_alike system log p (is_fetch_queued p before) (λ i. is_fetch p i (what e) || is_fetch_queued p after i) waiting (λ i. alike i ∙ ap (λ b. b || is_fetch_queued p after i) (sym (told_fetches_none p i (what e) tells))) is),
+      so_follows system log e p (is_fetch_queued p after) waiting valid legal unended (quiet_moves_none system log e p (told_moves_none (what e) tells)) (told_cuts_none p (what e) tells) none (λ i. told_brings_none p i (what e) tells) (told_sends_none p (what e) tells)
+          (so_alike system log p (is_fetch_queued p before) (λ i. is_fetch p i (what e) || is_fetch_queued p after i) waiting (λ i. alike i ∙ ap (λ b. b || is_fetch_queued p after i) (sym (told_fetches_none p i (what e) tells))) is),
     )
 
 -- ---- an entry of a page
 
 -- one that is neither a page of the process nor a crash, and tells of no deed: a fetch of it that was queued may stand in the log now
 pub waits_page : (system : System) (log : List Entry) (e : Entry) (before after : List Post) (p : Pid) (waiting : WaitingState) → is_system system ≡ true → IsLegalBy BuiltMayFollow system (log ++ e ∷ []) → IsUnended system log p
-    → is_of_page (what e) ≡ true → ((i : ℕ) → is_page_is p i (what e) ≡ false) → move_of p after ≡ None → ((i : ℕ) → is_fetch_queued p before i ≡ (is_fetch p i (what e) || is_fetch_queued p after i)) → WaitsAs system log p (is_fetch_queued p before) waiting
+    → is_of_page (what e) ≡ true → ((i : ℕ) → is_page_is p i (what e) ≡ false) → move_of p after ≡ None → ((i : ℕ) → is_fetch_queued p before i ≡ (is_fetch p i (what e) || is_fetch_queued p after i)) → WaitsSo system log p (is_fetch_queued p before) waiting
     → IsHeldAs system (log ++ e ∷ []) after p (Waits waiting)
 waits_page system log e before after p waiting valid legal unended of other unmoved alike is = (
   unmoved,
-  subst (λ r. WaitsAs system (log ++ e ∷ []) p (is_fetch_queued p after) (record waiting { kept = r })) (by_page (λ w. record_after w waiting.kept ≡ waiting.kept) (λ pid index. refl) (λ pid index bytes. refl) (what e) of)
-      (other_entry system log e p (is_fetch_queued p after) waiting valid legal unended (quiet_moves_none system log e p (by_page (λ w. cluster_lost w ≡ None) (λ pid index. refl) (λ pid index bytes. refl) (what e) of))
-      (by_page (λ w. is_cut p w ≡ false) (λ pid index. refl) (λ pid index bytes. refl) (what e) of) (by_page (λ w. deeds_in p w ≡ []) (λ pid index. refl) (λ pid index bytes. refl) (what e) of) other
-      (queued_alike system log p (is_fetch_queued p before) (λ i. is_fetch p i (what e) || is_fetch_queued p after i) waiting alike is)),
+  subst (λ r. WaitsSo system (log ++ e ∷ []) p (is_fetch_queued p after) (record waiting { kept = r })) (by_page (λ w. record_after w waiting.kept ≡ waiting.kept) (λ pid index. refl) (λ pid index bytes. refl) (what e) of)
+      (so_follows system log e p (is_fetch_queued p after) waiting valid legal unended (quiet_moves_none system log e p (by_page (λ w. cluster_lost w ≡ None) (λ pid index. refl) (λ pid index bytes. refl) (what e) of))
+      (by_page (λ w. is_cut p w ≡ false) (λ pid index. refl) (λ pid index bytes. refl) (what e) of) (by_page (λ w. deeds_in p w ≡ []) (λ pid index. refl) (λ pid index bytes. refl) (what e) of) other (by_page (λ w. is_some_page p w ≡ false) (λ pid index. refl) (λ pid index bytes. refl) (what e) of)
+      (so_alike system log p (is_fetch_queued p before) (λ i. is_fetch p i (what e) || is_fetch_queued p after i) waiting alike is)),
 )
 
 -- a page of it that comes: it waits with that page, or goes on where it was the last
-pub waits_come : (system : System) (log : List Entry) (e : Entry) (queue : List Post) (p : Pid) (i : ℕ) (bytes : List ℕ) (waiting : WaitingState) → is_system system ≡ true → IsOpen BuiltMayFollow system (log ++ e ∷ []) → IsUnended system log p → IsUnended system (log ++ e ∷ []) p
+pages_come : (system : System) (log : List Entry) (e : Entry) (queue : List Post) (p : Pid) (i : ℕ) (bytes : List ℕ) (waiting : WaitingState) → is_system system ≡ true → IsOpen BuiltMayFollow system (log ++ e ∷ []) → IsUnended system log p → IsUnended system (log ++ e ∷ []) p
     → what e ≡ PageIs p i bytes → move_of p queue ≡ None → WaitsAs system log p (is_fetch_queued p queue) waiting → IsHeldAs system (log ++ e ∷ []) queue p (page_held i bytes (Waits waiting))
-waits_come system log e queue p i bytes waiting valid next unended after is none waits = by_whole (is_whole now) refl
+pages_come system log e queue p i bytes waiting valid next unended after is none waits = by_whole (is_whole now) refl
   where
     later : List Entry
     later = log ++ e ∷ []
@@ -156,12 +148,12 @@ waits_come system log e queue p i bytes waiting valid next unended after is none
     by_whole true whole =
         let goes = goes_on system later p (is_fetch_queued p queue) now valid next.0 after still whole in
         subst (λ o. IsHeldAs system later queue p (option_map_or rolling_held o (Waits now))) (sym goes.is) (by_left goes.rolling goes.behind (nothing_left (goes.rolling).counts (goes.rolling).births) refl)
-    by_whole false lacks = (none, still)
+    by_whole false lacks = (none, inl still)
 
 -- where it goes on it has its pages
-pub has_come : (system : System) (log : List Entry) (e : Entry) (queue : List Post) (p : Pid) (i : ℕ) (bytes : List ℕ) (waiting : WaitingState) → is_system system ≡ true → IsLegalBy BuiltMayFollow system (log ++ e ∷ []) → IsUnended system log p
+pages_has : (system : System) (log : List Entry) (e : Entry) (queue : List Post) (p : Pid) (i : ℕ) (bytes : List ℕ) (waiting : WaitingState) → is_system system ≡ true → IsLegalBy BuiltMayFollow system (log ++ e ∷ []) → IsUnended system log p
     → what e ≡ PageIs p i bytes → WaitsAs system log p (is_fetch_queued p queue) waiting → is_some (process_in (page_held i bytes (Waits waiting))) ≡ true → has_its_pages system (log ++ e ∷ []) p ≡ true
-has_come system log e queue p i bytes waiting valid legal unended is waits = by_whole (is_whole now) refl
+pages_has system log e queue p i bytes waiting valid legal unended is waits = by_whole (is_whole now) refl
   where
     now : WaitingState
     now = with_page i bytes waiting
@@ -171,9 +163,9 @@ has_come system log e queue p i bytes waiting valid legal unended is waits = by_
     by_whole false lacks goes = absurd (true≢false (sym goes))
 
 -- and begins with the marks of its start
-pub come_marked : (system : System) (log : List Entry) (e : Entry) (queue : List Post) (p : Pid) (i : ℕ) (bytes : List ℕ) (waiting : WaitingState) → is_system system ≡ true → IsLegalBy BuiltMayFollow system (log ++ e ∷ []) → IsUnended system log p
+pages_marked : (system : System) (log : List Entry) (e : Entry) (queue : List Post) (p : Pid) (i : ℕ) (bytes : List ℕ) (waiting : WaitingState) → is_system system ≡ true → IsLegalBy BuiltMayFollow system (log ++ e ∷ []) → IsUnended system log p
     → IsUnended system (log ++ e ∷ []) p → what e ≡ PageIs p i bytes → WaitsAs system log p (is_fetch_queued p queue) waiting → MarkedIfThere CarriesMarks system (log ++ e ∷ []) p (unended_process (page_held i bytes (Waits waiting)))
-come_marked system log e queue p i bytes waiting valid legal unended after is waits = by_whole (is_whole now) refl
+pages_marked system log e queue p i bytes waiting valid legal unended after is waits = by_whole (is_whole now) refl
   where
     later : List Entry
     later = log ++ e ∷ []
@@ -202,9 +194,30 @@ come_marked system log e queue p i bytes waiting valid legal unended after is wa
     by_whole false lacks = tt
 
 -- such a page is one of its pages, and where it is the last that lacked the process can go on
-pub may_come_to : (system : System) (log : List Entry) (e : Entry) (queue : List Post) (p : Pid) (i : ℕ) (bytes : List ℕ) (waiting : WaitingState) → is_system system ≡ true → IsLegalBy BuiltMayFollow system (log ++ e ∷ []) → IsUnended system log p
+pages_may : (system : System) (log : List Entry) (e : Entry) (queue : List Post) (p : Pid) (i : ℕ) (bytes : List ℕ) (waiting : WaitingState) → is_system system ≡ true → IsLegalBy BuiltMayFollow system (log ++ e ∷ []) → IsUnended system log p
     → what e ≡ PageIs p i bytes → WaitsAs system log p (is_fetch_queued p queue) waiting → CanComeTo i bytes (Waits waiting)
-may_come_to system log e queue p i bytes waiting valid legal unended is waits = (
+pages_may system log e queue p i bytes waiting valid legal unended is waits = (
   page_within system log e p (is_fetch_queued p queue) waiting valid legal i bytes is waits,
   λ whole. can_go_on system (log ++ e ∷ []) p (is_fetch_queued p queue) (with_page i bytes waiting) valid legal (ap (λ places. is_some (unended_at places p)) (placement-snoc system log e ∙ ap (placed_after (placement system log)) is) ∙ unended) (page_entry system log e p (is_fetch_queued p queue) waiting valid legal i bytes is waits unended) whole,
 )
+
+-- ---- the same of one that may wait for its parent's fork: no page comes to such a one
+
+module _ (system : System) (log : List Entry) (e : Entry) (queue : List Post) (p : Pid) (i : ℕ) (bytes : List ℕ) (waiting : WaitingState) (valid : is_system system ≡ true) where
+  for_pages : IsLegalBy BuiltMayFollow system (log ++ e ∷ []) → what e ≡ PageIs p i bytes → WaitsSo system log p (is_fetch_queued p queue) waiting → WaitsAs system log p (is_fetch_queued p queue) waiting
+  for_pages legal is waits = page_for system log e p i bytes (is_fetch_queued p queue) waiting legal is waits
+
+  pub waits_come : IsOpen BuiltMayFollow system (log ++ e ∷ []) → IsUnended system log p → IsUnended system (log ++ e ∷ []) p → what e ≡ PageIs p i bytes → move_of p queue ≡ None → WaitsSo system log p (is_fetch_queued p queue) waiting
+      → IsHeldAs system (log ++ e ∷ []) queue p (page_held i bytes (Waits waiting))
+  waits_come next unended after is none waits = pages_come system log e queue p i bytes waiting valid next unended after is none (for_pages next.0 is waits)
+
+  pub has_come : IsLegalBy BuiltMayFollow system (log ++ e ∷ []) → IsUnended system log p → what e ≡ PageIs p i bytes → WaitsSo system log p (is_fetch_queued p queue) waiting → is_some (process_in (page_held i bytes (Waits waiting))) ≡ true
+      → has_its_pages system (log ++ e ∷ []) p ≡ true
+  has_come legal unended is waits = pages_has system log e queue p i bytes waiting valid legal unended is (for_pages legal is waits)
+
+  pub come_marked : IsLegalBy BuiltMayFollow system (log ++ e ∷ []) → IsUnended system log p → IsUnended system (log ++ e ∷ []) p → what e ≡ PageIs p i bytes → WaitsSo system log p (is_fetch_queued p queue) waiting
+      → MarkedIfThere CarriesMarks system (log ++ e ∷ []) p (unended_process (page_held i bytes (Waits waiting)))
+  come_marked legal unended after is waits = pages_marked system log e queue p i bytes waiting valid legal unended after is (for_pages legal is waits)
+
+  pub may_come_to : IsLegalBy BuiltMayFollow system (log ++ e ∷ []) → IsUnended system log p → what e ≡ PageIs p i bytes → WaitsSo system log p (is_fetch_queued p queue) waiting → CanComeTo i bytes (Waits waiting)
+  may_come_to legal unended is waits = pages_may system log e queue p i bytes waiting valid legal unended is (for_pages legal is waits)

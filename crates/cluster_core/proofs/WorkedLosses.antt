@@ -1,5 +1,5 @@
 -- Worked views of the cluster that takes over: cluster 0 is lost directly after the synchronisation of the reader, and after its letter to the terminal; by computation, and views that are refused.
-use Rattle.std.proofs.Common.{◌≡◌, ℕ, refl, ap, arith, List, [], ◌∷◌, replicate, length, false, cond, get_or, Option, Some, None, lit<, lit≤}
+use Rattle.std.proofs.Common.{◌≡◌, ℕ, refl, ap, arith, List, [], ◌∷◌, replicate, length, false, cond, get_or, Option, Some, None, inl, lit<, lit≤}
 use Rattle.std.specs.Prelude.{slice_set}
 use Rattle.std.specs.Option.{option_map_or}
 use Rattle.t32_base.specs.declared.process.Pid.{Pid}
@@ -33,6 +33,7 @@ use Rattle.cert_sched.specs.Built.{BuiltMayFollow}
 use Rattle.record_laws.specs.Kept.{has_backup_in}
 use Rattle.page_waits.specs.Waiting.{WaitingState}
 use Rattle.wait_laws.specs.Waits.{WaitsAs, none_queued}
+use Rattle.child_waits.proofs.EitherWait.{kept_so}
 use Rattle.cluster_core.specs.View.{ClusterView, Held, Runs, Rolls, Waits, page_held}
 use Rattle.cluster_core.specs.Holds.{HoldsProcesses, HoldsRecords, IsHeldAs}
 use Rattle.cluster_core.proofs.WorkedRecords.{each_pid, ended_4, ended_log}
@@ -100,7 +101,7 @@ writer_runs = refl
 -- both processes stand in cluster 1 then
 lost_held : HoldsProcesses far_system lost_log (lost_view (Waits (waiting (end_letter ∷ []) no_counts 0)))
 unfolding placement
-lost_held = record { held = both _ _ (IsHeldAs far_system lost_log []) (refl, reader_waits_cut) writer_runs; each_once = refl }
+lost_held = record { held = both _ _ (IsHeldAs far_system lost_log []) (refl, inl reader_waits_cut) writer_runs; each_once = refl }
 
 -- neither may be left out,
 left_out : HoldsProcesses far_system lost_log (record (lost_view (Runs writer_ends)) { here = (pid 17, Runs writer_ends) ∷ [] }) → ⊥
@@ -110,7 +111,7 @@ left_out holds = differ 1 2 refl (ap length holds.each_once)
 -- and the letter that the reader had read before is saved no more
 read_refused : HoldsProcesses far_system lost_log (lost_view (Waits (waiting (read_letter ∷ end_letter ∷ []) no_counts 0))) → ⊥
 unfolding boot one_step steps silently plain_after placement told silent_upto emission_at backup_record
-read_refused holds = differ 1 2 refl (ap (λ (o : Option BackRec). option_map_or (λ (r : BackRec). length r.saved) o 0) (holds.held (pid 16) (Waits (waiting (read_letter ∷ end_letter ∷ []) no_counts 0)) refl).1.kept)
+read_refused holds = differ 1 2 refl (ap (λ (o : Option BackRec). option_map_or (λ (r : BackRec). length r.saved) o 0) (kept_so far_system lost_log (pid 16) none_queued (waiting (read_letter ∷ end_letter ∷ []) no_counts 0) (holds.held (pid 16) (Waits (waiting (read_letter ∷ end_letter ∷ []) no_counts 0)) refl).1))
 
 -- the backup of neither lives, so the cluster has no record
 abbrev record_due_there : Pid → Option BackRec

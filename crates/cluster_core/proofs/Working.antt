@@ -35,6 +35,7 @@ use Rattle.quanta.specs.declared.limits.Limits.{Limits}
 use Rattle.quanta.specs.Limited.{is_due}
 use Rattle.cluster_core.specs.View.{ClusterView, Held, Runs, Rolls, Waits, IsHeldWithin, can_act, held_at, held_of, limits_of, next_count, counted_once, tried_once}
 use Rattle.cluster_core.specs.Residents.{pids_in, with_changed}
+use Rattle.cluster_core.specs.ForkingAgain.{RollsAgain}
 use Rattle.cluster_core.specs.Parts.{IsOwn}
 use Rattle.cluster_core.proofs.Served.{accounts_queued}
 use Rattle.cluster_core.specs.Queue.{IsQueued, IsQueueLegal, Nothing, One, is_lone, move_of, taken_by, state_by, state_now, with_queue}
@@ -42,18 +43,18 @@ use Rattle.cluster_core.specs.Holds.{CarriesMarks, HoldsLimits, HoldsPages, IsHe
 use Rattle.cluster_core.specs.Syncing.{Synchronises}
 use Rattle.cluster_core.specs.Bearing.{BearsChild}
 use Rattle.cluster_core.specs.Follows.{FollowsBuilt, IsOpen}
-use Rattle.cluster_core.specs.Calls.{GoesOn, OwesNothing, WorkIs, is_at_rest, are_at_rest}
+use Rattle.cluster_core.specs.Calls.{GoesOn, OwesNothing, WorkIs, is_at_rest, are_at_rest, is_resting}
 use Rattle.cluster_core.specs.declared.quantum.Sending.{Sending}
 use Rattle.cluster_core.specs.Quantum.{EndsChildless, Moves, RollsTo, RunsTo, Sends, told_of, post_told}
 use Rattle.cluster_core.proofs.ChildrenKept.{synced_where_none}
 use Rattle.cluster_core.proofs.Here.{FoundChanged, found_changed, is_among, pid_same, pids_changed}
 use Rattle.cluster_core.proofs.Telling.{done_is}
-use Rattle.cluster_core.proofs.Quanta.{moves_can, sends_can}
 use Rattle.cluster_core.proofs.Catching.{rolled_held}
 use Rattle.limit_laws.proofs.SendingLimits.{sent_keeps}
 use Rattle.cluster_core.proofs.Within.{carried, rolled_within, runs_marked}
 use Rattle.cluster_core.proofs.KeptLimits.{told_keeps}
-use Rattle.cluster_core.proofs.Waiting.{queued_alike}
+use Rattle.child_waits.proofs.EitherWait.{so_alike}
+use Rattle.cluster_core.proofs.ForksAgain.{forks_changed, ran_forks, run_forks}
 use Rattle.cluster_core.proofs.Marking.{marked_queued, queue_tells}
 use Rattle.cluster_core.proofs.RunMarks.{marked_ran, marked_rolled, marked_runs, marked_sends}
 use Rattle.record_laws.proofs.Standing.{built_stands}
@@ -174,6 +175,7 @@ goes_on_rested c log now f = record {
   marks = f.marks;
   records = f.records;
   family = f.family;
+  forks = f.forks;
   accounts = record { keeps = (f.accounts).keeps; there = (f.accounts).there; calls = (f.accounts).calls };
   disk = f.disk;
 }
@@ -197,6 +199,7 @@ follows_tried c log f = record {
   marks = f.marks;
   records = f.records;
   family = f.family;
+  forks = f.forks;
   accounts = record { keeps = (f.accounts).keeps; there = (f.accounts).there; calls = (f.accounts).calls };
   disk = f.disk;
 }
@@ -239,12 +242,8 @@ some_moves limits (e ∷ here) p h there can = by_test (same_pid e.0 p) there (s
         first (is_at_rest limits e.1) (are_at_rest limits here) (ap (is_at_rest limits) (sym same) ∙ moves h can)
     by_test false is more = none (is_at_rest limits e.1) (are_at_rest limits here) (more is can)
 
-pub moved_work : (c : ClusterView) (p : Pid) (was now : Held) → OwesNothing c → held_at c p ≡ Some was → Moves (limits_of c.system) 64 was now → WorkIs c Moved (moved_view c (with_changed p now c.here))
-moved_work c p was now nothing there moves = (
-  nothing,
-  some_moves (limits_of c.system) c.here p was there (moves_can (limits_of c.system) 64 was now moves),
-  record { pid = p; was = was; now = now; there = there; moves = moves; rest = refl },
-)
+pub moved_work : (c : ClusterView) (p : Pid) (made : ℕ) (mid : List (Pid × Held)) (was now : Held) → OwesNothing c → is_resting c ≡ false → RollsAgain p made c.here mid → held_of mid p ≡ Some was → Moves (limits_of c.system) 64 made was now → WorkIs c Moved (moved_view c (with_changed p now mid))
+moved_work c p made mid was now nothing busy again there moves = (nothing, busy, record { pid = p; made = made; mid = mid; again = again; was = was; now = now; there = there; moves = moves; rest = refl })
 
 -- what is held after one process has changed, where the others are held as before
 pub held_beside : (c : ClusterView) (log : List Entry) (p : Pid) (now : Held) (queue : List Post) → FollowsBuilt c.system log c
@@ -263,11 +262,11 @@ held_beside c log p now queue f mine others q h at = by_pid (same_pid q p) refl
         let old : IsHeldAs c.system log c.queue q w.was = (f.processes).held q w.was w.there in
         subst (λ (x : Held). IsHeldAs c.system log queue q x) (sym (w.is.1 other)) (others q w.was other old)
 
--- who can move runs or rolls forward
-can_in : (limits : Limits) (h : Held) → can_act limits h ≡ true → is_some (process_in h) ≡ true
-can_in limits (Runs s) can = refl
-can_in limits (Rolls s counts births) can = refl
-can_in limits (Waits waiting) can = absurd (true≢false (sym can))
+-- who makes steps runs or rolls forward
+runs_in : (m : ℕ) (was now : Held) → RunsTo m was now → is_some (process_in was) ≡ true
+runs_in m (Runs s) now runs = refl
+runs_in m (Rolls s counts births) now runs = refl
+runs_in m (Waits waiting) now runs = absurd runs
 
 -- the others have their pages as before
 pub pages_beside : (c : ClusterView) (log : List Entry) (p : Pid) (now : Held) → HoldsPages c.system log c → (is_some (process_in now) ≡ true → has_its_pages c.system log p ≡ true)
@@ -322,17 +321,19 @@ module _ (c : ClusterView) (p : Pid) (was : Held) (empty : c.queue ≡ []) (ther
   pub home_of_it : HomeHere (placement c.system log) p c.number
   home_of_it = home_here (placement c.system log) c.number (pids_in c.here) p (differ_built c.system log valid now.0) (f.processes).each_once (is_among c.here p was there)
 
-  -- after steps that are withheld it is held as the log says
+  -- it is held as the log says, where nothing is queued
+  pub held_there : IsHeldAs c.system log [] p was
+  held_there = subst (λ ps. IsHeldAs c.system log ps p was) empty ((f.processes).held p was there)
+
+  -- after steps that are withheld so it is
   pub held_between : (n : ℕ) (between : Held) → RollsTo n was between → IsHeldAs c.system log [] p between
-  held_between n between rolls =
-      rolled_held c.system log p valid now (ap is_some home_of_it.found) n was between
-      (subst (λ ps. IsHeldAs c.system log ps p was) empty ((f.processes).held p was there)) rolls
+  held_between n between rolls = rolled_held c.system log p valid now (ap is_some home_of_it.found) n was between held_there rolls
 
   -- and after silent ones
-  pub held_moved : (new : Held) → Moves (limits_of c.system) 64 was new → IsHeldAs c.system log [] p new
-  held_moved new m = by_parts m.between new (held_between m.rolled m.between m.rolls) m.runs
+  pub held_moved : (made : ℕ) (new : Held) → Moves (limits_of c.system) 64 made was new → IsHeldAs c.system log [] p new
+  held_moved made new m = by_parts was new held_there m.runs
     where
-      by_parts : (between new : Held) → IsHeldAs c.system log [] p between → RunsTo m.silent between new → IsHeldAs c.system log [] p new
+      by_parts : (was new : Held) → IsHeldAs c.system log [] p was → RunsTo m.silent was new → IsHeldAs c.system log [] p new
       by_parts (Runs q) (Runs r) held runs = ahead_moved c.system log p (state_of q) (state_of r) m.silent held runs.silent
       by_parts (Runs q) (Rolls r left unborn) held runs = absurd runs
       by_parts (Runs q) (Waits waiting) held runs = absurd runs
@@ -340,41 +341,38 @@ module _ (c : ClusterView) (p : Pid) (was : Held) (empty : c.queue ≡ []) (ther
       by_parts (Waits waiting) new held runs = absurd runs
 
   -- its marks, where nothing is queued
-  marked_now : MarkedIfThere CarriesMarks c.system log p (unended_process was)
+  pub marked_now : MarkedIfThere CarriesMarks c.system log p (unended_process was)
   marked_now = subst (λ ps. MarkedIfThere CarriesMarks c.system (with_queue c.system log ps) p (unended_process was)) empty (f.marks p was there)
 
   legal_now : IsLegalBy Stands c.system log
   legal_now = built_stands c.system log now.0
 
   pub marked_between : (n : ℕ) (between : Held) → RollsTo n was between → MarkedIfThere CarriesMarks c.system log p (unended_process between)
-  marked_between n between rolls =
-      marked_rolled c.system log p valid legal_now (ap is_some home_of_it.found) n was between (subst (λ ps. IsHeldAs c.system log ps p was) empty ((f.processes).held p was there)) rolls marked_now
+  marked_between n between rolls = marked_rolled c.system log p valid legal_now (ap is_some home_of_it.found) n was between held_there rolls marked_now
 
   -- steps that are withheld leave it within its limits
   pub within_between : (n : ℕ) (between : Held) → RollsTo n was between → IsHeldWithin (limits_of c.system) between
-  within_between n between rolls =
-      rolled_within c.system log p valid now (ap is_some home_of_it.found) n was between (subst (λ ps. IsHeldAs c.system log ps p was) empty ((f.processes).held p was there)) rolls
-      (held_between n between rolls) (marked_between n between rolls) (f.limits p was there)
+  within_between n between rolls = rolled_within c.system log p valid now (ap is_some home_of_it.found) n was between held_there rolls (held_between n between rolls) (marked_between n between rolls) (f.limits p was there)
 
-  pub moved_marked : (new : Held) → Moves (limits_of c.system) 64 was new → MarkedIfThere CarriesMarks c.system log p (unended_process new)
-  moved_marked new m =
-      marked_runs c.system log p valid legal_now (ap is_some home_of_it.found) m.silent m.between new (held_between m.rolled m.between m.rolls) m.runs (marked_between m.rolled m.between m.rolls)
+  pub moved_marked : (made : ℕ) (new : Held) → Moves (limits_of c.system) 64 made was new → MarkedIfThere CarriesMarks c.system log p (unended_process new)
+  moved_marked made new m = marked_runs c.system log p valid legal_now (ap is_some home_of_it.found) m.silent was new held_there m.runs marked_now
 
-pub moved_goes_on : (c : ClusterView) (p : Pid) (was new : Held) → is_system c.system ≡ true → c.queue ≡ [] → held_at c p ≡ Some was → Moves (limits_of c.system) 64 was new → GoesOn c (moved_view c (with_changed p new c.here))
-moved_goes_on c p was new valid empty there moves log go f = record {
+pub moved_goes_on : (c : ClusterView) (p : Pid) (made : ℕ) (was new : Held) → is_system c.system ≡ true → c.queue ≡ [] → held_at c p ≡ Some was → Moves (limits_of c.system) 64 made was new → GoesOn c (moved_view c (with_changed p new c.here))
+moved_goes_on c p made was new valid empty there moves log go f = record {
   log = record { cursor = (f.log).cursor; places = (f.log).places };
   processes = record {
-    held = held_beside c log p new c.queue f (subst (λ ps. IsHeldAs c.system log ps p new) (sym empty) (held_moved c p was empty there valid log go f new moves)) (λ q h other as_before. as_before);
+    held = held_beside c log p new c.queue f (subst (λ ps. IsHeldAs c.system log ps p new) (sym empty) (held_moved c p was empty there valid log go f made new moves)) (λ q h other as_before. as_before);
     each_once = ap rising (pids_changed p new c.here) ∙ (f.processes).each_once;
   };
   queue = record { own = (f.queue).own; legal = (f.queue).legal };
   queued = inl (record { queued = Nothing; posts = empty; together = tt });
   steps = record { counted = λ kept. more_counted (least_steps log log c.number + cond c.tried 1 0) c.steps ((f.steps).counted kept) };
-  limits = limits_beside c p new f.limits (moves.within (within_between c p was empty there valid log go f moves.rolled moves.between moves.rolls));
-  pages = pages_beside c log p new f.pages (λ some. f.pages p was there (can_in (limits_of c.system) was (moves_can (limits_of c.system) 64 was new moves)));
-  marks = marks_beside c log p new c.queue f (subst (λ ps. MarkedIfThere CarriesMarks c.system (with_queue c.system log ps) p (unended_process new)) (sym empty) (moved_marked c p was empty there valid log go f new moves)) (λ q h other held m. m);
+  limits = limits_beside c p new f.limits (moves.within (f.limits p was there));
+  pages = pages_beside c log p new f.pages (λ some. f.pages p was there (runs_in moves.silent was new moves.runs));
+  marks = marks_beside c log p new c.queue f (subst (λ ps. MarkedIfThere CarriesMarks c.system (with_queue c.system log ps) p (unended_process new)) (sym empty) (moved_marked c p was empty there valid log go f made new moves)) (λ q h other held m. m);
   records = f.records;
   family = f.family;
+  forks = forks_changed c.family p was new c.here there (ran_forks moves.silent was new moves.runs) f.forks;
   accounts = record { keeps = (f.accounts).keeps; there = (f.accounts).there; calls = (f.accounts).calls };
   disk = f.disk;
 }
@@ -457,7 +455,7 @@ fetches_none pid q at k (Sent letter) i = refl
 fetches_none pid q at k (Ended end) i = refl
 
 -- what it was, where its quantum sent something
-module _ (c : ClusterView) (p : Pid) (was : Held) (sending : Sending) (new : Held) (s : Sends (limits_of c.system) 64 was sending new) (post : Post)
+module _ (c : ClusterView) (p : Pid) (made : ℕ) (was : Held) (sending : Sending) (new : Held) (s : Sends (limits_of c.system) 64 made was sending new) (post : Post)
     (post_is : post ≡ post_told c.number p ((s.now).small).steps sending.emission) (empty : c.queue ≡ []) (there : held_at c p ≡ Some was) (own : IsOwn c.cursor p s.between) (childless : EndsChildless (is_none (first_unsynced c.family p)) sending.emission) where
   none_is : {X : Type 0} → (o : Option X) → is_none o ≡ true → o ≡ None
   none_is None is = refl
@@ -468,6 +466,9 @@ module _ (c : ClusterView) (p : Pid) (was : Held) (sending : Sending) (new : Hel
 
   abbrev e : Emission
   e = sending.emission
+
+  runs_there : held_at c p ≡ Some (Runs s.between)
+  runs_there = there ∙ ap Some s.old_is
 
   before_own : ((s.before).small).pid ≡ p
   before_own = (silently_counts s.silent (state_of s.between) (state_of s.before) (s.runs).silent).pid ∙ own.pid_is
@@ -483,18 +484,18 @@ module _ (c : ClusterView) (p : Pid) (was : Held) (sending : Sending) (new : Hel
 
   module _ (valid : is_system c.system ≡ true) (has : (c.number).0 < (c.system).clusters) (log : List Entry) (go : IsOpen BuiltMayFollow c.system log) (f : FollowsBuilt c.system log c) where
     emission_is : emission_at c.system log p at ≡ Some (e, state_of s.now)
-    emission_is = ahead_sent c.system log p (state_of s.between) (state_of s.before) (state_of s.now) s.silent e (held_between c p was empty there valid log go f s.rolled (Runs s.between) s.rolls) (s.runs).silent s.sends
+    emission_is = ahead_sent c.system log p (state_of s.between) (state_of s.before) (state_of s.now) s.silent e (held_there c p (Runs s.between) empty runs_there valid log go f) (s.runs).silent s.sends
 
     -- before it sent that it ran, with its marks
     reached_before : silent_upto c.system log p ((s.before).small).steps ≡ Some (state_of s.before)
-    reached_before = ahead_moved c.system log p (state_of s.between) (state_of s.before) s.silent (held_between c p was empty there valid log go f s.rolled (Runs s.between) s.rolls) (s.runs).silent
+    reached_before = ahead_moved c.system log p (state_of s.between) (state_of s.before) s.silent (held_there c p (Runs s.between) empty runs_there valid log go f) (s.runs).silent
 
     marked_before : MarkedIfThere CarriesMarks c.system log p (unended_process (Runs s.before))
     marked_before =
         let home = home_of_it c p was empty there valid log go f in
         let legal = built_stands c.system log go.0 in
-        marked_ran c.system log p valid legal (ap is_some home.found) s.silent s.between s.before (held_between c p was empty there valid log go f s.rolled (Runs s.between) s.rolls) s.runs
-        (marked_between c p was empty there valid log go f s.rolled (Runs s.between) s.rolls)
+        marked_ran c.system log p valid legal (ap is_some home.found) s.silent s.between s.before (held_there c p (Runs s.between) empty runs_there valid log go f) s.runs
+        (marked_now c p (Runs s.between) empty runs_there valid log go f)
 
     -- and was not due, so that it keeps the limits of the log
     keeps : keeps_limits c.system log p (state_of s.now) ≡ true
@@ -517,7 +518,7 @@ module _ (c : ClusterView) (p : Pid) (was : Held) (sending : Sending) (new : Hel
       built = built_of p at e;
       limits = told_keeps c.system log p at e (state_of s.now) emission_is (told_of p at e) tells keeps;
       new_page = changed_none c.system log p at e;
-      pages = waits_of_post c.system log p at c.number e tells (f.pages p was there (can_in (limits_of c.system) was (sends_can (limits_of c.system) 64 was sending new s)));
+      pages = waits_of_post c.system log p at c.number e tells (f.pages p was there (ap (λ (h : Held). is_some (process_in h)) s.old_is));
     }
 
     -- it is marked as the log says, and also with the post in it
@@ -535,7 +536,7 @@ module _ (c : ClusterView) (p : Pid) (was : Held) (sending : Sending) (new : Hel
     others q (Rolls r counts births) other as_before = (ap (λ (x : Post). move_of q (x ∷ [])) post_is ∙ moves_no_other p q at c.number e tells other, as_before.1)
     others q (Waits waiting) other as_before = (
       ap (λ (x : Post). move_of q (x ∷ [])) post_is ∙ moves_no_other p q at c.number e tells other,
-      queued_alike c.system log q (is_fetch_queued q c.queue) (is_fetch_queued q (post ∷ [])) waiting (λ i. ap (λ ps. is_fetch_queued q ps i) empty ∙ sym (ap (λ (x : Post). is_fetch_queued q (x ∷ []) i) post_is ∙ fetches_none p q at c.number e i)) as_before.1,
+      so_alike c.system log q (is_fetch_queued q c.queue) (is_fetch_queued q (post ∷ [])) waiting (λ i. ap (λ ps. is_fetch_queued q ps i) empty ∙ sym (ap (λ (x : Post). is_fetch_queued q (x ∷ []) i) post_is ∙ fetches_none p q at c.number e i)) as_before.1,
     )
 
     may_post : UnlostMayFollow c.system log (entry_of c.system log post)
@@ -572,11 +573,12 @@ module _ (c : ClusterView) (p : Pid) (was : Held) (sending : Sending) (new : Hel
     };
     queued = inl (record { queued = One post; posts = refl; together = lone_post valid has log go f });
     steps = record { counted = λ kept. more_counted (least_steps log log c.number + cond c.tried 1 0) c.steps ((f.steps).counted kept) };
-    limits = limits_beside c p (Runs s.now) f.limits (s.within (within_between c p was empty there valid log go f s.rolled (Runs s.between) s.rolls));
-    pages = pages_beside c log p (Runs s.now) f.pages (λ some. f.pages p was there (can_in (limits_of c.system) was (sends_can (limits_of c.system) 64 was sending new s)));
+    limits = limits_beside c p (Runs s.now) f.limits (s.within (f.limits p (Runs s.between) runs_there));
+    pages = pages_beside c log p (Runs s.now) f.pages (λ some. f.pages p was there (ap (λ (h : Held). is_some (process_in h)) s.old_is));
     marks = marks_beside c log p (Runs s.now) (post ∷ []) f (sent_marked valid has log go f) (others_marked valid has log go f);
     records = f.records;
     family = f.family;
+    forks = forks_changed c.family p (Runs s.between) (Runs s.now) c.here runs_there (run_forks s.between s.now) f.forks;
     accounts = accounts_queued c.system log c (posted_view c (with_changed p (Runs s.now) c.here) post) post refl refl empty refl no_page f.accounts;
     disk = f.disk;
   }
@@ -587,22 +589,25 @@ module _ (c : ClusterView) (p : Pid) (was : Held) (sending : Sending) (new : Hel
       no_page : is_page_is_entry post.what ≡ false
       no_page = ap (λ (q : Post). is_page_is_entry q.what) post_is ∙ no_page_of p at e
 
-  pub posted_work : OwesNothing c → WorkIs c Queued (posted_view c (with_changed p (Runs s.now) c.here) post)
-  posted_work nothing =
-      let named : sending.pid ≡ p = s.pid_is ∙ now_own in
-      let one : Sending = record { pid = p; at = at; emission = e } in
-      let same : sending ≡ one = λ i. record { pid = named i; at = s.at_is i; emission = e } in
-      inr (inr (
-        nothing,
-        some_moves (limits_of c.system) c.here p was there (sends_can (limits_of c.system) 64 was sending new s),
-        inl (record {
-          pid = p;
-          was = was;
-          now = s.now;
-          emission = e;
-          there = there;
-          sends = subst (λ (x : Held). Sends (limits_of c.system) 64 was one x) s.new_is (subst (λ (x : Sending). Sends (limits_of c.system) 64 was x new) same s);
-          childless = childless;
-          rest = λ i. record c { here = with_changed p (Runs s.now) c.here; queue = post_is i ∷ []; steps = next_count c.steps };
-        }),
-      ))
+pub posted_work : (c : ClusterView) (p : Pid) (made : ℕ) (mid : List (Pid × Held)) (was : Held) (sending : Sending) (new : Held) (s : Sends (limits_of c.system) 64 made was sending new) (post : Post) → post ≡ post_told c.number p ((s.now).small).steps sending.emission → sending.pid ≡ p → OwesNothing c → is_resting c ≡ false
+    → RollsAgain p made c.here mid → held_of mid p ≡ Some was → EndsChildless (is_none (first_unsynced c.family p)) sending.emission → WorkIs c Queued (posted_view c (with_changed p (Runs s.now) mid) post)
+posted_work c p made mid was sending new s post post_is named nothing busy again there childless =
+    let one : Sending = record { pid = p; at = ((s.now).small).steps; emission = sending.emission } in
+    let same : sending ≡ one = λ i. record { pid = named i; at = s.at_is i; emission = sending.emission } in
+    inr (inr (
+      nothing,
+      busy,
+      inl (record {
+        pid = p;
+        made = made;
+        mid = mid;
+        again = again;
+        was = was;
+        now = s.now;
+        emission = sending.emission;
+        there = there;
+        sends = subst (λ (x : Held). Sends (limits_of c.system) 64 made was one x) s.new_is (subst (λ (x : Sending). Sends (limits_of c.system) 64 made was x new) same s);
+        childless = childless;
+        rest = λ i. record c { here = with_changed p (Runs s.now) mid; queue = post_is i ∷ []; steps = next_count c.steps };
+      }),
+    ))

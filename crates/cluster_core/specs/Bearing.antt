@@ -18,7 +18,7 @@ use Rattle.bus_msg.specs.Places.{same_pid, unended_at}
 use Rattle.cert_sched.specs.Kinds.{next_child_at}
 use Rattle.cert_sched.specs.Schedule.{placement}
 use Rattle.quanta.specs.Limited.{is_due}
-use Rattle.cluster_core.specs.Residents.{with_changed, with_more}
+use Rattle.cluster_core.specs.Changed.{with_changed, with_more}
 use Rattle.cluster_core.specs.View.{ClusterView, Held, Runs, Rolls, Waits, held_at, held_of, limits_of}
 
 -- the birth of a child of a process that stands before its fork

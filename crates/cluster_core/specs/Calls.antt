@@ -28,14 +28,15 @@ use Rattle.birth_notice.specs.Family.{first_unsynced}
 use Rattle.sync_point.specs.Batch.{batch, synced}
 use Rattle.quanta.specs.declared.limits.Limits.{Limits}
 use Rattle.quanta.specs.Limited.{is_due}
-use Rattle.cluster_core.specs.View.{ClusterView, Held, Runs, Rolls, Waits, arrived_held, held_at, page_held, steps_of_held, limits_of, next_count, counted_once, failed_at, with_server}
+use Rattle.cluster_core.specs.View.{ClusterView, Held, Runs, Rolls, Waits, arrived_held, held_at, held_of, page_held, steps_of_held, limits_of, next_count, counted_once, failed_at, with_server}
 use Rattle.cluster_core.specs.declared.hurt.Hurt.{Hurt}
 use Rattle.cluster_core.specs.declared.hurt.Hurt.TheVariants.{Disk, NoMemory}
 use Rattle.cluster_core.specs.declared.quantum.Forking.{Forking}
 use Rattle.cluster_core.specs.ChildrenFirst.{child_before}
 use Rattle.cluster_core.specs.Quantum.{ComesToFork, EndsChildless, Moves, Sends, post_told}
 use Rattle.cluster_core.specs.Serving.{FailsNext}
-use Rattle.cluster_core.specs.Residents.{with_changed}
+use Rattle.cluster_core.specs.Changed.{with_changed}
+use Rattle.cluster_core.specs.ForkingAgain.{RollsAgain}
 use Rattle.cluster_core.specs.Recovered.{left_by, moved_by, with_all_waiting}
 use Rattle.cluster_core.specs.Bearing.{birth_post, with_born}
 use Rattle.cluster_core.specs.Families.{family_after}
@@ -137,25 +138,31 @@ rests_of c = rests_in c.here
 abbrev pub RestsIn : ClusterView → List (Pid × ℕ) → Type 0
 RestsIn c rests = c.queue ≡ [] → (log : List Entry) → IsOpen BuiltMayFollow c.system log → FollowsBuilt c.system log c → IsRestOf c.system log c.number rests
 
--- one process made 1 to 64 steps, of which none sent anything that was not withheld, and nothing else changed
+-- one process made 1 to 64 steps, of which none sent anything that was not withheld, and nothing else changed but children whose forks were made again
 pub record MovedOne (old new : ClusterView) : Type 0 where
   pub pid : Pid
+  pub made : ℕ
+  pub mid : List (Pid × Held)
+  pub again : RollsAgain pid made old.here mid
   pub was : Held
   pub now : Held
-  pub there : held_at old pid ≡ Some was
-  pub moves : Moves (limits_of old.system) 64 was now
-  pub rest : new ≡ record old { here = with_changed pid now old.here; steps = next_count old.steps }
+  pub there : held_of mid pid ≡ Some was
+  pub moves : Moves (limits_of old.system) 64 made was now
+  pub rest : new ≡ record old { here = with_changed pid now mid; steps = next_count old.steps }
 
 -- one process made 1 to 64 steps, of which the last alone sent something that was not withheld, and this is the one post to be sent; where it ended by it no child was to synchronise before it
 pub record QueuesOne (old new : ClusterView) : Type 0 where
   pub pid : Pid
+  pub made : ℕ
+  pub mid : List (Pid × Held)
+  pub again : RollsAgain pid made old.here mid
   pub was : Held
   pub now : Process
   pub emission : Emission
-  pub there : held_at old pid ≡ Some was
-  pub sends : Sends (limits_of old.system) 64 was (record { pid = pid; at = (now.small).steps; emission = emission }) (Runs now)
+  pub there : held_of mid pid ≡ Some was
+  pub sends : Sends (limits_of old.system) 64 made was (record { pid = pid; at = (now.small).steps; emission = emission }) (Runs now)
   pub childless : EndsChildless (is_none (first_unsynced old.family pid)) emission
-  pub rest : new ≡ record old { here = with_changed pid (Runs now) old.here; queue = post_told old.number pid (now.small).steps emission ∷ []; steps = next_count old.steps }
+  pub rest : new ≡ record old { here = with_changed pid (Runs now) mid; queue = post_told old.number pid (now.small).steps emission ∷ []; steps = next_count old.steps }
 
 -- it is due; or it is the child that is to synchronise in the place of a process that is due or is to end
 abbrev pub IsNextToSync : ClusterView → Pid → Process → Type 0
@@ -173,12 +180,15 @@ pub record QueuesBatch (old new : ClusterView) : Type 0 where
 -- one process made up to 63 steps, of which none sent anything that was not withheld, and the birth of its next child is the one post to be sent
 pub record QueuesBirth (old new : ClusterView) : Type 0 where
   pub pid : Pid
+  pub made : ℕ
+  pub mid : List (Pid × Held)
+  pub again : RollsAgain pid made old.here mid
   pub was : Held
   pub forking : Forking
   pub now : Held
-  pub there : held_at old pid ≡ Some was
-  pub comes : ComesToFork (limits_of old.system) 64 was forking now
-  pub rest : new ≡ record old { here = with_changed pid (Runs comes.now) old.here; queue = birth_post old.number pid (state_of comes.now) (child_of old.number old.places) ∷ []; steps = next_count old.steps }
+  pub there : held_of mid pid ≡ Some was
+  pub comes : ComesToFork (limits_of old.system) 64 made was forking now
+  pub rest : new ≡ record old { here = with_changed pid (Runs comes.now) mid; queue = birth_post old.number pid (state_of comes.now) (child_of old.number old.places) ∷ []; steps = next_count old.steps }
 
 -- a fetch waits, in each log that the cluster follows
 abbrev pub WaitsForPages : ClusterView → Type 0

@@ -2,6 +2,7 @@ pub mod View
 pub mod Quantum
 pub mod Resident
 pub mod Recovered
+pub mod Changed
 pub mod ChildrenFirst
 pub mod Residents
 pub mod Serving
@@ -13,6 +14,7 @@ pub mod Syncing
 pub mod Bearing
 pub mod Families
 pub mod ForkingAgain
+pub mod ForksAgain
 pub mod Follows
 pub mod Calls
 pub mod Booting

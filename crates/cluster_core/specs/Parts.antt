@@ -1,9 +1,9 @@
 -- The parts of a cluster as its code keeps them.
-use Rattle.std.specs.Prelude.{ℕ, ◌≡◌, ◌<◌, ◌≤◌, true, false, List, [], ◌∷◌, Some, ⊤}
+use Rattle.std.specs.Prelude.{ℕ, ◌≡◌, ◌<◌, ◌≤◌, true, false, List, [], ◌∷◌, is_some, ⊤}
 use Rattle.std.specs.List.{list_any, list_all}
+use Rattle.std.specs.Option.{IfSome}
 use Rattle.t32_base.specs.declared.process.Pid.{Pid}
 use Rattle.t32_base.specs.declared.process.ClusterNo.{ClusterNo}
-use Rattle.t32_base.specs.Small.{SmallState}
 use Rattle.sys_text.specs.declared.system.System.{System}
 use Rattle.sys_text.specs.Valid.{is_system}
 use Rattle.proc_state.specs.declared.process.Process.{Process}
@@ -21,15 +21,13 @@ pub record IsOwn (cursor : ℕ) (pid : Pid) (p : Process) : Type 0 where
   pub quiet : list_any is_signal (p.mail).letters ≡ false
   pub arrived : (p.mail).next ≤ cursor
 
--- a process that waits under its own pid lacks a page; no signal was saved for it, and no more letters came to it than the cluster took entries in
+-- a process that waits under its own pid: where its record has a state, that is its own, and it lacks a page; no signal was saved for it, and no more letters came to it than the cluster took entries in
 pub record WaitsOwn (cursor : ℕ) (pid : Pid) (w : WaitingState) : Type 0 where
   pub pid_is : (w.kept).pid ≡ pid
-  pub small : SmallState
-  pub state_is : (w.kept).state ≡ Some small
-  pub small_is : small.pid ≡ pid
+  pub state : IfSome (w.kept).state (λ small. small.pid ≡ pid)
   pub quiet : list_any is_signal (w.kept).saved ≡ false
   pub arrived : (w.kept).next ≤ cursor
-  pub lacks : is_whole w ≡ false
+  pub lacks : is_some (w.kept).state ≡ true → is_whole w ≡ false
 
 -- each is its own
 abbrev pub IsHeldOwn : ℕ → Pid → Held → Type 0

@@ -59,26 +59,22 @@ RunsTo m (Runs p) (Waits waiting) = ⊥
 RunsTo m (Rolls p counts births) new = (m ≡ 0) × (new ≡ Rolls p counts births)
 RunsTo m (Waits waiting) new = ⊥
 
--- steps that are withheld, and then silent ones, one at least of both together, none of which leads beyond the limits
-pub record Moves (limits : Limits) (most : ℕ) (old new : Held) : Type 0 where
-  pub rolled : ℕ
+-- after so many steps of a quantum, silent ones, one at least of both together, none of which leads beyond the limits
+pub record Moves (limits : Limits) (most made : ℕ) (old new : Held) : Type 0 where
   pub silent : ℕ
-  pub between : Held
-  pub some : 1 ≤ rolled + silent
-  pub few : rolled + silent ≤ most
-  pub rolls : RollsTo rolled old between
-  pub runs : RunsTo silent between new
-  pub within : IsHeldWithin limits between → IsHeldWithin limits new
+  pub some : 1 ≤ made + silent
+  pub few : made + silent ≤ most
+  pub runs : RunsTo silent old new
+  pub within : IsHeldWithin limits old → IsHeldWithin limits new
 
--- steps that are withheld, and then silent ones and one of a process that is not due, which sends something and touches the state alone
-pub record Sends (limits : Limits) (most : ℕ) (old : Held) (sending : Sending) (new : Held) : Type 0 where
-  pub rolled : ℕ
+-- silent steps, and then one of a process that is not due, which sends something and touches the state alone
+pub record Sends (limits : Limits) (most made : ℕ) (old : Held) (sending : Sending) (new : Held) : Type 0 where
   pub silent : ℕ
   pub between : Process
   pub before : Process
   pub now : Process
-  pub few : rolled + silent < most
-  pub rolls : RollsTo rolled old (Runs between)
+  pub few : made + silent < most
+  pub old_is : old ≡ Runs between
   pub runs : RunsOn silent between before
   pub undue : is_due limits before ≡ false
   pub sends : next_step (state_of before) ≡ Emits sending.emission (state_of now)
@@ -92,14 +88,13 @@ pub record Sends (limits : Limits) (most : ℕ) (old : Held) (sending : Sending)
 abbrev pub forking_of : SmallState → Forking
 forking_of small = record { pid = small.pid; at = small.steps + 1; end = free_end small.ends }
 
--- steps that are withheld, and then silent ones, after which a process that is not due stands before its fork
-pub record ComesToFork (limits : Limits) (most : ℕ) (old : Held) (forking : Forking) (new : Held) : Type 0 where
-  pub rolled : ℕ
+-- silent steps, after which a process that is not due stands before its fork
+pub record ComesToFork (limits : Limits) (most made : ℕ) (old : Held) (forking : Forking) (new : Held) : Type 0 where
   pub silent : ℕ
   pub between : Process
   pub now : Process
-  pub few : rolled + silent < most
-  pub rolls : RollsTo rolled old (Runs between)
+  pub few : made + silent < most
+  pub old_is : old ≡ Runs between
   pub runs : RunsOn silent between now
   pub undue : is_due limits now ≡ false
   pub forks : next_step (state_of now) ≡ Forks
@@ -119,14 +114,14 @@ pub record Syncs (limits : Limits) (by : ClusterNo) (old : Held) (posts : List P
 abbrev pub EndsChildless : Bool → Emission → Type 0
 EndsChildless childless e = is_end e ≡ true → childless ≡ true
 
--- in a cluster it moved, or sent something, or synchronised, or could not move, or came to its fork; after want of memory nothing has changed
-abbrev pub RunsQuantum : Limits → ClusterNo → ℕ → Bool → Held → Result Quantum NoMemory → Held → Type 0
-RunsQuantum limits by most childless old (Ok Moved) new = Moves limits most old new
-RunsQuantum limits by most childless old (Ok (Sent sending)) new = Sends limits most old sending new × EndsChildless childless sending.emission
-RunsQuantum limits by most childless old (Ok (Synced posts)) new = Syncs limits by old posts new
-RunsQuantum limits by most childless old (Ok Stuck) new = (can_act limits old ≡ false) × (new ≡ old)
-RunsQuantum limits by most childless old (Ok (AtFork forking)) new = ComesToFork limits most old forking new
-RunsQuantum limits by most childless old (Err fault) new = new ≡ old
+-- After so many steps of the quantum, in which it rolled forward, it moved, or sent something, or came to its fork; where there were none it may have synchronised, or could not move. Want of memory leaves it as it was.
+abbrev pub RunsQuantum : Limits → ClusterNo → ℕ → Bool → ℕ → Held → Result Quantum NoMemory → Held → Type 0
+RunsQuantum limits by most childless made old (Ok Moved) new = Moves limits most made old new
+RunsQuantum limits by most childless made old (Ok (Sent sending)) new = Sends limits most made old sending new × EndsChildless childless sending.emission
+RunsQuantum limits by most childless made old (Ok (Synced posts)) new = (made ≡ 0) × Syncs limits by old posts new
+RunsQuantum limits by most childless made old (Ok Stuck) new = (made ≡ 0) × (can_act limits old ≡ false) × (new ≡ old)
+RunsQuantum limits by most childless made old (Ok (AtFork forking)) new = ComesToFork limits most made old forking new
+RunsQuantum limits by most childless made old (Err fault) new = (made ≡ 0) × (new ≡ old)
 
 -- one that runs synchronised, by the posts of its batch
 pub record SyncsNow (by : ClusterNo) (old : Held) (posts : List Post) (new : Held) : Type 0 where

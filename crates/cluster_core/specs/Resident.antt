@@ -9,7 +9,6 @@ use Rattle.cluster_core.specs.declared.resident.Standing.TheVariants.{Runs as Is
 use Rattle.wait_laws.specs.Waits.{first_wait}
 use Rattle.page_waits.specs.Waiting.{is_whole, with_page, CanGoOn}
 use Rattle.cluster_core.specs.View.{Held, Runs, Rolls, Waits, going_on}
-use Rattle.cluster_core.specs.Quantum.{RollsTo}
 
 -- a record of nothing
 abbrev pub nothing_kept : BackRec
@@ -42,12 +41,6 @@ running_on None = None
 running_on (Some (IsRunning p)) = Some (IsRunning p)
 running_on (Some (IsRolling r)) = Some (IsRunning r.process)
 running_on (Some (IsWaiting w)) = Some (IsWaiting w)
-
--- the steps of a quantum in which something was withheld: none of one that runs or waits, one at least of one that rolls forward
-abbrev pub HasRolled : ℕ → Held → Held → Type 0
-HasRolled n old (Runs q) = RollsTo n old (Runs q) × (n ≤ 64) × (n ≡ 0 → old ≡ Runs q)
-HasRolled n old (Rolls q left unborn) = RollsTo n old (Rolls q left unborn) × (n ≤ 64) × (1 ≤ n)
-HasRolled n old (Waits waiting) = (n ≡ 0) × (old ≡ Waits waiting)
 
 -- a page that comes to one that waits is one of its pages, and where it was the last that lacked the process can go on
 abbrev pub CanComeTo : ℕ → List ℕ → Held → Type 0

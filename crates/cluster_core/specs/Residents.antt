@@ -1,5 +1,5 @@
 -- The processes at home in a cluster, as its code keeps them.
-use Rattle.std.specs.Prelude.{ℕ, ◌≡◌, ◌⊎◌, ◌<◌, ◌-◌, ◌^◌, Bool, true, not, ◌&&◌, nat_lt, if◌then◌else◌, List, [], ◌∷◌, map, filter, find, Option, Some, None, is_none, ◌||◌, Result, Ok, Err}
+use Rattle.std.specs.Prelude.{ℕ, ◌≡◌, ◌⊎◌, ◌<◌, ◌-◌, ◌^◌, Bool, true, not, ◌&&◌, nat_lt, List, [], ◌∷◌, map, filter, find, Option, Some, None, is_none, ◌||◌, Result, Ok, Err}
 use Rattle.std.specs.List.{list_all}
 use Rattle.std.specs.Option.{option_or}
 use Rattle.t32_base.specs.declared.process.Pid.{Pid}
@@ -16,7 +16,9 @@ use Rattle.quanta.specs.declared.limits.Limits.{Limits}
 use Rattle.cluster_core.specs.declared.quantum.Quantum.{Quantum}
 use Rattle.cluster_core.specs.declared.quantum.Quantum.TheVariants.{Moved, Sent, Synced, Stuck, Forks}
 use Rattle.cluster_core.specs.Quantum.{RunsQuantum}
+pub use Rattle.cluster_core.specs.Changed.{with_changed, with_more}
 use Rattle.cluster_core.specs.ChildrenFirst.{child_before, has_turn}
+use Rattle.cluster_core.specs.ForkingAgain.{RollsAgain}
 use Rattle.cluster_core.specs.View.{Held, Runs, asked_held, can_act, held_of, is_waiting, next_number, page_lacked}
 
 -- the limits by which they synchronise; the processes by rising pid; the pids of those that may move, rising; those of which some may have pages to ask for, rising; and the pid that was chosen last, 0 before any was
@@ -30,15 +32,6 @@ pub record ResidentsView : Type 0 where
 -- each of them may get one letter more
 abbrev pub HasRoom : List (Pid × Held) → Type 0
 HasRoom here = (pid : Pid) (h : Held) → held_of here pid ≡ Some h → next_number h < 2 ^ 64 - 1
-
--- one process more, in its place by rising pid
-abbrev pub with_more : Pid → Held → List (Pid × Held) → List (Pid × Held)
-with_more pid h [] = (pid, h) ∷ []
-with_more pid h (e ∷ here) = if nat_lt pid.0 (e.0).0 then (pid, h) ∷ e ∷ here else e ∷ with_more pid h here
-
--- the process with a pid is another one now
-abbrev pub with_changed : Pid → Held → List (Pid × Held) → List (Pid × Held)
-with_changed p now here = map (λ (e : Pid × Held). if same_pid e.0 p then (p, now) else e) here
 
 -- it cannot move
 abbrev pub is_stuck : Limits → Held → Bool
@@ -81,13 +74,16 @@ pub record SyncsAt (by : ClusterNo) (pid : Pid) (old : List (Pid × Held)) (post
   pub posts_are : posts ≡ batch process by
   pub here : new ≡ with_changed pid (Runs (synced process)) old
 
--- the process with a pid ran for a quantum or synchronised, and the others stayed
+-- the process with a pid made some steps again, and then ran for the rest of the quantum, or synchronised; the others stayed, but for children whose forks were made again
 pub record RunsOne (limits : Limits) (by : ClusterNo) (childless : Bool) (pid : Pid) (old : List (Pid × Held)) (quantum : Quantum) (new : List (Pid × Held)) : Type 0 where
+  pub made : ℕ
+  pub mid : List (Pid × Held)
+  pub again : RollsAgain pid made old mid
   pub was : Held
   pub now : Held
-  pub there : held_of old pid ≡ Some was
-  pub ran : RunsQuantum limits by 64 childless was (Ok quantum) now
-  pub here : new ≡ with_changed pid now old
+  pub there : held_of mid pid ≡ Some was
+  pub ran : RunsQuantum limits by 64 childless made was (Ok quantum) now
+  pub here : new ≡ with_changed pid now mid
 
 -- the process with a pid, before which no child is to synchronise, had its turn in a cluster, and the others stayed
 pub record TakesTurn (limits : Limits) (by : ClusterNo) (family : List (Pid × Pid)) (pid : Pid) (old : List (Pid × Held)) (quantum : Quantum) (new : List (Pid × Held)) : Type 0 where
@@ -154,7 +150,24 @@ AsksOf pid old (Some index) new = AsksPage pid old index new
 abbrev pub is_stuck_at : Limits → Pid → List (Pid × Held) → Bool
 is_stuck_at limits pid here = list_all (λ (e : Pid × Held). not (same_pid e.0 pid) || is_stuck limits e.1) here
 
--- so it did, or it cannot move, if it is there; after want of memory nothing has changed
+-- so many steps of the quantum were made before
+pub record RunsRest (limits : Limits) (by : ClusterNo) (childless : Bool) (made : ℕ) (pid : Pid) (old : List (Pid × Held)) (quantum : Quantum) (new : List (Pid × Held)) : Type 0 where
+  pub was : Held
+  pub now : Held
+  pub there : held_of old pid ≡ Some was
+  pub ran : RunsQuantum limits by 64 childless made was (Ok quantum) now
+  pub here : new ≡ with_changed pid now old
+
+-- the rest of a quantum of the process with a pid, or it cannot move, if it is there; where memory is refused for the first step, nothing has changed
+abbrev pub RunsOnAt : Limits → ClusterNo → Bool → ℕ → Pid → List (Pid × Held) → Result Quantum NoMemory → List (Pid × Held) → Type 0
+RunsOnAt limits by childless made pid old (Ok Moved) new = RunsRest limits by childless made pid old Moved new
+RunsOnAt limits by childless made pid old (Ok (Sent sending)) new = RunsRest limits by childless made pid old (Sent sending) new
+RunsOnAt limits by childless made pid old (Ok (Synced posts)) new = RunsRest limits by childless made pid old (Synced posts) new
+RunsOnAt limits by childless made pid old (Ok (Forks forking)) new = RunsRest limits by childless made pid old (Forks forking) new
+RunsOnAt limits by childless made pid old (Ok Stuck) new = (made ≡ 0) × (is_stuck_at limits pid old ≡ true) × (new ≡ old)
+RunsOnAt limits by childless made pid old (Err fault) new = (made ≡ 0) × (new ≡ old)
+
+-- so it did, or it cannot move, if it is there; where memory is refused for the first step, nothing has changed
 abbrev pub RunsAt : Limits → ClusterNo → Bool → Pid → List (Pid × Held) → Result Quantum NoMemory → List (Pid × Held) → Type 0
 RunsAt limits by childless pid old (Ok Moved) new = RunsOne limits by childless pid old Moved new
 RunsAt limits by childless pid old (Ok (Sent sending)) new = RunsOne limits by childless pid old (Sent sending) new

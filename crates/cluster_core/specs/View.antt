@@ -25,7 +25,7 @@ use Rattle.roll_forward.specs.Rolling.{RollingState}
 use Rattle.roll_forward.specs.RunsOut.{nothing_left}
 use Rattle.page_waits.specs.Waiting.{WaitingState, is_whole, next_page, rolling_of, with_page}
 
--- a process at home here runs; or it rolls forward, with what is left to withhold; or it waits for its pages, beside its record
+-- a process at home here runs; or it rolls forward, with what is left to withhold; or it waits for its pages, beside its record, or for its parent's fork where that has no state
 pub data Held : Type 0 where
   Runs : (process : Process) → Held
   Rolls : (process : Process) (counts : Counts) (births : List Pid) → Held

@@ -192,8 +192,8 @@ impl<D: PageDisk + Drop> Cluster<D> {
     /// and the record of a process that ended goes. A page server notes what is asked for and what came. A page comes to the
     /// process here that waits for it, which goes on from its record once all have come. At its own birth the parent forks, and the
     /// child runs beside it; any birth joins the children that never synchronised, and one that synchronised or ended leaves
-    /// them. At the loss of another cluster the processes that this moves here wait for their pages, and their records are
-    /// kept no more. A call of its disk that fails leaves a cluster that has failed, in which there is no process. After want of memory nothing is said of the cluster but
+    /// them. At the loss of another cluster the processes that this moves here wait for their pages, or for their parent's
+    /// fork, and their records are kept no more. A call of its disk that fails leaves a cluster that has failed, in which there is no process. After want of memory nothing is said of the cluster but
     /// that it can be dropped.
     pub fn absorb(&mut self, entry: &Entry) -> Result<(), Hurt>
         requires room { self.old.cursor < 2 ^ 64 - 1 }

@@ -1,5 +1,5 @@
 //! A process at home in a cluster: it runs, or it rolls forward, or it waits for its pages.
-ghost use Rattle.std.specs.Prelude.{◌≡◌, ◌≤◌, ◌<◌, ◌^◌, ◌-◌, ◌+◌, true, OnOk, OnErr, IfOk, Some, is_some, if◌then◌else◌};
+ghost use Rattle.std.specs.Prelude.{◌≡◌, ◌≤◌, ◌<◌, ◌^◌, ◌-◌, ◌+◌, true, false, OnOk, OnErr, IfOk, Some, is_some, if◌then◌else◌};
 ghost use Rattle.proc_state.specs.State.{state_of};
 ghost use Rattle.roll_forward.specs.RunsOut.{RunsOut, nothing_left};
 ghost use Rattle.page_waits.specs.Waiting.{next_page};
@@ -8,14 +8,16 @@ ghost use Rattle.quanta.specs.Limited.{is_due};
 ghost use Rattle.cluster_core.specs.ChildrenFirst.{comes_after_children, is_running};
 ghost use Rattle.cluster_core.specs.Quantum.{ActsOn, RunsQuantum, SyncsNow};
 ghost use Rattle.cluster_core.specs.Bearing.{CanForkNow, HasForked};
-ghost use Rattle.cluster_core.specs.Resident.{gone_on, held_standing, running_on, CanComeTo, CanGoOnFrom, HasCaughtUp, HasRolled, StandsSo};
+ghost use Rattle.cluster_core.specs.ForkingAgain.{begun_with, born_by, child_again, is_rolling, waits_for_fork, CanBeginWith, HasForkedAgain, HasRolled, StandsAtForkAgain};
+ghost use Rattle.cluster_core.specs.Resident.{gone_on, held_standing, running_on, CanComeTo, CanGoOnFrom, HasCaughtUp, StandsSo};
 
 use crate::quantum::{Quantum, tell};
 use bus_msg::entry::Post;
 use page_waits::waiting::Waiting;
 use proc_state::process::Process;
 use quanta::limits::Limits;
-use quanta::quantum::{MOST, run_rest};
+use quanta::quantum::run_rest;
+use roll_forward::rolled::Rolled;
 use roll_forward::rolling::Rolling;
 use std::alloc::Global;
 use std::marker::Model;
@@ -29,7 +31,7 @@ use t32_base::process::{ClusterNo, Pid, Small};
 use t32_base::streams::NoMemory;
 
 /// A process at home in a cluster: it runs; or it rolls forward, and then something is left to withhold; or it waits for
-/// its pages.
+/// its pages, or for the fork of its parent.
 #[derive(Drop)]
 pub struct Resident {
     standing: Option<Standing>,
@@ -189,26 +191,85 @@ impl Resident {
         }
     }
 
-    /// Its turn in the cluster `by`. One that runs and is due by these limits synchronises. Else it has a quantum, of at most 64
-    /// steps. One that rolls forward does again what it did, and withholds what it
-    /// sent; where nothing is left to withhold it runs, and the same quantum goes on. One that runs goes up to a
+    /// Whether it rolls forward. Takes no memory.
+    pub fn rolls(&self) -> bool
+        ensures { result ≡ is_rolling self.now }
+    {
+        matches!(&self.standing, Some(Standing::Rolls(_)))
+    }
+
+    /// Whether it waits until its parent makes the fork again from which it starts. Takes no memory.
+    pub fn waits_for_fork(&self) -> bool
+        ensures { result ≡ waits_for_fork self.now }
+    {
+        match &self.standing {
+            Some(Standing::Waits(waiting)) => waiting.kept().state().is_none(),
+            _ => false,
+        }
+    }
+
+    /// The child that its next fork bears, of one that rolls forward. Takes no memory.
+    pub fn next_child(&self) -> Option<Pid>
+        ensures { result ≡ child_again self.now }
+    {
+        match &self.standing {
+            Some(Standing::Rolls(rolling)) => rolling.next_child(),
+            _ => None,
+        }
+    }
+
+    /// One that rolls forward does again what it did, `most` steps at most, and withholds what it sent: how many it made. Where nothing is
+    /// left to withhold it runs. It makes none before a fork, which `fork_again` makes; nor does one that does not roll forward make
+    /// any. A later step for which memory is refused is not made; where it is the first, nothing has changed.
+    pub fn roll(&mut self, most: u32) -> Result<u32, NoMemory>
+        requires { 1 ≤ most }
+        ensures ok { IfOk result (λ made. HasRolled most made self.old self.new) }
+        ensures err { OnErr result (self.new ≡ self.old) }
+    {
+        roll(&mut self.standing, most)
+    }
+
+    /// One that rolls forward makes the fork again before which it stands, and its child is handed over where `made` says so. After want
+    /// of memory nothing has changed.
+    pub fn fork_again(&mut self, made: bool) -> Result<Option<Process>, NoMemory>
+        requires { StandsAtForkAgain self.old }
+        ensures ok { IfOk result (λ born. HasForkedAgain made self.old born self.new) }
+        ensures err { OnErr result (self.new ≡ self.old) }
+    {
+        fork_again(&mut self.standing, made)
+    }
+
+    /// One that waited for its parent's fork goes on as it was born, with the letters that its record saved, and withholds what that
+    /// counts. Takes no memory.
+    pub fn begin_again(&mut self, alloc: Global, born: Process)
+        requires { CanBeginWith born self.old }
+        ensures { self.new ≡ begun_with born self.old }
+    {
+        begin_again(alloc, &mut self.standing, born);
+    }
+
+    /// Its turn in the cluster `by`, or the rest of it after so many steps in which it rolled forward. One that runs and is due by these
+    /// limits synchronises, where it made none. Else it has a quantum, of at most 64 steps with those. It goes up to a
     /// step that sends something, up to a read that waits, or until it is due; up to its end where it has a child that is to synchronise
-    /// first. A later step for which memory is refused is not made; where it is the first, nothing has changed. No step that is not
-    /// withheld leads one beyond these limits that is within them.
+    /// first. A later step for which memory is refused is not made; where it is the first, nothing has changed. No step leads
+    /// one beyond these limits that is within them.
     pub fn run_quantum(
         &mut self,
         alloc: Global,
         by: ClusterNo,
         limits: Limits,
         childless: bool,
+        made: u32,
     ) -> Result<Quantum, NoMemory>
-        requires { comes_after_children limits self.old ≡ true → childless ≡ true }
-        ensures { RunsQuantum limits by 64 childless self.old result self.new }
+        requires few { made ≤ 64 }
+        requires last { made ≡ 0 → comes_after_children limits self.old ≡ true → childless ≡ true }
+        requires running { is_rolling self.old ≡ false }
+        requires waiting { 1 ≤ made → is_running self.old ≡ true }
+        ensures { RunsQuantum limits by 64 childless made self.old result self.new }
     {
-        let made = roll(&mut self.standing)?;
         match &mut self.standing {
             Some(Standing::Runs(process)) => act_on(alloc, process, by, limits, childless, made),
-            Some(Standing::Rolls(_)) => Ok(Quantum::Moved),
+            Some(Standing::Rolls(_)) => unreachable!(),
             Some(Standing::Waits(_)) => Ok(Quantum::Stuck),
             None => unreachable!(),
         }
@@ -258,16 +319,17 @@ fn receive(standing: &mut Option<Standing>, letter: Letter) -> Result<(), NoMemo
     }
 }
 
-// The steps of a quantum that one makes which rolls forward, and how many they are; any other makes none.
-fn roll(standing: &mut Option<Standing>) -> Result<u32, NoMemory>
-    requires { StandsSo standing.old }
+// The steps that one makes again which rolls forward, and how many they are; any other makes none.
+fn roll(standing: &mut Option<Standing>, most: u32) -> Result<u32, NoMemory>
+    requires most { 1 ≤ most }
+    requires stands { StandsSo standing.old }
     ensures stands { StandsSo standing.new }
-    ensures ok { IfOk result (λ made. HasRolled made (held_standing standing.old) (held_standing standing.new)) }
+    ensures ok { IfOk result (λ made. HasRolled most made (held_standing standing.old) (held_standing standing.new)) }
     ensures err { OnErr result (standing.new ≡ standing.old) }
 {
     match standing {
         Some(Standing::Rolls(rolling)) => {
-            let made = rolling.run(MOST)?;
+            let made = rolling.run(most)?;
             if rolling.caught_up() {
                 run_on(standing);
             }
@@ -275,6 +337,53 @@ fn roll(standing: &mut Option<Standing>) -> Result<u32, NoMemory>
         }
         _ => Ok(0),
     }
+}
+
+// One that rolls forward makes its next fork again.
+fn fork_again(standing: &mut Option<Standing>, made: bool) -> Result<Option<Process>, NoMemory>
+    requires stands { StandsSo standing.old }
+    requires forks { StandsAtForkAgain (held_standing standing.old) }
+    ensures stands { StandsSo standing.new }
+    ensures ok { IfOk result (λ born. HasForkedAgain made (held_standing standing.old) born (held_standing standing.new)) }
+    ensures err { OnErr result (standing.new ≡ standing.old) }
+{
+    match standing {
+        Some(Standing::Rolls(rolling)) => {
+            let born = born_of(rolling.advance(made)?);
+            if rolling.caught_up() {
+                run_on(standing);
+            }
+            Ok(born)
+        }
+        _ => unreachable!(),
+    }
+}
+
+// The child of a fork, where it was made.
+fn born_of(rolled: Rolled) -> Option<Process>
+    ensures { result ≡ born_by rolled }
+{
+    match rolled {
+        Rolled::Silent => None,
+        Rolled::Withheld(_) => None,
+        Rolled::Born { process, .. } => process,
+    }
+}
+
+// One that waits for its parent's fork goes on as it was born.
+fn begin_again(alloc: Global, standing: &mut Option<Standing>, born: Process)
+    requires stands { StandsSo standing.old }
+    requires can { CanBeginWith born (held_standing standing.old) }
+    ensures stands { StandsSo standing.new }
+    ensures held { held_standing standing.new ≡ begun_with born (held_standing standing.old) }
+{
+    *standing = match standing.take() {
+        Some(Standing::Waits(waiting)) => {
+            let kept = waiting.into_record();
+            Some(standing_of(Rolling::start_child(alloc, kept, born)))
+        }
+        other => other,
+    };
 }
 
 // One that has caught up runs.

@@ -1,5 +1,5 @@
 //! The processes at home in a cluster.
-ghost use Rattle.std.specs.Prelude.{ℕ, ◌≡◌, ◌⊎◌, ◌+◌, ◌&&◌, [], IfOk, IfSome, OnOk, OnErr, Some, None, true, is_none, length, filter, find, map, nat_lt, not, if◌then◌else◌, false};
+ghost use Rattle.std.specs.Prelude.{ℕ, ◌≡◌, ◌⊎◌, ◌+◌, ◌<◌, ◌≤◌, ◌&&◌, [], IfOk, IfSome, OnOk, OnErr, Some, None, true, is_none, length, filter, find, map, nat_lt, not, option_and_then, if◌then◌else◌, false};
 ghost use Rattle.std.specs.List.{list_any};
 ghost use Rattle.std.specs.Option.{option_copied};
 ghost use Rattle.slab.specs.Slab.{Updates};
@@ -9,8 +9,9 @@ ghost use Rattle.plain_kernel.specs.Maps.{at_key, pid_of};
 ghost use Rattle.cert_sched.specs.Parts.{first_of};
 ghost use Rattle.cluster_core.specs.Calls.{rests_in, with_letter, with_page_come};
 ghost use Rattle.cluster_core.specs.Bearing.{CanBear, CanForkAt, ForksAt, with_born};
+ghost use Rattle.cluster_core.specs.ForkingAgain.{child_again, rolls_at, waits_at, with_begun, BearsAgain, CanBeginWith, CanForkAgain, CanForkAgainAt, CanForkAgainNow, ForksAgain, RollsPartAt, RollsQuantum, RollsStepsAt, StandsThere};
 ghost use Rattle.cluster_core.specs.ChildrenFirst.{child_before, comes_after_at, is_free, is_hindered, runs_at};
-ghost use Rattle.cluster_core.specs.Residents.{AsksOf, GivenTurnIs, HasRoom, NextAble, RunsAt, SyncsAt, TurnIs, are_rising, are_settled, is_settled, is_stuck_at, lacks_none_at, next_ready, none_has_turn, pids_in, with_more};
+ghost use Rattle.cluster_core.specs.Residents.{AsksOf, GivenTurnIs, HasRoom, NextAble, RunsAt, RunsOnAt, SyncsAt, TurnIs, are_rising, are_settled, is_settled, is_stuck_at, lacks_none_at, next_ready, none_has_turn, pids_in, with_more};
 ghost use Rattle.cluster_core.specs.Resident.{CanComeTo};
 ghost use Rattle.cluster_core.specs.View.{Held, arrived_held, held_of};
 ghost use Rattle.cluster_core.specs.Work.{AsksNext, any_lacks, any_waits, is_lowest_lacking};
@@ -22,6 +23,7 @@ use bus_msg::entry::Post;
 use bus_msg::shared::Shared;
 use proc_state::process::Process;
 use quanta::limits::Limits;
+use quanta::quantum::MOST;
 use slab::Slab;
 use std::alloc::Global;
 use std::collections::{BTreeMap, BTreeSet};
@@ -111,6 +113,7 @@ impl Residents {
         by: ClusterNo,
         family: &Family,
     ) -> Result<Quantum, NoMemory>
+        requires { CanForkAgain self.old.here }
         ensures turn { TurnIs by family.now self.old result self.new }
         ensures limits { self.new.limits ≡ self.old.limits }
     {
@@ -209,7 +212,8 @@ impl Residents {
 
     // The process with a pid, if it is here. Takes no memory.
     fn resident(&self, pid: u32) -> Option<&Resident>
-        ensures { option_copied result ≡ held_of self.now.here (pid_of pid) }
+        ensures there { option_copied result ≡ held_of self.now.here (pid_of pid) }
+        ensures ordered { are_rising (pids_in self.now.here) ≡ true }
     {
         match self.keys.get(&pid) {
             Some(key) => match self.residents.get(*key) {
@@ -231,8 +235,9 @@ impl Residents {
     ) -> Result<Quantum, NoMemory>
         requires ready { list_any (at_key pid) self.old.ready ≡ true }
         requires free { is_hindered self.old.limits family.now self.old.here (pid_of pid) ≡ false }
+        requires forks { CanForkAgainAt self.old.here (pid_of pid) }
         ensures turn { GivenTurnIs self.old.limits by family.now (pid_of pid) self.old.here result self.new.here }
-        ensures ready { self.new.ready ≡ self.old.ready }
+        ensures ready { IfOk result (λ quantum. quantum ≡ Quantum.Stuck → self.new.ready ≡ self.old.ready) }
         ensures last { self.new.last ≡ self.old.last }
         ensures limits { self.new.limits ≡ self.old.limits }
     {
@@ -269,7 +274,8 @@ impl Residents {
         }
     }
 
-    // The process with a pid has its turn itself, if it is here.
+    // The process with a pid has its turn itself, if it is here: where it rolls forward it makes steps again, forks among them, and
+    // where nothing is left to withhold the same quantum goes on.
     fn run(
         &mut self,
         alloc: Global,
@@ -279,7 +285,34 @@ impl Residents {
     ) -> Result<Quantum, NoMemory>
         requires ready { list_any (at_key pid) self.old.ready ≡ true }
         requires last { comes_after_at self.old.limits self.old.here (pid_of pid) ≡ true → childless ≡ true }
+        requires forks { CanForkAgainAt self.old.here (pid_of pid) }
         ensures turn { RunsAt self.old.limits by childless (pid_of pid) self.old.here result self.new.here }
+        ensures ready { IfOk result (λ quantum. quantum ≡ Quantum.Stuck → self.new.ready ≡ self.old.ready) }
+        ensures last { self.new.last ≡ self.old.last }
+        ensures limits { self.new.limits ≡ self.old.limits }
+    {
+        let made = self.roll(alloc, pid)?;
+        if self.rolls(pid) {
+            return Ok(Quantum::Moved);
+        }
+        self.run_on(alloc, by, pid, childless, made)
+    }
+
+    // The rest of a quantum of the process with a pid, if it is here, after so many steps in which it rolled forward.
+    fn run_on(
+        &mut self,
+        alloc: Global,
+        by: ClusterNo,
+        pid: u32,
+        childless: bool,
+        made: u32,
+    ) -> Result<Quantum, NoMemory>
+        requires ready { list_any (at_key pid) self.old.ready ≡ true }
+        requires few { made ≤ 64 }
+        requires last { made ≡ 0 → comes_after_at self.old.limits self.old.here (pid_of pid) ≡ true → childless ≡ true }
+        requires running { rolls_at self.old.here (pid_of pid) ≡ false }
+        requires waiting { 1 ≤ made → runs_at self.old.here (pid_of pid) ≡ true }
+        ensures turn { RunsOnAt self.old.limits by childless made (pid_of pid) self.old.here result self.new.here }
         ensures ready { self.new.ready ≡ self.old.ready }
         ensures last { self.new.last ≡ self.old.last }
         ensures limits { self.new.limits ≡ self.old.limits }
@@ -287,10 +320,180 @@ impl Residents {
         self.told = None;
         match self.keys.get(&pid) {
             Some(key) => match self.residents.get_mut(*key) {
-                Some(resident) => resident.run_quantum(alloc, by, self.limits, childless),
+                Some(resident) => resident.run_quantum(alloc, by, self.limits, childless, made),
                 None => unreachable!(),
             },
             None => Ok(Quantum::Stuck),
+        }
+    }
+
+    // The steps of a quantum that the process with a pid makes again, and how many they are. A later one for which memory is refused is
+    // not made; where it is the first, nothing has changed.
+    fn roll(&mut self, alloc: Global, pid: u32) -> Result<u32, NoMemory>
+        requires ready { list_any (at_key pid) self.old.ready ≡ true }
+        requires forks { CanForkAgainAt self.old.here (pid_of pid) }
+        ensures ok { IfOk result (λ made. RollsQuantum (pid_of pid) made self.old.here self.new.here) }
+        ensures err { OnErr result (self.new.here ≡ self.old.here) }
+        ensures ready { list_any (at_key pid) self.new.ready ≡ true }
+        ensures same { IfOk result (λ made. made ≡ 0 → self.new.ready ≡ self.old.ready) }
+        ensures last { self.new.last ≡ self.old.last }
+        ensures limits { self.new.limits ≡ self.old.limits }
+    {
+        let mut made = 0;
+        'parts: while made < MOST {
+            match self.roll_part(alloc, pid, MOST - made) {
+                Ok(0) => return Ok(made),
+                Ok(more) => made += more,
+                Err(NoMemory) => return made_or_refused(made),
+            }
+        }
+        Ok(made)
+    }
+
+    // Some of these steps: those up to a fork, or that fork; none where the process does not roll forward.
+    fn roll_part(&mut self, alloc: Global, pid: u32, most: u32) -> Result<u32, NoMemory>
+        requires most { 1 ≤ most }
+        requires ready { list_any (at_key pid) self.old.ready ≡ true }
+        requires forks { CanForkAgainAt self.old.here (pid_of pid) }
+        ensures ok { IfOk result (λ made. RollsPartAt most made (pid_of pid) self.old.here self.new.here) }
+        ensures err { OnErr result (self.new.here ≡ self.old.here) }
+        ensures ready { list_any (at_key pid) self.new.ready ≡ true }
+        ensures same { IfOk result (λ made. made ≡ 0 → self.new.ready ≡ self.old.ready) }
+        ensures last { self.new.last ≡ self.old.last }
+        ensures limits { self.new.limits ≡ self.old.limits }
+    {
+        let made = self.roll_steps(pid, most)?;
+        if made > 0 || !self.rolls(pid) {
+            return Ok(made);
+        }
+        self.fork_again(alloc, pid)?;
+        Ok(1)
+    }
+
+    // The steps up to a fork.
+    fn roll_steps(&mut self, pid: u32, most: u32) -> Result<u32, NoMemory>
+        requires most { 1 ≤ most }
+        requires ready { list_any (at_key pid) self.old.ready ≡ true }
+        ensures ok { IfOk result (λ made. RollsStepsAt most made (pid_of pid) self.old.here self.new.here) }
+        ensures err { OnErr result (self.new.here ≡ self.old.here) }
+        ensures ready { self.new.ready ≡ self.old.ready }
+        ensures last { self.new.last ≡ self.old.last }
+        ensures limits { self.new.limits ≡ self.old.limits }
+    {
+        self.told = None;
+        match self.keys.get(&pid) {
+            Some(key) => match self.residents.get_mut(*key) {
+                Some(resident) => resident.roll(most),
+                None => unreachable!(),
+            },
+            None => Ok(0),
+        }
+    }
+
+    // The fork again before which the process with a pid stands; its child begins again where it waits for that.
+    fn fork_again(&mut self, alloc: Global, pid: u32) -> Result<(), NoMemory>
+        requires ready { list_any (at_key pid) self.old.ready ≡ true }
+        requires can { CanForkAgainNow (pid_of pid) self.old.here }
+        ensures ok { OnOk result (ForksAgain (pid_of pid) self.old.here self.new.here) }
+        ensures err { OnErr result (self.new.here ≡ self.old.here) }
+        ensures ready { list_any (at_key pid) self.new.ready ≡ true }
+        ensures last { self.new.last ≡ self.old.last }
+        ensures limits { self.new.limits ≡ self.old.limits }
+    {
+        let Some(child) = self.next_child(pid) else {
+            unreachable!()
+        };
+        if !self.waits_for_fork(child) {
+            self.bear_again(pid, false)?;
+            return Ok(());
+        }
+        self.make_ready(child.0)?;
+        match self.bear_again(pid, true)? {
+            Some(born) => self.begin_again(alloc, child, born),
+            None => unreachable!(),
+        }
+        Ok(())
+    }
+
+    // A process is asked for its turn from now on, where it can have one.
+    fn make_ready(&mut self, pid: u32) -> Result<(), NoMemory>
+        ensures here { self.new.here ≡ self.old.here }
+        ensures there { OnOk result (list_any (at_key pid) self.new.ready ≡ true) }
+        ensures others { (n : ℕ) → list_any (at_key n) self.old.ready ≡ true → list_any (at_key n) self.new.ready ≡ true }
+        ensures last { self.new.last ≡ self.old.last }
+        ensures limits { self.new.limits ≡ self.old.limits }
+    {
+        self.ready.insert(pid)?;
+        Ok(())
+    }
+
+    // The parent's half of that fork, and its child where `made` says so.
+    fn bear_again(&mut self, pid: u32, made: bool) -> Result<Option<Process>, NoMemory>
+        requires ready { list_any (at_key pid) self.old.ready ≡ true }
+        requires stands { StandsThere (pid_of pid) self.old.here }
+        ensures ok { IfOk result (λ born. BearsAgain made (pid_of pid) self.old.here born self.new.here) }
+        ensures err { OnErr result (self.new.here ≡ self.old.here) }
+        ensures ready { self.new.ready ≡ self.old.ready }
+        ensures last { self.new.last ≡ self.old.last }
+        ensures limits { self.new.limits ≡ self.old.limits }
+    {
+        self.told = None;
+        match self.keys.get(&pid) {
+            Some(key) => match self.residents.get_mut(*key) {
+                Some(resident) => resident.fork_again(made),
+                None => unreachable!(),
+            },
+            None => unreachable!(),
+        }
+    }
+
+    // A child that waited for its parent's fork begins again as it was born. Takes no memory.
+    fn begin_again(&mut self, alloc: Global, child: Pid, born: Process)
+        requires ready { list_any (at_key child.0) self.old.ready ≡ true }
+        requires can { (h : Held) → held_of self.old.here child ≡ Some h → CanBeginWith born h }
+        ensures here { self.new.here ≡ with_begun child born self.old.here }
+        ensures ready { self.new.ready ≡ self.old.ready }
+        ensures last { self.new.last ≡ self.old.last }
+        ensures limits { self.new.limits ≡ self.old.limits }
+    {
+        self.told = None;
+        if let Some(key) = self.keys.get(&child.0) {
+            match self.residents.get_mut(*key) {
+                Some(resident) => resident.begin_again(alloc, born),
+                None => unreachable!(),
+            }
+        }
+    }
+
+    // The child of the next fork of the process with a pid. Takes no memory.
+    fn next_child(&self, pid: u32) -> Option<Pid>
+        ensures { result ≡ option_and_then child_again (held_of self.now.here (pid_of pid)) }
+    {
+        match self.resident(pid) {
+            Some(resident) => resident.next_child(),
+            None => None,
+        }
+    }
+
+    // Whether a process is here and waits for its parent's fork. Takes no memory.
+    fn waits_for_fork(&self, pid: Pid) -> bool
+        ensures waits { result ≡ waits_at self.now.here pid }
+        ensures ordered { are_rising (pids_in self.now.here) ≡ true }
+    {
+        match self.resident(pid.0) {
+            Some(resident) => resident.waits_for_fork(),
+            None => false,
+        }
+    }
+
+    // Whether the process with a pid is here and rolls forward. Takes no memory.
+    fn rolls(&self, pid: u32) -> bool
+        ensures rolls { result ≡ rolls_at self.now.here (pid_of pid) }
+        ensures ordered { are_rising (pids_in self.now.here) ≡ true }
+    {
+        match self.resident(pid) {
+            Some(resident) => resident.rolls(),
+            None => false,
         }
     }
 
@@ -580,4 +783,12 @@ fn clear(residents: &mut Slab<Resident>, key: usize)
     ensures { Updates residents.old residents.new key None }
 {
     residents.try_remove(key);
+}
+
+// Steps that were made, or want of memory where none was.
+fn made_or_refused(made: u32) -> Result<u32, NoMemory>
+    ensures ok { IfOk result (λ n. (n ≡ made) × (0 < made)) }
+    ensures err { OnErr result (made ≡ 0) }
+{
+    if made == 0 { Err(NoMemory) } else { Ok(made) }
 }

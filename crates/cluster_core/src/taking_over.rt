@@ -1,7 +1,9 @@
 //! The processes that the loss of another cluster moves here.
-ghost use Rattle.std.specs.Prelude.{◌≡◌, ◌⊎◌, [], IfOk, OnErr, OnOk, true};
+ghost use Rattle.std.specs.Prelude.{◌≡◌, ◌≤◌, ◌⊎◌, [], IfOk, OnErr, OnOk, is_some, true};
 ghost use Rattle.bus_msg.specs.PlacedAfter.{what};
 ghost use Rattle.backup_records.specs.Records.{are_rising};
+ghost use Rattle.page_waits.specs.Waiting.{page_count};
+ghost use Rattle.wait_laws.specs.Waits.{first_wait};
 ghost use Rattle.cluster_core.specs.Recovered.{CanWait, left_by, moved_by, with_all_waiting};
 
 use crate::resident::Resident;
@@ -19,7 +21,7 @@ use t32_base::process::ClusterNo;
 use t32_base::streams::NoMemory;
 
 /// Takes over, at the loss of another cluster, the processes that it moves to the cluster with a number: each waits for
-/// its pages, beside its record, which leaves the records. No other entry moves any. The placement is the one before the
+/// its pages, or for its parent's fork, beside its record, which leaves the records. No other entry moves any. The placement is the one before the
 /// entry. After want of memory nothing is said of the records, and either all are here that were, or none is.
 pub fn take_over(
     alloc: Global,
@@ -58,7 +60,7 @@ pub fn take_over(
     }
 }
 
-// The processes of these records, which stand by rising pid, wait for their pages beside those that are here. After want of
+// The processes of these records, which stand by rising pid, wait beside those that are here. After want of
 // memory all are dropped.
 fn begin_waits(alloc: Global, moved: List<Record>, here: Residents) -> Result<Residents, NoMemory>
     requires rising { are_rising moved ≡ true }
@@ -70,8 +72,21 @@ fn begin_waits(alloc: Global, moved: List<Record>, here: Residents) -> Result<Re
     let mut here = here;
     'records: while let Some(kept) = left.pop_front() {
         let pid = kept.pid();
-        let waiting = Waiting::begin(alloc, kept)?;
+        let waiting = waiting_of(alloc, kept)?;
         here.add(pid, Resident::waiting(waiting))?;
     }
     Ok(here)
+}
+
+// The process of a record waits for its pages; where the record has no state it waits for its parent's fork. After want of
+// memory the record is dropped.
+fn waiting_of(alloc: Global, kept: Record) -> Result<Waiting, NoMemory>
+    requires some { is_some kept.state ≡ true → 1 ≤ page_count kept }
+    requires at_most { page_count kept ≤ 256 }
+    ensures { IfOk result (λ w. w ≡ first_wait kept) }
+{
+    if kept.state().is_none() {
+        return Ok(Waiting::for_fork(alloc, kept));
+    }
+    Waiting::begin(alloc, kept)
 }

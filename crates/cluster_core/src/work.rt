@@ -1,6 +1,7 @@
 //! The work of a cluster.
 ghost use Rattle.std.specs.Prelude.{◌≡◌, ◌<◌, ◌^◌, [], IfErr, IfOk, OnErr, OnOk, if◌then◌else◌};
 ghost use Rattle.std.specs.VecDeque.{deque_len, deque_capacity};
+ghost use Rattle.cluster_core.specs.ForkingAgain.{CanForkAgain};
 ghost use Rattle.cluster_core.specs.Quantum.{post_told};
 ghost use Rattle.cluster_core.specs.Serving.{CanAnswer, HurtsServer};
 ghost use Rattle.cluster_core.specs.Work.{RunsNext, WorksOn, any_waits, birth_told, fetch_post, next_pid};
@@ -37,6 +38,7 @@ pub fn work_on<D: PageDisk>(
     requires queue { queue.old.items ≡ [] }
     requires can { CanAnswer server.old }
     requires pids { next_pid number places.now < 2 ^ 32 }
+    requires forks { CanForkAgain here.old.here }
     ensures ok { IfOk result (λ worked. WorksOn number places.now family.now here.old server.old worked here.new server.new queue.new.items) }
     ensures here { OnErr result (here.new.here ≡ here.old.here) }
     ensures limits { here.new.limits ≡ here.old.limits }
@@ -76,6 +78,7 @@ fn run_next(
     requires empty { queue.old.items ≡ [] }
     requires room { deque_len queue.old < deque_capacity queue.old }
     requires pids { next_pid number places.now < 2 ^ 32 }
+    requires forks { CanForkAgain here.old.here }
     ensures ok { IfOk result (λ worked. RunsNext number places.now family.now here.old worked here.new queue.new.items) }
     ensures here { OnErr result (here.new.here ≡ here.old.here) }
     ensures limits { here.new.limits ≡ here.old.limits }

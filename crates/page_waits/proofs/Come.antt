@@ -4,9 +4,9 @@ use Rattle.std.specs.Prelude.{replicate, is_some}
 use Rattle.std.specs.List.{list_all}
 use Rattle.std.proofs.lemmas.List.{drop-append-le, drop-drop, drop-take, drop_at, take-append-drop, take-append-le, take-take, take_at}
 use Rattle.std.proofs.lemmas.List.Sums.{sum_by-cons}
-use Rattle.rv_mem.specs.Memory.{with_bytes}
+use Rattle.rv_mem.specs.Memory.{Memory, with_bytes}
 use Rattle.page_waits.specs.Pages.{memory_of}
-use Rattle.page_waits.specs.Kept.{missing, pages_come}
+use Rattle.page_waits.specs.Kept.{bytes_in, missing, pages_come, with_page_in}
 
 -- before any has a mark none has come
 pub none_come : (n : ℕ) (bytes : List ℕ) → pages_come (replicate n false) bytes ≡ replicate n None
@@ -64,7 +64,7 @@ come_put (mark ∷ marks) bytes page (suc i) within len size =
     ∙ ap (λ (pages : List (Option (List ℕ))). here (take 256 bytes) ∷ pages) (come_put marks (drop 256 bytes) page i (omega arith) len rest)
 
 -- a page that is put and marked has come, and the others are as they were
-pub one_more : (marks : List Bool) (bytes page : List ℕ) (i : ℕ) → i < length marks → length page ≡ 256 → length bytes ≡ 256 * length marks
+one_more : (marks : List Bool) (bytes page : List ℕ) (i : ℕ) → i < length marks → length page ≡ 256 → length bytes ≡ 256 * length marks
     → pages_come (set marks i true) (with_bytes bytes (65536 + 256 * i) page) ≡ set (pages_come marks bytes) i (Some page)
 one_more marks bytes page i within len size =
     let at : 65536 + 256 * i - 65536 ≡ 256 * i = omega arith in
@@ -72,6 +72,12 @@ one_more marks bytes page i within len size =
     ap (λ n. pages_come (set marks i true) ((take n bytes ++ page) ++ drop (65536 + 256 * i - 65536 + length page) bytes)) at
     ∙ ap (λ n. pages_come (set marks i true) ((take (256 * i) bytes ++ page) ++ drop n bytes)) end
     ∙ come_put marks bytes page i within len size
+
+-- so it is where the memory is there
+pub one_more_in : (marks : List Bool) (ram : Option Memory) (page : List ℕ) (i : ℕ) → i < length marks → length page ≡ 256 → length (bytes_in ram) ≡ 256 * length marks
+    → pages_come (set marks i true) (bytes_in (with_page_in i page ram)) ≡ set (pages_come marks (bytes_in ram)) i (Some page)
+one_more_in marks None page i within len size = absurd (omega (arith, size, within))
+one_more_in marks (Some m) page i within len size = one_more marks m.bytes page i within len size
 
 -- ---- all of them
 

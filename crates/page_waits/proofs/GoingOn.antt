@@ -1,5 +1,5 @@
 -- A process whose pages have all come rolls forward from its record and the memory that they make.
-use Rattle.std.proofs.Common.{◌≡◌, ℕ, ◌≤◌, false, List, [], length, sym, ap, ◌∙◌, subst, arith, refl, Option, Some, None}
+use Rattle.std.proofs.Common.{◌≡◌, ℕ, true, false, true≢false, List, [], length, sym, ap, ◌∙◌, subst, refl, Option, Some, None, is_some}
 use Rattle.std.specs.Prelude.{replicate, option_map}
 use Rattle.std.specs.Option.{IfSome, IsSomeAnd}
 use Rattle.t32_base.specs.declared.process.Pid.{Pid}
@@ -15,15 +15,19 @@ use Rattle.page_waits.specs.Pages.{memory_of}
 use Rattle.page_waits.specs.Waiting.{WaitingState, CanGoOn, page_count, rolling_of, start_of}
 use Rattle.page_waits.proofs.OneEnd.{ahead_is}
 
--- a record with at least one page has a state, with that many pages
-pub has_state : (o : Option SmallState) (r : BackRec) (n : ℕ) → r.state ≡ o → page_count r ≡ n → 1 ≤ n → IsSomeAnd o (λ small. small.pages ≡ n)
-has_state None r n is pages some = absurd (omega (arith, sym (ap (λ (o : Option SmallState). page_count (record r { state = o })) is) ∙ pages))
+-- a record with a state has as many pages as it has a count of
+pub has_state : (o : Option SmallState) (r : BackRec) (n : ℕ) → r.state ≡ o → page_count r ≡ n → is_some o ≡ true → IsSomeAnd o (λ small. small.pages ≡ n)
+has_state None r n is pages some = absurd (true≢false (sym some))
 has_state (Some small) r n is pages some = sym (ap (λ (o : Option SmallState). page_count (record r { state = o })) is) ∙ pages
 
 -- the memory is that of its pages
 pub can_start : (w : WaitingState) (ram : Memory) → memory_of w.come ≡ ram.bytes → CanGoOn w → IfSome (w.kept).state (λ small. CanRoll (started small ram (w.kept).saved (w.kept).next) (w.kept).counts (w.kept).births)
 can_start w ram memory can =
-    subst (λ (bytes : List ℕ). IfSome (w.kept).state (λ small. CanRoll (started small (record { bytes = bytes; dirty = ram.dirty }) (w.kept).saved (w.kept).next) (w.kept).counts (w.kept).births)) memory can
+    subst (λ (bytes : List ℕ). IfSome (w.kept).state (λ small. CanRoll (started small (record { bytes = bytes; dirty = ram.dirty }) (w.kept).saved (w.kept).next) (w.kept).counts (w.kept).births)) memory (if_some (w.kept).state can)
+  where
+    if_some : (o : Option SmallState) → IsSomeAnd o (λ small. CanRoll (start_of w small) (w.kept).counts (w.kept).births) → IfSome o (λ small. CanRoll (start_of w small) (w.kept).counts (w.kept).births)
+    if_some None there = tt
+    if_some (Some small) there = there
 
 -- what is known of a process that begins to roll forward: it waited so, its memory is that of its pages, and none of them is marked
 pub record Starts (w : WaitingState) (ram : Memory) (it : RollingState) : Type 0 where
@@ -53,7 +57,7 @@ begins w ram it small s is =
     let since : (it.process).since ≡ small.steps = subst (λ o. IfSome o (λ small. (it.process).since ≡ small.steps)) is s.since in
     let pages : small.pages ≡ length ram.dirty = subst (λ o. IsSomeAnd o (λ small. small.pages ≡ length ram.dirty)) is s.pages in
     let marks : ((it.process).ram).dirty ≡ replicate small.pages false = s.marks ∙ s.clean ∙ ap (λ n. replicate n false) (sym pages) in
-    let can : CanRoll (start_of w small) (w.kept).counts (w.kept).births = subst (λ o. IfSome o (λ small. CanRoll (start_of w small) (w.kept).counts (w.kept).births)) is s.can in
+    let can : CanRoll (start_of w small) (w.kept).counts (w.kept).births = subst (λ o. IsSomeAnd o (λ small. CanRoll (start_of w small) (w.kept).counts (w.kept).births)) is s.can in
     let ahead : it.ahead ≡ ahead_of (start_of w small) (w.kept).counts (w.kept).births =
     ahead_then (state_of it.process) (start_of w small) it.counts (w.kept).counts it.births (w.kept).births it.ahead state s.counts s.births s.ahead can in
     λ i. record {

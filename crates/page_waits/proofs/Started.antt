@@ -1,7 +1,7 @@
 -- A process whose pages are those of the memory in which it started goes on from that start.
 use Rattle.std.proofs.Common.{◌≡◌, ℕ, List, sym, ap, ◌∙◌, subst, Some}
 use Rattle.std.specs.Prelude.{option_map}
-use Rattle.std.specs.Option.{IfSome}
+use Rattle.std.specs.Option.{IsSomeAnd}
 use Rattle.t32_base.specs.Small.{SmallState}
 use Rattle.proc_state.specs.State.{ProcState}
 use Rattle.roll_forward.specs.Rolling.{CanRoll}
@@ -16,7 +16,7 @@ with_memory w small bytes = record { small = small; memory = bytes; mail = (w.ke
 
 pub can_from : (w : WaitingState) (start : ProcState) → AreAllPages start.memory w.come → BeginsFrom start w.kept → CanGoOn w
 can_from w start all begins =
-    subst (λ o. IfSome o (λ small. CanRoll (start_of w small) (w.kept).counts (w.kept).births)) (sym begins.state)
+    subst (λ o. IsSomeAnd o (λ small. CanRoll (start_of w small) (w.kept).counts (w.kept).births)) (sym begins.state)
     (subst (λ (bytes : List ℕ). CanRoll (with_memory w start.small bytes) (w.kept).counts (w.kept).births) (sym (all_memory start.memory w.come all)) begins.rolls)
 
 pub rolls_from : (w : WaitingState) (start : ProcState) → AreAllPages start.memory w.come → BeginsFrom start w.kept → rolling_of w ≡ Some (begun start w.kept)

@@ -1,7 +1,7 @@
 -- A process that waits for its pages, as contracts see it.
 use Rattle.std.specs.Prelude.{ℕ, nat_lt, Bool, if◌then◌else◌, List, length, slice_set, Option, Some, None, is_some, option_map}
 use Rattle.std.specs.List.{list_all}
-use Rattle.std.specs.Option.{IfSome, option_map_or}
+use Rattle.std.specs.Option.{IsSomeAnd, option_map_or}
 use Rattle.t32_base.specs.declared.letter.BackRec.{BackRec}
 use Rattle.t32_base.specs.Small.{SmallState}
 use Rattle.proc_state.specs.State.{ProcState}
@@ -37,9 +37,9 @@ is_whole w = list_all is_some w.come
 abbrev pub start_of : WaitingState → SmallState → ProcState
 start_of w small = record { small = small; memory = memory_of w.come; mail = (w.kept).saved; next = (w.kept).next }
 
--- from there it can do again all that its record counts
+-- its record has a state, and from there it can do again all that the record counts
 abbrev pub CanGoOn : WaitingState → Type 0
-CanGoOn w = IfSome (w.kept).state (λ small. CanRoll (start_of w small) (w.kept).counts (w.kept).births)
+CanGoOn w = IsSomeAnd (w.kept).state (λ small. CanRoll (start_of w small) (w.kept).counts (w.kept).births)
 
 -- it rolls forward from there
 abbrev pub rolling_of : WaitingState → Option RollingState

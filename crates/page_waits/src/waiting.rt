@@ -1,8 +1,8 @@
-//! A process that waits for its pages, and then rolls forward.
-ghost use Rattle.std.specs.Prelude.{◌≡◌, ◌+◌, ◌-◌, ◌^◌, ◌<◌, ◌≤◌, true, None, Some, length, replicate, slice_set, IfOk, IsSome, OnOk, OnErr};
+//! A process that waits for its pages, and then rolls forward; or that has none to wait for and waits for its parent's fork.
+ghost use Rattle.std.specs.Prelude.{◌≡◌, ◌+◌, ◌-◌, ◌^◌, ◌<◌, ◌≤◌, true, [], None, Some, is_some, length, replicate, slice_set, IfOk, IsNone, IsSome, OnOk, OnErr};
 ghost use Rattle.backup_queue.specs.Queue.{saved_with};
 ghost use Rattle.page_waits.specs.Waiting.{is_whole, next_page, page_count, rolling_of, with_page, CanGoOn};
-ghost use Rattle.page_waits.specs.Kept.{missing};
+ghost use Rattle.page_waits.specs.Kept.{dirty_in, missing, with_page_in};
 
 use backup_queue::record::Record;
 use roll_forward::rolling::Rolling;
@@ -14,12 +14,13 @@ use t32_base::process::Pid;
 use t32_base::streams::NoMemory;
 
 /// A process that a crash moved and that waits for its pages: its record, with the letters that arrive meanwhile, and
-/// the pages that have come. A page is asked for once, the lowest first; pages may come in any order.
+/// the pages that have come. A page is asked for once, the lowest first; pages may come in any order. One without a
+/// state in its record has no page: it waits until its parent makes the fork again from which it starts.
 #[derive(Drop)]
 pub struct Waiting {
     kept: Record,
-    // A page lies in its place in it once it has come.
-    ram: Ram,
+    // A page lies in its place in it once it has come. A record without a state has none.
+    ram: Option<Ram>,
     // Which pages have come, and how many have not.
     here: Vec<bool>,
     lacking: u16,
@@ -29,11 +30,11 @@ pub struct Waiting {
 
 impl Model for Waiting {
     ghost use Rattle.page_waits.specs.Waiting.{WaitingState};
-    ghost use Rattle.page_waits.specs.Kept.{pages_come, IsKept};
+    ghost use Rattle.page_waits.specs.Kept.{bytes_in, pages_come, IsKept};
 
     ghost Value = { WaitingState };
 
-    ghost view = { λ w. record { kept = w.kept; asked = w.asked; come = pages_come w.here.items w.ram.bytes } };
+    ghost view = { λ w. record { kept = w.kept; asked = w.asked; come = pages_come w.here.items (bytes_in w.ram) } };
 
     ghost invariant = { λ w. IsKept w.kept w.ram w.here.items w.lacking w.asked };
 }
@@ -53,11 +54,25 @@ impl Waiting {
         let here = vec![in alloc; false; usize::from(pages)]?;
         Ok(Waiting {
             kept,
-            ram,
+            ram: Some(ram),
             here,
             lacking: pages,
             asked: 0,
         })
+    }
+
+    /// The process of a record without a state: it has no page, and waits for its parent's fork. Takes no memory.
+    pub fn for_fork(alloc: Global, kept: Record) -> Waiting
+        requires { IsNone kept.state }
+        ensures { result ≡ record { kept = kept; asked = 0; come = [] } }
+    {
+        Waiting {
+            kept,
+            ram: None,
+            here: Vec::new(alloc),
+            lacking: 0,
+            asked: 0,
+        }
     }
 
     /// The process. Takes no memory.
@@ -74,11 +89,11 @@ impl Waiting {
         &self.kept
     }
 
-    /// How many pages it has: 1 to 256. Takes no memory.
+    /// How many pages it has: 1 to 256, or none where its record has no state. Takes no memory.
     pub fn pages(&self) -> u16
         ensures pages { result ≡ length self.now.come }
         ensures state { result ≡ page_count self.now.kept }
-        ensures some { 1 ≤ result }
+        ensures some { is_some self.now.kept.state ≡ true → 1 ≤ result }
         ensures at_most { result ≤ 256 }
         ensures asked { self.now.asked ≤ result }
     {
@@ -128,7 +143,7 @@ impl Waiting {
         requires { index < length self.old.come }
         ensures { self.new ≡ with_page index page.now self.old }
     {
-        self.ram.set_page(index, page);
+        put(&mut self.ram, index, page);
         mark(&mut self.here, &mut self.lacking, usize::from(index));
     }
 
@@ -148,7 +163,17 @@ impl Waiting {
         ensures { rolling_of self ≡ Some result }
     {
         let Waiting { kept, ram, .. } = self;
+        let Some(ram) = ram else { unreachable!() };
         Rolling::start(alloc, kept, ram)
+    }
+
+    /// Its record, with the letters that have arrived meanwhile, for who starts it where its parent makes its fork again.
+    /// The pages that have come are dropped. Takes no memory.
+    pub fn into_record(self) -> Record
+        ensures { result ≡ self.kept }
+    {
+        let Waiting { kept, .. } = self;
+        kept
     }
 }
 
@@ -159,6 +184,16 @@ fn pages_of(kept: &Record) -> u16
     match kept.state() {
         Some(small) => small.pages,
         None => 0,
+    }
+}
+
+// Puts a page in its place in the memory, if there is one.
+fn put(ram: &mut Option<Ram>, index: u16, page: &[u8; 256])
+    requires { index < length (dirty_in ram.old) }
+    ensures { ram.new ≡ with_page_in index page.now ram.old }
+{
+    if let Some(ram) = ram {
+        ram.set_page(index, page);
     }
 }
 

@@ -36,8 +36,11 @@ fn ended_at(quantum: &Quantum) -> Option<u64> {
 
 // A turn, in which a child is to synchronise first until the process asks for it: whether it ended, and its steps then.
 fn turn(alloc: Global, resident: &mut Resident) -> Result<(Option<u64>, u64), NoMemory> {
+    if resident.rolls() {
+        return Ok((None, 0));
+    }
     let childless = resident.comes_after_children(NEVER);
-    let quantum = resident.run_quantum(alloc, ClusterNo(0), NEVER, childless)?;
+    let quantum = resident.run_quantum(alloc, ClusterNo(0), NEVER, childless, 0)?;
     Ok((ended_at(&quantum), resident.steps()))
 }
 

@@ -42,7 +42,7 @@ each_same (suc n) zero x within = refl
 each_same (suc n) (suc i) x within = each_same n i x (omega (arith, within))
 
 -- what moves a process is a loss, and cuts none
-loss_cuts_none : (p : Pid) (w : What) (moved : ClusterNo → Bool) → option_map_or moved (cluster_lost w) false ≡ true → is_cut p w ≡ false
+pub loss_cuts_none : (p : Pid) (w : What) (moved : ClusterNo → Bool) → option_map_or moved (cluster_lost w) false ≡ true → is_cut p w ≡ false
 loss_cuts_none p (Crash k cause) moved moves = refl
 loss_cuts_none p w moved moves = absurd (true≢false (sym moves))
 

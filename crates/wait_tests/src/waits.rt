@@ -1,4 +1,4 @@
-//! A process that waits for its pages, on ample memory: they are asked for in order and come in another.
+//! A process that waits for its pages, on ample memory: they are asked for in order and come in another. A child without a state waits for none.
 ghost use Rattle.std.specs.Prelude.{◌≡◌, ◌∷◌, [], IfOk, IsTrue, Some, replicate};
 ghost use Rattle.t32_base.specs.declared.letter.Body.TheVariants.{Said};
 ghost use Rattle.t32_base.specs.declared.letter.To.TheVariants.{Tty};
@@ -95,7 +95,7 @@ fn sent_nothing(waiting: &Waiting) -> bool
     ensures { IsTrue result → CanGoOn waiting.now }
 {
     let kept = waiting.kept();
-    total(kept.counts()) == 0 && kept.births().is_empty()
+    kept.state().is_some() && total(kept.counts()) == 0 && kept.births().is_empty()
 }
 
 // It rolls forward, where all its pages have come.
@@ -192,4 +192,31 @@ fn caught_up(rolling: &mut Rolling) -> Result<(u32, bool, u64), NoMemory> {
 fn it_does_again_what_its_record_counts(rt: HostRuntime) -> Result<(), Fail> {
     let mut rolling = two_moved(rt.alloc())?;
     same("the steps", &caught_up(&mut rolling)?, &(6, true, 1))
+}
+
+// A child that never synchronised, to which a signal has come.
+fn child_moved(alloc: Global) -> Result<Waiting, NoMemory> {
+    let mut waiting = Waiting::for_fork(alloc, Record::new(alloc, Pid(48), None));
+    signal_comes(&mut waiting, 10)?;
+    Ok(waiting)
+}
+
+#[test]
+fn a_child_without_a_state_waits_for_no_page(rt: HostRuntime) -> Result<(), Fail> {
+    let waiting = child_moved(rt.alloc())?;
+    same(
+        "its pages, what it lacks, and whether all have come",
+        &(waiting.pages(), waiting.lacks(), waiting.is_whole()),
+        &(0, None, true),
+    )
+}
+
+#[test]
+fn its_record_has_the_letter_that_came_meanwhile(rt: HostRuntime) -> Result<(), Fail> {
+    let kept = child_moved(rt.alloc())?.into_record();
+    same(
+        "the pid and the next number",
+        &(kept.pid().0, kept.next()),
+        &(48, 1),
+    )
 }

@@ -20,13 +20,13 @@ records-init c =
       all = ap (λ rs. with_all_waiting rs c.args.here.here) items;
     }
 
-pub begin-requires-clause-some : goal.begin-requires-clause-some
-begin-requires-clause-some c =
+pub waiting_of-requires-clause-some : goal.waiting_of-requires-clause-some
+waiting_of-requires-clause-some c =
     let can : CanWait (c.in-Some.kept ∷ c.pop_front.new.self.items) c.records.here.here = subst (λ rs. CanWait rs c.records.here.here) c.in-Some.ensures.items c.records.invariant.can in
     (first_waits c.in-Some.kept c.pop_front.new.self.items c.records.here.here can).0
 
-pub begin-requires-clause-at_most : goal.begin-requires-clause-at_most
-begin-requires-clause-at_most c =
+pub waiting_of-requires-clause-at_most : goal.waiting_of-requires-clause-at_most
+waiting_of-requires-clause-at_most c =
     let can : CanWait (c.in-Some.kept ∷ c.pop_front.new.self.items) c.records.here.here = subst (λ rs. CanWait rs c.records.here.here) c.in-Some.ensures.items c.records.invariant.can in
     (first_waits c.in-Some.kept c.pop_front.new.self.items c.records.here.here can).1
 

@@ -5,7 +5,9 @@ use Rattle.sys_text.specs.Valid.{is_system}
 use Rattle.cert_sched.specs.Losses.{is_from}
 use Rattle.cluster_core.specs.View.{ClusterView, limits_of}
 use Rattle.cluster_core.specs.Calls.{GoesOn, WorkIs}
+use Rattle.cluster_core.specs.ForkingAgain.{CanForkAgain}
 use Rattle.cluster_core.specs.Parts.{AllOwn}
+use Rattle.cluster_core.proofs.CanFork.{can_fork_again}
 use Rattle.cluster_core.specs.Serving.{CanAnswer}
 use Rattle.cluster_core.specs.Work.{WorksOn, next_pid}
 use Rattle.cluster_core.proofs.Answering.{can_answer}
@@ -26,6 +28,12 @@ work_on-requires-clause-pids g c =
     let valid = subst (λ (v : ClusterView). is_system v.system ≡ true) c.self.view_is c.self.invariant.valid in
     let has = subst (λ (v : ClusterView). (v.number).0 < (v.system).clusters) c.self.view_is c.self.invariant.has in
     subst (λ (v : ClusterView). next_pid v.number v.places < 2 ^ 32) (sym c.self.view_is) (next_fits c.args.self.now valid has c.requires.follows)
+
+pub work_on-requires-clause-forks : goal.work_on-requires-clause-forks
+work_on-requires-clause-forks g c =
+    let valid = subst (λ (v : ClusterView). is_system v.system ≡ true) c.self.view_is c.self.invariant.valid in
+    let some = c.requires.follows in
+    subst (λ (v : ClusterView). CanForkAgain v.here) (sym c.self.view_is) (can_fork_again c.args.self.now some.log valid c.requires.empty some.open_log some.follows)
 
 pub returns-clause-follows : goal.returns-clause-follows
 returns-clause-follows g c =

@@ -1,49 +1,17 @@
-use Rattle.std.proofs.Common.{◌∙◌, ap, sym, false, is_some, subst}
-use Rattle.std.specs.Option.{option_map_or}
-use Rattle.std.specs.List.{list_any}
-use Rattle.slab.specs.Slab.{with_value}
-use Rattle.slab.proofs.SlabLemmas.{Updates-with_value}
-use Rattle.plain_kernel.specs.Maps.{at_key, pid_of}
+use Rattle.std.proofs.Common.{◌≡◌, sym, subst, true}
+use Rattle.plain_kernel.specs.Maps.{pid_of}
 use Rattle.quanta.specs.declared.limits.Limits.{Limits}
-use Rattle.cluster_core.specs.Residents.{RunsAt, ResidentsView, is_stuck, is_stuck_at}
-use Rattle.cluster_core.specs.Slots.{stands_in}
-use Rattle.cluster_core.specs.ChildrenFirst.{comes_after_at, comes_after_children}
-use Rattle.cluster_core.proofs.Slots.{nobody_fails, no_entry, process_there}
-use Rattle.cluster_core.proofs.Kept.{never_empty, kept_written, ran_at}
-use Rattle.cluster_core.proofs.Asking.{lacks_listed, ran_lacks}
+use Rattle.cluster_core.specs.ChildrenFirst.{comes_after_at}
+use Rattle.cluster_core.proofs.RollingQuantum.{comes_as_before, runs_still, runs_then}
 use Rattle.cluster_core.proofs.residents.Residents.run.Goals as goal
 
-pub run_quantum-requires : goal.run_quantum-requires
-run_quantum-requires c = λ comes.
-    c.requires.last
-    (ap (λ (v : ResidentsView). comes_after_at v.limits v.here (pid_of c.args.pid)) (sym c.self.view_is)
-    ∙ ap (λ o. option_map_or (comes_after_children c.self.inside.limits) o false) (process_there c.self.inside.residents c.args.pid c.in-Some.key.now c.in-Some-get_mut.resident.now c.self.inside.keys.entries (sym c.in-Some.ensures.value) (sym c.in-Some-get_mut.ensures.value)) ∙ comes)
+pub returns-then-rolls-clause-turn : goal.returns-then-rolls-clause-turn
+returns-then-rolls-clause-turn c = runs_still c.args.self.now.limits c.args.by c.args.childless (pid_of c.args.pid) c.in_ok-made.made c.args.self.now.here c.roll.new.self.here c.in_ok-made.ensures.ok (sym c.if-rolls.ensures.rolls) c.rolls.ensures.ordered
 
-pub unreachable-requires : goal.unreachable-requires
-unreachable-requires c = never_empty c.self.inside.limits c.self.inside.residents c.args.pid c.in-Some.key.now c.self.inside.keys.entries c.self.inside.ready.keys c.self.inside.asking.keys c.self.invariant.0 (sym c.in-Some.ensures.value) (sym c.in-None-get_mut.ensures.value)
+pub run_on-requires-clause-last : goal.run_on-requires-clause-last
+run_on-requires-clause-last c = λ none comes.
+    let at = subst (λ (limits : Limits). comes_after_at limits c.roll.new.self.here (pid_of c.args.pid) ≡ true) c.in_ok-made.ensures.limits comes in
+    c.requires.last (comes_as_before c.args.self.now.limits c.args.by c.args.childless (pid_of c.args.pid) c.in_ok-made.made c.args.self.now.here c.roll.new.self.here c.in_ok-made.ensures.ok none at)
 
-pub invariant_of-self : goal.invariant_of-self
-invariant_of-self c = (
-  kept_written c.self.inside.limits c.self.inside.residents (with_value c.self.inside.residents c.in-Some.key.now c.run_quantum.new.self) c.args.pid c.in-Some.key.now c.run_quantum.new.self c.self.inside.keys.entries c.self.inside.ready.keys c.self.inside.asking.keys
-      (λ acts. ap (λ (v : ResidentsView). list_any (at_key c.args.pid) v.ready) c.self.view_is ∙ c.requires.ready)
-      (λ some.
-      lacks_listed c.self.inside.limits c.self.inside.residents c.self.inside.ready.keys c.self.inside.asking.keys c.args.pid c.in-Some.key.now c.in-Some-get_mut.resident.now c.self.inside.keys.entries (sym c.in-Some.ensures.value) (sym c.in-Some-get_mut.ensures.value) (c.self.invariant.0).each
-      (ran_lacks c.self.inside.limits c.args.by c.args.childless c.in-Some-get_mut.resident.now c.run_quantum.new.self c.run_quantum.result c.run_quantum.ensures some))
-      (sym c.in-Some.ensures.value)
-      (Updates-with_value c.self.inside.residents c.in-Some.key.now c.run_quantum.new.self (ap is_some (sym c.in-Some-get_mut.ensures.value))) c.self.invariant.0,
-  tt,
-)
-
-pub returns-in-Some-get_mut-clause-turn : goal.returns-in-Some-get_mut-clause-turn
-returns-in-Some-get_mut-clause-turn c =
-    subst (λ (limits : Limits). RunsAt limits c.args.by c.args.childless (pid_of c.args.pid) c.args.self.now.here c.run_quantum.result (stands_in (with_value c.self.inside.residents c.in-Some.key.now c.run_quantum.new.self) c.self.inside.keys.entries))
-    (ap (λ (v : ResidentsView). v.limits) c.self.view_is)
-    (ran_at c.self.inside.limits c.args.by c.args.childless c.self.inside.residents (with_value c.self.inside.residents c.in-Some.key.now c.run_quantum.new.self) c.args.pid c.in-Some.key.now c.self.inside.keys.entries c.self.inside.ready.keys c.self.inside.asking.keys
-    c.in-Some-get_mut.resident.now c.run_quantum.new.self c.args.self.now.here c.self.invariant.0 (sym c.in-Some.ensures.value) (sym c.in-Some-get_mut.ensures.value)
-    (Updates-with_value c.self.inside.residents c.in-Some.key.now c.run_quantum.new.self (ap is_some (sym c.in-Some-get_mut.ensures.value))) (ap (λ (v : ResidentsView). v.here) c.self.view_is) c.run_quantum.result c.run_quantum.ensures)
-
-pub returns-in-None-clause-turn : goal.returns-in-None-clause-turn
-returns-in-None-clause-turn c = (
-  ap (λ (v : ResidentsView). is_stuck_at v.limits (pid_of c.args.pid) v.here) (sym c.self.view_is) ∙ nobody_fails (λ h. is_stuck c.self.inside.limits h) c.self.inside.residents c.args.pid c.self.inside.keys.entries (no_entry c.args.pid c.self.inside.keys.entries (sym c.in-None.ensures.value)),
-  ap (λ (v : ResidentsView). v.here) c.self.view_is,
-)
+pub run_on-requires-clause-waiting : goal.run_on-requires-clause-waiting
+run_on-requires-clause-waiting c = λ some. runs_then c.args.self.now.limits c.args.by c.args.childless (pid_of c.args.pid) c.in_ok-made.made c.args.self.now.here c.roll.new.self.here c.in_ok-made.ensures.ok some (sym c.if-rolls.ensures.rolls)

@@ -1,0 +1,4 @@
+pub mod Begins
+pub mod Pageless
+pub mod StatedAbove
+pub mod EitherWait
