@@ -5,7 +5,6 @@ pub mod RestMarks
 pub mod MarkedPages
 pub mod BatchBegins
 pub mod LettersRead
-pub mod NoBirths
 pub mod ChildrenStay
 pub mod EntryBetween
 pub mod BatchAndOthers
