@@ -1,4 +1,4 @@
-//! What a cluster knows of the children that never synchronised. No cluster calls it yet.
+//! What a cluster knows of the children that never synchronised, and which of them is to come first.
 #![tactic(auto)]
 
 pub mod family;
