@@ -24,7 +24,7 @@ use Rattle.cluster_core.specs.Holds.{CarriesMarks, IsHeldAs, MarkedIfThere, proc
 use Rattle.cluster_core.specs.Bearing.{BearsChild, birth_post}
 use Rattle.cluster_core.specs.Follows.{FollowsBuilt, IsOpen}
 use Rattle.cluster_core.specs.Quantum.{ComesToFork}
-use Rattle.cluster_core.proofs.Here.{pids_changed, same_itself}
+use Rattle.cluster_core.proofs.Here.{changed_there, pids_changed, same_itself}
 use Rattle.cluster_core.proofs.Batching.{unqueued}
 use Rattle.cluster_core.proofs.ForksAgain.{forks_changed, run_forks}
 use Rattle.cluster_core.proofs.Beside.{FollowsBeside, all_of}
@@ -53,23 +53,6 @@ ahead_moved system log p s t n is silent =
     let counts : (t.small).steps - done_after system log p ≡ ((s.small).steps - ((a.base).small).steps) + n = omega (arith, grown, a.done, a.counts) in
     ap (option_and_then (silently ((t.small).steps - done_after system log p))) a.there ∙ ap (λ m. silently m a.base) counts
     ∙ silently-plus ((s.small).steps - ((a.base).small).steps) n a.base s t a.silent silent
-
--- ---- what is held
-
--- a process that has changed is found as it is now
-changed_there : (p : Pid) (now : Held) (here : List (Pid × Held)) (was : Held) → held_of here p ≡ Some was → held_of (with_changed p now here) p ≡ Some now
-changed_there p now [] was there = cc
-changed_there p now (e ∷ here) was there = by_test (same_pid e.0 p) refl there (changed_there p now here was)
-  where
-    first : (b : Bool) → b ≡ true → option_map (λ (e : Pid × Held). e.1) (cond b (Some (p, now)) (find (λ (e : Pid × Held). same_pid e.0 p) (with_changed p now here))) ≡ Some now
-    first true is = refl
-    first false is = absurd (true≢false (sym is))
-
-    by_test : (b : Bool) → same_pid e.0 p ≡ b → option_map (λ (e : Pid × Held). e.1) (cond b (Some e) (find (λ (e : Pid × Held). same_pid e.0 p) here)) ≡ Some was
-        → (held_of here p ≡ Some was → held_of (with_changed p now here) p ≡ Some now)
-        → option_map (λ (e : Pid × Held). e.1) (find (λ (e : Pid × Held). same_pid e.0 p) (cond b (p, now) e ∷ with_changed p now here)) ≡ Some now
-    by_test true is at more = first (same_pid p p) (same_itself p)
-    by_test false is at more = ap (λ b. option_map (λ (e : Pid × Held). e.1) (cond b (Some e) (find (λ (e : Pid × Held). same_pid e.0 p) (with_changed p now here)))) is ∙ more at
 
 -- ---- a process of a cluster that follows a log, where nothing is queued, and which comes to its fork
 

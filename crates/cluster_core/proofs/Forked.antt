@@ -17,7 +17,7 @@ use Rattle.cluster_core.specs.Slots.{IsKept, in_slot, stands_in}
 use Rattle.cluster_core.specs.Bearing.{ForksAt, ForksFrom, HasForked, forked, newborn, with_born, with_fork}
 use Rattle.cluster_core.proofs.Here.{pids_changed}
 use Rattle.cluster_core.proofs.Kept.{written_back}
-use Rattle.cluster_core.proofs.Slots.{one_key, process_there, written}
+use Rattle.cluster_core.proofs.Slots.{nobody_held, one_key, process_there, written}
 
 -- one that forks lacks no page that it did not lack before
 fork_lacks : (child : Pid) (was now : Held) (born : Option Process) → HasForked child was born now → is_some (page_lacked now) ≡ true → is_some (page_lacked was) ≡ true
@@ -60,17 +60,9 @@ module _ (limits : Limits) (slots new : Slab Held) (n key : ℕ) (keys : List (�
   none_forked (Ok born) is = tt
   none_forked (Err fault) is = stays is
 
--- who is not kept is not here
-nowhere : (slots : Slab Held) (n : ℕ) (es : List (ℕ × ℕ)) → AllByRecursion (λ (e : ℕ × ℕ). eqb e.0 n ≡ false) es → held_of (stands_in slots es) (pid_of n) ≡ None
-nowhere slots n [] none = refl
-nowhere slots n (e ∷ es) none = in_front (get slots e.1) (nowhere slots n es none.1)
-  where
-    in_front : (o : Option Held) → held_of (stands_in slots es) (pid_of n) ≡ None → held_of (in_slot (pid_of e.0) o (stands_in slots es)) (pid_of n) ≡ None
-    in_front None more = more
-    in_front (Some h) more = ap (λ b. option_map (λ (e : Pid × Held). e.1) (cond b (Some (pid_of e.0, h)) (find (λ (e : Pid × Held). same_pid e.0 (pid_of n)) (stands_in slots es)))) none.0 ∙ more
-
+-- who is not here does not fork
 pub nobody_forks : (slots : Slab Held) (n : ℕ) (keys : List (ℕ × ℕ)) (child : Pid) (old : List (Pid × Held)) → AllByRecursion (λ (e : ℕ × ℕ). eqb e.0 n ≡ false) keys → stands_in slots keys ≡ old → ForksAt (pid_of n) child old None old
-nobody_forks slots n keys child old none same = subst (λ o. ForksFrom (pid_of n) child old o None old) (sym (ap (λ hs. held_of hs (pid_of n)) (sym same) ∙ nowhere slots n keys none)) (refl, refl)
+nobody_forks slots n keys child old none same = subst (λ o. ForksFrom (pid_of n) child old o None old) (sym (ap (λ hs. held_of hs (pid_of n)) (sym same) ∙ nobody_held slots n keys none)) (refl, refl)
 
 -- ---- with its child
 

@@ -18,6 +18,7 @@ use Rattle.cluster_core.proofs.RolledLoad.{rolled_lightens}
 use Rattle.cluster_core.specs.View.{Held, Runs, Rolls, Waits, has_moved, held_load, held_of, process_load}
 use Rattle.cluster_core.specs.Quantum.{RollsTo, RunsTo}
 use Rattle.cluster_core.specs.Residents.{pids_in, with_changed}
+
 -- ---- one of them has fewer steps left
 
 abbrev pub sum_held : List (Pid × Held) → ℕ

@@ -16,7 +16,7 @@ use Rattle.page_waits.specs.Waiting.{WaitingState}
 use Rattle.cluster_core.specs.Bearing.{forked, newborn}
 use Rattle.cluster_core.specs.Changed.{with_changed}
 use Rattle.cluster_core.specs.ChildrenFirst.{is_running, runs_at}
-use Rattle.cluster_core.specs.ForkingAgain.{begun_with, child_again, going_held, is_rolling, rolls_at, waits_at, waits_for_fork, with_begun, with_mail_of, AtFront, BearsAgain, CanBeginAgain, CanBeginWith, CanForkAgainNow, ForksAgain, HasForkedAgain, NoPart, Part, RollsAgain, RollsPart, StandsAtForkAgain}
+use Rattle.cluster_core.specs.ForkingAgain.{begun_with, child_again, going_held, is_rolling, rolls_at, waits_for_fork_at, waits_for_fork, with_begun, with_mail_of, AtFront, BearsAgain, CanBeginAgain, CanBeginWith, CanForkAgainNow, ForksAgain, HasForkedAgain, NoPart, Part, RollsAgain, RollsPart, StandsAtForkAgain}
 use Rattle.cluster_core.specs.Quantum.{RollsTo}
 use Rattle.cluster_core.specs.Residents.{are_rising, pids_in}
 use Rattle.cluster_core.specs.View.{Held, Runs, Rolls, Waits, held_of}
@@ -107,7 +107,7 @@ changed_same p h (e ∷ here) rise there = by_test (same_pid e.0 p) refl there (
     by_test false is at more = ap (λ rest. e ∷ rest) (more at)
 
 -- nor does the beginning of a child that does not wait for it
-pub begun_none : (child : Pid) (born : Process) (here : List (Pid × Held)) → are_rising (pids_in here) ≡ true → waits_at here child ≡ false → with_begun child born here ≡ here
+pub begun_none : (child : Pid) (born : Process) (here : List (Pid × Held)) → are_rising (pids_in here) ≡ true → waits_for_fork_at here child ≡ false → with_begun child born here ≡ here
 begun_none child born [] rise none = refl
 begun_none child born (e ∷ here) rise none = by_test (same_pid e.0 child) refl none (begun_none child born here parts.1)
   where
@@ -125,7 +125,7 @@ begun_none child born (e ∷ here) rise none = by_test (same_pid e.0 child) refl
     stays (Rolls q counts births) none = refl
     stays (Waits w) none = ap (λ b. cond b (going_held (with_mail_of w.kept born) (w.kept).counts (w.kept).births) (Waits w)) none
 
-    by_test : (b : Bool) → same_pid e.0 child ≡ b → option_map_or waits_for_fork (option_map (λ (e : Pid × Held). e.1) (cond b (Some e) (find (λ (e : Pid × Held). same_pid e.0 child) here))) false ≡ false → (waits_at here child ≡ false → with_begun child born here ≡ here)
+    by_test : (b : Bool) → same_pid e.0 child ≡ b → option_map_or waits_for_fork (option_map (λ (e : Pid × Held). e.1) (cond b (Some e) (find (λ (e : Pid × Held). same_pid e.0 child) here))) false ≡ false → (waits_for_fork_at here child ≡ false → with_begun child born here ≡ here)
         → cond b (e.0, begun_with born e.1) e ∷ with_begun child born here ≡ e ∷ here
     by_test true is at more = λ i. (e.0, stays e.1 at i) ∷ none_after here parts.0 is i
     by_test false is at more = ap (λ rest. e ∷ rest) (more at)
@@ -292,7 +292,7 @@ module _ (p : Pid) (old mid : List (Pid × Held)) (made : Bool) (born : Option P
       }
 
   -- where it did not, the parent's half is all
-  pub fork_alone : are_rising (pids_in old) ≡ true → waits_at old child ≡ false → ForksAgain p old mid
+  pub fork_alone : are_rising (pids_in old) ≡ true → waits_for_fork_at old child ≡ false → ForksAgain p old mid
   fork_alone rise none = record {
     process = (f.stood).process;
     counts = (f.stood).counts;
@@ -306,17 +306,17 @@ module _ (p : Pid) (old mid : List (Pid × Held)) (made : Bool) (born : Option P
       changed : List (Pid × Held)
       changed = with_changed p (going_held (forked (f.stood).process child) (f.stood).counts (f.stood).births) old
 
-      unwaiting : waits_at changed child ≡ false
+      unwaiting : waits_for_fork_at changed child ≡ false
       unwaiting = by_pid (same_pid child p) refl
         where
-          by_pid : (b : Bool) → same_pid child p ≡ b → waits_at changed child ≡ false
+          by_pid : (b : Bool) → same_pid child p ≡ b → waits_for_fork_at changed child ≡ false
           by_pid true is =
-              ap (waits_at changed) (pid_same child p (eqb-true child.0 p.0 is)) ∙ ap (λ o. option_map_or waits_for_fork o false) (changed_there p (going_held (forked (f.stood).process child) (f.stood).counts (f.stood).births) old (Rolls (f.stood).process (f.stood).counts (child ∷ (f.stood).births)) there)
+              ap (waits_for_fork_at changed) (pid_same child p (eqb-true child.0 p.0 is)) ∙ ap (λ o. option_map_or waits_for_fork o false) (changed_there p (going_held (forked (f.stood).process child) (f.stood).counts (f.stood).births) old (Rolls (f.stood).process (f.stood).counts (child ∷ (f.stood).births)) there)
               ∙ going_unwaiting (forked (f.stood).process child) (f.stood).counts (f.stood).births
           by_pid false is = ap (λ o. option_map_or waits_for_fork o false) (other_there p (going_held (forked (f.stood).process child) (f.stood).counts (f.stood).births) old child is) ∙ none
 
   -- and where it waited, it can begin so
-  pub begins_with : (q : Process) → CanBeginAgain old (state_of (f.stood).process) child → waits_at old child ≡ true → made ≡ true → born ≡ Some q → (h : Held) → held_of mid child ≡ Some h → CanBeginWith q h
+  pub begins_with : (q : Process) → CanBeginAgain old (state_of (f.stood).process) child → waits_for_fork_at old child ≡ true → made ≡ true → born ≡ Some q → (h : Held) → held_of mid child ≡ Some h → CanBeginWith q h
   begins_with q can waits is is_born h at = by_old (held_of old child) refl waits
     where
       same : newborn (f.stood).process child ≡ q
@@ -327,7 +327,7 @@ module _ (p : Pid) (old mid : List (Pid × Held)) (made : Bool) (born : Option P
         where
           by_pid : (b : Bool) → same_pid child p ≡ b → same_pid child p ≡ false
           by_pid true is =
-              absurd (true≢false (sym waits ∙ ap (waits_at old) (pid_same child p (eqb-true child.0 p.0 is)) ∙ ap (λ o. option_map_or waits_for_fork o false) there))
+              absurd (true≢false (sym waits ∙ ap (waits_for_fork_at old) (pid_same child p (eqb-true child.0 p.0 is)) ∙ ap (λ o. option_map_or waits_for_fork o false) there))
           by_pid false is = is
 
       found : held_of old child ≡ Some h

@@ -125,13 +125,13 @@ unfolding rolled_on
 unmoved old new rolled since =
     let same : going_of new ≡ going_of old = ap (λ o. unwrap_or o (going_of new)) (sym rolled) in
     λ i.
-        Rolls (record {
-          small = ((same i).state).small;
-          ram = record { bytes = ((same i).state).memory; dirty = (same i).marks };
-          mail = record { letters = ((same i).state).mail; next = ((same i).state).next };
-          read = (same i).read;
-          since = since i;
-        }) (same i).counts (same i).births
+    Rolls (record {
+      small = ((same i).state).small;
+      ram = record { bytes = ((same i).state).memory; dirty = (same i).marks };
+      mail = record { letters = ((same i).state).mail; next = ((same i).state).next };
+      read = (same i).read;
+      since = since i;
+    }) (same i).counts (same i).births
 
 module _ (most : ℕ) (old new : RollingState) (least : 1 ≤ most) (stands : StandsSo (Some (IsRolling old))) where
   rolls_on : (made : ℕ) → Rolled most made old new → RollsOn made new.ahead old.process old.counts old.births new.process new.counts new.births

@@ -191,5 +191,5 @@ pub record BearsAgain (made : Bool) (p : Pid) (old : List (Pid × Held)) (born :
   pub here : new ≡ with_changed p now old
 
 -- the process with a pid is here and waits for its parent's fork
-abbrev pub waits_at : List (Pid × Held) → Pid → Bool
-waits_at here p = option_map_or waits_for_fork (held_of here p) false
+abbrev pub waits_for_fork_at : List (Pid × Held) → Pid → Bool
+waits_for_fork_at here p = option_map_or waits_for_fork (held_of here p) false

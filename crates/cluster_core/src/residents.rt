@@ -9,7 +9,7 @@ ghost use Rattle.plain_kernel.specs.Maps.{at_key, pid_of};
 ghost use Rattle.cert_sched.specs.Parts.{first_of};
 ghost use Rattle.cluster_core.specs.Calls.{rests_in, with_letter, with_page_come};
 ghost use Rattle.cluster_core.specs.Bearing.{CanBear, CanForkAt, ForksAt, with_born};
-ghost use Rattle.cluster_core.specs.ForkingAgain.{child_again, rolls_at, waits_at, with_begun, BearsAgain, CanBeginWith, CanForkAgain, CanForkAgainAt, CanForkAgainNow, ForksAgain, RollsPartAt, RollsQuantum, RollsStepsAt, StandsThere};
+ghost use Rattle.cluster_core.specs.ForkingAgain.{child_again, rolls_at, waits_for_fork_at, with_begun, BearsAgain, CanBeginWith, CanForkAgain, CanForkAgainAt, CanForkAgainNow, ForksAgain, RollsPartAt, RollsQuantum, RollsStepsAt, StandsThere};
 ghost use Rattle.cluster_core.specs.ChildrenFirst.{child_before, comes_after_at, is_free, is_hindered, runs_at};
 ghost use Rattle.cluster_core.specs.Residents.{AsksOf, GivenTurnIs, HasRoom, NextAble, RunsAt, RunsOnAt, SyncsAt, TurnIs, are_rising, are_settled, is_settled, is_stuck_at, lacks_none_at, next_ready, none_has_turn, pids_in, with_more};
 ghost use Rattle.cluster_core.specs.Resident.{CanComeTo};
@@ -477,7 +477,7 @@ impl Residents {
 
     // Whether a process is here and waits for its parent's fork. Takes no memory.
     fn waits_for_fork(&self, pid: Pid) -> bool
-        ensures waits { result ≡ waits_at self.now.here pid }
+        ensures waits { result ≡ waits_for_fork_at self.now.here pid }
         ensures ordered { are_rising (pids_in self.now.here) ≡ true }
     {
         match self.resident(pid.0) {

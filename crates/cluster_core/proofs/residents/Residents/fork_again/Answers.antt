@@ -1,7 +1,7 @@
 use Rattle.std.proofs.Common.{◌∙◌, ap, sym, subst, refl, true, false}
 use Rattle.plain_kernel.specs.Maps.{pid_of}
 use Rattle.std.specs.Prelude.{option_and_then}
-use Rattle.cluster_core.specs.ForkingAgain.{child_again, waits_at, CanForkAgainNow}
+use Rattle.cluster_core.specs.ForkingAgain.{child_again, waits_for_fork_at, CanForkAgainNow}
 use Rattle.cluster_core.specs.View.{held_of}
 use Rattle.cluster_core.proofs.RollingParts.{bears_next, begins_same, begins_with, fork_alone}
 use Rattle.cluster_core.proofs.residents.Residents.fork_again.Goals as goal
@@ -13,7 +13,7 @@ returns-then-not-waits_for_fork-clause-ok c =
     let mid = c.bear_again.new.self.here in
     let bears = c.in_ok-bear_again.ensures.ok in
     let child = bears_next p old mid false c.in_ok-bear_again.field-0 bears c.in-Some.child (sym c.next_child.ensures ∙ c.in-Some.is) in
-    fork_alone p old mid false c.in_ok-bear_again.field-0 bears c.waits_for_fork.ensures.ordered (ap (waits_at old) (sym child) ∙ sym c.if-not-waits_for_fork.ensures.waits)
+    fork_alone p old mid false c.in_ok-bear_again.field-0 bears c.waits_for_fork.ensures.ordered (ap (waits_for_fork_at old) (sym child) ∙ sym c.if-not-waits_for_fork.ensures.waits)
 
 pub begin_again-requires-clause-can : goal.begin_again-requires-clause-can
 begin_again-requires-clause-can c = λ h at.
@@ -24,4 +24,4 @@ begin_again-requires-clause-can c = λ h at.
     let same = c.in_ok-make_ready.ensures.here in
     let child = bears_next p old mid true c.in_ok-born.field-0 bears c.in-Some.child (ap (λ hs. option_and_then child_again (held_of hs p)) same ∙ sym c.next_child.ensures ∙ c.in-Some.is) in
     begins_with p old mid true c.in_ok-born.field-0 bears c.in-Some-2.born (begins_same p old mid true c.in_ok-born.field-0 bears (subst (CanForkAgainNow p) (sym same) c.requires.can))
-    (ap (waits_at old) (sym child) ∙ ap (λ hs. waits_at hs c.in-Some.child) same ∙ sym c.if-not-waits_for_fork.ensures.waits) refl c.in-Some-2.is h (ap (held_of mid) (sym child) ∙ at)
+    (ap (waits_for_fork_at old) (sym child) ∙ ap (λ hs. waits_for_fork_at hs c.in-Some.child) same ∙ sym c.if-not-waits_for_fork.ensures.waits) refl c.in-Some-2.is h (ap (held_of mid) (sym child) ∙ at)
