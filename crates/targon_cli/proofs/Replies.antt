@@ -1,6 +1,6 @@
 -- The replies of commands: their statuses, and which of them have a run.
 use Rattle.std.proofs.Common.{◌≡◌, ℕ, Bool, true, false, List, [], ◌∷◌, ◌⊎◌, inl, inr, refl, sym, ◌∙◌, ap, subst, arith, Option, Some, None}
-use Rattle.std.specs.Prelude.{Ok, Err, Result, is_some}
+use Rattle.std.specs.Prelude.{Ok, Err, Result, IfOk, is_some}
 use Rattle.command_words.specs.declared.command.Command.{Command}
 use Rattle.command_words.specs.declared.command.Command.TheVariants as commands
 use Rattle.sys_text.specs.Reading.{reading_of as system_reading, system_of_lines}
@@ -14,7 +14,9 @@ use Rattle.refusal_text.specs.declared.why.Why.{Why}
 use Rattle.workload.specs.Ring.{workload}
 use Rattle.targon_cli.specs.Built.{is_built, makes_run, reads_input}
 use Rattle.targon_cli.specs.Explained.{Explains, ExplainsLoad}
-use Rattle.targon_cli.specs.Reply.{Makes, MakesPlain, MakesCheck, MakesAsm, MakesRun, MakesByScript, MakesLoad, PrintsByScript, has_clusters_of, TellsOfRun, RunsBy, FollowsSection, Follows, Applied, Refused}
+use Rattle.t32_base.specs.declared.streams.NoMemory.{NoMemory}
+use Rattle.targon_cli.specs.declared.reply.Reply.{Reply}
+use Rattle.targon_cli.specs.Reply.{Makes, usage_line, MakesPlain, MakesCheck, MakesAsm, MakesRun, MakesByScript, MakesLoad, PrintsByScript, has_clusters_of, TellsOfRun, RunsBy, FollowsSection, Follows, Applied, Refused}
 use Rattle.targon_cli.specs.Sections.{system_part, section_part, items_of_lines}
 
 -- ---- the status
@@ -150,3 +152,9 @@ pub load_explains : (command : Command) (size : ℕ) (only : Bool) (script : Lis
 load_explains command size only script bytes wanted why same built m =
     subst (λ (c : Command). Explains c bytes wanted why) (sym same)
     (subst (λ (o : Bool). ExplainsLoad o (workload size) script wanted why) (sym (only_prints command size only script same built)) m)
+
+-- a workload that lacks a cluster of the script is usage
+pub lacks_makes : (system : System) (script : List ScriptWord) (made : Result Reply NoMemory) → has_clusters_of script system ≡ false → IfOk made (λ (r : Reply). (r.status ≡ 1) × (r.text ≡ usage_line))
+    → IfOk made (λ (r : Reply). MakesLoad true system script r.status r.text None)
+lacks_makes system script (Ok reply) lacks m = (rw lacks m, refl)
+lacks_makes system script (Err e) lacks m = tt

@@ -19,13 +19,13 @@ pub fn print_load(alloc: Global, size: u32, script: &Script) -> Result<Reply, No
     ensures why { IfOk result (λ r. ExplainsLoad true (workload_of size) script.now r.status r.why) }
 {
     let system = workload(alloc, size)?;
-    if !allowed(script, system.clusters, system.pager) {
-        return no_cluster(alloc);
+    if allowed(script, system.clusters, system.pager) {
+        let text = system_text(alloc, &system)?;
+        return Ok(Reply {
+            status: DONE,
+            text,
+            why: None,
+        });
     }
-    let text = system_text(alloc, &system)?;
-    Ok(Reply {
-        status: DONE,
-        text,
-        why: None,
-    })
+    no_cluster(alloc)
 }
