@@ -8,4 +8,4 @@ pub mod Turns
 pub mod Walked
 pub mod Parses
 pub mod ScriptTexts
-pub mod Picks
+pub mod Limits

@@ -106,6 +106,34 @@ fn words_are_a_command_or_usage(rt: HostRuntime) -> Result<(), Fail> {
     Ok(())
 }
 
+// The same of `load`, which prints its workload where it is only to print it, and has the clusters of its script.
+static LOADS: [(&[u8], u8); 14] = [
+    (b"load 7 --text", 0),
+    (b"load --text 0000000007", 0),
+    (b"load 1000 --text --", 0),
+    (b"load 7 --text crash:3@bus:1", 0),
+    (b"load 7 --text -- disk:1@0", 0),
+    (b"load 7 return:3@bus:5 --text crash:3@step:1", 0),
+    (b"load 7 --text crash:4@bus:1", 1),
+    (b"load 7 --text crash:9@bus:1", 1),
+    (b"load 7 --text disk:2@0", 1),
+    (b"load 7 --text crash:0@bus:1 disk:0@0", 1),
+    (b"load 0 --text", 1),
+    (b"load 1001 --text", 1),
+    (b"load 7 --text --text", 1),
+    (b"load -- 7 --text", 1),
+];
+
+// It makes no run, and asks for no input.
+#[test]
+fn load_prints_its_workload_or_is_usage(rt: HostRuntime) -> Result<(), Fail> {
+    for row in LOADS.iter() {
+        let wanted = (row.1, row.1 == 1, false, false);
+        same("the line", &(row.0, used(&rt, row.0)?), &(row.0, wanted))?;
+    }
+    Ok(())
+}
+
 // A sink that takes five bytes and then fails.
 fn failing_sink(alloc: Global) -> Result<MemSink, NoMemory> {
     let failing = List::from_vec(vec![in alloc; 1u64]?);

@@ -1,4 +1,4 @@
--- The commands that are built have a script that is built, and a small pick.
+-- The commands that are built have a script that is built, and numbers within their limits.
 use Rattle.std.proofs.Common.{◌≡◌, refl, subst, ℕ, ◌≤◌, Bool, true, false, List, length, Option, Some, None, cond, arith}
 use Rattle.std.specs.Prelude.{◌&&◌, nat_le}
 use Rattle.std.specs.List.{list_all}
@@ -8,29 +8,29 @@ use Rattle.cert_sched.specs.declared.script.ScriptWord.{ScriptWord}
 use Rattle.command_words.specs.declared.command.Command.{Command}
 use Rattle.command_words.specs.declared.command.Command.TheVariants as commands
 use Rattle.command_words.specs.Command.{command_of}
-use Rattle.command_words.proofs.Picks.{SmallPick, small_pick}
-use Rattle.targon_cli.specs.Built.{is_built_script, is_built, built, has_pick, is_ready}
+use Rattle.command_words.proofs.Limits.{IsWithinLimits, within_limits}
+use Rattle.targon_cli.specs.Built.{is_built_script, is_built, built, keeps_limits, is_ready}
 
--- a command with a small pick, where it is built, is ready
-ready_with : (command : Command) (b : Bool) → b ≡ is_built command → has_pick command ≡ true → is_ready (cond b (Some command) None) ≡ true
+-- a command with such numbers, where it is built, is ready
+ready_with : (command : Command) (b : Bool) → b ≡ is_built command → keeps_limits command ≡ true → is_ready (cond b (Some command) None) ≡ true
 ready_with command true e p = rw (← e, p) refl
 ready_with command false e p = refl
 
-picked : (command : Command) → SmallPick (Some command) → has_pick command ≡ true
-picked commands.Plain p = refl
-picked commands.Check p = refl
-picked commands.Asm p = refl
-picked (commands.Sim pick log script) p = p
-picked (commands.Run log script) p = refl
-picked (commands.Load size text script) p = refl
+limited : (command : Command) → IsWithinLimits (Some command) → keeps_limits command ≡ true
+limited commands.Plain p = refl
+limited commands.Check p = refl
+limited commands.Asm p = refl
+limited (commands.Sim pick log script) p = p
+limited (commands.Run log script) p = refl
+limited (commands.Load size text script) p = p
 
-ready_of : (found : Option Command) → SmallPick found → (command : Command) → found ≡ Some command → is_ready (built command) ≡ true
+ready_of : (found : Option Command) → IsWithinLimits found → (command : Command) → found ≡ Some command → is_ready (built command) ≡ true
 ready_of None p command e = cc
-ready_of (Some other) p command e = let same : other ≡ command = cc in ready_with command (is_built command) refl (picked command (subst (λ (c : Command). SmallPick (Some c)) same p))
+ready_of (Some other) p command e = let same : other ≡ command = cc in ready_with command (is_built command) refl (limited command (subst (λ (c : Command). IsWithinLimits (Some c)) same p))
 
 -- the command that words are is ready, where it is built
 pub words_ready : (words : List (List ℕ)) (command : Command) → command_of words ≡ Some command → is_ready (built command) ≡ true
-words_ready words command e = ready_of (command_of words) (small_pick words) command e
+words_ready words command e = ready_of (command_of words) (within_limits words) command e
 
 and_left : (a b : Bool) → a && b ≡ true → a ≡ true
 and_left true b e = refl
@@ -41,10 +41,10 @@ and_right true b e = e
 and_right false b e = cc
 
 pub ready_built : (command : Command) → is_ready (Some command) ≡ true → is_built command ≡ true
-ready_built command e = and_left (is_built command) (has_pick command) e
+ready_built command e = and_left (is_built command) (keeps_limits command) e
 
-pub ready_pick : (command : Command) → is_ready (Some command) ≡ true → has_pick command ≡ true
-ready_pick command e = and_right (is_built command) (has_pick command) e
+pub ready_limits : (command : Command) → is_ready (Some command) ≡ true → keeps_limits command ≡ true
+ready_limits command e = and_right (is_built command) (keeps_limits command) e
 
 -- a script that is built has one word at most, and its words are for places
 pub script_few : (script : List ScriptWord) → is_built_script script ≡ true → length script ≤ 1

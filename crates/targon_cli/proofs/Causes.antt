@@ -1,14 +1,15 @@
 -- The cause of each status.
-use Rattle.std.proofs.Common.{◌≡◌, ℕ, ◌≤◌, ◌<◌, Bool, true, List, ◌⊎◌, inl, inr, length, refl, sym, ap, ◌∙◌, subst, arith, Option, Some, None, length-append}
+use Rattle.std.proofs.Common.{◌≡◌, ℕ, ◌≤◌, ◌<◌, Bool, true, false, List, ◌⊎◌, inl, inr, length, refl, sym, ap, ◌∙◌, subst, arith, Option, Some, None, length-append}
 use Rattle.std.specs.Prelude.{is_some}
 use Rattle.std.specs.Io.KnownBytes.{Consumes, Appends, Keeps}
 use Rattle.t32_base.specs.Streams.{Rose}
 use Rattle.command_words.specs.declared.command.Command.{Command}
 use Rattle.cluster_run.specs.declared.life.Ran.{Ran}
-use Rattle.targon_cli.specs.Built.{built_command_of, makes_run}
+use Rattle.targon_cli.specs.Built.{built_command_of, makes_run, reads_input}
 use Rattle.targon_cli.specs.Reply.{Makes, usage_line}
-use Rattle.targon_cli.specs.Answer.{In, Out, Says, Wrote, WriteFault, IsAll, ReadsTooMany, Answers, Replied, TooLong, ReadFault, OutOfMemory, IsReplied, Completes, IsCutOff, AppendsPart, IsStatus, input_limit, AnswersFound, SaysUsage, Answered}
-use Rattle.targon_cli.proofs.Replies.{IsReply, status_made, run_made, no_run_made}
+use Rattle.targon_cli.specs.Answer.{In, Out, Says, Wrote, WriteFault, IsAll, ReadsTooMany, Answers, Replied, TooLong, ReadFault, OutOfMemory, LeavesInput, Offers, IsReplied, Completes, IsCutOff, AppendsPart, IsStatus, input_limit, AnswersFound, SaysUsage, Answered}
+use Rattle.targon_cli.proofs.Handing.{takes_all, takes_left}
+use Rattle.targon_cli.proofs.Replies.{IsReply, status_made, run_made, no_run_made, unread_same}
 
 -- the status of what is said, and its cause
 told : (wanted : ℕ) (text : List ℕ) (status : ℕ) (old new : Out) → Says wanted text status old new → ((status ≡ wanted) × Appends old.holds new.holds text) ⊎ ((status ≡ 5) × Rose old.faults new.faults)
@@ -35,9 +36,9 @@ replied words command status old new ended before after ran w n4 n5 n6 n8 (Repli
       | inl s ↦ record { command = command; words_are = w; bytes = bytes; text = text; read = r; made = subst (λ k. Makes command bytes k text ran) (sym s.0) m; written = s.1 }
       | inr f ↦ absurd (n5 (sym f.0))
     ]
-replied words command status old new ended before after ran w n4 n5 n6 n8 (TooLong bytes r says none) = not_said 8 _ status status before after n8 n5 says refl
-replied words command status old new ended before after ran w n4 n5 n6 n8 (ReadFault r says none) = not_said 4 _ status status before after n4 n5 says refl
-replied words command status old new ended before after ran w n4 n5 n6 n8 (OutOfMemory e keeps none) = absurd (n6 (sym e))
+replied words command status old new ended before after ran w n4 n5 n6 n8 (TooLong bytes reads r says none) = not_said 8 _ status status before after n8 n5 says refl
+replied words command status old new ended before after ran w n4 n5 n6 n8 (ReadFault reads r says none) = not_said 4 _ status status before after n4 n5 says refl
+replied words command status old new ended before after ran w n4 n5 n6 n8 (OutOfMemory left e keeps none) = absurd (n6 (sym e))
 
 no_reply_by : (wanted k : ℕ) → IsReply wanted → 3 < k → wanted ≡ k → ⊥
 no_reply_by wanted k (inl z) above e = omega (arith, z, e, above)
@@ -51,21 +52,21 @@ no_reply command bytes wanted k text ran m above e = no_reply_by wanted k (statu
 
 status_4 : (command : Command) (status : ℕ) (old new : In) (ended : Bool) (before after : Out) (ran : Option Ran) → Answers command status old new ended before after ran → status ≡ 4 → Rose old.faults new.faults
 status_4 command status old new ended before after ran (Replied bytes wanted text r m says) = not_said wanted text status 4 before after (no_reply command bytes wanted 4 text ran m (omega arith)) (λ e. omega arith) says
-status_4 command status old new ended before after ran (TooLong bytes r says none) = not_said 8 _ status 4 before after (λ e. omega arith) (λ e. omega arith) says
-status_4 command status old new ended before after ran (ReadFault r says none) = λ e. r
-status_4 command status old new ended before after ran (OutOfMemory e keeps none) = λ f. absurd (omega arith)
+status_4 command status old new ended before after ran (TooLong bytes reads r says none) = not_said 8 _ status 4 before after (λ e. omega arith) (λ e. omega arith) says
+status_4 command status old new ended before after ran (ReadFault reads r says none) = λ e. r
+status_4 command status old new ended before after ran (OutOfMemory left e keeps none) = λ f. absurd (omega arith)
 
 status_5 : (command : Command) (status : ℕ) (old new : In) (ended : Bool) (before after : Out) (ran : Option Ran) → Answers command status old new ended before after ran → status ≡ 5 → Rose before.faults after.faults
 status_5 command status old new ended before after ran (Replied bytes wanted text r m says) = status_5_said wanted text status before after (no_reply command bytes wanted 5 text ran m (omega arith)) says
-status_5 command status old new ended before after ran (TooLong bytes r says none) = status_5_said 8 _ status before after (λ e. omega arith) says
-status_5 command status old new ended before after ran (ReadFault r says none) = status_5_said 4 _ status before after (λ e. omega arith) says
-status_5 command status old new ended before after ran (OutOfMemory e keeps none) = λ f. absurd (omega arith)
+status_5 command status old new ended before after ran (TooLong bytes reads r says none) = status_5_said 8 _ status before after (λ e. omega arith) says
+status_5 command status old new ended before after ran (ReadFault reads r says none) = status_5_said 4 _ status before after (λ e. omega arith) says
+status_5 command status old new ended before after ran (OutOfMemory left e keeps none) = λ f. absurd (omega arith)
 
 status_8 : (command : Command) (status : ℕ) (old new : In) (ended : Bool) (before after : Out) (ran : Option Ran) → Answers command status old new ended before after ran → status ≡ 8 → (bytes : List ℕ) × ReadsTooMany old new bytes
 status_8 command status old new ended before after ran (Replied bytes wanted text r m says) = not_said wanted text status 8 before after (no_reply command bytes wanted 8 text ran m (omega arith)) (λ e. omega arith) says
-status_8 command status old new ended before after ran (TooLong bytes r says none) = λ e. (bytes, r)
-status_8 command status old new ended before after ran (ReadFault r says none) = not_said 4 _ status 8 before after (λ e. omega arith) (λ e. omega arith) says
-status_8 command status old new ended before after ran (OutOfMemory e keeps none) = λ f. absurd (omega arith)
+status_8 command status old new ended before after ran (TooLong bytes reads r says none) = λ e. (bytes, r)
+status_8 command status old new ended before after ran (ReadFault reads r says none) = not_said 4 _ status 8 before after (λ e. omega arith) (λ e. omega arith) says
+status_8 command status old new ended before after ran (OutOfMemory left e keeps none) = λ f. absurd (omega arith)
 
 is_status_said : (wanted : ℕ) (text : List ℕ) (status : ℕ) (old new : Out) → IsStatus wanted → Says wanted text status old new → IsStatus status
 is_status_said wanted text status old new w (Wrote e a) = subst IsStatus (sym e) w
@@ -79,9 +80,9 @@ is_status_made wanted (inr (inr (inr z))) = inr (inr (inr (inl z)))
 
 is_status : (command : Command) (status : ℕ) (old new : In) (ended : Bool) (before after : Out) (ran : Option Ran) → Answers command status old new ended before after ran → IsStatus status
 is_status command status old new ended before after ran (Replied bytes wanted text r m says) = is_status_said wanted text status before after (is_status_made wanted (status_made command bytes wanted text ran m)) says
-is_status command status old new ended before after ran (TooLong bytes r says none) = is_status_said 8 _ status before after (grind arith) says
-is_status command status old new ended before after ran (ReadFault r says none) = is_status_said 4 _ status before after (grind arith) says
-is_status command status old new ended before after ran (OutOfMemory e keeps none) = subst IsStatus (sym e) (grind arith)
+is_status command status old new ended before after ran (TooLong bytes reads r says none) = is_status_said 8 _ status before after (grind arith) says
+is_status command status old new ended before after ran (ReadFault reads r says none) = is_status_said 4 _ status before after (grind arith) says
+is_status command status old new ended before after ran (OutOfMemory left e keeps none) = subst IsStatus (sym e) (grind arith)
 
 -- ---- the run that is handed out
 
@@ -92,9 +93,9 @@ no_run command status old new ended before after ran (Replied bytes wanted text 
       | inl s ↦ no_run_made command bytes wanted text ran m (λ z. n0 (s.0 ∙ z))
       | inr f ↦ absurd (n5 f.0)
     ]
-no_run command status old new ended before after ran (TooLong bytes r says none) n0 n5 = none
-no_run command status old new ended before after ran (ReadFault r says none) n0 n5 = none
-no_run command status old new ended before after ran (OutOfMemory e keeps none) n0 n5 = none
+no_run command status old new ended before after ran (TooLong bytes reads r says none) n0 n5 = none
+no_run command status old new ended before after ran (ReadFault reads r says none) n0 n5 = none
+no_run command status old new ended before after ran (OutOfMemory left e keeps none) n0 n5 = none
 
 -- a front of the text was written, where the sink failed
 front : (wanted : ℕ) (text : List ℕ) (status : ℕ) (old new : Out) → (wanted ≡ 5 → ⊥) → Says wanted text status old new → status ≡ 5 → AppendsPart old.holds new.holds text
@@ -123,9 +124,9 @@ cut_off words command status old new ended before after ran w (Replied bytes wan
   made = run_reply command bytes wanted text ran m h (status_made command bytes wanted text ran m);
   written = front wanted text status before after (no_reply command bytes wanted 5 text ran m (omega arith)) says e;
 }
-cut_off words command status old new ended before after ran w (TooLong bytes r says none) e h = none_there ran none h
-cut_off words command status old new ended before after ran w (ReadFault r says none) e h = none_there ran none h
-cut_off words command status old new ended before after ran w (OutOfMemory z keeps none) e h = none_there ran none h
+cut_off words command status old new ended before after ran w (TooLong bytes reads r says none) e h = none_there ran none h
+cut_off words command status old new ended before after ran w (ReadFault reads r says none) e h = none_there ran none h
+cut_off words command status old new ended before after ran w (OutOfMemory left z keeps none) e h = none_there ran none h
 
 run_there : (words : List (List ℕ)) (old new : In) (ended : Bool) (before after : Out) (ran : Option Ran) → IsReplied words 0 old new ended before after ran → is_some ran ≡ makes_run (built_command_of words)
 run_there words old new ended before after ran replied = rw replied.words_are (run_made replied.command replied.bytes replied.text ran replied.made)
@@ -144,17 +145,28 @@ all_same : (bytes taken : List ℕ) (a : Option (List ℕ)) → a ≡ Some bytes
 all_same bytes taken a e h = rw e at h
 
 complete : (command : Command) (status : ℕ) (old new : In) (ended : Bool) (before after : Out) (ran : Option Ran) → Answers command status old new ended before after ran
-    → (Rose old.faults new.faults → ⊥) → (Rose before.faults after.faults → ⊥) → (bytes : List ℕ) → old.left ≡ Some bytes → length bytes ≤ input_limit → Completes command bytes status before after ran ⊎ (status ≡ 6)
-complete command status old new ended before after ran (Replied taken wanted text r m says) in_ok out_ok bytes e le =
-    let same : Makes command bytes wanted text ran = subst (λ b. Makes command b wanted text ran) (sym (all_same bytes taken old.left e r.all)) m in
+    → (Rose old.faults new.faults → ⊥) → (Rose before.faults after.faults → ⊥) → (bytes : List ℕ) → Offers command old bytes → Completes command bytes status before after ran ⊎ (status ≡ 6)
+complete command status old new ended before after ran (Replied taken wanted text r m says) in_ok out_ok bytes offers =
     elim (told wanted text status before after says) [
-      | inl s ↦ inl (record { text = text; made = subst (λ k. Makes command bytes k text ran) (sym s.0) same; written = s.1 })
+      | inl s ↦ inl (record { text = text; made = subst (λ k. Makes command bytes k text ran) (sym s.0) (same (reads_input (Some command)) refl); written = s.1 })
       | inr f ↦ absurd (out_ok f.1)
     ]
-complete command status old new ended before after ran (TooLong taken r says none) in_ok out_ok bytes e le =
-    absurd (omega (arith, shorter bytes taken old.left new.left e r.taken, r.above))
-complete command status old new ended before after ran (ReadFault r says none) in_ok out_ok bytes e le = absurd (in_ok r)
-complete command status old new ended before after ran (OutOfMemory z keeps none) in_ok out_ok bytes e le = inr z
+  where
+    same : (reads : Bool) → reads_input (Some command) ≡ reads → Makes command bytes wanted text ran
+    same true reads = subst (λ b. Makes command b wanted text ran) (sym (all_same bytes taken old.left (offers reads).0 (takes_all command old new ended taken r reads).all)) m
+    same false unread = unread_same command taken bytes wanted text ran unread m
+complete command status old new ended before after ran (TooLong taken reads r says none) in_ok out_ok bytes offers =
+    absurd (omega (arith, shorter bytes taken old.left new.left (offers reads).0 r.taken, r.above, (offers reads).1))
+complete command status old new ended before after ran (ReadFault reads r says none) in_ok out_ok bytes offers = absurd (in_ok r)
+complete command status old new ended before after ran (OutOfMemory left z keeps none) in_ok out_ok bytes offers = inr z
+
+-- ---- what reads no input
+
+answers_left : (command : Command) (status : ℕ) (old new : In) (ended : Bool) (before after : Out) (ran : Option Ran) → Answers command status old new ended before after ran → LeavesInput (Some command) old new
+answers_left command status old new ended before after ran (Replied bytes wanted text r m says) e = takes_left command old new ended bytes r e
+answers_left command status old new ended before after ran (TooLong bytes reads r says none) e = cc
+answers_left command status old new ended before after ran (ReadFault reads r says none) e = cc
+answers_left command status old new ended before after ran (OutOfMemory left z keeps none) e = left e
 
 -- ---- by the words
 
@@ -174,9 +186,11 @@ is_status_usage status before after (inr h) = subst IsStatus (sym h.0) (grind ar
 -- all of it follows from what is answered by cases
 answered : (words : List (List ℕ)) (status : ℕ) (old new : In) (ended : Bool) (before after : Out) (ran : Option Ran)
     → (built_command_of words ≡ None → SaysUsage status before after) → (built_command_of words ≡ None → ran ≡ None)
+    → LeavesInput (built_command_of words) old new
     → ((command : Command) → built_command_of words ≡ Some command → Answers command status old new ended before after ran) → Answered words status old new ended before after ran
-answered words status old new ended before after ran usage unran command = record {
+answered words status old new ended before after ran usage unran left command = record {
   usage = usage;
+  left = left;
   command = command;
   status_0 = λ e. by_words (λ n. no_usage_at 0 (λ e. omega arith) (λ e. omega arith) (λ e. omega arith) n e) (λ c w. at_reply e c w);
   status_1 = λ e. by_words (λ n. inl n) (λ c w. inr (at_reply_1 e c w));
@@ -186,7 +200,7 @@ answered words status old new ended before after ran usage unran command = recor
   status_5 = λ e. by_words (λ n. status_5_usage status before after (usage n) e) (λ c w. status_5 c status old new ended before after ran (command c w) e);
   status_8 = λ e. by_words (λ n. no_usage_at 8 (λ e. omega arith) (λ e. omega arith) (λ e. omega arith) n e) (λ c w. status_8 c status old new ended before after ran (command c w) e);
   no_other = by_words (λ n. is_status_usage status before after (usage n)) (λ c w. is_status c status old new ended before after ran (command c w));
-  complete = λ c w i o bytes e le. complete c status old new ended before after ran (command c w) i o bytes e le;
+  complete = λ c w i o bytes offers. complete c status old new ended before after ran (command c w) i o bytes offers;
   ran_0 = λ e. run_at status e (λ f. by_words (λ n. no_usage_at 0 (λ e. omega arith) (λ e. omega arith) (λ e. omega arith) n f) (λ c w. at_reply f c w));
   ran_5 = λ e h. by_words (λ n. none_there ran (unran n) h) (λ c w. cut_off words c status old new ended before after ran w (command c w) e h);
   no_run = λ n0 n5. by_words (λ n. unran n) (λ c w. no_run c status old new ended before after ran (command c w) n0 n5);
@@ -221,14 +235,15 @@ answered words status old new ended before after ran usage unran command = recor
 pub answered_found : (words : List (List ℕ)) (found : Option Command) (status : ℕ) (old new : In) (ended : Bool) (before after : Out) (ran : Option Ran) → found ≡ built_command_of words
     → AnswersFound found status old new ended before after ran → Answered words status old new ended before after ran
 answered_found words None status old new ended before after ran is found =
-    answered words status old new ended before after ran (λ none. inl found.0) (λ none. found.1) (λ other w. cc)
+    answered words status old new ended before after ran (λ none. inl found.0) (λ none. found.1) (λ unread. found.2) (λ other w. cc)
 answered_found words (Some command) status old new ended before after ran is answers =
     answered words status old new ended before after ran (λ none. cc) (λ none. cc)
+    (λ unread. answers_left command status old new ended before after ran answers (ap reads_input is ∙ unread))
     (λ other w. let same : command ≡ other = cc in subst (λ (c : Command). Answers c status old new ended before after ran) same answers)
 
 -- and from want of memory before anything was read
-pub answered_6 : (words : List (List ℕ)) (old new : In) (ended : Bool) (before after : Out) → Keeps before.holds after.holds → Answered words 6 old new ended before after None
-answered_6 words old new ended before after kept = answered words 6 old new ended before after None (λ none. inr (refl, kept)) (λ none. refl) (λ c w. OutOfMemory refl kept refl)
+pub answered_6 : (words : List (List ℕ)) (old : In) (ended : Bool) (before after : Out) → Keeps before.holds after.holds → Answered words 6 old old ended before after None
+answered_6 words old ended before after kept = answered words 6 old old ended before after None (λ none. inr (refl, kept)) (λ none. refl) (λ unread. refl) (λ c w. OutOfMemory (λ unread. refl) refl kept refl)
 
 -- two names for one command
 pub answers_same : (command other : Command) (status : ℕ) (old new : In) (ended : Bool) (before after : Out) (ran : Option Ran) → command ≡ other

@@ -13,7 +13,7 @@ use Rattle.sys_text.specs.Reading.{Answer}
 use Rattle.sys_text.specs.declared.system.System.{System}
 use Rattle.targon_cli.specs.declared.reply.Reply.{Reply}
 use Rattle.targon_cli.specs.declared.runs.Read.TheVariants.{System as AsSystem}
-use Rattle.targon_cli.specs.Answer.{In, Out, ReadsAll, Says, Wrote, WriteFault}
+use Rattle.targon_cli.specs.Answer.{In, Out, Takes, Says, Wrote, WriteFault}
 use Rattle.targon_cli.specs.Reply.{IsRead}
 use Rattle.targon_cli.specs.Sections.{items_of_lines}
 use Rattle.targon_cli.specs.Explained.{Explains, ExplainsRun, ExplainsSection, ExplainsRunBy, IsByStatus, HandsWhy, ExplainsEnd, ByInput, ByStatus, ExplainsFound, Explained}
@@ -31,7 +31,7 @@ other_tells wanted text status old new n (WriteFault e r a) = rw e refl
 
 -- what was made of the whole input, and handed out, tells why the command ended so
 pub ends_by : (command : Command) (bytes : List ℕ) (made : Result (Reply × Option Ran) NoMemory) (status : ℕ) (old new : In) (ended : Bool) (why : Option Why)
-    → ReadsAll old new ended bytes → IfOk made (λ (r : Reply × Option Ran). Explains command bytes (r.0).status (r.0).why) → HandsWhy made status why → ExplainsEnd command status old new ended why
+    → Takes command old new ended bytes → IfOk made (λ (r : Reply × Option Ran). Explains command bytes (r.0).status (r.0).why) → HandsWhy made status why → ExplainsEnd command status old new ended why
 ends_by command bytes (Ok r) status old new ended why reads tells (inl same) =
     let P : ℕ → Type 0 = λ k. Explains command bytes k why in
     let Q : Option Why → Type 0 = λ w. Explains command bytes (r.0).status w in

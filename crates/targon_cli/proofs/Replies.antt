@@ -1,6 +1,6 @@
 -- The replies of commands: their statuses, and which of them have a run.
-use Rattle.std.proofs.Common.{◌≡◌, ℕ, Bool, true, false, List, [], ◌∷◌, ◌⊎◌, inl, inr, refl, arith, Option, Some, None}
-use Rattle.std.specs.Prelude.{Ok, Err, Result, is_some}
+use Rattle.std.proofs.Common.{◌≡◌, ℕ, Bool, true, false, List, [], ◌∷◌, ◌⊎◌, inl, inr, refl, sym, ◌∙◌, ap, subst, arith, Option, Some, None}
+use Rattle.std.specs.Prelude.{Ok, Err, Result, IfOk, is_some}
 use Rattle.command_words.specs.declared.command.Command.{Command}
 use Rattle.command_words.specs.declared.command.Command.TheVariants as commands
 use Rattle.sys_text.specs.Reading.{reading_of as system_reading, system_of_lines}
@@ -10,8 +10,13 @@ use Rattle.rv_asm.specs.Program.{reading_of as asm_reading}
 use Rattle.plain_kernel.specs.declared.item.Item.{Item}
 use Rattle.text_parts.specs.Lines.{lines_of}
 use Rattle.cluster_run.specs.declared.life.Ran.{Ran}
-use Rattle.targon_cli.specs.Built.{makes_run}
-use Rattle.targon_cli.specs.Reply.{Makes, MakesPlain, MakesCheck, MakesAsm, MakesRun, MakesByScript, has_clusters_of, TellsOfRun, RunsBy, FollowsSection, Follows, Applied, Refused}
+use Rattle.refusal_text.specs.declared.why.Why.{Why}
+use Rattle.workload.specs.Ring.{workload}
+use Rattle.targon_cli.specs.Built.{is_built, makes_run, reads_input}
+use Rattle.targon_cli.specs.Explained.{Explains, ExplainsLoad}
+use Rattle.t32_base.specs.declared.streams.NoMemory.{NoMemory}
+use Rattle.targon_cli.specs.declared.reply.Reply.{Reply}
+use Rattle.targon_cli.specs.Reply.{Makes, usage_line, MakesPlain, MakesCheck, MakesAsm, MakesRun, MakesByScript, MakesLoad, PrintsByScript, has_clusters_of, TellsOfRun, RunsBy, FollowsSection, Follows, Applied, Refused}
 use Rattle.targon_cli.specs.Sections.{system_part, section_part, items_of_lines}
 
 -- ---- the status
@@ -56,13 +61,21 @@ status_of_ran : (reading : _) (script : List ScriptWord) (log : Bool) (wanted : 
 status_of_ran (Ok system) script log wanted text ran m = status_of_script (has_clusters_of script system) system script log wanted text ran m
 status_of_ran (Err refused) script log wanted text ran m = inr (inr (inl m.0))
 
+status_of_printed : (has : Bool) (system : System) (wanted : ℕ) (text : List ℕ) → PrintsByScript has system wanted text → IsReply wanted
+status_of_printed true system wanted text m = inl m.0
+status_of_printed false system wanted text m = inr (inl m.0)
+
+status_of_load : (only : Bool) (system : System) (script : List ScriptWord) (wanted : ℕ) (text : List ℕ) (ran : Option Ran) → MakesLoad only system script wanted text ran → IsReply wanted
+status_of_load true system script wanted text ran m = status_of_printed (has_clusters_of script system) system wanted text m.0
+status_of_load false system script wanted text ran m = absurd m
+
 pub status_made : (command : Command) (bytes : List ℕ) (wanted : ℕ) (text : List ℕ) (ran : Option Ran) → Makes command bytes wanted text ran → IsReply wanted
 status_made commands.Plain bytes wanted text ran m = status_of_plain (system_of_lines (system_part (lines_of bytes))) (section_part (lines_of bytes)) wanted text m.0
 status_made commands.Check bytes wanted text ran m = status_of_check (system_reading bytes) wanted text m.0
 status_made commands.Asm bytes wanted text ran m = status_of_asm (asm_reading bytes) wanted text m.0
 status_made (commands.Sim pick log script) bytes wanted text ran m = status_of_ran (system_reading bytes) script log wanted text ran m
 status_made (commands.Run log script) bytes wanted text ran m = status_of_ran (system_reading bytes) script log wanted text ran m
-status_made (commands.Load size only script) bytes wanted text ran m = absurd m
+status_made (commands.Load size only script) bytes wanted text ran m = status_of_load only (workload size) script wanted text ran m
 
 -- ---- the run
 
@@ -78,6 +91,10 @@ ran_has_run : (reading : _) (script : List ScriptWord) (log : Bool) (text : List
 ran_has_run (Ok system) script log text ran m = script_has_run (has_clusters_of script system) system script log text ran m
 ran_has_run (Err refused) script log text ran m = absurd (omega (arith, m.0))
 
+load_has_none : (only : Bool) (system : System) (script : List ScriptWord) (wanted : ℕ) (text : List ℕ) (ran : Option Ran) → MakesLoad only system script wanted text ran → ran ≡ None
+load_has_none true system script wanted text ran m = m.1
+load_has_none false system script wanted text ran m = absurd m
+
 -- what is done by `sim` or `run` has a run, and by another command none
 pub run_made : (command : Command) (bytes : List ℕ) (text : List ℕ) (ran : Option Ran) → Makes command bytes 0 text ran → is_some ran ≡ makes_run (Some command)
 run_made commands.Plain bytes text ran m = rw m.1 refl
@@ -85,7 +102,7 @@ run_made commands.Check bytes text ran m = rw m.1 refl
 run_made commands.Asm bytes text ran m = rw m.1 refl
 run_made (commands.Sim pick log script) bytes text ran m = ran_has_run (system_reading bytes) script log text ran m
 run_made (commands.Run log script) bytes text ran m = ran_has_run (system_reading bytes) script log text ran m
-run_made (commands.Load size only script) bytes text ran m = absurd m
+run_made (commands.Load size only script) bytes text ran m = rw (load_has_none only (workload size) script 0 text ran m) refl
 
 no_tale : (system : System) (script : List ScriptWord) (log : Bool) (wanted : ℕ) (text : List ℕ) (ran : Option Ran) → TellsOfRun system script log wanted text ran → (wanted ≡ 0 → ⊥) → ran ≡ None
 no_tale system script log wanted text None m n = refl
@@ -106,4 +123,38 @@ no_run_made commands.Check bytes wanted text ran m n = m.1
 no_run_made commands.Asm bytes wanted text ran m n = m.1
 no_run_made (commands.Sim pick log script) bytes wanted text ran m n = no_ran (system_reading bytes) script log wanted text ran m n
 no_run_made (commands.Run log script) bytes wanted text ran m n = no_ran (system_reading bytes) script log wanted text ran m n
-no_run_made (commands.Load size only script) bytes wanted text ran m n = absurd m
+no_run_made (commands.Load size only script) bytes wanted text ran m n = load_has_none only (workload size) script wanted text ran m
+
+-- ---- a command that reads no input
+
+-- what it makes hangs on no bytes
+pub unread_same : (command : Command) (taken bytes : List ℕ) (wanted : ℕ) (text : List ℕ) (ran : Option Ran) → reads_input (Some command) ≡ false → Makes command taken wanted text ran
+    → Makes command bytes wanted text ran
+unread_same commands.Plain taken bytes wanted text ran e m = cc
+unread_same commands.Check taken bytes wanted text ran e m = cc
+unread_same commands.Asm taken bytes wanted text ran e m = cc
+unread_same (commands.Sim pick log script) taken bytes wanted text ran e m = cc
+unread_same (commands.Run log script) taken bytes wanted text ran e m = cc
+unread_same (commands.Load size only script) taken bytes wanted text ran e m = m
+
+-- a command is built that is `load` where it only prints its workload
+only_prints : (command : Command) (size : ℕ) (only : Bool) (script : List ScriptWord) → command ≡ commands.Load size only script → is_built command ≡ true → only ≡ true
+only_prints command size only script same built = sym (ap is_built same) ∙ built
+
+pub load_makes : (command : Command) (size : ℕ) (only : Bool) (script : List ScriptWord) (bytes : List ℕ) (wanted : ℕ) (text : List ℕ) → command ≡ commands.Load size only script → is_built command ≡ true
+    → MakesLoad true (workload size) script wanted text None → Makes command bytes wanted text None
+load_makes command size only script bytes wanted text same built m =
+    subst (λ (c : Command). Makes c bytes wanted text None) (sym same)
+    (subst (λ (o : Bool). MakesLoad o (workload size) script wanted text None) (sym (only_prints command size only script same built)) m)
+
+pub load_explains : (command : Command) (size : ℕ) (only : Bool) (script : List ScriptWord) (bytes : List ℕ) (wanted : ℕ) (why : Option Why) → command ≡ commands.Load size only script → is_built command ≡ true
+    → ExplainsLoad true (workload size) script wanted why → Explains command bytes wanted why
+load_explains command size only script bytes wanted why same built m =
+    subst (λ (c : Command). Explains c bytes wanted why) (sym same)
+    (subst (λ (o : Bool). ExplainsLoad o (workload size) script wanted why) (sym (only_prints command size only script same built)) m)
+
+-- a workload that lacks a cluster of the script is usage
+pub lacks_makes : (system : System) (script : List ScriptWord) (made : Result Reply NoMemory) → has_clusters_of script system ≡ false → IfOk made (λ (r : Reply). (r.status ≡ 1) × (r.text ≡ usage_line))
+    → IfOk made (λ (r : Reply). MakesLoad true system script r.status r.text None)
+lacks_makes system script (Ok reply) lacks m = (rw lacks m, refl)
+lacks_makes system script (Err e) lacks m = tt

@@ -1,11 +1,11 @@
 -- What the program answers: its status, what it wrote, what it took of its input, and the run of `sim` or `run`.
-use Rattle.std.specs.Prelude.{ℕ, ◌≡◌, ◌≤◌, ◌<◌, ◌⊎◌, Bool, true, List, length, take, codes, Option, Some, None, is_some, Result, Ok, Err}
+use Rattle.std.specs.Prelude.{ℕ, ◌≡◌, ◌≤◌, ◌<◌, ◌⊎◌, Bool, true, false, List, length, take, codes, Option, Some, None, is_some, Result, Ok, Err}
 use Rattle.std.specs.Io.KnownBytes.{Consumes, Keeps, Appends}
 use Rattle.t32_base.specs.Streams.{Rose}
 use Rattle.t32_base.specs.declared.streams.NoMemory.{NoMemory}
 use Rattle.command_words.specs.declared.command.Command.{Command}
 use Rattle.targon_cli.specs.declared.reply.Reply.{Reply}
-use Rattle.targon_cli.specs.Built.{built_command_of, makes_run}
+use Rattle.targon_cli.specs.Built.{built_command_of, makes_run, reads_input}
 use Rattle.cluster_run.specs.declared.life.Ran.{Ran}
 use Rattle.targon_cli.specs.Reply.{Makes, usage_line}
 
@@ -53,33 +53,45 @@ pub record ReadsTooMany (old new : In) (bytes : List ℕ) : Type 0 where
   pub taken : Consumes old.left new.left bytes
   pub above : input_limit < length bytes
 
+-- what a command took, where it reads the input: all of it
+abbrev pub TakesBy : (reads : Bool) → (old new : In) → Bool → (bytes : List ℕ) → Type 0
+TakesBy true old new ended bytes = ReadsAll old new ended bytes
+TakesBy false old new ended bytes = new ≡ old
+
+abbrev pub Takes : Command → (old new : In) → Bool → (bytes : List ℕ) → Type 0
+Takes command old new ended bytes = TakesBy (reads_input (Some command)) old new ended bytes
+
+-- what reads no input leaves it as it was
+abbrev pub LeavesInput : Option Command → (old new : In) → Type 0
+LeavesInput found old new = reads_input found ≡ false → new ≡ old
+
 -- what a command answers, with the status, what was taken and written, and the run that is handed out
 pub data Answers (command : Command) (status : ℕ) (old new : In) (ended : Bool) (before after : Out) (ran : Option Ran) : Type 0 where
   -- what it makes of the bytes that were read
-  Replied : (bytes : List ℕ) (wanted : ℕ) (text : List ℕ) → ReadsAll old new ended bytes → Makes command bytes wanted text ran
+  Replied : (bytes : List ℕ) (wanted : ℕ) (text : List ℕ) → Takes command old new ended bytes → Makes command bytes wanted text ran
       → Says wanted text status before after → Answers command status old new ended before after ran
-  TooLong : (bytes : List ℕ) → ReadsTooMany old new bytes → Says 8 too_long_line status before after → ran ≡ None
+  TooLong : (bytes : List ℕ) → reads_input (Some command) ≡ true → ReadsTooMany old new bytes → Says 8 too_long_line status before after → ran ≡ None
       → Answers command status old new ended before after ran
-  ReadFault : Rose old.faults new.faults → Says 4 read_fault_line status before after → ran ≡ None
+  ReadFault : reads_input (Some command) ≡ true → Rose old.faults new.faults → Says 4 read_fault_line status before after → ran ≡ None
       → Answers command status old new ended before after ran
-  OutOfMemory : status ≡ 6 → Keeps before.holds after.holds → ran ≡ None → Answers command status old new ended before after ran
+  OutOfMemory : LeavesInput (Some command) old new → status ≡ 6 → Keeps before.holds after.holds → ran ≡ None → Answers command status old new ended before after ran
 
--- the input could not be read whole, and any command answers so
+-- the input could not be read whole, and any command that reads it answers so
 abbrev pub IsUnread : (status : ℕ) → (old new : In) → Bool → (before after : Out) → Type 0
-IsUnread status old new ended before after = (command : Command) → Answers command status old new ended before after None
+IsUnread status old new ended before after = (command : Command) → reads_input (Some command) ≡ true → Answers command status old new ended before after None
 
 -- what was made is written, and its run is handed out; or nothing could be made
 abbrev pub HandsOut : Result (Reply × Option Ran) NoMemory → (status : ℕ) → (before after : Out) → Option Ran → Type 0
 HandsOut (Ok made) status before after ran = Says (made.0).status (made.0).text status before after × (ran ≡ made.1)
 HandsOut (Err e) status before after ran = (status ≡ 6) × Keeps before.holds after.holds × (ran ≡ None)
 
--- A command made this of all the bytes of the input, under its status, and the whole text was written.
+-- A command made this of what it took, under its status, and the whole text was written.
 pub record IsReplied (words : List (List ℕ)) (status : ℕ) (old new : In) (ended : Bool) (before after : Out) (ran : Option Ran) : Type 0 where
   pub command : Command
   pub words_are : built_command_of words ≡ Some command
   pub bytes : List ℕ
   pub text : List ℕ
-  pub read : ReadsAll old new ended bytes
+  pub read : Takes command old new ended bytes
   pub made : Makes command bytes status text ran
   pub written : Appends before.holds after.holds text
 
@@ -89,15 +101,19 @@ pub record Completes (command : Command) (bytes : List ℕ) (status : ℕ) (befo
   pub made : Makes command bytes status text ran
   pub written : Appends before.holds after.holds text
 
--- A command made a run and its report of all the bytes of the input, and a front of the report was written.
+-- A command made a run and its report of what it took, and a front of the report was written.
 pub record IsCutOff (words : List (List ℕ)) (old new : In) (ended : Bool) (before after : Out) (ran : Option Ran) : Type 0 where
   pub command : Command
   pub words_are : built_command_of words ≡ Some command
   pub bytes : List ℕ
   pub text : List ℕ
-  pub read : ReadsAll old new ended bytes
+  pub read : Takes command old new ended bytes
   pub made : Makes command bytes 0 text ran
   pub written : AppendsPart before.holds after.holds text
+
+-- these bytes are what a source has left for a command that reads it, and are no more than are read
+abbrev pub Offers : Command → In → (bytes : List ℕ) → Type 0
+Offers command old bytes = reads_input (Some command) ≡ true → (old.left ≡ Some bytes) × (length bytes ≤ input_limit)
 
 -- the statuses of the program
 abbrev pub IsStatus : ℕ → Type 0
@@ -105,7 +121,7 @@ IsStatus status = (status ≡ 0) ⊎ (status ≡ 1) ⊎ (status ≡ 2) ⊎ (stat
 
 -- What is answered where the words are this command, or no command that is built.
 abbrev pub AnswersFound : Option Command → (status : ℕ) → (old new : In) → (ended : Bool) → (before after : Out) → Option Ran → Type 0
-AnswersFound None status old new ended before after ran = Says 1 usage_line status before after × (ran ≡ None)
+AnswersFound None status old new ended before after ran = Says 1 usage_line status before after × (ran ≡ None) × (new ≡ old)
 AnswersFound (Some command) status old new ended before after ran = Answers command status old new ended before after ran
 
 -- The words are no command that is built. That is said; or memory was refused while they were read, and nothing was written.
@@ -116,10 +132,12 @@ SaysUsage status before after = Says 1 usage_line status before after ⊎ ((stat
 pub record Answered (words : List (List ℕ)) (status : ℕ) (old new : In) (ended : Bool) (before after : Out) (ran : Option Ran) : Type 0 where
   -- the words are no command that is built
   pub usage : built_command_of words ≡ None → SaysUsage status before after
+  -- words by which no input is read leave it as it was
+  pub left : LeavesInput (built_command_of words) old new
   -- the words are one
   pub command : (command : Command) → built_command_of words ≡ Some command → Answers command status old new ended before after ran
-  -- each status has its cause: 0 that a command was carried out, 1 that the words are no command that is built or name a cluster that the system of
-  -- the input lacks, and 2 and 3 that the command refuses its input
+  -- each status has its cause: 0 that a command was carried out, 1 that the words are no command that is built or name a cluster that the system
+  -- lacks, and 2 and 3 that the command refuses its input
   pub status_0 : status ≡ 0 → IsReplied words status old new ended before after ran
   pub status_1 : status ≡ 1 → (built_command_of words ≡ None) ⊎ IsReplied words status old new ended before after ran
   pub status_2 : status ≡ 2 → IsReplied words status old new ended before after ran
@@ -130,7 +148,7 @@ pub record Answered (words : List (List ℕ)) (status : ℕ) (old new : In) (end
   pub no_other : IsStatus status
   -- where neither side fails, what a command makes of its input is written, unless memory is refused
   pub complete : (command : Command) → built_command_of words ≡ Some command → (Rose old.faults new.faults → ⊥) → (Rose before.faults after.faults → ⊥)
-      → (bytes : List ℕ) → old.left ≡ Some bytes → length bytes ≤ input_limit → Completes command bytes status before after ran ⊎ (status ≡ 6)
+      → (bytes : List ℕ) → Offers command old bytes → Completes command bytes status before after ran ⊎ (status ≡ 6)
   -- a run is handed out exactly where all was done and it was `sim` or `run` that did it, and besides at most where a front of its report was written
   pub ran_0 : status ≡ 0 → is_some ran ≡ makes_run (built_command_of words)
   pub ran_5 : status ≡ 5 → is_some ran ≡ true → IsCutOff words old new ended before after ran

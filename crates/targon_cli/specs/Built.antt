@@ -6,19 +6,20 @@ use Rattle.command_words.specs.declared.command.Command.{Command}
 use Rattle.command_words.specs.declared.command.Command.TheVariants as commands
 use Rattle.command_words.specs.Command.{command_of}
 use Rattle.cert_sched.specs.Built.{is_built_word}
+use Rattle.workload.specs.Ring.{is_size}
 
 -- a script is built that has at most one word, by which a cluster is lost at a place of the log or before one of its kernel steps
 abbrev pub is_built_script : List ScriptWord → Bool
 is_built_script script = nat_le (length script) 1 && list_all is_built_word script
 
--- built is all but `load`, and `sim` and `run` with such a script
+-- built are `sim` and `run` with such a script, `load` where it only prints its workload, and the others
 abbrev pub is_built : Command → Bool
 is_built commands.Plain = true
 is_built commands.Check = true
 is_built commands.Asm = true
 is_built (commands.Sim pick log script) = is_built_script script
 is_built (commands.Run log script) = is_built_script script
-is_built (commands.Load size text script) = false
+is_built (commands.Load size only script) = only
 
 abbrev pub built : Command → Option Command
 built command = if is_built command then Some command else None
@@ -27,15 +28,16 @@ built command = if is_built command then Some command else None
 abbrev pub built_command_of : List (List ℕ) → Option Command
 built_command_of words = option_and_then built (command_of words)
 
--- the pick of a command, where it has one, is a number of 31 bits
-abbrev pub has_pick : Command → Bool
-has_pick (commands.Sim pick log script) = nat_lt pick (2 ^ 31)
-has_pick _ = true
+-- the pick of a command is a number of 31 bits, and its size that of a workload
+abbrev pub keeps_limits : Command → Bool
+keeps_limits (commands.Sim pick log script) = nat_lt pick (2 ^ 31)
+keeps_limits (commands.Load size only script) = is_size size
+keeps_limits _ = true
 
--- a command that was found is built, and its pick is small
+-- a command that was found is built, and its numbers are within their limits
 abbrev pub is_ready : Option Command → Bool
 is_ready None = true
-is_ready (Some command) = is_built command && has_pick command
+is_ready (Some command) = is_built command && keeps_limits command
 
 -- the words are those of `sim` or `run`
 abbrev pub makes_run : Option Command → Bool
@@ -43,6 +45,12 @@ makes_run None = false
 makes_run (Some (commands.Sim pick log script)) = true
 makes_run (Some (commands.Run log script)) = true
 makes_run (Some _) = false
+
+-- the words are a command that reads the input: any but `load`
+abbrev pub reads_input : Option Command → Bool
+reads_input None = false
+reads_input (Some (commands.Load size only script)) = false
+reads_input (Some _) = true
 
 -- the words are those of `run`
 abbrev pub needs_threads : Option Command → Bool

@@ -18,12 +18,13 @@ use Rattle.sys_text.specs.Refusal.{number_of_rule as system_rule}
 use Rattle.sys_text.specs.declared.system.System.{System}
 use Rattle.cert_sched.specs.declared.script.ScriptWord.{ScriptWord}
 use Rattle.text_parts.specs.Lines.{lines_of}
+use Rattle.workload.specs.Ring.{workload}
 use Rattle.targon_cli.specs.declared.runs.Read.{Read}
 use Rattle.targon_cli.specs.declared.runs.Read.TheVariants.{System as AsSystem, Refused as AsRefused}
 use Rattle.targon_cli.specs.declared.reply.Reply.{Reply}
 use Rattle.t32_base.specs.declared.streams.NoMemory.{NoMemory}
 use Rattle.cluster_run.specs.declared.life.Ran.{Ran}
-use Rattle.targon_cli.specs.Answer.{In, Out, ReadsAll, Says as Writes}
+use Rattle.targon_cli.specs.Answer.{In, Out, Takes, Says as Writes}
 use Rattle.targon_cli.specs.Built.{built_command_of}
 use Rattle.targon_cli.specs.Reply.{has_clusters_of}
 use Rattle.targon_cli.specs.Sections.{system_part, section_part, items_of_lines}
@@ -76,6 +77,11 @@ abbrev pub ExplainsPlain : Answer → (lines section : List (List ℕ)) → (sta
 ExplainsPlain (Ok system) lines section status why = ExplainsRunBy system section status why
 ExplainsPlain (Err refused) lines section status why = (status ≡ 2) × SaysSome (system_why lines refused.0 (system_rule refused.1)) why
 
+-- a workload is printed, or it is told that it lacks a cluster of the script
+abbrev pub ExplainsLoad : (only : Bool) → System → List ScriptWord → (status : ℕ) → Option Why → Type 0
+ExplainsLoad true system script status why = ExplainsByScript (has_clusters_of script system) status why
+ExplainsLoad false system script status why = ⊥
+
 -- the status of what a command makes of these bytes, and what is told of it: nothing exactly where all was done
 abbrev pub Explains : Command → (bytes : List ℕ) → (status : ℕ) → Option Why → Type 0
 Explains commands.Plain bytes status why = ExplainsPlain (system_of_lines (system_part (lines_of bytes))) (system_part (lines_of bytes)) (section_part (lines_of bytes)) status why
@@ -83,7 +89,7 @@ Explains commands.Check bytes status why = ExplainsSystem (system_reading bytes)
 Explains commands.Asm bytes status why = ExplainsAsm (asm_reading bytes) (lines_of bytes) status why
 Explains (commands.Sim pick log script) bytes status why = ExplainsRun (system_reading bytes) script (lines_of bytes) status why
 Explains (commands.Run log script) bytes status why = ExplainsRun (system_reading bytes) script (lines_of bytes) status why
-Explains (commands.Load size only script) bytes status why = ⊥
+Explains (commands.Load size only script) bytes status why = ExplainsLoad only (workload size) script status why
 
 -- the status alone tells why
 pub record IsByStatus (status : ℕ) (why : Option Why) : Type 0 where
@@ -97,7 +103,7 @@ HandsWhy (Err e) status why = IsByStatus status why
 
 -- a command ended so by what it made of its input, or the status alone tells why
 pub data ExplainsEnd (command : Command) (status : ℕ) (old new : In) (ended : Bool) (why : Option Why) : Type 0 where
-  ByInput : (bytes : List ℕ) → ReadsAll old new ended bytes → Explains command bytes status why → ExplainsEnd command status old new ended why
+  ByInput : (bytes : List ℕ) → Takes command old new ended bytes → Explains command bytes status why → ExplainsEnd command status old new ended why
   ByStatus : IsByStatus status why → ExplainsEnd command status old new ended why
 
 -- the same where the words are this command, or no command that is built

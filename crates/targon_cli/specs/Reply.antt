@@ -1,4 +1,4 @@
--- What a command makes of the bytes of its input: the status, the text that is written, and for `sim` and `run` the run that it tells of.
+-- What a command makes of the bytes of its input, and `load` of its size: the status, the text that is written, and for `sim` and `run` the run that it tells of.
 use Rattle.std.specs.Prelude.{ℕ, ◌≡◌, Bool, true, false, List, [], ◌∷◌, ◌++◌, codes, Option, Some, None, Result, Ok, Err}
 use Rattle.std.specs.Fmt.{decimal}
 use Rattle.std.specs.Arc.{arc_value}
@@ -23,6 +23,7 @@ use Rattle.plain_kernel.specs.Apply.{plain_run}
 use Rattle.plain_kernel.specs.Answers.{BadAt}
 use Rattle.command_words.specs.Script.{are_allowed}
 use Rattle.text_parts.specs.Lines.{lines_of}
+use Rattle.workload.specs.Ring.{workload}
 use Rattle.targon_cli.specs.Sections.{system_part, section_part, items_of_lines}
 use Rattle.report_text.specs.Report.{plain_report}
 use Rattle.report_text.specs.declared.run.Run.{Run}
@@ -118,13 +119,25 @@ IsRead (Ok system) script (AsRefused reply) = (has_clusters_of script system ≡
 IsRead (Err refused) script (AsSystem shared) = ⊥
 IsRead (Err refused) script (AsRefused reply) = (reply.status ≡ 2) × (reply.text ≡ system_line refused.0 (system_rule refused.1))
 
+-- ---- the workload
+
+-- a system that has the clusters of the script is printed in canonical form; usage, where it lacks one
+abbrev pub PrintsByScript : (has : Bool) → System → (status : ℕ) → (text : List ℕ) → Type 0
+PrintsByScript true system status text = (status ≡ 0) × (text ≡ system_text system)
+PrintsByScript false system status text = (status ≡ 1) × (text ≡ usage_line)
+
+-- `load` prints its workload where it is only to print it; where it is to run it, it makes nothing yet
+abbrev pub MakesLoad : (only : Bool) → System → List ScriptWord → (status : ℕ) → (text : List ℕ) → Option Ran → Type 0
+MakesLoad true system script status text ran = PrintsByScript (has_clusters_of script system) system status text × (ran ≡ None)
+MakesLoad false system script status text ran = ⊥
+
 -- ---- any command
 
--- only `sim` and `run` make a run; `load` makes nothing yet
+-- only `sim` and `run` make a run
 abbrev pub Makes : Command → (bytes : List ℕ) → (status : ℕ) → (text : List ℕ) → Option Ran → Type 0
 Makes commands.Plain bytes status text ran = MakesPlain (system_of_lines (system_part (lines_of bytes))) (section_part (lines_of bytes)) status text × (ran ≡ None)
 Makes commands.Check bytes status text ran = MakesCheck (system_reading bytes) status text × (ran ≡ None)
 Makes commands.Asm bytes status text ran = MakesAsm (asm_reading bytes) status text × (ran ≡ None)
 Makes (commands.Sim pick log script) bytes status text ran = MakesRun (system_reading bytes) script log status text ran
 Makes (commands.Run log script) bytes status text ran = MakesRun (system_reading bytes) script log status text ran
-Makes (commands.Load size only script) bytes status text ran = ⊥
+Makes (commands.Load size only script) bytes status text ran = MakesLoad only (workload size) script status text ran

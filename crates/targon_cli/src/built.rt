@@ -10,8 +10,9 @@ use std::alloc::Global;
 use t32_base::lists::Text;
 use t32_base::streams::NoMemory;
 
-/// The command that the words are, where it is built: not `load` yet, and `sim` and `run` with at most one script
-/// word, which loses a cluster at a place of the log, before one of its kernel steps, or by a call of its page disk.
+/// The command that the words are, where it is built: `load` with `--text` alone yet, and `sim` and `run` with at most
+/// one script word, which loses a cluster at a place of the log, before one of its kernel steps, or by a call of its
+/// page disk.
 pub fn built_command(alloc: Global, words: &[Text]) -> Result<Option<Command>, NoMemory>
     ensures command { IfOk result (λ c. c ≡ built_command_of words.now) }
     ensures ready { IfOk result (λ c. is_ready c ≡ true) }
@@ -40,7 +41,7 @@ fn is_built(command: &Command) -> bool
         Command::Sim { script, .. } | Command::Run { script, .. } => {
             is_built_script(script.as_slice())
         }
-        Command::Load { .. } => false,
+        Command::Load { text, .. } => *text,
     }
 }
 

@@ -3,6 +3,7 @@
 
 mod built;
 mod input;
+mod load;
 pub mod output;
 mod reply;
 mod runs;

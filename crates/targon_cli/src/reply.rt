@@ -1,4 +1,4 @@
-//! What a command makes of the bytes of its input.
+//! What a command makes of the bytes of its input, and `load` of its size.
 ghost use Rattle.std.specs.Prelude.{◌≡◌, IfOk, None, Some, false, true};
 ghost use Rattle.plain_kernel.specs.Kernel.{Kernel};
 ghost use Rattle.plain_kernel.specs.Still.{IsDefaultRun};
@@ -8,12 +8,13 @@ ghost use Rattle.sys_text.specs.Reading.{reading_of as system_reading, system_of
 ghost use Rattle.text_parts.specs.Lines.{lines_of};
 ghost use Rattle.targon_cli.specs.Sections.{section_part, system_part};
 ghost use Rattle.sys_text.specs.Valid.{is_system};
-ghost use Rattle.targon_cli.specs.Built.{has_pick, is_built, needs_threads};
+ghost use Rattle.targon_cli.specs.Built.{is_built, keeps_limits, needs_threads};
 ghost use Rattle.refusal_text.specs.Why.{asm_why as asm_why_of, item_why as item_why_of, system_why as system_why_of};
 ghost use Rattle.refusal_text.specs.declared.why.Why.TheVariants.{NoCluster};
 ghost use Rattle.targon_cli.specs.Explained.{Explains, ExplainsAsm, ExplainsItems, ExplainsPlain, ExplainsRunBy, ExplainsSystem, SaysSome};
 ghost use Rattle.targon_cli.specs.Reply.{asm_line, Follows, Makes, MakesAsm, MakesCheck, MakesPlain, RunsBy, schedule_line, system_line, usage_line};
 
+use crate::load::print_load;
 use crate::runs::simulate;
 use crate::sections::split_at_section;
 use cert_sched::{ItemsRefused, read_items};
@@ -51,14 +52,14 @@ pub struct Reply {
     pub why: Option<Why>,
 }
 
-/// What a command that needs no threads makes of the bytes of its input, and for `sim` the run that the text
-/// tells of.
+/// What a command that needs no threads makes of the bytes of its input, or of its size, and for `sim` the run that
+/// the text tells of.
 pub fn carry_out(
     alloc: Global,
     command: Command,
     bytes: &[u8],
 ) -> Result<(Reply, Option<Ran>), NoMemory>
-    requires pick { has_pick command ≡ true }
+    requires limits { keeps_limits command ≡ true }
     requires built { is_built command ≡ true }
     requires alone { needs_threads (Some command) ≡ false }
     ensures makes { IfOk result (λ r. Makes command bytes.now r.0.status r.0.text r.1) }
@@ -69,7 +70,8 @@ pub fn carry_out(
         Command::Check => Ok((check(alloc, bytes)?, None)),
         Command::Asm => Ok((asm(alloc, bytes)?, None)),
         Command::Sim { pick, log, script } => simulate(alloc, bytes, pick, log, &script),
-        Command::Run { .. } | Command::Load { .. } => unreachable!(),
+        Command::Load { size, script, .. } => Ok((print_load(alloc, size, &script)?, None)),
+        Command::Run { .. } => unreachable!(),
     }
 }
 

@@ -1,7 +1,7 @@
 //! The top call: what the program does with its words, its input and its output.
 ghost use Rattle.std.specs.Prelude.{◌≡◌, ◌==◌, None, Option, Some, false, if◌then◌else◌, true, IfErr, IfOk, OnOk, is_some};
-ghost use Rattle.targon_cli.specs.Answer.{Says, AnswersFound, Answers, Answered, HandsOut, IsUnread, ReadsAll};
-ghost use Rattle.targon_cli.specs.Built.{built_command_of, has_pick, is_built, is_built_script, is_ready, needs_threads};
+ghost use Rattle.targon_cli.specs.Answer.{Says, AnswersFound, Answers, Answered, HandsOut, IsUnread, ReadsAll, Takes};
+ghost use Rattle.targon_cli.specs.Built.{built_command_of, is_built, is_built_script, is_ready, keeps_limits, needs_threads, reads_input as reads_input_of};
 ghost use Rattle.targon_cli.specs.Explained.{Explained, ExplainsEnd, ExplainsFound, HandsWhy, IsByStatus, TellsWhy};
 ghost use Rattle.targon_cli.specs.Reply.{usage_line};
 ghost use Rattle.refusal_text.specs.Why.{why_of as why_of_status};
@@ -33,7 +33,7 @@ const TOO_LONG: u8 = 8;
 
 /// What the program does with its words, its input and its output, and the status with which it ends: 0
 /// where a command was carried out, 1 where the words are no command that is built, or name a cluster that the
-/// system of the input lacks, 2 where the command refuses its input, 3 where an item of the schedule cannot be read
+/// system lacks, 2 where the command refuses its input, 3 where an item of the schedule cannot be read
 /// or applied, 4 where the input could not be read, 5 where the output could not be written, 6 where memory was
 /// refused and nothing was written, and 8 where the input is longer than is read. After 0 `ran` is the run that `sim` or `run` made, and after 5 the
 /// run whose report was being written; else it is none. For `run` each cluster has a thread, which calls the
@@ -180,7 +180,7 @@ fn answer<S: Source, K: Sink>(
     ran: &mut Option<Ran>,
     why: &mut Option<Why>,
 ) -> u8
-    requires pick { has_pick command ≡ true }
+    requires limits { keeps_limits command ≡ true }
     requires built { is_built command ≡ true }
     requires alone { needs_threads (Some command) ≡ false }
     requires unran { ran.old ≡ None }
@@ -193,7 +193,7 @@ fn answer<S: Source, K: Sink>(
         (record { left = S.left input.old; faults = S.fault_count input.old })
         (record { left = S.left input.new; faults = S.fault_count input.new }) (S.ended input.new) why.new }
 {
-    match read_whole(alloc, input, output) {
+    match read_needed(alloc, &command, input, output) {
         Ok(bytes) => {
             let made = carry_out(alloc, command, bytes.as_slice());
             hand_out(made, output, ran, why)
@@ -280,6 +280,38 @@ fn answer_run<R: Threads + Wait + Sync, S: Source, K: Sink, G: Gate + Sync>(
             status
         }
     }
+}
+
+// The input that a command reads, all of it, and for `load` nothing; or the status with which the program ends
+// without it, once that is said.
+fn read_needed<S: Source, K: Sink>(
+    alloc: Global,
+    command: &Command,
+    input: &mut S,
+    output: &mut K,
+) -> Result<Bytes, u8>
+    ensures read { IfOk result (Takes command.now (record { left = S.left input.old; faults = S.fault_count input.old })
+        (record { left = S.left input.new; faults = S.fault_count input.new }) (S.ended input.new)) }
+    ensures kept { OnOk result (K.holds output.new ≡ K.holds output.old) }
+    ensures counted { OnOk result (K.fault_count output.new ≡ K.fault_count output.old) }
+    ensures unread { IfErr result (λ status. Answers command.now status
+        (record { left = S.left input.old; faults = S.fault_count input.old })
+        (record { left = S.left input.new; faults = S.fault_count input.new }) (S.ended input.new)
+        (record { holds = K.holds output.old; faults = K.fault_count output.old })
+        (record { holds = K.holds output.new; faults = K.fault_count output.new }) None) }
+    ensures told { IfErr result (λ status. is_some (why_of_status status) ≡ true) }
+{
+    if reads_input(command) {
+        read_whole(alloc, input, output)
+    } else {
+        Ok(Bytes::new(alloc))
+    }
+}
+
+fn reads_input(command: &Command) -> bool
+    ensures { result ≡ reads_input_of (Some command.now) }
+{
+    !matches!(command, Command::Load { .. })
 }
 
 // The whole input; or the status with which the program ends without it, once that is said.

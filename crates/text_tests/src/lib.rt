@@ -1,9 +1,11 @@
-//! Tests of the texts: programs for the assembler, and texts of systems. The expected values come from the tables of the
-//! formats, and from the worked examples.
+//! Tests of the texts: programs for the assembler, texts of systems, and the workload. The expected values come from the
+//! tables of the formats, from the worked examples, and from another program.
 #![tactic(auto)]
 
 #[cfg(test)]
 mod assembler;
+#[cfg(test)]
+mod load;
 #[cfg(test)]
 mod printing;
 #[cfg(test)]

@@ -1,3 +1,4 @@
+use Rattle.std.proofs.Common.{refl}
 use Rattle.targon_cli.proofs.top.answer_alone.Goals as goal
 
 pub returns-in-Some-clause-answered : goal.returns-in-Some-clause-answered
@@ -7,7 +8,7 @@ pub returns-in-Some-clause-explained : goal.returns-in-Some-clause-explained
 returns-in-Some-clause-explained g c = rw c.in-Some.is c.answer.ensures.explained
 
 pub returns-in-None-clause-answered : goal.returns-in-None-clause-answered
-returns-in-None-clause-answered g c = rw c.in-None.is (c.usage.ensures.said, c.requires.unran)
+returns-in-None-clause-answered g c = rw c.in-None.is (c.usage.ensures.said, c.requires.unran, refl)
 
 pub returns-in-None-clause-explained : goal.returns-in-None-clause-explained
 returns-in-None-clause-explained g c = rw c.in-None.is c.usage.ensures.explained

@@ -1,4 +1,4 @@
-use Rattle.std.proofs.Common.{ℕ, List, Option, subst}
+use Rattle.std.proofs.Common.{ℕ, List, Option, refl, subst}
 use Rattle.std.specs.Prelude.{IfOk}
 use Rattle.cluster_run.specs.declared.life.Ran.{Ran}
 use Rattle.command_words.specs.declared.command.Command.TheVariants as commands
@@ -22,4 +22,4 @@ returns-in-Ok-clause-explained g c =
     (subst P c.as_slice.ensures c.run_threads-made.ensures.why) c.hand_out.ensures.why
 
 pub returns-in-Err-clause-answered : goal.returns-in-Err-clause-answered
-returns-in-Err-clause-answered g c = rw c.requires.unran (c.in-Err.ensures.unread (commands.Run c.args.log c.args.script.now))
+returns-in-Err-clause-answered g c = rw c.requires.unran (c.in-Err.ensures.unread (commands.Run c.args.log c.args.script.now) refl)

@@ -1,4 +1,4 @@
-use Rattle.std.proofs.Common.{◌∙◌, None, Some, sym}
+use Rattle.std.proofs.Common.{◌∙◌, None, Some, refl, sym}
 use Rattle.targon_cli.proofs.Causes.{answered_found}
 use Rattle.targon_cli.proofs.Endings.{explained_found, explained_6}
 use Rattle.targon_cli.proofs.top.targon_explained.Goals as goal
@@ -10,7 +10,7 @@ pub returns-in-Some-clause-explained : goal.returns-in-Some-clause-explained
 returns-in-Some-clause-explained g c = explained_found c.args.words.now (Some c.in-Some.command) _ _ _ _ _ (sym c.in-Some.is ∙ c.in-Ok.ensures.command) c.answer_any.ensures.explained
 
 pub returns-in-None-clause-answered : goal.returns-in-None-clause-answered
-returns-in-None-clause-answered g c = answered_found c.args.words.now None _ _ _ _ _ _ _ (sym c.in-None.is ∙ c.in-Ok.ensures.command) (c.usage.ensures.said, c.requires)
+returns-in-None-clause-answered g c = answered_found c.args.words.now None _ _ _ _ _ _ _ (sym c.in-None.is ∙ c.in-Ok.ensures.command) (c.usage.ensures.said, c.requires, refl)
 
 pub returns-in-None-clause-explained : goal.returns-in-None-clause-explained
 returns-in-None-clause-explained g c = explained_found c.args.words.now None _ _ _ _ _ (sym c.in-None.is ∙ c.in-Ok.ensures.command) c.usage.ensures.explained

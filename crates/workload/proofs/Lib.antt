@@ -1,0 +1,2 @@
+mod Assembled
+pub mod Rules
