@@ -8,7 +8,7 @@ use Rattle.quanta.specs.declared.limits.Limits.{Limits}
 use Rattle.cluster_core.specs.declared.quantum.Quantum.{Quantum}
 use Rattle.cluster_core.specs.declared.quantum.Quantum.TheVariants.{Moved, Sent, Synced, Stuck, Forks}
 use Rattle.cluster_core.specs.ChildrenFirst.{comes_after_at, runs_at}
-use Rattle.cluster_core.specs.ForkingAgain.{rolls_at, CanForkAgainAt, CanForkAgainNow, ForksAgain, Part, RollsAgain, RollsPartAt, RollsQuantum, RollsStepsAt}
+use Rattle.cluster_core.specs.ForkingAgain.{rolls_at, CanForkAgainAt, CanForkAgainNow, ForksAgain, NoPart, Part, RollsAgain, RollsPartAt, RollsQuantum, RollsStepsAt}
 use Rattle.cluster_core.specs.Residents.{RunsAt, RunsOnAt, are_rising, is_stuck_at, pids_in}
 use Rattle.cluster_core.specs.View.{Held, Rolls}
 use Rattle.cluster_core.proofs.KeepsForking.{forks_now, part_keeps}
@@ -51,6 +51,10 @@ stopped_there p most made old mid new again few part = record {
   few = few;
   some = λ rolls. absurd (true≢false (sym rolls ∙ ap (λ hs. rolls_at hs p) part.0 ∙ part.1));
 }
+
+-- one that does not roll forward makes no part
+pub none_rolled : (p : Pid) (here : List (Pid × Held)) → rolls_at here p ≡ false → RollsQuantum p 0 here here
+none_rolled p here stopped = record { again = NoPart; few = omega arith; some = λ rolls. absurd (true≢false (sym rolls ∙ stopped)) }
 
 -- ---- the rest of the quantum
 

@@ -291,6 +291,9 @@ impl Residents {
         ensures last { self.new.last ≡ self.old.last }
         ensures limits { self.new.limits ≡ self.old.limits }
     {
+        if !self.rolls(pid) {
+            return self.run_on(alloc, by, pid, childless, 0);
+        }
         let made = self.roll(alloc, pid)?;
         if self.rolls(pid) {
             return Ok(Quantum::Moved);
