@@ -69,7 +69,7 @@ returns-in-Ok-Moved-clause-own g c alone own =
     let place = keeps v worked c.work.result Moved (c.in-Ok-Moved.is ∙ ap (λ w. Ok w) c.in-Ok-Moved.field-0-is) c.work.ensures.place in
     let follows = follows_some b v c.requires.shown.sound c.requires.shown.along in
     let valid : is_system v.system ≡ true = ap is_system c.requires.shown.along.system ∙ ((own.0).sound).valid in
-    moves_turn b b v v worked refl own (none_taken b v c.requires.shown.along) (moved_lightens v worked valid follows is) place.cursor (ap (λ (v : ClusterView). v.queue) (is.2).rest ∙ c.requires.empty)
+    moves_turn b b v v worked refl own (none_taken b v c.requires.shown.along) (moved_lightens v valid follows worked is) place.cursor (ap (λ (v : ClusterView). v.queue) (is.2).rest ∙ c.requires.empty)
 
 pub returns-in-Ok-Queued-clause-own : goal.returns-in-Ok-Queued-clause-own
 returns-in-Ok-Queued-clause-own g c =
