@@ -68,7 +68,11 @@ fn a_process_catches_up_and_sends_in_one_quantum(rt: HostRuntime) -> Result<(), 
 type Stands = (bool, bool, u64);
 
 fn stands(resident: &Resident) -> Stands {
-    (resident.waits_for_fork(), resident.rolls(), resident.steps())
+    (
+        resident.waits_for_fork(),
+        resident.rolls(),
+        resident.steps(),
+    )
 }
 
 // A child waits for its parent's fork, begins again as it was born, and makes its steps again.
