@@ -38,7 +38,7 @@ use Rattle.cert_sched.proofs.LogLaws.{process_after-quiet}
 use Rattle.cert_sched.proofs.RisingLaws.{NoTwo, rising-apart}
 use Rattle.cert_sched.proofs.PidLaws.{placed_pids, apart_fewer}
 use Rattle.cert_sched.proofs.RunsLaws.{rest_pids, led, led-silent_upto, after_runs, runs_made}
-use Rattle.cert_sched.proofs.StepLaws.{applied, is_sent, sent_from, silent_from, no_birth, no_signal_taken, process_after-silent, process_after-beside}
+use Rattle.cert_sched.proofs.StepLaws.{applied, is_sent, sent_from, silent_from, no_signal_taken, process_after-silent, process_after-beside}
 use Rattle.cert_sched.proofs.MailLaws.{received, received-ended, received-goes_on, process_after-sender, process_after-receiver, silently_ends}
 use Rattle.cert_sched.proofs.BirthKind.{is_birth}
 use Rattle.cert_sched.proofs.MadeLaws.{BirthMade, TakeMade, apart_from}
@@ -89,21 +89,6 @@ is_silent (Mail at letter) = false
 is_silent (Birth parent at child end) = false
 is_silent (Exit pid at end) = false
 is_silent _ = true
-
--- as long as no step is a fork no birth can be applied; this goes away, once no crate above cites it: in its place `unended_not_born`, `there_not_born` and `birth_applied`
-pub not_birth : (system : System) (log : List Entry) (e : Entry) → is_some (plain_after system (log ++ e ∷ [])) ≡ true → (w : What) → what e ≡ w → is_birth w ≡ false
-not_birth system log e applies (Mail at letter) is = refl
-not_birth system log e applies (Birth parent at child end) is = absurd (no_birth system log e parent at child end is applies)
-not_birth system log e applies (Exit r at end) is = refl
-not_birth system log e applies (Page r at index bytes) is = refl
-not_birth system log e applies (Sync r small read took) is = refl
-not_birth system log e applies (Fetch r index) is = refl
-not_birth system log e applies (PageIs r index bytes) is = refl
-not_birth system log e applies (Crash k cause) is = refl
-not_birth system log e applies (Return k) is = refl
-not_birth system log e applies (Rebackup to fresh recs) is = refl
-not_birth system log e applies (Done rests) is = refl
-not_birth system log e applies Stop is = refl
 
 module _ (system : System) (log : List Entry) (e : Entry) where
   Here : What → Pid → Type 0

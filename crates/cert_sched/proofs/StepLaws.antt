@@ -17,7 +17,6 @@ use Rattle.plain_kernel.specs.Kernel.{Kernel, boot, process_at, with_process, em
 use Rattle.plain_kernel.specs.Apply.{one_step, steps, fork_step, apply_all}
 use Rattle.plain_kernel.proofs.Entries.{some_same}
 use Rattle.plain_kernel.proofs.Laws.{apply_all-append, process_at-same}
-use Rattle.plain_kernel.proofs.Unforked.{never_forks}
 use Rattle.plain_kernel.proofs.Forking.{fork_made, fork-steps_parent}
 use Rattle.plain_kernel.proofs.ForkPids.{fork_step-own, fork_step-rising}
 use Rattle.plain_kernel.proofs.AtBoot.{boot-own, boot-pids, boot-steps}
@@ -396,29 +395,3 @@ process_after-beside system log e p at t q is items apart =
     ap (option_and_then (λ k. process_at k q)) a.after
     ∙ silently-other (at - done s.kernel p) s.kernel a.new p s.was t q s.there s.silent (silent_made system log e p at t s a items) apart
     ∙ sym (ap (option_and_then (λ k. process_at k q)) s.before)
-
--- ---- as long as no step is a fork: these go away, once no crate above cites them
-
--- no birth can be applied; in its place a birth that stands makes its fork (BornLaws)
-pub no_birth : (system : System) (log : List Entry) (e : Entry) (parent : Pid) (at : ℕ) (child : Pid) (end : ℕ) → what e ≡ Birth parent at child end → is_some (plain_after system (log ++ e ∷ [])) ≡ true → ⊥
-no_birth system log e parent at child end is can =
-    let a = applied system log e can in
-    let r = run_and_fork (run_upto a.old parent (at - 1)) parent child a.old a.new (ap (λ w. apply_all (items_of a.old w) a.old) (sym is) ∙ a.made) in
-    never_forks parent child r.to a.new r.forks
-
--- in its place `done_after-raised`
-pub done_after-snoc : (system : System) (log : List Entry) (e : Entry) (q : Pid) → is_done (what e) ≡ false → is_some (plain_after system (log ++ e ∷ [])) ≡ true
-    → done_after system (log ++ e ∷ []) q ≡ raised_at (count_in (what e)) (done_after system log) q
-done_after-snoc system log e q other can = done_after-raised system log e q other (by_what (what e) refl) can
-  where
-    by_what : (w : What) → what e ≡ w → IsLater (done_after system log) w
-    by_what (Birth parent at child end) is = absurd (no_birth system log e parent at child end is can)
-    by_what _ is = tt
-
--- in its place `log_keeps_all`, and of each process the laws of EachLaws
-pub plain_after-keeps : (P : Kernel → Type 0) → ((p : Pid) (k j : Kernel) → P k → one_step p k ≡ Some j → P j) → (system : System) (log : List Entry) (k : Kernel) → P (boot system) → plain_after system log ≡ Some k → P k
-plain_after-keeps P one system log k start is = log_keeps_all P one (λ p c k j has forks. absurd (never_forks p c k j forks)) system log k start is
-
--- in its place `plain_after-rising`, `plain_after-own_pids` and the pids of PidsBorn
-pub plain_after-pids : (system : System) (log : List Entry) (k : Kernel) → plain_after system log ≡ Some k → HasPids (pids_in (boot system)) k
-plain_after-pids system log k is = plain_after-keeps (HasPids (pids_in (boot system))) (one_step-pids (pids_in (boot system))) system log k (boot-pids system) is

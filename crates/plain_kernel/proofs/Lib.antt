@@ -11,7 +11,6 @@ pub mod Starts
 mod Falling
 mod Ready
 mod Turns
-pub mod Unforked
 pub mod Others
 pub mod Forking
 pub mod ForkPids

@@ -23,7 +23,6 @@ use Rattle.plain_kernel.specs.Apply.{after_step, one_step, steps, fork_step, app
 use Rattle.plain_kernel.specs.declared.item.Item.{Item}
 use Rattle.plain_kernel.specs.declared.item.Item.TheVariants.{Run, Fork, Take}
 use Rattle.plain_kernel.proofs.Entries.{some_same}
-use Rattle.plain_kernel.proofs.Unforked.{never_forks}
 use Rattle.plain_kernel.proofs.Laws.{pid_cmp_total, process_at-with_process, process_at-same, with_process-twice, last_silent, no_silent, one_silent}
 
 -- ---- one process is put
@@ -289,7 +288,3 @@ module _ (P : Kernel → Type 0) (one : (p : Pid) (k j : Kernel) → P k → one
       by_case : (o : Option Kernel) → apply k i ≡ o → option_and_then (apply_all is) o ≡ Some j → ((l : Kernel) → P l → apply_all is l ≡ Some j → P j) → P j
       by_case None is_o e ih = cc
       by_case (Some l) is_o e ih = ih l (item_keeps i k l has is_o) e
-
--- the same of what a step keeps, since no process forks yet
-pub apply_all-keeps : (P : Kernel → Type 0) → ((p : Pid) (k j : Kernel) → P k → one_step p k ≡ Some j → P j) → (is : List Item) (k j : Kernel) → P k → apply_all is k ≡ Some j → P j
-apply_all-keeps P one is k j has made = items_keep P one (λ p c k j has forks. absurd (never_forks p c k j forks)) is k j has made

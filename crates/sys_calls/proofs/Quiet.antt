@@ -1,5 +1,5 @@
 -- No call sends a signal yet, so none waits where none waited; and no step is a fork.
-use Rattle.std.proofs.Common.{◌≡◌, ℕ, zero, suc, refl, sym, ◌∙◌, ap, subst, List, [], ◌∷◌, Bool, true, false, cond, not, ◌&&◌, ◌||◌, eqb, ltb, Option, Some, None, option_and_then, is_none, is_some, true≢false}
+use Rattle.std.proofs.Common.{◌≡◌, ℕ, zero, suc, refl, ◌∙◌, ap, subst, List, [], ◌∷◌, Bool, true, false, cond, not, ◌&&◌, ◌||◌, eqb, ltb, Option, Some, None, option_and_then, is_none, is_some, true≢false}
 use Rattle.std.specs.Prelude.{find}
 use Rattle.std.specs.List.{list_any}
 use Rattle.std.proofs.lemmas.List.Folds.{list_any-append}
@@ -19,12 +19,11 @@ use Rattle.proc_state.specs.State.{ProcState, with_small, can_take, delivered, i
 use Rattle.sys_calls.specs.Small.{spent, lowest_linked}
 use Rattle.sys_calls.specs.declared.steps.Emission.{Emission}
 use Rattle.sys_calls.specs.declared.steps.Emission.TheVariants.{Mail, Exit}
-use Rattle.sys_calls.specs.Calls.{Next, Silent, Blocked, Forks, Emits, Over, Call, ExitCall, Write, Read, ReadAny, ForkCall, GetPid, Close, Unknown, arg, answers, refused, letter_to, called, call_of, close_to, first_wanted, forks_are_built, is_wanted, read_any_checked, read_call, read_checked, read_found, write_to}
+use Rattle.sys_calls.specs.Calls.{Next, Silent, Blocked, Forks, Emits, Over, Call, ExitCall, Write, Read, ReadAny, ForkCall, GetPid, Close, Unknown, arg, answers, refused, letter_to, called, call_of, close_to, first_wanted, is_wanted, read_any_checked, read_call, read_checked, read_found, write_to}
 use Rattle.sys_calls.specs.declared.reading.Reading.{Reading}
 use Rattle.sys_calls.specs.declared.reading.Reading.TheVariants.{Refused, AtEnd, Wants}
 use Rattle.sys_calls.specs.declared.reading.Wanted.{Wanted}
 use Rattle.sys_calls.specs.Next.{next_step, step_by, live_step, after_exec, closing_step, silent_of, silently}
-use Rattle.sys_calls.proofs.ForkLaws.{forks_built}
 
 -- no signal waits in a mailbox
 abbrev pub no_signal : List Arrived → Type 0
@@ -132,11 +131,6 @@ emits_quiet s t e is = (subst (Quiet s) is (next_quiet s)).0
 
 pub sends_no_signal : (s t : ProcState) (e : Emission) → next_step s ≡ Emits e t → sends_none e
 sends_no_signal s t e is = (subst (Quiet s) is (next_quiet s)).1
-
--- the call that forks is not built yet
-pub no_fork : (s : ProcState) → next_step s ≡ Forks → ⊥
-unfolding forks_are_built
-no_fork s is = true≢false (sym (forks_built s is))
 
 pub silently_quiet : (n : ℕ) (s t : ProcState) → silently n s ≡ Some t → no_signal s.mail → no_signal t.mail
 unfolding silently

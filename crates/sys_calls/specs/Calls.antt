@@ -1,5 +1,5 @@
 -- The system calls that are built: their numbers, what each checks, in this order, and what each does.
-use Rattle.std.specs.Prelude.{◌≡◌, ℕ, ◌<◌, true, false, ◌+◌, ◌-◌, ◌%◌, ◌^◌, min, Bool, not, ◌&&◌, ◌||◌, ◌==◌, nat_lt, if◌then◌else◌, List, [], length, take, find, Option, Some, None, option_and_then}
+use Rattle.std.specs.Prelude.{◌≡◌, ℕ, ◌<◌, true, ◌+◌, ◌-◌, ◌%◌, ◌^◌, min, Bool, not, ◌||◌, ◌==◌, nat_lt, if◌then◌else◌, List, [], length, take, find, Option, Some, None, option_and_then}
 use Rattle.std.specs.List.{list_any}
 use Rattle.std.specs.Option.{option_map_or}
 use Rattle.t32_base.specs.declared.process.End.TheVariants.{Exit}
@@ -34,10 +34,6 @@ pub data Next : Type 0 where
   Emits : (what : Emission) (after : ProcState) → Next
   Over : Next
 
--- Whether the call that forks is built. As long as clusters carry no children it is not, and its number is that of no call.
-unfoldable pub forks_are_built : Bool
-forks_are_built = false
-
 pub data Call : Type 0 where
   ExitCall : Call
   Write : Call
@@ -52,7 +48,7 @@ pub data Call : Type 0 where
 abbrev pub call_of : ℕ → Call
 call_of n =
     if n == 1 then ExitCall else if n == 2 then Write else if n == 3 then Read else if n == 4 then ReadAny
-    else if n == 5 && forks_are_built then ForkCall else if n == 6 then GetPid else if n == 10 then Close else Unknown
+    else if n == 5 then ForkCall else if n == 6 then GetPid else if n == 10 then Close else Unknown
 
 -- ---- what a call is made of; p is the process after its instruction was spent
 

@@ -4,7 +4,7 @@ ghost use Rattle.rv_cpu.specs.Exec.{reg};
 ghost use Rattle.proc_state.specs.Ends.{leads_to};
 ghost use Rattle.proc_state.specs.State.{state_of, with_small};
 ghost use Rattle.sys_calls.specs.Small.{spent};
-ghost use Rattle.sys_calls.specs.Calls.{call_of, called, close_call, fork_call, forks_are_built, letter_called, marks_called, write_call, ExitCall};
+ghost use Rattle.sys_calls.specs.Calls.{call_of, called, close_call, fork_call, letter_called, marks_called, write_call, ExitCall};
 ghost use Rattle.sys_calls.specs.Next.{is_fork};
 ghost use Rattle.sys_calls.specs.Steps.{Makes, Marks, SameCount, Shorter, Took, Touches, step_of_read, taken_by};
 
@@ -30,13 +30,6 @@ const FORK: u32 = 5;
 /// The ends of a process.
 const ENDS: u8 = 32;
 
-// Whether the call that forks is built.
-fn forks_are_built() -> bool
-    ensures { result ≡ forks_are_built }
-{
-    false
-}
-
 /// The process makes the call whose number is in a7.
 #[inline(always)]
 pub fn call(alloc: Global, p: &mut Process) -> Result<Step, NoMemory>
@@ -59,7 +52,7 @@ pub fn call(alloc: Global, p: &mut Process) -> Result<Step, NoMemory>
             let reading = read_any_checked(p);
             read_step(make_read(p, reading))
         }
-        FORK if forks_are_built() => Ok(fork_call(p)),
+        FORK => Ok(fork_call(p)),
         6 => {
             let pid = p.small.pid.0;
             answer(&mut p.small, pid);
@@ -183,7 +176,7 @@ fn fork_call(p: &mut Process) -> Step
 pub fn would_fork(p: &Process) -> bool
     ensures { result ≡ is_fork (called (call_of (reg p.now.small.regs 17)) (with_small (state_of p.now) (spent p.now.small))) }
 {
-    if read(&p.small.regs, 17) != FORK || !forks_are_built() {
+    if read(&p.small.regs, 17) != FORK {
         return false;
     }
     p.small.births != 0 && p.free_end() < ENDS
