@@ -3,3 +3,4 @@ mod RootEnds
 mod Told
 mod Outcomes
 mod OutcomeText
+mod LoadText

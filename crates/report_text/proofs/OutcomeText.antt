@@ -29,8 +29,8 @@ use Rattle.cert_sched.proofs.RisingLaws.{either_not}
 use Rattle.cert_sched.proofs.StepLaws.{plain_after-rising}
 use Rattle.cert_sched.proofs.StillLaws.{found_later}
 use Rattle.report_text.specs.Report.{newline, pid_part, pids_report, plain_report, status_text, ttys_report}
-use Rattle.report_text.specs.Outcome.{end_part, outcome_of, outcome_report, standing_text}
-use Rattle.report_text.proofs.Told.{end_of, numbered, told_by}
+use Rattle.report_text.specs.Outcome.{end_of, end_part, outcome_of, outcome_report, standing_text}
+use Rattle.report_text.proofs.Told.{numbered, told_by}
 use Rattle.report_text.proofs.Outcomes.{outcome-is}
 
 -- a process without a step has ended or waits

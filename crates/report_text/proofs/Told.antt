@@ -22,14 +22,9 @@ use Rattle.plain_kernel.proofs.Laws.{last_silent, no_silent}
 use Rattle.plain_kernel.proofs.Pids.{HasPids, IsRising, left_true, not_found, put_process, right_true}
 use Rattle.cert_sched.proofs.MailLaws.{silent_not_over, silently_ends}
 use Rattle.cert_sched.proofs.RunsLaws.{Quietly, quietly_keeps}
-use Rattle.report_text.specs.Outcome.{Outcome, ttys_with}
+use Rattle.report_text.specs.Outcome.{Outcome, end_of, ttys_with}
 
 -- ---- how a process stands
-
-abbrev pub end_of : Status → Option End
-end_of (Ended end) = Some end
-end_of (Closing end) = None
-end_of Live = None
 
 abbrev pub standing : ProcState → Option End
 standing s = end_of (s.small).status

@@ -2,3 +2,4 @@ pub mod Report
 pub mod RunReport
 pub mod Good
 pub mod Outcome
+pub mod Load

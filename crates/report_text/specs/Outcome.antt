@@ -6,6 +6,8 @@ use Rattle.std.specs.Ordering.{nat_cmp}
 use Rattle.std.specs.FinMap.{find, put}
 use Rattle.t32_base.specs.declared.process.Pid.{Pid}
 use Rattle.t32_base.specs.declared.process.End.{End}
+use Rattle.t32_base.specs.declared.process.Status.{Status}
+use Rattle.t32_base.specs.declared.process.Status.TheVariants.{Live, Closing, Ended}
 use Rattle.t32_base.specs.declared.letter.Letter.{Letter}
 use Rattle.t32_base.specs.declared.letter.To.{To}
 use Rattle.t32_base.specs.declared.letter.To.TheVariants.{Proc, Tty}
@@ -20,6 +22,12 @@ use Rattle.bus_msg.specs.declared.entry.Entry.{Entry}
 use Rattle.bus_msg.specs.PlacedAfter.{what}
 use Rattle.bus_msg.specs.Text.{end_text}
 use Rattle.report_text.specs.Report.{newline, tty_part}
+
+-- how a process ended, if it did
+abbrev pub end_of : Status → Option End
+end_of (Ended end) = Some end
+end_of (Closing end) = None
+end_of Live = None
 
 -- the bytes that each terminal was sent, by rising terminal, and the end of each process, by rising pid
 pub record Outcome : Type 0 where

@@ -6,6 +6,7 @@ ghost use Rattle.std.specs.Ordering.{nat_cmp};
 ghost use Rattle.sys_text.specs.Boot.{roots_of};
 ghost use Rattle.sys_text.specs.Valid.{is_system};
 ghost use Rattle.bus_msg.specs.PlacedAfter.{what as says};
+ghost use Rattle.report_text.specs.Load.{is_exit_0 as is_exit_0_of, outcome_load};
 ghost use Rattle.report_text.specs.Report.{tty_part};
 ghost use Rattle.report_text.specs.Outcome.{end_part, ends_of as ends_of_roots, none_told, outcome_of as outcome_of_log, outcome_report, standing_text, told_after, ttys_with};
 
@@ -98,6 +99,25 @@ impl Outcome {
         put_ends(alloc, &mut text, &self.ends)?;
         Ok(text)
     }
+
+    /// The line of a workload of this size: the bytes of terminal 0, the processes that ended with exit 0, and all
+    /// others.
+    pub fn load_line(&self, alloc: Global, size: u32) -> Result<Text, NoMemory>
+        ensures { IfOk result (λ text. text ≡ outcome_load size self.now) }
+    {
+        let tty = self.ttys.get(&0).map_or(0, |bytes| bytes.len());
+        let exits = self.ends.values().filter(|end| is_exit_0(**end)).count();
+        let other = self.ends.values().filter(|end| !is_exit_0(**end)).count();
+        let line = format!(in alloc; "load {size} tty {tty} exits {exits} other {other}\n")?;
+        Ok(Bytes::copy_of(alloc, line.as_bytes())?)
+    }
+}
+
+// Whether a process exited with status 0.
+fn is_exit_0(end: Option<End>) -> bool
+    ensures { result ≡ is_exit_0_of end }
+{
+    matches!(end, Some(End::Exit(0)))
 }
 
 // The roots of a system, none of which has ended.

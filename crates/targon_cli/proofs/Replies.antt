@@ -1,5 +1,5 @@
 -- The replies of commands: their statuses, and which of them have a run.
-use Rattle.std.proofs.Common.{◌≡◌, ℕ, Bool, true, false, List, [], ◌∷◌, ◌⊎◌, inl, inr, refl, sym, ◌∙◌, ap, subst, arith, Option, Some, None}
+use Rattle.std.proofs.Common.{◌≡◌, ℕ, Bool, true, false, not, true≢false, List, [], ◌∷◌, ◌⊎◌, inl, inr, refl, sym, ◌∙◌, ap, subst, arith, Option, Some, None}
 use Rattle.std.specs.Prelude.{Ok, Err, Result, IfOk, is_some}
 use Rattle.command_words.specs.declared.command.Command.{Command}
 use Rattle.command_words.specs.declared.command.Command.TheVariants as commands
@@ -7,16 +7,18 @@ use Rattle.sys_text.specs.Reading.{reading_of as system_reading, system_of_lines
 use Rattle.sys_text.specs.declared.system.System.{System}
 use Rattle.cert_sched.specs.declared.script.ScriptWord.{ScriptWord}
 use Rattle.rv_asm.specs.Program.{reading_of as asm_reading}
+use Rattle.plain_kernel.specs.Kernel.{Kernel}
 use Rattle.plain_kernel.specs.declared.item.Item.{Item}
+use Rattle.report_text.specs.declared.run.Run.{Run}
 use Rattle.text_parts.specs.Lines.{lines_of}
 use Rattle.cluster_run.specs.declared.life.Ran.{Ran}
 use Rattle.refusal_text.specs.declared.why.Why.{Why}
 use Rattle.workload.specs.Ring.{workload}
-use Rattle.targon_cli.specs.Built.{is_built, makes_run, reads_input}
+use Rattle.targon_cli.specs.Built.{makes_run, needs_threads, reads_input}
 use Rattle.targon_cli.specs.Explained.{Explains, ExplainsLoad}
 use Rattle.t32_base.specs.declared.streams.NoMemory.{NoMemory}
 use Rattle.targon_cli.specs.declared.reply.Reply.{Reply}
-use Rattle.targon_cli.specs.Reply.{Makes, usage_line, MakesPlain, MakesCheck, MakesAsm, MakesRun, MakesByScript, MakesLoad, PrintsByScript, has_clusters_of, TellsOfRun, RunsBy, FollowsSection, Follows, Applied, Refused}
+use Rattle.targon_cli.specs.Reply.{Makes, usage_line, MakesPlain, MakesCheck, MakesAsm, MakesRun, MakesByScript, MakesLoad, PrintsByScript, has_clusters_of, load_text, run_text, TellsOfRun, RunsBy, FollowsSection, Follows, Applied, Refused}
 use Rattle.targon_cli.specs.Sections.{system_part, section_part, items_of_lines}
 
 -- ---- the status
@@ -49,81 +51,85 @@ status_of_asm : (reading : _) (wanted : ℕ) (text : List ℕ) → MakesAsm read
 status_of_asm (Ok words) wanted text m = inl m.0
 status_of_asm (Err refused) wanted text m = inr (inr (inl m.0))
 
-status_of_tale : (system : System) (script : List ScriptWord) (log : Bool) (wanted : ℕ) (text : List ℕ) (ran : Option Ran) → TellsOfRun system script log wanted text ran → IsReply wanted
-status_of_tale system script log wanted text None m = absurd m
-status_of_tale system script log wanted text (Some r) m = inl m.0
+status_of_tale : (system : System) (script : List ScriptWord) (print : Kernel → Run → List ℕ) (wanted : ℕ) (text : List ℕ) (ran : Option Ran) → TellsOfRun system script print wanted text ran → IsReply wanted
+status_of_tale system script print wanted text None m = absurd m
+status_of_tale system script print wanted text (Some r) m = inl m.0
 
-status_of_script : (has : Bool) (system : System) (script : List ScriptWord) (log : Bool) (wanted : ℕ) (text : List ℕ) (ran : Option Ran) → MakesByScript has system script log wanted text ran → IsReply wanted
-status_of_script true system script log wanted text ran m = status_of_tale system script log wanted text ran m
-status_of_script false system script log wanted text ran m = inr (inl m.0)
+status_of_script : (has : Bool) (system : System) (script : List ScriptWord) (print : Kernel → Run → List ℕ) (wanted : ℕ) (text : List ℕ) (ran : Option Ran) → MakesByScript has system script print wanted text ran → IsReply wanted
+status_of_script true system script print wanted text ran m = status_of_tale system script print wanted text ran m
+status_of_script false system script print wanted text ran m = inr (inl m.0)
 
-status_of_ran : (reading : _) (script : List ScriptWord) (log : Bool) (wanted : ℕ) (text : List ℕ) (ran : Option Ran) → MakesRun reading script log wanted text ran → IsReply wanted
-status_of_ran (Ok system) script log wanted text ran m = status_of_script (has_clusters_of script system) system script log wanted text ran m
-status_of_ran (Err refused) script log wanted text ran m = inr (inr (inl m.0))
+status_of_ran : (reading : _) (script : List ScriptWord) (print : Kernel → Run → List ℕ) (wanted : ℕ) (text : List ℕ) (ran : Option Ran) → MakesRun reading script print wanted text ran → IsReply wanted
+status_of_ran (Ok system) script print wanted text ran m = status_of_script (has_clusters_of script system) system script print wanted text ran m
+status_of_ran (Err refused) script print wanted text ran m = inr (inr (inl m.0))
 
 status_of_printed : (has : Bool) (system : System) (wanted : ℕ) (text : List ℕ) → PrintsByScript has system wanted text → IsReply wanted
 status_of_printed true system wanted text m = inl m.0
 status_of_printed false system wanted text m = inr (inl m.0)
 
-status_of_load : (only : Bool) (system : System) (script : List ScriptWord) (wanted : ℕ) (text : List ℕ) (ran : Option Ran) → MakesLoad only system script wanted text ran → IsReply wanted
-status_of_load true system script wanted text ran m = status_of_printed (has_clusters_of script system) system wanted text m.0
-status_of_load false system script wanted text ran m = absurd m
+status_of_load : (only : Bool) (size : ℕ) (script : List ScriptWord) (wanted : ℕ) (text : List ℕ) (ran : Option Ran) → MakesLoad only size script wanted text ran → IsReply wanted
+status_of_load true size script wanted text ran m = status_of_printed (has_clusters_of script (workload size)) (workload size) wanted text m.0
+status_of_load false size script wanted text ran m = status_of_script (has_clusters_of script (workload size)) (workload size) script (load_text size) wanted text ran m
 
 pub status_made : (command : Command) (bytes : List ℕ) (wanted : ℕ) (text : List ℕ) (ran : Option Ran) → Makes command bytes wanted text ran → IsReply wanted
 status_made commands.Plain bytes wanted text ran m = status_of_plain (system_of_lines (system_part (lines_of bytes))) (section_part (lines_of bytes)) wanted text m.0
 status_made commands.Check bytes wanted text ran m = status_of_check (system_reading bytes) wanted text m.0
 status_made commands.Asm bytes wanted text ran m = status_of_asm (asm_reading bytes) wanted text m.0
-status_made (commands.Sim pick log script) bytes wanted text ran m = status_of_ran (system_reading bytes) script log wanted text ran m
-status_made (commands.Run log script) bytes wanted text ran m = status_of_ran (system_reading bytes) script log wanted text ran m
-status_made (commands.Load size only script) bytes wanted text ran m = status_of_load only (workload size) script wanted text ran m
+status_made (commands.Sim pick log script) bytes wanted text ran m = status_of_ran (system_reading bytes) script (run_text log) wanted text ran m
+status_made (commands.Run log script) bytes wanted text ran m = status_of_ran (system_reading bytes) script (run_text log) wanted text ran m
+status_made (commands.Load size only script) bytes wanted text ran m = status_of_load only size script wanted text ran m
 
 -- ---- the run
 
-tale_has_run : (system : System) (script : List ScriptWord) (log : Bool) (text : List ℕ) (ran : Option Ran) → TellsOfRun system script log 0 text ran → is_some ran ≡ true
-tale_has_run system script log text None m = absurd m
-tale_has_run system script log text (Some r) m = refl
+tale_has_run : (system : System) (script : List ScriptWord) (print : Kernel → Run → List ℕ) (text : List ℕ) (ran : Option Ran) → TellsOfRun system script print 0 text ran → is_some ran ≡ true
+tale_has_run system script print text None m = absurd m
+tale_has_run system script print text (Some r) m = refl
 
-script_has_run : (has : Bool) (system : System) (script : List ScriptWord) (log : Bool) (text : List ℕ) (ran : Option Ran) → MakesByScript has system script log 0 text ran → is_some ran ≡ true
-script_has_run true system script log text ran m = tale_has_run system script log text ran m
-script_has_run false system script log text ran m = absurd (omega (arith, m.0))
+script_has_run : (has : Bool) (system : System) (script : List ScriptWord) (print : Kernel → Run → List ℕ) (text : List ℕ) (ran : Option Ran) → MakesByScript has system script print 0 text ran → is_some ran ≡ true
+script_has_run true system script print text ran m = tale_has_run system script print text ran m
+script_has_run false system script print text ran m = absurd (omega (arith, m.0))
 
-ran_has_run : (reading : _) (script : List ScriptWord) (log : Bool) (text : List ℕ) (ran : Option Ran) → MakesRun reading script log 0 text ran → is_some ran ≡ true
-ran_has_run (Ok system) script log text ran m = script_has_run (has_clusters_of script system) system script log text ran m
-ran_has_run (Err refused) script log text ran m = absurd (omega (arith, m.0))
+ran_has_run : (reading : _) (script : List ScriptWord) (print : Kernel → Run → List ℕ) (text : List ℕ) (ran : Option Ran) → MakesRun reading script print 0 text ran → is_some ran ≡ true
+ran_has_run (Ok system) script print text ran m = script_has_run (has_clusters_of script system) system script print text ran m
+ran_has_run (Err refused) script print text ran m = absurd (omega (arith, m.0))
 
-load_has_none : (only : Bool) (system : System) (script : List ScriptWord) (wanted : ℕ) (text : List ℕ) (ran : Option Ran) → MakesLoad only system script wanted text ran → ran ≡ None
-load_has_none true system script wanted text ran m = m.1
-load_has_none false system script wanted text ran m = absurd m
+load_has_run : (only : Bool) (size : ℕ) (script : List ScriptWord) (text : List ℕ) (ran : Option Ran) → MakesLoad only size script 0 text ran → is_some ran ≡ not only
+load_has_run true size script text ran m = rw m.1 refl
+load_has_run false size script text ran m = script_has_run (has_clusters_of script (workload size)) (workload size) script (load_text size) text ran m
 
--- what is done by `sim` or `run` has a run, and by another command none
+-- what is done by `sim`, `run` or `load` without `--text` has a run, and by another command none
 pub run_made : (command : Command) (bytes : List ℕ) (text : List ℕ) (ran : Option Ran) → Makes command bytes 0 text ran → is_some ran ≡ makes_run (Some command)
 run_made commands.Plain bytes text ran m = rw m.1 refl
 run_made commands.Check bytes text ran m = rw m.1 refl
 run_made commands.Asm bytes text ran m = rw m.1 refl
-run_made (commands.Sim pick log script) bytes text ran m = ran_has_run (system_reading bytes) script log text ran m
-run_made (commands.Run log script) bytes text ran m = ran_has_run (system_reading bytes) script log text ran m
-run_made (commands.Load size only script) bytes text ran m = rw (load_has_none only (workload size) script 0 text ran m) refl
+run_made (commands.Sim pick log script) bytes text ran m = ran_has_run (system_reading bytes) script (run_text log) text ran m
+run_made (commands.Run log script) bytes text ran m = ran_has_run (system_reading bytes) script (run_text log) text ran m
+run_made (commands.Load size only script) bytes text ran m = load_has_run only size script text ran m
 
-no_tale : (system : System) (script : List ScriptWord) (log : Bool) (wanted : ℕ) (text : List ℕ) (ran : Option Ran) → TellsOfRun system script log wanted text ran → (wanted ≡ 0 → ⊥) → ran ≡ None
-no_tale system script log wanted text None m n = refl
-no_tale system script log wanted text (Some r) m n = absurd (n m.0)
+no_tale : (system : System) (script : List ScriptWord) (print : Kernel → Run → List ℕ) (wanted : ℕ) (text : List ℕ) (ran : Option Ran) → TellsOfRun system script print wanted text ran → (wanted ≡ 0 → ⊥) → ran ≡ None
+no_tale system script print wanted text None m n = refl
+no_tale system script print wanted text (Some r) m n = absurd (n m.0)
 
-no_run_by_script : (has : Bool) (system : System) (script : List ScriptWord) (log : Bool) (wanted : ℕ) (text : List ℕ) (ran : Option Ran) → MakesByScript has system script log wanted text ran → (wanted ≡ 0 → ⊥) → ran ≡ None
-no_run_by_script true system script log wanted text ran m n = no_tale system script log wanted text ran m n
-no_run_by_script false system script log wanted text ran m n = m.2
+no_run_by_script : (has : Bool) (system : System) (script : List ScriptWord) (print : Kernel → Run → List ℕ) (wanted : ℕ) (text : List ℕ) (ran : Option Ran) → MakesByScript has system script print wanted text ran → (wanted ≡ 0 → ⊥) → ran ≡ None
+no_run_by_script true system script print wanted text ran m n = no_tale system script print wanted text ran m n
+no_run_by_script false system script print wanted text ran m n = m.2
 
-no_ran : (reading : _) (script : List ScriptWord) (log : Bool) (wanted : ℕ) (text : List ℕ) (ran : Option Ran) → MakesRun reading script log wanted text ran → (wanted ≡ 0 → ⊥) → ran ≡ None
-no_ran (Ok system) script log wanted text ran m n = no_run_by_script (has_clusters_of script system) system script log wanted text ran m n
-no_ran (Err refused) script log wanted text ran m n = m.2
+no_ran : (reading : _) (script : List ScriptWord) (print : Kernel → Run → List ℕ) (wanted : ℕ) (text : List ℕ) (ran : Option Ran) → MakesRun reading script print wanted text ran → (wanted ≡ 0 → ⊥) → ran ≡ None
+no_ran (Ok system) script print wanted text ran m n = no_run_by_script (has_clusters_of script system) system script print wanted text ran m n
+no_ran (Err refused) script print wanted text ran m n = m.2
+
+no_load : (only : Bool) (size : ℕ) (script : List ScriptWord) (wanted : ℕ) (text : List ℕ) (ran : Option Ran) → MakesLoad only size script wanted text ran → (wanted ≡ 0 → ⊥) → ran ≡ None
+no_load true size script wanted text ran m n = m.1
+no_load false size script wanted text ran m n = no_run_by_script (has_clusters_of script (workload size)) (workload size) script (load_text size) wanted text ran m n
 
 -- a refusal has no run
 pub no_run_made : (command : Command) (bytes : List ℕ) (wanted : ℕ) (text : List ℕ) (ran : Option Ran) → Makes command bytes wanted text ran → (wanted ≡ 0 → ⊥) → ran ≡ None
 no_run_made commands.Plain bytes wanted text ran m n = m.1
 no_run_made commands.Check bytes wanted text ran m n = m.1
 no_run_made commands.Asm bytes wanted text ran m n = m.1
-no_run_made (commands.Sim pick log script) bytes wanted text ran m n = no_ran (system_reading bytes) script log wanted text ran m n
-no_run_made (commands.Run log script) bytes wanted text ran m n = no_ran (system_reading bytes) script log wanted text ran m n
-no_run_made (commands.Load size only script) bytes wanted text ran m n = load_has_none only (workload size) script wanted text ran m
+no_run_made (commands.Sim pick log script) bytes wanted text ran m n = no_ran (system_reading bytes) script (run_text log) wanted text ran m n
+no_run_made (commands.Run log script) bytes wanted text ran m n = no_ran (system_reading bytes) script (run_text log) wanted text ran m n
+no_run_made (commands.Load size only script) bytes wanted text ran m n = no_load only size script wanted text ran m n
 
 -- ---- a command that reads no input
 
@@ -137,24 +143,26 @@ unread_same (commands.Sim pick log script) taken bytes wanted text ran e m = cc
 unread_same (commands.Run log script) taken bytes wanted text ran e m = cc
 unread_same (commands.Load size only script) taken bytes wanted text ran e m = m
 
--- a command is built that is `load` where it only prints its workload
-only_prints : (command : Command) (size : ℕ) (only : Bool) (script : List ScriptWord) → command ≡ commands.Load size only script → is_built command ≡ true → only ≡ true
-only_prints command size only script same built = sym (ap is_built same) ∙ built
+-- a command without threads that is `load` only prints its workload
+only_prints : (command : Command) (size : ℕ) (only : Bool) (script : List ScriptWord) → command ≡ commands.Load size only script → needs_threads (Some command) ≡ false → only ≡ true
+only_prints command size only script same alone = by_case only (ap (λ (c : Command). needs_threads (Some c)) (sym same) ∙ alone)
+  where
+    by_case : (b : Bool) → not b ≡ false → b ≡ true
+    by_case true e = refl
+    by_case false e = absurd (true≢false e)
 
-pub load_makes : (command : Command) (size : ℕ) (only : Bool) (script : List ScriptWord) (bytes : List ℕ) (wanted : ℕ) (text : List ℕ) → command ≡ commands.Load size only script → is_built command ≡ true
-    → MakesLoad true (workload size) script wanted text None → Makes command bytes wanted text None
-load_makes command size only script bytes wanted text same built m =
+pub load_makes : (command : Command) (size : ℕ) (only : Bool) (script : List ScriptWord) (bytes : List ℕ) (wanted : ℕ) (text : List ℕ) → command ≡ commands.Load size only script
+    → needs_threads (Some command) ≡ false → MakesLoad true size script wanted text None → Makes command bytes wanted text None
+load_makes command size only script bytes wanted text same alone m =
     subst (λ (c : Command). Makes c bytes wanted text None) (sym same)
-    (subst (λ (o : Bool). MakesLoad o (workload size) script wanted text None) (sym (only_prints command size only script same built)) m)
+    (subst (λ (o : Bool). MakesLoad o size script wanted text None) (sym (only_prints command size only script same alone)) m)
 
-pub load_explains : (command : Command) (size : ℕ) (only : Bool) (script : List ScriptWord) (bytes : List ℕ) (wanted : ℕ) (why : Option Why) → command ≡ commands.Load size only script → is_built command ≡ true
-    → ExplainsLoad true (workload size) script wanted why → Explains command bytes wanted why
-load_explains command size only script bytes wanted why same built m =
-    subst (λ (c : Command). Explains c bytes wanted why) (sym same)
-    (subst (λ (o : Bool). ExplainsLoad o (workload size) script wanted why) (sym (only_prints command size only script same built)) m)
+pub load_explains : (command : Command) (size : ℕ) (only : Bool) (script : List ScriptWord) (bytes : List ℕ) (wanted : ℕ) (why : Option Why) → command ≡ commands.Load size only script
+    → ExplainsLoad size script wanted why → Explains command bytes wanted why
+load_explains command size only script bytes wanted why same m = subst (λ (c : Command). Explains c bytes wanted why) (sym same) m
 
 -- a workload that lacks a cluster of the script is usage
-pub lacks_makes : (system : System) (script : List ScriptWord) (made : Result Reply NoMemory) → has_clusters_of script system ≡ false → IfOk made (λ (r : Reply). (r.status ≡ 1) × (r.text ≡ usage_line))
-    → IfOk made (λ (r : Reply). MakesLoad true system script r.status r.text None)
-lacks_makes system script (Ok reply) lacks m = (rw lacks m, refl)
-lacks_makes system script (Err e) lacks m = tt
+pub lacks_makes : (size : ℕ) (script : List ScriptWord) (made : Result Reply NoMemory) → has_clusters_of script (workload size) ≡ false → IfOk made (λ (r : Reply). (r.status ≡ 1) × (r.text ≡ usage_line))
+    → IfOk made (λ (r : Reply). MakesLoad true size script r.status r.text None)
+lacks_makes size script (Ok reply) lacks m = (rw lacks m, refl)
+lacks_makes size script (Err e) lacks m = tt

@@ -35,8 +35,8 @@ still system script r kernel good ended runs =
     finished_kernel_still system r.log kernel good.legal (ends_finished system r ended good.ended) (ap (plain_run system) (sym good.items) ∙ runs)
 
 -- a run that came to its end is told of by its text
-tells : (system : System) (script : List ScriptWord) (log : Bool) (text : List ℕ) (ran : Ran) → IsCompleted system script ran → IsTextOf system log ran.run text → TellsOf system script log text ran
-tells system script log text ran completed told = record {
+tells : (system : System) (script : List ScriptWord) (print : Kernel → Run → List ℕ) (text : List ℕ) (ran : Ran) → IsCompleted system script ran → IsTextOf system print ran.run text → TellsOf system script print text ran
+tells system script print text ran completed told = record {
   completed = completed;
   kernel = told.0;
   scheduled = told.1;
@@ -50,13 +50,13 @@ read_valid (Ok system) script shared is = subst (λ (s : System). is_system s �
 read_valid (Err refused) script shared is = absurd is
 
 -- what is told of its run is what the text makes
-pub ran_makes : (reading : Answer) (script : List ScriptWord) (shared : Arc System Global) (log : Bool) (reply : Reply) (ran : Ran) → IsRead reading script (AsSystem shared)
-    → IsCompleted (arc_value shared) script ran → reply.status ≡ 0 → IsTextOf (arc_value shared) log ran.run reply.text → MakesRun reading script log reply.status reply.text (Some ran)
-ran_makes (Ok system) script shared log reply ran is completed done told =
-    rw is.2 (done, tells system script log reply.text ran (subst (λ (s : System). IsCompleted s script ran) is.0 completed) (subst (λ (s : System). IsTextOf s log ran.run reply.text) is.0 told))
-ran_makes (Err refused) script shared log reply ran is completed done told = absurd is
+pub ran_makes : (reading : Answer) (script : List ScriptWord) (shared : Arc System Global) (print : Kernel → Run → List ℕ) (reply : Reply) (ran : Ran) → IsRead reading script (AsSystem shared)
+    → IsCompleted (arc_value shared) script ran → reply.status ≡ 0 → IsTextOf (arc_value shared) print ran.run reply.text → MakesRun reading script print reply.status reply.text (Some ran)
+ran_makes (Ok system) script shared print reply ran is completed done told =
+    rw is.2 (done, tells system script print reply.text ran (subst (λ (s : System). IsCompleted s script ran) is.0 completed) (subst (λ (s : System). IsTextOf s print ran.run reply.text) is.0 told))
+ran_makes (Err refused) script shared print reply ran is completed done told = absurd is
 
 -- a reply where there is no such system is what the text makes
-pub refusal_makes : (reading : Answer) (script : List ScriptWord) (reply : Reply) (log : Bool) → IsRead reading script (AsRefused reply) → MakesRun reading script log reply.status reply.text None
-refusal_makes (Ok system) script reply log is = rw is.0 (is.1, is.2, refl)
-refusal_makes (Err refused) script reply log is = (is.0, is.1, refl)
+pub refusal_makes : (reading : Answer) (script : List ScriptWord) (reply : Reply) (print : Kernel → Run → List ℕ) → IsRead reading script (AsRefused reply) → MakesRun reading script print reply.status reply.text None
+refusal_makes (Ok system) script reply print is = rw is.0 (is.1, is.2, refl)
+refusal_makes (Err refused) script reply print is = (is.0, is.1, refl)

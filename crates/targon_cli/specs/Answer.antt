@@ -1,4 +1,4 @@
--- What the program answers: its status, what it wrote, what it took of its input, and the run of `sim` or `run`.
+-- What the program answers: its status, what it wrote, what it took of its input, and the run of `sim`, `run` or `load`.
 use Rattle.std.specs.Prelude.{ℕ, ◌≡◌, ◌≤◌, ◌<◌, ◌⊎◌, Bool, true, false, List, length, take, codes, Option, Some, None, is_some, Result, Ok, Err}
 use Rattle.std.specs.Io.KnownBytes.{Consumes, Keeps, Appends}
 use Rattle.t32_base.specs.Streams.{Rose}
@@ -149,7 +149,7 @@ pub record Answered (words : List (List ℕ)) (status : ℕ) (old new : In) (end
   -- where neither side fails, what a command makes of its input is written, unless memory is refused
   pub complete : (command : Command) → built_command_of words ≡ Some command → (Rose old.faults new.faults → ⊥) → (Rose before.faults after.faults → ⊥)
       → (bytes : List ℕ) → Offers command old bytes → Completes command bytes status before after ran ⊎ (status ≡ 6)
-  -- a run is handed out exactly where all was done and it was `sim` or `run` that did it, and besides at most where a front of its report was written
+  -- a run is handed out exactly where all was done and it was `sim`, `run` or `load` without `--text` that did it, and besides at most where a front of its report was written
   pub ran_0 : status ≡ 0 → is_some ran ≡ makes_run (built_command_of words)
   pub ran_5 : status ≡ 5 → is_some ran ≡ true → IsCutOff words old new ended before after ran
   pub no_run : (status ≡ 0 → ⊥) → (status ≡ 5 → ⊥) → ran ≡ None

@@ -1,5 +1,5 @@
 -- What is built of the commands, by their words.
-use Rattle.std.specs.Prelude.{ℕ, ◌^◌, ◌&&◌, Bool, true, false, nat_lt, nat_le, if◌then◌else◌, List, length, Option, Some, None, option_and_then}
+use Rattle.std.specs.Prelude.{ℕ, ◌^◌, ◌&&◌, ◌||◌, not, Bool, true, false, nat_lt, nat_le, if◌then◌else◌, List, length, Option, Some, None, option_and_then}
 use Rattle.std.specs.List.{list_all}
 use Rattle.cert_sched.specs.declared.script.ScriptWord.{ScriptWord}
 use Rattle.command_words.specs.declared.command.Command.{Command}
@@ -8,18 +8,18 @@ use Rattle.command_words.specs.Command.{command_of}
 use Rattle.cert_sched.specs.Built.{is_built_word}
 use Rattle.workload.specs.Ring.{is_size}
 
--- a script is built that has at most one word, by which a cluster is lost at a place of the log or before one of its kernel steps
+-- a script is built that has at most one word, by which a cluster is lost at a place of the log, before one of its kernel steps, or by its page disk
 abbrev pub is_built_script : List ScriptWord → Bool
 is_built_script script = nat_le (length script) 1 && list_all is_built_word script
 
--- built are `sim` and `run` with such a script, `load` where it only prints its workload, and the others
+-- built are `sim`, `run` and `load` with such a script, `load` where it only prints its workload, and the others
 abbrev pub is_built : Command → Bool
 is_built commands.Plain = true
 is_built commands.Check = true
 is_built commands.Asm = true
 is_built (commands.Sim pick log script) = is_built_script script
 is_built (commands.Run log script) = is_built_script script
-is_built (commands.Load size only script) = only
+is_built (commands.Load size only script) = only || is_built_script script
 
 abbrev pub built : Command → Option Command
 built command = if is_built command then Some command else None
@@ -39,11 +39,12 @@ abbrev pub is_ready : Option Command → Bool
 is_ready None = true
 is_ready (Some command) = is_built command && keeps_limits command
 
--- the words are those of `sim` or `run`
+-- the words are those of `sim`, `run`, or `load` where it does not only print its workload
 abbrev pub makes_run : Option Command → Bool
 makes_run None = false
 makes_run (Some (commands.Sim pick log script)) = true
 makes_run (Some (commands.Run log script)) = true
+makes_run (Some (commands.Load size only script)) = not only
 makes_run (Some _) = false
 
 -- the words are a command that reads the input: any but `load`
@@ -52,8 +53,9 @@ reads_input None = false
 reads_input (Some (commands.Load size only script)) = false
 reads_input (Some _) = true
 
--- the words are those of `run`
+-- the words are those of `run`, or of `load` where it does not only print its workload
 abbrev pub needs_threads : Option Command → Bool
 needs_threads None = false
 needs_threads (Some (commands.Run log script)) = true
+needs_threads (Some (commands.Load size only script)) = not only
 needs_threads (Some _) = false

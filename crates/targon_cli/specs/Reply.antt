@@ -27,6 +27,7 @@ use Rattle.workload.specs.Ring.{workload}
 use Rattle.targon_cli.specs.Sections.{system_part, section_part, items_of_lines}
 use Rattle.report_text.specs.Report.{plain_report}
 use Rattle.report_text.specs.declared.run.Run.{Run}
+use Rattle.report_text.specs.Load.{load_report}
 use Rattle.report_text.specs.RunReport.{report_of, log_text_of}
 use Rattle.cluster_run.specs.declared.life.Ran.{Ran}
 use Rattle.cluster_run.specs.Completed.{IsCompleted}
@@ -81,36 +82,40 @@ abbrev pub run_text : (log : Bool) → Kernel → Run → List ℕ
 run_text false kernel r = report_of kernel r
 run_text true kernel r = report_of kernel r ++ log_text_of r.log
 
--- the text tells of the run, and of the kernel to which its schedule leads
-abbrev pub IsTextOf : System → (log : Bool) → Run → (text : List ℕ) → Type 0
-IsTextOf system log r text = (kernel : Kernel) × (plain_run system r.items ≡ Some kernel) × (text ≡ run_text log kernel r)
+-- of the run of a workload its line alone
+abbrev pub load_text : (size : ℕ) → Kernel → Run → List ℕ
+load_text size kernel r = load_report size kernel
+
+-- the text tells, by what is printed of both, of the run and of the kernel to which its schedule leads
+abbrev pub IsTextOf : System → (print : Kernel → Run → List ℕ) → Run → (text : List ℕ) → Type 0
+IsTextOf system print r text = (kernel : Kernel) × (plain_run system r.items ≡ Some kernel) × (text ≡ print kernel r)
 
 -- The run is what its system and its script allow, and came to its end; its clusters did its work. Its schedule leads to a kernel in which nothing
 -- can move, and of this kernel and of the run the text tells.
-pub record TellsOf (system : System) (script : List ScriptWord) (log : Bool) (text : List ℕ) (ran : Ran) : Type 0 where
+pub record TellsOf (system : System) (script : List ScriptWord) (print : Kernel → Run → List ℕ) (text : List ℕ) (ran : Ran) : Type 0 where
   pub completed : IsCompleted system script ran
   pub kernel : Kernel
   pub scheduled : plain_run system (ran.run).items ≡ Some kernel
   pub still : is_still kernel ≡ true
-  pub told : text ≡ run_text log kernel ran.run
+  pub told : text ≡ print kernel ran.run
 
-abbrev pub TellsOfRun : System → List ScriptWord → (log : Bool) → (status : ℕ) → (text : List ℕ) → Option Ran → Type 0
-TellsOfRun system script log status text None = ⊥
-TellsOfRun system script log status text (Some ran) = (status ≡ 0) × TellsOf system script log text ran
+abbrev pub TellsOfRun : System → List ScriptWord → (print : Kernel → Run → List ℕ) → (status : ℕ) → (text : List ℕ) → Option Ran → Type 0
+TellsOfRun system script print status text None = ⊥
+TellsOfRun system script print status text (Some ran) = (status ≡ 0) × TellsOf system script print text ran
 
 -- the system has the cluster of each word of the script
 abbrev pub has_clusters_of : List ScriptWord → System → Bool
 has_clusters_of script system = are_allowed system.clusters system.pager script
 
 -- what a system makes of its script: a run that is told of, on one thread or on many; or usage, where it lacks a cluster of the script
-abbrev pub MakesByScript : (has : Bool) → System → List ScriptWord → (log : Bool) → (status : ℕ) → (text : List ℕ) → Option Ran → Type 0
-MakesByScript true system script log status text ran = TellsOfRun system script log status text ran
-MakesByScript false system script log status text ran = (status ≡ 1) × (text ≡ usage_line) × (ran ≡ None)
+abbrev pub MakesByScript : (has : Bool) → System → List ScriptWord → (print : Kernel → Run → List ℕ) → (status : ℕ) → (text : List ℕ) → Option Ran → Type 0
+MakesByScript true system script print status text ran = TellsOfRun system script print status text ran
+MakesByScript false system script print status text ran = (status ≡ 1) × (text ≡ usage_line) × (ran ≡ None)
 
 -- the text is asked first, and then the script
-abbrev pub MakesRun : Answer → List ScriptWord → (log : Bool) → (status : ℕ) → (text : List ℕ) → Option Ran → Type 0
-MakesRun (Ok system) script log status text ran = MakesByScript (has_clusters_of script system) system script log status text ran
-MakesRun (Err refused) script log status text ran = (status ≡ 2) × (text ≡ system_line refused.0 (system_rule refused.1)) × (ran ≡ None)
+abbrev pub MakesRun : Answer → List ScriptWord → (print : Kernel → Run → List ℕ) → (status : ℕ) → (text : List ℕ) → Option Ran → Type 0
+MakesRun (Ok system) script print status text ran = MakesByScript (has_clusters_of script system) system script print status text ran
+MakesRun (Err refused) script print status text ran = (status ≡ 2) × (text ≡ system_line refused.0 (system_rule refused.1)) × (ran ≡ None)
 
 -- a text was read as its system, which has the clusters of the script; or what is answered where there is no such system
 abbrev pub IsRead : Answer → List ScriptWord → Read → Type 0
@@ -126,18 +131,18 @@ abbrev pub PrintsByScript : (has : Bool) → System → (status : ℕ) → (text
 PrintsByScript true system status text = (status ≡ 0) × (text ≡ system_text system)
 PrintsByScript false system status text = (status ≡ 1) × (text ≡ usage_line)
 
--- `load` prints its workload where it is only to print it; where it is to run it, it makes nothing yet
-abbrev pub MakesLoad : (only : Bool) → System → List ScriptWord → (status : ℕ) → (text : List ℕ) → Option Ran → Type 0
-MakesLoad true system script status text ran = PrintsByScript (has_clusters_of script system) system status text × (ran ≡ None)
-MakesLoad false system script status text ran = ⊥
+-- `load` prints its workload where it is only to print it, and runs it where it is not
+abbrev pub MakesLoad : (only : Bool) → (size : ℕ) → List ScriptWord → (status : ℕ) → (text : List ℕ) → Option Ran → Type 0
+MakesLoad true size script status text ran = PrintsByScript (has_clusters_of script (workload size)) (workload size) status text × (ran ≡ None)
+MakesLoad false size script status text ran = MakesByScript (has_clusters_of script (workload size)) (workload size) script (load_text size) status text ran
 
 -- ---- any command
 
--- only `sim` and `run` make a run
+-- only `sim`, `run` and `load` where it does not only print make a run
 abbrev pub Makes : Command → (bytes : List ℕ) → (status : ℕ) → (text : List ℕ) → Option Ran → Type 0
 Makes commands.Plain bytes status text ran = MakesPlain (system_of_lines (system_part (lines_of bytes))) (section_part (lines_of bytes)) status text × (ran ≡ None)
 Makes commands.Check bytes status text ran = MakesCheck (system_reading bytes) status text × (ran ≡ None)
 Makes commands.Asm bytes status text ran = MakesAsm (asm_reading bytes) status text × (ran ≡ None)
-Makes (commands.Sim pick log script) bytes status text ran = MakesRun (system_reading bytes) script log status text ran
-Makes (commands.Run log script) bytes status text ran = MakesRun (system_reading bytes) script log status text ran
-Makes (commands.Load size only script) bytes status text ran = MakesLoad only (workload size) script status text ran
+Makes (commands.Sim pick log script) bytes status text ran = MakesRun (system_reading bytes) script (run_text log) status text ran
+Makes (commands.Run log script) bytes status text ran = MakesRun (system_reading bytes) script (run_text log) status text ran
+Makes (commands.Load size only script) bytes status text ran = MakesLoad only size script status text ran

@@ -10,8 +10,8 @@ use std::alloc::Global;
 use t32_base::lists::Text;
 use t32_base::streams::NoMemory;
 
-/// The command that the words are, where it is built: `load` with `--text` alone yet, and `sim` and `run` with at most
-/// one script word, which loses a cluster at a place of the log, before one of its kernel steps, or by a call of its
+/// The command that the words are, where it is built: `sim`, `run` and `load` without `--text` with at most one script
+/// word, which loses a cluster at a place of the log, before one of its kernel steps, or by a call of its
 /// page disk.
 pub fn built_command(alloc: Global, words: &[Text]) -> Result<Option<Command>, NoMemory>
     ensures command { IfOk result (λ c. c ≡ built_command_of words.now) }
@@ -41,7 +41,7 @@ fn is_built(command: &Command) -> bool
         Command::Sim { script, .. } | Command::Run { script, .. } => {
             is_built_script(script.as_slice())
         }
-        Command::Load { text, .. } => *text,
+        Command::Load { text, script, .. } => *text || is_built_script(script.as_slice()),
     }
 }
 

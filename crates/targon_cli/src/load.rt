@@ -1,22 +1,36 @@
-//! What `load` makes of its size: the text of its workload.
+//! What `load` makes of its size: the text of its workload, or the run of it.
 ghost use Rattle.std.specs.Prelude.{◌≡◌, IfOk, None, true};
+ghost use Rattle.cert_sched.specs.Built.{BuiltMayFollow};
+ghost use Rattle.cert_sched.specs.Legal.{IsLegalBy};
+ghost use Rattle.cert_sched.specs.Schedule.{schedule_of};
+ghost use Rattle.sys_text.specs.Valid.{is_system};
+ghost use Rattle.targon_cli.specs.Built.{is_built_script};
 ghost use Rattle.targon_cli.specs.Explained.{ExplainsLoad};
-ghost use Rattle.targon_cli.specs.Reply.{MakesLoad};
-ghost use Rattle.workload.specs.Ring.{is_size, workload as workload_of};
+ghost use Rattle.targon_cli.specs.Reply.{IsTextOf, MakesLoad, load_text};
+ghost use Rattle.workload.specs.Ring.{is_size};
 
 use crate::reply::{DONE, Reply, no_cluster};
+use crate::runs::{Read, with_clusters};
 use cert_sched::script::Script;
+use cluster_run::life::Ran;
+use cluster_run::running::run;
 use command_words::allowed;
+use report_text::load::load_report;
+use report_text::run::Run;
 use std::alloc::Global;
+use std::sync::Wait;
+use std::thread::Threads;
 use sys_text::printer::system_text;
+use sys_text::system::System;
+use t32_base::gate::Gate;
 use t32_base::streams::NoMemory;
 use workload::workload;
 
 /// Prints the workload of a size in canonical form, where it has the clusters of the script.
 pub fn print_load(alloc: Global, size: u32, script: &Script) -> Result<Reply, NoMemory>
     requires { is_size size ≡ true }
-    ensures makes { IfOk result (λ r. MakesLoad true (workload_of size) script.now r.status r.text None) }
-    ensures why { IfOk result (λ r. ExplainsLoad true (workload_of size) script.now r.status r.why) }
+    ensures makes { IfOk result (λ r. MakesLoad true size script.now r.status r.text None) }
+    ensures why { IfOk result (λ r. ExplainsLoad size script.now r.status r.why) }
 {
     let system = workload(alloc, size)?;
     if allowed(script, system.clusters, system.pager) {
@@ -28,4 +42,45 @@ pub fn print_load(alloc: Global, size: u32, script: &Script) -> Result<Reply, No
         });
     }
     no_cluster(alloc)
+}
+
+/// Runs the workload of a size, each cluster on a thread of its own, and loses them by the script. The reply is one
+/// line that counts what came of it.
+pub fn run_load<R: Threads + Wait + Sync, G: Gate + Sync>(
+    rt: &R,
+    alloc: Global,
+    size: u32,
+    script: &Script,
+    gate: &G,
+) -> Result<(Reply, Option<Ran>), NoMemory>
+    requires size { is_size size ≡ true }
+    requires built { is_built_script script.now ≡ true }
+    ensures makes { IfOk result (λ r. MakesLoad false size script.now r.0.status r.0.text r.1) }
+    ensures why { IfOk result (λ r. ExplainsLoad size script.now r.0.status r.0.why) }
+{
+    let system = workload(alloc, size)?;
+    match with_clusters(alloc, system, script)? {
+        Read::System(system) => {
+            let ran = run(rt, alloc, &system, script.as_slice(), gate)?;
+            let reply = tell(alloc, &system, &ran.run, size)?;
+            Ok((reply, Some(ran)))
+        }
+        Read::Refused(reply) => Ok((reply, None)),
+    }
+}
+
+// The reply that tells of the run of a workload.
+fn tell(alloc: Global, system: &System, run: &Run, size: u32) -> Result<Reply, NoMemory>
+    requires valid { is_system system.now ≡ true }
+    requires legal { IsLegalBy BuiltMayFollow system.now run.now.log }
+    requires items { run.now.items ≡ schedule_of system.now run.now.log }
+    ensures done { IfOk result (λ r. (r.status ≡ 0) × (r.why ≡ None)) }
+    ensures text { IfOk result (λ r. IsTextOf system.now (load_text size) run.now r.text) }
+{
+    let text = load_report(alloc, system, run, size)?;
+    Ok(Reply {
+        status: DONE,
+        text,
+        why: None,
+    })
 }

@@ -9,7 +9,7 @@ ghost use Rattle.sys_text.specs.Valid.{is_system};
 ghost use Rattle.text_parts.specs.Lines.{lines_of};
 ghost use Rattle.targon_cli.specs.Built.{is_built_script};
 ghost use Rattle.targon_cli.specs.Explained.{ExplainsRead, ExplainsRun};
-ghost use Rattle.targon_cli.specs.Reply.{IsRead, IsTextOf, MakesRun};
+ghost use Rattle.targon_cli.specs.Reply.{IsRead, IsTextOf, MakesRun, run_text as run_text_of};
 
 use crate::reply::{DONE, Reply, no_cluster, refused_system};
 use cert_sched::script::Script;
@@ -39,7 +39,7 @@ pub fn simulate(
 ) -> Result<(Reply, Option<Ran>), NoMemory>
     requires seed { pick < 2 ^ 31 }
     requires built { is_built_script script.now ≡ true }
-    ensures makes { IfOk result (λ r. MakesRun (system_reading bytes.now) script.now log r.0.status r.0.text r.1) }
+    ensures makes { IfOk result (λ r. MakesRun (system_reading bytes.now) script.now (run_text_of log) r.0.status r.0.text r.1) }
     ensures why { IfOk result (λ r. ExplainsRun (system_reading bytes.now) script.now (lines_of bytes.now) r.0.status r.0.why) }
 {
     match system_in(alloc, bytes, script)? {
@@ -63,7 +63,7 @@ pub fn run_threads<R: Threads + Wait + Sync, G: Gate + Sync>(
     gate: &G,
 ) -> Result<(Reply, Option<Ran>), NoMemory>
     requires { is_built_script script.now ≡ true }
-    ensures makes { IfOk result (λ r. MakesRun (system_reading bytes.now) script.now log r.0.status r.0.text r.1) }
+    ensures makes { IfOk result (λ r. MakesRun (system_reading bytes.now) script.now (run_text_of log) r.0.status r.0.text r.1) }
     ensures why { IfOk result (λ r. ExplainsRun (system_reading bytes.now) script.now (lines_of bytes.now) r.0.status r.0.why) }
 {
     match system_in(alloc, bytes, script)? {
@@ -97,8 +97,8 @@ fn system_in(alloc: Global, bytes: &[u8], script: &Script) -> Result<Read, NoMem
     }
 }
 
-// A system where it has the clusters of the script.
-fn with_clusters(alloc: Global, system: System, script: &Script) -> Result<Read, NoMemory>
+/// A system where it has the clusters of the script, or the reply where it lacks one.
+pub fn with_clusters(alloc: Global, system: System, script: &Script) -> Result<Read, NoMemory>
     requires { is_system system ≡ true }
     ensures read { IfOk result (IsRead (Ok system) script.now) }
     ensures why { IfOk result (λ r. (lines : List (List ℕ)) → ExplainsRead (Ok system) script.now lines r) }
@@ -117,7 +117,7 @@ fn tell(alloc: Global, system: &System, run: &Run, log: bool) -> Result<Reply, N
     requires items { run.now.items ≡ schedule_of system.now run.now.log }
     requires finished { is_finished run.now.log ≡ true }
     ensures done { IfOk result (λ r. (r.status ≡ 0) × (r.why ≡ None)) }
-    ensures text { IfOk result (λ r. IsTextOf system.now log run.now r.text) }
+    ensures text { IfOk result (λ r. IsTextOf system.now (run_text_of log) run.now r.text) }
 {
     let text = run_text(alloc, system, run, log)?;
     Ok(Reply {
@@ -133,7 +133,7 @@ fn run_text(alloc: Global, system: &System, run: &Run, log: bool) -> Result<Text
     requires legal { IsLegalBy BuiltMayFollow system.now run.now.log }
     requires items { run.now.items ≡ schedule_of system.now run.now.log }
     requires finished { is_finished run.now.log ≡ true }
-    ensures { IfOk result (λ text. IsTextOf system.now log run.now text) }
+    ensures { IfOk result (λ text. IsTextOf system.now (run_text_of log) run.now text) }
 {
     let mut text = finished_report(alloc, system, run)?;
     if log {

@@ -1,15 +1,17 @@
 //! The top call: what the program does with its words, its input and its output.
-ghost use Rattle.std.specs.Prelude.{◌≡◌, ◌==◌, None, Option, Some, false, if◌then◌else◌, true, IfErr, IfOk, OnOk, is_some};
-ghost use Rattle.targon_cli.specs.Answer.{Says, AnswersFound, Answers, Answered, HandsOut, IsUnread, ReadsAll, Takes};
+ghost use Rattle.std.specs.Prelude.{Bool, ◌≡◌, ◌==◌, None, Option, Some, false, if◌then◌else◌, true, IfErr, IfOk, OnOk, is_some};
+ghost use Rattle.targon_cli.specs.Answer.{In, Says, AnswersFound, Answers, Answered, HandsOut, IsUnread, ReadsAll, Takes};
 ghost use Rattle.targon_cli.specs.Built.{built_command_of, is_built, is_built_script, is_ready, keeps_limits, needs_threads, reads_input as reads_input_of};
 ghost use Rattle.targon_cli.specs.Explained.{Explained, ExplainsEnd, ExplainsFound, HandsWhy, IsByStatus, TellsWhy};
 ghost use Rattle.targon_cli.specs.Reply.{usage_line};
+ghost use Rattle.workload.specs.Ring.{is_size};
 ghost use Rattle.refusal_text.specs.Why.{why_of as why_of_status};
 ghost use Rattle.refusal_text.specs.declared.why.Why.{Why as AWhy};
 ghost use Rattle.command_words.specs.declared.command.Command.{Command as ACommand};
 
 use crate::built::built_command;
 use crate::input::{Input, read_input};
+use crate::load::run_load;
 use crate::output::say;
 use crate::reply::{Reply, USAGE, carry_out};
 use crate::runs::run_threads;
@@ -35,8 +37,8 @@ const TOO_LONG: u8 = 8;
 /// where a command was carried out, 1 where the words are no command that is built, or name a cluster that the
 /// system lacks, 2 where the command refuses its input, 3 where an item of the schedule cannot be read
 /// or applied, 4 where the input could not be read, 5 where the output could not be written, 6 where memory was
-/// refused and nothing was written, and 8 where the input is longer than is read. After 0 `ran` is the run that `sim` or `run` made, and after 5 the
-/// run whose report was being written; else it is none. For `run` each cluster has a thread, which calls the
+/// refused and nothing was written, and 8 where the input is longer than is read. After 0 `ran` is the run that `sim`, `run` or `load` made, and after 5 the
+/// run whose report was being written; else it is none. For `run` and `load` each cluster has a thread, which calls the
 /// gate before it tries to send; it may wait, so that no return is promised.
 pub fn targon<R: Threads + Wait + Sync, S: Source, K: Sink, G: Gate + Sync>(
     rt: &R,
@@ -205,7 +207,7 @@ fn answer<S: Source, K: Sink>(
     }
 }
 
-// What a command answers, by a thread for each cluster where it is `run`.
+// What a command answers, by a thread for each cluster where it is `run`, or `load` that does not only print.
 fn answer_any<R: Threads + Wait + Sync, S: Source, K: Sink, G: Gate + Sync>(
     rt: &R,
     alloc: Global,
@@ -231,6 +233,11 @@ fn answer_any<R: Threads + Wait + Sync, S: Source, K: Sink, G: Gate + Sync>(
         Command::Run { log, script } => {
             answer_run(rt, alloc, log, &script, input, output, gate, ran, why)
         }
+        Command::Load {
+            size,
+            text: false,
+            script,
+        } => answer_load(rt, alloc, size, &script, output, gate, ran, why),
         command => answer(alloc, command, input, output, ran, why),
     }
 }
@@ -280,6 +287,29 @@ fn answer_run<R: Threads + Wait + Sync, S: Source, K: Sink, G: Gate + Sync>(
             status
         }
     }
+}
+
+// What `load` answers where it runs its workload. It reads no input.
+fn answer_load<R: Threads + Wait + Sync, K: Sink, G: Gate + Sync>(
+    rt: &R,
+    alloc: Global,
+    size: u32,
+    script: &Script,
+    output: &mut K,
+    gate: &G,
+    ran: &mut Option<Ran>,
+    why: &mut Option<Why>,
+) -> u8
+    requires size { is_size size ≡ true }
+    requires built { is_built_script script.now ≡ true }
+    requires unran { ran.old ≡ None }
+    ensures answered { (input : In) (ended : Bool) → Answers (ACommand.Load size false script.now) result input input ended
+        (record { holds = K.holds output.old; faults = K.fault_count output.old })
+        (record { holds = K.holds output.new; faults = K.fault_count output.new }) ran.new }
+    ensures explained { (input : In) (ended : Bool) → ExplainsEnd (ACommand.Load size false script.now) result input input ended why.new }
+{
+    let made = run_load(rt, alloc, size, script, gate);
+    hand_out(made, output, ran, why)
 }
 
 // The input that a command reads, all of it, and for `load` nothing; or the status with which the program ends

@@ -9,4 +9,4 @@ pub returns-clause-makes : goal.returns-clause-makes
 returns-clause-makes c =
     let lacks : has_clusters_of c.args.script.now (workload c.args.size) ≡ false =
     sym (ap (λ (s : System). has_clusters_of c.args.script.now s) c.in_ok-system.ensures.exact) ∙ sym c.allowed.ensures ∙ c.if-allowed.false in
-    lacks_makes (workload c.args.size) c.args.script.now c.no_cluster.result lacks c.no_cluster.ensures.makes
+    lacks_makes c.args.size c.args.script.now c.no_cluster.result lacks c.no_cluster.ensures.makes

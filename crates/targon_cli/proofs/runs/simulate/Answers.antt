@@ -5,7 +5,7 @@ use Rattle.cluster_run.specs.Completed.{IsCompleted}
 use Rattle.sys_text.specs.Reading.{reading_of}
 use Rattle.sys_text.specs.declared.system.System.{System}
 use Rattle.text_parts.specs.Lines.{lines_of}
-use Rattle.targon_cli.specs.Reply.{IsTextOf}
+use Rattle.targon_cli.specs.Reply.{IsTextOf, run_text}
 use Rattle.targon_cli.proofs.Endings.{nothing_to_explain}
 use Rattle.targon_cli.proofs.Tales.{read_valid, ran_makes}
 use Rattle.targon_cli.proofs.runs.simulate.Goals as goal
@@ -20,9 +20,9 @@ pub returns-in_ok-reply-in-System-clause-makes : goal.returns-in_ok-reply-in-Sys
 returns-in_ok-reply-in-System-clause-makes c =
     let ran = c.in_ok-ran-in-System.ran in
     let reply = c.in_ok-reply-in-System.reply in
-    ran_makes (reading_of c.args.bytes.now) c.args.script.now c.in-System.system c.args.log reply ran (rw c.in-System.is at c.in_ok-system.ensures.read)
+    ran_makes (reading_of c.args.bytes.now) c.args.script.now c.in-System.system (run_text c.args.log) reply ran (rw c.in-System.is at c.in_ok-system.ensures.read)
     (subst (λ (words : List ScriptWord). IsCompleted (arc_value c.in-System.system) words ran) c.as_slice.ensures c.in_ok-ran-in-System.ensures)
-    c.in_ok-reply-in-System.ensures.done.0 (subst (λ (s : System). IsTextOf s c.args.log ran.run reply.text) c.deref.ensures c.in_ok-reply-in-System.ensures.text)
+    c.in_ok-reply-in-System.ensures.done.0 (subst (λ (s : System). IsTextOf s (run_text c.args.log) ran.run reply.text) c.deref.ensures c.in_ok-reply-in-System.ensures.text)
 
 pub returns-in_ok-reply-in-System-clause-why : goal.returns-in_ok-reply-in-System-clause-why
 returns-in_ok-reply-in-System-clause-why c =
