@@ -1,13 +1,13 @@
-//! Each loss of a talk of two, of a conversation of three and of a ring of four, by `sim`, and losses at random by `run`, where
-//! processes synchronise after each letter that they read, and where they do so seldom. What is wanted stands in the
-//! systems: the talk and the ring have one order alone, and in the conversation the asker hears two answers, in either order.
+//! Each loss of a talk of two, of a conversation of three and of a ring of four, and of processes with children, by `sim`, and losses at
+//! random by `run`, where processes synchronise after each letter that they read, and where they do so seldom. What is wanted stands in
+//! the systems: in the conversation the asker hears two answers, in either order, and all others have one order of letters alone.
 use program_calls::answer;
 use std::alloc::Global;
 use std::sync::Wait;
 use std::test::Fail;
 use std::thread::Threads;
 use test_asserts::same;
-use test_systems::{CONVERSATION, RING, TALK};
+use test_systems::{CHAIN, CONVERSATION, FORKER, RING, SERVER, TALK, TREE};
 
 // What a report of the talk begins with.
 const SAID: &str = "tty 0 2\nx\n\npid 16 exit 0\npid 17 exit 0\n";
@@ -22,21 +22,32 @@ const SECOND_FIRST: &str =
 const ROUND: &str =
     "tty 0 6\nd\nh\nl\n\ntty 1 6\na\ne\ni\n\ntty 2 6\nb\nf\nj\n\ntty 3 6\nc\ng\nk\n\npid 16 exit 0\npid 17 exit 0\npid 18 exit 0\npid 19 exit 0\n";
 
-// A system, how many letters a process of it may read between two synchronisations, what its report begins with, how many
-// clusters it has, and more places and steps than any of them has.
+const ONE_CHILD: &str = "tty 0 2\nc\n\n";
+
+const GENERATIONS: &str = "tty 0 8\na\nb\nc\nd\n\n";
+
+const LEAVES: &str = "tty 0 4\nabcd\n";
+
+const SERVED: &str = "tty 0 0\n\ntty 1 6\nHELLO\n\ntty 2 6\nAGAIN\n\n";
+
+// A system, how many letters a process of it may read between two synchronisations, what its report begins with, how many processes follow
+// there, all ended with exit 0, of which some have a pid by where they were born, how many clusters the system has, and more places and
+// steps than any of them has.
 struct Case {
     text: &'static str,
     reads: u32,
     fronts: [&'static str; 2],
+    exits: u32,
     clusters: u32,
     most: u32,
 }
 
-static CASES: [Case; 6] = [
+static CASES: [Case; 12] = [
     Case {
         text: TALK,
         reads: 1,
         fronts: [SAID, SAID],
+        exits: 0,
         clusters: 2,
         most: 24,
     },
@@ -44,6 +55,7 @@ static CASES: [Case; 6] = [
         text: TALK,
         reads: 32,
         fronts: [SAID, SAID],
+        exits: 0,
         clusters: 2,
         most: 18,
     },
@@ -51,6 +63,7 @@ static CASES: [Case; 6] = [
         text: CONVERSATION,
         reads: 1,
         fronts: [FIRST_FIRST, SECOND_FIRST],
+        exits: 0,
         clusters: 3,
         most: 60,
     },
@@ -58,6 +71,7 @@ static CASES: [Case; 6] = [
         text: CONVERSATION,
         reads: 32,
         fronts: [FIRST_FIRST, SECOND_FIRST],
+        exits: 0,
         clusters: 3,
         most: 40,
     },
@@ -65,6 +79,7 @@ static CASES: [Case; 6] = [
         text: RING,
         reads: 1,
         fronts: [ROUND, ROUND],
+        exits: 0,
         clusters: 4,
         most: 130,
     },
@@ -72,8 +87,57 @@ static CASES: [Case; 6] = [
         text: RING,
         reads: 32,
         fronts: [ROUND, ROUND],
+        exits: 0,
         clusters: 4,
         most: 90,
+    },
+    Case {
+        text: FORKER,
+        reads: 32,
+        fronts: [ONE_CHILD, ONE_CHILD],
+        exits: 2,
+        clusters: 2,
+        most: 24,
+    },
+    Case {
+        text: CHAIN,
+        reads: 32,
+        fronts: [GENERATIONS, GENERATIONS],
+        exits: 4,
+        clusters: 3,
+        most: 60,
+    },
+    Case {
+        text: TREE,
+        reads: 1,
+        fronts: [LEAVES, LEAVES],
+        exits: 7,
+        clusters: 2,
+        most: 160,
+    },
+    Case {
+        text: TREE,
+        reads: 32,
+        fronts: [LEAVES, LEAVES],
+        exits: 7,
+        clusters: 2,
+        most: 100,
+    },
+    Case {
+        text: SERVER,
+        reads: 1,
+        fronts: [SERVED, SERVED],
+        exits: 5,
+        clusters: 3,
+        most: 100,
+    },
+    Case {
+        text: SERVER,
+        reads: 32,
+        fronts: [SERVED, SERVED],
+        exits: 5,
+        clusters: 3,
+        most: 60,
     },
 ];
 
@@ -92,12 +156,23 @@ fn system(alloc: Global, case: &Case) -> Result<Vec<u8>, Fail> {
     Ok(text)
 }
 
-// The part of a report behind a front.
-fn behind<'a>(report: &'a [u8], fronts: &[&str; 2]) -> Option<&'a [u8]> {
-    match report.strip_prefix(fronts[0].as_bytes()) {
-        Some(rest) => Some(rest),
-        None => report.strip_prefix(fronts[1].as_bytes()),
+// The part of a report behind a front and so many processes that ended with exit 0, where that begins with the losses.
+fn behind<'a>(report: &'a [u8], fronts: &[&str; 2], exits: u32) -> Option<&'a [u8]> {
+    let mut rest = match report.strip_prefix(fronts[0].as_bytes()) {
+        Some(rest) => rest,
+        None => report.strip_prefix(fronts[1].as_bytes())?,
+    };
+    for _ in 0..exits {
+        rest = behind_exit(rest)?;
     }
+    if rest.starts_with(b"crash ") { Some(rest) } else { None }
+}
+
+// The part behind a first line that tells of a process which ended with exit 0.
+fn behind_exit(report: &[u8]) -> Option<&[u8]> {
+    let number = report.strip_prefix(b"pid ".as_slice())?;
+    let digits = number.iter().position(|b| !b.is_ascii_digit())?;
+    number.get(digits..)?.strip_prefix(b" exit 0\n".as_slice())
 }
 
 // The schedule of a report, which begins with the line `crash`.
@@ -114,10 +189,21 @@ fn assert_lost<R: AllocGlobal + Threads + Wait + Sync>(
     line: &[u8],
     case: &Case,
 ) -> Result<(), Fail> {
-    let mut text = system(rt.alloc(), case)?;
+    let text = system(rt.alloc(), case)?;
+    assert_run(rt, line, text, &case.fronts, case.exits)
+}
+
+// The same of a text, by the fronts of its report and how many processes that ended with exit 0 follow.
+fn assert_run<R: AllocGlobal + Threads + Wait + Sync>(
+    rt: &R,
+    line: &[u8],
+    mut text: Vec<u8>,
+    fronts: &[&str; 2],
+    exits: u32,
+) -> Result<(), Fail> {
     let (status, report) = answer(rt, line, text.as_slice())?;
     same("the status", &status, &0)?;
-    let Some(rest) = behind(report.as_slice(), &case.fronts) else {
+    let Some(rest) = behind(report.as_slice(), fronts, exits) else {
         return Err(Fail::new("another front"));
     };
     let Some(schedule) = schedule_in(rest) else {
@@ -183,9 +269,9 @@ fn a_loss_by_each_disk_call(rt: HostRuntime) -> Result<(), Fail> {
 #[test]
 fn losses_at_random_on_threads(rt: HostRuntime) -> Result<(), Fail> {
     let mut seed: u32 = 1;
-    for round in 0..100 {
+    for round in 0..200 {
         seed = seed.wrapping_mul(1103515245).wrapping_add(12345);
-        let case = &CASES[round % 6];
+        let case = &CASES[round % 12];
         let k = (seed >> 16) % case.clusters;
         let n = (seed >> 8) % case.most;
         let line = match (seed >> 6) & 3 {
@@ -194,6 +280,27 @@ fn losses_at_random_on_threads(rt: HostRuntime) -> Result<(), Fail> {
             _ => format!(in rt.alloc(); "run crash:{k}@step:{n}")?,
         };
         assert_lost(&rt, line.as_bytes(), case)?;
+    }
+    Ok(())
+}
+
+const DOTS: &str = "tty 0 7\n.......\n";
+
+static LOADS: [&[u8]; 6] = [
+    b"sim",
+    b"sim --pick 1",
+    b"sim crash:0@bus:40",
+    b"sim crash:1@bus:100",
+    b"sim crash:2@bus:200",
+    b"sim crash:3@step:300",
+];
+
+#[test]
+fn the_workload_that_is_printed_runs_through_losses(rt: HostRuntime) -> Result<(), Fail> {
+    let (_, text) = answer(&rt, b"load 7 --text", b"")?;
+    for line in LOADS {
+        let copy = text.as_slice().to_vec(rt.alloc())?;
+        assert_run(&rt, line, copy, &[DOTS, DOTS], 31)?;
     }
     Ok(())
 }

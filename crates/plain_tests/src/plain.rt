@@ -4,7 +4,7 @@ use std::sync::Wait;
 use std::test::Fail;
 use std::thread::Threads;
 use test_systems::{
-    BAD, CHANNEL, CHANNEL_SCHEDULE, COMMENTED, HI, LINKED, MISSING, NO_STEPS, PAIR, SPIN,
+    BAD, CHANNEL, CHANNEL_SCHEDULE, COMMENTED, FORKER, HI, LINKED, MISSING, NO_STEPS, PAIR, SPIN,
     TOO_MANY_STEPS, WAIT, WHOLE,
 };
 
@@ -76,6 +76,39 @@ static SCHEDULES: [(&str, u8, &str); 7] = [
 fn a_schedule_behind_the_text_is_followed(rt: HostRuntime) -> Result<(), Fail> {
     for (schedule, status, written) in SCHEDULES {
         assert_scheduled(&rt, HI, schedule, status, written)?;
+    }
+    Ok(())
+}
+
+const FORKED: &str = "tty 0 2\nc\n\npid 16 exit 0\npid 32 exit 0\n";
+
+const BORN: &str = "tty 0 0\n\npid 16 running\npid 32 running\n";
+
+const BORN_ELSEWHERE: &str = "tty 0 0\n\npid 16 running\npid 33 running\n";
+
+// A fork is an item of its own, and its child gets any pid that no process has. It is refused where the process is not there or does not stand
+// before a fork, as once its children are all born.
+static FORKS: [(&str, u8, &str); 10] = [
+    ("", 0, FORKED),
+    (
+        "schedule 7\nrun 16 1\nfork 16 32\nrun 32 7\nrun 16 5\nrun 32 4\nrun 32 1\nrun 16 1\n",
+        0,
+        FORKED,
+    ),
+    ("schedule 2\nrun 16 1\nfork 16 32\n", 0, BORN),
+    ("schedule 2\nrun 16 1\nfork 16 33\n", 0, BORN_ELSEWHERE),
+    ("schedule 2\nrun 16 1\nfork 16 16\n", 3, "t32: schedule item 1\n"),
+    ("schedule 2\nrun 16 1\nfork 17 32\n", 3, "t32: schedule item 1\n"),
+    ("schedule 1\nfork 16 32\n", 3, "t32: schedule item 0\n"),
+    ("schedule 1\nrun 16 2\n", 3, "t32: schedule item 0\n"),
+    ("schedule 3\nrun 16 1\nfork 16 32\nfork 16 48\n", 3, "t32: schedule item 2\n"),
+    ("schedule 3\nrun 16 1\nfork 16 32\nfork 32 48\n", 3, "t32: schedule item 2\n"),
+];
+
+#[test]
+fn a_schedule_says_where_a_process_forks(rt: HostRuntime) -> Result<(), Fail> {
+    for (schedule, status, written) in FORKS {
+        assert_scheduled(&rt, FORKER, schedule, status, written)?;
     }
     Ok(())
 }

@@ -47,7 +47,7 @@ fn a_long_input_is_refused(rt: HostRuntime) -> Result<(), Fail> {
 }
 
 // The words are read as `command_words` reads them; here are those that show it, with the status.
-static WORDS: [(&[u8], u8); 26] = [
+static WORDS: [(&[u8], u8); 25] = [
     (b"", 1),
     (b"help", 1),
     (b"Plain", 1),
@@ -73,7 +73,6 @@ static WORDS: [(&[u8], u8); 26] = [
     (b"sim disk:0@0", 0),
     (b"sim disk:0", 1),
     (b"run return:0@bus:0", 1),
-    (b"load 7", 1),
 ];
 
 // The status, whether the program wrote how it is used, whether a run was handed out, and whether input was asked for.
@@ -107,7 +106,7 @@ fn words_are_a_command_or_usage(rt: HostRuntime) -> Result<(), Fail> {
 }
 
 // The same of `load`, which prints its workload where it is only to print it, and has the clusters of its script.
-static LOADS: [(&[u8], u8); 14] = [
+static LOADS: [(&[u8], u8); 17] = [
     (b"load 7 --text", 0),
     (b"load --text 0000000007", 0),
     (b"load 1000 --text --", 0),
@@ -122,6 +121,9 @@ static LOADS: [(&[u8], u8); 14] = [
     (b"load 1001 --text", 1),
     (b"load 7 --text --text", 1),
     (b"load -- 7 --text", 1),
+    (b"load 7 crash:4@bus:1", 1),
+    (b"load 7 crash:0@bus:1 disk:0@0", 1),
+    (b"load 1001", 1),
 ];
 
 // It makes no run, and asks for no input.
@@ -130,6 +132,36 @@ fn load_prints_its_workload_or_is_usage(rt: HostRuntime) -> Result<(), Fail> {
     for row in LOADS.iter() {
         let wanted = (row.1, row.1 == 1, false, false);
         same("the line", &(row.0, used(&rt, row.0)?), &(row.0, wanted))?;
+    }
+    Ok(())
+}
+
+// The token goes round so often, and all 31 processes end, whatever is lost.
+static LOAD_RUNS: [(&[u8], &str); 5] = [
+    (b"load 7", "load 7 tty 7 exits 31 other 0\n"),
+    (b"load 7 crash:2@bus:100", "load 7 tty 7 exits 31 other 0\n"),
+    (b"load 7 -- crash:0@step:300", "load 7 tty 7 exits 31 other 0\n"),
+    (b"load 0000000001 disk:0@3", "load 1 tty 1 exits 31 other 0\n"),
+    (b"load 1000", "load 1000 tty 1000 exits 31 other 0\n"),
+];
+
+// What the program answers to the words over an empty input, whether a run was handed out, and whether input was asked for.
+fn loaded<R: AllocGlobal + Threads + Wait + Sync>(
+    rt: &R,
+    line: &[u8],
+) -> Result<(u8, Vec<u8>, bool, bool), NoMemory> {
+    let mut input = source(rt.alloc(), b"")?;
+    let mut output = sink(rt.alloc())?;
+    let (status, ran) = call(rt, line, &mut input, &mut output)?;
+    Ok((status, output.bytes, ran, input.calls != 0))
+}
+
+#[test]
+fn load_runs_its_workload(rt: HostRuntime) -> Result<(), Fail> {
+    for (line, written) in LOAD_RUNS {
+        let (status, bytes, ran, asked) = loaded(&rt, line)?;
+        let shown = (status, bytes.as_slice(), ran, asked);
+        same("the answer", &shown, &(0, written.as_bytes(), true, false))?;
     }
     Ok(())
 }

@@ -2,7 +2,7 @@
 //! are those of the run without a loss.
 use program_calls::assert_answer;
 use std::test::Fail;
-use test_systems::{CHANNEL, CUT, HI, TWO};
+use test_systems::{CHANNEL, CUT, FORKER, HI, TWO};
 
 // What stands before the lines of the losses and of the bus, and what stands behind them.
 type Around = (&'static str, &'static str);
@@ -56,7 +56,16 @@ const HI_BACKUP: &str = "crash 1 at 1\nbus 4 syncs 0 withheld 0\n";
 
 const HI_BACKUP_FIRST: &str = "crash 1 at 0\nbus 4 syncs 0 withheld 0\n";
 
-static LOSSES: [(&[u8], &str, Around, &str); 33] = [
+const FORKER_AROUND: Around = (
+    "tty 0 2\nc\n\npid 16 exit 0\npid 32 exit 0\n",
+    "schedule 7\nrun 16 1\nfork 16 32\nrun 32 7\nrun 16 5\nrun 32 4\nrun 32 1\nrun 16 1\n",
+);
+
+const FORKER_NONE: &str = "crash none\nbus 9 syncs 1 withheld 0\n";
+
+const FORKER_AT_2: &str = "crash 0 at 2\nbus 12 syncs 1 withheld 2\n";
+
+static LOSSES: [(&[u8], &str, Around, &str); 35] = [
     (b"sim", TWO, TWO_AROUND, TWO_NONE),
     (b"sim crash:0@bus:0", TWO, TWO_AROUND, TWO_AT_0),
     (b"sim crash:0@bus:1", TWO, TWO_AROUND, TWO_AT_1),
@@ -93,6 +102,9 @@ static LOSSES: [(&[u8], &str, Around, &str); 33] = [
     (b"sim crash:0@bus:3", CHANNEL, CHANNEL_LATE, CHANNEL_AT_3),
     (b"sim crash:0@bus:4", CHANNEL, CHANNEL_AROUND, CHANNEL_AT_4),
     (b"sim crash:0@bus:6", CHANNEL, CHANNEL_AROUND, CHANNEL_AT_6),
+    // A child was born and has written, and was never synchronised: its birth and its letter are withheld.
+    (b"sim", FORKER, FORKER_AROUND, FORKER_NONE),
+    (b"sim crash:0@bus:2", FORKER, FORKER_AROUND, FORKER_AT_2),
 ];
 
 #[test]

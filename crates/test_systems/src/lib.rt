@@ -74,6 +74,23 @@ pub const TWO_HI: &str =
 pub const RING: &str =
     "clusters 4\npager 0 1\nsyncreads 32\nsyncsteps 4096\nimage first 1\nwords 00300493 00200893 00100513 000105b7 07458593 00400613 00000073 00300893\nwords 00200513 000105b7 07458593 00400613 00000073 00200893 00000513 000105b7\nwords 07458593 00200613 00000073 000102b7 07428293 00028303 00130313 00628023\nwords fff48493 fa0490e3 00100893 00000513 00000073 20200a61\nend\nimage next 1\nwords 00300493 00300893 00100513 000105b7 07458593 00400613 00000073 00200893\nwords 00000513 000105b7 07458593 00200613 00000073 000102b7 07428293 00028303\nwords 00130313 00628023 00200893 00200513 000105b7 07458593 00400613 00000073\nwords fff48493 fa0490e3 00100893 00000513 00000073 20200a61\nend\nroot 0 1 quarter first 1000 0 0\nroot 1 2 quarter next 1000 0 1\nroot 2 3 quarter next 1000 0 2\nroot 3 0 quarter next 1000 0 3\nchan 1 2\nchan 2 3\nchan 3 4\nchan 4 1\n";
 
+/// Forks; the child writes two bytes to the terminal, and both exit.
+pub const FORKER: &str =
+    "clusters 2\npager 0 1\nsyncreads 32\nsyncsteps 4096\nasm forker 1\nli a7, 5\necall\nbeq a0, x0, kid\nli a7, 1\nli a0, 0\necall\nkid:\nli a7, 2\nli a0, 0\nla a1, m\nli a2, 2\necall\nli a7, 1\nli a0, 0\necall\nm: .ascii \"c\\n\"\nend\nroot 0 1 quarter forker 1000 1 0\n";
+
+/// Four generations: each writes its letter in a line to the terminal, forks the next one, and exits at once.
+pub const CHAIN: &str =
+    "clusters 3\npager 0 1\nsyncreads 32\nsyncsteps 4096\nasm chain 1\nli s0, 4\nli s1, 97\nagain:\nla a1, m\nsb s1, 0(a1)\nli a7, 2\nli a0, 0\nli a2, 2\necall\naddi s0, s0, -1\nbeq s0, zero, over\nli a7, 5\necall\nbne a0, zero, over\naddi s1, s1, 1\nj again\nover:\nli a7, 1\nli a0, 0\necall\nm: .ascii \"x\\n\"\nend\nroot 2 0 quarter chain 1000 7 0\n";
+
+/// Three generations: each but the last forks two children and passes on what they say, first the elder. The last ones say a letter each, and the
+/// root writes what it hears to the terminal.
+pub const TREE: &str =
+    "clusters 2\npager 0 1\nsyncreads 32\nsyncsteps 4096\nasm tree 1\nli s0, 2\nmain:\nbeq s0, zero, leaf\nli s2, 2\nbear:\nli a7, 5\necall\nbeq a0, zero, child\nmv s3, s4\nmv s4, a1\naddi s2, s2, -1\nbne s2, zero, bear\nli s2, 2\nhear:\nli a7, 3\nmv a0, s3\nla a1, m\nli a2, 1\necall\nbeq a0, zero, next\nli a7, 2\nmv a0, s5\nla a1, m\nli a2, 1\necall\nj hear\nnext:\nmv s3, s4\naddi s2, s2, -1\nbne s2, zero, hear\nover:\nli a7, 1\nli a0, 0\necall\nchild:\nli s5, 1\naddi s0, s0, -1\nadd s1, s1, s1\nadd s1, s1, s2\nj main\nleaf:\nli t0, 103\nsub t0, t0, s1\nla a1, m\nsb t0, 0(a1)\nli a7, 2\nli a0, 1\nli a2, 1\necall\nj over\nm: .word 0\nend\nroot 0 1 quarter tree 1000 13 0\n";
+
+/// The server of the examples, which forks a child for each of two clients.
+pub const SERVER: &str =
+    "clusters 3\npager 0 1\nsyncreads 32\nsyncsteps 4096\nasm server 1\nli s0, 1\naccept:\nli a7, 3\nmv a0, s0\nla a1, word\nli a2, 16\necall\nmv s1, a0\nli a7, 5\necall\nbeq a0, zero, child\nla t0, ends\nadd t0, t0, s0\nsb a1, 0(t0)\naddi s0, s0, 1\nli t1, 3\nblt s0, t1, accept\nli s0, 1\nanswer:\nla t0, ends\nadd t0, t0, s0\nlb a0, 0(t0)\nli a7, 3\nla a1, word\nli a2, 16\necall\nmv a2, a0\nli a7, 2\nmv a0, s0\nla a1, word\necall\naddi s0, s0, 1\nli t1, 3\nblt s0, t1, answer\nli a7, 1\nli a0, 0\necall\nchild:\nla t0, word\naddi t1, s1, -1\ncapital:\nlb t2, 0(t0)\naddi t2, t2, -32\nsb t2, 0(t0)\naddi t0, t0, 1\naddi t1, t1, -1\nbne t1, zero, capital\nli a7, 2\nli a0, 1\nla a1, word\nmv a2, s1\necall\nli a7, 1\nli a0, 0\necall\nends: .word 0\nword: .ascii \"                \"\nend\nasm hello 1\nli a7, 2\nli a0, 1\nla a1, word\nli a2, 6\necall\nli a7, 3\nli a0, 1\nla a1, word\nli a2, 16\necall\nmv a2, a0\nli a7, 2\nli a0, 0\nla a1, word\necall\nli a7, 1\nli a0, 0\necall\nword: .ascii \"hello\\n          \"\nend\nasm again 1\nli a7, 2\nli a0, 1\nla a1, word\nli a2, 6\necall\nli a7, 3\nli a0, 1\nla a1, word\nli a2, 16\necall\nmv a2, a0\nli a7, 2\nli a0, 0\nla a1, word\necall\nli a7, 1\nli a0, 0\necall\nword: .ascii \"again\\n          \"\nend\nroot 0 1 quarter server 1000 3 0\nroot 1 2 quarter hello 1000 0 1\nroot 2 0 quarter again 1000 0 2\nchan 1 2\nchan 1 3\n";
+
 /// The first system up to its sixth line.
 pub const CUT: &str =
     "clusters 2\npager 0 1\nsyncreads 32\nsyncsteps 4096\nimage hi 1\nwords 00200893 00000513 000105b7 02458593 00300613 00000073 00100893 00000513\n";
