@@ -1,7 +1,8 @@
 //! The processes that the loss of another cluster moves here.
-ghost use Rattle.std.specs.Prelude.{◌≡◌, ◌≤◌, ◌⊎◌, [], IfOk, OnErr, OnOk, is_some, true};
+ghost use Rattle.std.specs.Prelude.{◌≡◌, ◌≤◌, ◌⊎◌, [], filter, IfOk, OnErr, OnOk, is_some, true};
 ghost use Rattle.bus_msg.specs.PlacedAfter.{what};
 ghost use Rattle.backup_records.specs.Records.{are_rising};
+ghost use Rattle.crash_notice.specs.Splitting.{moves_here, stays};
 ghost use Rattle.page_waits.specs.Waiting.{page_count};
 ghost use Rattle.wait_laws.specs.Waits.{first_wait};
 ghost use Rattle.cluster_core.specs.Recovered.{CanWait, left_by, moved_by, with_all_waiting};
@@ -23,6 +24,7 @@ use t32_base::streams::NoMemory;
 /// Takes over, at the loss of another cluster, the processes that it moves to the cluster with a number: each waits for
 /// its pages, or for its parent's fork, beside its record, which leaves the records. No other entry moves any. The placement is the one before the
 /// entry. After want of memory nothing is said of the records, and either all are here that were, or none is.
+#[inline(always)]
 pub fn take_over(
     alloc: Global,
     number: ClusterNo,
@@ -39,13 +41,7 @@ pub fn take_over(
     ensures limits { here.new.limits ≡ here.old.limits }
 {
     match &entry.post.what {
-        What::Crash { k, .. } => {
-            let moved = records.take_moved(alloc, *k, number, before)?;
-            let empty = Residents::none(alloc, here.limits());
-            let stayed = mem::replace(here, empty);
-            *here = begin_waits(alloc, moved, stayed)?;
-            Ok(())
-        }
+        What::Crash { k, .. } => move_here(alloc, number, before, records, here, *k),
         What::Mail { .. } => Ok(()),
         What::Birth { .. } => Ok(()),
         What::Exit { .. } => Ok(()),
@@ -58,6 +54,32 @@ pub fn take_over(
         What::Done { .. } => Ok(()),
         What::Stop => Ok(()),
     }
+}
+
+// The processes that the loss of a cluster moves to the cluster with a number wait here, and their records leave the
+// records. It stands by itself so that no other entry pays for it.
+#[cold]
+#[inline(never)]
+fn move_here(
+    alloc: Global,
+    number: ClusterNo,
+    before: &Placement,
+    records: &mut Records,
+    here: &mut Residents,
+    lost: ClusterNo,
+) -> Result<(), NoMemory>
+    requires { CanWait (filter (moves_here before.now lost number) records.old) here.old.here }
+    ensures records { OnOk result (records.new ≡ filter (stays before.now lost number) records.old) }
+    ensures rising { OnOk result (are_rising (filter (moves_here before.now lost number) records.old) ≡ true) }
+    ensures here { OnOk result (here.new.here ≡ with_all_waiting (filter (moves_here before.now lost number) records.old) here.old.here) }
+    ensures err { OnErr result ((here.new.here ≡ here.old.here) ⊎ (here.new.here ≡ [])) }
+    ensures limits { here.new.limits ≡ here.old.limits }
+{
+    let moved = records.take_moved(alloc, lost, number, before)?;
+    let empty = Residents::none(alloc, here.limits());
+    let stayed = mem::replace(here, empty);
+    *here = begin_waits(alloc, moved, stayed)?;
+    Ok(())
 }
 
 // The processes of these records, which stand by rising pid, wait beside those that are here. After want of
