@@ -4,3 +4,4 @@ mod Told
 mod Outcomes
 mod OutcomeText
 mod LoadText
+mod EndCounts

@@ -1,15 +1,17 @@
 -- What is counted of a kernel for the line of a workload is what is counted of what its log tells.
 use Rattle.std.proofs.Common.{◌≡◌, ℕ, ◌+◌, refl, sym, ◌∙◌, ap, List, [], ◌∷◌, map, Bool, true, not, cond, Option, Some}
-use Rattle.std.specs.Prelude.{count_by, length}
+use Rattle.std.specs.Prelude.{Result, Ok, Err, IfOk, count_by, length}
 use Rattle.std.specs.Option.{option_map_or}
 use Rattle.std.proofs.lemmas.List.Sums.{sum_by-cons}
 use Rattle.t32_base.specs.declared.process.Pid.{Pid}
 use Rattle.t32_base.specs.declared.process.End.{End}
+use Rattle.t32_base.specs.declared.streams.NoMemory.{NoMemory}
 use Rattle.sys_text.specs.declared.system.System.{System}
 use Rattle.sys_text.specs.Valid.{is_system}
 use Rattle.proc_state.specs.State.{ProcState}
 use Rattle.plain_kernel.specs.Kernel.{Kernel, tty_at}
 use Rattle.plain_kernel.specs.Apply.{plain_run}
+use Rattle.plain_kernel.specs.declared.item.Item.{Item}
 use Rattle.bus_msg.specs.declared.entry.Entry.{Entry}
 use Rattle.cert_sched.specs.Schedule.{plain_after, schedule_of}
 use Rattle.cert_sched.specs.Legal.{IsLegalBy}
@@ -47,3 +49,12 @@ finished_load system log size valid legal =
       runs.1,
       counted size runs.0 ∙ ap (outcome_load size) (outcome-is BuiltMayFollow (λ system log e may. may.stands) system log valid legal runs.0 after),
     )
+
+-- so is the line that was made of it
+pub load_told : (system : System) (items : List Item) (log : List Entry) (size : ℕ) (made : Result (List ℕ) NoMemory) → is_system system ≡ true → IsLegalBy BuiltMayFollow system log → items ≡ schedule_of system log
+    → IfOk made (λ text. text ≡ outcome_load size (outcome_of system log))
+    → IfOk made (λ text. (kernel : Kernel) × (plain_run system items ≡ Some kernel) × (text ≡ load_report size kernel))
+load_told system items log size (Ok text) valid legal same is =
+    let told = finished_load system log size valid legal in
+    (told.0, ap (plain_run system) same ∙ told.1, is ∙ sym told.2)
+load_told system items log size (Err e) valid legal same is = tt

@@ -1,12 +1,13 @@
 //! How a run ended, read from its log: what each terminal was sent, and how each process stands.
-ghost use Rattle.std.specs.Prelude.{◌≡◌, ◌++◌, OnOk, IfOk, Some, string_bytes, true};
+ghost use Rattle.std.specs.Prelude.{◌≡◌, ◌++◌, OnOk, IfOk, Some, count_by, length, map, not, string_bytes, true};
+ghost use Rattle.std.specs.Option.{option_map_or};
 ghost use Rattle.std.specs.List.{flat_map, range_with_len};
 ghost use Rattle.std.specs.FinMap.{find};
 ghost use Rattle.std.specs.Ordering.{nat_cmp};
 ghost use Rattle.sys_text.specs.Boot.{roots_of};
 ghost use Rattle.sys_text.specs.Valid.{is_system};
 ghost use Rattle.bus_msg.specs.PlacedAfter.{what as says};
-ghost use Rattle.report_text.specs.Load.{is_exit_0 as is_exit_0_of, outcome_load};
+ghost use Rattle.report_text.specs.Load.{is_exit_0 as is_exit_0_of, load_line as load_line_of, outcome_load};
 ghost use Rattle.report_text.specs.Report.{tty_part};
 ghost use Rattle.report_text.specs.Outcome.{end_part, ends_of as ends_of_roots, none_told, outcome_of as outcome_of_log, outcome_report, standing_text, told_after, ttys_with};
 
@@ -105,12 +106,50 @@ impl Outcome {
     pub fn load_line(&self, alloc: Global, size: u32) -> Result<Text, NoMemory>
         ensures { IfOk result (λ text. text ≡ outcome_load size self.now) }
     {
-        let tty = self.ttys.get(&0).map_or(0, |bytes| bytes.len());
-        let exits = self.ends.values().filter(|end| is_exit_0(**end)).count();
-        let other = self.ends.values().filter(|end| !is_exit_0(**end)).count();
-        let line = format!(in alloc; "load {size} tty {tty} exits {exits} other {other}\n")?;
-        Ok(Bytes::copy_of(alloc, line.as_bytes())?)
+        let tty = bytes_sent(&self.ttys, 0);
+        let (exits, others) = exits_and_others(&self.ends);
+        load_text(alloc, size, tty, exits, others)
     }
+}
+
+// How many bytes a terminal was sent.
+fn bytes_sent(ttys: &BTreeMap<u8, Bytes>, tty: u8) -> usize
+    ensures { result ≡ option_map_or length (find nat_cmp tty ttys.now.entries) 0 }
+{
+    match ttys.get(&tty) {
+        Some(bytes) => bytes.len(),
+        None => 0,
+    }
+}
+
+// How many processes ended with exit 0, and how many did not.
+fn exits_and_others(ends: &BTreeMap<u32, Option<End>>) -> (u64, u64)
+    ensures exits { result.0 ≡ count_by is_exit_0_of (map (λ e. e.1) ends.now.entries) }
+    ensures others { result.1 ≡ count_by (λ end. not (is_exit_0_of end)) (map (λ e. e.1) ends.now.entries) }
+{
+    let mut exits = 0;
+    let mut others = 0;
+    for (_, end) in ends.iter() {
+        if is_exit_0(*end) {
+            exits += 1;
+        } else {
+            others += 1;
+        }
+    }
+    (exits, others)
+}
+
+fn load_text(
+    alloc: Global,
+    size: u32,
+    tty: usize,
+    exits: u64,
+    other: u64,
+) -> Result<Text, NoMemory>
+    ensures { IfOk result (λ text. text ≡ load_line_of size tty exits other) }
+{
+    let line = format!(in alloc; "load {size} tty {tty} exits {exits} other {other}\n")?;
+    Ok(Bytes::copy_of(alloc, line.as_bytes())?)
 }
 
 // Whether a process exited with status 0.

@@ -58,8 +58,8 @@ pub fn run_load<R: Threads + Wait + Sync, G: Gate + Sync>(
     ensures makes { IfOk result (λ r. MakesLoad false size script.now r.0.status r.0.text r.1) }
     ensures why { IfOk result (λ r. ExplainsLoad size script.now r.0.status r.0.why) }
 {
-    let system = workload(alloc, size)?;
-    match with_clusters(alloc, system, script)? {
+    let ring = workload(alloc, size)?;
+    match with_clusters(alloc, ring, script)? {
         Read::System(system) => {
             let ran = run(rt, alloc, &system, script.as_slice(), gate)?;
             let reply = tell(alloc, &system, &ran.run, size)?;

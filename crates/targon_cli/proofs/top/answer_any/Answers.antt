@@ -1,4 +1,4 @@
-use Rattle.std.proofs.Common.{sym}
+use Rattle.std.proofs.Common.{false, sym}
 use Rattle.command_words.specs.declared.command.Command.TheVariants as commands
 use Rattle.targon_cli.proofs.Causes.{answers_same}
 use Rattle.targon_cli.proofs.Endings.{ends_same}
@@ -9,3 +9,9 @@ returns-in-Run-clause-answered g c = answers_same (commands.Run c.in-Run.log c.i
 
 pub returns-in-Run-clause-explained : goal.returns-in-Run-clause-explained
 returns-in-Run-clause-explained g c = ends_same (commands.Run c.in-Run.log c.in-Run.script) c.args.command _ _ _ _ _ (sym c.in-Run.is) c.answer_run.ensures.explained
+
+pub returns-in-Load-clause-answered : goal.returns-in-Load-clause-answered
+returns-in-Load-clause-answered g c = answers_same (commands.Load c.in-Load.size false c.in-Load.script) c.args.command _ _ _ _ _ _ _ (sym c.in-Load.is) (c.answer_load.ensures.answered _ _)
+
+pub returns-in-Load-clause-explained : goal.returns-in-Load-clause-explained
+returns-in-Load-clause-explained g c = ends_same (commands.Load c.in-Load.size false c.in-Load.script) c.args.command _ _ _ _ _ (sym c.in-Load.is) (c.answer_load.ensures.explained _ _)
