@@ -1,9 +1,11 @@
 -- What a command answers, by what was made of its input.
-use Rattle.std.proofs.Common.{◌≡◌, ℕ, Bool, true, false, List, Option, Some, None, refl, sym, subst}
+use Rattle.std.proofs.Common.{◌≡◌, ℕ, Bool, true, false, List, [], Option, Some, None, refl, sym, subst}
 use Rattle.std.specs.Prelude.{Result, Ok, Err, IfOk, IfErr}
 use Rattle.t32_base.specs.declared.streams.NoMemory.{NoMemory}
 use Rattle.cluster_run.specs.declared.life.Ran.{Ran}
+use Rattle.cert_sched.specs.declared.script.ScriptWord.{ScriptWord}
 use Rattle.command_words.specs.declared.command.Command.{Command}
+use Rattle.command_words.specs.declared.command.Command.TheVariants as commands
 use Rattle.targon_cli.specs.declared.reply.Reply.{Reply}
 use Rattle.targon_cli.specs.Built.{reads_input}
 use Rattle.targon_cli.specs.Reply.{Makes}
@@ -30,6 +32,10 @@ unread_needed command (Err status) old new ended before after reads unread = unr
 
 pub takes_nothing : (command : Command) (old : In) (ended : Bool) (bytes : List ℕ) → reads_input (Some command) ≡ false → Takes command old old ended bytes
 takes_nothing command old ended bytes unread = subst (λ (b : Bool). TakesBy b old old ended bytes) (sym unread) refl
+
+-- nor does `load` read any
+pub takes_load : (command : Command) (size : ℕ) (script : List ScriptWord) (old : In) (ended : Bool) → command ≡ commands.Load size false script → Takes command old old ended []
+takes_load command size script old ended same = subst (λ (c : Command). Takes c old old ended []) (sym same) refl
 
 -- ---- what was made of it
 

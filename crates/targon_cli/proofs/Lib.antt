@@ -6,3 +6,4 @@ mod Parts
 mod Replies
 mod Streams
 mod Tales
+mod Loads

@@ -67,9 +67,9 @@ status_of_printed : (has : Bool) (system : System) (wanted : ℕ) (text : List �
 status_of_printed true system wanted text m = inl m.0
 status_of_printed false system wanted text m = inr (inl m.0)
 
-status_of_load : (only : Bool) (size : ℕ) (script : List ScriptWord) (wanted : ℕ) (text : List ℕ) (ran : Option Ran) → MakesLoad only size script wanted text ran → IsReply wanted
-status_of_load true size script wanted text ran m = status_of_printed (has_clusters_of script (workload size)) (workload size) wanted text m.0
-status_of_load false size script wanted text ran m = status_of_script (has_clusters_of script (workload size)) (workload size) script (load_text size) wanted text ran m
+status_of_load : (only : Bool) (size : ℕ) (system : System) (script : List ScriptWord) (wanted : ℕ) (text : List ℕ) (ran : Option Ran) → MakesLoad only size system script wanted text ran → IsReply wanted
+status_of_load true size system script wanted text ran m = status_of_printed (has_clusters_of script system) system wanted text m.0
+status_of_load false size system script wanted text ran m = status_of_script (has_clusters_of script system) system script (load_text size) wanted text ran m
 
 pub status_made : (command : Command) (bytes : List ℕ) (wanted : ℕ) (text : List ℕ) (ran : Option Ran) → Makes command bytes wanted text ran → IsReply wanted
 status_made commands.Plain bytes wanted text ran m = status_of_plain (system_of_lines (system_part (lines_of bytes))) (section_part (lines_of bytes)) wanted text m.0
@@ -77,7 +77,7 @@ status_made commands.Check bytes wanted text ran m = status_of_check (system_rea
 status_made commands.Asm bytes wanted text ran m = status_of_asm (asm_reading bytes) wanted text m.0
 status_made (commands.Sim pick log script) bytes wanted text ran m = status_of_ran (system_reading bytes) script (run_text log) wanted text ran m
 status_made (commands.Run log script) bytes wanted text ran m = status_of_ran (system_reading bytes) script (run_text log) wanted text ran m
-status_made (commands.Load size only script) bytes wanted text ran m = status_of_load only size script wanted text ran m
+status_made (commands.Load size only script) bytes wanted text ran m = status_of_load only size (workload size) script wanted text ran m
 
 -- ---- the run
 
@@ -93,9 +93,9 @@ ran_has_run : (reading : _) (script : List ScriptWord) (print : Kernel → Run �
 ran_has_run (Ok system) script print text ran m = script_has_run (has_clusters_of script system) system script print text ran m
 ran_has_run (Err refused) script print text ran m = absurd (omega (arith, m.0))
 
-load_has_run : (only : Bool) (size : ℕ) (script : List ScriptWord) (text : List ℕ) (ran : Option Ran) → MakesLoad only size script 0 text ran → is_some ran ≡ not only
-load_has_run true size script text ran m = rw m.1 refl
-load_has_run false size script text ran m = script_has_run (has_clusters_of script (workload size)) (workload size) script (load_text size) text ran m
+load_has_run : (only : Bool) (size : ℕ) (system : System) (script : List ScriptWord) (text : List ℕ) (ran : Option Ran) → MakesLoad only size system script 0 text ran → is_some ran ≡ not only
+load_has_run true size system script text ran m = rw m.1 refl
+load_has_run false size system script text ran m = script_has_run (has_clusters_of script system) system script (load_text size) text ran m
 
 -- what is done by `sim`, `run` or `load` without `--text` has a run, and by another command none
 pub run_made : (command : Command) (bytes : List ℕ) (text : List ℕ) (ran : Option Ran) → Makes command bytes 0 text ran → is_some ran ≡ makes_run (Some command)
@@ -104,7 +104,7 @@ run_made commands.Check bytes text ran m = rw m.1 refl
 run_made commands.Asm bytes text ran m = rw m.1 refl
 run_made (commands.Sim pick log script) bytes text ran m = ran_has_run (system_reading bytes) script (run_text log) text ran m
 run_made (commands.Run log script) bytes text ran m = ran_has_run (system_reading bytes) script (run_text log) text ran m
-run_made (commands.Load size only script) bytes text ran m = load_has_run only size script text ran m
+run_made (commands.Load size only script) bytes text ran m = load_has_run only size (workload size) script text ran m
 
 no_tale : (system : System) (script : List ScriptWord) (print : Kernel → Run → List ℕ) (wanted : ℕ) (text : List ℕ) (ran : Option Ran) → TellsOfRun system script print wanted text ran → (wanted ≡ 0 → ⊥) → ran ≡ None
 no_tale system script print wanted text None m n = refl
@@ -118,9 +118,9 @@ no_ran : (reading : _) (script : List ScriptWord) (print : Kernel → Run → Li
 no_ran (Ok system) script print wanted text ran m n = no_run_by_script (has_clusters_of script system) system script print wanted text ran m n
 no_ran (Err refused) script print wanted text ran m n = m.2
 
-no_load : (only : Bool) (size : ℕ) (script : List ScriptWord) (wanted : ℕ) (text : List ℕ) (ran : Option Ran) → MakesLoad only size script wanted text ran → (wanted ≡ 0 → ⊥) → ran ≡ None
-no_load true size script wanted text ran m n = m.1
-no_load false size script wanted text ran m n = no_run_by_script (has_clusters_of script (workload size)) (workload size) script (load_text size) wanted text ran m n
+no_load : (only : Bool) (size : ℕ) (system : System) (script : List ScriptWord) (wanted : ℕ) (text : List ℕ) (ran : Option Ran) → MakesLoad only size system script wanted text ran → (wanted ≡ 0 → ⊥) → ran ≡ None
+no_load true size system script wanted text ran m n = m.1
+no_load false size system script wanted text ran m n = no_run_by_script (has_clusters_of script system) system script (load_text size) wanted text ran m n
 
 -- a refusal has no run
 pub no_run_made : (command : Command) (bytes : List ℕ) (wanted : ℕ) (text : List ℕ) (ran : Option Ran) → Makes command bytes wanted text ran → (wanted ≡ 0 → ⊥) → ran ≡ None
@@ -129,7 +129,7 @@ no_run_made commands.Check bytes wanted text ran m n = m.1
 no_run_made commands.Asm bytes wanted text ran m n = m.1
 no_run_made (commands.Sim pick log script) bytes wanted text ran m n = no_ran (system_reading bytes) script (run_text log) wanted text ran m n
 no_run_made (commands.Run log script) bytes wanted text ran m n = no_ran (system_reading bytes) script (run_text log) wanted text ran m n
-no_run_made (commands.Load size only script) bytes wanted text ran m n = no_load only size script wanted text ran m n
+no_run_made (commands.Load size only script) bytes wanted text ran m n = no_load only size (workload size) script wanted text ran m n
 
 -- ---- a command that reads no input
 
@@ -151,18 +151,36 @@ only_prints command size only script same alone = by_case only (ap (λ (c : Comm
     by_case true e = refl
     by_case false e = absurd (true≢false e)
 
-pub load_makes : (command : Command) (size : ℕ) (only : Bool) (script : List ScriptWord) (bytes : List ℕ) (wanted : ℕ) (text : List ℕ) → command ≡ commands.Load size only script
-    → needs_threads (Some command) ≡ false → MakesLoad true size script wanted text None → Makes command bytes wanted text None
-load_makes command size only script bytes wanted text same alone m =
-    subst (λ (c : Command). Makes c bytes wanted text None) (sym same)
-    (subst (λ (o : Bool). MakesLoad o size script wanted text None) (sym (only_prints command size only script same alone)) m)
+-- what is made of its size is what the command makes
+pub load_makes : (command : Command) (size : ℕ) (only : Bool) (script : List ScriptWord) (bytes : List ℕ) (wanted : ℕ) (text : List ℕ) (ran : Option Ran) → command ≡ commands.Load size only script
+    → ((system : System) → system ≡ workload size → MakesLoad only size system script wanted text ran) → Makes command bytes wanted text ran
+load_makes command size only script bytes wanted text ran same m = subst (λ (c : Command). Makes c bytes wanted text ran) (sym same) (m (workload size) refl)
 
 pub load_explains : (command : Command) (size : ℕ) (only : Bool) (script : List ScriptWord) (bytes : List ℕ) (wanted : ℕ) (why : Option Why) → command ≡ commands.Load size only script
-    → ExplainsLoad size script wanted why → Explains command bytes wanted why
-load_explains command size only script bytes wanted why same m = subst (λ (c : Command). Explains c bytes wanted why) (sym same) m
+    → ((system : System) → system ≡ workload size → ExplainsLoad system script wanted why) → Explains command bytes wanted why
+load_explains command size only script bytes wanted why same m = subst (λ (c : Command). Explains c bytes wanted why) (sym same) (m (workload size) refl)
+
+pub print_makes : (command : Command) (size : ℕ) (only : Bool) (script : List ScriptWord) (bytes : List ℕ) (wanted : ℕ) (text : List ℕ) → command ≡ commands.Load size only script
+    → needs_threads (Some command) ≡ false → ((system : System) → system ≡ workload size → MakesLoad true size system script wanted text None) → Makes command bytes wanted text None
+print_makes command size only script bytes wanted text same alone m =
+    load_makes command size only script bytes wanted text None same
+    (λ system is. subst (λ (o : Bool). MakesLoad o size system script wanted text None) (sym (only_prints command size only script same alone)) (m system is))
+
+-- a reply of a run that was made, or of none
+pub loads_make : (command : Command) (size : ℕ) (script : List ScriptWord) (bytes : List ℕ) (made : Result (Reply × Option Ran) NoMemory) → command ≡ commands.Load size false script
+    → IfOk made (λ (r : Reply × Option Ran). (system : System) → system ≡ workload size → MakesLoad false size system script (r.0).status (r.0).text r.1)
+    → IfOk made (λ (r : Reply × Option Ran). Makes command bytes (r.0).status (r.0).text r.1)
+loads_make command size script bytes (Ok r) same m = load_makes command size false script bytes (r.0).status (r.0).text r.1 same m
+loads_make command size script bytes (Err e) same m = tt
+
+pub loads_explain : (command : Command) (size : ℕ) (script : List ScriptWord) (bytes : List ℕ) (made : Result (Reply × Option Ran) NoMemory) → command ≡ commands.Load size false script
+    → IfOk made (λ (r : Reply × Option Ran). (system : System) → system ≡ workload size → ExplainsLoad system script (r.0).status (r.0).why)
+    → IfOk made (λ (r : Reply × Option Ran). Explains command bytes (r.0).status (r.0).why)
+loads_explain command size script bytes (Ok r) same m = load_explains command size false script bytes (r.0).status (r.0).why same m
+loads_explain command size script bytes (Err e) same m = tt
 
 -- a workload that lacks a cluster of the script is usage
-pub lacks_makes : (size : ℕ) (script : List ScriptWord) (made : Result Reply NoMemory) → has_clusters_of script (workload size) ≡ false → IfOk made (λ (r : Reply). (r.status ≡ 1) × (r.text ≡ usage_line))
-    → IfOk made (λ (r : Reply). MakesLoad true size script r.status r.text None)
-lacks_makes size script (Ok reply) lacks m = (rw lacks m, refl)
-lacks_makes size script (Err e) lacks m = tt
+pub lacks_makes : (size : ℕ) (system : System) (script : List ScriptWord) (made : Result Reply NoMemory) → has_clusters_of script system ≡ false → IfOk made (λ (r : Reply). (r.status ≡ 1) × (r.text ≡ usage_line))
+    → IfOk made (λ (r : Reply). MakesLoad true size system script r.status r.text None)
+lacks_makes size system script (Ok reply) lacks m = (rw lacks m, refl)
+lacks_makes size system script (Err e) lacks m = tt

@@ -78,8 +78,8 @@ ExplainsPlain (Ok system) lines section status why = ExplainsRunBy system sectio
 ExplainsPlain (Err refused) lines section status why = (status ≡ 2) × SaysSome (system_why lines refused.0 (system_rule refused.1)) why
 
 -- a workload is printed or run, or it is told that it lacks a cluster of the script
-abbrev pub ExplainsLoad : (size : ℕ) → List ScriptWord → (status : ℕ) → Option Why → Type 0
-ExplainsLoad size script status why = ExplainsByScript (has_clusters_of script (workload size)) status why
+abbrev pub ExplainsLoad : System → List ScriptWord → (status : ℕ) → Option Why → Type 0
+ExplainsLoad system script status why = ExplainsByScript (has_clusters_of script system) status why
 
 -- the status of what a command makes of these bytes, and what is told of it: nothing exactly where all was done
 abbrev pub Explains : Command → (bytes : List ℕ) → (status : ℕ) → Option Why → Type 0
@@ -88,7 +88,7 @@ Explains commands.Check bytes status why = ExplainsSystem (system_reading bytes)
 Explains commands.Asm bytes status why = ExplainsAsm (asm_reading bytes) (lines_of bytes) status why
 Explains (commands.Sim pick log script) bytes status why = ExplainsRun (system_reading bytes) script (lines_of bytes) status why
 Explains (commands.Run log script) bytes status why = ExplainsRun (system_reading bytes) script (lines_of bytes) status why
-Explains (commands.Load size only script) bytes status why = ExplainsLoad size script status why
+Explains (commands.Load size only script) bytes status why = ExplainsLoad (workload size) script status why
 
 -- the status alone tells why
 pub record IsByStatus (status : ℕ) (why : Option Why) : Type 0 where

@@ -132,9 +132,9 @@ PrintsByScript true system status text = (status ≡ 0) × (text ≡ system_text
 PrintsByScript false system status text = (status ≡ 1) × (text ≡ usage_line)
 
 -- `load` prints its workload where it is only to print it, and runs it where it is not
-abbrev pub MakesLoad : (only : Bool) → (size : ℕ) → List ScriptWord → (status : ℕ) → (text : List ℕ) → Option Ran → Type 0
-MakesLoad true size script status text ran = PrintsByScript (has_clusters_of script (workload size)) (workload size) status text × (ran ≡ None)
-MakesLoad false size script status text ran = MakesByScript (has_clusters_of script (workload size)) (workload size) script (load_text size) status text ran
+abbrev pub MakesLoad : (only : Bool) → (size : ℕ) → System → List ScriptWord → (status : ℕ) → (text : List ℕ) → Option Ran → Type 0
+MakesLoad true size system script status text ran = PrintsByScript (has_clusters_of script system) system status text × (ran ≡ None)
+MakesLoad false size system script status text ran = MakesByScript (has_clusters_of script system) system script (load_text size) status text ran
 
 -- ---- any command
 
@@ -145,4 +145,4 @@ Makes commands.Check bytes status text ran = MakesCheck (system_reading bytes) s
 Makes commands.Asm bytes status text ran = MakesAsm (asm_reading bytes) status text × (ran ≡ None)
 Makes (commands.Sim pick log script) bytes status text ran = MakesRun (system_reading bytes) script (run_text log) status text ran
 Makes (commands.Run log script) bytes status text ran = MakesRun (system_reading bytes) script (run_text log) status text ran
-Makes (commands.Load size only script) bytes status text ran = MakesLoad only size script status text ran
+Makes (commands.Load size only script) bytes status text ran = MakesLoad only size (workload size) script status text ran

@@ -1,13 +1,14 @@
 //! What `load` makes of its size: the text of its workload, or the run of it.
-ghost use Rattle.std.specs.Prelude.{◌≡◌, IfOk, None, true};
+ghost use Rattle.std.specs.Prelude.{◌≡◌, IfOk, None, false, true};
 ghost use Rattle.cert_sched.specs.Built.{BuiltMayFollow};
 ghost use Rattle.cert_sched.specs.Legal.{IsLegalBy};
 ghost use Rattle.cert_sched.specs.Schedule.{schedule_of};
+ghost use Rattle.sys_text.specs.declared.system.System.{System as ASystem};
 ghost use Rattle.sys_text.specs.Valid.{is_system};
 ghost use Rattle.targon_cli.specs.Built.{is_built_script};
 ghost use Rattle.targon_cli.specs.Explained.{ExplainsLoad};
 ghost use Rattle.targon_cli.specs.Reply.{IsTextOf, MakesLoad, load_text};
-ghost use Rattle.workload.specs.Ring.{is_size};
+ghost use Rattle.workload.specs.Ring.{is_size, workload as workload_of};
 
 use crate::reply::{DONE, Reply, no_cluster};
 use crate::runs::{Read, with_clusters};
@@ -29,8 +30,8 @@ use workload::workload;
 /// Prints the workload of a size in canonical form, where it has the clusters of the script.
 pub fn print_load(alloc: Global, size: u32, script: &Script) -> Result<Reply, NoMemory>
     requires { is_size size ≡ true }
-    ensures makes { IfOk result (λ r. MakesLoad true size script.now r.status r.text None) }
-    ensures why { IfOk result (λ r. ExplainsLoad size script.now r.status r.why) }
+    ensures makes { IfOk result (λ r. (system : ASystem) → system ≡ workload_of size → MakesLoad true size system script.now r.status r.text None) }
+    ensures why { IfOk result (λ r. (system : ASystem) → system ≡ workload_of size → ExplainsLoad system script.now r.status r.why) }
 {
     let system = workload(alloc, size)?;
     if allowed(script, system.clusters, system.pager) {
@@ -55,10 +56,27 @@ pub fn run_load<R: Threads + Wait + Sync, G: Gate + Sync>(
 ) -> Result<(Reply, Option<Ran>), NoMemory>
     requires size { is_size size ≡ true }
     requires built { is_built_script script.now ≡ true }
-    ensures makes { IfOk result (λ r. MakesLoad false size script.now r.0.status r.0.text r.1) }
-    ensures why { IfOk result (λ r. ExplainsLoad size script.now r.0.status r.0.why) }
+    ensures makes { IfOk result (λ r. (system : ASystem) → system ≡ workload_of size → MakesLoad false size system script.now r.0.status r.0.text r.1) }
+    ensures why { IfOk result (λ r. (system : ASystem) → system ≡ workload_of size → ExplainsLoad system script.now r.0.status r.0.why) }
 {
     let ring = workload(alloc, size)?;
+    run_ring(rt, alloc, ring, size, script, gate)
+}
+
+// The same of its system.
+fn run_ring<R: Threads + Wait + Sync, G: Gate + Sync>(
+    rt: &R,
+    alloc: Global,
+    ring: System,
+    size: u32,
+    script: &Script,
+    gate: &G,
+) -> Result<(Reply, Option<Ran>), NoMemory>
+    requires valid { is_system ring ≡ true }
+    requires built { is_built_script script.now ≡ true }
+    ensures makes { IfOk result (λ r. MakesLoad false size ring script.now r.0.status r.0.text r.1) }
+    ensures why { IfOk result (λ r. ExplainsLoad ring script.now r.0.status r.0.why) }
+{
     match with_clusters(alloc, ring, script)? {
         Read::System(system) => {
             let ran = run(rt, alloc, &system, script.as_slice(), gate)?;

@@ -303,10 +303,10 @@ fn answer_load<R: Threads + Wait + Sync, K: Sink, G: Gate + Sync>(
     requires size { is_size size ≡ true }
     requires built { is_built_script script.now ≡ true }
     requires unran { ran.old ≡ None }
-    ensures answered { (input : In) (ended : Bool) → Answers (ACommand.Load size false script.now) result input input ended
+    ensures answered { (command : ACommand) → command ≡ ACommand.Load size false script.now → (input : In) (ended : Bool) → Answers command result input input ended
         (record { holds = K.holds output.old; faults = K.fault_count output.old })
         (record { holds = K.holds output.new; faults = K.fault_count output.new }) ran.new }
-    ensures explained { (input : In) (ended : Bool) → ExplainsEnd (ACommand.Load size false script.now) result input input ended why.new }
+    ensures explained { (command : ACommand) → command ≡ ACommand.Load size false script.now → (input : In) (ended : Bool) → ExplainsEnd command result input input ended why.new }
 {
     let made = run_load(rt, alloc, size, script, gate);
     hand_out(made, output, ran, why)

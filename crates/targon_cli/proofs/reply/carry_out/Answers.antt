@@ -1,10 +1,10 @@
-use Rattle.targon_cli.proofs.Replies.{load_makes, load_explains}
+use Rattle.targon_cli.proofs.Replies.{load_explains, print_makes}
 use Rattle.targon_cli.proofs.reply.carry_out.Goals as goal
 
 pub returns-in_ok-print_load-in-Load-clause-makes : goal.returns-in_ok-print_load-in-Load-clause-makes
 returns-in_ok-print_load-in-Load-clause-makes c =
     let reply = c.in_ok-print_load-in-Load.field-0 in
-    load_makes c.args.command c.in-Load.size _ c.in-Load.script c.args.bytes.now reply.status reply.text c.in-Load.is c.requires.alone c.in_ok-print_load-in-Load.ensures.makes
+    print_makes c.args.command c.in-Load.size _ c.in-Load.script c.args.bytes.now reply.status reply.text c.in-Load.is c.requires.alone c.in_ok-print_load-in-Load.ensures.makes
 
 pub returns-in_ok-print_load-in-Load-clause-why : goal.returns-in_ok-print_load-in-Load-clause-why
 returns-in_ok-print_load-in-Load-clause-why c =

@@ -1,0 +1,32 @@
+use Rattle.std.proofs.Common.{List, [], subst}
+use Rattle.std.specs.Prelude.{Ok}
+use Rattle.std.specs.Arc.{arc_value}
+use Rattle.cert_sched.specs.declared.script.ScriptWord.{ScriptWord}
+use Rattle.cluster_run.specs.Completed.{IsCompleted}
+use Rattle.sys_text.specs.declared.system.System.{System}
+use Rattle.targon_cli.specs.Reply.{IsTextOf, load_text}
+use Rattle.targon_cli.proofs.Endings.{nothing_to_explain}
+use Rattle.targon_cli.proofs.Tales.{ran_makes, read_valid, refusal_makes}
+use Rattle.targon_cli.proofs.load.run_ring.Goals as goal
+
+pub run-requires-clause-valid : goal.run-requires-clause-valid
+run-requires-clause-valid g c κs within = read_valid (Ok c.args.ring) c.args.script.now c.in-System.system (rw c.in-System.is at c.in_ok-system.ensures.read)
+
+pub tell-requires-clause-valid : goal.tell-requires-clause-valid
+tell-requires-clause-valid g c = rw c.deref.ensures (read_valid (Ok c.args.ring) c.args.script.now c.in-System.system (rw c.in-System.is at c.in_ok-system.ensures.read))
+
+pub returns-in_ok-reply-in-System-clause-makes : goal.returns-in_ok-reply-in-System-clause-makes
+returns-in_ok-reply-in-System-clause-makes g c =
+    let ran = c.in_ok-ran-in-System.ran in
+    let reply = c.in_ok-reply-in-System.reply in
+    ran_makes (Ok c.args.ring) c.args.script.now c.in-System.system (load_text c.args.size) reply ran (rw c.in-System.is at c.in_ok-system.ensures.read)
+    (subst (λ (words : List ScriptWord). IsCompleted (arc_value c.in-System.system) words ran) c.as_slice.ensures c.in_ok-ran-in-System.ensures)
+    c.in_ok-reply-in-System.ensures.done.0 (subst (λ (s : System). IsTextOf s (load_text c.args.size) ran.run reply.text) c.deref.ensures c.in_ok-reply-in-System.ensures.text)
+
+pub returns-in_ok-reply-in-System-clause-why : goal.returns-in_ok-reply-in-System-clause-why
+returns-in_ok-reply-in-System-clause-why g c =
+    let done = c.in_ok-reply-in-System.ensures.done in
+    nothing_to_explain (Ok c.args.ring) c.args.script.now [] c.in-System.system _ _ (rw c.in-System.is at c.in_ok-system.ensures.read) done.0 done.1
+
+pub returns-in-Refused-clause-why : goal.returns-in-Refused-clause-why
+returns-in-Refused-clause-why g c = rw c.in-Refused.is at c.in_ok-system.ensures.why []
