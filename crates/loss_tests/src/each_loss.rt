@@ -165,7 +165,11 @@ fn behind<'a>(report: &'a [u8], fronts: &[&str; 2], exits: u32) -> Option<&'a [u
     for _ in 0..exits {
         rest = behind_exit(rest)?;
     }
-    if rest.starts_with(b"crash ") { Some(rest) } else { None }
+    if rest.starts_with(b"crash ") {
+        Some(rest)
+    } else {
+        None
+    }
 }
 
 // The part behind a first line that tells of a process which ended with exit 0.

@@ -97,12 +97,28 @@ static FORKS: [(&str, u8, &str); 10] = [
     ),
     ("schedule 2\nrun 16 1\nfork 16 32\n", 0, BORN),
     ("schedule 2\nrun 16 1\nfork 16 33\n", 0, BORN_ELSEWHERE),
-    ("schedule 2\nrun 16 1\nfork 16 16\n", 3, "t32: schedule item 1\n"),
-    ("schedule 2\nrun 16 1\nfork 17 32\n", 3, "t32: schedule item 1\n"),
+    (
+        "schedule 2\nrun 16 1\nfork 16 16\n",
+        3,
+        "t32: schedule item 1\n",
+    ),
+    (
+        "schedule 2\nrun 16 1\nfork 17 32\n",
+        3,
+        "t32: schedule item 1\n",
+    ),
     ("schedule 1\nfork 16 32\n", 3, "t32: schedule item 0\n"),
     ("schedule 1\nrun 16 2\n", 3, "t32: schedule item 0\n"),
-    ("schedule 3\nrun 16 1\nfork 16 32\nfork 16 48\n", 3, "t32: schedule item 2\n"),
-    ("schedule 3\nrun 16 1\nfork 16 32\nfork 32 48\n", 3, "t32: schedule item 2\n"),
+    (
+        "schedule 3\nrun 16 1\nfork 16 32\nfork 16 48\n",
+        3,
+        "t32: schedule item 2\n",
+    ),
+    (
+        "schedule 3\nrun 16 1\nfork 16 32\nfork 32 48\n",
+        3,
+        "t32: schedule item 2\n",
+    ),
 ];
 
 #[test]

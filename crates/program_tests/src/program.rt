@@ -140,8 +140,14 @@ fn load_prints_its_workload_or_is_usage(rt: HostRuntime) -> Result<(), Fail> {
 static LOAD_RUNS: [(&[u8], &str); 5] = [
     (b"load 7", "load 7 tty 7 exits 31 other 0\n"),
     (b"load 7 crash:2@bus:100", "load 7 tty 7 exits 31 other 0\n"),
-    (b"load 7 -- crash:0@step:300", "load 7 tty 7 exits 31 other 0\n"),
-    (b"load 0000000001 disk:0@3", "load 1 tty 1 exits 31 other 0\n"),
+    (
+        b"load 7 -- crash:0@step:300",
+        "load 7 tty 7 exits 31 other 0\n",
+    ),
+    (
+        b"load 0000000001 disk:0@3",
+        "load 1 tty 1 exits 31 other 0\n",
+    ),
     (b"load 1000", "load 1000 tty 1000 exits 31 other 0\n"),
 ];
 

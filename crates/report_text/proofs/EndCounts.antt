@@ -1,5 +1,5 @@
 -- How many ends pass a test, counted one after the other.
-use Rattle.std.proofs.Common.{◌≡◌, ℕ, ◌+◌, ◌∙◌, ap, arith, List, [], ◌∷◌, length, map, Bool, true, false, cond, Option}
+use Rattle.std.proofs.Common.{◌≡◌, ℕ, ◌+◌, ◌∙◌, ap, arith, List, ◌∷◌, length, map, Bool, true, false, cond, Option}
 use Rattle.std.specs.Prelude.{count_by}
 use Rattle.std.proofs.lemmas.List.Sums.{sum_by-cons}
 use Rattle.t32_base.specs.declared.process.End.{End}

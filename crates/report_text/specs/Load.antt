@@ -1,5 +1,5 @@
 -- What is printed of the run of a workload: one line that counts.
-use Rattle.std.specs.Prelude.{ℕ, ◌==◌, Bool, true, false, not, List, ◌++◌, length, map, count_by, codes, Option, Some, None}
+use Rattle.std.specs.Prelude.{ℕ, ◌==◌, Bool, false, not, List, ◌++◌, length, map, count_by, codes, Option, Some, None}
 use Rattle.std.specs.Option.{option_map_or}
 use Rattle.std.specs.Fmt.{decimal}
 use Rattle.std.specs.Ordering.{nat_cmp}

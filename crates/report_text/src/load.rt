@@ -18,12 +18,7 @@ use t32_base::streams::NoMemory;
 /// The line of a workload of this size by its run: how many bytes terminal 0 was sent, how many
 /// processes ended with exit 0, and how many others there are, in the kernel to which the schedule leads. It is
 /// counted by the log alone.
-pub fn load_report(
-    alloc: Global,
-    system: &System,
-    run: &Run,
-    size: u32,
-) -> Result<Text, NoMemory>
+pub fn load_report(alloc: Global, system: &System, run: &Run, size: u32) -> Result<Text, NoMemory>
     requires valid { is_system system.now ≡ true }
     requires legal { IsLegalBy BuiltMayFollow system.now run.now.log }
     requires items { run.now.items ≡ schedule_of system.now run.now.log }

@@ -139,13 +139,7 @@ fn exits_and_others(ends: &BTreeMap<u32, Option<End>>) -> (u64, u64)
     (exits, others)
 }
 
-fn load_text(
-    alloc: Global,
-    size: u32,
-    tty: usize,
-    exits: u64,
-    other: u64,
-) -> Result<Text, NoMemory>
+fn load_text(alloc: Global, size: u32, tty: usize, exits: u64, other: u64) -> Result<Text, NoMemory>
     ensures { IfOk result (λ text. text ≡ load_line_of size tty exits other) }
 {
     let line = format!(in alloc; "load {size} tty {tty} exits {exits} other {other}\n")?;

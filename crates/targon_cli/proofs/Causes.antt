@@ -7,7 +7,7 @@ use Rattle.command_words.specs.declared.command.Command.{Command}
 use Rattle.cluster_run.specs.declared.life.Ran.{Ran}
 use Rattle.targon_cli.specs.Built.{built_command_of, makes_run, reads_input}
 use Rattle.targon_cli.specs.Reply.{Makes, usage_line}
-use Rattle.targon_cli.specs.Answer.{In, Out, Says, Wrote, WriteFault, IsAll, ReadsTooMany, Answers, Replied, TooLong, ReadFault, OutOfMemory, LeavesInput, Offers, IsReplied, Completes, IsCutOff, AppendsPart, IsStatus, input_limit, AnswersFound, SaysUsage, Answered}
+use Rattle.targon_cli.specs.Answer.{In, Out, Says, Wrote, WriteFault, IsAll, ReadsTooMany, Answers, Replied, TooLong, ReadFault, OutOfMemory, LeavesInput, Offers, IsReplied, Completes, IsCutOff, AppendsPart, IsStatus, AnswersFound, SaysUsage, Answered}
 use Rattle.targon_cli.proofs.Handing.{takes_all, takes_left}
 use Rattle.targon_cli.proofs.Replies.{IsReply, status_made, run_made, no_run_made, unread_same}
 

@@ -6,7 +6,7 @@ use Rattle.cluster_run.specs.Completed.{IsCompleted}
 use Rattle.sys_text.specs.declared.system.System.{System}
 use Rattle.targon_cli.specs.Reply.{IsTextOf, load_text}
 use Rattle.targon_cli.proofs.Endings.{nothing_to_explain}
-use Rattle.targon_cli.proofs.Tales.{ran_makes, read_valid, refusal_makes}
+use Rattle.targon_cli.proofs.Tales.{ran_makes, read_valid}
 use Rattle.targon_cli.proofs.load.run_ring.Goals as goal
 
 pub run-requires-clause-valid : goal.run-requires-clause-valid
