@@ -151,6 +151,14 @@ only_prints command size only script same alone = by_case only (ap (λ (c : Comm
     by_case true e = refl
     by_case false e = absurd (true≢false e)
 
+-- and one with threads runs it
+pub runs_load : (command : Command) (size : ℕ) (only : Bool) (script : List ScriptWord) → command ≡ commands.Load size only script → needs_threads (Some command) ≡ true → command ≡ commands.Load size false script
+runs_load command size only script same threads = same ∙ ap (λ (b : Bool). commands.Load size b script) (by_case only (ap (λ (c : Command). needs_threads (Some c)) (sym same) ∙ threads))
+  where
+    by_case : (b : Bool) → not b ≡ true → b ≡ false
+    by_case true e = absurd (true≢false (sym e))
+    by_case false e = refl
+
 -- what is made of its size is what the command makes
 pub load_makes : (command : Command) (size : ℕ) (only : Bool) (script : List ScriptWord) (bytes : List ℕ) (wanted : ℕ) (text : List ℕ) (ran : Option Ran) → command ≡ commands.Load size only script
     → ((system : System) → system ≡ workload size → MakesLoad only size system script wanted text ran) → Makes command bytes wanted text ran

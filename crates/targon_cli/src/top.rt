@@ -1,7 +1,7 @@
 //! The top call: what the program does with its words, its input and its output.
 ghost use Rattle.std.specs.Prelude.{Bool, ◌≡◌, ◌==◌, None, Option, Some, false, if◌then◌else◌, true, IfErr, IfOk, OnOk, is_some};
 ghost use Rattle.targon_cli.specs.Answer.{In, Says, AnswersFound, Answers, Answered, HandsOut, IsUnread, ReadsAll, Takes};
-ghost use Rattle.targon_cli.specs.Built.{built_command_of, is_built, is_built_script, is_ready, keeps_limits, needs_threads, reads_input as reads_input_of};
+ghost use Rattle.targon_cli.specs.Built.{built_command_of, is_built, is_built_script, is_ready, keeps_limits, needs_threads as needs_threads_of, reads_input as reads_input_of};
 ghost use Rattle.targon_cli.specs.Explained.{Explained, ExplainsEnd, ExplainsFound, HandsWhy, IsByStatus, TellsWhy};
 ghost use Rattle.targon_cli.specs.Reply.{usage_line};
 ghost use Rattle.workload.specs.Ring.{is_size};
@@ -102,7 +102,7 @@ pub fn targon_alone<S: Source, K: Sink>(
     ran: &mut Option<Ran>,
 ) -> u8
     requires unran { ran.old ≡ None }
-    requires alone { needs_threads (built_command_of words.now) ≡ false }
+    requires alone { needs_threads_of (built_command_of words.now) ≡ false }
     ensures { Answered words.now result
         (record { left = S.left input.old; faults = S.fault_count input.old })
         (record { left = S.left input.new; faults = S.fault_count input.new }) (S.ended input.new)
@@ -157,7 +157,7 @@ fn answer_alone<S: Source, K: Sink>(
 ) -> u8
     requires unran { ran.old ≡ None }
     requires ready { is_ready command ≡ true }
-    requires alone { needs_threads command ≡ false }
+    requires alone { needs_threads_of command ≡ false }
     ensures answered { AnswersFound command result
         (record { left = S.left input.old; faults = S.fault_count input.old })
         (record { left = S.left input.new; faults = S.fault_count input.new }) (S.ended input.new)
@@ -184,7 +184,7 @@ fn answer<S: Source, K: Sink>(
 ) -> u8
     requires limits { keeps_limits command ≡ true }
     requires built { is_built command ≡ true }
-    requires alone { needs_threads (Some command) ≡ false }
+    requires alone { needs_threads_of (Some command) ≡ false }
     requires unran { ran.old ≡ None }
     ensures answered { Answers command result
         (record { left = S.left input.old; faults = S.fault_count input.old })
@@ -207,7 +207,7 @@ fn answer<S: Source, K: Sink>(
     }
 }
 
-// What a command answers, by a thread for each cluster where it is `run`, or `load` that does not only print.
+// What a command answers.
 fn answer_any<R: Threads + Wait + Sync, S: Source, K: Sink, G: Gate + Sync>(
     rt: &R,
     alloc: Global,
@@ -229,16 +229,55 @@ fn answer_any<R: Threads + Wait + Sync, S: Source, K: Sink, G: Gate + Sync>(
         (record { left = S.left input.old; faults = S.fault_count input.old })
         (record { left = S.left input.new; faults = S.fault_count input.new }) (S.ended input.new) why.new }
 {
+    if needs_threads(&command) {
+        answer_by_threads(rt, alloc, command, input, output, gate, ran, why)
+    } else {
+        answer(alloc, command, input, output, ran, why)
+    }
+}
+
+// Whether a command has a thread for each cluster: `run`, and `load` where it does not only print.
+fn needs_threads(command: &Command) -> bool
+    ensures { result ≡ needs_threads_of (Some command.now) }
+{
+    match command {
+        Command::Run { .. } => true,
+        Command::Load { text, .. } => !*text,
+        Command::Plain | Command::Check | Command::Asm | Command::Sim { .. } => false,
+    }
+}
+
+// What a command answers that has a thread for each cluster.
+fn answer_by_threads<R: Threads + Wait + Sync, S: Source, K: Sink, G: Gate + Sync>(
+    rt: &R,
+    alloc: Global,
+    command: Command,
+    input: &mut S,
+    output: &mut K,
+    gate: &G,
+    ran: &mut Option<Ran>,
+    why: &mut Option<Why>,
+) -> u8
+    requires ready { is_ready (Some command) ≡ true }
+    requires threads { needs_threads_of (Some command) ≡ true }
+    requires unran { ran.old ≡ None }
+    ensures answered { Answers command result
+        (record { left = S.left input.old; faults = S.fault_count input.old })
+        (record { left = S.left input.new; faults = S.fault_count input.new }) (S.ended input.new)
+        (record { holds = K.holds output.old; faults = K.fault_count output.old })
+        (record { holds = K.holds output.new; faults = K.fault_count output.new }) ran.new }
+    ensures explained { ExplainsEnd command result
+        (record { left = S.left input.old; faults = S.fault_count input.old })
+        (record { left = S.left input.new; faults = S.fault_count input.new }) (S.ended input.new) why.new }
+{
     match command {
         Command::Run { log, script } => {
             answer_run(rt, alloc, log, &script, input, output, gate, ran, why)
         }
-        Command::Load {
-            size,
-            text: false,
-            script,
-        } => answer_load(rt, alloc, size, &script, output, gate, ran, why),
-        command => answer(alloc, command, input, output, ran, why),
+        Command::Load { size, script, .. } => {
+            answer_load(rt, alloc, size, &script, output, gate, ran, why)
+        }
+        Command::Plain | Command::Check | Command::Asm | Command::Sim { .. } => unreachable!(),
     }
 }
 
