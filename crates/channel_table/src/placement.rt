@@ -283,6 +283,7 @@ impl Placement {
     }
 
     /// Takes in an entry of the log. After want of memory, which only a birth may need, nothing has changed.
+    #[inline(always)]
     pub fn absorb(&mut self, entry: &Entry) -> Result<(), NoMemory>
         requires { CanBeAbsorbed self.old (what entry.now) }
         ensures ok { OnOk result (self.new ≡ placed_after self.old (what entry.now)) }
@@ -308,6 +309,7 @@ impl Placement {
     }
 
     /// Takes in an entry of the log that is no birth. Takes no memory.
+    #[inline(always)]
     pub fn note(&mut self, entry: &Entry)
         requires { is_birth (what entry.now) ≡ false }
         ensures { self.new ≡ placed_after self.old (what entry.now) }
