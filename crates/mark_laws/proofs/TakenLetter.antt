@@ -10,6 +10,7 @@ use Rattle.t32_base.specs.declared.letter.To.{To}
 use Rattle.t32_base.specs.declared.letter.To.TheVariants.{Proc, Tty}
 use Rattle.rv_mem.specs.Memory.{is_inside, bytes_at}
 use Rattle.rv_mem.proofs.MarkLemmas.{length-touched}
+use Rattle.t32_base.specs.Registers.{Registers}
 use Rattle.rv_cpu.specs.Exec.{Executed, Steps, Calls, Traps, exec, exec_marks, reg}
 use Rattle.rv_cpu.proofs.Marks.{length-exec_marks}
 use Rattle.proc_state.specs.Ends.{free_end, leads_at}
@@ -20,7 +21,7 @@ use Rattle.sys_calls.specs.declared.steps.Emission.TheVariants.{Mail}
 use Rattle.sys_calls.specs.declared.reading.Reading.{Reading}
 use Rattle.sys_calls.specs.declared.reading.Reading.TheVariants.{Refused, AtEnd, Wants}
 use Rattle.sys_calls.specs.declared.reading.Wanted.{Wanted}
-use Rattle.sys_calls.specs.Calls.{Next, Silent, Blocked, Forks, Emits, Over, Call, ExitCall, Write, Read, ReadAny, ForkCall, GetPid, Close, Unknown, answers, arg, called, call_of, close_to, first_wanted, is_wanted, letter_called, letter_to, marks_called, marks_found, marks_read, read_any_checked, read_call, read_checked, read_found, refused, said_within, wanted_letter, write_to}
+use Rattle.sys_calls.specs.Calls.{Next, Silent, Blocked, Forks, Emits, Over, Call, ExitCall, Write, Read, ReadAny, ForkCall, GetPid, Handler, Kill, SigReturn, Close, Unknown, answers, arg, called, call_of, close_to, first_wanted, is_wanted, letter_called, letter_to, marks_called, marks_found, marks_read, read_any_checked, read_call, read_checked, read_found, refused, said_within, wanted_letter, write_to, handled_at, is_aligned, is_signal_number, signalled, sigreturn_call}
 use Rattle.sys_calls.specs.Next.{next_step, step_by, live_step, after_exec, closing_step, letter_by, letter_executed, letter_live, letter_taken, marks_by, marks_executed, marks_live, step_marks}
 
 -- the letter is the first that passes a test, and the others are left
@@ -69,6 +70,18 @@ module _ (s p : ProcState) (same : p.mail ≡ s.mail) where
   closed_to e (Some (Tty t)) = same
   closed_to e (Some (Proc peer far)) = tt
 
+  handles : (ok : Bool) → Takes s (handled_at ok p (arg p 0)) None
+  handles true = same
+  handles false = same
+
+  signals : (ok : Bool) → Takes s (signalled ok p (arg p 0) (arg p 1)) None
+  signals true = tt
+  signals false = same
+
+  returns : (o : Option Registers) → Takes s (sigreturn_call p o) None
+  returns None = same
+  returns (Some regs) = same
+
   found : (wanted : Wanted) (ptr room : ℕ) (o : Option Arrived) → first_wanted p wanted ≡ o → Takes s (read_found p wanted ptr room o) o
   found wanted ptr room None is = tt
   found wanted ptr room (Some a) is =
@@ -92,6 +105,9 @@ called_takes s Read = read s (read_checked s)
 called_takes s ReadAny = read s (read_any_checked s)
 called_takes s ForkCall = let p = with_small s (spent s.small) in forked s p refl (eqb (p.small).births 0) (not (ltb (free_end (p.small).ends) 32))
 called_takes s GetPid = refl
+called_takes s Handler = let p = with_small s (spent s.small) in handles s p refl (is_aligned (arg p 0))
+called_takes s Kill = let p = with_small s (spent s.small) in signals s p refl (is_signal_number (arg p 1))
+called_takes s SigReturn = let p = with_small s (spent s.small) in returns s p refl (p.small).frame
 called_takes s Close = let p = with_small s (spent s.small) in closed_to s p refl (arg p 0) (leads_at (p.small).ends (arg p 0))
 called_takes s Unknown = refl
 
@@ -136,6 +152,9 @@ length-called s dirty Read = length-read s dirty (read_checked s)
 length-called s dirty ReadAny = length-read s dirty (read_any_checked s)
 length-called s dirty ForkCall = refl
 length-called s dirty GetPid = refl
+length-called s dirty Handler = refl
+length-called s dirty Kill = refl
+length-called s dirty SigReturn = refl
 length-called s dirty Close = refl
 length-called s dirty Unknown = refl
 

@@ -11,12 +11,13 @@ use Rattle.t32_base.specs.declared.letter.To.{To}
 use Rattle.t32_base.specs.declared.letter.To.TheVariants.{Proc, Tty}
 use Rattle.rv_mem.specs.Memory.{is_inside, bytes_at, with_bytes}
 use Rattle.rv_mem.proofs.PageLaws.{less_inside}
+use Rattle.t32_base.specs.Registers.{Registers}
 use Rattle.rv_cpu.specs.Exec.{Executed, Steps, Calls, Traps, exec, reg}
 use Rattle.proc_state.specs.Ends.{free_end, is_open_at, is_unfinished, is_unfinished_at, leads_at}
 use Rattle.proc_state.specs.State.{ProcState, with_small}
 use Rattle.sys_calls.specs.Small.{spent, lowest_linked}
 use Rattle.sys_calls.specs.declared.steps.Emission.TheVariants.{Mail}
-use Rattle.sys_calls.specs.Calls.{Next, Silent, Blocked, Forks, Emits, Over, Call, ExitCall, Write, Read, ReadAny, ForkCall, GetPid, Close, Unknown, arg, answers, refused, room, letter_to, called, call_of, close_to, first_wanted, said_within, read_any_checked, read_call, read_checked, read_found, write_to}
+use Rattle.sys_calls.specs.Calls.{Next, Silent, Blocked, Forks, Emits, Over, Call, ExitCall, Write, Read, ReadAny, ForkCall, GetPid, Handler, Kill, SigReturn, Close, Unknown, arg, answers, refused, room, letter_to, called, call_of, close_to, first_wanted, said_within, read_any_checked, read_call, read_checked, read_found, write_to, handled_at, is_aligned, is_signal_number, signalled, sigreturn_call}
 use Rattle.sys_calls.specs.declared.reading.Reading.{Reading}
 use Rattle.sys_calls.specs.declared.reading.Reading.TheVariants.{Refused, AtEnd, Wants}
 use Rattle.sys_calls.specs.declared.reading.Wanted.{Wanted}
@@ -114,6 +115,18 @@ module _ (s p : ProcState) (pages : (p.small).pages ≡ (s.small).pages) (bytes 
   forked false true = record { pages = pages; bytes = bytes }
   forked false false = tt
 
+  handles : (ok : Bool) → Keeps s (handled_at ok p (arg p 0))
+  handles true = record { pages = pages; bytes = bytes }
+  handles false = record { pages = pages; bytes = bytes }
+
+  signals : (ok : Bool) → Keeps s (signalled ok p (arg p 0) (arg p 1))
+  signals true = record { pages = pages; bytes = bytes }
+  signals false = record { pages = pages; bytes = bytes }
+
+  returns : (o : Option Registers) → Keeps s (sigreturn_call p o)
+  returns None = record { pages = pages; bytes = bytes }
+  returns (Some regs) = record { pages = pages; bytes = bytes }
+
   called_keeps : (c : Call) → Keeps s (called c p)
   called_keeps ExitCall = record { pages = pages; bytes = bytes }
   called_keeps Write = written (arg p 0) (arg p 1) (arg p 2) (leads_at (p.small).ends (arg p 0))
@@ -122,6 +135,9 @@ module _ (s p : ProcState) (pages : (p.small).pages ≡ (s.small).pages) (bytes 
   called_keeps ForkCall = forked (eqb (p.small).births 0) (not (ltb (free_end (p.small).ends) 32))
   called_keeps Close = closed_to (arg p 0) (leads_at (p.small).ends (arg p 0))
   called_keeps GetPid = record { pages = pages; bytes = bytes }
+  called_keeps Handler = handles (is_aligned (arg p 0))
+  called_keeps Kill = signals (is_signal_number (arg p 1))
+  called_keeps SigReturn = returns (p.small).frame
   called_keeps Unknown = record { pages = pages; bytes = bytes }
 
 executed : (s : ProcState) (x : Executed) → SizeAfter x s.memory → Keeps s (after_exec x (with_small s (spent s.small)))

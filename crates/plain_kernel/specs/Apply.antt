@@ -2,10 +2,11 @@
 use Rattle.std.specs.Prelude.{ℕ, zero, suc, ◌==◌, if◌then◌else◌, List, [], ◌∷◌, Option, Some, None, option_and_then}
 use Rattle.t32_base.specs.declared.process.Pid.{Pid}
 use Rattle.sys_text.specs.declared.system.System.{System}
-use Rattle.proc_state.specs.State.{ProcState}
+use Rattle.proc_state.specs.State.{ProcState, can_take}
 use Rattle.sys_calls.specs.Calls.{Next, Silent, Blocked, Forks, Emits, Over}
 use Rattle.sys_calls.specs.Next.{next_step}
 use Rattle.sys_calls.specs.Fork.{fork_child, fork_parent}
+use Rattle.sys_calls.specs.Take.{taken}
 use Rattle.plain_kernel.specs.declared.item.Item.{Item}
 use Rattle.plain_kernel.specs.declared.item.Item.TheVariants.{Run, Fork, Take}
 use Rattle.plain_kernel.specs.Kernel.{Kernel, process_at, with_process, boot, emitted}
@@ -40,11 +41,15 @@ after_fork k p c s Over o = None
 unfoldable pub fork_step : Pid → Pid → Kernel → Option Kernel
 fork_step p c k = option_and_then (λ s. after_fork k p c s (next_step s) (process_at k c)) (process_at k p)
 
--- an item, where it can be applied. No process is sent a signal yet
+-- a process that is there takes the first signal that waits for it, where it can
+unfoldable pub take_step : Pid → Kernel → Option Kernel
+take_step p k = option_and_then (λ s. if can_take s then Some (with_process k p (taken s)) else None) (process_at k p)
+
+-- an item, where it can be applied
 abbrev pub apply : Kernel → Item → Option Kernel
 apply k (Run p n) = if n == 0 then None else steps n p k
 apply k (Fork p c) = fork_step p c k
-apply k (Take p) = None
+apply k (Take p) = take_step p k
 
 -- items in order, where each can be applied
 abbrev pub apply_all : List Item → Kernel → Option Kernel

@@ -1,26 +1,31 @@
 -- When nothing can move, and the schedule that is taken where none is given.
-use Rattle.std.specs.Prelude.{ℕ, zero, suc, ◌≡◌, ◌+◌, ◌%◌, ◌==◌, max, Bool, not, if◌then◌else◌, List, find, fold, Option, Some, None, option_map, option_and_then}
+use Rattle.std.specs.Prelude.{ℕ, zero, suc, ◌≡◌, ◌+◌, ◌%◌, ◌==◌, max, Bool, not, ◌||◌, if◌then◌else◌, List, find, fold, Option, Some, None, option_map, option_and_then}
 use Rattle.std.specs.List.{list_any}
+use Rattle.std.specs.Option.{option_or}
 use Rattle.t32_base.specs.declared.process.Pid.{Pid}
 use Rattle.sys_text.specs.declared.system.System.{System}
-use Rattle.proc_state.specs.State.{ProcState}
+use Rattle.proc_state.specs.State.{ProcState, can_take}
 use Rattle.sys_calls.specs.Calls.{Next, Silent, Blocked, Forks, Emits, Over}
 use Rattle.sys_calls.specs.Next.{next_step, has_step}
 use Rattle.plain_kernel.specs.declared.item.Item.{Item}
-use Rattle.plain_kernel.specs.declared.item.Item.TheVariants.{Run, Fork}
+use Rattle.plain_kernel.specs.declared.item.Item.TheVariants.{Run, Fork, Take}
 use Rattle.plain_kernel.specs.Kernel.{Kernel, boot}
 use Rattle.plain_kernel.specs.Apply.{apply}
 
 abbrev pub can_act : Pid × ProcState → Bool
-can_act e = has_step (next_step e.1)
+can_act e = has_step (next_step e.1) || can_take e.1
 
--- every process is blocked or over
+-- every process is blocked or over, and none can take a signal
 abbrev pub is_still : Kernel → Bool
 is_still k = not (list_any can_act k.processes)
 
 -- the process with the lowest pid that has a step
 abbrev pub lowest : Kernel → Option (Pid × ProcState)
-lowest k = find can_act k.processes
+lowest k = find (λ (e : Pid × ProcState). has_step (next_step e.1)) k.processes
+
+-- the process with the lowest pid that can take a signal
+abbrev pub lowest_taker : Kernel → Option (Pid × ProcState)
+lowest_taker k = find (λ (e : Pid × ProcState). can_take e.1) k.processes
 
 -- a pid is a cluster's number and 16 times a serial, so these are of one cluster
 abbrev pub same_cluster : Pid → Pid → Bool
@@ -41,9 +46,13 @@ item_of_step k p Forks = Fork p (next_child k p)
 item_of_step k p (Emits e s) = Run p 1
 item_of_step k p Over = Run p 1
 
--- it makes one step
+-- the step of the process with the lowest pid that has one
+abbrev pub lowest_step : Kernel → Option Item
+lowest_step k = option_map (λ (e : Pid × ProcState). item_of_step k e.0 (next_step e.1)) (lowest k)
+
+-- the lowest pid that can take a signal takes it; where none can, the lowest that has a step makes one
 unfoldable pub default_item : Kernel → Option Item
-default_item k = option_map (λ (e : Pid × ProcState). item_of_step k e.0 (next_step e.1)) (lowest k)
+default_item k = option_or (option_map (λ (e : Pid × ProcState). Take e.0) (lowest_taker k)) (lowest_step k)
 
 unfoldable pub default_step : Kernel → Option Kernel
 default_step k = option_and_then (apply k) (default_item k)

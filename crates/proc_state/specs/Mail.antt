@@ -45,6 +45,10 @@ abbrev pub without_first : {X : Type 0} → (X → Bool) → List X → List X
 without_first test [] = []
 without_first test (x ∷ xs) = if test x then xs else x ∷ without_first test xs
 
+-- the letter that is taken as a signal: signals come to end 0, which is a terminal's or shut, so no other letter does
+abbrev pub signal_letter : List Arrived → Option Arrived
+signal_letter mail = find (is_on 0) mail
+
 -- the first signal that waits
 abbrev pub first_signal : List Arrived → Option ℕ
-first_signal mail = option_and_then (λ (a : Arrived). signal_of (a.letter).body) (find is_signal mail)
+first_signal mail = option_and_then (λ (a : Arrived). signal_of (a.letter).body) (signal_letter mail)

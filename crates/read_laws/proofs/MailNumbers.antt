@@ -18,6 +18,7 @@ use Rattle.t32_base.specs.declared.letter.To.{To}
 use Rattle.t32_base.specs.declared.letter.To.TheVariants.{Proc, Tty}
 use Rattle.sys_text.specs.declared.system.System.{System}
 use Rattle.rv_mem.specs.Memory.{is_inside, bytes_at}
+use Rattle.t32_base.specs.Registers.{Registers}
 use Rattle.rv_cpu.specs.Exec.{Executed, Steps, Calls, Traps, exec, reg}
 use Rattle.proc_state.specs.Ends.{free_end, leads_at}
 use Rattle.proc_state.specs.Mail.{without_first}
@@ -25,7 +26,7 @@ use Rattle.proc_state.specs.State.{ProcState, with_small, delivered, has_ended}
 use Rattle.sys_calls.specs.Small.{spent, lowest_linked}
 use Rattle.sys_calls.specs.declared.steps.Emission.{Emission}
 use Rattle.sys_calls.specs.declared.steps.Emission.TheVariants.{Mail, Exit}
-use Rattle.sys_calls.specs.Calls.{Next, Silent, Blocked, Forks, Emits, Over, Call, ExitCall, Write, Read, ReadAny, ForkCall, GetPid, Close, Unknown, arg, answers, refused, letter_to, called, call_of, close_to, first_wanted, is_wanted, read_any_checked, read_call, read_checked, read_found, write_to}
+use Rattle.sys_calls.specs.Calls.{Next, Silent, Blocked, Forks, Emits, Over, Call, ExitCall, Write, Read, ReadAny, ForkCall, GetPid, Handler, Kill, SigReturn, Close, Unknown, arg, answers, refused, letter_to, called, call_of, close_to, first_wanted, is_wanted, read_any_checked, read_call, read_checked, read_found, write_to, handled_at, is_aligned, is_signal_number, signalled, sigreturn_call}
 use Rattle.sys_calls.specs.declared.reading.Reading.{Reading}
 use Rattle.sys_calls.specs.declared.reading.Reading.TheVariants.{Refused, AtEnd, Wants}
 use Rattle.sys_calls.specs.declared.reading.Wanted.{Wanted}
@@ -153,6 +154,18 @@ module _ (p : ProcState) (numbered : IsNumbered p) where
   forked false true = numbered
   forked false false = tt
 
+  handles : (ok : Bool) → KeepsNumbers (handled_at ok p (arg p 0))
+  handles true = numbered
+  handles false = numbered
+
+  signals : (ok : Bool) → KeepsNumbers (signalled ok p (arg p 0) (arg p 1))
+  signals true = numbered
+  signals false = numbered
+
+  returns : (o : Option Registers) → KeepsNumbers (sigreturn_call p o)
+  returns None = numbered
+  returns (Some regs) = numbered
+
   called_numbered : (c : Call) → KeepsNumbers (called c p)
   called_numbered ExitCall = numbered
   called_numbered Write = written (arg p 0) (arg p 1) (arg p 2) (leads_at (p.small).ends (arg p 0))
@@ -161,6 +174,9 @@ module _ (p : ProcState) (numbered : IsNumbered p) where
   called_numbered ForkCall = forked (eqb (p.small).births 0) (not (ltb (free_end (p.small).ends) 32))
   called_numbered Close = closed_to (arg p 0) (leads_at (p.small).ends (arg p 0))
   called_numbered GetPid = numbered
+  called_numbered Handler = handles (is_aligned (arg p 0))
+  called_numbered Kill = signals (is_signal_number (arg p 1))
+  called_numbered SigReturn = returns (p.small).frame
   called_numbered Unknown = numbered
 
 executed : (s : ProcState) (x : Executed) → IsNumbered s → KeepsNumbers (after_exec x (with_small s (spent s.small)))

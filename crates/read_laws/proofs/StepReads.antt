@@ -12,6 +12,7 @@ use Rattle.t32_base.specs.declared.letter.Body.TheVariants.{Said}
 use Rattle.t32_base.specs.declared.letter.To.{To}
 use Rattle.t32_base.specs.declared.letter.To.TheVariants.{Proc, Tty}
 use Rattle.rv_mem.specs.Memory.{is_inside, bytes_at}
+use Rattle.t32_base.specs.Registers.{Registers}
 use Rattle.rv_cpu.specs.Exec.{Executed, Steps, Calls, Traps, exec, reg}
 use Rattle.proc_state.specs.Ends.{free_end, is_linked, is_open_at, is_unfinished, is_unfinished_at, leads_at}
 use Rattle.proc_state.specs.Mail.{is_on, is_on_linked, without_first}
@@ -24,7 +25,7 @@ use Rattle.sys_calls.specs.declared.reading.Reading.{Reading}
 use Rattle.sys_calls.specs.declared.reading.Reading.TheVariants.{Refused, AtEnd, Wants}
 use Rattle.sys_calls.specs.declared.reading.Wanted.{Wanted}
 use Rattle.sys_calls.specs.declared.reading.Wanted.TheVariants.{On, AnyLinked}
-use Rattle.sys_calls.specs.Calls.{Next, Silent, Blocked, Forks, Emits, Over, Call, ExitCall, Write, Read, ReadAny, ForkCall, GetPid, Close, Unknown, arg, answers, refused, letter_to, called, call_of, close_to, first_wanted, read_any_checked, read_call, read_checked, read_found, room, write_to}
+use Rattle.sys_calls.specs.Calls.{Next, Silent, Blocked, Forks, Emits, Over, Call, ExitCall, Write, Read, ReadAny, ForkCall, GetPid, Handler, Kill, SigReturn, Close, Unknown, arg, answers, refused, letter_to, called, call_of, close_to, first_wanted, read_any_checked, read_call, read_checked, read_found, room, write_to, handled_at, is_aligned, is_signal_number, signalled, sigreturn_call}
 use Rattle.sys_calls.specs.Next.{next_step, step_by, live_step, after_exec, closing_step}
 
 -- the mailbox stayed, or the first letter for one of so many ends was taken out
@@ -117,6 +118,18 @@ module _ (p : ProcState) where
   forked false true = none refl
   forked false false = tt
 
+  handles : (ok : Bool) → StepReads p (handled_at ok p (arg p 0))
+  handles true = none refl
+  handles false = none refl
+
+  signals : (ok : Bool) → StepReads p (signalled ok p (arg p 0) (arg p 1))
+  signals true = refl
+  signals false = none refl
+
+  returns : (o : Option Registers) → StepReads p (sigreturn_call p o)
+  returns None = none refl
+  returns (Some regs) = none refl
+
   called_reads : (c : Call) → StepReads p (called c p)
   called_reads ExitCall = none refl
   called_reads Write = written (arg p 0) (arg p 1) (arg p 2) (leads_at (p.small).ends (arg p 0))
@@ -125,6 +138,9 @@ module _ (p : ProcState) where
   called_reads ForkCall = forked (eqb (p.small).births 0) (not (ltb (free_end (p.small).ends) 32))
   called_reads Close = closed_to (arg p 0) (leads_at (p.small).ends (arg p 0))
   called_reads GetPid = none refl
+  called_reads Handler = handles (is_aligned (arg p 0))
+  called_reads Kill = signals (is_signal_number (arg p 1))
+  called_reads SigReturn = returns (p.small).frame
   called_reads Unknown = none refl
 
 -- ---- a step

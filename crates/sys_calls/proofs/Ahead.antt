@@ -16,6 +16,7 @@ use Rattle.sys_calls.specs.Next.{next_step, silent_of, silently}
 use Rattle.sys_calls.specs.Small.{after_instructions}
 use Rattle.sys_calls.specs.Steps.{is_silent, marked, Makes, RunsOn, Shorter, Touches}
 use Rattle.sys_calls.proofs.Running.{ran_silently, silently-marked}
+use Rattle.sys_calls.proofs.Untaken.{joined, untaken_none}
 
 pub none_made : (s : ProcState) → silently 0 s ≡ Some s
 unfolding silently
@@ -24,24 +25,6 @@ none_made s = refl
 pub one_more : (n : ℕ) (s q t : ProcState) → silently n s ≡ Some q → next_step q ≡ Silent t → silently (suc n) s ≡ Some t
 unfolding silently
 one_more n s q t made step = ap (option_and_then (λ p. silent_of (next_step p))) made ∙ ap silent_of step
-
-again : (n : ℕ) (o : Option ProcState) → option_and_then (λ q. silent_of (next_step q)) (option_and_then (silently n) o) ≡ option_and_then (silently (suc n)) o
-unfolding silently
-again n None = refl
-again n (Some s) = refl
-
-none_again : (o : Option ProcState) → o ≡ option_and_then (silently 0) o
-unfolding silently
-none_again None = refl
-none_again (Some s) = refl
-
--- so many, and then so many more
-joined : (a b : ℕ) (s : ProcState) → silently (a + b) s ≡ option_and_then (silently b) (silently a s)
-unfolding silently
-joined a zero s = let e : a + 0 ≡ a = omega arith in ap (λ (k : ℕ). silently k s) e ∙ none_again (silently a s)
-joined a (suc b) s =
-    let e : a + suc b ≡ suc (a + b) = omega arith in
-    ap (λ (k : ℕ). silently k s) e ∙ ap (option_and_then (λ q. silent_of (next_step q))) (joined a b s) ∙ again b (silently a s)
 
 pub more : (a b : ℕ) (s q t : ProcState) → silently a s ≡ Some q → silently b q ≡ Some t → silently (a + b) s ≡ Some t
 more a b s q t first then = joined a b s ∙ ap (option_and_then (silently b)) first ∙ then
@@ -82,6 +65,7 @@ alone old new (Ok step) makes shorter touches = record {
   steps = 0;
   before = old;
   silent = none_made (state_of old);
+  untaken = untaken_none (state_of old);
   lighter = omega arith;
   makes = makes;
   shorter = shorter;

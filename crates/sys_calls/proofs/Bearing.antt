@@ -18,6 +18,7 @@ use Rattle.t32_base.specs.declared.letter.To.{To}
 use Rattle.t32_base.specs.declared.letter.To.TheVariants.{Proc, Tty}
 use Rattle.t32_base.specs.Small.{is_unshut, stages}
 use Rattle.rv_mem.specs.Memory.{is_inside, bytes_at}
+use Rattle.t32_base.specs.Registers.{Registers}
 use Rattle.rv_cpu.specs.Exec.{Executed, Steps, Calls, Traps, exec, reg}
 use Rattle.proc_state.specs.Ends.{free_end, is_never, leads_at}
 use Rattle.proc_state.specs.State.{ProcState, delivered, with_small}
@@ -28,7 +29,7 @@ use Rattle.sys_calls.specs.declared.reading.Reading.{Reading}
 use Rattle.sys_calls.specs.declared.reading.Reading.TheVariants.{Refused, AtEnd, Wants}
 use Rattle.sys_calls.specs.declared.reading.Wanted.{Wanted}
 use Rattle.sys_calls.specs.declared.reading.Wanted.TheVariants.{On, AnyLinked}
-use Rattle.sys_calls.specs.Calls.{Next, Silent, Blocked, Forks, Emits, Over, Call, ExitCall, Write, Read, ReadAny, ForkCall, GetPid, Close, Unknown, answers, arg, call_of, called, close_to, first_wanted, letter_to, read_any_checked, read_call, read_checked, read_found, refused, write_to}
+use Rattle.sys_calls.specs.Calls.{Next, Silent, Blocked, Forks, Emits, Over, Call, ExitCall, Write, Read, ReadAny, ForkCall, GetPid, Handler, Kill, SigReturn, Close, Unknown, answers, arg, call_of, called, close_to, first_wanted, letter_to, read_any_checked, read_call, read_checked, read_found, refused, write_to, handled_at, is_signal_number, signalled, sigreturn_call, is_aligned}
 use Rattle.sys_calls.specs.Next.{after_exec, closing_step, live_step, next_step, silent_of, silently, step_by}
 use Rattle.sys_calls.specs.Fork.{CanFork, child_births, fork_child, fork_parent}
 use Rattle.sys_calls.proofs.Weighing.{emits_leaves, next_leaves, Leaves}
@@ -88,6 +89,18 @@ module _ (s p : ProcState) (kept : KeepsBirths s p) where
   forked false true = kept
   forked false false = tt
 
+  handles : (ok : Bool) → Bears s (handled_at ok p (arg p 0))
+  handles true = kept
+  handles false = kept
+
+  signals : (ok : Bool) → Bears s (signalled ok p (arg p 0) (arg p 1))
+  signals true = kept
+  signals false = kept
+
+  returns : (o : Option Registers) → Bears s (sigreturn_call p o)
+  returns None = kept
+  returns (Some regs) = kept
+
   called_bears : (c : Call) → Bears s (called c p)
   called_bears ExitCall = kept
   called_bears Write = written (arg p 0) (arg p 1) (arg p 2) (leads_at (p.small).ends (arg p 0))
@@ -95,6 +108,9 @@ module _ (s p : ProcState) (kept : KeepsBirths s p) where
   called_bears ReadAny = read (read_any_checked p)
   called_bears ForkCall = forked (eqb (p.small).births 0) (not (ltb (free_end (p.small).ends) 32))
   called_bears GetPid = kept
+  called_bears Handler = handles (is_aligned (arg p 0))
+  called_bears Kill = signals (is_signal_number (arg p 1))
+  called_bears SigReturn = returns (p.small).frame
   called_bears Close = closed_to (arg p 0) (leads_at (p.small).ends (arg p 0))
   called_bears Unknown = kept
 

@@ -9,13 +9,14 @@ use Rattle.t32_base.specs.declared.letter.Arrived.{Arrived}
 use Rattle.t32_base.specs.declared.letter.To.{To}
 use Rattle.t32_base.specs.declared.letter.To.TheVariants.{Proc, Tty}
 use Rattle.rv_mem.specs.Memory.{is_inside, bytes_at}
+use Rattle.t32_base.specs.Registers.{Registers}
 use Rattle.rv_cpu.specs.Exec.{Executed, Steps, Calls, Traps, exec, reg}
 use Rattle.proc_state.specs.Ends.{free_end, leads_at}
 use Rattle.proc_state.specs.State.{ProcState, with_small, has_ended}
 use Rattle.sys_calls.specs.Small.{spent, lowest_linked}
 use Rattle.sys_calls.specs.declared.steps.Emission.{Emission}
 use Rattle.sys_calls.specs.declared.steps.Emission.TheVariants.{Mail, Exit}
-use Rattle.sys_calls.specs.Calls.{Next, Silent, Blocked, Forks, Emits, Over, Call, ExitCall, Write, Read, ReadAny, ForkCall, GetPid, Close, Unknown, arg, answers, refused, letter_to, called, call_of, close_to, first_wanted, read_any_checked, read_call, read_checked, read_found, write_to}
+use Rattle.sys_calls.specs.Calls.{Next, Silent, Blocked, Forks, Emits, Over, Call, ExitCall, Write, Read, ReadAny, ForkCall, GetPid, Handler, Kill, SigReturn, Close, Unknown, arg, answers, refused, letter_to, called, call_of, close_to, first_wanted, read_any_checked, read_call, read_checked, read_found, write_to, handled_at, is_signal_number, signalled, sigreturn_call, is_aligned}
 use Rattle.sys_calls.specs.declared.reading.Reading.{Reading}
 use Rattle.sys_calls.specs.declared.reading.Reading.TheVariants.{Refused, AtEnd, Wants}
 use Rattle.sys_calls.specs.declared.reading.Wanted.{Wanted}
@@ -80,6 +81,18 @@ module _ (s p : ProcState) (one : CountsOne s p) (open_still : has_ended (p.smal
   forked false true = (record { steps = one.steps; pid = one.pid; next = one.next }, open_still)
   forked false false = tt
 
+  handles : (ok : Bool) → Counts s (handled_at ok p (arg p 0))
+  handles true = (record { steps = one.steps; pid = one.pid; next = one.next }, open_still)
+  handles false = (record { steps = one.steps; pid = one.pid; next = one.next }, open_still)
+
+  signals : (ok : Bool) → Counts s (signalled ok p (arg p 0) (arg p 1))
+  signals true = (record { steps = one.steps; pid = one.pid; next = one.next }, (one.pid, open_still))
+  signals false = (record { steps = one.steps; pid = one.pid; next = one.next }, open_still)
+
+  returns : (o : Option Registers) → Counts s (sigreturn_call p o)
+  returns None = (record { steps = one.steps; pid = one.pid; next = one.next }, open_still)
+  returns (Some regs) = (record { steps = one.steps; pid = one.pid; next = one.next }, open_still)
+
   called_counts : (c : Call) → Counts s (called c p)
   called_counts ExitCall = (record { steps = one.steps; pid = one.pid; next = one.next }, refl)
   called_counts Write = written (arg p 0) (arg p 1) (arg p 2) (leads_at (p.small).ends (arg p 0))
@@ -88,6 +101,9 @@ module _ (s p : ProcState) (one : CountsOne s p) (open_still : has_ended (p.smal
   called_counts ForkCall = forked (eqb (p.small).births 0) (not (ltb (free_end (p.small).ends) 32))
   called_counts Close = closed_to (arg p 0) (leads_at (p.small).ends (arg p 0))
   called_counts GetPid = (record { steps = one.steps; pid = one.pid; next = one.next }, open_still)
+  called_counts Handler = handles (is_aligned (arg p 0))
+  called_counts Kill = signals (is_signal_number (arg p 1))
+  called_counts SigReturn = returns (p.small).frame
   called_counts Unknown = (record { steps = one.steps; pid = one.pid; next = one.next }, open_still)
 
 executed : (s : ProcState) → has_ended (s.small).status ≡ false → (x : Executed) → Counts s (after_exec x (with_small s (spent s.small)))

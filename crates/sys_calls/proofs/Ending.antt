@@ -6,12 +6,13 @@ use Rattle.t32_base.specs.declared.letter.Body.TheVariants.{Said}
 use Rattle.t32_base.specs.declared.letter.To.{To}
 use Rattle.t32_base.specs.declared.letter.To.TheVariants.{Proc, Tty}
 use Rattle.rv_mem.specs.Memory.{is_inside, bytes_at}
+use Rattle.t32_base.specs.Registers.{Registers}
 use Rattle.rv_cpu.specs.Exec.{Executed, Steps, Calls, Traps, exec, reg}
 use Rattle.proc_state.specs.Ends.{free_end, leads_at}
 use Rattle.proc_state.specs.State.{ProcState, with_small}
 use Rattle.sys_calls.specs.Small.{spent}
 use Rattle.sys_calls.specs.declared.steps.Emission.TheVariants.{Mail}
-use Rattle.sys_calls.specs.Calls.{Silent, Forks, Emits, Call, ExitCall, Write, Read, ReadAny, ForkCall, GetPid, Close, Unknown, arg, answers, refused, letter_to, called, call_of, close_to, first_wanted, read_any_checked, read_call, read_checked, read_found, write_to}
+use Rattle.sys_calls.specs.Calls.{Silent, Forks, Emits, Call, ExitCall, Write, Read, ReadAny, ForkCall, GetPid, Handler, Kill, SigReturn, Close, Unknown, arg, answers, refused, letter_to, called, call_of, close_to, first_wanted, read_any_checked, read_call, read_checked, read_found, write_to, handled_at, is_signal_number, signalled, sigreturn_call, is_aligned}
 use Rattle.sys_calls.specs.declared.reading.Reading.{Reading}
 use Rattle.sys_calls.specs.declared.reading.Reading.TheVariants.{Refused, AtEnd, Wants}
 use Rattle.sys_calls.specs.declared.reading.Wanted.{Wanted}
@@ -48,6 +49,18 @@ module _ (p : ProcState) where
   forked false true = refl
   forked false false = refl
 
+  handles : (ok : Bool) → is_exit (handled_at ok p (arg p 0)) ≡ false
+  handles true = refl
+  handles false = refl
+
+  signals : (ok : Bool) → is_exit (signalled ok p (arg p 0) (arg p 1)) ≡ false
+  signals true = refl
+  signals false = refl
+
+  returns : (o : Option Registers) → is_exit (sigreturn_call p o) ≡ false
+  returns None = refl
+  returns (Some regs) = refl
+
   no_call : (c : Call) → is_exit (called c p) ≡ false
   no_call ExitCall = refl
   no_call Write = written (arg p 0) (arg p 1) (arg p 2) (leads_at (p.small).ends (arg p 0))
@@ -56,6 +69,9 @@ module _ (p : ProcState) where
   no_call ForkCall = forked (eqb (p.small).births 0) (not (ltb (free_end (p.small).ends) 32))
   no_call Close = closed (arg p 0) (leads_at (p.small).ends (arg p 0))
   no_call GetPid = refl
+  no_call Handler = handles (is_aligned (arg p 0))
+  no_call Kill = signals (is_signal_number (arg p 1))
+  no_call SigReturn = returns (p.small).frame
   no_call Unknown = refl
 
 executed : (s : ProcState) (x : Executed) → is_exit (after_exec x (with_small s (spent s.small))) ≡ false

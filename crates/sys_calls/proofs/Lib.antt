@@ -2,10 +2,12 @@ mod Calling
 pub mod Running
 pub mod RunLemma
 mod Shutting
+pub mod Untaken
 mod Waiting
 mod Wanting
 pub mod Counting
 pub mod Quiet
+mod Killing
 pub mod Leaving
 pub mod Taking
 pub mod Clean

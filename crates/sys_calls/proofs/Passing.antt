@@ -2,7 +2,7 @@
 use Rattle.std.proofs.Common.{◌≡◌, ℕ, suc, ◌+◌, ◌-◌, ◌<◌, ◌≤◌, sym, ◌∙◌, ap, subst, arith, Bool, true, false, Some, Result, Ok, Err}
 use Rattle.std.specs.Prelude.{IfOk}
 use Rattle.proc_state.specs.declared.process.Process.{Process}
-use Rattle.proc_state.specs.State.{state_of, with_small}
+use Rattle.proc_state.specs.State.{can_take, state_of, with_small}
 use Rattle.t32_base.specs.declared.process.Status.TheVariants.{Live}
 use Rattle.rv_cpu.specs.declared.Did.{Did}
 use Rattle.rv_cpu.specs.declared.Did.TheVariants.{Stepped, Call}
@@ -19,17 +19,19 @@ use Rattle.t32_base.specs.Small.{SmallState}
 use Rattle.sys_calls.specs.Next.{letter_by, letter_live, letter_taken, live_step, marks_by, marks_live, next_step, silently, step_by, step_marks}
 use Rattle.sys_calls.specs.Passing.{IsAtCall, Passes, PassesCall, Went}
 use Rattle.sys_calls.specs.Small.{after_instructions, spent, weight}
-use Rattle.sys_calls.specs.Steps.{is_silent, was_silent, Makes, RunsOn, Shorter, Touches, step_of_read}
+use Rattle.sys_calls.specs.Steps.{is_silent, was_silent, Makes, RunsOn, Shorter, Touches, step_of_read, StaysUntaken}
 use Rattle.sys_calls.proofs.Ahead.{alone, left_some, live_still, more, none_made, not_none, one_more, ran_on, some_left, was_silent_step}
+use Rattle.sys_calls.proofs.Untaken.{untaken_by_last, untaken_more, untaken_none, untaken_ran}
 use Rattle.sys_calls.proofs.Calling.{calls, live_as}
 use Rattle.sys_calls.proofs.Waiting.{reads_called}
 
 -- instructions, and then what comes after them
-pub went_on : (n : ℕ) (step : Step) (old mid new : Process) → silently n (state_of old) ≡ Some (state_of mid) → weight mid.small + n ≤ weight old.small → RunsOn step mid new → RunsOn step old new
-went_on n step old mid new made lighter then = record {
+pub went_on : (n : ℕ) (step : Step) (old mid new : Process) → silently n (state_of old) ≡ Some (state_of mid) → StaysUntaken n (state_of old) → weight mid.small + n ≤ weight old.small → RunsOn step mid new → RunsOn step old new
+went_on n step old mid new made untaken lighter then = record {
   steps = n + then.steps;
   before = then.before;
   silent = more n then.steps (state_of old) (state_of mid) (state_of then.before) made then.silent;
+  untaken = untaken_more n then.steps (state_of old) (state_of mid) made untaken then.untaken;
   lighter = omega (arith, lighter, then.lighter);
   makes = then.makes;
   shorter = then.shorter;
@@ -37,19 +39,20 @@ went_on n step old mid new made lighter then = record {
 }
 
 pub went_nowhere : (p : Process) → Went p p
-went_nowhere p = record { steps = 0; silent = none_made (state_of p); lighter = omega arith }
+went_nowhere p = record { steps = 0; silent = none_made (state_of p); untaken = untaken_none (state_of p); lighter = omega arith }
 
 -- one step more
 pub then_runs : (r : Result Step NoMemory) (old mid new : Process) → Went old mid → IfOk r (λ step. RunsOn step mid new) → IfOk r (λ step. RunsOn step old new)
-then_runs (Ok step) old mid new went then = went_on went.steps step old mid new went.silent went.lighter then
+then_runs (Ok step) old mid new went then = went_on went.steps step old mid new went.silent went.untaken went.lighter then
 then_runs (Err e) old mid new went then = tt
 
-pub then_went : (r : Result Step NoMemory) (old mid new : Process) → was_silent r ≡ true → Went old mid → IfOk r (λ step. RunsOn step mid new) → Went old new
-then_went (Ok step) old mid new silent went then =
+pub then_went : (r : Result Step NoMemory) (old mid new : Process) → was_silent r ≡ true → can_take (state_of new) ≡ false → Went old mid → IfOk r (λ step. RunsOn step mid new) → Went old new
+then_went (Ok step) old mid new silent none went then =
     let ran = subst (λ s. RunsOn s mid new) (was_silent_step step silent) then in
-    let all = went_on went.steps WasSilent old mid new went.silent went.lighter ran in
-    record { steps = suc all.steps; silent = one_more all.steps (state_of old) (state_of all.before) (state_of new) all.silent all.makes; lighter = omega (arith, all.lighter, all.shorter.0) }
-then_went (Err e) old mid new silent went then = cc
+    let all = went_on went.steps WasSilent old mid new went.silent went.untaken went.lighter ran in
+    let last = one_more all.steps (state_of old) (state_of all.before) (state_of new) all.silent all.makes in
+    record { steps = suc all.steps; silent = last; untaken = untaken_by_last all.steps (state_of old) (state_of new) all.untaken last (λ before. none); lighter = omega (arith, all.lighter, all.shorter.0) }
+then_went (Err e) old mid new silent none went then = cc
 
 -- a silent step leaves fewer
 pub then_lighter : (r : Result Step NoMemory) (mid new : Process) → was_silent r ≡ true → IfOk r (λ step. RunsOn step mid new) → weight new.small + 1 ≤ weight mid.small
@@ -67,6 +70,7 @@ pub went_again : (old mid new : Process) → Went old mid → Went mid new → W
 went_again old mid new first then = record {
   steps = first.steps + then.steps;
   silent = more first.steps then.steps (state_of old) (state_of mid) (state_of new) first.silent then.silent;
+  untaken = untaken_more first.steps then.steps (state_of old) (state_of mid) first.silent first.untaken then.untaken;
   lighter = omega (arith, first.lighter, then.lighter);
 }
 
@@ -87,8 +91,8 @@ read_alone p new reading r at is makes shorter touches =
     call_alone p new (step_of_read r) at (subst (λ n. Makes n (step_of_read r) (state_of p) (state_of new)) (sym (reads_called (state_of p) (call_of (reg (p.small).regs 17)) reading is)) makes) shorter touches
 
 passes_on : (passed : Passed) (old mid new : Process) → Went old mid → IsAtCall mid → PassesCall passed mid new → Passes passed old new
-passes_on Silently old mid new went at then = went_on went.steps _ old mid new went.silent went.lighter then
-passes_on Waiting old mid new went at then = went_on went.steps _ old mid new went.silent went.lighter then
+passes_on Silently old mid new went at then = went_on went.steps _ old mid new went.silent went.untaken went.lighter then
+passes_on Waiting old mid new went at then = went_on went.steps _ old mid new went.silent went.untaken went.lighter then
 passes_on Calling old mid new went at same = subst (λ q. Went old q × IsAtCall q) (sym same) (went, at)
 passes_on Leaving old mid new went at same = subst (λ q. Went old q) (sym same) went
 
@@ -129,5 +133,6 @@ pub went_by : (p mid : Process) (n most : ℕ) → (p.small).status ≡ Live →
 went_by p mid n most live made most_is by small mail lighter = record {
   steps = n;
   silent = ran_on n p mid live (subst (λ m. n ≤ m) most_is made) by small mail;
+  untaken = untaken_ran n (state_of p) (p.ram).dirty (machine_of (mid.small).regs mid.ram) live (subst (λ m. n ≤ m) most_is made) by;
   lighter = omega (arith, lighter);
 }

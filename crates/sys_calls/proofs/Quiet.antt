@@ -1,4 +1,4 @@
--- No call sends a signal yet, so none waits where none waited; and no step is a fork.
+-- No call sends a signal yet, so none waits where none waited.
 use Rattle.std.proofs.Common.{◌≡◌, ℕ, zero, suc, refl, ◌∙◌, ap, subst, List, [], ◌∷◌, Bool, true, false, cond, not, ◌&&◌, ◌||◌, eqb, ltb, Option, Some, None, option_and_then, is_none, is_some, true≢false}
 use Rattle.std.specs.Prelude.{find}
 use Rattle.std.specs.List.{list_any}
@@ -7,19 +7,21 @@ use Rattle.t32_base.specs.declared.process.End.{End}
 use Rattle.t32_base.specs.declared.process.Status.{Status}
 use Rattle.t32_base.specs.declared.process.Status.TheVariants.{Live, Closing, Ended}
 use Rattle.t32_base.specs.declared.letter.Letter.{Letter}
-use Rattle.t32_base.specs.declared.letter.Body.TheVariants.{Said}
+use Rattle.t32_base.specs.declared.letter.Body.{Body}
+use Rattle.t32_base.specs.declared.letter.Body.TheVariants.{Said, EndOf, Signal}
 use Rattle.t32_base.specs.declared.letter.Arrived.{Arrived}
 use Rattle.t32_base.specs.declared.letter.To.{To}
 use Rattle.t32_base.specs.declared.letter.To.TheVariants.{Proc, Tty}
 use Rattle.rv_mem.specs.Memory.{is_inside, bytes_at}
+use Rattle.t32_base.specs.Registers.{Registers}
 use Rattle.rv_cpu.specs.Exec.{Executed, Steps, Calls, Traps, exec, reg}
 use Rattle.proc_state.specs.Ends.{free_end, leads_at}
-use Rattle.proc_state.specs.Mail.{carries_signal, is_signal, signal_of, without_first}
+use Rattle.proc_state.specs.Mail.{carries_signal, is_on, is_signal, signal_of, without_first}
 use Rattle.proc_state.specs.State.{ProcState, with_small, can_take, delivered, is_live}
 use Rattle.sys_calls.specs.Small.{spent, lowest_linked}
 use Rattle.sys_calls.specs.declared.steps.Emission.{Emission}
 use Rattle.sys_calls.specs.declared.steps.Emission.TheVariants.{Mail, Exit}
-use Rattle.sys_calls.specs.Calls.{Next, Silent, Blocked, Forks, Emits, Over, Call, ExitCall, Write, Read, ReadAny, ForkCall, GetPid, Close, Unknown, arg, answers, refused, letter_to, called, call_of, close_to, first_wanted, is_wanted, read_any_checked, read_call, read_checked, read_found, write_to}
+use Rattle.sys_calls.specs.Calls.{Next, Silent, Blocked, Forks, Emits, Over, Call, ExitCall, Write, Read, ReadAny, ForkCall, GetPid, Handler, Kill, SigReturn, Close, Unknown, arg, answers, refused, letter_to, called, call_of, close_to, first_wanted, is_wanted, read_any_checked, read_call, read_checked, read_found, write_to, handled_at, is_aligned, is_signal_number, signalled, sigreturn_call, kill_is_built}
 use Rattle.sys_calls.specs.declared.reading.Reading.{Reading}
 use Rattle.sys_calls.specs.declared.reading.Reading.TheVariants.{Refused, AtEnd, Wants}
 use Rattle.sys_calls.specs.declared.reading.Wanted.{Wanted}
@@ -50,6 +52,42 @@ none_without t u (x ∷ xs) none = by_tests (u x) (t x) refl none (none_without 
     by_tests b true is e more = absurd (true≢false e)
     by_tests true false is e more = e
     by_tests false false is e more = ap (λ b. b || list_any t (without_first u xs)) is ∙ more e
+
+-- ---- while no signal is sent
+
+abbrev is_kill : Call → Bool
+is_kill ExitCall = false
+is_kill Write = false
+is_kill Read = false
+is_kill ReadAny = false
+is_kill ForkCall = false
+is_kill GetPid = false
+is_kill Handler = false
+is_kill Kill = true
+is_kill SigReturn = false
+is_kill Close = false
+is_kill Unknown = false
+
+none_kills : is_kill kill_is_built ≡ false
+unfolding kill_is_built
+none_kills = refl
+
+other_kind : (a b c d f g h i j k : Bool)
+    → is_kill (cond a ExitCall (cond b Write (cond c Read (cond d ReadAny (cond f ForkCall (cond g GetPid (cond h Handler (cond i kill_is_built (cond j SigReturn (cond k Close Unknown)))))))))) ≡ false
+other_kind true b c d f g h i j k = refl
+other_kind false true c d f g h i j k = refl
+other_kind false false true d f g h i j k = refl
+other_kind false false false true f g h i j k = refl
+other_kind false false false false true g h i j k = refl
+other_kind false false false false false true h i j k = refl
+other_kind false false false false false false true i j k = refl
+other_kind false false false false false false false true j k = none_kills
+other_kind false false false false false false false false true k = refl
+other_kind false false false false false false false false false true = refl
+other_kind false false false false false false false false false false = refl
+
+never_kills : (n : ℕ) → is_kill (call_of n) ≡ false
+never_kills n = other_kind (eqb n 1) (eqb n 2) (eqb n 3) (eqb n 4) (eqb n 5) (eqb n 6) (eqb n 7) (eqb n 8) (eqb n 9) (eqb n 10)
 
 module _ (s p : ProcState) (same : no_signal s.mail → no_signal p.mail) where
   written_some : (e ptr len : ℕ) (to : To) (none : Bool)
@@ -90,20 +128,31 @@ module _ (s p : ProcState) (same : no_signal s.mail → no_signal p.mail) where
   forked false true = same
   forked false false = tt
 
-  called_quiet : (c : Call) → Quiet s (called c p)
-  called_quiet ExitCall = same
-  called_quiet Write = written (arg p 0) (arg p 1) (arg p 2) (leads_at (p.small).ends (arg p 0))
-  called_quiet Read = read (read_checked p)
-  called_quiet ReadAny = read (read_any_checked p)
-  called_quiet ForkCall = forked (eqb (p.small).births 0) (not (ltb (free_end (p.small).ends) 32))
-  called_quiet Close = closed_to (arg p 0) (leads_at (p.small).ends (arg p 0))
-  called_quiet GetPid = same
-  called_quiet Unknown = same
+  handles : (ok : Bool) → Quiet s (handled_at ok p (arg p 0))
+  handles true = same
+  handles false = same
+
+  returns : (o : Option Registers) → Quiet s (sigreturn_call p o)
+  returns None = same
+  returns (Some regs) = same
+
+  called_quiet : (c : Call) → is_kill c ≡ false → Quiet s (called c p)
+  called_quiet ExitCall other = same
+  called_quiet Write other = written (arg p 0) (arg p 1) (arg p 2) (leads_at (p.small).ends (arg p 0))
+  called_quiet Read other = read (read_checked p)
+  called_quiet ReadAny other = read (read_any_checked p)
+  called_quiet ForkCall other = forked (eqb (p.small).births 0) (not (ltb (free_end (p.small).ends) 32))
+  called_quiet Close other = closed_to (arg p 0) (leads_at (p.small).ends (arg p 0))
+  called_quiet GetPid other = same
+  called_quiet Handler other = handles (is_aligned (arg p 0))
+  called_quiet Kill other = cc
+  called_quiet SigReturn other = returns (p.small).frame
+  called_quiet Unknown other = same
 
 executed : (s : ProcState) (x : Executed) → Quiet s (after_exec x (with_small s (spent s.small)))
 executed s (Steps regs bytes) = λ none. none
 executed s (Traps code) = λ none. none
-executed s Calls = called_quiet s (with_small s (spent s.small)) (λ none. none) (call_of (reg (s.small).regs 17))
+executed s Calls = called_quiet s (with_small s (spent s.small)) (λ none. none) (call_of (reg (s.small).regs 17)) (never_kills (reg (s.small).regs 17))
 
 lived : (s : ProcState) (b : Bool) → Quiet s (live_step b s)
 lived s true = λ none. none
@@ -154,18 +203,26 @@ pub delivered_quiet : (s : ProcState) (letter : Letter) → carries_signal lette
 delivered_quiet s letter other none =
     list_any-append is_signal s.mail (record { number = s.next; letter = letter } ∷ []) ∙ (λ i. none i || (other i || false))
 
-first_none : (mail : List Arrived) → no_signal mail → find is_signal mail ≡ None
-first_none [] none = refl
-first_none (a ∷ mail) none = by_test (is_signal a) none (first_none mail)
+-- the first letter at an end carries no signal
+first_none : (mail : List Arrived) (test : Arrived → Bool) → no_signal mail → option_and_then (λ (a : Arrived). signal_of (a.letter).body) (find test mail) ≡ None
+first_none [] test none = refl
+first_none (a ∷ mail) test none = by_tests (test a) (is_signal a) refl none (first_none mail test)
   where
-    by_test : (b : Bool) → (b || list_any is_signal mail) ≡ false → (no_signal mail → find is_signal mail ≡ None) → cond b (Some a) (find is_signal mail) ≡ None
-    by_test true e more = absurd (true≢false e)
-    by_test false e more = more e
+    no_number : (body : Body) → carries_signal body ≡ false → signal_of body ≡ None
+    no_number (Said bytes) other = refl
+    no_number EndOf other = refl
+    no_number (Signal g) other = cc
+
+    by_tests : (b c : Bool) → is_signal a ≡ c → (c || list_any is_signal mail) ≡ false → (no_signal mail → option_and_then (λ (a : Arrived). signal_of (a.letter).body) (find test mail) ≡ None)
+        → option_and_then (λ (a : Arrived). signal_of (a.letter).body) (cond b (Some a) (find test mail)) ≡ None
+    by_tests b true is e more = absurd (true≢false e)
+    by_tests true false is e more = no_number (a.letter).body is
+    by_tests false false is e more = more e
 
 -- where no signal waits, none can be taken
 pub takes_none : (s : ProcState) → no_signal s.mail → can_take s ≡ false
 takes_none s none =
-    ap (λ o. is_live (s.small).status && is_none (s.small).frame && is_some (option_and_then (λ (a : Arrived). signal_of (a.letter).body) o)) (first_none s.mail none)
+    ap (λ o. is_live (s.small).status && is_none (s.small).frame && is_some o) (first_none s.mail (is_on 0) none)
     ∙ by_tests (is_live (s.small).status) (is_none (s.small).frame)
   where
     by_tests : (b c : Bool) → (b && c && false) ≡ false

@@ -11,6 +11,7 @@ use Rattle.t32_base.specs.declared.letter.Arrived.{Arrived}
 use Rattle.t32_base.specs.declared.letter.To.{To}
 use Rattle.t32_base.specs.declared.letter.To.TheVariants.{Proc, Tty}
 use Rattle.rv_mem.specs.Memory.{is_inside}
+use Rattle.t32_base.specs.Registers.{Registers}
 use Rattle.rv_cpu.specs.Exec.{Executed, Steps, Calls, Traps, exec, exec_marks, reg}
 use Rattle.proc_state.specs.Ends.{free_end, leads_at}
 use Rattle.proc_state.specs.Mail.{without_first}
@@ -21,7 +22,7 @@ use Rattle.sys_calls.specs.declared.reading.Reading.{Reading}
 use Rattle.sys_calls.specs.declared.reading.Reading.TheVariants.{Refused, AtEnd, Wants}
 use Rattle.sys_calls.specs.declared.reading.Wanted.{Wanted}
 use Rattle.sys_calls.specs.declared.reading.Wanted.TheVariants.{On, AnyLinked}
-use Rattle.sys_calls.specs.Calls.{Next, Silent, Blocked, Forks, Emits, Over, Call, ExitCall, Write, Read, ReadAny, ForkCall, GetPid, Close, Unknown, called, call_of, close_to, first_wanted, is_wanted, letter_read, read_any_checked, read_call, read_checked, read_found, write_to, arg, letter_called, marks_called, marks_found, marks_read, wanted_letter}
+use Rattle.sys_calls.specs.Calls.{Next, Silent, Blocked, Forks, Emits, Over, Call, ExitCall, Write, Read, ReadAny, ForkCall, GetPid, Handler, Kill, SigReturn, Close, Unknown, called, call_of, close_to, first_wanted, is_wanted, letter_read, read_any_checked, read_call, read_checked, read_found, write_to, arg, letter_called, marks_called, marks_found, marks_read, wanted_letter, handled_at, is_aligned, is_signal_number, signalled, sigreturn_call}
 use Rattle.sys_calls.specs.Next.{letter_by, letter_executed, letter_live, letter_taken, marks_by, marks_executed, marks_live, step_marks, Marked, silent_step, silently_marked, next_step, step_by, live_step, after_exec, closing_step, is_blocked, silently, silent_of, emission_of, last_emission}
 
 -- a step with the process after it changed
@@ -84,6 +85,18 @@ close-delivered l p e None h = refl
 close-delivered l p e (Some (Tty t)) h = refl
 close-delivered l p e (Some (Proc peer far)) h = refl
 
+handles : (l : Letter) (p : ProcState) (ok : Bool) → SameWith l (handled_at ok p (arg p 0)) (handled_at ok (delivered p l) (arg p 0))
+handles l p true = λ _. refl
+handles l p false = λ _. refl
+
+signals : (l : Letter) (p : ProcState) (ok : Bool) → SameWith l (signalled ok p (arg p 0) (arg p 1)) (signalled ok (delivered p l) (arg p 0) (arg p 1))
+signals l p true = λ _. refl
+signals l p false = λ _. refl
+
+returns : (l : Letter) (p : ProcState) (o : Option Registers) → SameWith l (sigreturn_call p o) (sigreturn_call (delivered p l) o)
+returns l p None = λ _. refl
+returns l p (Some regs) = λ _. refl
+
 -- each call
 called-delivered : (l : Letter) (c : Call) (p : ProcState) → SameWith l (called c p) (called c (delivered p l))
 called-delivered l ExitCall p = λ _. refl
@@ -92,6 +105,9 @@ called-delivered l Read p = read-delivered l p (read_checked p)
 called-delivered l ReadAny p = read-delivered l p (read_any_checked p)
 called-delivered l ForkCall p = either l (eqb (p.small).births 0) _ _ _ _ (λ _. refl) (either l (not (ltb (free_end (p.small).ends) 32)) _ _ _ _ (λ _. refl) (λ _. refl))
 called-delivered l GetPid p = λ _. refl
+called-delivered l Handler p = handles l p (is_aligned (arg p 0))
+called-delivered l Kill p = signals l p (is_signal_number (arg p 1))
+called-delivered l SigReturn p = returns l p (p.small).frame
 called-delivered l Close p = close-delivered l p (arg p 0) (leads_at (p.small).ends (arg p 0))
 called-delivered l Unknown p = λ _. refl
 
@@ -142,6 +158,9 @@ letter-called l Read p h = letter-read l p (read_checked p) h
 letter-called l ReadAny p h = letter-read l p (read_any_checked p) h
 letter-called l ForkCall p h = refl
 letter-called l GetPid p h = refl
+letter-called l Handler p h = refl
+letter-called l Kill p h = refl
+letter-called l SigReturn p h = refl
 letter-called l Close p h = refl
 letter-called l Unknown p h = refl
 
@@ -152,6 +171,9 @@ marks-called l Read p dirty h = marks-read l p dirty (read_checked p) h
 marks-called l ReadAny p dirty h = marks-read l p dirty (read_any_checked p) h
 marks-called l ForkCall p dirty h = refl
 marks-called l GetPid p dirty h = refl
+marks-called l Handler p dirty h = refl
+marks-called l Kill p dirty h = refl
+marks-called l SigReturn p dirty h = refl
 marks-called l Close p dirty h = refl
 marks-called l Unknown p dirty h = refl
 

@@ -23,7 +23,7 @@ moved_marked n p m = record { state = moved n p m; marks = m.dirty }
 left_over : (left n : ℕ) → suc n ≤ left → eqb (left - n) 0 ≡ false
 left_over left n h = grind (arith, nat_tests)
 
-abbrev of_process : ProcState → List Bool → Machine
+abbrev pub of_process : ProcState → List Bool → Machine
 of_process p dirty = record { regs = (p.small).regs; bytes = p.memory; dirty = dirty }
 
 counted : (p : ProcState) (n : ℕ) (regs : Registers) (bytes : List ℕ) →

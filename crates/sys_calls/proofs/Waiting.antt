@@ -4,13 +4,14 @@ use Rattle.t32_base.specs.declared.letter.Arrived.{Arrived}
 use Rattle.t32_base.specs.declared.letter.To.{To}
 use Rattle.t32_base.specs.declared.letter.To.TheVariants.{Proc, Tty}
 use Rattle.rv_mem.specs.Memory.{is_inside}
+use Rattle.t32_base.specs.Registers.{Registers}
 use Rattle.rv_cpu.specs.Exec.{Executed, Steps, Calls, Traps, exec, is_call, reg}
 use Rattle.proc_state.specs.Ends.{free_end, leads_at}
 use Rattle.proc_state.specs.State.{ProcState, with_small}
 use Rattle.sys_calls.specs.Small.{spent}
 use Rattle.sys_calls.specs.declared.reading.Reading.{Reading}
 use Rattle.sys_calls.specs.declared.reading.Reading.TheVariants.{Refused, AtEnd, Wants}
-use Rattle.sys_calls.specs.Calls.{Next, Call, ExitCall, Write, Read, ReadAny, ForkCall, GetPid, Close, Unknown, arg, call_of, called, close_to, first_wanted, read_any_checked, read_call, read_checked, read_found, reading_of, write_to}
+use Rattle.sys_calls.specs.Calls.{Next, Call, ExitCall, Write, Read, ReadAny, ForkCall, GetPid, Handler, Kill, SigReturn, Close, Unknown, arg, call_of, called, close_to, first_wanted, read_any_checked, read_call, read_checked, read_found, reading_of, write_to, handled_at, is_aligned, is_signal_number, signalled, sigreturn_call}
 use Rattle.sys_calls.specs.Next.{after_exec, is_blocked, live_step}
 
 -- whether an instruction was spent makes no difference to whether a read waits
@@ -44,6 +45,18 @@ closes p e None = refl
 closes p e (Some (Tty t)) = refl
 closes p e (Some (Proc peer far)) = refl
 
+handles : (p : ProcState) (ok : Bool) → is_blocked (handled_at ok p (arg p 0)) ≡ false
+handles p true = refl
+handles p false = refl
+
+signals : (p : ProcState) (ok : Bool) → is_blocked (signalled ok p (arg p 0) (arg p 1)) ≡ false
+signals p true = refl
+signals p false = refl
+
+returns : (p : ProcState) (o : Option Registers) → is_blocked (sigreturn_call p o) ≡ false
+returns p None = refl
+returns p (Some regs) = refl
+
 -- a call that is no read does not wait
 no_read : (p : ProcState) (c : Call) → reading_of c p ≡ None → is_blocked (called c (with_small p (spent p.small))) ≡ false
 no_read p ExitCall e = refl
@@ -52,6 +65,9 @@ no_read p Read e = cc
 no_read p ReadAny e = cc
 no_read p ForkCall e = either (eqb (p.small).births 0) _ _ refl (either (not (ltb (free_end (p.small).ends) 32)) _ _ refl refl)
 no_read p GetPid e = refl
+no_read p Handler e = let q = with_small p (spent p.small) in handles q (is_aligned (arg q 0))
+no_read p Kill e = let q = with_small p (spent p.small) in signals q (is_signal_number (arg q 1))
+no_read p SigReturn e = let q = with_small p (spent p.small) in returns q (q.small).frame
 no_read p Close e = closes (with_small p (spent p.small)) (arg p 0) (leads_at (p.small).ends (arg p 0))
 no_read p Unknown e = refl
 
@@ -66,6 +82,9 @@ a_read p Read reading e = ap (λ r. is_blocked (read_call p r)) (sym (some_same 
 a_read p ReadAny reading e = ap (λ r. is_blocked (read_call p r)) (sym (some_same (read_any_checked p) reading e)) ∙ alike p (read_any_checked p)
 a_read p ForkCall reading e = cc
 a_read p GetPid reading e = cc
+a_read p Handler reading e = cc
+a_read p Kill reading e = cc
+a_read p SigReturn reading e = cc
 a_read p Close reading e = cc
 a_read p Unknown reading e = cc
 
@@ -106,5 +125,8 @@ reads_called p Read reading e = ap (λ r. read_call (with_small p (spent p.small
 reads_called p ReadAny reading e = ap (λ r. read_call (with_small p (spent p.small)) r) (some_same (read_any_checked p) reading e)
 reads_called p ForkCall reading e = cc
 reads_called p GetPid reading e = cc
+reads_called p Handler reading e = cc
+reads_called p Kill reading e = cc
+reads_called p SigReturn reading e = cc
 reads_called p Close reading e = cc
 reads_called p Unknown reading e = cc

@@ -17,6 +17,7 @@ use Rattle.t32_base.specs.declared.letter.To.{To}
 use Rattle.t32_base.specs.declared.letter.To.TheVariants.{Proc, Tty}
 use Rattle.t32_base.specs.Small.{is_unshut, stages}
 use Rattle.rv_mem.specs.Memory.{is_inside, bytes_at}
+use Rattle.t32_base.specs.Registers.{Registers}
 use Rattle.rv_cpu.specs.Exec.{Executed, Steps, Calls, Traps, exec, reg}
 use Rattle.proc_state.specs.Ends.{finished_at, finished_end, free_end, leads_at}
 use Rattle.proc_state.specs.Mail.{end_of}
@@ -28,7 +29,7 @@ use Rattle.sys_calls.specs.declared.reading.Reading.{Reading}
 use Rattle.sys_calls.specs.declared.reading.Reading.TheVariants.{Refused, AtEnd, Wants}
 use Rattle.sys_calls.specs.declared.reading.Wanted.{Wanted}
 use Rattle.sys_calls.specs.declared.reading.Wanted.TheVariants.{On, AnyLinked}
-use Rattle.sys_calls.specs.Calls.{Next, Silent, Blocked, Forks, Emits, Over, Call, ExitCall, Write, Read, ReadAny, ForkCall, GetPid, Close, Unknown, answers, arg, call_of, called, close_to, ends_after, first_wanted, letter_to, read_any_checked, read_call, read_checked, read_found, refused, write_to}
+use Rattle.sys_calls.specs.Calls.{Next, Silent, Blocked, Forks, Emits, Over, Call, ExitCall, Write, Read, ReadAny, ForkCall, GetPid, Handler, Kill, SigReturn, Close, Unknown, answers, arg, call_of, called, close_to, ends_after, first_wanted, letter_to, read_any_checked, read_call, read_checked, read_found, refused, write_to, handled_at, is_signal_number, signalled, sigreturn_call, is_aligned}
 use Rattle.sys_calls.specs.Next.{after_exec, closing_step, live_step, next_step, silent_of, silently, step_by}
 
 -- ---- the ends that are not shut
@@ -143,6 +144,18 @@ module _ (s p : ProcState) (one : weight p.small + 1 ≤ weight s.small) (lives 
   forked false true = one
   forked false false = tt
 
+  handles : (ok : Bool) → Leaves s (handled_at ok p (arg p 0))
+  handles true = one
+  handles false = one
+
+  signals : (ok : Bool) → Leaves s (signalled ok p (arg p 0) (arg p 1))
+  signals true = one
+  signals false = one
+
+  returns : (o : Option Registers) → Leaves s (sigreturn_call p o)
+  returns None = one
+  returns (Some regs) = one
+
   call_leaves : (c : Call) → Leaves s (called c p)
   call_leaves ExitCall = omega (arith, one, ap stages lives)
   call_leaves Write = written (arg p 0) (arg p 1) (arg p 2) (leads_at (p.small).ends (arg p 0))
@@ -151,6 +164,9 @@ module _ (s p : ProcState) (one : weight p.small + 1 ≤ weight s.small) (lives 
   call_leaves ForkCall = forked (eqb (p.small).births 0) (not (ltb (free_end (p.small).ends) 32))
   call_leaves Close = closed_to (arg p 0) (leads_at (p.small).ends (arg p 0))
   call_leaves GetPid = one
+  call_leaves Handler = handles (is_aligned (arg p 0))
+  call_leaves Kill = signals (is_signal_number (arg p 1))
+  call_leaves SigReturn = returns (p.small).frame
   call_leaves Unknown = one
 
 spent_one : (s : ProcState) → eqb (s.small).left 0 ≡ false → weight (spent s.small) + 1 ≤ weight s.small

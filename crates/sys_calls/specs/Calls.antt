@@ -1,5 +1,5 @@
 -- The system calls that are built: their numbers, what each checks, in this order, and what each does.
-use Rattle.std.specs.Prelude.{◌≡◌, ℕ, ◌<◌, true, ◌+◌, ◌-◌, ◌%◌, ◌^◌, min, Bool, not, ◌||◌, ◌==◌, nat_lt, if◌then◌else◌, List, [], length, take, find, Option, Some, None, option_and_then}
+use Rattle.std.specs.Prelude.{◌≡◌, ℕ, ◌<◌, ◌+◌, ◌-◌, ◌%◌, ◌^◌, min, Bool, true, false, not, ◌&&◌, ◌||◌, ◌==◌, nat_lt, if◌then◌else◌, List, [], length, take, find, Option, Some, None, option_and_then}
 use Rattle.std.specs.List.{list_any}
 use Rattle.std.specs.Option.{option_map_or}
 use Rattle.t32_base.specs.declared.process.End.TheVariants.{Exit}
@@ -12,13 +12,14 @@ use Rattle.t32_base.specs.declared.letter.Body.{Body}
 use Rattle.t32_base.specs.declared.letter.Body.TheVariants.{Said, EndOf, Signal}
 use Rattle.t32_base.specs.declared.letter.To.{To}
 use Rattle.t32_base.specs.declared.letter.To.TheVariants.{Proc, Tty}
+use Rattle.t32_base.specs.Registers.{Registers}
 use Rattle.t32_base.specs.Small.{SmallState}
 use Rattle.rv_mem.specs.Memory.{is_inside, bytes_at, with_bytes, touched}
 use Rattle.rv_cpu.specs.Exec.{reg, onward}
 use Rattle.proc_state.specs.Ends.{free_end, is_open_at, is_unfinished, is_unfinished_at, finished_at, leads_at}
 use Rattle.proc_state.specs.Mail.{end_of, is_on, is_on_linked, without_first}
 use Rattle.proc_state.specs.State.{ProcState, with_small}
-use Rattle.sys_calls.specs.Small.{answered, both_answered, with_end, with_ends, with_status, with_regs}
+use Rattle.sys_calls.specs.Small.{answered, both_answered, with_end, with_ends, with_frame, with_handler, with_status, with_regs}
 use Rattle.sys_calls.specs.declared.steps.Emission.{Emission}
 use Rattle.sys_calls.specs.declared.steps.Emission.TheVariants.{Mail}
 use Rattle.sys_calls.specs.declared.reading.Reading.{Reading}
@@ -41,14 +42,22 @@ pub data Call : Type 0 where
   ReadAny : Call
   ForkCall : Call
   GetPid : Call
+  Handler : Call
+  Kill : Call
+  SigReturn : Call
   Close : Call
   Unknown : Call
+
+-- the clusters take no signal yet, so no process sends one: that call is refused as one that is unknown
+unfoldable pub kill_is_built : Call
+kill_is_built = Unknown
 
 -- the call with a number, which is in a7
 abbrev pub call_of : ℕ → Call
 call_of n =
     if n == 1 then ExitCall else if n == 2 then Write else if n == 3 then Read else if n == 4 then ReadAny
-    else if n == 5 then ForkCall else if n == 6 then GetPid else if n == 10 then Close else Unknown
+    else if n == 5 then ForkCall else if n == 6 then GetPid else if n == 7 then Handler else if n == 8 then kill_is_built
+    else if n == 9 then SigReturn else if n == 10 then Close else Unknown
 
 -- ---- what a call is made of; p is the process after its instruction was spent
 
@@ -173,6 +182,37 @@ fork_call p =
     else if not (nat_lt (free_end (p.small).ends) 32) then refused p 24
     else Forks
 
+-- ---- signals
+
+-- an instruction's address is a multiple of 4
+abbrev pub is_aligned : ℕ → Bool
+is_aligned addr = addr % 4 == 0
+
+abbrev pub handled_at : Bool → ProcState → ℕ → Next
+handled_at true p addr = Silent (answers (with_small p (with_handler p.small addr)) 0)
+handled_at false p addr = refused p 22
+
+-- handler(addr): signals are handled at a multiple of 4, and 0 says that they are not
+abbrev pub handler_call : ProcState → ℕ → Next
+handler_call p addr = handled_at (is_aligned addr) p addr
+
+-- a signal is a number from 1 to 31
+abbrev pub is_signal_number : ℕ → Bool
+is_signal_number sig = nat_lt 0 sig && nat_lt sig 32
+
+abbrev pub signalled : Bool → ProcState → ℕ → ℕ → Next
+signalled true p pid sig = Emits (Mail (letter_to p 0 (Proc (record { 0 = pid }) 0) (Signal sig))) (answers p 0)
+signalled false p pid sig = refused p 22
+
+-- kill(pid, sig): a signal is sent to a process, whether or not it lives
+abbrev pub kill_call : ProcState → ℕ → ℕ → Next
+kill_call p pid sig = signalled (is_signal_number sig) p pid sig
+
+-- sigreturn(): the registers from before the handler are those of the process again
+abbrev pub sigreturn_call : ProcState → Option Registers → Next
+sigreturn_call p None = refused p 22
+sigreturn_call p (Some regs) = Silent (with_small p (with_frame (with_regs p.small regs) None))
+
 -- ---- the calls
 
 -- p makes the call
@@ -183,6 +223,9 @@ called Read p = read_call p (read_checked p)
 called ReadAny p = read_call p (read_any_checked p)
 called ForkCall p = fork_call p
 called GetPid p = Silent (answers p ((p.small).pid).0)
+called Handler p = handler_call p (arg p 0)
+called Kill p = kill_call p (arg p 0) (arg p 1)
+called SigReturn p = sigreturn_call p (p.small).frame
 called Close p = close_call p (arg p 0)
 called Unknown p = refused p 22
 
@@ -194,6 +237,9 @@ reading_of Read p = Some (read_checked p)
 reading_of ReadAny p = Some (read_any_checked p)
 reading_of ForkCall p = None
 reading_of GetPid p = None
+reading_of Handler p = None
+reading_of Kill p = None
+reading_of SigReturn p = None
 reading_of Close p = None
 reading_of Unknown p = None
 

@@ -11,12 +11,13 @@ use Rattle.sys_calls.specs.declared.stepping.Passed.{Passed}
 use Rattle.sys_calls.specs.declared.stepping.Passed.TheVariants.{Silently, Waiting, Calling, Leaving}
 use Rattle.sys_calls.specs.Next.{silently}
 use Rattle.sys_calls.specs.Small.{weight}
-use Rattle.sys_calls.specs.Steps.{RunsOn}
+use Rattle.sys_calls.specs.Steps.{RunsOn, StaysUntaken}
 
--- silent steps
+-- silent steps, between which no signal can be taken
 pub record Went (old new : Process) : Type 0 where
   pub steps : ℕ
   pub silent : silently steps (state_of old) ≡ Some (state_of new)
+  pub untaken : StaysUntaken steps (state_of old)
   pub lighter : weight new.small + steps ≤ weight old.small
 
 -- a live process whose next instruction is a system call

@@ -23,6 +23,14 @@ with_status s status = record s { status = status }
 abbrev pub with_regs : SmallState → Registers → SmallState
 with_regs s regs = record s { regs = regs }
 
+-- signals are handled at an address
+abbrev pub with_handler : SmallState → ℕ → SmallState
+with_handler s addr = record s { handler = addr }
+
+-- the registers that the handler's return restores
+abbrev pub with_frame : SmallState → Option Registers → SmallState
+with_frame s frame = record s { frame = frame }
+
 abbrev pub with_end : SmallState → ℕ → EndState → SmallState
 with_end s i end = record s { ends = slice_set s.ends i end }
 

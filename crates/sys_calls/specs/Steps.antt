@@ -5,7 +5,7 @@ use Rattle.t32_base.specs.Small.{SmallState}
 use Rattle.t32_base.specs.declared.streams.NoMemory.{NoMemory}
 use Rattle.proc_state.specs.declared.process.Process.{Process}
 use Rattle.proc_state.specs.Mail.{without_first}
-use Rattle.proc_state.specs.State.{ProcState, state_of}
+use Rattle.proc_state.specs.State.{ProcState, can_take, state_of}
 use Rattle.sys_calls.specs.declared.steps.Step.{Step}
 use Rattle.sys_calls.specs.declared.steps.Step.TheVariants.{Silent as WasSilent, Blocked as WasBlocked, Forks as WouldFork, Emit, Over as WasOver}
 use Rattle.sys_calls.specs.Small.{weight}
@@ -94,11 +94,16 @@ abbrev pub was_silent : Result Step NoMemory → Bool
 was_silent (Ok step) = is_silent step
 was_silent (Err e) = false
 
--- silent steps, and then what the call `step` answers
+-- where no signal can be taken before n silent steps, none can be after any of them
+abbrev pub StaysUntaken : ℕ → ProcState → Type 0
+StaysUntaken n s = can_take s ≡ false → (m : ℕ) (q : ProcState) → m ≤ n → silently m s ≡ Some q → can_take q ≡ false
+
+-- silent steps, between which no signal can be taken, and then what the call `step` answers
 pub record RunsOn (step : Step) (old new : Process) : Type 0 where
   pub steps : ℕ
   pub before : Process
   pub silent : silently steps (state_of old) ≡ Some (state_of before)
+  pub untaken : StaysUntaken steps (state_of old)
   pub lighter : weight before.small + steps ≤ weight old.small
   pub makes : Makes (next_step (state_of before)) (Ok step) (state_of before) (state_of new)
   pub shorter : Shorter (Ok step) before.small new.small

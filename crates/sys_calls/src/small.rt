@@ -1,7 +1,9 @@
 //! How the state of a process changes by a step, but for its memory and its mailbox.
-ghost use Rattle.std.specs.Prelude.{◌≡◌, ◌↔◌, IsTrue, min, ◌==◌, ◌<◌, ◌≤◌, ◌+◌, OnSome, IfSome, length, slice_index_or, is_some, true};
+ghost use Rattle.std.specs.Prelude.{◌≡◌, ◌↔◌, IsTrue, min, ◌==◌, ◌<◌, ◌≤◌, ◌+◌, OnSome, IfSome, length, slice_index_or, is_some, true, None};
+ghost use Rattle.std.specs.Option.{IsSomeAnd};
 ghost use Rattle.t32_base.specs.Small.{is_unshut};
-ghost use Rattle.sys_calls.specs.Small.{spent, stepped, with_status, with_regs, answered, both_answered, lowest_linked as lowest_linked_of, shut_at, weight};
+ghost use Rattle.sys_calls.specs.Take.{struck};
+ghost use Rattle.sys_calls.specs.Small.{spent, stepped, with_frame, with_handler, with_status, with_regs, answered, both_answered, lowest_linked as lowest_linked_of, shut_at, weight};
 ghost use Rattle.rv_cpu.specs.Exec.{onward};
 
 use rv_cpu::registers::{advance, write};
@@ -64,6 +66,42 @@ pub fn answer_both(small: &mut Small, value: u32, other: u32)
     write(&mut small.regs, 10, value);
     write(&mut small.regs, 11, other);
     advance(&mut small.regs);
+}
+
+/// Signals are handled at an address, or not at 0: the call's instruction is spent, and 0 answered.
+pub fn handle_at(small: &mut Small, addr: u32)
+    requires { 0 < small.old.left }
+    ensures { small.new ≡ answered (with_handler (spent small.old) addr) 0 }
+{
+    small.handler = addr;
+    answer(small, 0);
+}
+
+/// The handler of a signal returns, by a call whose instruction is spent: the registers are those from before it.
+pub fn return_from_handler(small: &mut Small)
+    requires some { 0 < small.old.left }
+    requires saved { is_some small.old.frame ≡ true }
+    ensures { IsSomeAnd small.old.frame (λ regs. small.new ≡ with_frame (with_regs (spent small.old) regs) None) }
+{
+    spend(small);
+    if let Some(regs) = small.frame.take() {
+        small.regs = regs;
+    }
+}
+
+/// A signal comes to a live process: it closes, or its handler runs, and the registers from before that are kept.
+pub fn strike(small: &mut Small, signal: u8)
+    requires { small.old.status ≡ Status.Live }
+    ensures struck { small.new ≡ struck (small.old.handler == 0) signal small.old }
+    ensures weight { weight small.new ≤ weight small.old }
+{
+    if small.handler == 0 {
+        small.status = Status::Closing(End::Killed(signal));
+        return;
+    }
+    small.frame = Some(small.regs.copy());
+    write(&mut small.regs, 10, u32::from(signal));
+    small.regs.pc = small.handler;
 }
 
 /// A live process closes by an instruction, which is spent.

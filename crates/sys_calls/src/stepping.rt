@@ -2,7 +2,7 @@
 ghost use Rattle.std.specs.Prelude.{◌≡◌, ◌<◌, ◌≤◌, ◌+◌, ◌==◌, Ok, Some, IfOk, false, true};
 ghost use Rattle.rv_cpu.specs.Run.{machine_of, ran, Stops};
 ghost use Rattle.rv_cpu.specs.Exec.{bytes_after, did_of, exec, exec_marks, is_call, regs_after};
-ghost use Rattle.proc_state.specs.State.{state_of};
+ghost use Rattle.proc_state.specs.State.{can_take, state_of};
 ghost use Rattle.sys_calls.specs.declared.steps.Emission.TheVariants.{Exit};
 ghost use Rattle.sys_calls.specs.Calls.{Emits};
 ghost use Rattle.sys_calls.specs.Next.{closing_step, has_step, is_blocked, is_exit, is_fork, letter_live, letter_taken, live_step, marks_live, next_step, silently_marked, step_marks};
@@ -12,6 +12,7 @@ ghost use Rattle.sys_calls.specs.Steps.{is_silent, marked, was_silent, Makes, Ma
 
 use crate::calls::{call, would_fork};
 use crate::reading::{make_read, reading_next, waits};
+use crate::signals::can_take;
 use crate::small::{
     at_most, close, finish, has_linked, instructions_left, is_live, is_spent_up, run_out,
     shut_lowest, spend,
@@ -107,24 +108,29 @@ fn instructions(small: &mut Small, ram: &mut Ram, most: u32) -> (u32, Did)
 }
 
 /// Runs a process up to a step that is not silent, and makes that as `step` does: it sends something, or it is not
-/// made. The answer is never `Silent`. After want of memory nothing is said of the process.
+/// made. It runs on past no step after which it can take a signal, and answers `Silent` after such a one alone. After
+/// want of memory nothing is said of the process.
 pub fn run_on(alloc: Global, p: &mut Process) -> Result<Step, NoMemory>
     ensures runs { IfOk result (λ step. RunsOn step p.old p.new) }
-    ensures heard { IfOk result (λ step. is_silent step ≡ false) }
+    ensures silent { IfOk result (λ step. is_silent step ≡ true → can_take (state_of p.new) ≡ true) }
 {
     'steps: loop {
         match pass(p)? {
-            Passed::Silently => {}
+            Passed::Silently => {
+                if can_take(p) {
+                    return Ok(Step::Silent);
+                }
+            }
             Passed::Waiting => return Ok(Step::Blocked),
             Passed::Calling => {
                 let made = call(alloc, p);
-                if !was_silent(&made) {
+                if !was_silent(&made) || can_take(p) {
                     return made;
                 }
             }
             Passed::Leaving => {
                 let made = step(alloc, p);
-                if !was_silent(&made) {
+                if !was_silent(&made) || can_take(p) {
                     return made;
                 }
             }
