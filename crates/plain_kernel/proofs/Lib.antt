@@ -12,6 +12,7 @@ mod Falling
 mod Ready
 mod Turns
 pub mod Others
+pub mod Taking
 pub mod Forking
 pub mod ForkPids
 pub mod NextChild

@@ -19,7 +19,7 @@ use Rattle.sys_calls.specs.Calls.{Next, Silent, Blocked, Forks, Emits, Over}
 use Rattle.sys_calls.specs.Next.{next_step, silently, last_emission}
 use Rattle.sys_calls.proofs.Counting.{CountsOne, silent_counts, emits_counts, last_sent}
 use Rattle.plain_kernel.specs.Kernel.{Kernel, pid_cmp, process_at, with_process, letter_put, letter_to, deliver, emitted}
-use Rattle.plain_kernel.specs.Apply.{after_step, one_step, steps, fork_step, apply, apply_all}
+use Rattle.plain_kernel.specs.Apply.{after_step, one_step, steps, fork_step, apply, apply_all, take_step}
 use Rattle.plain_kernel.specs.declared.item.Item.{Item}
 use Rattle.plain_kernel.specs.declared.item.Item.TheVariants.{Run, Fork, Take}
 use Rattle.plain_kernel.proofs.Entries.{some_same}
@@ -269,8 +269,9 @@ pub steps-keep : (P : Kernel → Type 0) → ((p : Pid) (k j : Kernel) → P k �
 steps-keep P one zero p k j has made = subst P (no_step p k j made) has
 steps-keep P one (suc n) p k j has made = let l = last_step n p k j made in one p l.before j (steps-keep P one n p k l.before has l.earlier) l.last
 
--- what a step and a fork of any process keep
-module _ (P : Kernel → Type 0) (one : (p : Pid) (k j : Kernel) → P k → one_step p k ≡ Some j → P j) (fork : (p c : Pid) (k j : Kernel) → P k → fork_step p c k ≡ Some j → P j) where
+-- what a step, a fork and a take of any process keep
+module _ (P : Kernel → Type 0) (one : (p : Pid) (k j : Kernel) → P k → one_step p k ≡ Some j → P j) (fork : (p c : Pid) (k j : Kernel) → P k → fork_step p c k ≡ Some j → P j)
+    (take : (p : Pid) (k j : Kernel) → P k → take_step p k ≡ Some j → P j) where
   item_keeps : (i : Item) (k j : Kernel) → P k → apply k i ≡ Some j → P j
   item_keeps (Run p n) k j has made = by_count (eqb n 0) made
     where
@@ -278,9 +279,9 @@ module _ (P : Kernel → Type 0) (one : (p : Pid) (k j : Kernel) → P k → one
       by_count true e = cc
       by_count false e = steps-keep P one n p k j has e
   item_keeps (Fork p c) k j has made = fork p c k j has made
-  item_keeps (Take p) k j has made = cc
+  item_keeps (Take p) k j has made = take p k j has made
 
-  -- items that are applied keep as well: no process is sent a signal yet
+  -- items that are applied keep as well
   pub items_keep : (is : List Item) (k j : Kernel) → P k → apply_all is k ≡ Some j → P j
   items_keep [] k j has made = subst P (some_same k j made) has
   items_keep (i ∷ is) k j has made = by_case (apply k i) refl made (λ l. items_keep is l j)

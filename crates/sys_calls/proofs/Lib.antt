@@ -2,6 +2,7 @@ mod Calling
 pub mod Running
 pub mod RunLemma
 mod Shutting
+pub mod TakeLaws
 pub mod Untaken
 mod Waiting
 mod Wanting
