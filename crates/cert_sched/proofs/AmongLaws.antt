@@ -34,6 +34,7 @@ use Rattle.cert_sched.proofs.RunAndFork.{run_and_fork}
 use Rattle.cert_sched.proofs.BirthPlaces.{parent_unended, unended_placed}
 use Rattle.cert_sched.proofs.CameLaws.{IsStandingRule}
 use Rattle.cert_sched.proofs.FreshLaws.{same_pids}
+use Rattle.plain_kernel.proofs.TakePids.{take_step-pids}
 
 -- whether a pid is among the processes of a kernel, and among those placed
 abbrev in_kernel : Kernel → Pid → Bool
@@ -63,7 +64,7 @@ module _ (system : System) (log : List Entry) (e : Entry) where
   -- items without a fork leave the pids
   quiet_pids : (k j : Kernel) → is_birth (what e) ≡ false → IsRising k → apply_all (items_of k (what e)) k ≡ Some j → HasPids (pids_in k) j
   quiet_pids k j other rising made =
-      forkless_keep (HasPids (pids_in k)) (one_step-pids (pids_in k)) (items_of k (what e)) k j (items_forkless k (what e) other) (record { rising = rising; are = refl }) made
+      forkless_keep (HasPids (pids_in k)) (one_step-pids (pids_in k)) (take_step-pids (pids_in k)) (items_of k (what e)) k j (items_forkless k (what e) other) (record { rising = rising; are = refl }) made
 
   other_alike : (k j : Kernel) → is_birth (what e) ≡ false → Alike system log k → apply_all (items_of k (what e)) k ≡ Some j → Alike system (log ++ e ∷ []) j
   other_alike k j other a made =
@@ -91,7 +92,7 @@ module _ (system : System) (log : List Entry) (e : Entry) where
   birth_alike : (parent : Pid) (at : ℕ) (child : Pid) (end : ℕ) (k j : Kernel) → what e ≡ Birth parent at child end → KindHolds system log e (Birth parent at child end) → Alike system log k → apply_all (items_of k (what e)) k ≡ Some j → Alike system (log ++ e ∷ []) j
   birth_alike parent at child end k j is kind a made =
       let r = run_and_fork (run_upto k parent (at - 1)) parent child k j (ap (λ w. apply_all (items_of k w) k) (sym is) ∙ made) in
-      let ran : HasPids (pids_in k) r.to = forkless_keep (HasPids (pids_in k)) (one_step-pids (pids_in k)) (run_upto k parent (at - 1)) k r.to (run_forkless parent (at - 1 - done k parent)) (record { rising = a.rising; are = refl }) r.ran in
+      let ran : HasPids (pids_in k) r.to = forkless_keep (HasPids (pids_in k)) (one_step-pids (pids_in k)) (take_step-pids (pids_in k)) (run_upto k parent (at - 1)) k r.to (run_forkless parent (at - 1 - done k parent)) (record { rising = a.rising; are = refl }) r.ran in
       let has = fork_step-pids (pids_in k) parent child r.to j ran r.forks in
       record {
         rising = has.rising;

@@ -27,7 +27,7 @@ use Rattle.cert_sched.proofs.MailLaws.{received, process_after-sender, process_a
 use Rattle.cert_sched.proofs.MadeLaws.{BirthMade}
 use Rattle.cert_sched.proofs.BornLaws.{birth_applied}
 use Rattle.cert_sched.proofs.ReplayLaws.{fork_after}
-use Rattle.cert_sched.proofs.CameLaws.{IsStandingRule, is_silent, went_silently}
+use Rattle.cert_sched.proofs.CameLaws.{IsStandingRule, is_silent, went_settled}
 use Rattle.cert_sched.proofs.RollLaws.{AllRoll, all_at_boot, all_more, two_apart}
 
 -- no process has been sent more letters than so many
@@ -85,10 +85,10 @@ entry_within system log e n all stands within = by_what (what e) refl stands.kin
   where
     quiet : (w : What) → what e ≡ w → is_silent w ≡ true → KindHolds system log e w → ArrivedWithin system (log ++ e ∷ []) (n + 1)
     quiet w is silent kind q s there =
-        let went = went_silently system log e w is silent stands.applies kind (two_apart system log all) q s there in
+        let went = went_settled system log e w is silent stands.applies kind (two_apart system log all) q s there in
         let before = within q went.was went.there in
-        let same = (silently_counts went.made went.was s went.silent).next in
-        omega (arith, before, same)
+        let same = (silently_counts went.made went.was went.to went.silent).next in
+        omega (arith, before, same, went.next)
 
     -- a fork brings its process no letter, and its child has none
     born : (parent : Pid) (at : ℕ) (child : Pid) (end : ℕ) → what e ≡ Birth parent at child end → KindHolds system log e (Birth parent at child end) → ArrivedWithin system (log ++ e ∷ []) (n + 1)

@@ -11,7 +11,7 @@ use Rattle.sys_text.specs.declared.system.Root.{Root}
 use Rattle.sys_text.specs.Valid.{is_system, births_of as root_births}
 use Rattle.sys_text.specs.Boot.{pid_of, roots_of, with_pids}
 use Rattle.sys_text.proofs.Bounds.{system_bounds}
-use Rattle.proc_state.specs.State.{ProcState, linked_to}
+use Rattle.proc_state.specs.State.{ProcState, linked_to, can_take}
 use Rattle.sys_calls.specs.declared.steps.Emission.{Emission}
 use Rattle.sys_calls.specs.Calls.{Silent, Forks, Emits}
 use Rattle.sys_calls.specs.Next.{next_step}
@@ -39,6 +39,9 @@ use Rattle.cert_sched.proofs.KernelSums.{fork_lowers, process_sum, put_most, put
 use Rattle.cert_sched.proofs.LoadLaws.{step_rising, sum_items}
 use Rattle.cert_sched.proofs.PidsBorn.{pids_with_born}
 use Rattle.cert_sched.proofs.ThereLaws.{plain_there}
+use Rattle.plain_kernel.proofs.TakePids.{take_step-rising}
+use Rattle.sys_calls.specs.Take.{taken}
+use Rattle.sys_calls.proofs.TakeLaws.{taken_strikes}
 
 -- the births that a process may still make
 abbrev pub births_left : SmallState → ℕ
@@ -59,13 +62,16 @@ forks_births s c is = let can = forks_can s is in omega (arith, can.births)
 forks_fewer : (s : ProcState) (c : Pid) → next_step s ≡ Forks → births_left (fork_parent s c).small + births_left (fork_child s c).small ≤ births_left s.small
 forks_fewer s c is = omega (arith, forks_births s c is)
 
+takes_fewer : (s : ProcState) → can_take s ≡ true → births_left (taken s).small ≤ births_left s.small
+takes_fewer s can = omega (arith, (taken_strikes s can).births)
+
 entry_births : (w : What) (k j : Kernel) → IsRising k → apply_all (items_of k w) k ≡ Some j → sum_of births_left j + length (born w) ≤ sum_of births_left k
 entry_births (Birth parent at child end) k j rising made =
     let r = run_and_fork (run_upto k parent (at - 1)) parent child k j made in
-    let ran = sum_items births_left silent_births sends_births forks_fewer (run_upto k parent (at - 1)) k r.to rising r.ran in
-    let forked = fork_lowers births_left 1 forks_births parent child r.to j (items_keep IsRising step_rising fork_step-rising (run_upto k parent (at - 1)) k r.to rising r.ran) r.forks in
+    let ran = sum_items births_left silent_births sends_births forks_fewer takes_fewer (run_upto k parent (at - 1)) k r.to rising r.ran in
+    let forked = fork_lowers births_left 1 forks_births parent child r.to j (items_keep IsRising step_rising fork_step-rising take_step-rising (run_upto k parent (at - 1)) k r.to rising r.ran) r.forks in
     omega (arith, ran, forked)
-entry_births w k j rising made = let less = sum_items births_left silent_births sends_births forks_fewer (items_of k w) k j rising made in omega (arith, less)
+entry_births w k j rising made = let less = sum_items births_left silent_births sends_births forks_fewer takes_fewer (items_of k w) k j rising made in omega (arith, less)
 
 -- ---- a log
 
@@ -82,7 +88,7 @@ births_from (e ∷ log) k j rising is = by_case (apply_all (items_of k (what e))
     by_case None made goes more = absurd (true≢false (ap is_some (sym goes ∙ none_stays log)))
     by_case (Some l) made goes more =
         let here = entry_births (what e) k l rising made in
-        let rest = more l (items_keep IsRising step_rising fork_step-rising (items_of k (what e)) k l rising made) goes in
+        let rest = more l (items_keep IsRising step_rising fork_step-rising take_step-rising (items_of k (what e)) k l rising made) goes in
         omega (arith, here, rest, length-append (born (what e)) (births_of log))
 
 -- the children that a log bears and those that may still be born are no more than the roots may fork

@@ -38,12 +38,14 @@ use Rattle.cert_sched.proofs.LogLaws.{process_after-quiet}
 use Rattle.cert_sched.proofs.RisingLaws.{NoTwo, rising-apart}
 use Rattle.cert_sched.proofs.PidLaws.{placed_pids, apart_fewer}
 use Rattle.cert_sched.proofs.RunsLaws.{rest_pids, led, led-silent_upto, after_runs, runs_made}
-use Rattle.cert_sched.proofs.StepLaws.{applied, is_sent, sent_from, silent_from, no_signal_taken, process_after-silent, process_after-beside}
+use Rattle.cert_sched.proofs.StepLaws.{applied, is_sent, sent_from, silent_from, process_after-silent, process_after-beside}
 use Rattle.cert_sched.proofs.MailLaws.{received, received-ended, received-goes_on, process_after-sender, process_after-receiver, silently_ends}
 use Rattle.cert_sched.proofs.BirthKind.{is_birth}
 use Rattle.cert_sched.proofs.MadeLaws.{BirthMade, TakeMade, apart_from}
 use Rattle.cert_sched.proofs.BornLaws.{birth_applied}
 use Rattle.cert_sched.proofs.ReplayLaws.{Replays, replays_last, replays_silently, replays_forked}
+use Rattle.cert_sched.proofs.BirthLaws.{sync_taken}
+use Rattle.sys_calls.proofs.TakeLaws.{taken_strikes}
 
 -- ---- rules by which an entry stands
 
@@ -89,6 +91,11 @@ is_silent (Mail at letter) = false
 is_silent (Birth parent at child end) = false
 is_silent (Exit pid at end) = false
 is_silent _ = true
+
+-- a synchronisation that takes a signal
+abbrev pub takes_signal : What → Bool
+takes_signal (Sync pid small read (Some g)) = true
+takes_signal _ = false
 
 module _ (system : System) (log : List Entry) (e : Entry) where
   Here : What → Pid → Type 0
@@ -270,10 +277,9 @@ module _ (system : System) (log : List Entry) (e : Entry) where
   still : (w : What) (p : Pid) (now : ProcState) → what e ≡ w → ((k : Kernel) → items_of k w ≡ []) → process_after system (log ++ e ∷ []) p ≡ Some now → Silently p now
   still w p now is none there = record { was = now; there = sym (process_after-quiet system log e (λ k. ap (items_of k) is ∙ none k) p) ∙ there; made = 0; silent = none_made now }
 
-  sync_silently : (q : Pid) (small : SmallState) (read : List ℕ) (took : Option ℕ) → what e ≡ Sync q small read took → is_some (plain_after system (log ++ e ∷ [])) ≡ true → SyncHolds system log q small read took
+  sync_silently : (q : Pid) (small : SmallState) (read : List ℕ) → what e ≡ Sync q small read None → SyncHolds system log q small read None
       → (p : Pid) (now : ProcState) → process_after system (log ++ e ∷ []) p ≡ Some now → Silently p now
-  sync_silently q small read (Some g) is applies holds p now there = absurd (no_signal_taken system log e q small read g is applies)
-  sync_silently q small read None is applies holds p now there =
+  sync_silently q small read is holds p now there =
       let r = reached q small.steps (some_mapped (λ s. (after_take None s).small) (silent_upto system log q small.steps) small holds.state) in
       run_came q small.steps r.to r.is (λ k. ap (items_of k) is ∙ append-nil (run_upto k q small.steps)) p now there
 
@@ -282,23 +288,71 @@ module _ (system : System) (log : List Entry) (e : Entry) where
       let h = reached r.pid (steps_in r.state) (ap (λ w. is_some (after_items system log w)) (sym is) ∙ holds.silent) in
       run_came r.pid (steps_in r.state) h.to h.is (λ k. ap (items_of k) is) p now there
 
-  -- it leaves each process after silent steps
-  pub went_silently : (w : What) → what e ≡ w → is_silent w ≡ true → is_some (plain_after system (log ++ e ∷ [])) ≡ true → KindHolds system log e w → NoTwo (placed_pids (placement system log).placed)
+  -- it leaves each process after silent steps, where it takes no signal
+  pub went_silently : (w : What) → what e ≡ w → is_silent w ≡ true → takes_signal w ≡ false → is_some (plain_after system (log ++ e ∷ [])) ≡ true → KindHolds system log e w → NoTwo (placed_pids (placement system log).placed)
       → (p : Pid) (now : ProcState) → process_after system (log ++ e ∷ []) p ≡ Some now → Silently p now
-  went_silently (Mail at letter) is quiet applies kind two p now there = absurd (true≢false (sym quiet))
-  went_silently (Birth parent at child end) is quiet applies kind two p now there = absurd (true≢false (sym quiet))
-  went_silently (Exit q at end) is quiet applies kind two p now there = absurd (true≢false (sym quiet))
-  went_silently (Page q at index bytes) is quiet applies kind two p now there = still (Page q at index bytes) p now is (λ k. refl) there
-  went_silently (Sync q small read took) is quiet applies kind two p now there = sync_silently q small read took is applies kind p now there
-  went_silently (Fetch q index) is quiet applies kind two p now there = still (Fetch q index) p now is (λ k. refl) there
-  went_silently (PageIs q index bytes) is quiet applies kind two p now there = still (PageIs q index bytes) p now is (λ k. refl) there
-  went_silently (Crash k cause) is quiet applies kind two p now there = still (Crash k cause) p now is (λ k. refl) there
-  went_silently (Return k) is quiet applies kind two p now there = still (Return k) p now is (λ k. refl) there
-  went_silently (Rebackup to true []) is quiet applies kind two p now there = absurd kind
-  went_silently (Rebackup to true (r ∷ rs)) is quiet applies kind two p now there = fresh_silently to r rs is kind p now there
-  went_silently (Rebackup to false recs) is quiet applies kind two p now there = still (Rebackup to false recs) p now is (λ k. refl) there
-  went_silently (Done rests) is quiet applies kind two p now there = done_came rests is applies kind two p now there
-  went_silently Stop is quiet applies kind two p now there = still Stop p now is (λ k. refl) there
+  went_silently (Mail at letter) is quiet untaken applies kind two p now there = absurd (true≢false (sym quiet))
+  went_silently (Birth parent at child end) is quiet untaken applies kind two p now there = absurd (true≢false (sym quiet))
+  went_silently (Exit q at end) is quiet untaken applies kind two p now there = absurd (true≢false (sym quiet))
+  went_silently (Page q at index bytes) is quiet untaken applies kind two p now there = still (Page q at index bytes) p now is (λ k. refl) there
+  went_silently (Sync q small read (Some g)) is quiet untaken applies kind two p now there = absurd (true≢false untaken)
+  went_silently (Sync q small read None) is quiet untaken applies kind two p now there = sync_silently q small read is kind p now there
+  went_silently (Fetch q index) is quiet untaken applies kind two p now there = still (Fetch q index) p now is (λ k. refl) there
+  went_silently (PageIs q index bytes) is quiet untaken applies kind two p now there = still (PageIs q index bytes) p now is (λ k. refl) there
+  went_silently (Crash k cause) is quiet untaken applies kind two p now there = still (Crash k cause) p now is (λ k. refl) there
+  went_silently (Return k) is quiet untaken applies kind two p now there = still (Return k) p now is (λ k. refl) there
+  went_silently (Rebackup to true []) is quiet untaken applies kind two p now there = absurd kind
+  went_silently (Rebackup to true (r ∷ rs)) is quiet untaken applies kind two p now there = fresh_silently to r rs is kind p now there
+  went_silently (Rebackup to false recs) is quiet untaken applies kind two p now there = still (Rebackup to false recs) p now is (λ k. refl) there
+  went_silently (Done rests) is quiet untaken applies kind two p now there = done_came rests is applies kind two p now there
+  went_silently Stop is quiet untaken applies kind two p now there = still Stop p now is (λ k. refl) there
+
+  -- silent steps lead each process to where such an entry leaves it, or to where it takes a signal
+  pub record Settles (p : Pid) (now : ProcState) : Type 0 where
+    pub was : ProcState
+    pub there : process_after system log p ≡ Some was
+    pub made : ℕ
+    pub to : ProcState
+    pub silent : silently made was ≡ Some to
+    pub next : now.next ≡ to.next
+    pub ended : has_ended (now.small).status ≡ has_ended (to.small).status
+
+  settles_as : (p : Pid) (now : ProcState) → Silently p now → Settles p now
+  settles_as p now s = record { was = s.was; there = s.there; made = s.made; to = now; silent = s.silent; next = refl; ended = refl }
+
+  settles_taken : (q : Pid) → TakeMade system log e q → (p : Pid) (now : ProcState) → process_after system (log ++ e ∷ []) p ≡ Some now → Settles p now
+  settles_taken q t p now there = by_pid (same_pid q p) refl
+    where
+      by_pid : (b : Bool) → same_pid q p ≡ b → Settles p now
+      by_pid true is =
+          let same : q ≡ p = same_of q p is in
+          let to : taken t.before ≡ now = some_same (taken t.before) now (sym t.after ∙ ap (process_after system (log ++ e ∷ [])) same ∙ there) in
+          record {
+            was = t.was;
+            there = ap (process_after system log) (sym same) ∙ t.there;
+            made = t.made;
+            to = t.before;
+            silent = t.silent;
+            next = ap (λ (s : ProcState). s.next) (sym to);
+            ended = ap (λ (s : ProcState). has_ended (s.small).status) (sym to) ∙ (taken_strikes t.before t.can).open_still ∙ sym t.open_still;
+          }
+      by_pid false is = record { was = now; there = sym (t.others p is) ∙ there; made = 0; to = now; silent = none_made now; next = refl; ended = refl }
+
+  pub went_settled : (w : What) → what e ≡ w → is_silent w ≡ true → is_some (plain_after system (log ++ e ∷ [])) ≡ true → KindHolds system log e w → NoTwo (placed_pids (placement system log).placed)
+      → (p : Pid) (now : ProcState) → process_after system (log ++ e ∷ []) p ≡ Some now → Settles p now
+  went_settled (Sync q small read (Some g)) is quiet applies kind two p now there = settles_taken q (sync_taken system log e q small read g is kind).made p now there
+  went_settled (Sync q small read None) is quiet applies kind two p now there = settles_as p now (sync_silently q small read is kind p now there)
+  went_settled (Mail at letter) is quiet applies kind two p now there = absurd (true≢false (sym quiet))
+  went_settled (Birth parent at child end) is quiet applies kind two p now there = absurd (true≢false (sym quiet))
+  went_settled (Exit q at end) is quiet applies kind two p now there = absurd (true≢false (sym quiet))
+  went_settled (Page q at index bytes) is quiet applies kind two p now there = settles_as p now (went_silently (Page q at index bytes) is refl refl applies kind two p now there)
+  went_settled (Fetch q index) is quiet applies kind two p now there = settles_as p now (went_silently (Fetch q index) is refl refl applies kind two p now there)
+  went_settled (PageIs q index bytes) is quiet applies kind two p now there = settles_as p now (went_silently (PageIs q index bytes) is refl refl applies kind two p now there)
+  went_settled (Crash k cause) is quiet applies kind two p now there = settles_as p now (went_silently (Crash k cause) is refl refl applies kind two p now there)
+  went_settled (Return k) is quiet applies kind two p now there = settles_as p now (went_silently (Return k) is refl refl applies kind two p now there)
+  went_settled (Rebackup to fresh recs) is quiet applies kind two p now there = settles_as p now (went_silently (Rebackup to fresh recs) is refl refl applies kind two p now there)
+  went_settled (Done rests) is quiet applies kind two p now there = settles_as p now (went_silently (Done rests) is refl refl applies kind two p now there)
+  went_settled Stop is quiet applies kind two p now there = settles_as p now (went_silently Stop is refl refl applies kind two p now there)
 
   silent_no_deed : (w : What) (p : Pid) → is_silent w ≡ true → is_birth w ≡ false → (deeds_in p w ≡ []) × (letter_for p w ≡ []) × (is_birth_of p w ≡ false)
   silent_no_deed (Mail at letter) p quiet other = absurd (true≢false (sym quiet))
@@ -314,11 +368,11 @@ module _ (system : System) (log : List Entry) (e : Entry) where
   silent_no_deed (Done rests) p quiet other = (refl, refl, refl)
   silent_no_deed Stop p quiet other = (refl, refl, refl)
 
-  came_silently : (w : What) → what e ≡ w → is_silent w ≡ true → is_birth w ≡ false → is_some (plain_after system (log ++ e ∷ [])) ≡ true → KindHolds system log e w → NoTwo (placed_pids (placement system log).placed) → (p : Pid) → Here w p
+  came_silently : (w : What) → what e ≡ w → is_silent w ≡ true → is_birth w ≡ false → takes_signal w ≡ false → is_some (plain_after system (log ++ e ∷ [])) ≡ true → KindHolds system log e w → NoTwo (placed_pids (placement system log).placed) → (p : Pid) → Here w p
   unfolding Here
-  came_silently w is quiet other applies kind two p now there goes_on =
+  came_silently w is quiet other untaken applies kind two p now there goes_on =
       let none = silent_no_deed w p quiet other in
-      silent_came w p now none.0 none.1 none.2 (went_silently w is quiet applies kind two p now there)
+      silent_came w p now none.0 none.1 none.2 (went_silently w is quiet untaken applies kind two p now there)
 
   -- ---- births and takes, where a kernel makes them
 
@@ -371,15 +425,16 @@ module _ (system : System) (log : List Entry) (e : Entry) where
   came_by (Mail at letter) is applies kind two p = let sent = is_sent system log letter.from at (Sent letter) kind in mail_came at letter sent.after p sent.is is
   came_by (Birth parent at child end) is applies kind two p = λ now there goes_on. birth_came parent at child end (birth_applied system log e parent at child end is applies kind.end_is) p now there
   came_by (Exit q at end) is applies kind two p = let sent = is_sent system log q at (Ended end) kind.0 in exit_came q at end sent.after p sent.is is
-  came_by (Page q at index bytes) is applies kind two p = came_silently (Page q at index bytes) is refl refl applies kind two p
-  came_by (Sync q small read took) is applies kind two p = came_silently (Sync q small read took) is refl refl applies kind two p
-  came_by (Fetch q index) is applies kind two p = came_silently (Fetch q index) is refl refl applies kind two p
-  came_by (PageIs q index bytes) is applies kind two p = came_silently (PageIs q index bytes) is refl refl applies kind two p
-  came_by (Crash k cause) is applies kind two p = came_silently (Crash k cause) is refl refl applies kind two p
-  came_by (Return k) is applies kind two p = came_silently (Return k) is refl refl applies kind two p
-  came_by (Rebackup to fresh recs) is applies kind two p = came_silently (Rebackup to fresh recs) is refl refl applies kind two p
-  came_by (Done rests) is applies kind two p = came_silently (Done rests) is refl refl applies kind two p
-  came_by Stop is applies kind two p = came_silently Stop is refl refl applies kind two p
+  came_by (Page q at index bytes) is applies kind two p = came_silently (Page q at index bytes) is refl refl refl applies kind two p
+  came_by (Sync q small read None) is applies kind two p = came_silently (Sync q small read None) is refl refl refl applies kind two p
+  came_by (Sync q small read (Some g)) is applies kind two p = λ now there goes_on. take_came q small read g (sync_taken system log e q small read g is kind).made p now there
+  came_by (Fetch q index) is applies kind two p = came_silently (Fetch q index) is refl refl refl applies kind two p
+  came_by (PageIs q index bytes) is applies kind two p = came_silently (PageIs q index bytes) is refl refl refl applies kind two p
+  came_by (Crash k cause) is applies kind two p = came_silently (Crash k cause) is refl refl refl applies kind two p
+  came_by (Return k) is applies kind two p = came_silently (Return k) is refl refl refl applies kind two p
+  came_by (Rebackup to fresh recs) is applies kind two p = came_silently (Rebackup to fresh recs) is refl refl refl applies kind two p
+  came_by (Done rests) is applies kind two p = came_silently (Done rests) is refl refl refl applies kind two p
+  came_by Stop is applies kind two p = came_silently Stop is refl refl refl applies kind two p
 
 -- each process that has not ended after an entry that stands came there so
 pub came : (system : System) (log : List Entry) (e : Entry) → Stands system log e → NoTwo (placed_pids (placement system log).placed)

@@ -1,5 +1,5 @@
 -- When the end of a run may stand next.
-use Rattle.std.proofs.Common.{◌≡◌, ℕ, refl, sym, ◌∙◌, ap, subst, List, [], ◌∷◌, ◌++◌, map, Bool, true, false, cond, not, ◌&&◌, ◌||◌, eqb, Option, Some, None, is_some, true≢false}
+use Rattle.std.proofs.Common.{◌≡◌, ℕ, refl, sym, ◌∙◌, ap, subst, List, [], ◌∷◌, ◌++◌, map, Bool, true, false, cond, not, ◌&&◌, ◌||◌, eqb, Option, Some, None, is_some, true≢false, is_none}
 use Rattle.std.specs.Prelude.{find, filter, option_map, option_and_then}
 use Rattle.std.specs.List.{list_any, list_all}
 use Rattle.std.specs.Option.{option_map_or}
@@ -7,7 +7,7 @@ use Rattle.std.proofs.lemmas.Bool.{and_parts}
 use Rattle.t32_base.specs.declared.process.Pid.{Pid}
 use Rattle.sys_text.specs.declared.system.System.{System}
 use Rattle.sys_text.specs.Valid.{is_system}
-use Rattle.proc_state.specs.State.{ProcState, can_take}
+use Rattle.proc_state.specs.State.{ProcState, can_take, has_ended, is_live}
 use Rattle.sys_calls.specs.Next.{next_step, has_step}
 use Rattle.sys_calls.proofs.Counting.{ended_is_over}
 use Rattle.plain_kernel.specs.Kernel.{Kernel, process_at}
@@ -34,8 +34,11 @@ use Rattle.cert_sched.proofs.PidLaws.{placed_pids, apart_fewer}
 use Rattle.cert_sched.proofs.FreshLaws.{numbered}
 use Rattle.cert_sched.proofs.RunsLaws.{rest_pids, led, led-silent_upto, after_runs, RunsTo, runs_made}
 use Rattle.cert_sched.proofs.EndedLaws.{EndsTold, built_ended}
-use Rattle.cert_sched.proofs.StillLaws.{still_where_none_acts}
+use Rattle.cert_sched.proofs.StillLaws.{still_where_none_acts, acts}
 use Rattle.cert_sched.proofs.Applied.{legal_applies}
+use Rattle.proc_state.specs.Mail.{first_signal}
+use Rattle.t32_base.specs.declared.process.Status.{Status}
+use Rattle.t32_base.specs.declared.process.Status.TheVariants.{Live, Closing, Ended}
 
 -- The processes that have not ended, once and rising, with counts at which they are idle.
 pub record AllRest (system : System) (log : List Entry) (rests : List (Pid × ℕ)) : Type 0 where
@@ -63,24 +66,34 @@ unnamed (q ∷ qs) p none = by_tests q.ended (same_pid q.pid p) refl none (unnam
 
 -- ---- the kernel
 
-idle_no_step : (s : ProcState) → is_idle s ≡ true → has_step (next_step s) ≡ false
-idle_no_step s idle = by_test (has_step (next_step s)) idle
+idle_acts_not : (s : ProcState) → is_idle s ≡ true → acts s ≡ false
+idle_acts_not s idle = by_test (acts s) idle
   where
-    by_test : (b : Bool) → not (b || can_take s) ≡ true → b ≡ false
+    by_test : (b : Bool) → not b ≡ true → b ≡ false
     by_test true e = absurd (true≢false (sym e))
     by_test false e = refl
 
+-- nor does one that has ended
+ended_acts_not : (s : ProcState) → has_ended (s.small).status ≡ true → acts s ≡ false
+ended_acts_not s ended =
+    ap (λ b. b || can_take s) (ap has_step (ended_is_over s ended)) ∙ ap (λ b. b && is_none (s.small).frame && is_some (first_signal s.mail)) (by_status (s.small).status ended)
+  where
+    by_status : (status : Status) → has_ended status ≡ true → is_live status ≡ false
+    by_status Live h = absurd (true≢false (sym h))
+    by_status (Closing end) h = refl
+    by_status (Ended end) h = refl
+
 -- a process after the runs is one of them, which is idle, or as it was
 idle_after : (k : Kernel) (rs : List (Pid × ℕ)) (o : Option ProcState) (q : Pid) (s : ProcState) → list_all (λ r. option_map_or is_idle (led k r) false) rs ≡ true → after_runs k rs o q ≡ Some s
-    → (list_any (λ m. eqb m q.0) (rest_pids rs) ≡ false → o ≡ Some s → has_step (next_step s) ≡ false) → has_step (next_step s) ≡ false
+    → (list_any (λ m. eqb m q.0) (rest_pids rs) ≡ false → o ≡ Some s → acts s ≡ false) → acts s ≡ false
 idle_after k [] o q s idle there other = other refl there
 idle_after k (r ∷ rs) o q s idle there other =
     let parts = and_parts (option_map_or is_idle (led k r) false) (list_all (λ r. option_map_or is_idle (led k r) false) rs) idle in
     by_test parts.0 (same_pid r.0 q) refl there (λ e later. idle_after k rs o q s parts.1 e later)
   where
     by_test : option_map_or is_idle (led k r) false ≡ true → (b : Bool) → same_pid r.0 q ≡ b → cond b (led k r) (after_runs k rs o q) ≡ Some s
-        → (after_runs k rs o q ≡ Some s → (list_any (λ m. eqb m q.0) (rest_pids rs) ≡ false → o ≡ Some s → has_step (next_step s) ≡ false) → has_step (next_step s) ≡ false) → has_step (next_step s) ≡ false
-    by_test here true is e more = idle_no_step s (sym (ap (λ o. option_map_or is_idle o false) e) ∙ here)
+        → (after_runs k rs o q ≡ Some s → (list_any (λ m. eqb m q.0) (rest_pids rs) ≡ false → o ≡ Some s → acts s ≡ false) → acts s ≡ false) → acts s ≡ false
+    by_test here true is e more = idle_acts_not s (sym (ap (λ o. option_map_or is_idle o false) e) ∙ here)
     by_test here false is e more = more e (λ none same. other (ap (λ b. b || list_any (λ m. eqb m q.0) (rest_pids rs)) is ∙ none) same)
 
 -- ---- the entry
@@ -124,12 +137,12 @@ done_still system log rests legal goes_on rest d =
     idle = list_all-weaker (is_idle_at system log) (λ r. option_map_or is_idle (led d.kernel r) false)
         (λ r idle. ap (λ o. option_map_or is_idle o false) (sym (led-silent_upto system log d.kernel r d.before)) ∙ (and_parts (is_silent_rest system log r) (option_map_or is_idle (silent_upto system log r.0 r.1) false) idle).1) rests rest.idle
 
-    none_moves : (q : Pid) (s : ProcState) → process_at (d.runs).to q ≡ Some s → has_step (next_step s) ≡ false
+    none_moves : (q : Pid) (s : ProcState) → process_at (d.runs).to q ≡ Some s → acts s ≡ false
     none_moves q s there =
         idle_after d.kernel rests (process_at d.kernel q) q s idle (sym ((d.runs).are q) ∙ there) (λ none was.
         let apart : list_any (λ m. eqb m q.0) (placed_pids (unended_in (placement system log))) ≡ false =
         sym (rising-any (λ m. eqb m q.0) (placed_pids (unended_in (placement system log)))) ∙ sym (ap (list_any (λ m. eqb m q.0)) rest.named) ∙ none in
-        ap has_step (ended_is_over s (told q s (ap (option_and_then (λ k. process_at k q)) d.before ∙ was) (unnamed (placement system log).placed q apart))))
+        ended_acts_not s (told q s (ap (option_and_then (λ k. process_at k q)) d.before ∙ was) (unnamed (placement system log).placed q apart)))
 
 -- where all rest, the end of the run may stand next
 pub done_may_follow : (system : System) (log : List Entry) (rests : List (Pid × ℕ)) → is_system system ≡ true → IsLegalBy BuiltMayFollow system log → is_over system log ≡ false → AllRest system log rests

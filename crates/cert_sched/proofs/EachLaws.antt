@@ -5,14 +5,14 @@ use Rattle.std.proofs.lemmas.List.Sums.{fold-append}
 use Rattle.t32_base.specs.declared.process.Pid.{Pid}
 use Rattle.t32_base.specs.declared.letter.Letter.{Letter}
 use Rattle.sys_text.specs.declared.system.System.{System}
-use Rattle.proc_state.specs.State.{ProcState, delivered, has_ended}
+use Rattle.proc_state.specs.State.{ProcState, delivered, has_ended, can_take}
 use Rattle.sys_calls.specs.declared.steps.Emission.{Emission}
 use Rattle.sys_calls.specs.declared.steps.Emission.TheVariants.{Mail as Sent, Exit as Ended}
 use Rattle.sys_calls.specs.Calls.{Next, Silent, Blocked, Forks, Emits, Over}
 use Rattle.sys_calls.specs.Next.{next_step}
 use Rattle.sys_calls.specs.Fork.{fork_child, fork_parent}
 use Rattle.plain_kernel.specs.Kernel.{Kernel, boot, process_at, with_process, emitted}
-use Rattle.plain_kernel.specs.Apply.{after_step, fork_step, one_step}
+use Rattle.plain_kernel.specs.Apply.{after_step, fork_step, one_step, take_step}
 use Rattle.plain_kernel.proofs.AtBoot.{Each}
 use Rattle.plain_kernel.proofs.Entries.{some_same}
 use Rattle.plain_kernel.proofs.Forking.{fork_made}
@@ -25,12 +25,15 @@ use Rattle.cert_sched.specs.Deeds.{is_end_of}
 use Rattle.cert_sched.proofs.MadeLaws.{apart_from}
 use Rattle.cert_sched.proofs.MailLaws.{process_at-emitted, received}
 use Rattle.cert_sched.proofs.StepLaws.{log_keeps, log_keeps_all}
+use Rattle.sys_calls.specs.Take.{taken}
+use Rattle.plain_kernel.proofs.Taking.{take_made}
 
--- its own steps keep it, silent ones, those that send and its forks, and so does a letter that arrives
+-- its own steps keep it, silent ones, those that send and its forks, and so do its takes, and a letter that arrives
 pub record StaysSo (Q : ProcState → Type 0) : Type 0 where
   pub silent : (s t : ProcState) → next_step s ≡ Silent t → Q s → Q t
   pub sends : (s t : ProcState) (e : Emission) → next_step s ≡ Emits e t → Q s → Q t
   pub forks : (s : ProcState) (child : Pid) → next_step s ≡ Forks → Q s → Q (fork_parent s child)
+  pub takes : (s : ProcState) → can_take s ≡ true → Q s → Q (taken s)
   pub arrives : (s : ProcState) (letter : Letter) → Q s → Q (delivered s letter)
 
 received_so : (Q : ProcState → Type 0) → StaysSo Q → (e : Emission) (p : Pid) (s : ProcState) → Q s → Q (received e p s)
@@ -93,11 +96,17 @@ module _ (Q : ProcState → Type 0) (stays : StaysSo Q) (p : Pid) where
       (put_has (with_process k q (fork_parent f.was c)) c (fork_child f.was c) (λ same. absurd (true≢false (ap is_some (sym h.there ∙ ap (process_at k) (sym (same_of c p same)) ∙ f.absent))))
       (put_has k q (fork_parent f.was c) (λ same. stays.forks f.was c f.forks (found_has k q f.was h same f.there)) h))
 
+  -- and a take of any
+  pub take_has : (q : Pid) (k j : Kernel) → Has Q p k → take_step q k ≡ Some j → Has Q p j
+  take_has q k j h made =
+      let t = take_made q k j made in
+      subst (Has Q p) (sym t.after) (put_has k q (taken t.was) (λ same. stays.takes t.was t.can (found_has k q t.was h same t.there)) h)
+
   -- over several entries, births of others and its own among them, it stays so
   pub rest_so : (system : System) (log rest : List Entry) (was now : ProcState) → process_after system log p ≡ Some was → Q was → process_after system (log ++ rest) p ≡ Some now → Q now
   unfolding plain_after
   rest_so system log rest was now there has after =
-      by_after (fold after_entry (plain_after system log) rest) (log_keeps (Has Q p) one_has fork_has (plain_after system log) rest (by_before (plain_after system log) there))
+      by_after (fold after_entry (plain_after system log) rest) (log_keeps (Has Q p) one_has fork_has take_has (plain_after system log) rest (by_before (plain_after system log) there))
       (sym (ap (option_and_then (λ k. process_at k p)) (fold-append after_entry (Some (boot system)) log rest)) ∙ after)
     where
       by_before : (o : Option Kernel) → option_and_then (λ k. process_at k p) o ≡ Some was → IfSome o (Has Q p)
@@ -113,14 +122,14 @@ module _ (Q : ProcState → Type 0) (stays : StaysSo Q) (p : Pid) where
 
 -- a process that is there stays
 every_so : StaysSo (λ s. Unit {0})
-every_so = record { silent = λ s t is has. tt; sends = λ s t e is has. tt; forks = λ s child is has. tt; arrives = λ s letter has. tt }
+every_so = record { silent = λ s t is has. tt; sends = λ s t e is has. tt; forks = λ s child is has. tt; takes = λ s can has. tt; arrives = λ s letter has. tt }
 
 pub stays_there : (system : System) (log rest : List Entry) (p : Pid) (was : ProcState) → process_after system log p ≡ Some was → is_some (plain_after system (log ++ rest)) ≡ true → is_some (process_after system (log ++ rest) p) ≡ true
 unfolding plain_after
 stays_there system log rest p was there applies =
     by_after (fold after_entry (Some (boot system)) (log ++ rest)) applies
     (subst (λ o. IfSome o (Has (λ s. Unit {0}) p)) (sym (fold-append after_entry (Some (boot system)) log rest))
-    (log_keeps (Has (λ s. Unit {0}) p) (one_has (λ s. Unit {0}) every_so p) (fork_has (λ s. Unit {0}) every_so p) (plain_after system log) rest (by_before (plain_after system log) there)))
+    (log_keeps (Has (λ s. Unit {0}) p) (one_has (λ s. Unit {0}) every_so p) (fork_has (λ s. Unit {0}) every_so p) (take_has (λ s. Unit {0}) every_so p) (plain_after system log) rest (by_before (plain_after system log) there)))
   where
     by_before : (o : Option Kernel) → option_and_then (λ k. process_at k p) o ≡ Some was → IfSome o (Has (λ s. Unit {0}) p)
     by_before None e = tt
@@ -172,10 +181,15 @@ module _ (Q : Pid → ProcState → Type 0) (stays : (p : Pid) → StaysSo (Q p)
       let had : Q p f.was = each p f.was f.there in
       subst (Each Q) f.after (each_put (with_process k p (fork_parent f.was c)) c (fork_child f.was c) (inherits p c f.was f.forks had) (each_put k p (fork_parent f.was c) ((stays p).forks f.was c f.forks had) each))
 
+  pub each_take : (p : Pid) (k j : Kernel) → Each Q k → take_step p k ≡ Some j → Each Q j
+  each_take p k j each made =
+      let t = take_made p k j made in
+      subst (Each Q) (sym t.after) (each_put k p (taken t.was) ((stays p).takes t.was t.can (each p t.was t.there)) each)
+
   -- what each process has at boot, each has after a log
   pub each_so : (system : System) (log : List Entry) (p : Pid) (s : ProcState) → Each Q (boot system) → process_after system log p ≡ Some s → Q p s
   each_so system log p s start there = by_kernel (plain_after system log) refl there
     where
       by_kernel : (o : Option Kernel) → plain_after system log ≡ o → option_and_then (λ k. process_at k p) o ≡ Some s → Q p s
       by_kernel None is e = cc
-      by_kernel (Some k) is e = log_keeps_all (Each Q) each_one each_fork system log k start is p s e
+      by_kernel (Some k) is e = log_keeps_all (Each Q) each_one each_fork each_take system log k start is p s e

@@ -1,9 +1,9 @@
--- What each step and each fork lowers in sum over the processes of a kernel is never more after a log than at boot, nor after an entry than before it.
-use Rattle.std.proofs.Common.{◌≡◌, ℕ, ◌+◌, ◌-◌, ◌≤◌, refl, sym, ◌∙◌, ap, arith, List, [], ◌∷◌, ◌++◌, Some}
+-- What each step and each fork lowers in sum, and no take raises, over the processes of a kernel is never more after a log than at boot, nor after an entry than before it.
+use Rattle.std.proofs.Common.{◌≡◌, ℕ, ◌+◌, ◌-◌, ◌≤◌, refl, sym, ◌∙◌, ap, arith, List, [], ◌∷◌, ◌++◌, Some, true}
 use Rattle.t32_base.specs.declared.process.Pid.{Pid}
 use Rattle.t32_base.specs.Small.{SmallState}
 use Rattle.sys_text.specs.declared.system.System.{System}
-use Rattle.proc_state.specs.State.{ProcState}
+use Rattle.proc_state.specs.State.{ProcState, can_take}
 use Rattle.sys_calls.specs.declared.steps.Emission.{Emission}
 use Rattle.sys_calls.specs.Calls.{Silent, Forks, Emits}
 use Rattle.sys_calls.specs.Next.{next_step}
@@ -13,14 +13,14 @@ use Rattle.sys_calls.proofs.Bearing.{emits_lightens, fork_lightens, silent_light
 use Rattle.sys_calls.proofs.Counting.{emits_counts, last_sent, silent_counts}
 use Rattle.sys_calls.proofs.ForkLaws.{forks_can}
 use Rattle.plain_kernel.specs.Kernel.{Kernel, boot, emitted, with_process}
-use Rattle.plain_kernel.specs.Apply.{apply_all, fork_step, one_step}
+use Rattle.plain_kernel.specs.Apply.{apply_all, fork_step, one_step, take_step}
 use Rattle.plain_kernel.specs.declared.item.Item.{Item}
 use Rattle.plain_kernel.proofs.AtBoot.{boot-rising}
 use Rattle.plain_kernel.proofs.Entries.{some_same}
 use Rattle.plain_kernel.proofs.ForkPids.{fork_step-rising}
 use Rattle.plain_kernel.proofs.Others.{items_keep}
 use Rattle.plain_kernel.proofs.Pids.{IsRising, one_step-pids, pids_in}
-use Rattle.cert_sched.proofs.KernelSums.{family_load, fork_lowers, fork_step_lightens, sent_lowers, step_lowers, sum_of}
+use Rattle.cert_sched.proofs.KernelSums.{family_load, fork_lowers, fork_step_lightens, sent_lowers, step_lowers, sum_of, process_sum}
 use Rattle.bus_msg.specs.declared.entry.What.TheVariants.{Birth}
 use Rattle.bus_msg.specs.declared.entry.Entry.{Entry}
 use Rattle.bus_msg.specs.PlacedAfter.{what}
@@ -28,14 +28,18 @@ use Rattle.cert_sched.specs.Schedule.{items_of, run_upto, plain_after}
 use Rattle.cert_sched.specs.Steps.{emission_at}
 use Rattle.cert_sched.proofs.RunAndFork.{run_and_fork}
 use Rattle.cert_sched.proofs.StepLaws.{Applied, Tells, log_keeps_all, plain_after-rising, plain_after-sent, sent_from}
+use Rattle.plain_kernel.proofs.Taking.{take_made}
+use Rattle.plain_kernel.proofs.TakePids.{take_step-rising}
+use Rattle.sys_calls.specs.Take.{taken}
+use Rattle.sys_calls.proofs.TakeLaws.{taken_strikes}
 
 pub step_rising : (p : Pid) (k j : Kernel) → IsRising k → one_step p k ≡ Some j → IsRising j
 step_rising p k j rising made = (one_step-pids (pids_in k) p k j (record { rising = rising; are = refl }) made).rising
 
--- ---- what no step and no fork raises
+-- ---- what no step, no fork and no take raises
 
 module _ (f : SmallState → ℕ) (silent : (s t : ProcState) → next_step s ≡ Silent t → f t.small ≤ f s.small) (sends : (s t : ProcState) (e : Emission) → next_step s ≡ Emits e t → f t.small ≤ f s.small)
-    (forks : (s : ProcState) (c : Pid) → next_step s ≡ Forks → f (fork_parent s c).small + f (fork_child s c).small ≤ f s.small) where
+    (forks : (s : ProcState) (c : Pid) → next_step s ≡ Forks → f (fork_parent s c).small + f (fork_child s c).small ≤ f s.small) (takes : (s : ProcState) → can_take s ≡ true → f (taken s).small ≤ f s.small) where
   record IsBelow (most : ℕ) (k : Kernel) : Type 0 where
     pub rising : IsRising k
     pub below : sum_of f k ≤ most
@@ -50,9 +54,16 @@ module _ (f : SmallState → ℕ) (silent : (s t : ProcState) → next_step s �
       let less = fork_lowers f 0 (λ s c next. omega (arith, forks s c next)) p c k j is.rising made in
       record { rising = fork_step-rising p c k j is.rising made; below = omega (arith, less, is.below) }
 
+  take_below : (most : ℕ) (p : Pid) (k j : Kernel) → IsBelow most k → take_step p k ≡ Some j → IsBelow most j
+  take_below most p k j is made =
+      let t = take_made p k j made in
+      let sum = process_sum f k p t.was (taken t.was) is.rising t.there in
+      let less = takes t.was t.can in
+      record { rising = take_step-rising p k j is.rising made; below = omega (arith, sum, less, is.below, ap (sum_of f) t.after) }
+
   -- items do not raise it
   pub sum_items : (items : List Item) (k j : Kernel) → IsRising k → apply_all items k ≡ Some j → sum_of f j ≤ sum_of f k
-  sum_items items k j rising made = (items_keep (IsBelow (sum_of f k)) (one_below (sum_of f k)) (fork_below (sum_of f k)) items k j (record { rising = rising; below = omega arith }) made).below
+  sum_items items k j rising made = (items_keep (IsBelow (sum_of f k)) (one_below (sum_of f k)) (fork_below (sum_of f k)) (take_below (sum_of f k)) items k j (record { rising = rising; below = omega arith }) made).below
 
   -- nor does an entry
   pub sum_entry : (system : System) (log : List Entry) (e : Entry) (a : Applied system log e) → sum_of f a.new ≤ sum_of f a.old
@@ -61,7 +72,7 @@ module _ (f : SmallState → ℕ) (silent : (s t : ProcState) → next_step s �
   -- so after a log it is no more than at boot
   pub sum_after : (system : System) (log : List Entry) (k : Kernel) → plain_after system log ≡ Some k → sum_of f k ≤ sum_of f (boot system)
   sum_after system log k is =
-      (log_keeps_all (IsBelow (sum_of f (boot system))) (one_below (sum_of f (boot system))) (fork_below (sum_of f (boot system))) system log k (record { rising = boot-rising system; below = omega arith }) is).below
+      (log_keeps_all (IsBelow (sum_of f (boot system))) (one_below (sum_of f (boot system))) (fork_below (sum_of f (boot system))) (take_below (sum_of f (boot system))) system log k (record { rising = boot-rising system; below = omega arith }) is).below
 
 -- ---- the steps that the processes and the children that they may still fork have left
 
@@ -74,14 +85,17 @@ sends_less s t e is = omega (arith, emits_lightens s t e is)
 forks_less : (s : ProcState) (c : Pid) → next_step s ≡ Forks → weight_with_children (fork_parent s c).small + weight_with_children (fork_child s c).small ≤ weight_with_children s.small
 forks_less s c is = omega (arith, fork_lightens s c (forks_can s is))
 
+takes_less : (s : ProcState) → can_take s ≡ true → weight_with_children (taken s).small ≤ weight_with_children s.small
+takes_less s can = (taken_strikes s can).weight_children
+
 pub load_items : (items : List Item) (k j : Kernel) → IsRising k → apply_all items k ≡ Some j → family_load j ≤ family_load k
-load_items = sum_items weight_with_children silent_less sends_less forks_less
+load_items = sum_items weight_with_children silent_less sends_less forks_less takes_less
 
 pub load_entry : (system : System) (log : List Entry) (e : Entry) (a : Applied system log e) → family_load a.new ≤ family_load a.old
-load_entry = sum_entry weight_with_children silent_less sends_less forks_less
+load_entry = sum_entry weight_with_children silent_less sends_less forks_less takes_less
 
 pub load_after : (system : System) (log : List Entry) (k : Kernel) → plain_after system log ≡ Some k → family_load k ≤ family_load (boot system)
-load_after = sum_after weight_with_children silent_less sends_less forks_less
+load_after = sum_after weight_with_children silent_less sends_less forks_less takes_less
 
 -- an entry that tells of what a process sent leaves one fewer at least
 pub load_sent : (system : System) (log : List Entry) (entry : Entry) (p : Pid) (at : ℕ) (e : Emission) (t : ProcState) (k j : Kernel) → plain_after system log ≡ Some k → plain_after system (log ++ entry ∷ []) ≡ Some j
@@ -101,7 +115,7 @@ load_birth system log e parent at child end a is =
     let r = run_and_fork (run_upto a.old parent (at - 1)) parent child a.old a.new (ap (λ w. apply_all (items_of a.old w) a.old) (sym is) ∙ a.made) in
     let rising = plain_after-rising system log a.old a.before in
     let ran = load_items (run_upto a.old parent (at - 1)) a.old r.to rising r.ran in
-    let run_rising = items_keep IsRising step_rising fork_step-rising (run_upto a.old parent (at - 1)) a.old r.to rising r.ran in
+    let run_rising = items_keep IsRising step_rising fork_step-rising take_step-rising (run_upto a.old parent (at - 1)) a.old r.to rising r.ran in
     let forked = fork_step_lightens parent child r.to a.new run_rising r.forks in
     omega (arith, ran, forked)
 
@@ -120,10 +134,13 @@ sends_all s t e is = let one = emits_counts s t e is in omega (arith, emits_ligh
 forks_all : (s : ProcState) (c : Pid) → next_step s ≡ Forks → all_steps (fork_parent s c).small + all_steps (fork_child s c).small ≤ all_steps s.small
 forks_all s c is = omega (arith, fork_lightens s c (forks_can s is))
 
+takes_all : (s : ProcState) → can_take s ≡ true → all_steps (taken s).small ≤ all_steps s.small
+takes_all s can = let t = taken_strikes s can in omega (arith, t.steps, t.weight_children)
+
 -- in sum they are no more after an entry than before it
 pub steps_entry : (system : System) (log : List Entry) (e : Entry) (a : Applied system log e) → sum_of all_steps a.new ≤ sum_of all_steps a.old
-steps_entry = sum_entry all_steps silent_all sends_all forks_all
+steps_entry = sum_entry all_steps silent_all sends_all forks_all takes_all
 
 -- so they are no more than at boot
 pub steps_after : (system : System) (log : List Entry) (k : Kernel) → plain_after system log ≡ Some k → sum_of all_steps k ≤ sum_of all_steps (boot system)
-steps_after = sum_after all_steps silent_all sends_all forks_all
+steps_after = sum_after all_steps silent_all sends_all forks_all takes_all

@@ -1,9 +1,9 @@
 -- What a birth and a take make of each process, where a kernel makes them.
-use Rattle.std.proofs.Common.{◌≡◌, ℕ, sym, ◌∙◌, List, [], ◌∷◌, ◌++◌, false, eq-eqb, Some, true≢false}
+use Rattle.std.proofs.Common.{◌≡◌, ℕ, sym, ◌∙◌, List, [], ◌∷◌, ◌++◌, false, eq-eqb, Some, true≢false, true}
 use Rattle.std.specs.Prelude.{◌≢◌}
 use Rattle.t32_base.specs.declared.process.Pid.{Pid}
 use Rattle.sys_text.specs.declared.system.System.{System}
-use Rattle.proc_state.specs.State.{ProcState, has_ended}
+use Rattle.proc_state.specs.State.{ProcState, has_ended, can_take}
 use Rattle.sys_calls.specs.Next.{silently}
 use Rattle.sys_calls.specs.Fork.{before_fork, fork_parent, fork_child}
 use Rattle.sys_calls.specs.Take.{taken}
@@ -33,6 +33,7 @@ pub record TakeMade (system : System) (log : List Entry) (e : Entry) (q : Pid) :
   pub made : ℕ
   pub before : ProcState
   pub silent : silently made was ≡ Some before
+  pub can : can_take before ≡ true
   pub open_still : has_ended (before.small).status ≡ false
   pub after : process_after system (log ++ e ∷ []) q ≡ Some (taken before)
   pub others : (p : Pid) → same_pid q p ≡ false → process_after system (log ++ e ∷ []) p ≡ process_after system log p

@@ -36,6 +36,7 @@ use Rattle.cert_sched.proofs.CameLaws.{IsStandingRule}
 use Rattle.cert_sched.proofs.FreshLaws.{same_pids}
 use Rattle.cert_sched.proofs.ThereLaws.{found_among}
 use Rattle.cert_sched.proofs.FamilyLaws.{root_in}
+use Rattle.plain_kernel.proofs.TakePids.{take_step-pids}
 
 -- the children of births, as numbers
 abbrev child_pids : List (Pid × Pid) → List ℕ
@@ -100,8 +101,8 @@ with_child_pid ps b = with_pid b.1 ps
 entry_pids : (w : What) (ps : List Pid) (k j : Kernel) → HasPids ps k → apply_all (items_of k w) k ≡ Some j → HasPids (fold with_child_pid ps (born w)) j
 entry_pids (Birth parent at child end) ps k j has made =
     let r = run_and_fork (run_upto k parent (at - 1)) parent child k j made in
-    fork_step-pids ps parent child r.to j (forkless_keep (HasPids ps) (one_step-pids ps) (run_upto k parent (at - 1)) k r.to (run_forkless parent (at - 1 - done k parent)) has r.ran) r.forks
-entry_pids w ps k j has made = forkless_keep (HasPids ps) (one_step-pids ps) (items_of k w) k j (items_forkless k w refl) has made
+    fork_step-pids ps parent child r.to j (forkless_keep (HasPids ps) (one_step-pids ps) (take_step-pids ps) (run_upto k parent (at - 1)) k r.to (run_forkless parent (at - 1 - done k parent)) has r.ran) r.forks
+entry_pids w ps k j has made = forkless_keep (HasPids ps) (one_step-pids ps) (take_step-pids ps) (items_of k w) k j (items_forkless k w refl) has made
 
 log_pids : (ps : List Pid) (o : Option Kernel) (log : List Entry) → IfSome o (HasPids ps) → IfSome (fold after_entry o log) (HasPids (fold with_child_pid ps (births_of log)))
 log_pids ps o [] has = has

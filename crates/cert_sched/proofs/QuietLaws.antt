@@ -1,13 +1,13 @@
 -- An entry that tells of no emission leads the kernel on by silent steps alone.
-use Rattle.std.proofs.Common.{◌≡◌, ℕ, refl, sym, ◌∙◌, ap, subst, List, [], ◌∷◌, ◌++◌, true, false, not, Option, Some, None, is_some, true≢false, append-nil}
+use Rattle.std.proofs.Common.{option_and_then, ◌≡◌, ℕ, refl, sym, ◌∙◌, ap, subst, List, [], ◌∷◌, ◌++◌, true, false, not, Option, Some, None, is_some, true≢false, append-nil}
 use Rattle.std.specs.Prelude.{option_map}
 use Rattle.std.proofs.lemmas.Bool.{and_parts}
 use Rattle.t32_base.specs.declared.process.Pid.{Pid}
 use Rattle.t32_base.specs.Small.{SmallState}
 use Rattle.sys_text.specs.declared.system.System.{System}
 use Rattle.proc_state.specs.State.{ProcState}
-use Rattle.plain_kernel.specs.Kernel.{Kernel}
-use Rattle.plain_kernel.specs.Apply.{apply_all}
+use Rattle.plain_kernel.specs.Kernel.{Kernel, process_at, with_process}
+use Rattle.plain_kernel.specs.Apply.{apply_all, take_step}
 use Rattle.plain_kernel.proofs.Entries.{some_same}
 use Rattle.bus_msg.specs.declared.entry.What.{What}
 use Rattle.bus_msg.specs.declared.entry.What.TheVariants.{Mail, Birth, Exit, Page, Sync, Fetch, PageIs, Crash, Return, Rebackup, Done, Stop}
@@ -22,10 +22,12 @@ use Rattle.cert_sched.proofs.ListLaws.{list_all-weaker}
 use Rattle.cert_sched.proofs.RisingLaws.{NoTwo, rising-apart}
 use Rattle.cert_sched.proofs.PidLaws.{placed_pids, apart_fewer}
 use Rattle.cert_sched.proofs.LogLaws.{plain_after-snoc}
-use Rattle.cert_sched.proofs.StepLaws.{no_signal_taken}
-use Rattle.cert_sched.proofs.RunsLaws.{Quietly, Same, led, led-silent_upto, rest_pids, run_made, runs_made}
+use Rattle.cert_sched.proofs.RunsLaws.{Quietly, Same, led, led-silent_upto, rest_pids, run_made, runs_made, Struck, quietly_on}
 use Rattle.cert_sched.proofs.CameLaws.{is_silent}
 use Rattle.cert_sched.proofs.LogLaws.{no_items}
+use Rattle.cert_sched.proofs.BirthLaws.{kernel_taken, sync_taken}
+use Rattle.plain_kernel.proofs.Taking.{takes}
+use Rattle.sys_calls.specs.Take.{taken}
 
 module _ (system : System) (log : List Entry) (e : Entry) (k j : Kernel) (before : plain_after system log ≡ Some k) (after : plain_after system (log ++ e ∷ []) ≡ Some j) where
   leads : apply_all (items_of k (what e)) k ≡ Some j
@@ -46,7 +48,15 @@ module _ (system : System) (log : List Entry) (e : Entry) (k j : Kernel) (before
   some_mapped f (Some s) x is = refl
 
   cut_quietly : (q : Pid) (small : SmallState) (read : List ℕ) (took : Option ℕ) → what e ≡ Sync q small read took → KindHolds system log e (Sync q small read took) → Quietly j k
-  cut_quietly q small read (Some g) is kind = absurd (no_signal_taken system log e q small read g is (ap is_some after))
+  cut_quietly q small read (Some g) is kind =
+      let t = sync_taken system log e q small read g is kind in
+      let r = run_made k k (q, small.steps) (sym (ap is_some (led-silent_upto system log k (q, small.steps) before)) ∙ ap is_some t.reached) refl in
+      let here : process_at r.to q ≡ Some (t.made).before = r.here ∙ sym (led-silent_upto system log k (q, small.steps) before) ∙ t.reached in
+      let to : with_process r.to q (taken (t.made).before) ≡ j =
+      some_same (with_process r.to q (taken (t.made).before)) j
+      (sym (takes q r.to (t.made).before here (t.made).can)
+      ∙ sym (kernel_taken system log e q small read g k is before ∙ ap (option_and_then (take_step q)) r.made) ∙ after) in
+      quietly_on j r.to k r.quiet (Struck r.to q (t.made).before here (t.made).can (Same (with_process r.to q (taken (t.made).before)) to))
   cut_quietly q small read None is kind =
       one_run q small.steps (some_mapped (λ s. (after_take None s).small) (silent_upto system log q small.steps) small kind.state) (ap (items_of k) is ∙ append-nil (run_upto k q small.steps))
 

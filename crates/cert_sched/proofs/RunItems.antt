@@ -8,7 +8,7 @@ use Rattle.t32_base.specs.declared.process.Pid.{Pid}
 use Rattle.plain_kernel.specs.declared.item.Item.{Item}
 use Rattle.plain_kernel.specs.declared.item.Item.TheVariants.{Run, Fork, Take}
 use Rattle.plain_kernel.specs.Kernel.{Kernel}
-use Rattle.plain_kernel.specs.Apply.{one_step, steps, apply, apply_all}
+use Rattle.plain_kernel.specs.Apply.{one_step, steps, apply, apply_all, take_step}
 use Rattle.plain_kernel.proofs.Entries.{some_same}
 use Rattle.plain_kernel.proofs.Others.{steps-keep}
 use Rattle.bus_msg.specs.declared.entry.What.{What}
@@ -21,7 +21,7 @@ is_no_fork (Run p n) = true
 is_no_fork (Fork p c) = false
 is_no_fork (Take p) = true
 
-module _ (P : Kernel → Type 0) (one : (p : Pid) (k j : Kernel) → P k → one_step p k ≡ Some j → P j) where
+module _ (P : Kernel → Type 0) (one : (p : Pid) (k j : Kernel) → P k → one_step p k ≡ Some j → P j) (take : (p : Pid) (k j : Kernel) → P k → take_step p k ≡ Some j → P j) where
   item_kept : (i : Item) (k j : Kernel) → is_no_fork i ≡ true → P k → apply k i ≡ Some j → P j
   item_kept (Run p n) k j other has made = by_count (eqb n 0) made
     where
@@ -29,7 +29,7 @@ module _ (P : Kernel → Type 0) (one : (p : Pid) (k j : Kernel) → P k → one
       by_count true e = cc
       by_count false e = steps-keep P one n p k j has e
   item_kept (Fork p c) k j other has made = absurd (true≢false (sym other))
-  item_kept (Take p) k j other has made = cc
+  item_kept (Take p) k j other has made = take p k j has made
 
   -- items without a fork keep it
   pub forkless_keep : (is : List Item) (k j : Kernel) → list_all is_no_fork is ≡ true → P k → apply_all is k ≡ Some j → P j

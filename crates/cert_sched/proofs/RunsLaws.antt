@@ -6,7 +6,7 @@ use Rattle.std.specs.Option.{option_map_or}
 use Rattle.std.proofs.lemmas.Bool.{and_parts}
 use Rattle.t32_base.specs.declared.process.Pid.{Pid}
 use Rattle.sys_text.specs.declared.system.System.{System}
-use Rattle.proc_state.specs.State.{ProcState}
+use Rattle.proc_state.specs.State.{ProcState, can_take}
 use Rattle.sys_calls.specs.Next.{silently}
 use Rattle.plain_kernel.specs.Kernel.{Kernel, process_at, with_process}
 use Rattle.plain_kernel.specs.Apply.{steps, apply_all}
@@ -19,23 +19,28 @@ use Rattle.cert_sched.specs.Steps.{silent_upto}
 use Rattle.plain_kernel.proofs.Laws.{apply_all-append}
 use Rattle.cert_sched.proofs.StepLaws.{apply_run}
 use Rattle.cert_sched.proofs.RisingLaws.{NoTwo, either_not}
+use Rattle.sys_calls.specs.Take.{taken}
 
 -- ---- silent steps
 
--- silent steps of processes, as the kernel then has them, lead from one kernel to another
+-- silent steps of processes, as the kernel then has them, and takes lead from one kernel to another
 pub data Quietly (to : Kernel) : Kernel → Type 0 where
   Same : (k : Kernel) → k ≡ to → Quietly to k
   More : (k : Kernel) (p : Pid) (n : ℕ) (s t : ProcState) → process_at k p ≡ Some s → silently n s ≡ Some t → Quietly to (with_process k p t) → Quietly to k
+  Struck : (k : Kernel) (p : Pid) (s : ProcState) → process_at k p ≡ Some s → can_take s ≡ true → Quietly to (with_process k p (taken s)) → Quietly to k
 
 pub quietly_on : (to j i : Kernel) → Quietly j i → Quietly to j → Quietly to i
 quietly_on to j i (Same k same) rest = subst (Quietly to) (sym same) rest
 quietly_on to j i (More k p n s t there silent more) rest = More k p n s t there silent (quietly_on to j (with_process k p t) more rest)
+quietly_on to j i (Struck k p s there can more) rest = Struck k p s there can (quietly_on to j (with_process k p (taken s)) more rest)
 
 -- what one such change keeps, all keep
 pub quietly_keeps : (P : Kernel → Type 0) → ((k : Kernel) (p : Pid) (n : ℕ) (s t : ProcState) → process_at k p ≡ Some s → silently n s ≡ Some t → P k → P (with_process k p t))
+    → ((k : Kernel) (p : Pid) (s : ProcState) → process_at k p ≡ Some s → can_take s ≡ true → P k → P (with_process k p (taken s)))
     → (to k : Kernel) → Quietly to k → P k → P to
-quietly_keeps P one to k (Same i same) has = subst P same has
-quietly_keeps P one to k (More i p n s t there silent more) has = quietly_keeps P one to (with_process i p t) more (one i p n s t there silent has)
+quietly_keeps P one take to k (Same i same) has = subst P same has
+quietly_keeps P one take to k (More i p n s t there silent more) has = quietly_keeps P one take to (with_process i p t) more (one i p n s t there silent has)
+quietly_keeps P one take to k (Struck i p s there can more) has = quietly_keeps P one take to (with_process i p (taken s)) more (take i p s there can has)
 
 quiet_steps : (n : ℕ) (k j : Kernel) (p : Pid) (s t : ProcState) → process_at k p ≡ Some s → silently n s ≡ Some t → steps n p k ≡ Some j → Quietly j k
 quiet_steps zero k j p s t there silent made = Same k (no_step p k j made)

@@ -61,7 +61,7 @@ step_fine n s t Forks (Sends e ∷ rest) goes_on ends is h on = absurd h
 step_fine n s t Forks (Bears child ∷ rest) goes_on ends is h on = (tt, on (fork_parent s child) rest (fork_ends s child ∙ ends) h)
 step_fine n s t (Emits e x) [] goes_on ends is h on = absurd h
 step_fine n s t (Emits e x) (Sends (Sent letter) ∷ rest) goes_on ends is h on =
-    let leaves : letter.out < length (s.small).ends = letter_leaves s x letter (is ∙ ap (λ m. Emits m x) (sym h.0)) in
+    let leaves : letter.out < length (s.small).ends = letter_leaves s x letter (is ∙ ap (λ m. Emits m x) (sym h.0)) (omega (arith, ends)) in
     (omega (arith, leaves, ends), on x rest (emits_ends s x e is ∙ ends) h.1)
 step_fine n s t (Emits e x) (Sends (Ended end) ∷ rest) goes_on ends is h on =
     absurd (true≢false (sym (exit_ends s x end (is ∙ ap (λ m. Emits m x) (sym h.0))) ∙ replays_goes_on n x t rest h.1 goes_on))

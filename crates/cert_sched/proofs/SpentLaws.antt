@@ -20,6 +20,7 @@ use Rattle.bus_msg.specs.declared.entry.Entry.{Entry}
 use Rattle.cert_sched.specs.Schedule.{plain_after, process_after}
 use Rattle.cert_sched.proofs.ForkWeight.{fork_weighs}
 use Rattle.cert_sched.proofs.EachLaws.{StaysSo, each_so, rest_so}
+use Rattle.sys_calls.proofs.TakeLaws.{taken_strikes}
 
 -- the steps made and those left, at most, are no more than so many
 abbrev IsWithin : ℕ → ProcState → Type 0
@@ -33,6 +34,7 @@ within_stays most = record {
       omega (arith, within, less, one.steps);
   sends = λ s t e is within. let one = emits_counts s t e is in omega (arith, within, emits_leaves s t e is, one.steps);
   forks = λ s child is within. let less = fork_weighs s child (forks_can s is) in omega (arith, within, less);
+  takes = λ s can within. let t = taken_strikes s can in omega (arith, within, t.steps, t.weight_is);
   arrives = λ s letter within. within;
 }
 
@@ -57,6 +59,7 @@ few_stays = record {
   sends = λ s t e is few.
       let kept = subst (Bears s) is (next_bears s) in
       record { left = omega (arith, few.left, kept.1); within = (within_stays 100068).sends s t e is few.within };
+  takes = λ s can few. record { left = omega (arith, few.left, (taken_strikes s can).left); within = (within_stays 100068).takes s can few.within };
   forks = λ s child is few. record { left = omega (arith, few.left); within = (within_stays 100068).forks s child is few.within };
   arrives = λ s letter few. record { left = few.left; within = few.within };
 }

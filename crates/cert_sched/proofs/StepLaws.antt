@@ -14,7 +14,7 @@ use Rattle.sys_calls.proofs.Counting.{last_letter_is_own}
 use Rattle.plain_kernel.specs.declared.item.Item.{Item}
 use Rattle.plain_kernel.specs.declared.item.Item.TheVariants.{Run, Fork, Take}
 use Rattle.plain_kernel.specs.Kernel.{Kernel, boot, process_at, with_process, emitted}
-use Rattle.plain_kernel.specs.Apply.{one_step, steps, fork_step, apply_all}
+use Rattle.plain_kernel.specs.Apply.{one_step, steps, fork_step, apply_all, take_step}
 use Rattle.plain_kernel.proofs.Entries.{some_same}
 use Rattle.plain_kernel.proofs.Laws.{apply_all-append, process_at-same}
 use Rattle.plain_kernel.proofs.Forking.{fork_made, fork-steps_parent}
@@ -34,6 +34,10 @@ use Rattle.cert_sched.specs.Scripted.{is_done}
 use Rattle.cert_sched.specs.CertAfter.{count_in, raised_at}
 use Rattle.cert_sched.proofs.LogLaws.{plain_after-snoc}
 use Rattle.cert_sched.proofs.RunAndFork.{fork_beside, run_and_fork}
+use Rattle.plain_kernel.proofs.Taking.{TakesAt, take_made}
+use Rattle.plain_kernel.proofs.TakePids.{take_step-own, take_step-rising}
+use Rattle.sys_calls.specs.Take.{taken}
+use Rattle.sys_calls.proofs.TakeLaws.{taken_strikes}
 
 -- ---- the run of one process
 
@@ -100,13 +104,39 @@ applied system log e can = by_old (plain_after system log) refl (ap is_some (sym
 pub done_kernel : (system : System) (log : List Entry) (k : Kernel) (p : Pid) → plain_after system log ≡ Some k → done_after system log p ≡ done k p
 done_kernel system log k p is = ap (λ o. option_map_or (λ k. done k p) o 0) is
 
--- none is sent a signal yet, so such an item is not applied
-no_take : (run : List Item) (p : Pid) (k j : Kernel) → apply_all (run ++ Take p ∷ []) k ≡ Some j → ⊥
-no_take run p k j made = by_case (apply_all run k) (sym (apply_all-append run (Take p ∷ []) k) ∙ made)
+-- a run, and then a take
+record RunAndTake (run : List Item) (p : Pid) (k j : Kernel) : Type 0 where
+  pub to : Kernel
+  pub ran : apply_all run k ≡ Some to
+  pub takes : take_step p to ≡ Some j
+
+run_and_take : (run : List Item) (p : Pid) (k j : Kernel) → apply_all (run ++ Take p ∷ []) k ≡ Some j → RunAndTake run p k j
+run_and_take run p k j made = by_run (apply_all run k) refl (sym (apply_all-append run (Take p ∷ []) k) ∙ made)
   where
-    by_case : (o : Option Kernel) → option_and_then (apply_all (Take p ∷ [])) o ≡ Some j → ⊥
-    by_case None e = true≢false (sym (ap is_some e))
-    by_case (Some i) e = true≢false (sym (ap is_some e))
+    whole : (o : Option Kernel) → option_and_then (λ j. Some j) o ≡ o
+    whole None = refl
+    whole (Some j) = refl
+
+    by_run : (o : Option Kernel) → apply_all run k ≡ o → option_and_then (apply_all (Take p ∷ [])) o ≡ Some j → RunAndTake run p k j
+    by_run None is e = cc
+    by_run (Some i) is e = record { to = i; ran = is; takes = sym (whole (take_step p i)) ∙ e }
+
+-- a take is no step: each process has the count that it had
+take_here : (p : Pid) (k j : Kernel) → TakesAt p k j → done j p ≡ done k p
+take_here p k j t =
+    ap (λ i. done i p) t.after ∙ ap (λ o. option_map_or (λ (s : ProcState). (s.small).steps) o 0) (process_at-same k p (taken t.was)) ∙ (taken_strikes t.was t.can).steps
+    ∙ sym (ap (λ o. option_map_or (λ (s : ProcState). (s.small).steps) o 0) t.there)
+
+pub take_counts : (p : Pid) (k j : Kernel) (q : Pid) → take_step p k ≡ Some j → done j q ≡ done k q
+take_counts p k j q made = by_pid (same_pid q p) refl
+  where
+    t : TakesAt p k j
+    t = take_made p k j made
+
+    by_pid : (b : Bool) → same_pid q p ≡ b → done j q ≡ done k q
+    by_pid true is = let same : q ≡ p = λ i. record { 0 = eqb-true q.0 p.0 is i } in ap (done j) same ∙ take_here p k j t ∙ sym (ap (done k) same)
+    by_pid false is =
+        ap (λ i. done i q) t.after ∙ ap (λ o. option_map_or (λ (s : ProcState). (s.small).steps) o 0) (process_at-other k p (taken t.was) q (λ e. true≢false (sym (eq-eqb q.0 p.0 e) ∙ is)))
 
 -- a birth tells of a step that its parent has not made; of every other kind nothing is asked
 abbrev pub IsLater : (Pid → ℕ) → What → Type 0
@@ -140,7 +170,9 @@ counts_after (Birth parent at child end) k j q other later made = birth_counts p
 counts_after (Exit pid at end) k j q other later made = run_upto-counts pid at k j q made
 counts_after (Page pid at index bytes) k j q other later made = ap (λ i. done i q) (sym (some_same k j made))
 counts_after (Sync pid small read None) k j q other later made = run_upto-counts pid small.steps k j q (ap (λ is. apply_all is k) (sym (append-nil (run_upto k pid small.steps))) ∙ made)
-counts_after (Sync pid small read (Some g)) k j q other later made = absurd (no_take (run_upto k pid small.steps) pid k j made)
+counts_after (Sync pid small read (Some g)) k j q other later made =
+    let r = run_and_take (run_upto k pid small.steps) pid k j made in
+    take_counts pid r.to j q r.takes ∙ run_upto-counts pid small.steps k r.to q r.ran
 counts_after (Fetch pid index) k j q other later made = ap (λ i. done i q) (sym (some_same k j made))
 counts_after (PageIs pid index bytes) k j q other later made = ap (λ i. done i q) (sym (some_same k j made))
 counts_after (Crash c cause) k j q other later made = ap (λ i. done i q) (sym (some_same k j made))
@@ -203,12 +235,6 @@ done_after-quiet system log e q other can is =
     let a = applied system log e can in
     done_kernel system (log ++ e ∷ []) a.new q a.after ∙ counts_quiet (what e) a.old a.new q other a.made is ∙ sym (done_kernel system log a.old q a.before)
 
--- no signal that is taken can be applied yet
-pub no_signal_taken : (system : System) (log : List Entry) (e : Entry) (p : Pid) (small : SmallState) (read : List ℕ) (g : ℕ) → what e ≡ Sync p small read (Some g) → is_some (plain_after system (log ++ e ∷ [])) ≡ true → ⊥
-no_signal_taken system log e p small read g is can =
-    let a = applied system log e can in
-    no_take (run_upto a.old p small.steps) p a.old a.new (ap (λ w. apply_all (items_of a.old w) a.old) (sym is) ∙ a.made)
-
 -- ---- the start, and the pids
 
 -- no process has made a step before the first entry
@@ -216,15 +242,16 @@ pub done_after-none : (system : System) (p : Pid) → done_after system [] p ≡
 unfolding plain_after
 done_after-none system p = boot-steps system p
 
--- what holds at the start and is kept by each step and each fork
-module _ (P : Kernel → Type 0) (one : (p : Pid) (k j : Kernel) → P k → one_step p k ≡ Some j → P j) (fork : (p c : Pid) (k j : Kernel) → P k → fork_step p c k ≡ Some j → P j) where
+-- what holds at the start and is kept by each step, each fork and each take
+module _ (P : Kernel → Type 0) (one : (p : Pid) (k j : Kernel) → P k → one_step p k ≡ Some j → P j) (fork : (p c : Pid) (k j : Kernel) → P k → fork_step p c k ≡ Some j → P j)
+    (take : (p : Pid) (k j : Kernel) → P k → take_step p k ≡ Some j → P j) where
   entry_keeps : (o : Option Kernel) (e : Entry) → IfSome o P → IfSome (after_entry o e) P
   entry_keeps None e has = tt
   entry_keeps (Some k) e has = by_case (apply_all (items_of k (what e)) k) refl
     where
       by_case : (r : Option Kernel) → apply_all (items_of k (what e)) k ≡ r → IfSome r P
       by_case None is = tt
-      by_case (Some j) is = items_keep P one fork (items_of k (what e)) k j has is
+      by_case (Some j) is = items_keep P one fork take (items_of k (what e)) k j has is
 
   -- over several entries, from any kernel
   pub log_keeps : (o : Option Kernel) (log : List Entry) → IfSome o P → IfSome (fold after_entry o log) P
@@ -239,7 +266,7 @@ module _ (P : Kernel → Type 0) (one : (p : Pid) (k j : Kernel) → P k → one
 -- so the processes rise, whatever forks
 pub plain_after-rising : (system : System) (log : List Entry) (k : Kernel) → plain_after system log ≡ Some k → IsRising k
 plain_after-rising system log k is =
-    log_keeps_all IsRising (λ p k j rising made. (one_step-pids (pids_in k) p k j (record { rising = rising; are = refl }) made).rising) fork_step-rising system log k (boot-pids system).rising is
+    log_keeps_all IsRising (λ p k j rising made. (one_step-pids (pids_in k) p k j (record { rising = rising; are = refl }) made).rising) fork_step-rising take_step-rising system log k (boot-pids system).rising is
 
 -- so they have pids of which no two are equal
 pub plain_after-own_pids : (system : System) (log : List Entry) (k : Kernel) → plain_after system log ≡ Some k → HasPids (pids_in k) k
@@ -251,7 +278,7 @@ process_after-own system log p s there = by_kernel (plain_after system log) refl
   where
     by_kernel : (o : Option Kernel) → plain_after system log ≡ o → option_and_then (λ k. process_at k p) o ≡ Some s → (s.small).pid ≡ p
     by_kernel None is e = cc
-    by_kernel (Some k) is e = log_keeps_all HasOwnPids one_step-own fork_step-own system log k (boot-own system) is p s.small (ap (option_map (λ (s : ProcState). s.small)) e)
+    by_kernel (Some k) is e = log_keeps_all HasOwnPids one_step-own fork_step-own take_step-own system log k (boot-own system) is p s.small (ap (option_map (λ (s : ProcState). s.small)) e)
 
 -- ---- a step that sends something
 

@@ -13,7 +13,7 @@ use Rattle.proc_state.specs.State.{ProcState}
 use Rattle.sys_calls.specs.Calls.{Next, Silent, Blocked, Forks, Emits, Over}
 use Rattle.sys_calls.specs.Next.{next_step}
 use Rattle.plain_kernel.specs.Kernel.{Kernel, pid_cmp, process_at, with_process, boot, emitted}
-use Rattle.plain_kernel.specs.Apply.{after_step, apply_all, fork_step, one_step}
+use Rattle.plain_kernel.specs.Apply.{after_step, apply_all, fork_step, one_step, take_step}
 use Rattle.plain_kernel.proofs.Entries.{some_same}
 use Rattle.plain_kernel.proofs.Forking.{fork_made, fork-child, fork-parent, fork-small}
 use Rattle.plain_kernel.proofs.Laws.{process_at-with_process}
@@ -33,6 +33,9 @@ use Rattle.cert_sched.proofs.RunAndFork.{run_and_fork}
 use Rattle.cert_sched.proofs.RunItems.{forkless_keep, items_forkless, run_forkless}
 use Rattle.cert_sched.proofs.StepLaws.{Applied, applied, log_keeps_all}
 use Rattle.page_laws.proofs.StepSizes.{Keeps, next_keeps}
+use Rattle.plain_kernel.proofs.Taking.{take_made}
+use Rattle.sys_calls.specs.Take.{taken}
+use Rattle.sys_calls.proofs.TakeLaws.{taken_strikes}
 
 -- ---- in a kernel
 
@@ -77,6 +80,13 @@ pub one_step-pages : (q p : Pid) (k j : Kernel) → one_step q k ≡ Some j → 
 unfolding HasPages
 one_step-pages q p k j made = step_pages (pages_at k) q k j (λ r. refl) made p
 
+-- nor does a take
+pub take_step-pages : (q p : Pid) (k j : Kernel) → take_step q k ≡ Some j → pages_at j p ≡ pages_at k p
+unfolding HasPages
+take_step-pages q p k j made =
+    let t = take_made q k j made in
+    ap (λ i. pages_at i p) t.after ∙ put_pages (pages_at k) k q t.was (taken t.was) (λ r. refl) t.there (taken_strikes t.was t.can).pages p
+
 -- a fork that of no process but the child
 pub fork_step-pages : (q c p : Pid) (k j : Kernel) → fork_step q c k ≡ Some j → same_pid c p ≡ false → pages_at j p ≡ pages_at k p
 fork_step-pages q c p k j made other = by_pid (same_pid q p) refl
@@ -107,6 +117,9 @@ fork_keeps p n q c k j has made = by_pid (same_pid c p) refl
 step_keeps : (p : Pid) (n : ℕ) (q : Pid) (k j : Kernel) → pages_at k p ≡ Some n → one_step q k ≡ Some j → pages_at j p ≡ Some n
 step_keeps p n q k j has made = one_step-pages q p k j made ∙ has
 
+take_keeps : (p : Pid) (n : ℕ) (q : Pid) (k j : Kernel) → pages_at k p ≡ Some n → take_step q k ≡ Some j → pages_at j p ≡ Some n
+take_keeps p n q k j has made = take_step-pages q p k j made ∙ has
+
 -- ---- what holds of the number of each process
 
 -- each process of a kernel has a number of pages of this kind
@@ -124,7 +137,7 @@ fork_each Q q c k j each made p n is = by_pid (same_pid c p) refl
 
 -- what holds of each at boot holds of each after a log
 pub each_pages : (Q : ℕ → Type 0) (system : System) (log : List Entry) (k : Kernel) → EachPages Q (boot system) → plain_after system log ≡ Some k → EachPages Q k
-each_pages Q system log k start is = log_keeps_all (EachPages Q) (λ q k j each made p n at. each p n (sym (one_step-pages q p k j made) ∙ at)) (fork_each Q) system log k start is
+each_pages Q system log k start is = log_keeps_all (EachPages Q) (λ q k j each made p n at. each p n (sym (one_step-pages q p k j made) ∙ at)) (fork_each Q) (λ q k j each made p n at. each p n (sym (take_step-pages q p k j made) ∙ at)) system log k start is
 
 -- ---- after a log
 
@@ -139,7 +152,7 @@ page_count-kernel system log k p is = ap (λ o. option_map_or (λ (s : ProcState
 pub page_count-boot : (system : System) (log : List Entry) (k : Kernel) (p : Pid) (s : ProcState) → plain_after system log ≡ Some k → process_at (boot system) p ≡ Some s → page_count system log p ≡ (s.small).pages
 page_count-boot system log k p s is first =
     page_count-kernel system log k p is
-    ∙ ap (λ o. option_map_or (λ (n : ℕ). n) o 0) (log_keeps_all (λ k. pages_at k p ≡ Some (s.small).pages) (step_keeps p (s.small).pages) (fork_keeps p (s.small).pages) system log k (ap pages_in first) is)
+    ∙ ap (λ o. option_map_or (λ (n : ℕ). n) o 0) (log_keeps_all (λ k. pages_at k p ≡ Some (s.small).pages) (step_keeps p (s.small).pages) (fork_keeps p (s.small).pages) (take_keeps p (s.small).pages) system log k (ap pages_in first) is)
 
 -- no process has more than the most of those at boot
 pub page_count-most : (system : System) (log : List Entry) (p : Pid) (most : ℕ) → EachPages (λ n. n ≤ most) (boot system) → page_count system log p ≤ most
@@ -164,12 +177,15 @@ entry_pages system log e a p other = by_what (what e) a.made other
     kept : (q : Pid) (k j : Kernel) → pages_at k p ≡ pages_at a.old p → one_step q k ≡ Some j → pages_at j p ≡ pages_at a.old p
     kept q k j has made = one_step-pages q p k j made ∙ has
 
+    taken_kept : (q : Pid) (k j : Kernel) → pages_at k p ≡ pages_at a.old p → take_step q k ≡ Some j → pages_at j p ≡ pages_at a.old p
+    taken_kept q k j has made = take_step-pages q p k j made ∙ has
+
     by_what : (w : What) → apply_all (items_of a.old w) a.old ≡ Some a.new → is_birth_of p w ≡ false → pages_at a.new p ≡ pages_at a.old p
     by_what (Birth parent at child end) made other =
         let r = run_and_fork (run_upto a.old parent (at - 1)) parent child a.old a.new made in
         fork_step-pages parent child p r.to a.new r.forks other
-        ∙ forkless_keep (λ k. pages_at k p ≡ pages_at a.old p) kept (run_upto a.old parent (at - 1)) a.old r.to (run_forkless parent (at - 1 - done a.old parent)) refl r.ran
-    by_what w made other = forkless_keep (λ k. pages_at k p ≡ pages_at a.old p) kept (items_of a.old w) a.old a.new (items_forkless a.old w refl) refl made
+        ∙ forkless_keep (λ k. pages_at k p ≡ pages_at a.old p) kept taken_kept (run_upto a.old parent (at - 1)) a.old r.to (run_forkless parent (at - 1 - done a.old parent)) refl r.ran
+    by_what w made other = forkless_keep (λ k. pages_at k p ≡ pages_at a.old p) kept taken_kept (items_of a.old w) a.old a.new (items_forkless a.old w refl) refl made
 
 -- after an entry that can be applied each process that it does not bear has as many pages as before it
 pub page_count-snoc : (system : System) (log : List Entry) (e : Entry) (p : Pid) → is_birth_of p (what e) ≡ false → is_some (plain_after system (log ++ e ∷ [])) ≡ true → page_count system (log ++ e ∷ []) p ≡ page_count system log p
@@ -230,7 +246,7 @@ page_count-child system log e parent at child end is applies =
     let a = applied system log e applies in
     let run = run_upto a.old parent (at - 1) in
     let r = run_and_fork run parent child a.old a.new (ap (λ w. apply_all (items_of a.old w) a.old) (sym is) ∙ a.made) in
-    let ran : pages_at r.to parent ≡ pages_at a.old parent = forkless_keep (λ k. pages_at k parent ≡ pages_at a.old parent) (λ q k j has made. one_step-pages q parent k j made ∙ has) run a.old r.to (run_forkless parent (at - 1 - done a.old parent)) refl r.ran in
+    let ran : pages_at r.to parent ≡ pages_at a.old parent = forkless_keep (λ k. pages_at k parent ≡ pages_at a.old parent) (λ q k j has made. one_step-pages q parent k j made ∙ has) (λ q k j has made. take_step-pages q parent k j made ∙ has) run a.old r.to (run_forkless parent (at - 1 - done a.old parent)) refl r.ran in
     page_count-kernel system (log ++ e ∷ []) a.new child a.after ∙ ap (λ o. option_map_or (λ (n : ℕ). n) o 0) (fork_step-pages_child parent child r.to a.new r.forks ∙ ran) ∙ sym (page_count-kernel system log a.old parent a.before)
 
 -- ---- several more
@@ -241,7 +257,7 @@ rest_keeps p n o (e ∷ rest) has = rest_keeps p n (after_entry o e) rest (one_m
   where
     by_items : (k : Kernel) (r : Option Kernel) → apply_all (items_of k (what e)) k ≡ r → pages_at k p ≡ Some n → IfSome r (λ (k : Kernel). pages_at k p ≡ Some n)
     by_items k None is has = tt
-    by_items k (Some j) is has = items_keep (λ k. pages_at k p ≡ Some n) (step_keeps p n) (fork_keeps p n) (items_of k (what e)) k j has is
+    by_items k (Some j) is has = items_keep (λ k. pages_at k p ≡ Some n) (step_keeps p n) (fork_keeps p n) (take_keeps p n) (items_of k (what e)) k j has is
 
     one_more : (o : Option Kernel) → IfSome o (λ (k : Kernel). pages_at k p ≡ Some n) → IfSome (after_entry o e) (λ (k : Kernel). pages_at k p ≡ Some n)
     one_more None has = tt

@@ -21,7 +21,7 @@ use Rattle.sys_calls.specs.Calls.{Next, Silent, Blocked, Forks, Emits, Over}
 use Rattle.sys_calls.specs.Next.{next_step}
 use Rattle.sys_calls.specs.Fork.{fork_child, fork_parent}
 use Rattle.plain_kernel.specs.Kernel.{Kernel, pid_cmp, process_at, with_process, boot, emitted, no_image, root_process}
-use Rattle.plain_kernel.specs.Apply.{after_step, fork_step, one_step}
+use Rattle.plain_kernel.specs.Apply.{after_step, fork_step, one_step, take_step}
 use Rattle.plain_kernel.proofs.AtBoot.{boot-each}
 use Rattle.plain_kernel.proofs.Entries.{some_same}
 use Rattle.plain_kernel.proofs.Forking.{fork_made}
@@ -35,6 +35,9 @@ use Rattle.cert_sched.proofs.MailLaws.{received, process_at-emitted}
 use Rattle.cert_sched.proofs.StepLaws.{log_keeps_all}
 use Rattle.page_laws.proofs.StepSizes.{SameSize, Keeps, next_keeps}
 use Rattle.page_laws.proofs.PagesStay.{pages_over}
+use Rattle.plain_kernel.proofs.Taking.{take_made}
+use Rattle.sys_calls.specs.Take.{taken}
+use Rattle.sys_calls.proofs.TakeLaws.{taken_strikes}
 
 -- the memory has its pages, of 256 bytes each
 abbrev pub IsSized : ProcState → Type 0
@@ -122,6 +125,14 @@ fork_step-sized p c k j all made =
     let sized : IsSized f.was = all p f.was f.there in
     subst AllSized f.after (put_sized (with_process k p (fork_parent f.was c)) c (fork_child f.was c) (put_sized k p (fork_parent f.was c) all sized) sized)
 
+-- a take leaves the memory
+take_step-sized : (p : Pid) (k j : Kernel) → AllSized k → take_step p k ≡ Some j → AllSized j
+unfolding AllSized
+take_step-sized p k j all made =
+    let t = take_made p k j made in
+    let sized : IsSized t.was = all p t.was t.there in
+    subst AllSized (sym t.after) (put_sized k p (taken t.was) all (sized ∙ ap (λ n. 256 * n) (sym (taken_strikes t.was t.can).pages)))
+
 -- ---- after a log
 
 -- a process with the kernel where it is
@@ -141,7 +152,7 @@ pub process_sized : (system : System) (log : List Entry) (p : Pid) (s : ProcStat
 unfolding AllSized
 process_sized system log p s valid there =
     let k = in_kernel system log p s there in
-    log_keeps_all AllSized one_step-sized fork_step-sized system log k.kernel (boot_sized system valid) k.is p s k.there
+    log_keeps_all AllSized one_step-sized fork_step-sized take_step-sized system log k.kernel (boot_sized system valid) k.is p s k.there
 
 -- a log is what stands up to the last entry that passes, and what stands after it
 parts : {X : Type 0} (t : X → Bool) (xs : List X) → upto_last t xs ++ after_last t xs ≡ xs

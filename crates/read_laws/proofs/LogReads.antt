@@ -1,5 +1,5 @@
 -- In a log in which each entry stands, a process that has not ended has read its saved letters from the fronts of its ends.
-use Rattle.std.proofs.Common.{◌≡◌, ℕ, ◌-◌, sym, ◌∙◌, ap, subst, List, [], true, false, Option, Some}
+use Rattle.std.proofs.Common.{◌≡◌, ℕ, ◌-◌, sym, ◌∙◌, ap, subst, List, [], true, false, Option, Some, arith, refl}
 use Rattle.std.specs.Prelude.{option_and_then}
 use Rattle.std.specs.List.{AllPairs}
 use Rattle.std.specs.Option.{option_map_or}
@@ -8,7 +8,7 @@ use Rattle.t32_base.specs.declared.process.Pid.{Pid}
 use Rattle.sys_text.specs.declared.system.System.{System}
 use Rattle.sys_text.specs.Valid.{is_system}
 use Rattle.proc_state.specs.Queues.{DiffersFrom}
-use Rattle.proc_state.specs.State.{ProcState, has_ended}
+use Rattle.proc_state.specs.State.{ProcState, has_ended, can_take}
 use Rattle.plain_kernel.specs.Kernel.{process_at}
 use Rattle.bus_msg.specs.declared.entry.Entry.{Entry}
 use Rattle.cert_sched.specs.Parts.{upto_last}
@@ -26,7 +26,10 @@ use Rattle.cert_sched.proofs.StepLaws.{silent_from}
 use Rattle.read_laws.specs.Numbered.{are_below, are_in_order, are_numbered}
 use Rattle.read_laws.specs.ReadsFrom.{ReadsFrom}
 use Rattle.read_laws.proofs.SavedNumbers.{saved_numbered, order_differ}
-use Rattle.read_laws.proofs.ReplayReads.{HasRead, none_read, reads_from, replay_read}
+use Rattle.read_laws.proofs.ReplayReads.{HasRead, none_read, reads_from, replay_read, took_read}
+use Rattle.sys_calls.specs.Take.{taken}
+use Rattle.sys_calls.proofs.TakeLaws.{signal_there}
+use Rattle.read_laws.proofs.StepReads.{first}
 
 pub itself : IsStandingRule Stands
 itself system log e stands = stands
@@ -62,13 +65,28 @@ pub process_reads : (system : System) (log : List Entry) (p : Pid) (s : ProcStat
     → ReadsFrom (saved_of system log p) s.mail
 process_reads system log p s valid legal there goes_on = reads_from (saved_of system log p) s.mail (rolled_read system log p s (rolls_there system log p s valid legal there goes_on))
 
-pub silent_reads : (system : System) (log : List Entry) (p : Pid) (n : ℕ) (s : ProcState) → is_system system ≡ true → IsLegalBy Stands system log → silent_upto system log p n ≡ Some s → has_ended (s.small).status ≡ false
-    → ReadsFrom (saved_of system log p) s.mail
-silent_reads system log p n s valid legal silent goes_on =
+-- so it has after silent steps
+silent_read : (system : System) (log : List Entry) (p : Pid) (n : ℕ) (s : ProcState) → is_system system ≡ true → IsLegalBy Stands system log → silent_upto system log p n ≡ Some s → has_ended (s.small).status ≡ false
+    → HasRead (saved_of system log p) s.mail × AllPairs DiffersFrom (saved_of system log p)
+silent_read system log p n s valid legal silent goes_on =
     let f = silent_from system log p n s silent in
     let there : process_after system log p ≡ Some f.was = ap (option_and_then (λ k. process_at k p)) f.before ∙ f.there in
     let went_on : has_ended (f.was.small).status ≡ false = sym (silent_upto-ends system log p n f.was s there silent) ∙ goes_on in
     let rolls = rolls_there system log p f.was valid legal there went_on in
-    reads_from (saved_of system log p) s.mail
-    (replay_read (saved_of system log p) (differ system log p f.was rolls) (n - done f.kernel p) f.was s [] (replays_silently (n - done f.kernel p) f.was s f.silent)
-    (process_after-ends system log p f.was there) (rolled_read system log p f.was rolls))
+    let apart = differ system log p f.was rolls in (
+      replay_read (saved_of system log p) apart (n - done f.kernel p) f.was s [] (replays_silently (n - done f.kernel p) f.was s f.silent) (process_after-ends system log p f.was there) (rolled_read system log p f.was rolls),
+      apart,
+    )
+
+pub silent_reads : (system : System) (log : List Entry) (p : Pid) (n : ℕ) (s : ProcState) → is_system system ≡ true → IsLegalBy Stands system log → silent_upto system log p n ≡ Some s → has_ended (s.small).status ≡ false
+    → ReadsFrom (saved_of system log p) s.mail
+silent_reads system log p n s valid legal silent goes_on = reads_from (saved_of system log p) s.mail (silent_read system log p n s valid legal silent goes_on).0
+
+-- and after the take of a signal, whose letter is the first for end 0
+pub taken_reads : (system : System) (log : List Entry) (p : Pid) (n : ℕ) (s : ProcState) → is_system system ≡ true → IsLegalBy Stands system log → silent_upto system log p n ≡ Some s → has_ended (s.small).status ≡ false → can_take s ≡ true
+    → ReadsFrom (saved_of system log p) (taken s).mail
+taken_reads system log p n s valid legal silent goes_on can =
+    let before = silent_read system log p n s valid legal silent goes_on in
+    let letter = signal_there s can in
+    reads_from (saved_of system log p) (taken s).mail
+    (took_read (saved_of system log p) before.1 s.mail (taken s).mail (first 0 letter.0 letter.1 (omega arith) refl) before.0)

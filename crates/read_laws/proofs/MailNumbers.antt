@@ -21,7 +21,7 @@ use Rattle.rv_mem.specs.Memory.{is_inside, bytes_at}
 use Rattle.t32_base.specs.Registers.{Registers}
 use Rattle.rv_cpu.specs.Exec.{Executed, Steps, Calls, Traps, exec, reg}
 use Rattle.proc_state.specs.Ends.{free_end, leads_at}
-use Rattle.proc_state.specs.Mail.{without_first}
+use Rattle.proc_state.specs.Mail.{without_first, is_on}
 use Rattle.proc_state.specs.State.{ProcState, with_small, delivered, has_ended}
 use Rattle.sys_calls.specs.Small.{spent, lowest_linked}
 use Rattle.sys_calls.specs.declared.steps.Emission.{Emission}
@@ -33,7 +33,7 @@ use Rattle.sys_calls.specs.declared.reading.Wanted.{Wanted}
 use Rattle.sys_calls.specs.Fork.{fork_child, fork_parent}
 use Rattle.sys_calls.specs.Next.{next_step, step_by, live_step, after_exec, closing_step}
 use Rattle.plain_kernel.specs.Kernel.{Kernel, pid_cmp, process_at, with_process, boot, emitted}
-use Rattle.plain_kernel.specs.Apply.{after_step, fork_step, one_step}
+use Rattle.plain_kernel.specs.Apply.{after_step, fork_step, one_step, take_step}
 use Rattle.plain_kernel.proofs.AtBoot.{boot-each}
 use Rattle.plain_kernel.proofs.Entries.{some_same}
 use Rattle.plain_kernel.proofs.Forking.{fork_made}
@@ -44,6 +44,8 @@ use Rattle.cert_sched.specs.Deeds.{is_end_of}
 use Rattle.cert_sched.proofs.MailLaws.{received, process_at-emitted}
 use Rattle.cert_sched.proofs.StepLaws.{log_keeps_all}
 use Rattle.read_laws.specs.Numbered.{are_above, are_below, are_in_order, are_numbered}
+use Rattle.plain_kernel.proofs.Taking.{take_made}
+use Rattle.sys_calls.specs.Take.{taken}
 
 abbrev pub IsNumbered : ProcState → Type 0
 IsNumbered s = are_numbered s.next s.mail ≡ true
@@ -258,6 +260,13 @@ fork_step-numbered p c k j all made =
     let f = fork_made p c k j made in
     subst AllNumbered f.after (put_numbered (with_process k p (fork_parent f.was c)) c (fork_child f.was c) (put_numbered k p (fork_parent f.was c) all (all p f.was f.there)) refl)
 
+-- a take takes one letter out
+take_step-numbered : (p : Pid) (k j : Kernel) → AllNumbered k → take_step p k ≡ Some j → AllNumbered j
+unfolding AllNumbered
+take_step-numbered p k j all made =
+    let t = take_made p k j made in
+    subst AllNumbered (sym t.after) (put_numbered k p (taken t.was) all (without_numbered (t.was).next (is_on 0) (t.was).mail (all p t.was t.there)))
+
 -- ---- after a log
 
 pub process_numbered : (system : System) (log : List Entry) (p : Pid) (s : ProcState) → process_after system log p ≡ Some s → IsNumbered s
@@ -266,4 +275,4 @@ process_numbered system log p s there = by_kernel (plain_after system log) refl 
   where
     by_kernel : (o : Option Kernel) → plain_after system log ≡ o → option_and_then (λ k. process_at k p) o ≡ Some s → IsNumbered s
     by_kernel None is e = cc
-    by_kernel (Some k) is e = log_keeps_all AllNumbered one_step-numbered fork_step-numbered system log k (boot_numbered system) is p s e
+    by_kernel (Some k) is e = log_keeps_all AllNumbered one_step-numbered fork_step-numbered take_step-numbered system log k (boot_numbered system) is p s e

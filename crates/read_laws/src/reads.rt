@@ -1,5 +1,5 @@
 //! Which of its saved letters a process has read.
-ghost use Rattle.std.specs.Prelude.{ℕ, ◌≡◌, true, false, List, Some, None};
+ghost use Rattle.std.specs.Prelude.{ℕ, ◌≡◌, true, false, List, Option, Some, None};
 ghost use Rattle.t32_base.specs.declared.process.Pid.{Pid};
 ghost use Rattle.t32_base.specs.declared.process.Counts.{Counts};
 ghost use Rattle.t32_base.specs.declared.letter.Arrived.{Arrived};
@@ -45,8 +45,8 @@ pub fn reads_in_any_order()
     ensures ends { (read : List ℕ) (saved mail : List Arrived) → rising read ≡ numbers_read saved mail → ReadsFrom saved mail → AreOnEnds read saved }
 {}
 
-/// A law and no code: so the letters that a synchronisation without a take tells of were read from the fronts.
+/// A law and no code: so the letters that a synchronisation tells of were read from the fronts, that of the signal among them.
 pub fn syncs_read_from_fronts()
-    ensures fronts { (system : System) (log : List Entry) (p : Pid) (small : SmallState) (read : List ℕ) → is_system system ≡ true → IsLegalBy Stands system log → SyncHolds system log p small read None → IsUnended system log p → AreFronts read (saved_of system log p) }
-    ensures ends { (system : System) (log : List Entry) (p : Pid) (small : SmallState) (read : List ℕ) → is_system system ≡ true → IsLegalBy Stands system log → SyncHolds system log p small read None → IsUnended system log p → AreOnEnds read (saved_of system log p) }
+    ensures fronts { (system : System) (log : List Entry) (p : Pid) (small : SmallState) (read : List ℕ) (took : Option ℕ) → is_system system ≡ true → IsLegalBy Stands system log → SyncHolds system log p small read took → IsUnended system log p → AreFronts read (saved_of system log p) }
+    ensures ends { (system : System) (log : List Entry) (p : Pid) (small : SmallState) (read : List ℕ) (took : Option ℕ) → is_system system ≡ true → IsLegalBy Stands system log → SyncHolds system log p small read took → IsUnended system log p → AreOnEnds read (saved_of system log p) }
 {}

@@ -37,7 +37,6 @@ use Rattle.cert_sched.proofs.LimitLaws.{all_limited}
 use Rattle.cert_sched.proofs.OpenLaws.{unended_open}
 use Rattle.cert_sched.proofs.ReplayLaws.{sharp_replays}
 use Rattle.cert_sched.proofs.RollLaws.{all_roll, rolls_steps}
-use Rattle.cert_sched.proofs.StepLaws.{no_signal_taken}
 use Rattle.cert_sched.proofs.ThereLaws.{unended_there}
 use Rattle.cert_sched.proofs.UnendedLaws.{sync_keeps, unended_map}
 use Rattle.cert_sched.specs.Deeds.{saved_letters, since}
@@ -286,14 +285,14 @@ note_by system log e k recs valid legal room keeps can = by_what (what e) refl
     stands : Stands system log e
     stands = IsLegal-last Stands system log e legal
 
-    cut_fits : (p : Pid) (small : SmallState) (read : List ℕ) → what e ≡ Sync p small read None → CanCut p read recs
-    cut_fits p small read is r there =
+    cut_fits : (p : Pid) (small : SmallState) (read : List ℕ) (took : Option ℕ) → what e ≡ Sync p small read took → CanCut p read recs
+    cut_fits p small read took is r there =
         let found = found_in system log k recs p r keeps there in
         let saved : saved_of system log p ≡ r.saved = saved_found system log p r found.is in
         let before : IsLegalBy Stands system log = IsLegal-before Stands system log e legal in
-        let holds : SyncHolds system log p small read None = subst (KindHolds system log e) is stands.kind in (
-          subst (AreFronts read) saved (sync_fronts system log p small read valid before holds found.unended),
-          subst (AreOnEnds read) saved (sync_ends system log p small read valid before holds found.unended),
+        let holds : SyncHolds system log p small read took = subst (KindHolds system log e) is stands.kind in (
+          subst (AreFronts read) saved (sync_fronts system log p small read took valid before holds found.unended),
+          subst (AreOnEnds read) saved (sync_ends system log p small read took valid before holds found.unended),
         )
 
     by_what : (w : What) → what e ≡ w → CanNote w recs
@@ -301,8 +300,7 @@ note_by system log e k recs valid legal room keeps can = by_what (what e) refl
     by_what (Birth parent at child end) is = none_yet system log e valid legal parent at child end is k recs keeps
     by_what (Exit q at end) is = tt
     by_what (Page pid at index bytes) is = tt
-    by_what (Sync q small read None) is = cut_fits q small read is
-    by_what (Sync q small read (Some g)) is = absurd (no_signal_taken system log e q small read g is stands.applies)
+    by_what (Sync q small read took) is = cut_fits q small read took is
     by_what (Fetch pid index) is = tt
     by_what (PageIs pid index bytes) is = tt
     by_what (Crash k cause) is = tt

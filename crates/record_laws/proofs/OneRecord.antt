@@ -1,5 +1,5 @@
 -- What one more entry makes of the record of a process.
-use Rattle.std.proofs.Common.{◌≡◌, ℕ, zero, suc, ◌+◌, ◌-◌, ◌<◌, refl, sym, ◌∙◌, ap, subst, List, [], ◌∷◌, ◌++◌, length, append-nil, add-zero, Bool, true, false, cond, eq-eqb, Option, Some, None, is_some, true≢false}
+use Rattle.std.proofs.Common.{◌≡◌, ℕ, zero, suc, ◌+◌, ◌-◌, ◌<◌, refl, sym, ◌∙◌, ap, subst, List, [], ◌∷◌, ◌++◌, length, append-nil, add-zero, Bool, true, false, cond, eq-eqb, Option, Some, None, is_some, true≢false, arith}
 use Rattle.std.specs.Prelude.{option_map, option_and_then}
 use Rattle.std.specs.Option.{option_map_or}
 use Rattle.std.proofs.lemmas.Grind.{flat_map-append}
@@ -32,23 +32,26 @@ use Rattle.cert_sched.specs.Parts.{after_last}
 use Rattle.cert_sched.specs.Schedule.{done, items_of, process_after, run_upto}
 use Rattle.cert_sched.specs.Deeds.{starts, is_cut, is_birth_of, start_of, since, deeds_in, letter_for, to_process, letters_to, numbered, arrived_count, saved_letters}
 use Rattle.cert_sched.specs.Record.{has_state, backup_record, record_with, record_from}
-use Rattle.cert_sched.specs.Kinds.{KindHolds, SyncHolds}
+use Rattle.cert_sched.specs.Kinds.{KindHolds, SyncHolds, after_take}
 use Rattle.cert_sched.specs.Legal.{IsLegalBy, Stands}
 use Rattle.cert_sched.specs.Simulation.{IsUnended}
 use Rattle.cert_sched.proofs.LogLaws.{IsLegal-before, IsLegal-last}
 use Rattle.cert_sched.proofs.RecordLaws.{arrived_count-other, backup_record-cut, backup_record-other, backup_record-goes_on}
-use Rattle.cert_sched.proofs.StepLaws.{is_sent, no_signal_taken, process_after-silent, sent_from}
+use Rattle.cert_sched.proofs.StepLaws.{is_sent, process_after-silent, sent_from}
 use Rattle.cert_sched.proofs.EndsLaws.{process_after-ends}
 use Rattle.cert_sched.proofs.BornLaws.{there_not_born}
 use Rattle.cert_sched.proofs.CameLaws.{IsStandingRule, same_of}
 use Rattle.cert_sched.proofs.RollLaws.{Rolls, all_roll}
 use Rattle.cert_sched.proofs.OpenLaws.{unended_open}
 use Rattle.cert_sched.proofs.ThereLaws.{unended_there}
-use Rattle.read_laws.proofs.SyncReads.{sync_left, synced}
+use Rattle.read_laws.proofs.SyncReads.{sync_left, synced, SyncedAt}
 use Rattle.backup_queue.specs.Queue.{unread}
 use Rattle.backup_records.specs.Records.{record_after, saved_by_receiver, counted_by_sender, is_receiver, with_child, with_cut, with_saved, with_counted}
 use Rattle.record_laws.specs.Kept.{is_noted, is_renewed}
 use Rattle.record_laws.proofs.Standing.{legal_stands}
+use Rattle.cert_sched.proofs.BirthLaws.{sync_taken}
+use Rattle.sys_calls.specs.Take.{taken}
+use Rattle.plain_kernel.proofs.Entries.{some_same}
 
 -- ---- the end that a letter leaves from
 
@@ -63,7 +66,7 @@ letter_out system log e at letter stands is =
     let f = sent_from system log letter.from at (Sent letter) s.after s.is in
     let l = last_sent (at - done f.kernel letter.from) f.was (Sent letter) s.after f.sends in
     let ends : length (f.was.small).ends ≡ 32 = process_after-ends system log letter.from f.was (ap (option_and_then (λ k. process_at k letter.from)) f.before ∙ f.there) in
-    subst (λ n. letter.out < n) (silent_32 l.earlier f.was l.before l.silent ∙ ends) (letter_leaves l.before s.after letter l.last)
+    subst (λ n. letter.out < n) (silent_32 l.earlier f.was l.before l.silent ∙ ends) (letter_leaves l.before s.after letter l.last (omega (arith, silent_32 l.earlier f.was l.before l.silent, ends)))
 
 -- ---- a letter
 
@@ -237,45 +240,52 @@ module _ (system : System) (log : List Entry) (e : Entry) (p : Pid) (valid : is_
 
   -- ---- a synchronisation
 
+  -- the process after it, which has taken the signal that it tells of
+  cut_process : (small : SmallState) (read : List ℕ) (took : Option ℕ) → what e ≡ Sync p small read took → SyncHolds system log p small read took → (s : SyncedAt system log p small read took)
+      → process_after system (log ++ e ∷ []) p ≡ Some (after_take took s.at)
+  cut_process small read None is holds s = process_after-silent system log e p small.steps s.at s.reached (λ k. ap (items_of k) is ∙ append-nil (run_upto k p small.steps))
+  cut_process small read (Some g) is holds s =
+      let t = sync_taken system log e p small read g is holds in
+      (t.made).after ∙ ap (λ (q : ProcState). Some (taken q)) (some_same (t.made).before s.at (sym t.reached ∙ s.reached))
+
   -- that of the process cuts its record
-  after_own : (small : SmallState) (read : List ℕ) (now : ProcState) → what e ≡ Sync p small read None → Stands system log e → Rolls system log p now
-      → backup_record system (log ++ e ∷ []) p ≡ option_map (record_after (Sync p small read None)) (backup_record system log p)
-  after_own small read now is stands rolls =
+  after_own : (small : SmallState) (read : List ℕ) (took : Option ℕ) (now : ProcState) → what e ≡ Sync p small read took → Stands system log e → Rolls system log p now
+      → backup_record system (log ++ e ∷ []) p ≡ option_map (record_after (Sync p small read took)) (backup_record system log p)
+  after_own small read took now is stands rolls =
       let start = rolls.start in
-      let holds : SyncHolds system log p small read None = subst (KindHolds system log e) is stands.kind in
-      let s = synced system log p small read valid legal holds unended in
+      let holds : SyncHolds system log p small read took = subst (KindHolds system log e) is stands.kind in
+      let s = synced system log p small read took valid legal holds unended in
       let own : same_pid p p ≡ true = eq-eqb p.0 p.0 refl in
-      let items : (k : Kernel) → items_of k (what e) ≡ run_upto k p small.steps = λ k. ap (items_of k) is ∙ append-nil (run_upto k p small.steps) in
       let came : arrived_count (log ++ e ∷ []) p ≡ arrived_count log p =
       arrived_count-other log e p (ap (is_birth_of p) is) ∙ ap (λ w. arrived_count log p + length (letter_for p w)) is ∙ add-zero (arrived_count log p) in
-      let saved : unread read (saved_letters log p start) ≡ s.at.mail =
-      ap (λ (o : Option ProcState). unread read (option_map_or (saved_letters log p) o [])) (sym rolls.started) ∙ sync_left system log p small read valid legal holds unended in
+      let saved : unread read (saved_letters log p start) ≡ (after_take took s.at).mail =
+      ap (λ (o : Option ProcState). unread read (option_map_or (saved_letters log p) o [])) (sym rolls.started) ∙ sync_left system log p small read took valid legal holds unended in
       backup_record-cut system log e p (ap (is_cut p) is ∙ own)
-      ∙ ap (option_map (λ (s : ProcState). record_with p true s.mail (arrived_count (log ++ e ∷ []) p) [] s)) (process_after-silent system log e p small.steps s.at s.reached items)
+      ∙ ap (option_map (λ (s : ProcState). record_with p true s.mail (arrived_count (log ++ e ∷ []) p) [] s)) (cut_process small read took is holds s)
       ∙ (λ i. Some (record { pid = p; state = Some (s.state i); saved = sym saved i; next = came i; counts = no_counts; births = [] }))
       ∙ ap (λ b. Some (cond b (with_cut small read (record_from system log p start)) (record_from system log p start))) (sym own)
-      ∙ ap (option_map (record_after (Sync p small read None))) (sym (started_record start rolls.started))
+      ∙ ap (option_map (record_after (Sync p small read took))) (sym (started_record start rolls.started))
 
   -- that of another leaves it
-  after_other : (q : Pid) (small : SmallState) (read : List ℕ) (now : ProcState) → what e ≡ Sync q small read None → same_pid q p ≡ false → Rolls system log p now
-      → backup_record system (log ++ e ∷ []) p ≡ option_map (record_after (Sync q small read None)) (backup_record system log p)
-  after_other q small read now is apart rolls =
+  after_other : (q : Pid) (small : SmallState) (read : List ℕ) (took : Option ℕ) (now : ProcState) → what e ≡ Sync q small read took → same_pid q p ≡ false → Rolls system log p now
+      → backup_record system (log ++ e ∷ []) p ≡ option_map (record_after (Sync q small read took)) (backup_record system log p)
+  after_other q small read took now is apart rolls =
       let start = rolls.start in
       backup_record-other system log e p (ap (is_cut p) is ∙ apart) (ap (is_birth_of p) is) (ap (deeds_in p) is) (ap (letter_for p) is)
       ∙ started_record start rolls.started
       ∙ ap (λ b. Some (cond b (with_cut small read (record_from system log p start)) (record_from system log p start))) (sym apart)
-      ∙ ap (option_map (record_after (Sync q small read None))) (sym (started_record start rolls.started))
+      ∙ ap (option_map (record_after (Sync q small read took))) (sym (started_record start rolls.started))
 
-  after_sync : (q : Pid) (small : SmallState) (read : List ℕ) (now : ProcState) → what e ≡ Sync q small read None → Stands system log e → Rolls system log p now
-      → backup_record system (log ++ e ∷ []) p ≡ option_map (record_after (Sync q small read None)) (backup_record system log p)
-  after_sync q small read now is stands rolls = by_pid (same_pid q p) refl
+  after_sync : (q : Pid) (small : SmallState) (read : List ℕ) (took : Option ℕ) (now : ProcState) → what e ≡ Sync q small read took → Stands system log e → Rolls system log p now
+      → backup_record system (log ++ e ∷ []) p ≡ option_map (record_after (Sync q small read took)) (backup_record system log p)
+  after_sync q small read took now is stands rolls = by_pid (same_pid q p) refl
     where
-      by_pid : (b : Bool) → same_pid q p ≡ b → backup_record system (log ++ e ∷ []) p ≡ option_map (record_after (Sync q small read None)) (backup_record system log p)
+      by_pid : (b : Bool) → same_pid q p ≡ b → backup_record system (log ++ e ∷ []) p ≡ option_map (record_after (Sync q small read took)) (backup_record system log p)
       by_pid true same =
           let pids : q ≡ p = same_of q p same in
-          subst (λ (r : Pid). backup_record system (log ++ e ∷ []) p ≡ option_map (record_after (Sync r small read None)) (backup_record system log p)) (sym pids)
-          (after_own small read now (is ∙ ap (λ (r : Pid). Sync r small read None) pids) stands rolls)
-      by_pid false apart = after_other q small read now is apart rolls
+          subst (λ (r : Pid). backup_record system (log ++ e ∷ []) p ≡ option_map (record_after (Sync r small read took)) (backup_record system log p)) (sym pids)
+          (after_own small read took now (is ∙ ap (λ (r : Pid). Sync r small read took) pids) stands rolls)
+      by_pid false apart = after_other q small read took now is apart rolls
 
   -- ---- each kind
 
@@ -284,8 +294,7 @@ module _ (system : System) (log : List Entry) (e : Entry) (p : Pid) (valid : is_
   by_kind now stands other rolls (Birth parent at child end) is none = after_birth_of parent at child end is other
   by_kind now stands other rolls (Exit q at end) is none = after_exit_of q at end is ∙ kept_by (record_after (Exit q at end)) (λ r. refl) (backup_record system log p)
   by_kind now stands other rolls (Page pid at index bytes) is none = others_after (Page pid at index bytes) is refl refl refl refl ∙ kept_by (record_after (Page pid at index bytes)) (λ r. refl) (backup_record system log p)
-  by_kind now stands other rolls (Sync q small read (Some g)) is none = absurd (no_signal_taken system log e q small read g is stands.applies)
-  by_kind now stands other rolls (Sync q small read None) is none = after_sync q small read now is stands rolls
+  by_kind now stands other rolls (Sync q small read took) is none = after_sync q small read took now is stands rolls
   by_kind now stands other rolls (Fetch pid index) is none = others_after (Fetch pid index) is refl refl refl refl ∙ kept_by (record_after (Fetch pid index)) (λ r. refl) (backup_record system log p)
   by_kind now stands other rolls (PageIs pid index bytes) is none = others_after (PageIs pid index bytes) is refl refl refl refl ∙ kept_by (record_after (PageIs pid index bytes)) (λ r. refl) (backup_record system log p)
   by_kind now stands other rolls (Crash k cause) is none = others_after (Crash k cause) is refl refl refl refl ∙ kept_by (record_after (Crash k cause)) (λ r. refl) (backup_record system log p)

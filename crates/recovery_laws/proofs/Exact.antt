@@ -30,7 +30,7 @@ use Rattle.cert_sched.specs.Simulation.{IsUnended}
 use Rattle.cert_sched.proofs.LogLaws.{process_after-quiet}
 use Rattle.cert_sched.proofs.RecordLaws.{start_of-snoc, since-snoc}
 use Rattle.cert_sched.proofs.Induction.{legal_induction, is_over-snoc}
-use Rattle.cert_sched.proofs.StepLaws.{is_sent, sent_from, no_signal_taken, process_after-beside}
+use Rattle.cert_sched.proofs.StepLaws.{is_sent, sent_from, process_after-beside}
 use Rattle.cert_sched.proofs.MailLaws.{sender_goes_on, received, received-ended, process_after-sender, process_after-receiver, boot_arrived}
 use Rattle.cert_sched.proofs.EndedLaws.{letter_told}
 use Rattle.cert_sched.proofs.ReplayLaws.{Replays, Sharp, replays_forked, replays_goes_on, sharp_replays, sharp_on, sharp_last, sharp_forked, sharp_all_delivered}
@@ -40,6 +40,7 @@ use Rattle.cert_sched.proofs.OpenLaws.{unended_open}
 use Rattle.cert_sched.proofs.RollLaws.{Rolls, AllRoll, all_at_boot, all_more, rolls_steps, refilled_more}
 use Rattle.recovery_laws.proofs.Bearing.{stands_made}
 use Rattle.recovery_laws.proofs.Entries.{CountsLetters, rolls_count, quiet_of, same_start}
+use Rattle.cert_sched.proofs.BirthLaws.{sync_taken}
 
 -- ---- what an entry makes of a process
 
@@ -198,7 +199,7 @@ module _ (system : System) (log : List Entry) (e : Entry) where
   did (Page q at index bytes) is stands kind goes_on p no_cut unborn = quiet_did (Page q at index bytes) p is (λ k. refl) refl refl
   did (Sync q small read None) is stands kind goes_on p no_cut unborn =
       beside_did (Sync q small read None) q small.steps p is (λ k. append-nil (run_upto k q small.steps)) (mapped_some (λ s. (after_take None s).small) (silent_upto system log q small.steps) small kind.state) no_cut refl refl
-  did (Sync q small read (Some g)) is stands kind goes_on p no_cut unborn = absurd (no_signal_taken system log e q small read g is stands.applies)
+  did (Sync q small read (Some g)) is stands kind goes_on p no_cut unborn = left_did (Sync q small read (Some g)) p ((sync_taken system log e q small read g is kind).made.others p no_cut) refl refl
   did (Fetch q index) is stands kind goes_on p no_cut unborn = quiet_did (Fetch q index) p is (λ k. refl) refl refl
   did (PageIs q index bytes) is stands kind goes_on p no_cut unborn = quiet_did (PageIs q index bytes) p is (λ k. refl) refl refl
   did (Crash k cause) is stands kind goes_on p no_cut unborn = quiet_did (Crash k cause) p is (λ n. refl) refl refl

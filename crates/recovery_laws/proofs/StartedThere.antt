@@ -12,7 +12,7 @@ use Rattle.sys_calls.specs.Calls.{Next, Silent, Blocked, Forks, Emits, Over}
 use Rattle.sys_calls.specs.Next.{next_step}
 use Rattle.sys_calls.specs.Fork.{fork_child, fork_parent}
 use Rattle.plain_kernel.specs.Kernel.{Kernel, pid_cmp, process_at, with_process, emitted}
-use Rattle.plain_kernel.specs.Apply.{after_step, one_step, fork_step}
+use Rattle.plain_kernel.specs.Apply.{after_step, one_step, fork_step, take_step}
 use Rattle.plain_kernel.proofs.Entries.{some_same}
 use Rattle.plain_kernel.proofs.Laws.{process_at-with_process}
 use Rattle.plain_kernel.proofs.Others.{items_keep}
@@ -29,6 +29,8 @@ use Rattle.cert_sched.proofs.StepLaws.{applied}
 use Rattle.cert_sched.proofs.MailLaws.{received, process_at-emitted}
 use Rattle.cert_sched.proofs.BornLaws.{there_not_born}
 use Rattle.cert_sched.proofs.CameLaws.{IsStandingRule}
+use Rattle.plain_kernel.proofs.Taking.{take_made}
+use Rattle.sys_calls.specs.Take.{taken}
 
 -- ---- in a kernel
 
@@ -70,6 +72,11 @@ fork_there p q c k j there made =
     let f = fork_made q c k j made in
     subst (IsThere p) f.after (put_there p c (with_process k q (fork_parent f.was c)) (fork_child f.was c) (put_there p q k (fork_parent f.was c) there))
 
+take_there : (p q : Pid) (k j : Kernel) → IsThere p k → take_step q k ≡ Some j → IsThere p j
+take_there p q k j there made =
+    let t = take_made q k j made in
+    subst (IsThere p) (sym t.after) (put_there p q k (taken t.was) there)
+
 -- ---- in a log
 
 -- who is in the kernel stays there
@@ -77,7 +84,7 @@ pub there_stays : (system : System) (log : List Entry) (e : Entry) (p : Pid) →
 there_stays system log e p applies there =
     let a = applied system log e applies in
     ap (λ o. is_some (option_and_then (λ k. process_at k p) o)) a.after
-    ∙ items_keep (IsThere p) (step_there p) (fork_there p) (items_of a.old (what e)) a.old a.new (sym (ap (λ o. is_some (option_and_then (λ k. process_at k p) o)) a.before) ∙ there) a.made
+    ∙ items_keep (IsThere p) (step_there p) (fork_there p) (take_there p) (items_of a.old (what e)) a.old a.new (sym (ap (λ o. is_some (option_and_then (λ k. process_at k p) o)) a.before) ∙ there) a.made
 
 -- so who was there after the last entry of some kind is there
 pub upto_there : (May : System → List Entry → Entry → Type 0) → IsStandingRule May → (system : System) (test : Entry → Bool) (log : List Entry) (p : Pid) → IsLegalBy May system log → is_some (process_after system (upto_last test log) p) ≡ true

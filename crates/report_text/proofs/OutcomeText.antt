@@ -1,5 +1,5 @@
 -- Where nothing can move, what is printed of a kernel is what is printed of what it tells.
-use Rattle.std.proofs.Common.{◌≡◌, refl, sym, ◌∙◌, ap, List, [], ◌∷◌, ◌++◌, map, Bool, true, false, not, cond, T, Some}
+use Rattle.std.proofs.Common.{◌≡◌, refl, sym, ◌∙◌, ap, List, [], ◌∷◌, ◌++◌, map, Bool, true, false, not, cond, T, Some, ◌||◌}
 use Rattle.std.specs.Prelude.{codes}
 use Rattle.std.specs.List.{flat_map, list_any, range_with_len}
 use Rattle.std.specs.Fmt.{decimal}
@@ -11,7 +11,7 @@ use Rattle.t32_base.specs.declared.process.Status.{Status}
 use Rattle.t32_base.specs.declared.process.Status.TheVariants.{Live, Closing, Ended}
 use Rattle.sys_text.specs.declared.system.System.{System}
 use Rattle.sys_text.specs.Valid.{is_system}
-use Rattle.proc_state.specs.State.{ProcState}
+use Rattle.proc_state.specs.State.{ProcState, can_take}
 use Rattle.sys_calls.specs.Next.{next_step, has_step}
 use Rattle.plain_kernel.specs.Kernel.{Kernel, pid_cmp, process_at}
 use Rattle.plain_kernel.specs.Apply.{plain_run}
@@ -44,7 +44,7 @@ lines_are : (k : Kernel) (es : List (Pid × ProcState)) → ((q : Pid) (s : Proc
     → pids_report k (map (λ (e : Pid × ProcState). e.0) es) ≡ flat_map end_part (map numbered es)
 lines_are k [] there rising none = refl
 lines_are k (e ∷ es) there rising none =
-    let parts = either_not (has_step (next_step e.1)) (list_any can_act es) none in
+    let parts = either_not (has_step (next_step e.1) || can_take e.1) (list_any can_act es) none in
     let here : process_at k e.0 ≡ Some e.1 = there e.0 e.1 (ap (λ o. cond (is_eq o) (Some e.1) (find pid_cmp e.0 es)) (tied_itself pid_cmp_total e.0)) in
     let line : pid_part e.0 (process_at k e.0) ≡ end_part (numbered e) =
     ap (pid_part e.0) here

@@ -45,6 +45,7 @@ use Rattle.cert_sched.proofs.RunsLaws.{Quietly, led-silent_upto, run_made}
 use Rattle.cert_sched.proofs.StepLaws.{applied, is_sent, plain_after-rising, plain_after-sent, sent_from}
 use Rattle.report_text.specs.Outcome.{Outcome, ends_of, none_told, outcome_of, told_after}
 use Rattle.report_text.proofs.Told.{numbered, open_standing, put_standing, standing, told_by, told_ended, told_letter, told_open, told_quietly, told_same}
+use Rattle.plain_kernel.proofs.TakePids.{take_step-pids}
 
 -- ---- the start
 
@@ -126,7 +127,7 @@ module _ (system : System) (log : List Entry) (e : Entry) (k j : Kernel) (before
   born_told : (parent : Pid) (at : ℕ) (child : Pid) (end : ℕ) → what e ≡ Birth parent at child end → KindHolds system log e (Birth parent at child end) → told_by j ≡ told_after (Birth parent at child end) (told_by k)
   born_told parent at child end is kind =
       let r = run_and_fork (run_upto k parent (at - 1)) parent child k j (ap (λ w. apply_all (items_of k w) k) (sym is) ∙ leads) in
-      let ran : HasPids (pids_in k) r.to = forkless_keep (HasPids (pids_in k)) (one_step-pids (pids_in k)) (run_upto k parent (at - 1)) k r.to (run_forkless parent (at - 1 - done k parent)) has r.ran in
+      let ran : HasPids (pids_in k) r.to = forkless_keep (HasPids (pids_in k)) (one_step-pids (pids_in k)) (take_step-pids (pids_in k)) (run_upto k parent (at - 1)) k r.to (run_forkless parent (at - 1 - done k parent)) has r.ran in
       let f = fork_made parent child r.to j r.forks in
       let s = run_made k k (parent, at - 1) (ap is_some (sym (led-silent_upto system log k (parent, at - 1) before)) ∙ fork_reached system log parent at end kind.end_is) refl in
       let quiet : Quietly r.to k = subst (λ i. Quietly i k) (some_same s.to r.to (sym s.made ∙ r.ran)) s.quiet in

@@ -12,7 +12,7 @@ use Rattle.t32_base.specs.declared.process.Status.TheVariants.{Live, Closing, En
 use Rattle.t32_base.specs.declared.letter.Letter.{Letter}
 use Rattle.t32_base.specs.declared.letter.To.{To}
 use Rattle.t32_base.specs.declared.letter.To.TheVariants.{Proc, Tty}
-use Rattle.proc_state.specs.State.{ProcState, delivered, has_ended}
+use Rattle.proc_state.specs.State.{ProcState, delivered, has_ended, can_take}
 use Rattle.sys_calls.specs.Calls.{Over}
 use Rattle.sys_calls.specs.Next.{next_step, silently}
 use Rattle.sys_calls.proofs.Counting.{ended_is_over}
@@ -23,6 +23,8 @@ use Rattle.plain_kernel.proofs.Pids.{HasPids, IsRising, left_true, not_found, pu
 use Rattle.cert_sched.proofs.MailLaws.{silent_not_over, silently_ends}
 use Rattle.cert_sched.proofs.RunsLaws.{Quietly, quietly_keeps}
 use Rattle.report_text.specs.Outcome.{Outcome, end_of, ttys_with}
+use Rattle.sys_calls.specs.Take.{taken}
+use Rattle.sys_calls.proofs.TakeLaws.{taken_strikes, taker_lives}
 
 -- ---- how a process stands
 
@@ -116,9 +118,16 @@ silent_standing n s t silent = by_ended (has_ended (s.small).status) refl
     by_ended true ended = ap (λ (x : ProcState). standing x) (sym (ended_stays n s t ended silent))
     by_ended false goes_on = open_standing t (silently_ends n s t silent ∙ goes_on) ∙ sym (open_standing s goes_on)
 
+-- a take ends no process
+taken_standing : (s : ProcState) → can_take s ≡ true → standing (taken s) ≡ standing s
+taken_standing s can = open_standing (taken s) (taken_strikes s can).open_still ∙ sym (open_standing s (ap has_ended (taker_lives s can)))
+
 -- and so what a kernel tells
 pub told_quietly : (pids : List Pid) (k j : Kernel) → HasPids pids k → Quietly j k → told_by j ≡ told_by k
-told_quietly pids k j has quiet = (quietly_keeps (λ i. HasPids pids i × (told_by i ≡ told_by k)) one j k quiet (has, refl)).1
+told_quietly pids k j has quiet = (quietly_keeps (λ i. HasPids pids i × (told_by i ≡ told_by k)) one take j k quiet (has, refl)).1
   where
     one : (i : Kernel) (p : Pid) (n : ℕ) (s t : ProcState) → process_at i p ≡ Some s → silently n s ≡ Some t → HasPids pids i × (told_by i ≡ told_by k) → HasPids pids (with_process i p t) × (told_by (with_process i p t) ≡ told_by k)
     one i p n s t there silent keeps = (put_process pids i p s t (keeps.0) there, told_same i p s t (keeps.0).rising there (silent_standing n s t silent) ∙ keeps.1)
+
+    take : (i : Kernel) (p : Pid) (s : ProcState) → process_at i p ≡ Some s → can_take s ≡ true → HasPids pids i × (told_by i ≡ told_by k) → HasPids pids (with_process i p (taken s)) × (told_by (with_process i p (taken s)) ≡ told_by k)
+    take i p s there can keeps = (put_process pids i p s (taken s) (keeps.0) there, told_same i p s (taken s) (keeps.0).rising there (taken_standing s can) ∙ keeps.1)

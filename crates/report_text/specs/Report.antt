@@ -1,11 +1,11 @@
 -- What is printed of a kernel: the bytes of each terminal, and how each process stands.
-use Rattle.std.specs.Prelude.{ℕ, Bool, true, false, List, [], ◌∷◌, ◌++◌, length, map, codes, Option, Some, None}
+use Rattle.std.specs.Prelude.{ℕ, Bool, true, false, List, [], ◌∷◌, ◌++◌, length, map, codes, Option, Some, None, ◌||◌}
 use Rattle.std.specs.List.{flat_map, range_with_len}
 use Rattle.std.specs.Fmt.{decimal}
 use Rattle.t32_base.specs.declared.process.Pid.{Pid}
 use Rattle.t32_base.specs.declared.process.Status.{Status}
 use Rattle.t32_base.specs.declared.process.Status.TheVariants.{Live, Closing, Ended}
-use Rattle.proc_state.specs.State.{ProcState}
+use Rattle.proc_state.specs.State.{ProcState, can_take}
 use Rattle.sys_calls.specs.Next.{next_step, has_step}
 use Rattle.plain_kernel.specs.Kernel.{Kernel, process_at, tty_at}
 use Rattle.bus_msg.specs.Text.{end_text}
@@ -31,7 +31,7 @@ status_text Live moves = moves_text moves
 
 abbrev pub pid_part : Pid → Option ProcState → List ℕ
 pid_part p None = []
-pid_part p (Some s) = codes "pid " ++ decimal p.0 ++ codes " " ++ status_text (s.small).status (has_step (next_step s)) ++ newline
+pid_part p (Some s) = codes "pid " ++ decimal p.0 ++ codes " " ++ status_text (s.small).status (has_step (next_step s) || can_take s) ++ newline
 
 -- the 16 terminals, and then the processes, both rising
 abbrev pub ttys_report : Kernel → List ℕ → List ℕ

@@ -1,7 +1,7 @@
 //! What is printed of a kernel.
-ghost use Rattle.std.specs.Prelude.{◌≡◌, ◌++◌, OnOk, IfOk, Some, map, string_bytes};
+ghost use Rattle.std.specs.Prelude.{◌≡◌, ◌++◌, OnOk, IfOk, Some, map, string_bytes, ◌||◌};
 ghost use Rattle.std.specs.List.{range_with_len};
-ghost use Rattle.proc_state.specs.State.{state_of};
+ghost use Rattle.proc_state.specs.State.{can_take, state_of};
 ghost use Rattle.sys_calls.specs.Next.{next_step, has_step};
 ghost use Rattle.plain_kernel.specs.Kernel.{process_at, tty_at};
 ghost use Rattle.report_text.specs.Report.{plain_report as plain_report_of, tty_part, pid_part, ttys_report, pids_report, status_text};
@@ -10,6 +10,7 @@ use bus_msg::text::end_line;
 use plain_kernel::plain::Plain;
 use proc_state::process::Process;
 use std::alloc::{AllocError, Global};
+use sys_calls::signals::can_take;
 use sys_calls::stepping::can_step;
 use t32_base::lists::{Bytes, Text};
 use t32_base::process::{Pid, Status};
@@ -82,14 +83,14 @@ fn put_pid(alloc: Global, text: &mut Text, pid: Pid, process: &Process) -> Resul
     text.extend(line.as_bytes())
 }
 
-/// How a process ended, or whether it has a step.
+/// How a process ended, or whether it has a step or can take a signal.
 fn standing(alloc: Global, process: &Process) -> Result<String, AllocError>
-    ensures { IfOk result (λ text. string_bytes text ≡ status_text process.now.small.status (has_step (next_step (state_of process.now)))) }
+    ensures { IfOk result (λ text. string_bytes text ≡ status_text process.now.small.status (has_step (next_step (state_of process.now)) || can_take (state_of process.now))) }
 {
     match process.small.status {
         Status::Ended(end) => end_line(alloc, end),
         _ => {
-            if can_step(process) {
+            if can_step(process) || can_take(process) {
                 String::from_str(alloc, "running")
             } else {
                 String::from_str(alloc, "waiting")

@@ -36,7 +36,7 @@ use Rattle.sync_left.specs.Load.{left_of_child, log_births, log_load}
 use Rattle.sync_left.specs.Left.{is_unsent, left_of_process, left_of_syncs, may_sync, most_of, most_steps}
 use Rattle.sync_left.proofs.Forked.{child_few}
 use Rattle.sync_left.proofs.Pairs.{pairs-within}
-use Rattle.sync_left.proofs.OneStep.{IsBounded, at_most_one, fork-bounded, one_step-bounded}
+use Rattle.sync_left.proofs.OneStep.{IsBounded, at_most_one, fork-bounded, one_step-bounded, take_step-bounded}
 use Rattle.sync_left.proofs.OneEntry.{births_kernel, bounded_before, left_then, load_kernel, stays_most, there, unended_apart}
 
 module _ (system : System) (log : List Entry) (e : Entry) (parent : Pid) (at : ℕ) (child : Pid) (end : ℕ) (valid : is_system system ≡ true) (legal : IsLegalBy Stands system log) (stands : Stands system log e) (is : what e ≡ Birth parent at child end) where
@@ -75,7 +75,7 @@ module _ (system : System) (log : List Entry) (e : Entry) (parent : Pid) (at : �
       let start = start_steps system log in
       let uncut : Pid → Bool = λ p. not (has_state system log p) in
       let apart = unended_apart system log valid legal in
-      let ran = forkless_keep (IsBounded start uncut (is_unsent system log) (page_count system log) qs limit) (one_step-bounded start uncut (is_unsent system log) (page_count system log) qs limit apart) run k parts.to
+      let ran = forkless_keep (IsBounded start uncut (is_unsent system log) (page_count system log) qs limit) (one_step-bounded start uncut (is_unsent system log) (page_count system log) qs limit apart) (take_step-bounded start uncut (is_unsent system log) (page_count system log) qs limit apart) run k parts.to
       (run_forkless parent (at - 1 - done k parent)) (bounded_before system log e stands) parts.ran in
       let less = fork-bounded start uncut (is_unsent system log) (page_count system log) parent child parts.to new fork qs limit apart (child_not_unended system log e parent at child end valid legal stands is) ran parts.forks in
       omega (arith, less, births_kernel system (log ++ e ∷ []) new (there system log e stands).after, load_kernel system (log ++ e ∷ []) new (there system log e stands).after)

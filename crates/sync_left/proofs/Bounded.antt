@@ -8,7 +8,7 @@ use Rattle.t32_base.specs.declared.process.Pid.{Pid}
 use Rattle.t32_base.specs.Small.{SmallState}
 use Rattle.sys_text.specs.declared.system.System.{System}
 use Rattle.sys_text.specs.Valid.{is_system}
-use Rattle.proc_state.specs.State.{ProcState}
+use Rattle.proc_state.specs.State.{ProcState, can_take}
 use Rattle.sys_calls.specs.declared.steps.Emission.{Emission}
 use Rattle.sys_calls.specs.Small.{weight}
 use Rattle.sys_calls.specs.Calls.{Emits, Forks, Silent}
@@ -31,8 +31,10 @@ use Rattle.sync_left.specs.Left.{is_unsent, left_of_process, left_of_syncs, may_
 use Rattle.sync_left.proofs.Forked.{child_few, emits_births, fork_pays, silent_births}
 use Rattle.sync_left.proofs.Pairs.{pairs-within}
 use Rattle.sync_left.proofs.PlacedSums.{placed_most}
-use Rattle.sync_left.proofs.OneStep.{at_most_one, emits_most, fork_most, silent_most}
+use Rattle.sync_left.proofs.OneStep.{at_most_one, emits_most, fork_most, silent_most, taken_children}
 use Rattle.sync_left.proofs.OneEntry.{births_kernel}
+use Rattle.sys_calls.specs.Take.{taken}
+use Rattle.sys_calls.proofs.TakeLaws.{taken_strikes}
 
 -- ---- a step and a fork leave no more
 
@@ -59,9 +61,14 @@ fork_kept s child is =
     let pays = fork_pays s child can in
     omega (arith, parent, born, pays)
 
+take_kept : (s : ProcState) → can_take s ≡ true → most_of_process (taken s).small ≤ most_of_process s.small
+take_kept s can =
+    let t = taken_strikes s can in
+    most_kept s (taken s) t.pages (omega (arith, t.steps, t.weight_is)) (omega (arith, taken_children s))
+
 -- so the kernel after a log has no more than that at boot
 kernel_within : (system : System) (log : List Entry) (k : Kernel) → plain_after system log ≡ Some k → sum_of most_of_process k ≤ most_syncs system
-kernel_within system log k is = sum_after most_of_process silent_kept emits_kept fork_kept system log k is
+kernel_within system log k is = sum_after most_of_process silent_kept emits_kept fork_kept take_kept system log k is
 
 abbrev of_entry : (SmallState → ℕ) → Pid × ProcState → ℕ
 of_entry f e = f (e.1).small

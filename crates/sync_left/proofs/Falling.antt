@@ -23,7 +23,7 @@ use Rattle.cert_sched.specs.Legal.{IsLegalBy, Stands}
 use Rattle.cert_sched.specs.Built.{tells_or_closes}
 use Rattle.cert_sched.proofs.BirthKind.{is_birth}
 use Rattle.cert_sched.proofs.LogLaws.{placement-snoc}
-use Rattle.cert_sched.proofs.StepLaws.{is_sent, no_signal_taken}
+use Rattle.cert_sched.proofs.StepLaws.{is_sent}
 use Rattle.page_laws.specs.Left.{left_of_pages}
 use Rattle.page_laws.proofs.BornLeft.{left_birth}
 use Rattle.page_laws.proofs.OneEntry.{after_other}
@@ -122,9 +122,8 @@ module _ (system : System) (log : List Entry) (e : Entry) (valid : is_system sys
       let less = page_less system log e stands p at i bytes is valid legal new in
       by_syncs (left_still system log e stands (Page p at i bytes) is refl (λ r. refl) refl (after_other (Page p at i bytes) refl (placement system log) (waiting_fetches system log))) (omega (arith, places, less))
 
-  sync_falls : (p : Pid) (small : SmallState) (read : List ℕ) (took : Option ℕ) → what e ≡ Sync p small read took → Falls
-  sync_falls p small read (Some g) is = absurd (no_signal_taken system log e p small read g is stands.applies)
-  sync_falls p small read None is =
+  sync_falls : (p : Pid) (small : SmallState) (read : List ℕ) → what e ≡ Sync p small read None → Falls
+  sync_falls p small read is =
       let places = sync_places system log e stands p small read is (left_of_process system (log ++ e ∷ [])) in
       let less = sync_less system log e stands p small read is valid legal in
       by_syncs (sync_pages system log e stands p small read is) (omega (arith, places, less))
@@ -139,7 +138,8 @@ module _ (system : System) (log : List Entry) (e : Entry) (valid : is_system sys
   falls_by (Birth parent at child end) is new from = birth_falls parent at child end is
   falls_by (Exit p at end) is new from = exit_falls p at end is
   falls_by (Page p at index bytes) is new from = page_falls p at index bytes is new
-  falls_by (Sync p small read took) is new from = sync_falls p small read took is
+  falls_by (Sync p small read None) is new from = sync_falls p small read is
+  falls_by (Sync p small read (Some g)) is new from = absurd (true≢false (sym from))
   falls_by (Fetch p index) is new from = by_pages (left_fetch system log e p index stands is) (still_most (Fetch p index) is refl refl refl (λ r. refl) (λ r. refl))
   falls_by (PageIs p index bytes) is new from = by_pages (left_page_is system log e p index bytes stands is) (still_most (PageIs p index bytes) is refl refl refl (λ r. refl) (λ r. refl))
   falls_by (Crash k cause) is new from = absurd (true≢false (sym from))

@@ -37,7 +37,7 @@ use Rattle.sync_laws.proofs.Beside.{start_stays}
 use Rattle.sync_left.specs.Load.{kernel_births, kernel_load, log_births, log_load}
 use Rattle.sync_left.specs.Left.{has_stepped, is_unsent, left_of_process, left_of_syncs, may_sync, most_of, most_steps, pairs_that}
 use Rattle.sync_left.proofs.Pairs.{one_if-le, pairs-le}
-use Rattle.sync_left.proofs.OneStep.{IsBounded, left_in, most_in, one_step-bounded}
+use Rattle.sync_left.proofs.OneStep.{IsBounded, left_in, most_in, one_step-bounded, take_step-bounded}
 
 -- ---- the kernel after a log
 
@@ -104,7 +104,8 @@ module _ (system : System) (log : List Entry) (e : Entry) (stands : Stands syste
         let qs = unended_in (placement system log) in
         let limit = left_of_syncs system log + log_load system log in
         let kept = forkless_keep (IsBounded (start_steps system log) (λ p. not (has_state system log p)) (is_unsent system log) (page_count system log) qs limit)
-        (one_step-bounded (start_steps system log) (λ p. not (has_state system log p)) (is_unsent system log) (page_count system log) qs limit (unended_apart system log valid legal)) (items_of a.old (what e)) a.old a.new
+        (one_step-bounded (start_steps system log) (λ p. not (has_state system log p)) (is_unsent system log) (page_count system log) qs limit (unended_apart system log valid legal))
+        (take_step-bounded (start_steps system log) (λ p. not (has_state system log p)) (is_unsent system log) (page_count system log) qs limit (unended_apart system log valid legal)) (items_of a.old (what e)) a.old a.new
         (items_forkless a.old (what e) no_fork) bounded_before a.made in
         omega (arith, kept.left, births_kernel system (log ++ e ∷ []) a.new a.after, load_kernel system (log ++ e ∷ []) a.new a.after)
 

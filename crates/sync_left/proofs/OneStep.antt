@@ -1,12 +1,12 @@
--- One step of a kernel, and one fork: what is left of each process, of the steps and of the births, in sum, does not rise; a fork leaves so much less that it pays for the child.
+-- One step of a kernel, one fork and one take: what is left of each process, of the steps and of the births, in sum, does not rise; a fork leaves so much less that it pays for the child.
 use Rattle.std.proofs.Common.{◌≡◌, ℕ, ◌+◌, ◌≤◌, refl, sym, ◌∙◌, ap, subst, arith, List, Bool, true, false, ◌||◌, eqb, ltb, Option, Some, None, eqb-true, eq-eqb, true≢false}
-use Rattle.std.specs.Prelude.{◌≢◌, option_and_then, option_map, sum_by}
+use Rattle.std.specs.Prelude.{◌≢◌, option_and_then, option_map, sum_by, unwrap_or}
 use Rattle.std.specs.List.{list_any}
 use Rattle.std.specs.Option.{option_map_or}
 use Rattle.t32_base.specs.declared.process.Pid.{Pid}
 use Rattle.t32_base.specs.Small.{SmallState}
 use Rattle.proc_state.specs.State.{ProcState}
-use Rattle.sys_calls.specs.Small.{weight}
+use Rattle.sys_calls.specs.Small.{weight, weight_with_children}
 use Rattle.sys_calls.specs.declared.steps.Emission.{Emission}
 use Rattle.sys_calls.specs.Calls.{Next, Silent, Blocked, Forks, Emits, Over}
 use Rattle.sys_calls.specs.Fork.{CanFork, fork_child, fork_parent}
@@ -15,17 +15,17 @@ use Rattle.sys_calls.proofs.Counting.{silent_counts, emits_counts}
 use Rattle.sys_calls.proofs.ForkLaws.{forks_can}
 use Rattle.sys_calls.proofs.Weighing.{Leaves, next_leaves, emits_leaves}
 use Rattle.plain_kernel.specs.Kernel.{Kernel, process_at, with_process, emitted}
-use Rattle.plain_kernel.specs.Apply.{after_step, fork_step, one_step}
+use Rattle.plain_kernel.specs.Apply.{after_step, fork_step, one_step, take_step}
 use Rattle.plain_kernel.proofs.Entries.{some_same}
 use Rattle.plain_kernel.proofs.Forking.{ForkMade, fork-other, fork-parent, fork-steps_other}
 use Rattle.plain_kernel.proofs.Laws.{process_at-same}
-use Rattle.plain_kernel.proofs.Others.{small_at, small_at-emitted, one_step-other, one_step-small}
+use Rattle.plain_kernel.proofs.Others.{small_at, small_at-emitted, one_step-other, one_step-small, process_at-other}
 use Rattle.plain_kernel.proofs.Pids.{IsRising}
 use Rattle.bus_msg.specs.declared.placed.Placed.{Placed}
 use Rattle.bus_msg.specs.Places.{same_pid}
 use Rattle.cert_sched.specs.Schedule.{done}
 use Rattle.cert_sched.proofs.ForkWeight.{fork_weighs}
-use Rattle.cert_sched.proofs.KernelSums.{fork_step_lightens, one_step_lightens, step_lowers}
+use Rattle.cert_sched.proofs.KernelSums.{fork_step_lightens, one_step_lightens, step_lowers, process_sum}
 use Rattle.cert_sched.proofs.MadeLaws.{apart_from}
 use Rattle.cert_sched.proofs.RisingLaws.{NoTwo}
 use Rattle.cert_sched.proofs.PidLaws.{placed_pids}
@@ -38,6 +38,12 @@ use Rattle.sync_left.proofs.ForkSums.{fork_sums}
 use Rattle.sync_left.proofs.StepsLeft.{rising_still}
 use Rattle.sync_left.proofs.Pairs.{pairs-le}
 use Rattle.sync_left.proofs.Rising.{one_rises}
+use Rattle.plain_kernel.proofs.Taking.{TakesAt, take_made}
+use Rattle.sys_calls.specs.Take.{struck, taken}
+use Rattle.sys_calls.proofs.TakeLaws.{taken_strikes}
+use Rattle.plain_kernel.proofs.TakePids.{take_step-rising}
+use Rattle.cert_sched.proofs.StepLaws.{take_counts}
+use Rattle.proc_state.specs.Mail.{first_signal}
 
 -- ---- the most steps of a process
 
@@ -122,6 +128,14 @@ births-most p k j rising made =
     let most : kernel_births j + 0 ≤ kernel_births k = step_lowers left_of_children 0 silent_births emits_births p k j rising made in
     omega (arith, most)
 
+-- a take leaves the children that may still be born
+struck_children : (b : Bool) (g : ℕ) (s : SmallState) → left_of_children (struck b g s) ≡ left_of_children s
+struck_children true g s = refl
+struck_children false g s = refl
+
+pub taken_children : (s : ProcState) → left_of_children (taken s).small ≡ left_of_children s.small
+taken_children s = struck_children (eqb (s.small).handler 0) (unwrap_or (first_signal s.mail) 0) s.small
+
 -- ---- what is left of a process
 
 module _ (start : Pid → ℕ) (uncut : Pid → Bool) (unsent : Pid → ℕ → ℕ → Bool) (pages : Pid → ℕ) where
@@ -154,6 +168,41 @@ module _ (start : Pid → ℕ) (uncut : Pid → Bool) (unsent : Pid → ℕ → 
       let births = births-most p k j bounded.rising made in
       let before = bounded.left in
       record { rising = rising_still p k j bounded.rising made; left = omega (arith, rises, less, births, before) }
+
+  -- ---- a take
+
+  take_most : (p : Pid) (k j : Kernel) (q : Pid) → take_step p k ≡ Some j → most_in j q ≤ most_in k q
+  take_most p k j q made = by_pid (same_pid p q) refl
+    where
+      t : TakesAt p k j
+      t = take_made p k j made
+
+      here : most_in j p ≤ most_in k p
+      here =
+          let now : most_in j p ≡ most_of (taken t.was) = ap (λ i. most_in i p) t.after ∙ ap (λ o. option_map_or most_of o 0) (process_at-same k p (taken t.was)) in
+          let was : most_in k p ≡ most_of t.was = ap (λ o. option_map_or most_of o 0) t.there in
+          let strikes = taken_strikes t.was t.can in
+          omega (arith, now, was, strikes.steps, strikes.weight_is)
+
+      by_pid : (b : Bool) → same_pid p q ≡ b → most_in j q ≤ most_in k q
+      by_pid true is = let same : p ≡ q = λ i. record { 0 = eqb-true p.0 q.0 is i } in subst (λ q. most_in j q ≤ most_in k q) same here
+      by_pid false is =
+          let same : most_in j q ≡ most_in k q = ap (λ i. most_in i q) t.after ∙ ap (λ o. option_map_or most_of o 0) (process_at-other k p (taken t.was) q (apart_from p q is)) in
+          omega (arith, same)
+
+  pub take_step-bounded : (qs : List Placed) (most : ℕ) → NoTwo (placed_pids qs) → (p : Pid) (k j : Kernel) → IsBounded qs most k → take_step p k ≡ Some j → IsBounded qs most j
+  take_step-bounded qs most apart p k j bounded made =
+      let t = take_made p k j made in
+      let each : (q : Placed) → left_in j q.pid ≤ left_in k q.pid = λ q. left-same k j q.pid (take_counts p k j q.pid made) (take_most p k j q.pid made) in
+      let sums = one_rises (λ (q : Placed). left_in k q.pid) (λ (q : Placed). left_in j q.pid) p 0 (λ q other. each q) (λ q is. omega (arith, each q)) qs apart in
+      let births = process_sum left_of_children k p t.was (taken t.was) bounded.rising t.there in
+      let load = process_sum weight_with_children k p t.was (taken t.was) bounded.rising t.there in
+      let same = taken_children t.was in
+      let less = (taken_strikes t.was t.can).weight_children in
+      record {
+        rising = take_step-rising p k j bounded.rising made;
+        left = omega (arith, sums, births, load, same, less, bounded.left, ap kernel_births t.after, ap kernel_load t.after);
+      }
 
   -- ---- a fork
 

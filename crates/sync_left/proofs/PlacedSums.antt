@@ -12,7 +12,7 @@ use Rattle.t32_base.specs.declared.process.Pid.{Pid}
 use Rattle.t32_base.specs.Small.{SmallState}
 use Rattle.sys_text.specs.declared.system.System.{System}
 use Rattle.sys_text.specs.Valid.{is_system}
-use Rattle.proc_state.specs.State.{ProcState}
+use Rattle.proc_state.specs.State.{ProcState, can_take}
 use Rattle.sys_calls.specs.declared.steps.Emission.{Emission}
 use Rattle.sys_calls.specs.Calls.{Next, Emits, Forks, Silent}
 use Rattle.sys_calls.specs.Fork.{child_births, fork_child, fork_parent}
@@ -36,6 +36,8 @@ use Rattle.page_laws.proofs.BornSums.{itself}
 use Rattle.page_laws.proofs.StepSizes.{Keeps, next_keeps}
 use Rattle.sync_left.proofs.Forked.{halved}
 use Rattle.sync_left.proofs.Rising.{one_rises}
+use Rattle.sys_calls.specs.Take.{taken}
+use Rattle.sys_calls.proofs.TakeLaws.{taken_strikes}
 
 other_is : (n m : ℕ) → eqb n m ≡ false → is_eq (nat_cmp n m) ≡ false
 other_is n m is = grind (arith, nat_tests)
@@ -109,9 +111,10 @@ of_family f s = f s * (1 + s.births)
 shared : (f births kept given : ℕ) → births ≡ 1 + given + kept → f * (1 + kept) + f * (1 + given) ≤ f * (1 + births)
 shared f births kept given shares = let whole : f * (1 + births) ≡ f * (1 + (1 + given + kept)) = ap (λ n. f * (1 + n)) shares in omega (arith, whole)
 
--- of what no step changes, and a child has as its parent
+-- of what no step and no take changes, and a child has as its parent
 module _ (f : SmallState → ℕ) (silent : (s t : ProcState) → next_step s ≡ Silent t → f t.small ≡ f s.small) (sends : (s t : ProcState) (e : Emission) → next_step s ≡ Emits e t → f t.small ≡ f s.small)
-    (parent : (s : ProcState) (c : Pid) → f (fork_parent s c).small ≡ f s.small) (child : (s : ProcState) (c : Pid) → f (fork_child s c).small ≡ f s.small) where
+    (parent : (s : ProcState) (c : Pid) → f (fork_parent s c).small ≡ f s.small) (child : (s : ProcState) (c : Pid) → f (fork_child s c).small ≡ f s.small)
+    (takes : (s : ProcState) → can_take s ≡ true → f (taken s).small ≡ f s.small) where
   kept_family : (s t : ProcState) → f t.small ≡ f s.small → KeepsBirths s t → of_family f t.small ≤ of_family f s.small
   kept_family s t same kept = mul-le (f t.small) (1 + (t.small).births) (f s.small) (1 + (s.small).births) (omega (arith, same)) (omega (arith, kept.0))
 
@@ -120,6 +123,9 @@ module _ (f : SmallState → ℕ) (silent : (s t : ProcState) → next_step s �
 
   sends_family : (s t : ProcState) (e : Emission) → next_step s ≡ Emits e t → of_family f t.small ≤ of_family f s.small
   sends_family s t e is = kept_family s t (sends s t e is) (subst (Bears s) is (next_bears s))
+
+  takes_family : (s : ProcState) → can_take s ≡ true → of_family f (taken s).small ≤ of_family f s.small
+  takes_family s can = let t = taken_strikes s can in kept_family s (taken s) (takes s can) (t.births, omega (arith, t.left))
 
   fork_family : (s : ProcState) (c : Pid) → next_step s ≡ Forks → of_family f (fork_parent s c).small + of_family f (fork_child s c).small ≤ of_family f s.small
   fork_family s c is =
@@ -142,7 +148,7 @@ module _ (f : SmallState → ℕ) (silent : (s t : ProcState) → next_step s �
           let one = each system log q s (ap (option_and_then (λ k. process_at k q.pid)) is ∙ there) in
           omega (arith, one) in
           let most = placed_most (of_family f) (g system log) k here system log valid legal is in
-          let boots = sum_after (of_family f) silent_family sends_family fork_family system log k is in
+          let boots = sum_after (of_family f) silent_family sends_family fork_family takes_family system log k is in
           omega (arith, most, boots)
 
 ones : (qs : List Placed) → length qs ≤ sum_by (λ (q : Placed). 1) qs
@@ -152,14 +158,14 @@ ones (q ∷ qs) = let rest = ones qs in omega (arith, rest, sum_by-cons (λ (q :
 -- in a legal log no more processes are placed than were at boot, with the children that they might fork
 pub placed_few : (system : System) (log : List Entry) → is_system system ≡ true → IsLegalBy Stands system log → length (placement system log).placed ≤ sum_of (of_family (λ (s : SmallState). 1)) (boot system)
 placed_few system log valid legal =
-    let most = placed_family (λ (s : SmallState). 1) (λ s t is. refl) (λ s t e is. refl) (λ s c. refl) (λ s c. refl) (λ system log q. 1) (λ system log q s there. omega arith) system log valid legal in
+    let most = placed_family (λ (s : SmallState). 1) (λ s t is. refl) (λ s t e is. refl) (λ s c. refl) (λ s c. refl) (λ s can. refl) (λ system log q. 1) (λ system log q s there. omega arith) system log valid legal in
     omega (arith, most, ones (placement system log).placed)
 
 -- and they have no more pages
 pub placed_pages : (system : System) (log : List Entry) → is_system system ≡ true → IsLegalBy Stands system log
     → sum_by (λ (q : Placed). page_count system log q.pid) (placement system log).placed ≤ sum_of (of_family (λ (s : SmallState). s.pages)) (boot system)
 placed_pages system log valid legal =
-    placed_family (λ (s : SmallState). s.pages) (λ s t is. (size (Silent t) s is).pages) (λ s t e is. (size (Emits e t) s is).pages) (λ s c. refl) (λ s c. refl) (λ system log q. page_count system log q.pid)
+    placed_family (λ (s : SmallState). s.pages) (λ s t is. (size (Silent t) s is).pages) (λ s t e is. (size (Emits e t) s is).pages) (λ s c. refl) (λ s c. refl) (λ s can. (taken_strikes s can).pages) (λ system log q. page_count system log q.pid)
     (λ system log q s there. let pages : page_count system log q.pid ≡ (s.small).pages = ap (λ o. option_map_or (λ (s : ProcState). (s.small).pages) o 0) there in omega (arith, pages)) system log valid legal
   where
     size : (next : Next) (s : ProcState) → next_step s ≡ next → Keeps s next

@@ -47,8 +47,8 @@ module _ (system : System) (log : List Entry) (e : Entry) (stands : Stands syste
   holds : SyncHolds system log p small read None
   holds = subst (KindHolds system log e) is stands.kind
 
-  synced : SyncedAt system log p small read
-  synced = synced_at system log p small read holds
+  synced : SyncedAt system log p small read None
+  synced = synced_at system log p small read None holds
 
   cut : CutsAt system log e p synced.at
   cut = record {

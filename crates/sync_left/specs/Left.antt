@@ -1,5 +1,5 @@
 -- How many posts clusters may still send after a log, while no cluster is lost.
-use Rattle.std.specs.Prelude.{ℕ, ◌+◌, ◌*◌, Bool, true, false, not, ◌||◌, nat_lt, if◌then◌else◌, List, count_by}
+use Rattle.std.specs.Prelude.{ℕ, ◌+◌, ◌*◌, Bool, true, false, not, ◌||◌, nat_lt, if◌then◌else◌, List, None, count_by}
 use Rattle.std.specs.List.{sum_by, range_with_len}
 use Rattle.std.specs.Option.{option_map_or}
 use Rattle.t32_base.specs.declared.process.Pid.{Pid}
@@ -20,13 +20,13 @@ use Rattle.cert_sched.specs.Steps.{start_steps, page_count}
 use Rattle.page_laws.specs.Left.{left_of_pages}
 use Rattle.sync_left.specs.Load.{left_of_children, log_births, log_load}
 
--- the kinds of entries that a cluster sends so far, and births: letters, exits, changed pages, synchronisations, pages that are asked for and that come
+-- the kinds of entries that a cluster sends so far, and births: letters, exits, changed pages, synchronisations without a signal, pages that are asked for and that come
 abbrev pub is_from_cluster : What → Bool
 is_from_cluster (Mail at letter) = true
 is_from_cluster (Birth parent at child end) = true
 is_from_cluster (Exit pid at end) = true
 is_from_cluster (Page pid at index bytes) = true
-is_from_cluster (Sync pid small read took) = true
+is_from_cluster (Sync pid small read None) = true
 is_from_cluster (Fetch pid index) = true
 is_from_cluster (PageIs pid index bytes) = true
 is_from_cluster _ = false

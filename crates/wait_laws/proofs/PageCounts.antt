@@ -18,7 +18,7 @@ use Rattle.sys_calls.specs.Calls.{Next, Silent, Blocked, Forks, Emits, Over}
 use Rattle.sys_calls.specs.Next.{next_step}
 use Rattle.sys_calls.specs.Fork.{fork_child, fork_parent}
 use Rattle.plain_kernel.specs.Kernel.{Kernel, boot, no_image, pid_cmp, process_at, root_process, with_process, emitted}
-use Rattle.plain_kernel.specs.Apply.{after_step, one_step, fork_step}
+use Rattle.plain_kernel.specs.Apply.{after_step, one_step, fork_step, take_step}
 use Rattle.plain_kernel.proofs.Entries.{some_same}
 use Rattle.plain_kernel.proofs.AtBoot.{boot-each}
 use Rattle.plain_kernel.proofs.Laws.{process_at-with_process}
@@ -35,6 +35,9 @@ use Rattle.cert_sched.proofs.Induction.{legal_induction}
 use Rattle.cert_sched.proofs.RecordLaws.{start_of-snoc}
 use Rattle.cert_sched.proofs.StepLaws.{applied, log_keeps_all}
 use Rattle.page_laws.proofs.StepSizes.{Keeps, next_keeps}
+use Rattle.plain_kernel.proofs.Taking.{take_made}
+use Rattle.sys_calls.specs.Take.{taken}
+use Rattle.sys_calls.proofs.TakeLaws.{taken_strikes}
 
 -- ---- how many a process has in a kernel
 
@@ -138,6 +141,11 @@ emitted_few k m all p s there = by_process (process_at k p) refl (sym (ap (optio
 few_as : (s t : ProcState) → (t.small).pages ≡ (s.small).pages → HasFewPages s → HasFewPages t
 few_as s t same few = subst (λ n. (1 ≤ n) × (n ≤ 256)) (sym same) few
 
+take_count : (p : Pid) (n : ℕ) (q : Pid) (k j : Kernel) → HasCount p n k → take_step q k ≡ Some j → HasCount p n j
+take_count p n q k j has made =
+    let t = take_made q k j made in
+    subst (HasCount p n) (sym t.after) (put_count p q n k t.was (taken t.was) t.there (taken_strikes t.was t.can).pages has)
+
 step_few : (q : Pid) (k j : Kernel) → AllFew k → one_step q k ≡ Some j → AllFew j
 unfolding one_step AllFew
 step_few q k j all made = by_process (process_at k q) refl made
@@ -160,6 +168,12 @@ fork_few q c k j all made =
     let few = all q f.was f.there in
     subst AllFew f.after (put_few c (with_process k q (fork_parent f.was c)) (fork_child f.was c) (put_few q k (fork_parent f.was c) all few) few)
 
+take_few : (q : Pid) (k j : Kernel) → AllFew k → take_step q k ≡ Some j → AllFew j
+unfolding AllFew
+take_few q k j all made =
+    let t = take_made q k j made in
+    subst AllFew (sym t.after) (put_few q k (taken t.was) all (few_as t.was (taken t.was) (taken_strikes t.was t.can).pages (all q t.was t.there)))
+
 -- ---- in a log
 
 -- each process of the kernel after a log has 1 to 256
@@ -169,7 +183,7 @@ few_pages system log p s valid there = by_kernel (plain_after system log) refl t
   where
     by_kernel : (o : Option Kernel) → plain_after system log ≡ o → option_and_then (λ k. process_at k p) o ≡ Some s → HasFewPages s
     by_kernel None is e = cc
-    by_kernel (Some k) is e = log_keeps_all AllFew step_few fork_few system log k (few_at_boot system valid) is p s e
+    by_kernel (Some k) is e = log_keeps_all AllFew step_few fork_few take_few system log k (few_at_boot system valid) is p s e
 
 abbrev pages_after : System → List Entry → Pid → Option ℕ
 pages_after system log p = option_map (λ (s : ProcState). (s.small).pages) (process_after system log p)
@@ -183,7 +197,7 @@ count_kept : (system : System) (log : List Entry) (e : Entry) (p : Pid) (n : ℕ
 count_kept system log e p n applies has =
     let a = applied system log e applies in
     ap (λ o. option_map (λ (s : ProcState). (s.small).pages) (option_and_then (λ k. process_at k p) o)) a.after ∙ of_small (process_at a.new p)
-    ∙ items_keep (HasCount p n) (step_count p n) (fork_count p n) (items_of a.old (what e)) a.old a.new
+    ∙ items_keep (HasCount p n) (step_count p n) (fork_count p n) (take_count p n) (items_of a.old (what e)) a.old a.new
     (sym (ap (λ o. option_map (λ (s : ProcState). (s.small).pages) (option_and_then (λ k. process_at k p) o)) a.before ∙ of_small (process_at a.old p)) ∙ has) a.made
 
 counted : (o : Option ProcState) (n : ℕ) → option_map (λ (s : ProcState). (s.small).pages) o ≡ Some n → option_map_or (λ (s : ProcState). (s.small).pages) o 0 ≡ n
