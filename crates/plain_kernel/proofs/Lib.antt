@@ -9,6 +9,9 @@ pub mod Roots
 mod StartPages
 pub mod Starts
 mod Falling
+mod First
+mod Takers
+mod Emitting
 mod Ready
 mod Turns
 pub mod Others
