@@ -60,7 +60,7 @@ first_states f (x ∷ es) =
 
 -- one that does not pass is put where none passes
 pub none_put : (f : ProcState → Bool) (k : Pid) (t : ProcState) (es : List (Pid × ProcState)) → find (λ (e : Pid × ProcState). f e.1) es ≡ None → f t ≡ false → find (λ (e : Pid × ProcState). f e.1) (put pid_cmp k t es) ≡ None
-none_put f k t [] none no = ap (λ b. cond b (Some (k, t)) None) fails
+none_put f k t [] none fails = ap (λ b. cond b (Some (k, t)) None) fails
 none_put f k t (x ∷ es) none fails = by_test (f x.1) refl none (λ later. none_put f k t es later fails)
   where
     by_test : (b : Bool) → f x.1 ≡ b → cond b (Some x) (find (λ (e : Pid × ProcState). f e.1) es) ≡ None → (find (λ (e : Pid × ProcState). f e.1) es ≡ None → find (λ (e : Pid × ProcState). f e.1) (put pid_cmp k t es) ≡ None)
