@@ -1,5 +1,5 @@
 -- A step that sends something lets no process take a signal that could take none.
-use Rattle.std.proofs.Common.{◌≡◌, ℕ, ap, sym, refl, ◌∙◌, subst, Bool, true, false, cond, not, ltb, eqb, Option, Some, None}
+use Rattle.std.proofs.Common.{◌≡◌, ℕ, refl, subst, Bool, true, false, cond, not, ltb, eqb, Option, Some, None}
 use Rattle.t32_base.specs.declared.process.End.{End}
 use Rattle.t32_base.specs.declared.process.Status.{Status}
 use Rattle.t32_base.specs.declared.process.Status.TheVariants.{Live, Closing, Ended}

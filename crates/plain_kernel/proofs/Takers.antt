@@ -1,5 +1,5 @@
 -- The processes that can take a signal.
-use Rattle.std.proofs.Common.{◌≡◌, ℕ, ◌≤◌, ◌||◌, Bool, true, false, true≢false, ◌&&◌, ◌<◌, ◌^◌, cond, eqb, List, [], map, find, refl, sym, ap, ◌∙◌, subst, arith, Option, Some, None, is_none, is_some, option_and_then, option_map, unwrap_or}
+use Rattle.std.proofs.Common.{◌≡◌, ℕ, ◌≤◌, Bool, true, false, true≢false, ◌&&◌, ◌<◌, ◌^◌, cond, eqb, List, [], find, refl, sym, ap, ◌∙◌, arith, Option, Some, None, is_none, is_some, option_and_then, option_map, unwrap_or}
 use Rattle.std.specs.Prelude.{Result, Ok, Err}
 use Rattle.std.specs.Option.{option_map_or}
 use Rattle.std.specs.Ordering.{nat_cmp}
@@ -19,7 +19,7 @@ use Rattle.sys_calls.specs.Take.{struck, taken}
 use Rattle.plain_kernel.specs.Apply.{steps, take_step}
 use Rattle.plain_kernel.specs.Kernel.{Kernel, with_process}
 use Rattle.plain_kernel.specs.Still.{lowest_taker}
-use Rattle.plain_kernel.specs.Maps.{at_key, kernel_of, load, pid_of, takes_at, total_load, AreFresh, Changes, NoneTakes, NoneTakesBut, RunsAt, SameBut, TakesSignal, TakesWhere, Took, TookAt}
+use Rattle.plain_kernel.specs.Maps.{at_key, kernel_of, load, pid_of, takes_at, total_load, AreFresh, Changes, NoneTakes, NoneTakesBut, RunsAt, SameBut, TakesSignal, TakesWhere, TookAt}
 use Rattle.plain_kernel.specs.Answers.{Applies, take_answer}
 use Rattle.plain_kernel.specs.declared.item.Item.TheVariants.{Take}
 use Rattle.plain_kernel.proofs.Entries.{changed_back, found_after, found_fresh, keys, load_after, lookup_state, others_stay, put_after, some_same, state_before}
