@@ -9,6 +9,7 @@ use Rattle.t32_base.specs.declared.process.Pid.{Pid}
 use Rattle.t32_base.specs.declared.letter.Letter.{Letter}
 use Rattle.t32_base.specs.declared.process.End.{End}
 use Rattle.proc_state.specs.declared.process.Process.{Process}
+use Rattle.proc_state.specs.Mail.{carries_signal}
 use Rattle.proc_state.specs.State.{can_take, state_of}
 use Rattle.sys_calls.specs.declared.steps.Step.{Step}
 use Rattle.sys_calls.specs.declared.steps.Step.TheVariants.{Silent as WasSilent, Blocked as WasBlocked, Forks as WouldFork, Emit, Over as WasOver}
@@ -22,16 +23,17 @@ use Rattle.sys_calls.proofs.Counting.{silently_counts}
 use Rattle.plain_kernel.specs.Kernel.{deliver, process_at}
 use Rattle.plain_kernel.specs.Apply.{fork_step}
 use Rattle.plain_kernel.specs.Still.{next_child}
-use Rattle.plain_kernel.specs.Maps.{at_key, forks_at, kernel_of, pid_of, total_load, Advances, Changes, Covers, ForksAt, GoesTo, IsFirst, NoneTakes, NoneTakesBut, PidsFit, RunsAndSteps, RunsAt, RunsIfThere, SameBut, TakesSignal, Turns}
+use Rattle.plain_kernel.specs.Maps.{at_key, forks_at, kernel_of, pid_of, total_load, Advances, Changes, Covers, ForksAt, GoesTo, IsFirst, NoneTakes, NoneTakesBut, PidsFit, RunsAndSteps, RunsAt, RunsIfThere, SameBut, TakesSent, TakesSignal, Turns}
 use Rattle.plain_kernel.proofs.Emitting.{emits_untaken}
 use Rattle.plain_kernel.proofs.Entries.{changed_back, found_after, lookup_state, ordered_after, others_stay, same_keys, some_same, still_there, written_again}
 use Rattle.plain_kernel.proofs.Forked.{child_within, fork_fits, fork_lighter, fork_none, fork_others, forked, load_to_fork, there_to_fork}
 use Rattle.plain_kernel.proofs.NextChild.{next_child-absent}
 use Rattle.plain_kernel.proofs.Delivery.{less_to_send, lighter_by, stepped_alone, stepped_exit, stepped_mail, stepped_silent, stepped_two}
-use Rattle.plain_kernel.specs.Candidates.{HasOneMore}
-use Rattle.plain_kernel.proofs.Ready.{covers_nobody, covers_one, covers_sent, covers_stuck, covers_went, turn_of}
+use Rattle.plain_kernel.specs.Candidates.{Arrives, HasOneMore, Wakes}
+use Rattle.plain_kernel.proofs.Ready.{covers_nobody, covers_one, covers_sent, covers_stuck, covers_went, receiver_in, turn_of}
 use Rattle.plain_kernel.proofs.Takers.{none_at, none_but, none_changed, none_ran, none_still, take_load, taken_once, takes_there}
 use Rattle.plain_kernel.proofs.Turns.{able, able_first, able_ran, less, turns, turns_forked, turns_nobody, turns_stuck, turns_taken}
+use Rattle.plain_kernel.proofs.Unsignalled.{none_unsignalled}
 
 pub runs_and_steps : (old new : List (ℕ × Process)) (pid : ℕ) (was now : Process) (step : Step) → Changes old new pid was now → RunsOn step was now → RunsAndSteps old new pid step
 runs_and_steps old new pid was now step c r =
@@ -80,6 +82,24 @@ fits_by ps rs same lighter fits q there = omega (arith, fits q (still_there q rs
 ran_keys : (ps qs : List (ℕ × Process)) (pid n : ℕ) → RunsAt ps qs pid n → keys_of qs ≡ keys_of ps
 ran_keys ps qs pid n r = ap keys_of (r.changes).entries ∙ same_keys (at_key pid) ps r.now
 
+-- ---- a signal that is taken at once
+
+then_takes : (took : Bool) (ps rs fs : List (ℕ × Process)) (ts us : List (ℕ × List ℕ)) (ready left : List ℕ) (pid : ℕ) → Leaves ps rs ts us ready left → TakesSignal (Ok took) rs fs pid → NoneTakesBut (at_key pid) rs → list_any (at_key pid) left ≡ true
+    → Leaves ps fs ts us ready left
+then_takes true ps rs fs ts us ready left pid l t others listed = record {
+  turns = turns_taken ps rs fs ts us ready left pid l.turns t others;
+  covers = covers_one pid rs fs left (others_stay rs fs pid t.was t.now t.changes) listed l.covers;
+  fits = λ fits. fits_by rs fs (ap keys_of (t.changes).entries ∙ same_keys (at_key pid) rs t.now) (take_load rs fs pid t) (l.fits fits);
+}
+then_takes false ps rs fs ts us ready left pid l t others listed = subst (λ es. Leaves ps es ts us ready left) (sym t.1) l
+
+-- then no process can take one
+none_takes : (took : Bool) (rs fs : List (ℕ × Process)) (pid : ℕ) → TakesSignal (Ok took) rs fs pid → NoneTakesBut (at_key pid) rs → NoneTakes fs
+none_takes true rs fs pid t others = none_at pid fs (none_still rs fs pid t others) (takes_there fs pid t.now (found_after rs fs pid t.was t.now t.changes) ∙ ap can_take (t.took).after ∙ taken_once (state_of t.was))
+none_takes false rs fs pid t others = subst NoneTakes (sym t.1) (none_at pid rs others t.0)
+
+-- ---- a turn
+
 module _ (ps qs : List (ℕ × Process)) (ready : List ℕ) (pid : ℕ) (ordered : IsStrictlySortedBy nat_cmp (keys_of ps)) (first : IsFirst pid ready) (covers : Covers ps ready) (none : NoneTakes ps) where
   -- it had a step, and changed no other process
   went : (step : Step) (ts us : List (ℕ × List ℕ)) (rs : List (ℕ × Process)) (x : RunsAndSteps ps qs pid step) → Advances pid x.between rs ts us → SameBut (at_key pid) x.between rs → Leaves ps rs ts us ready ready
@@ -91,20 +111,20 @@ module _ (ps qs : List (ℕ × Process)) (ready : List ℕ) (pid : ℕ) (ordered
         fits = fits_by ps rs (a.keys ∙ ran_keys ps x.between pid x.count x.runs) (omega (arith, less ps x.between pid x.count x.runs, a.lighter));
       }
 
-  pub went_silently : (ts : List (ℕ × List ℕ)) → RunsAndSteps ps qs pid WasSilent → Leaves ps qs ts ts ready ready
+  went_silently : (ts : List (ℕ × List ℕ)) → RunsAndSteps ps qs pid WasSilent → Leaves ps qs ts ts ready ready
   went_silently ts x = let s = stepped_silent x.between qs ts pid x.steps in went WasSilent ts ts qs x s.0 s.1
 
   pub went_out : (ts : List (ℕ × List ℕ)) (end : End) → RunsAndSteps ps qs pid (Emit (Exit end)) → Leaves ps qs ts ts ready ready
   went_out ts end x = let s = stepped_exit x.between qs ts pid end x.steps in went (Emit (Exit end)) ts ts qs x s.0 s.1
 
   -- its letter went to a terminal, or to none
-  pub told : (ts us : List (ℕ × List ℕ)) (rs : List (ℕ × Process)) (letter : Letter) → RunsAndSteps ps qs pid (Emit (Mail letter)) → kernel_of rs us ≡ deliver (kernel_of qs ts) letter → total_load rs ≤ total_load qs + 1
+  told : (ts us : List (ℕ × List ℕ)) (rs : List (ℕ × Process)) (letter : Letter) → RunsAndSteps ps qs pid (Emit (Mail letter)) → kernel_of rs us ≡ deliver (kernel_of qs ts) letter → total_load rs ≤ total_load qs + 1
       → keys_of rs ≡ keys_of qs → GoesTo None qs rs → Leaves ps rs ts us ready ready
   told ts us rs letter x sent more keys to =
       went (Emit (Mail letter)) ts us rs x (stepped_mail x.between qs rs ts us pid letter x.steps sent more keys) (stepped_alone x.between qs rs pid (Ok (Emit (Mail letter))) x.steps to)
 
   -- or to another process, which may have a step now
-  pub sent_to : (ts us : List (ℕ × List ℕ)) (rs : List (ℕ × Process)) (letter : Letter) (to : ℕ) (left : List ℕ) → RunsAndSteps ps qs pid (Emit (Mail letter)) → kernel_of rs us ≡ deliver (kernel_of qs ts) letter
+  sent_to : (ts us : List (ℕ × List ℕ)) (rs : List (ℕ × Process)) (letter : Letter) (to : ℕ) (left : List ℕ) → RunsAndSteps ps qs pid (Emit (Mail letter)) → kernel_of rs us ≡ deliver (kernel_of qs ts) letter
       → total_load rs ≤ total_load qs + 1 → keys_of rs ≡ keys_of qs → GoesTo (Some to) qs rs → HasOneMore to ready left → list_any (at_key to) left ≡ true → length left ≤ length ready + 1 → Leaves ps rs ts us ready left
   sent_to ts us rs letter to left x sent more keys goes puts receiver longer =
       let a = stepped_mail x.between qs rs ts us pid letter x.steps sent more keys in
@@ -207,15 +227,15 @@ module _ (ps qs : List (ℕ × Process)) (ready : List ℕ) (pid : ℕ) (ordered
   pub none_out : (end : End) → RunsAndSteps ps qs pid (Emit (Exit end)) → NoneTakes qs
   none_out end x = none_emitted (Exit end) x
 
-  pub none_told : (rs : List (ℕ × Process)) (letter : Letter) → RunsAndSteps ps qs pid (Emit (Mail letter)) → GoesTo None qs rs → NoneTakes rs
+  none_told : (rs : List (ℕ × Process)) (letter : Letter) → RunsAndSteps ps qs pid (Emit (Mail letter)) → GoesTo None qs rs → NoneTakes rs
   none_told rs letter x to = subst NoneTakes (sym to) (none_emitted (Mail letter) x)
 
   -- none but the receiver
-  pub none_sent : (rs : List (ℕ × Process)) (letter : Letter) (to : ℕ) → RunsAndSteps ps qs pid (Emit (Mail letter)) → GoesTo (Some to) qs rs → NoneTakesBut (at_key to) rs
+  none_sent : (rs : List (ℕ × Process)) (letter : Letter) (to : ℕ) → RunsAndSteps ps qs pid (Emit (Mail letter)) → GoesTo (Some to) qs rs → NoneTakesBut (at_key to) rs
   none_sent rs letter to x goes = none_but (at_key to) qs rs goes (none_emitted (Mail letter) x)
 
   -- none but the process itself
-  pub none_silently : RunsAndSteps ps qs pid WasSilent → NoneTakesBut (at_key pid) qs
+  none_silently : RunsAndSteps ps qs pid WasSilent → NoneTakesBut (at_key pid) qs
   none_silently x = let s = x.steps in none_but (at_key pid) x.between qs (others_stay x.between qs pid s.was s.now s.changes) (none_before WasSilent x)
 
   none_stands : (step : Step) (x : RunsAndSteps ps qs pid step) → (x.steps).now ≡ (x.steps).was → NoneTakes qs
@@ -231,18 +251,37 @@ module _ (ps qs : List (ℕ × Process)) (ready : List ℕ) (pid : ℕ) (ordered
   pub none_nobody : RunsIfThere None ps qs pid → NoneTakes qs
   none_nobody gone = subst NoneTakes (sym gone.1) none
 
--- ---- a signal that is taken at once
+  -- ---- a letter that is delivered
 
-pub then_takes : (took : Bool) (ps rs fs : List (ℕ × Process)) (ts us : List (ℕ × List ℕ)) (ready left : List ℕ) (pid : ℕ) → Leaves ps rs ts us ready left → TakesSignal (Ok took) rs fs pid → NoneTakesBut (at_key pid) rs → list_any (at_key pid) left ≡ true
-    → Leaves ps fs ts us ready left
-then_takes true ps rs fs ts us ready left pid l t others listed = record {
-  turns = turns_taken ps rs fs ts us ready left pid l.turns t others;
-  covers = covers_one pid rs fs left (others_stay rs fs pid t.was t.now t.changes) listed l.covers;
-  fits = λ fits. fits_by rs fs (ap keys_of (t.changes).entries ∙ same_keys (at_key pid) rs t.now) (take_load rs fs pid t) (l.fits fits);
-}
-then_takes false ps rs fs ts us ready left pid l t others listed = subst (λ es. Leaves ps es ts us ready left) (sym t.1) l
+  pub arrived : (ts us : List (ℕ × List ℕ)) (fs : List (ℕ × Process)) (letter : Letter) (left : List ℕ) → RunsAndSteps ps qs pid (Emit (Mail letter)) → Arrives letter qs fs ts us ready left → Leaves ps fs ts us ready left
+  arrived ts us fs letter left x a = by_receiver a.to a.goes a.wakes
+    where
+      by_signal : (to : ℕ) (b : Bool) → Leaves ps a.between ts us ready left → NoneTakesBut (at_key to) a.between → list_any (at_key to) left ≡ true → TakesSent b a.between fs to → Leaves ps fs ts us ready left
+      by_signal to true sent others receiver t = then_takes t.0 ps a.between fs ts us ready left to sent t.1 others receiver
+      by_signal to false sent others receiver same = subst (λ es. Leaves ps es ts us ready left) (sym same) sent
 
--- then no process can take one
-pub none_takes : (took : Bool) (rs fs : List (ℕ × Process)) (pid : ℕ) → TakesSignal (Ok took) rs fs pid → NoneTakesBut (at_key pid) rs → NoneTakes fs
-none_takes true rs fs pid t others = none_at pid fs (none_still rs fs pid t others) (takes_there fs pid t.now (found_after rs fs pid t.was t.now t.changes) ∙ ap can_take (t.took).after ∙ taken_once (state_of t.was))
-none_takes false rs fs pid t others = subst NoneTakes (sym t.1) (none_at pid rs others t.0)
+      by_receiver : (o : Option ℕ) → GoesTo o qs a.between → Wakes o letter a.between fs ready left → Leaves ps fs ts us ready left
+      by_receiver None goes w = subst (λ l. Leaves ps fs ts us ready l) (sym w.1) (subst (λ es. Leaves ps es ts us ready ready) (sym w.0) (told ts us a.between letter x a.sent a.load a.keys goes))
+      by_receiver (Some to) goes w =
+          let receiver = receiver_in to ready left w.1 in
+          by_signal to (carries_signal letter.body) (sent_to ts us a.between letter to left x a.sent a.load a.keys goes w.1 receiver w.2) (none_sent a.between letter to x goes) receiver w.0
+
+  -- only a signal lets the receiver take one, which it does
+  pub none_arrived : (ts us : List (ℕ × List ℕ)) (fs : List (ℕ × Process)) (letter : Letter) (left : List ℕ) → RunsAndSteps ps qs pid (Emit (Mail letter)) → Arrives letter qs fs ts us ready left → NoneTakes fs
+  none_arrived ts us fs letter left x a = by_receiver a.to a.goes a.wakes
+    where
+      by_signal : (to : ℕ) (b : Bool) → carries_signal letter.body ≡ b → GoesTo (Some to) qs a.between → TakesSent b a.between fs to → NoneTakes fs
+      by_signal to true is goes t = none_takes t.0 a.between fs to t.1 (none_sent a.between letter to x goes)
+      by_signal to false is goes same = subst NoneTakes (sym same) (none_unsignalled qs a.between ts us letter a.sent is (none_emitted (Mail letter) x))
+
+      by_receiver : (o : Option ℕ) → GoesTo o qs a.between → Wakes o letter a.between fs ready left → NoneTakes fs
+      by_receiver None goes w = subst NoneTakes (sym w.0) (none_told a.between letter x goes)
+      by_receiver (Some to) goes w = by_signal to (carries_signal letter.body) refl goes w.0
+
+  -- ---- a process that makes a silent step after which it can take a signal takes it
+
+  pub struck : (took : Bool) (ts : List (ℕ × List ℕ)) (fs : List (ℕ × Process)) → RunsAndSteps ps qs pid WasSilent → TakesSignal (Ok took) qs fs pid → Leaves ps fs ts ts ready ready
+  struck took ts fs x t = then_takes took ps qs fs ts ts ready ready pid (went_silently ts x) t (none_silently x) first.0
+
+  pub none_struck : (took : Bool) (fs : List (ℕ × Process)) → RunsAndSteps ps qs pid WasSilent → TakesSignal (Ok took) qs fs pid → NoneTakes fs
+  none_struck took fs x t = none_takes took qs fs pid t (none_silently x)

@@ -12,6 +12,7 @@ mod Falling
 mod First
 mod Takers
 mod Emitting
+mod Unsignalled
 mod Ready
 mod Turns
 pub mod Others

@@ -205,6 +205,11 @@ TakesSignal (Ok true) old new pid = TookAt old new pid
 TakesSignal (Ok false) old new pid = (takes_at old pid ≡ false) × (new ≡ old)
 TakesSignal (Err e) old new pid = new ≡ old
 
+-- where it was sent a signal, the process with a pid takes the first that waits, if it can
+abbrev pub TakesSent : Bool → List (ℕ × Process) → List (ℕ × Process) → ℕ → Type 0
+TakesSent true old new pid = (took : Bool) × TakesSignal (Ok took) old new pid
+TakesSent false old new pid = new ≡ old
+
 -- no process can take a signal whose pid does not pass a test
 abbrev pub NoneTakesBut : (ℕ → Bool) → List (ℕ × Process) → Type 0
 NoneTakesBut touched es = (q : ℕ) → touched q ≡ false → takes_at es q ≡ false

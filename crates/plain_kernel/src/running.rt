@@ -1,8 +1,9 @@
 //! Many steps of a kernel: those of one process, and those of the default schedule.
-ghost use Rattle.std.specs.Prelude.{◌≤◌, ◌<◌, ◌^◌, IsSome, OnOk};
+ghost use Rattle.std.specs.Prelude.{◌≤◌, ◌<◌, ◌-◌, ◌^◌, IsSome, OnOk};
 ghost use Rattle.std.specs.BTreeMap.{get};
 ghost use Rattle.std.specs.Ordering.{nat_cmp};
 ghost use Rattle.plain_kernel.specs.Maps.{kernel_of, total_load, Covers, IsFirst, NoneTakes, PidsFit, RunsSteps, Turns};
+ghost use Rattle.plain_kernel.specs.Candidates.{Arrives};
 ghost use Rattle.plain_kernel.specs.Still.{Reaches};
 
 use crate::births::{child_after, fork_at};
@@ -10,11 +11,12 @@ use crate::candidates::Candidates;
 use crate::item::NotApplied;
 use crate::processes::{pid_set, run_at, run_if_there};
 use crate::sending::{Made, make_step, send};
-use crate::signals::take_at;
+use crate::signals::{carries_signal, take_at};
 use proc_state::process::Process;
 use std::alloc::Global;
 use std::collections::BTreeMap;
 use sys_calls::steps::{Emission, Step};
+use t32_base::letter::Letter;
 use t32_base::lists::Bytes;
 use t32_base::streams::NoMemory;
 
@@ -104,12 +106,7 @@ fn take_turn(
         return Ok(());
     };
     match step {
-        Step::Emit(Emission::Mail(letter)) => {
-            if let Some(to) = send(processes, ttys, letter)? {
-                ready.insert(to)?;
-                let _took = take_at(processes, to)?;
-            }
-        }
+        Step::Emit(Emission::Mail(letter)) => deliver(processes, ttys, ready, letter)?,
         Step::Emit(Emission::Exit(_)) => {}
         Step::Silent => {
             let _took = take_at(processes, pid)?;
@@ -121,6 +118,27 @@ fn take_turn(
         }
         Step::Blocked | Step::Over => {
             ready.drop_first();
+        }
+    }
+    Ok(())
+}
+
+// Delivers a letter. A process to which it went may have a step then, and where the letter is a signal and it can take it,
+// it takes it at once.
+fn deliver(
+    processes: &mut BTreeMap<u32, Process>,
+    ttys: &mut BTreeMap<u8, Bytes>,
+    ready: &mut Candidates,
+    letter: Letter,
+) -> Result<(), NoMemory>
+    requires { total_load processes.old.entries < 2 ^ 64 - 1 }
+    ensures { OnOk result (Arrives letter processes.old.entries processes.new.entries ttys.old.entries ttys.new.entries ready.old ready.new) }
+{
+    let signals = carries_signal(&letter.body);
+    if let Some(to) = send(processes, ttys, letter)? {
+        ready.insert(to)?;
+        if signals {
+            let _took = take_at(processes, to)?;
         }
     }
     Ok(())

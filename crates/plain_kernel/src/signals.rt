@@ -1,10 +1,23 @@
-//! The take of a signal by a process in its kernel.
+//! A signal that comes to a process in its kernel, and its take.
+ghost use Rattle.std.specs.Prelude.{◌≡◌};
+ghost use Rattle.proc_state.specs.Mail.{carries_signal as carries_signal_in};
 ghost use Rattle.plain_kernel.specs.Maps.{TakesSignal, TakesWhere};
 
 use proc_state::process::Process;
 use std::collections::BTreeMap;
 use sys_calls::signals::{can_take, take_signal};
+use t32_base::letter::Body;
 use t32_base::streams::NoMemory;
+
+/// Whether what a letter says is a signal. Takes no memory.
+pub fn carries_signal(body: &Body) -> bool
+    ensures { result ≡ carries_signal_in body.now }
+{
+    match body {
+        Body::Signal(_) => true,
+        Body::Said(_) | Body::EndOf => false,
+    }
+}
 
 /// The process with a pid takes the first signal that waits for it, where it is there and can take one, and the answer
 /// is whether it did. After want of memory nothing is changed.
