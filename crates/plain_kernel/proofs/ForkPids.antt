@@ -1,21 +1,19 @@
 -- The pids of a kernel after a fork: the child's is put in its place, and each process has the one under which it stands.
-use Rattle.std.proofs.Common.{◌≡◌, ℕ, refl, sym, ap, subst, ◌∙◌, Bool, true, false, ◌||◌, cond, List, [], ◌∷◌, map, Option, Some, None}
+use Rattle.std.proofs.Common.{◌≡◌, refl, sym, ap, subst, ◌∙◌, Bool, true, false, ◌||◌, List, [], ◌∷◌, map, Some}
 use Rattle.std.specs.declared.cmp.Ordering.{Ordering}
 use Rattle.std.specs.declared.cmp.Ordering.TheVariants.{Less, Equal, Greater}
-use Rattle.std.specs.Ordering.{is_eq}
 use Rattle.std.specs.List.{list_any}
 use Rattle.std.specs.Prelude.{option_map}
 use Rattle.std.specs.FinMap.{put}
 use Rattle.std.specs.FinMap.Entries.{by_order, is_sorted-put}
 use Rattle.t32_base.specs.declared.process.Pid.{Pid}
-use Rattle.t32_base.specs.Small.{SmallState}
 use Rattle.proc_state.specs.State.{ProcState}
 use Rattle.sys_calls.specs.Fork.{fork_child, fork_parent}
-use Rattle.plain_kernel.specs.Kernel.{Kernel, pid_cmp, process_at, with_process}
+use Rattle.plain_kernel.specs.Kernel.{Kernel, pid_cmp, with_process}
 use Rattle.plain_kernel.specs.Apply.{fork_step}
 use Rattle.plain_kernel.proofs.Laws.{pid_cmp_total}
-use Rattle.plain_kernel.proofs.Pids.{HasOwnPids, HasPids, IsRising, pids_in, put_own, put_process, tied_pids}
-use Rattle.plain_kernel.proofs.Forking.{ForkMade, fork_made}
+use Rattle.plain_kernel.proofs.Pids.{HasOwnPids, HasPids, IsRising, pids_in, put_own, put_process}
+use Rattle.plain_kernel.proofs.Forking.{fork_made}
 
 -- ---- the pids
 

@@ -14,7 +14,7 @@ use Rattle.t32_base.specs.declared.process.Pid.{Pid}
 use Rattle.t32_base.specs.Small.{SmallState}
 use Rattle.proc_state.specs.declared.process.Process.{Process}
 use Rattle.t32_base.specs.declared.streams.NoMemory.{NoMemory}
-use Rattle.proc_state.specs.State.{ProcState, SameRest, state_of}
+use Rattle.proc_state.specs.State.{ProcState, SameRest, can_take, state_of}
 use Rattle.sys_calls.specs.Calls.{Next, Silent, Blocked, Forks, Emits, Over}
 use Rattle.sys_calls.specs.Next.{is_fork, next_step}
 use Rattle.sys_calls.specs.Small.{weight_with_children}
@@ -26,12 +26,13 @@ use Rattle.plain_kernel.specs.declared.item.Item.TheVariants.{Fork}
 use Rattle.plain_kernel.specs.Answers.{Applies, fork_answer}
 use Rattle.plain_kernel.specs.Apply.{after_fork, fork_step}
 use Rattle.plain_kernel.specs.Still.{higher, next_child}
-use Rattle.plain_kernel.specs.Maps.{at_key, forks_at, higher_key, kernel_of, load, pid_of, processes_of, total_load, Changes, ChangesSmall, ForksAt, PidsFit, Restores, SameBut, Splits, SplitsAt}
+use Rattle.plain_kernel.specs.Maps.{at_key, forks_at, higher_key, kernel_of, load, pid_of, processes_of, total_load, Changes, ChangesSmall, ForksAt, NoneTakes, PidsFit, Restores, SameBut, Splits, SplitsAt}
 use Rattle.plain_kernel.proofs.Entries.{keys, insert_seen, lookup_find, lookup_state, one_of_sum, same_keys, still_there, changed_back, load_after, ordered_after, others_stay, put_after, state_before}
 use Rattle.plain_kernel.proofs.Delivery.{there_small, undone}
 use Rattle.plain_kernel.proofs.Forking.{fork_makes}
 use Rattle.plain_kernel.proofs.Roots.{insert_put}
 use Rattle.plain_kernel.proofs.NextChild.{next_child-within}
+use Rattle.plain_kernel.proofs.Takers.{none_changed, none_empty, takes_there}
 use Rattle.plain_kernel.proofs.Turns.{no_steps}
 
 -- ---- a process that forks next
@@ -187,6 +188,23 @@ module _ (ps qs : List (ℕ × Process)) (pid : ℕ) (child : Pid) (forks : fork
   there_after_fork q =
       ap (lookup (at_key q)) (f.entries ∙ insert_put child.0 f.made f.between) ∙ lookup_find q (put nat_cmp child.0 f.made f.between)
       ∙ find-put nat_cmp nat_cmp_total q child.0 f.made f.between ∙ ap (cond (at_key q child.0) (Some f.made)) (sym (lookup_find q f.between))
+
+  -- and lets no process take a signal: the child's mailbox is empty
+  pub fork_none : NoneTakes ps → NoneTakes qs
+  fork_none none q = ap (λ o. option_map_or taking o false) (there_after_fork q) ∙ by_key (at_key q child.0)
+    where
+      taking : Process → Bool
+      taking p = can_take (state_of p)
+
+      s : Splits ps f.between pid child f.made
+      s = f.splits
+
+      before : can_take (state_of s.was) ≡ false
+      before = sym (takes_there ps pid s.was (s.changes).found) ∙ none pid
+
+      by_key : (b : Bool) → option_map_or taking (cond b (Some f.made) (lookup (at_key q) f.between)) false ≡ false
+      by_key true = none_empty (state_of f.made) (ap (λ (t : ProcState). t.mail) s.born)
+      by_key false = none_changed ps f.between pid s.was s.now s.changes none (ap can_take s.parent ∙ before) q
 
   -- every other is as it was
   pub fork_others : SameBut (λ q. at_key pid q || at_key child.0 q) ps qs

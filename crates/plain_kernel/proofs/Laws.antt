@@ -12,11 +12,11 @@ use Rattle.proc_state.specs.State.{ProcState}
 use Rattle.sys_calls.specs.Calls.{Next, Silent, Blocked, Forks, Emits, Over}
 use Rattle.sys_calls.specs.Next.{is_fork, next_step, silent_of, silently}
 use Rattle.plain_kernel.specs.Kernel.{Kernel, pid_cmp, process_at, with_process}
-use Rattle.plain_kernel.specs.Apply.{after_step, fork_step, one_step, steps, apply, apply_all}
+use Rattle.plain_kernel.specs.Apply.{after_step, fork_step, one_step, steps, take_step, apply, apply_all}
 use Rattle.plain_kernel.specs.declared.item.Item.{Item}
 use Rattle.plain_kernel.specs.declared.item.Item.TheVariants.{Run}
 use Rattle.std.proofs.lemmas.List.{take_more}
-use Rattle.plain_kernel.specs.Still.{default_item, default_step, default_after, item_of_step, lowest, next_child}
+use Rattle.plain_kernel.specs.Still.{default_item, default_step, default_after, item_of_step, lowest, lowest_taker, next_child}
 use Rattle.plain_kernel.proofs.Entries.{some_same}
 
 pub pid_cmp_total : IsTotalOrder pid_cmp
@@ -88,10 +88,10 @@ pub default_one : (k j : Kernel) → default_step k ≡ Some j → default_after
 unfolding default_after
 default_one k j e = e
 
--- the next step of the process that has the turn is one item, and so is its fork
-pub default_steps : (k : Kernel) (p : Pid) (t : ProcState) → lowest k ≡ Some (p, t) → is_fork (next_step t) ≡ false → default_step k ≡ one_step p k
+-- where no process can take a signal, the next step of the process that has the turn is one item, and so is its fork
+pub default_steps : (k : Kernel) (p : Pid) (t : ProcState) → lowest_taker k ≡ None → lowest k ≡ Some (p, t) → is_fork (next_step t) ≡ false → default_step k ≡ one_step p k
 unfolding default_step default_item
-default_steps k p t e other = rw e (ap (apply k) (is_run (next_step t) other) ∙ steps_one p k)
+default_steps k p t none e other = rw (none, e) (ap (apply k) (is_run (next_step t) other) ∙ steps_one p k)
   where
     is_run : (next : Next) → is_fork next ≡ false → item_of_step k p next ≡ Run p 1
     is_run (Silent s) none = refl
@@ -100,9 +100,19 @@ default_steps k p t e other = rw e (ap (apply k) (is_run (next_step t) other) �
     is_run (Emits what s) none = refl
     is_run Over none = refl
 
-pub default_forks : (k : Kernel) (p : Pid) (t : ProcState) → lowest k ≡ Some (p, t) → next_step t ≡ Forks → default_step k ≡ fork_step p (next_child k p) k
+pub default_forks : (k : Kernel) (p : Pid) (t : ProcState) → lowest_taker k ≡ None → lowest k ≡ Some (p, t) → next_step t ≡ Forks → default_step k ≡ fork_step p (next_child k p) k
 unfolding default_step default_item
-default_forks k p t e is = rw e (ap (λ next. apply k (item_of_step k p next)) is)
+default_forks k p t none e is = rw (none, e) (ap (λ next. apply k (item_of_step k p next)) is)
+
+-- a process that can take a signal takes it first
+pub default_takes : (k : Kernel) (p : Pid) (t : ProcState) → lowest_taker k ≡ Some (p, t) → default_step k ≡ take_step p k
+unfolding default_step default_item
+default_takes k p t e = rw e refl
+
+-- where none can and none has a step there is no item
+pub default_over : (k : Kernel) → lowest_taker k ≡ None → lowest k ≡ None → default_item k ≡ None
+unfolding default_item
+default_over k none e = rw (none, e) refl
 
 pub default_none : (k : Kernel) → default_after 0 k ≡ Some k
 unfolding default_after

@@ -9,6 +9,10 @@ pub mod Roots
 mod StartPages
 pub mod Starts
 mod Falling
+mod First
+mod Takers
+mod Emitting
+mod Unsignalled
 mod Ready
 mod Turns
 pub mod Others

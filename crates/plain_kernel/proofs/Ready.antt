@@ -14,7 +14,8 @@ use Rattle.sys_calls.specs.Next.{has_step, next_step}
 use Rattle.plain_kernel.specs.Maps.{at_key, lowest_of, Covers, IsFirst, IsTurn, RunsAt, SameBut}
 use Rattle.plain_kernel.specs.Candidates.{HasOneMore}
 use Rattle.plain_kernel.proofs.Entries.{found_after, others_stay, tied}
-use Rattle.plain_kernel.proofs.Turns.{has_turn, found_at, first_able}
+use Rattle.plain_kernel.proofs.First.{found_at, first_able}
+use Rattle.plain_kernel.proofs.Turns.{has_turn}
 
 abbrev keys : {X : Type 0} → List (ℕ × X) → List ℕ
 keys es = map (λ e. e.0) es
@@ -38,7 +39,7 @@ covers_but touched old new ready same listed covers = λ q p found steps. by_tes
     by_test q p found steps true is = listed q is
     by_test q p found steps false is = covers q p (sym (same q is) ∙ found) steps
 
-covers_one : (pid : ℕ) (old new : List (ℕ × Process)) (ready : List ℕ) → SameBut (at_key pid) old new → list_any (at_key pid) ready ≡ true → Covers old ready → Covers new ready
+pub covers_one : (pid : ℕ) (old new : List (ℕ × Process)) (ready : List ℕ) → SameBut (at_key pid) old new → list_any (at_key pid) ready ≡ true → Covers old ready → Covers new ready
 covers_one pid old new ready same listed = covers_but (at_key pid) old new ready same (λ q is. listed_at pid q ready is listed)
 
 covers_two : (pid to : ℕ) (old new : List (ℕ × Process)) (ready : List ℕ) → SameBut (λ q. at_key pid q || at_key to q) old new → list_any (at_key pid) ready ≡ true → list_any (at_key to) ready ≡ true → Covers old ready → Covers new ready

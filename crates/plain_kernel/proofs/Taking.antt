@@ -1,5 +1,5 @@
 -- A take that was made: the process is there and can take, and no other changed.
-use Rattle.std.proofs.Common.{◌≡◌, ℕ, refl, sym, ◌∙◌, ap, Bool, true, false, cond, Option, Some, None, option_and_then}
+use Rattle.std.proofs.Common.{◌≡◌, refl, sym, ◌∙◌, ap, Bool, true, false, cond, Option, Some, None, option_and_then}
 use Rattle.t32_base.specs.declared.process.Pid.{Pid}
 use Rattle.proc_state.specs.State.{ProcState, can_take}
 use Rattle.sys_calls.specs.Take.{taken}

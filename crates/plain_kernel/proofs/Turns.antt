@@ -1,16 +1,17 @@
 -- The process that has the turn in the default schedule.
 use Rattle.std.proofs.Common.{◌≡◌, ℕ, zero, suc, ◌+◌, ◌*◌, ◌<◌, ◌≤◌, Bool, true, false, cond, not, ◌||◌, eqb, List, [], ◌∷◌, map, find, length, refl, sym, ap, ◌∙◌, subst, arith, Option, Some, None, Result, Ok, Err, inl, inr, is_some, option_map, option_and_then}
 use Rattle.std.specs.Ordering.{nat_cmp}
-use Rattle.std.specs.declared.cmp.Ordering.TheVariants.{Less, Equal}
-use Rattle.std.specs.List.{AllByRecursion, list_any}
+use Rattle.std.specs.declared.cmp.Ordering.TheVariants.{Equal}
+use Rattle.std.specs.List.{list_any}
 use Rattle.std.specs.List.Sorted.{IsStrictlySortedBy}
 use Rattle.std.specs.Map.{lookup, set_value}
 use Rattle.std.specs.FinMap.{put}
 use Rattle.t32_base.specs.declared.process.Pid.{Pid}
 use Rattle.proc_state.specs.declared.process.Process.{Process}
-use Rattle.proc_state.specs.State.{ProcState, state_of}
+use Rattle.proc_state.specs.State.{ProcState, can_take, state_of}
 use Rattle.sys_calls.specs.Calls.{Next, Silent, Blocked, Forks, Emits, Over}
 use Rattle.sys_calls.specs.Next.{next_step, has_step, is_fork, silently}
+use Rattle.sys_calls.specs.Steps.{StaysUntaken}
 use Rattle.plain_kernel.specs.Kernel.{Kernel, pid_cmp, with_process}
 use Rattle.plain_kernel.specs.declared.item.Item.{Item}
 use Rattle.plain_kernel.specs.declared.item.Item.TheVariants.{Run}
@@ -19,33 +20,17 @@ use Rattle.plain_kernel.specs.declared.item.NotApplied.TheVariants.{Disabled, No
 use Rattle.plain_kernel.specs.Answers.{Applies, StopsAt, runs_pid}
 use Rattle.std.proofs.lemmas.Bool.Decides.{nat_tests}
 use Rattle.plain_kernel.specs.Apply.{after_step, fork_step, one_step, steps, apply}
-use Rattle.plain_kernel.specs.Still.{can_act, lowest, item_of_step, next_child, default_item, default_step, default_after, Reaches}
-use Rattle.plain_kernel.specs.Maps.{at_key, pid_of, processes_of, kernel_of, total_load, Changes, RunsAt, Advances, lowest_of, IsTurn, RunsSteps, Turns}
-use Rattle.plain_kernel.proofs.Entries.{some_same, tied, later_no_key, later_above, lookup_state, put_state, written_same, found_after, put_after, load_after}
-use Rattle.plain_kernel.proofs.Laws.{steps_joined, steps_more, steps_stuck, one_silent, silent_steps, last_silent, no_silent, default_joined, default_one, default_none, default_steps, default_forks}
+use Rattle.plain_kernel.specs.Still.{can_act, lowest, lowest_taker, next_child, default_item, default_step, default_after, Reaches}
+use Rattle.plain_kernel.specs.Maps.{at_key, pid_of, processes_of, kernel_of, total_load, Changes, RunsAt, Advances, lowest_of, IsTurn, NoneTakes, NoneTakesBut, RunsSteps, TookAt, Turns}
+use Rattle.plain_kernel.proofs.Entries.{some_same, tied, later_no_key, later_above, lookup_state, ordered_after, put_state, written_same, found_after, put_after, load_after}
+use Rattle.plain_kernel.proofs.First.{first_states, found_above, found_at, none_put}
+use Rattle.plain_kernel.proofs.Takers.{no_taker, none_ran, only_taker, take_load, take_made_at, takes_there}
+use Rattle.plain_kernel.proofs.Laws.{steps_joined, steps_more, steps_stuck, one_silent, silent_steps, last_silent, no_silent, default_joined, default_one, default_none, default_over, default_steps, default_forks, default_takes}
 
 abbrev keys : {X : Type 0} → List (ℕ × X) → List ℕ
 keys es = map (λ e. e.0) es
 
 -- ---- the first of the entries in order that passes a test
-
-found_above : {X : Type 0} → (p : ℕ × X → Bool) (x : ℕ) (es : List (ℕ × X)) (e : ℕ × X) → AllByRecursion (λ y. nat_cmp x y ≡ Less) (keys es) → find p es ≡ Some e → nat_cmp x e.0 ≡ Less
-found_above p x [] e a f = cc
-found_above p x (y ∷ es) e a f = by_test (p y) f (λ later. found_above p x es e a.1 later)
-  where
-    by_test : (b : Bool) → cond b (Some y) (find p es) ≡ Some e → (find p es ≡ Some e → nat_cmp x e.0 ≡ Less) → nat_cmp x e.0 ≡ Less
-    by_test true f ih = let same : y ≡ e = some_same y e f in ap (λ z. nat_cmp x z.0) (sym same) ∙ a.0
-    by_test false f ih = ih f
-
--- it is the one at its key
-pub found_at : {X : Type 0} → (p : ℕ × X → Bool) (es : List (ℕ × X)) (e : ℕ × X) → IsStrictlySortedBy nat_cmp (keys es) → find p es ≡ Some e → lookup (at_key e.0) es ≡ Some e.1
-unfolding IsStrictlySortedBy
-found_at p [] e s f = cc
-found_at p (x ∷ es) e s f = by_test (p x) f (λ later. found_at p es e s.1 later)
-  where
-    by_test : (b : Bool) → cond b (Some x) (find p es) ≡ Some e → (find p es ≡ Some e → lookup (at_key e.0) es ≡ Some e.1) → cond (at_key e.0 x.0) (Some x.1) (lookup (at_key e.0) es) ≡ Some e.1
-    by_test true f ih = let same : x ≡ e = some_same x e f in subst (λ z. cond (at_key z.0 x.0) (Some x.1) (lookup (at_key z.0) es) ≡ Some z.1) same (rw (tied x.0) refl)
-    by_test false f ih = rw (later_no_key x.0 e.0 (found_above p x.0 es e s.0 f)) (ih f)
 
 -- another value at its key that passes is the first too
 found_stays : {X : Type 0} → (p : ℕ × X → Bool) (k : ℕ) (v w : X) (es : List (ℕ × X)) → IsStrictlySortedBy nat_cmp (keys es) → find p es ≡ Some (k, v) → p (k, w) ≡ true → find p (set_value (at_key k) es w) ≡ Some (k, w)
@@ -59,24 +44,18 @@ found_stays p k v w (x ∷ es) s f h = by_test (p x) refl f (λ later. found_sta
 
 -- the same of the states, of which any may be put
 lowest_put : (k : ℕ) (v : Process) (t : ProcState) (es : List (ℕ × Process)) → IsStrictlySortedBy nat_cmp (keys es) → lowest_of es ≡ Some (k, v) → has_step (next_step t) ≡ true
-    → find can_act (put pid_cmp (pid_of k) t (processes_of es)) ≡ Some (pid_of k, t)
+    → find (λ (e : Pid × ProcState). has_step (next_step e.1)) (put pid_cmp (pid_of k) t (processes_of es)) ≡ Some (pid_of k, t)
 unfolding IsStrictlySortedBy
 lowest_put k v t [] s f h = cc
 lowest_put k v t (x ∷ es) s f h = by_test (has_step (next_step (state_of x.1))) refl f (λ later. lowest_put k v t es s.1 later h)
   where
-    by_test : (b : Bool) → has_step (next_step (state_of x.1)) ≡ b → cond b (Some x) (lowest_of es) ≡ Some (k, v) → (lowest_of es ≡ Some (k, v) → find can_act (put pid_cmp (pid_of k) t (processes_of es)) ≡ Some (pid_of k, t))
-        → find can_act (put pid_cmp (pid_of k) t (processes_of (x ∷ es))) ≡ Some (pid_of k, t)
+    by_test : (b : Bool) → has_step (next_step (state_of x.1)) ≡ b → cond b (Some x) (lowest_of es) ≡ Some (k, v) → (lowest_of es ≡ Some (k, v) → find (λ (e : Pid × ProcState). has_step (next_step e.1)) (put pid_cmp (pid_of k) t (processes_of es)) ≡ Some (pid_of k, t))
+        → find (λ (e : Pid × ProcState). has_step (next_step e.1)) (put pid_cmp (pid_of k) t (processes_of (x ∷ es))) ≡ Some (pid_of k, t)
     by_test true is f ih =
         let same : x.0 ≡ k = ap (λ (z : ℕ × Process). z.0) (some_same x (k, v) f) in
         let here : nat_cmp k x.0 ≡ Equal = ap (nat_cmp k) same ∙ tied k in
         rw here (rw h (ap (λ n. Some (pid_of n, t)) same))
     by_test false is f ih = rw (later_above x.0 k (found_above _ x.0 es (k, v) s.0 f)) (rw is (ih f))
-
--- the first of the entries is the first of the states
-lowest_states : (es : List (ℕ × Process)) → find can_act (processes_of es) ≡ option_map (λ (e : ℕ × Process). (pid_of e.0, state_of e.1)) (lowest_of es)
-lowest_states [] = refl
-lowest_states (x ∷ es) = elim (has_step (next_step (state_of x.1))) as (λ b. cond b (Some (pid_of x.0, state_of x.1)) (find can_act (processes_of es)) ≡ option_map (λ (e : ℕ × Process). (pid_of e.0, state_of e.1)) (cond b (Some x) (lowest_of es)))
-    [ true ↦ refl | false ↦ lowest_states es ]
 
 -- ---- the process that has the turn
 
@@ -91,21 +70,12 @@ has_turn pid es e = by_case (lowest_of es) refl e
     by_case None is f = cc
     by_case (Some x) is f = record { process = x.1; first = is ∙ ap (λ n. Some (n, x.1)) (sym (some_same pid x.0 f)) }
 
-pub first_able : {X : Type 0} → (p : X → Bool) (es : List X) (e : X) → find p es ≡ Some e → p e ≡ true
-first_able p [] e f = cc
-first_able p (x ∷ es) e f = by_test (p x) refl f (λ later. first_able p es e later)
+-- where nothing has a step and none can take a signal the default schedule is over
+pub over : (es : List (ℕ × Process)) (ts : List (ℕ × List ℕ)) → IsStrictlySortedBy nat_cmp (keys es) → NoneTakes es → IsTurn None es → default_item (kernel_of es ts) ≡ None
+over es ts ordered none e = by_case (lowest_of es) refl e
   where
-    by_test : (b : Bool) → p x ≡ b → cond b (Some x) (find p es) ≡ Some e → (find p es ≡ Some e → p e ≡ true) → p e ≡ true
-    by_test true is f ih = ap p (sym (some_same x e f)) ∙ is
-    by_test false is f ih = ih f
-
--- where nothing has a step the default schedule is over
-pub over : (es : List (ℕ × Process)) (ts : List (ℕ × List ℕ)) → IsTurn None es → default_item (kernel_of es ts) ≡ None
-unfolding default_item
-over es ts e = by_case (lowest_of es) refl e
-  where
-    by_case : (o : Option (ℕ × Process)) → lowest_of es ≡ o → None ≡ option_map (λ (e : ℕ × Process). e.0) o → option_map (λ (e : Pid × ProcState). item_of_step (kernel_of es ts) e.0 (next_step e.1)) (find can_act (processes_of es)) ≡ None
-    by_case None is f = rw (lowest_states es, is) refl
+    by_case : (o : Option (ℕ × Process)) → lowest_of es ≡ o → None ≡ option_map (λ (e : ℕ × Process). e.0) o → default_item (kernel_of es ts) ≡ None
+    by_case None is f = default_over (kernel_of es ts) (no_taker es ts ordered none) (first_states (λ s. has_step (next_step s)) es ∙ ap (option_map (λ (e : ℕ × Process). (pid_of e.0, state_of e.1))) is)
     by_case (Some x) is f = cc
 
 -- ---- a process that made a step, or is stuck
@@ -131,25 +101,28 @@ same_kernel : (es : List (ℕ × Process)) (ts : List (ℕ × List ℕ)) (pid : 
 same_kernel es ts pid v s found =
     ap (λ ps. record { processes = ps; ttys = ts }) (sym (put_state pid v es s (ap is_some found)) ∙ ap processes_of (written_same (at_key pid) es v found))
 
-default_silent : (n pid : ℕ) (v : Process) (es : List (ℕ × Process)) (ts : List (ℕ × List ℕ)) (t : ProcState) → IsStrictlySortedBy nat_cmp (keys es) → lowest_of es ≡ Some (pid, v) → silently n (state_of v) ≡ Some t
+-- so long as it can take no signal between them
+default_silent : (n pid : ℕ) (v : Process) (es : List (ℕ × Process)) (ts : List (ℕ × List ℕ)) (t : ProcState) → IsStrictlySortedBy nat_cmp (keys es) → lowest_taker (kernel_of es ts) ≡ None
+    → ((m : ℕ) (q : ProcState) → m ≤ n → silently m (state_of v) ≡ Some q → can_take q ≡ false) → lowest_of es ≡ Some (pid, v) → silently n (state_of v) ≡ Some t
     → default_after n (kernel_of es ts) ≡ Some (with_process (kernel_of es ts) (pid_of pid) t)
 unfolding default_after
-default_silent zero pid v es ts t s first e =
+default_silent zero pid v es ts t s none free first e =
     ap Some (sym (same_kernel es ts pid v s (found_at _ es (pid, v) s first))) ∙ ap (λ q. Some (with_process (kernel_of es ts) (pid_of pid) q)) (no_silent (state_of v) t e)
-default_silent (suc n) pid v es ts t s first e =
+default_silent (suc n) pid v es ts t s none free first e =
     let last = last_silent n (state_of v) t e in
-    ap (option_and_then default_step) (default_silent n pid v es ts last.before s first last.made)
-    ∙ default_steps (with_process (kernel_of es ts) (pid_of pid) last.before) (pid_of pid) last.before (lowest_put pid v last.before es s first (ap has_step last.last)) (ap is_fork last.last)
+    ap (option_and_then default_step) (default_silent n pid v es ts last.before s none (λ m q within made. free m q (omega (arith, within)) made) first last.made)
+    ∙ default_steps (with_process (kernel_of es ts) (pid_of pid) last.before) (pid_of pid) last.before (none_put can_take (pid_of pid) last.before (processes_of es) none (free n last.before (omega arith) last.made))
+    (lowest_put pid v last.before es s first (ap has_step last.last)) (ap is_fork last.last)
     ∙ one_silent (kernel_of es ts) (pid_of pid) last.before t last.last
 
 same_process : (ps qs : List (ℕ × Process)) (pid : ℕ) (was now : Process) (h : HasTurn pid ps) → Changes ps qs pid was now → h.process ≡ was
 same_process ps qs pid was now h c = some_same _ _ (sym (found_at _ ps (pid, h.process) c.ordered h.first) ∙ c.found)
 
-ran : (ps qs : List (ℕ × Process)) (ts : List (ℕ × List ℕ)) (pid n : ℕ) → IsTurn (Some pid) ps → RunsAt ps qs pid n → default_after n (kernel_of ps ts) ≡ Some (kernel_of qs ts)
-ran ps qs ts pid n turn r =
+ran : (ps qs : List (ℕ × Process)) (ts : List (ℕ × List ℕ)) (pid n : ℕ) → IsTurn (Some pid) ps → NoneTakes ps → (r : RunsAt ps qs pid n) → StaysUntaken n (state_of r.was) → default_after n (kernel_of ps ts) ≡ Some (kernel_of qs ts)
+ran ps qs ts pid n turn none r free =
     let h = has_turn pid ps turn in
-    let same = same_process ps qs pid r.was r.now h r.changes in
-    default_silent n pid h.process ps ts (state_of r.now) (r.changes).ordered h.first (ap (λ (p : Process). silently n (state_of p)) same ∙ r.silent)
+    let first : lowest_of ps ≡ Some (pid, r.was) = h.first ∙ ap (λ p. Some (pid, p)) (same_process ps qs pid r.was r.now h r.changes) in
+    default_silent n pid r.was ps ts (state_of r.now) (r.changes).ordered (no_taker ps ts (r.changes).ordered none) (free (sym (takes_there ps pid r.was (r.changes).found) ∙ none pid)) first r.silent
     ∙ ap (λ l. Some (record { processes = l; ttys = ts })) (sym (put_after ps qs pid r.was r.now r.changes))
 
 -- where it still has a step it has the turn
@@ -167,42 +140,57 @@ able ps qs rs ts us pid n r a = had_step _ _ (pid_of pid) _ (sym (next_of ps qs 
 
 -- the kernel in which it has the turn still
 lowest_stays : (ps qs : List (ℕ × Process)) (ts : List (ℕ × List ℕ)) (pid n : ℕ) → IsTurn (Some pid) ps → (r : RunsAt ps qs pid n) → has_step (next_step (state_of r.now)) ≡ true → lowest (kernel_of qs ts) ≡ Some (pid_of pid, state_of r.now)
-lowest_stays ps qs ts pid n turn r steps = lowest_states qs ∙ ap (option_map (λ (e : ℕ × Process). (pid_of e.0, state_of e.1))) (keeps_turn ps qs pid r.was r.now turn r.changes steps)
+lowest_stays ps qs ts pid n turn r steps = first_states (λ s. has_step (next_step s)) qs ∙ ap (option_map (λ (e : ℕ × Process). (pid_of e.0, state_of e.1))) (keeps_turn ps qs pid r.was r.now turn r.changes steps)
 
-advanced : (ps qs rs : List (ℕ × Process)) (ts us : List (ℕ × List ℕ)) (pid n : ℕ) → IsTurn (Some pid) ps → RunsAt ps qs pid n → Advances pid qs rs ts us → default_after (n + 1) (kernel_of ps ts) ≡ Some (kernel_of rs us)
-advanced ps qs rs ts us pid n turn r a =
+-- after its silent steps no process can take a signal
+none_after : (ps qs : List (ℕ × Process)) (ts : List (ℕ × List ℕ)) (pid n : ℕ) → NoneTakes ps → (r : RunsAt ps qs pid n) → StaysUntaken n (state_of r.was) → lowest_taker (kernel_of qs ts) ≡ None
+none_after ps qs ts pid n none r free = no_taker qs ts (ordered_after ps qs pid r.was r.now r.changes) (none_ran ps qs pid n r free none)
+
+advanced : (ps qs rs : List (ℕ × Process)) (ts us : List (ℕ × List ℕ)) (pid n : ℕ) → IsTurn (Some pid) ps → NoneTakes ps → (r : RunsAt ps qs pid n) → StaysUntaken n (state_of r.was) → Advances pid qs rs ts us → default_after (n + 1) (kernel_of ps ts) ≡ Some (kernel_of rs us)
+advanced ps qs rs ts us pid n turn none r free a =
     let lowest_is = lowest_stays ps qs ts pid n turn r (able ps qs rs ts us pid n r a) in
     let other : is_fork (next_step (state_of r.now)) ≡ false = not_forked _ _ (pid_of pid) _ (sym (next_of ps qs ts pid r.was r.now r.changes) ∙ a.one) in
-    default_joined n 1 _ _ _ (ran ps qs ts pid n turn r) (default_one _ _ (default_steps (kernel_of qs ts) (pid_of pid) (state_of r.now) lowest_is other ∙ a.one))
+    default_joined n 1 _ _ _ (ran ps qs ts pid n turn none r free) (default_one _ _ (default_steps (kernel_of qs ts) (pid_of pid) (state_of r.now) (none_after ps qs ts pid n none r free) lowest_is other ∙ a.one))
 
 -- a fork is an item too, whose child is the next
-forked_on : (ps qs rs : List (ℕ × Process)) (ts : List (ℕ × List ℕ)) (pid n : ℕ) → IsTurn (Some pid) ps → (r : RunsAt ps qs pid n) → next_step (state_of r.now) ≡ Forks
+forked_on : (ps qs rs : List (ℕ × Process)) (ts : List (ℕ × List ℕ)) (pid n : ℕ) → IsTurn (Some pid) ps → NoneTakes ps → (r : RunsAt ps qs pid n) → StaysUntaken n (state_of r.was) → next_step (state_of r.now) ≡ Forks
     → fork_step (pid_of pid) (next_child (kernel_of qs ts) (pid_of pid)) (kernel_of qs ts) ≡ Some (kernel_of rs ts) → default_after (n + 1) (kernel_of ps ts) ≡ Some (kernel_of rs ts)
-forked_on ps qs rs ts pid n turn r is forks =
+forked_on ps qs rs ts pid n turn none r free is forks =
     let lowest_is = lowest_stays ps qs ts pid n turn r (ap has_step is) in
-    default_joined n 1 _ _ _ (ran ps qs ts pid n turn r) (default_one _ _ (default_forks (kernel_of qs ts) (pid_of pid) (state_of r.now) lowest_is is ∙ forks))
+    default_joined n 1 _ _ _ (ran ps qs ts pid n turn none r free) (default_one _ _ (default_forks (kernel_of qs ts) (pid_of pid) (state_of r.now) (none_after ps qs ts pid n none r free) lowest_is is ∙ forks))
 
 pub less : (ps qs : List (ℕ × Process)) (pid n : ℕ) → RunsAt ps qs pid n → total_load qs + 2 * n ≤ total_load ps
 less ps qs pid n r = omega (arith, load_after ps qs pid r.was r.now r.changes, r.lighter)
 
 -- a step was made
-pub turns : (ps qs rs : List (ℕ × Process)) (ts us : List (ℕ × List ℕ)) (ready left : List ℕ) (pid n : ℕ) → IsTurn (Some pid) ps → RunsAt ps qs pid n → Advances pid qs rs ts us → length left ≤ length ready + 1 → Turns ps rs ts us ready left
-turns ps qs rs ts us ready left pid n turn r a one_more = record {
+pub turns : (ps qs rs : List (ℕ × Process)) (ts us : List (ℕ × List ℕ)) (ready left : List ℕ) (pid n : ℕ) → IsTurn (Some pid) ps → NoneTakes ps → (r : RunsAt ps qs pid n) → StaysUntaken n (state_of r.was) → Advances pid qs rs ts us → length left ≤ length ready + 1 → Turns ps rs ts us ready left
+turns ps qs rs ts us ready left pid n turn none r free a one_more = record {
   items = n + 1;
-  made = advanced ps qs rs ts us pid n turn r a;
+  made = advanced ps qs rs ts us pid n turn none r free a;
   lighter = omega (arith, less ps qs pid n r, a.lighter);
   less = omega (arith, less ps qs pid n r, a.lighter, one_more);
 }
 
 -- a fork was made
-pub turns_forked : (ps qs rs : List (ℕ × Process)) (ts : List (ℕ × List ℕ)) (ready left : List ℕ) (pid n : ℕ) → IsTurn (Some pid) ps → (r : RunsAt ps qs pid n) → next_step (state_of r.now) ≡ Forks
+pub turns_forked : (ps qs rs : List (ℕ × Process)) (ts : List (ℕ × List ℕ)) (ready left : List ℕ) (pid n : ℕ) → IsTurn (Some pid) ps → NoneTakes ps → (r : RunsAt ps qs pid n) → StaysUntaken n (state_of r.was) → next_step (state_of r.now) ≡ Forks
     → fork_step (pid_of pid) (next_child (kernel_of qs ts) (pid_of pid)) (kernel_of qs ts) ≡ Some (kernel_of rs ts) → total_load rs + 4 ≤ total_load qs → length left ≤ length ready + 1 → Turns ps rs ts ts ready left
-turns_forked ps qs rs ts ready left pid n turn r is forks lighter one_more = record {
+turns_forked ps qs rs ts ready left pid n turn none r free is forks lighter one_more = record {
   items = n + 1;
-  made = forked_on ps qs rs ts pid n turn r is forks;
+  made = forked_on ps qs rs ts pid n turn none r free is forks;
   lighter = omega (arith, less ps qs pid n r, lighter);
   less = omega (arith, less ps qs pid n r, lighter, one_more);
 }
+
+-- and then the only process that can took a signal
+pub turns_taken : (ps rs fs : List (ℕ × Process)) (ts us : List (ℕ × List ℕ)) (ready left : List ℕ) (pid : ℕ) → Turns ps rs ts us ready left → TookAt rs fs pid → NoneTakesBut (at_key pid) rs → Turns ps fs ts us ready left
+turns_taken ps rs fs ts us ready left pid t took others =
+    let only = only_taker rs us pid took.was (took.changes).ordered (took.changes).found (took.took).can others in
+    record {
+      items = t.items + 1;
+      made = default_joined t.items 1 _ _ _ t.made (default_one _ _ (default_takes (kernel_of rs us) (pid_of pid) (state_of took.was) only ∙ take_made_at rs fs us pid took));
+      lighter = omega (arith, t.lighter, take_load rs fs pid took);
+      less = omega (arith, t.less, take_load rs fs pid took);
+    }
 
 -- a process that makes silent steps had a step
 able_before : (n : ℕ) (s t : ProcState) → silently n s ≡ Some t → 1 ≤ n → has_step (next_step s) ≡ true
@@ -228,8 +216,8 @@ no_turns ps ts = default_none (kernel_of ps ts)
 pub more_turns : (n m : ℕ) (k j i : Kernel) → default_after n k ≡ Some j → default_after m j ≡ Some i → default_after (n + m) k ≡ Some i
 more_turns = default_joined
 
-pub reached : (n : ℕ) (from : Kernel) (qs : List (ℕ × Process)) (us : List (ℕ × List ℕ)) → default_after n from ≡ Some (kernel_of qs us) → IsTurn None qs → Reaches from (kernel_of qs us)
-reached n from qs us made none = record { items = n; made = made; still = over qs us none }
+pub reached : (n : ℕ) (from : Kernel) (qs : List (ℕ × Process)) (us : List (ℕ × List ℕ)) → default_after n from ≡ Some (kernel_of qs us) → IsStrictlySortedBy nat_cmp (keys qs) → NoneTakes qs → IsTurn None qs → Reaches from (kernel_of qs us)
+reached n from qs us made ordered none turn = record { items = n; made = made; still = over qs us ordered none turn }
 
 -- ---- a run of one process
 
@@ -258,17 +246,17 @@ unfolding steps
 no_steps p k = refl
 
 -- a process that was stuck is taken out of those that may have a step
-pub turns_stuck : (ps qs rs : List (ℕ × Process)) (ts us : List (ℕ × List ℕ)) (ready left : List ℕ) (pid n : ℕ) → (1 ≤ n → IsTurn (Some pid) ps) → RunsAt ps qs pid n → rs ≡ qs → us ≡ ts → length left < length ready → Turns ps rs ts us ready left
-turns_stuck ps qs rs ts us ready left pid n turn r same same_ttys shorter = record {
+pub turns_stuck : (ps qs rs : List (ℕ × Process)) (ts us : List (ℕ × List ℕ)) (ready left : List ℕ) (pid n : ℕ) → (1 ≤ n → IsTurn (Some pid) ps) → NoneTakes ps → (r : RunsAt ps qs pid n) → StaysUntaken n (state_of r.was) → rs ≡ qs → us ≡ ts → length left < length ready → Turns ps rs ts us ready left
+turns_stuck ps qs rs ts us ready left pid n turn none r free same same_ttys shorter = record {
   items = n;
-  made = by_count n turn r ∙ ap (λ es. Some (kernel_of es ts)) (sym same) ∙ ap (λ t. Some (kernel_of rs t)) (sym same_ttys);
+  made = by_count n turn r free ∙ ap (λ es. Some (kernel_of es ts)) (sym same) ∙ ap (λ t. Some (kernel_of rs t)) (sym same_ttys);
   lighter = omega (arith, less ps qs pid n r, ap total_load same);
   less = omega (arith, less ps qs pid n r, ap total_load same, shorter);
 }
   where
-    by_count : (m : ℕ) → (1 ≤ m → IsTurn (Some pid) ps) → RunsAt ps qs pid m → default_after m (kernel_of ps ts) ≡ Some (kernel_of qs ts)
-    by_count zero turn r = no_turns ps ts ∙ sym (no_steps (pid_of pid) (kernel_of ps ts)) ∙ ran_steps ps qs ts pid 0 r
-    by_count (suc m) turn r = ran ps qs ts pid (suc m) (turn (omega arith)) r
+    by_count : (m : ℕ) → (1 ≤ m → IsTurn (Some pid) ps) → (r : RunsAt ps qs pid m) → StaysUntaken m (state_of r.was) → default_after m (kernel_of ps ts) ≡ Some (kernel_of qs ts)
+    by_count zero turn r free = no_turns ps ts ∙ sym (no_steps (pid_of pid) (kernel_of ps ts)) ∙ ran_steps ps qs ts pid 0 r
+    by_count (suc m) turn r free = ran ps qs ts pid (suc m) (turn (omega arith)) none r free
 
 -- one that is not there as well
 pub turns_nobody : (ps rs : List (ℕ × Process)) (ts us : List (ℕ × List ℕ)) (ready left : List ℕ) → rs ≡ ps → us ≡ ts → length left < length ready → Turns ps rs ts us ready left
@@ -281,13 +269,11 @@ turns_nobody ps rs ts us ready left same same_ttys shorter = record {
 
 -- ---- what the calls of a kernel answer
 
-pub any_able : (es : List (ℕ × Process)) → is_some (option_map (λ (e : ℕ × Process). e.0) (lowest_of es)) ≡ not (not (list_any can_act (processes_of es)))
-any_able [] = refl
-any_able (x ∷ es) =
-    elim (has_step (next_step (state_of x.1))) as (λ b. is_some (option_map (λ (e : ℕ × Process). e.0) (cond b (Some x) (lowest_of es))) ≡ not (not (b || list_any can_act (processes_of es)))) [
-      | true ↦ refl
-      | false ↦ any_able es
-    ]
+pub any_acts : (es : List (ℕ × Process)) → list_any (λ (e : ℕ × Process). has_step (next_step (state_of e.1)) || can_take (state_of e.1)) es ≡ not (not (list_any can_act (processes_of es)))
+any_acts [] = refl
+any_acts (x ∷ es) =
+    elim (has_step (next_step (state_of x.1)) || can_take (state_of x.1)) as (λ b. (b || list_any (λ (e : ℕ × Process). has_step (next_step (state_of e.1)) || can_take (state_of e.1)) es) ≡ not (not (b || list_any can_act (processes_of es))))
+    [ true ↦ refl | false ↦ any_acts es ]
 
 -- a process that is not there makes no step
 pub nobody_there : (es : List (ℕ × Process)) (ts : List (ℕ × List ℕ)) (pid : ℕ) → is_some (lookup (at_key pid) es) ≡ false → one_step (pid_of pid) (kernel_of es ts) ≡ None

@@ -1,5 +1,5 @@
 -- What the calls of the kernel answer.
-use Rattle.std.specs.Prelude.{ℕ, ◌≡◌, ◌<◌, ◌⊎◌, List, take, slice_get, Some, None, Result, Ok, Err}
+use Rattle.std.specs.Prelude.{ℕ, ◌≡◌, ◌<◌, ◌⊎◌, Bool, true, false, List, take, slice_get, Some, None, Result, Ok, Err}
 use Rattle.t32_base.specs.declared.process.Pid.{Pid}
 use Rattle.t32_base.specs.declared.streams.NoMemory.{NoMemory as RefusedMemory}
 use Rattle.sys_text.specs.declared.system.System.{System}
@@ -40,6 +40,12 @@ Applies item (Err (NoMemory done)) old new = (steps done (runs_pid item) old ≡
 abbrev pub fork_answer : Result (Unit {0}) RefusedMemory → Result (Unit {0}) NotApplied
 fork_answer (Ok all) = Ok all
 fork_answer (Err e) = Err (NoMemory 0)
+
+-- what a take comes to: the item is applied whole, or it cannot be, or memory was refused before it
+abbrev pub take_answer : Result Bool RefusedMemory → Result (Unit {0}) NotApplied
+take_answer (Ok true) = Ok tt
+take_answer (Ok false) = Err (Disabled 0)
+take_answer (Err e) = Err (NoMemory 0)
 
 -- the items before this one apply, and it does not
 pub record BadAt (system : System) (items : List Item) (index : ℕ) : Type 0 where

@@ -9,14 +9,15 @@ use Rattle.std.specs.Option.{option_map_or}
 use Rattle.t32_base.specs.declared.process.Pid.{Pid}
 use Rattle.proc_state.specs.declared.process.Process.{Process}
 use Rattle.t32_base.specs.declared.letter.Letter.{Letter}
-use Rattle.proc_state.specs.State.{ProcState, IsFresh, delivered, has_ended, state_of}
+use Rattle.proc_state.specs.State.{ProcState, IsFresh, can_take, delivered, has_ended, state_of}
 use Rattle.t32_base.specs.declared.streams.NoMemory.{NoMemory}
 use Rattle.sys_calls.specs.declared.steps.Step.{Step}
 use Rattle.sys_calls.specs.declared.steps.Step.TheVariants.{Silent, Blocked, Forks, Emit, Over}
 use Rattle.sys_calls.specs.Small.{weight_with_children}
 use Rattle.sys_calls.specs.Fork.{fork_child, fork_parent}
 use Rattle.sys_calls.specs.Next.{has_step, is_fork, next_step, silently}
-use Rattle.sys_calls.specs.Steps.{Makes, Touches}
+use Rattle.sys_calls.specs.Steps.{Makes, StaysUntaken, Touches}
+use Rattle.sys_calls.specs.Take.{taken}
 use Rattle.t32_base.specs.Small.{SmallState}
 use Rattle.plain_kernel.specs.declared.sending.Made.{Made}
 use Rattle.plain_kernel.specs.declared.sending.Made.TheVariants.{Went, Sent, Stuck}
@@ -174,6 +175,49 @@ higher_key pid highest key = if key % 16 == pid % 16 then max highest key else h
 abbrev pub PidsFit : List (ℕ × Process) → Type 0
 PidsFit es = (q : ℕ) → IsSome (lookup (at_key q) es) → q + 4 * total_load es < 2 ^ 32
 
+-- ---- signals
+
+-- the process with a pid is there, and can take a signal
+abbrev pub takes_at : List (ℕ × Process) → ℕ → Bool
+takes_at es pid = option_map_or (λ (p : Process). can_take (state_of p)) (lookup (at_key pid) es) false
+
+-- a process can take a signal, and took the first that waited for it
+pub record Took (was now : Process) : Type 0 where
+  pub can : can_take (state_of was) ≡ true
+  pub after : state_of now ≡ taken (state_of was)
+
+-- it took it; or it can take none, and is as it was; so it is after want of memory
+abbrev pub TakesWhere : Result Bool NoMemory → Process → Process → Type 0
+TakesWhere (Ok true) was now = Took was now
+TakesWhere (Ok false) was now = (can_take (state_of was) ≡ false) × (now ≡ was)
+TakesWhere (Err e) was now = now ≡ was
+
+-- the process with a pid took a signal
+pub record TookAt (old new : List (ℕ × Process)) (pid : ℕ) : Type 0 where
+  pub was : Process
+  pub now : Process
+  pub changes : Changes old new pid was now
+  pub took : Took was now
+
+-- it took it; or it is not there or can take none, and nothing is changed; nor is anything after want of memory
+abbrev pub TakesSignal : Result Bool NoMemory → List (ℕ × Process) → List (ℕ × Process) → ℕ → Type 0
+TakesSignal (Ok true) old new pid = TookAt old new pid
+TakesSignal (Ok false) old new pid = (takes_at old pid ≡ false) × (new ≡ old)
+TakesSignal (Err e) old new pid = new ≡ old
+
+-- where it was sent a signal, the process with a pid takes the first that waits, if it can
+abbrev pub TakesSent : Bool → List (ℕ × Process) → List (ℕ × Process) → ℕ → Type 0
+TakesSent true old new pid = (took : Bool) × TakesSignal (Ok took) old new pid
+TakesSent false old new pid = new ≡ old
+
+-- no process can take a signal whose pid does not pass a test
+abbrev pub NoneTakesBut : (ℕ → Bool) → List (ℕ × Process) → Type 0
+NoneTakesBut touched es = (q : ℕ) → touched q ≡ false → takes_at es q ≡ false
+
+-- no process can take a signal
+abbrev pub NoneTakes : List (ℕ × Process) → Type 0
+NoneTakes es = (q : ℕ) → takes_at es q ≡ false
+
 -- ---- turns
 
 -- the process with the lowest pid that has a step, if one has
@@ -198,11 +242,12 @@ pub record Turns (ps qs : List (ℕ × Process)) (ts us : List (ℕ × List ℕ)
   pub lighter : total_load qs ≤ total_load ps
   pub less : 2 * total_load qs + length left < 2 * total_load ps + length ready
 
--- silent steps of the process with a pid, and then its next step
+-- silent steps of the process with a pid, between which it can take no signal, and then its next step
 pub record RunsAndSteps (old new : List (ℕ × Process)) (pid : ℕ) (step : Step) : Type 0 where
   pub count : ℕ
   pub between : List (ℕ × Process)
   pub runs : RunsAt old between pid count
+  pub untaken : StaysUntaken count (state_of runs.was)
   pub steps : StepsAt between new pid (Ok step)
 
 -- so it is with the process, or it is not there

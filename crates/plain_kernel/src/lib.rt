@@ -10,4 +10,5 @@ pub mod plain;
 mod processes;
 mod running;
 pub mod sending;
+mod signals;
 pub mod start;

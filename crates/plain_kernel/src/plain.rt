@@ -5,13 +5,14 @@ ghost use Rattle.proc_state.specs.State.{state_of};
 ghost use Rattle.sys_text.specs.Valid.{is_system};
 ghost use Rattle.plain_kernel.specs.Kernel.{boot as boot_of, process_at, tty_at};
 ghost use Rattle.plain_kernel.specs.Still.{IsDefaultRun, is_still};
-ghost use Rattle.plain_kernel.specs.Answers.{Applies, Runs, fork_answer};
+ghost use Rattle.plain_kernel.specs.Answers.{Applies, Runs, fork_answer, take_answer};
 
 use crate::births::{fork_at, stands_at_fork};
 use crate::booting::{processes_of, ttys_of};
 use crate::item::{Item, NotApplied, RunRefused};
-use crate::processes::{lowest, pids_of};
+use crate::processes::{pids_of, some_can_act};
 use crate::running::{run_steps, run_to_end};
+use crate::signals::take_at;
 use proc_state::process::Process;
 use std::alloc::Global;
 use std::collections::BTreeMap;
@@ -67,7 +68,7 @@ impl Plain {
         match item {
             Item::Run(pid, most) => self.run_process(*pid, *most),
             Item::Fork(pid, child) => self.fork_process(*pid, *child),
-            Item::Take(_) => Err(NotApplied::Disabled { done: 0 }),
+            Item::Take(pid) => self.take_for(*pid),
         }
     }
 
@@ -97,11 +98,18 @@ impl Plain {
         fork_answer(fork_at(self.alloc, &mut self.processes, pid.0, child))
     }
 
-    /// Whether a process has a step. Takes no memory.
+    // A process takes the first signal that waits for it, where it is there and can take one.
+    fn take_for(&mut self, pid: Pid) -> Result<(), NotApplied>
+        ensures { Applies (Item.Take pid) result self.old self.new }
+    {
+        take_answer(take_at(&mut self.processes, pid.0))
+    }
+
+    /// Whether a process has a step or can take a signal. Takes no memory.
     pub fn can_move(&self) -> bool
         ensures { result ≡ not (is_still self.now) }
     {
-        lowest(&self.processes).is_some()
+        some_can_act(&self.processes)
     }
 
     /// Every pid, rising.
@@ -139,6 +147,17 @@ fn fork_answer(forked: Result<(), NoMemory>) -> Result<(), NotApplied>
     }
 }
 
+// A take is applied whole, or it cannot be applied, or memory was refused before it.
+fn take_answer(took: Result<bool, NoMemory>) -> Result<(), NotApplied>
+    ensures { result ≡ take_answer took }
+{
+    match took {
+        Ok(true) => Ok(()),
+        Ok(false) => Err(NotApplied::Disabled { done: 0 }),
+        Err(NoMemory) => Err(NotApplied::NoMemory { done: 0 }),
+    }
+}
+
 /// Runs a schedule from the start of a system. `BadItem { index }` comes exactly where the items before
 /// that index apply and that one does not.
 pub fn run(alloc: Global, system: &System, items: &[Item]) -> Result<Plain, RunRefused>
@@ -163,8 +182,8 @@ pub fn run(alloc: Global, system: &System, items: &[Item]) -> Result<Plain, RunR
     Ok(plain)
 }
 
-/// Runs the default schedule from the start of a system: the lowest pid that has a step makes one, until
-/// none has.
+/// Runs the default schedule from the start of a system: the lowest pid that can take a signal takes it, and
+/// where none can the lowest that has a step makes one, until none has.
 pub fn default_run(alloc: Global, system: &System) -> Result<Plain, NoMemory>
     requires { is_system system.now ≡ true }
     ensures { IfOk result (λ k. IsDefaultRun system.now k) }

@@ -1,8 +1,9 @@
 //! The processes of a kernel by pid.
-ghost use Rattle.std.specs.Prelude.{◌≡◌, ◌≤◌, IsSome, IfOk, map, option_map, find, Ok, Some};
+ghost use Rattle.std.specs.Prelude.{◌≡◌, ◌≤◌, ◌||◌, IsSome, IfOk, map, Ok, Some};
 ghost use Rattle.std.specs.BTreeMap.{get, keys};
+ghost use Rattle.std.specs.List.{list_any};
 ghost use Rattle.std.specs.Ordering.{nat_cmp};
-ghost use Rattle.proc_state.specs.State.{state_of};
+ghost use Rattle.proc_state.specs.State.{can_take as can_take_in, state_of};
 ghost use Rattle.sys_calls.specs.Next.{has_step, next_step};
 ghost use Rattle.plain_kernel.specs.Maps.{pid_of, Covers, RunsAt, RunsIfThere, StepsAt};
 
@@ -10,22 +11,23 @@ use crate::candidates::Candidates;
 use proc_state::process::Process;
 use std::alloc::Global;
 use std::collections::BTreeMap;
+use sys_calls::signals::can_take;
 use sys_calls::stepping::{can_step, run_instructions, run_on, step};
 use sys_calls::steps::Step;
 use t32_base::lists::List;
 use t32_base::process::Pid;
 use t32_base::streams::NoMemory;
 
-/// The lowest pid that has a step.
-pub fn lowest(processes: &BTreeMap<u32, Process>) -> Option<u32>
-    ensures { result ≡ option_map (λ e. e.0) (find (λ e. has_step (next_step (state_of e.1))) processes.now.entries) }
+/// Whether a process has a step or can take a signal. Takes no memory.
+pub fn some_can_act(processes: &BTreeMap<u32, Process>) -> bool
+    ensures { result ≡ list_any (λ e. has_step (next_step (state_of e.1)) || can_take_in (state_of e.1)) processes.now.entries }
 {
-    for (pid, process) in processes {
-        if can_step(process) {
-            return Some(*pid);
+    for (_, process) in processes {
+        if can_step(process) || can_take(process) {
+            return true;
         }
     }
-    None
+    false
 }
 
 /// Makes instructions of the process with a pid, at most so many.

@@ -1,8 +1,9 @@
 //! Many steps of a kernel: those of one process, and those of the default schedule.
-ghost use Rattle.std.specs.Prelude.{◌≤◌, ◌<◌, ◌^◌, IsSome, OnOk};
+ghost use Rattle.std.specs.Prelude.{◌≤◌, ◌<◌, ◌-◌, ◌^◌, IsSome, OnOk};
 ghost use Rattle.std.specs.BTreeMap.{get};
 ghost use Rattle.std.specs.Ordering.{nat_cmp};
-ghost use Rattle.plain_kernel.specs.Maps.{kernel_of, total_load, Covers, IsFirst, PidsFit, RunsSteps, Turns};
+ghost use Rattle.plain_kernel.specs.Maps.{kernel_of, total_load, Covers, IsFirst, NoneTakes, PidsFit, RunsSteps, Turns};
+ghost use Rattle.plain_kernel.specs.Candidates.{Arrives};
 ghost use Rattle.plain_kernel.specs.Still.{Reaches};
 
 use crate::births::{child_after, fork_at};
@@ -10,10 +11,12 @@ use crate::candidates::Candidates;
 use crate::item::NotApplied;
 use crate::processes::{pid_set, run_at, run_if_there};
 use crate::sending::{Made, make_step, send};
+use crate::signals::{carries_signal, take_at};
 use proc_state::process::Process;
 use std::alloc::Global;
 use std::collections::BTreeMap;
 use sys_calls::steps::{Emission, Step};
+use t32_base::letter::Letter;
 use t32_base::lists::Bytes;
 use t32_base::streams::NoMemory;
 
@@ -55,6 +58,7 @@ fn at_most(count: u64) -> u32
 ///
 /// A process that was stuck is not tried again before a letter comes to it, so no turn walks over the
 /// processes that wait, and none is asked for a step before it makes it. A child is tried as soon as it has the turn.
+/// A signal is taken right after the step that let its process take it, so between turns no process can take one.
 pub fn run_to_end(
     alloc: Global,
     processes: &mut BTreeMap<u32, Process>,
@@ -62,6 +66,7 @@ pub fn run_to_end(
 ) -> Result<(), NoMemory>
     requires room { total_load processes.old.entries < 2 ^ 64 }
     requires fits { PidsFit processes.old.entries }
+    requires none_takes { NoneTakes processes.old.entries }
     ensures reaches { OnOk result (Reaches (kernel_of processes.old.entries ttys.old.entries) (kernel_of processes.new.entries ttys.new.entries)) }
     ensures room { OnOk result (total_load processes.new.entries < 2 ^ 64) }
 {
@@ -75,8 +80,8 @@ pub fn run_to_end(
 }
 
 // The first of those that may have a step runs up to a step that is not silent, so it had the turn, and its letter is
-// delivered: one to which it sent may have a step then. Or it forks, and its child may have a step. Or it is stuck, and is
-// taken out.
+// delivered: one to which it sent may have a step then, and may take a signal, which it does at once. So does the first
+// itself where a silent step lets it. Or it forks, and its child may have a step. Or it is stuck, and is taken out.
 fn take_turn(
     alloc: Global,
     processes: &mut BTreeMap<u32, Process>,
@@ -87,10 +92,12 @@ fn take_turn(
     requires first { IsFirst pid ready.old }
     requires room { total_load processes.old.entries < 2 ^ 64 }
     requires fits { PidsFit processes.old.entries }
+    requires none_takes { NoneTakes processes.old.entries }
     requires covers { Covers processes.old.entries ready.old }
     ensures turns { OnOk result (Turns processes.old.entries processes.new.entries ttys.old.entries ttys.new.entries ready.old ready.new) }
     ensures covers { OnOk result (Covers processes.new.entries ready.new) }
     ensures fits { OnOk result (PidsFit processes.new.entries) }
+    ensures none_takes { OnOk result (NoneTakes processes.new.entries) }
 {
     // A map tells with its length that its keys are in order.
     let _count = processes.len();
@@ -99,13 +106,11 @@ fn take_turn(
         return Ok(());
     };
     match step {
-        Step::Emit(Emission::Mail(letter)) => {
-            if let Some(to) = send(processes, ttys, letter)? {
-                ready.insert(to)?;
-            }
-        }
+        Step::Emit(Emission::Mail(letter)) => deliver(processes, ttys, ready, letter)?,
         Step::Emit(Emission::Exit(_)) => {}
-        Step::Silent => {}
+        Step::Silent => {
+            let _took = take_at(processes, pid)?;
+        }
         Step::Forks => {
             let child = child_after(processes, pid);
             fork_at(alloc, processes, pid, child)?;
@@ -113,6 +118,27 @@ fn take_turn(
         }
         Step::Blocked | Step::Over => {
             ready.drop_first();
+        }
+    }
+    Ok(())
+}
+
+// Delivers a letter. A process to which it went may have a step then, and where the letter is a signal and it can take it,
+// it takes it at once.
+fn deliver(
+    processes: &mut BTreeMap<u32, Process>,
+    ttys: &mut BTreeMap<u8, Bytes>,
+    ready: &mut Candidates,
+    letter: Letter,
+) -> Result<(), NoMemory>
+    requires { total_load processes.old.entries < 2 ^ 64 - 1 }
+    ensures { OnOk result (Arrives letter processes.old.entries processes.new.entries ttys.old.entries ttys.new.entries ready.old ready.new) }
+{
+    let signals = carries_signal(&letter.body);
+    if let Some(to) = send(processes, ttys, letter)? {
+        ready.insert(to)?;
+        if signals {
+            let _took = take_at(processes, to)?;
         }
     }
     Ok(())
