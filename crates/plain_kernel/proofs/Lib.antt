@@ -17,6 +17,7 @@ mod Ready
 mod Turns
 pub mod Others
 pub mod Taking
+pub mod TakePids
 pub mod Forking
 pub mod ForkPids
 pub mod NextChild
