@@ -7,8 +7,7 @@ pub mod Untaken
 mod Waiting
 mod Wanting
 pub mod Counting
-pub mod Quiet
-mod Killing
+mod ReadNumbers
 pub mod Leaving
 pub mod Taking
 pub mod Clean

@@ -48,15 +48,11 @@ pub data Call : Type 0 where
   Close : Call
   Unknown : Call
 
--- the clusters take no signal yet, so no process sends one: that call is refused as one that is unknown
-unfoldable pub kill_is_built : Call
-kill_is_built = Unknown
-
 -- the call with a number, which is in a7
 abbrev pub call_of : ℕ → Call
 call_of n =
     if n == 1 then ExitCall else if n == 2 then Write else if n == 3 then Read else if n == 4 then ReadAny
-    else if n == 5 then ForkCall else if n == 6 then GetPid else if n == 7 then Handler else if n == 8 then kill_is_built
+    else if n == 5 then ForkCall else if n == 6 then GetPid else if n == 7 then Handler else if n == 8 then Kill
     else if n == 9 then SigReturn else if n == 10 then Close else Unknown
 
 -- ---- what a call is made of; p is the process after its instruction was spent

@@ -11,7 +11,7 @@ ghost use Rattle.sys_calls.specs.Steps.{Makes, Marks, SameCount, Shorter, Took, 
 use crate::ends::{destination, shut};
 use crate::reading::{make_read, read_any_checked, read_checked};
 use crate::refusal::{BAD_ADDRESS, BAD_ARGUMENT, BAD_END, NO_BIRTH, NO_END, refuse};
-use crate::signals::{handler, kill_call, sigreturn};
+use crate::signals::{handler, kill, sigreturn};
 use crate::small::{answer, close, go_on};
 use crate::steps::{Emission, Step};
 use proc_state::process::Process;
@@ -60,7 +60,7 @@ pub fn call(alloc: Global, p: &mut Process) -> Result<Step, NoMemory>
             Ok(Step::Silent)
         }
         7 => Ok(handler(p)),
-        8 => Ok(kill_call(p)),
+        8 => Ok(kill(p)),
         9 => Ok(sigreturn(p)),
         10 => Ok(close_end(p)),
         _ => Ok(refuse(p, BAD_ARGUMENT)),

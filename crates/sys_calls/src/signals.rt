@@ -5,7 +5,7 @@ ghost use Rattle.t32_base.specs.declared.letter.Arrived.{Arrived};
 ghost use Rattle.rv_cpu.specs.Exec.{reg};
 ghost use Rattle.proc_state.specs.Mail.{first_signal, signal_letter, signal_of};
 ghost use Rattle.proc_state.specs.State.{can_take as can_take_of, state_of, with_small};
-ghost use Rattle.sys_calls.specs.Calls.{called, handler_call, kill_call, kill_is_built, sigreturn_call};
+ghost use Rattle.sys_calls.specs.Calls.{handler_call, kill_call, sigreturn_call};
 ghost use Rattle.sys_calls.specs.Small.{spent};
 ghost use Rattle.sys_calls.specs.Steps.{Makes, SameCount, Shorter, Took, Touches};
 ghost use Rattle.sys_calls.specs.Take.{taken};
@@ -39,7 +39,7 @@ pub fn handler(p: &mut Process) -> Step
     Step::Silent
 }
 
-/// kill(pid, sig), as it will be: the clusters take no signal yet, so no system call comes here.
+/// kill(pid, sig)
 pub fn kill(p: &mut Process) -> Step
     requires some { 0 < p.old.small.left }
     ensures makes { Makes (kill_call (with_small (state_of p.old) (spent p.old.small)) (reg p.old.small.regs 10) (reg p.old.small.regs 11)) (Ok result) (state_of p.old) (state_of p.new) }
@@ -60,18 +60,6 @@ pub fn kill(p: &mut Process) -> Step
         to: To::Proc(to, 0),
         body: Body::Signal(signal as u8),
     }))
-}
-
-/// The call that sends a signal, while none is sent: it is refused.
-pub fn kill_call(p: &mut Process) -> Step
-    requires some { 0 < p.old.small.left }
-    ensures makes { Makes (called kill_is_built (with_small (state_of p.old) (spent p.old.small))) (Ok result) (state_of p.old) (state_of p.new) }
-    ensures marks { p.new.ram.dirty ≡ p.old.ram.dirty }
-    ensures count { SameCount p.old p.new }
-    ensures shorter { Shorter (Ok result) p.old.small p.new.small }
-    ensures touches { Touches (Ok result) p.old p.new }
-{
-    refuse(p, BAD_ARGUMENT)
 }
 
 /// sigreturn()

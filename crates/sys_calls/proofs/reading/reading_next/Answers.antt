@@ -2,7 +2,7 @@ use Rattle.std.proofs.Common.{ℕ, ◌≡◌, false, arith, eqb, sym}
 use Rattle.std.proofs.lemmas.Bool.Decides.{nat_tests}
 use Rattle.rv_cpu.specs.Exec.{reg}
 use Rattle.proc_state.specs.State.{state_of}
-use Rattle.sys_calls.proofs.Killing.{other_reads_none}
+use Rattle.sys_calls.proofs.ReadNumbers.{other_reads_none}
 use Rattle.sys_calls.proofs.reading.reading_next.Goals as goal
 
 pub returns-in_default-clause-checked : goal.returns-in_default-clause-checked
