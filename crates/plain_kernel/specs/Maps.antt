@@ -242,7 +242,7 @@ pub record Turns (ps qs : List (ℕ × Process)) (ts us : List (ℕ × List ℕ)
   pub lighter : total_load qs ≤ total_load ps
   pub less : 2 * total_load qs + length left < 2 * total_load ps + length ready
 
--- silent steps of the process with a pid, between which it can take no signal, and then its next step
+-- silent steps of the process with a pid, after none of which it can take a signal where it could take none before, and then its next step
 pub record RunsAndSteps (old new : List (ℕ × Process)) (pid : ℕ) (step : Step) : Type 0 where
   pub count : ℕ
   pub between : List (ℕ × Process)

@@ -1,4 +1,4 @@
-//! Many steps of a kernel: those of one process, and those of the default schedule.
+//! Many steps of a kernel: those of one process, and the items of the default schedule.
 ghost use Rattle.std.specs.Prelude.{◌≤◌, ◌<◌, ◌-◌, ◌^◌, IsSome, OnOk};
 ghost use Rattle.std.specs.BTreeMap.{get};
 ghost use Rattle.std.specs.Ordering.{nat_cmp};
@@ -54,7 +54,7 @@ fn at_most(count: u64) -> u32
     count.min(u64::from(u32::MAX)) as u32
 }
 
-/// Makes the steps of the default schedule until none is left. After want of memory nothing is said.
+/// Applies the items of the default schedule until none is left. After want of memory nothing is said.
 ///
 /// A process that was stuck is not tried again before a letter comes to it, so no turn walks over the
 /// processes that wait, and none is asked for a step before it makes it. A child is tried as soon as it has the turn.
