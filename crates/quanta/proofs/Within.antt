@@ -1,5 +1,5 @@
 -- Steps of a process that is not due leave it within its limits.
-use Rattle.std.proofs.Common.{◌≡◌, ℕ, ◌+◌, ◌-◌, ◌≤◌, ◌<◌, ◌∙◌, arith, ap, true, false, Bool, cond, leb, [], ◌∷◌, length, Option, Some, None}
+use Rattle.std.proofs.Common.{◌≡◌, ℕ, ◌+◌, ◌-◌, ◌≤◌, ◌<◌, ◌∙◌, arith, ap, true, false, Bool, cond, leb, ◌||◌, [], ◌∷◌, length, Option, Some, None}
 use Rattle.std.proofs.lemmas.Bool.{and_from, and_parts, le-leb, leb-true, leb-false, or_parts}
 use Rattle.std.proofs.lemmas.List.{length-append}
 use Rattle.t32_base.specs.declared.letter.Arrived.{Arrived}
@@ -7,7 +7,7 @@ use Rattle.proc_state.specs.declared.process.Process.{Process}
 use Rattle.proc_state.specs.State.{can_take, state_of}
 use Rattle.sys_calls.specs.Steps.{SameCount, Took}
 use Rattle.quanta.specs.declared.limits.Limits.{Limits}
-use Rattle.quanta.specs.Limited.{instructions_allowed, is_due, is_within, steps_until_due}
+use Rattle.quanta.specs.Limited.{is_due, is_within, steps_until_due}
 
 within : (limits : Limits) (p : Process) → length p.read ≤ limits.reads → (p.small).steps - p.since ≤ limits.steps → is_within limits p ≡ true
 within limits p reads steps =
@@ -21,7 +21,8 @@ one_read_more (Some a) p q took = let more : length q.read ≡ length p.read + 1
 -- one step of a process that is not due
 pub step_within : (limits : Limits) (taken : Option Arrived) (p q : Process) → is_due limits p ≡ false → Took taken p q → (q.small).steps ≡ (p.small).steps + 1 → is_within limits q ≡ true
 step_within limits taken p q undue took step =
-    let parts = or_parts (leb limits.reads (length p.read)) (leb limits.steps ((p.small).steps - p.since)) undue in
+    let due : Bool = leb limits.reads (length p.read) || leb limits.steps ((p.small).steps - p.since) in
+    let parts = or_parts (leb limits.reads (length p.read)) (leb limits.steps ((p.small).steps - p.since)) (or_parts due (can_take (state_of p)) undue).0 in
     let reads : length p.read < limits.reads = leb-false limits.reads (length p.read) parts.0 in
     let steps : (p.small).steps - p.since < limits.steps = leb-false limits.steps ((p.small).steps - p.since) parts.1 in
     let more = one_read_more taken p q took in
@@ -50,11 +51,3 @@ steps_within limits n p q few same count inside = by_due (is_due limits p) few
     by_due : (b : Bool) → n ≤ cond b 0 (limits.steps - ((p.small).steps - p.since)) → is_within limits q ≡ true
     by_due true none = within limits q (omega (arith, reads, few_reads)) (omega (arith, few_steps, count, since, none))
     by_due false left = within limits q (omega (arith, reads, few_reads)) (omega (arith, few_steps, count, since, left))
-
--- instructions are no more than steps until it is due
-pub allowed_until_due : (limits : Limits) (p : Process) → instructions_allowed limits p ≤ steps_until_due limits p
-allowed_until_due limits p = by_take (can_take (state_of p)) (steps_until_due limits p)
-  where
-    by_take : (b : Bool) (n : ℕ) → cond b 0 n ≤ n
-    by_take true n = omega arith
-    by_take false n = omega arith
