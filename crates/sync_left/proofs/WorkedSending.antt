@@ -39,7 +39,7 @@ abbrev sync : ℕ → Entry
 sync place = entry place (Sync it there.small [] None)
 
 -- Forty-four steps are left: ten instructions, thirty-two ends and two changes of status. The page may be sent at each step count from none on.
-at_first : left_to_send short [] ≡ 2 * 44 + 45
+at_first : left_to_send short [] ≡ 3 * 44 + 46
 unfolding boot one_step steps silently plain_after placement told silent_upto
 at_first = refl
 
@@ -47,25 +47,25 @@ at_first = refl
 with_birth : System
 with_birth = record store_system { roots = record (root 0 1 Quarter 10) { births = 1 } ∷ [] }
 
-one_birth : left_to_send with_birth [] ≡ 2 * 88 + 45 + 45
+one_birth : left_to_send with_birth [] ≡ 3 * 88 + 46 + 46
 unfolding boot one_step steps silently plain_after placement told silent_upto with_birth
 one_birth = refl
 
 -- its page is sent as it is after three steps
-page_sent : left_to_send short (page 0 ∷ []) ≡ 2 * 44 + 44
+page_sent : left_to_send short (page 0 ∷ []) ≡ 3 * 44 + 45
 unfolding boot one_step steps silently plain_after placement told silent_upto
 page_sent = refl
 
 -- and it synchronises there
-state_sent : left_to_send short (page 0 ∷ sync 1 ∷ []) ≡ 2 * 41 + 44
+state_sent : left_to_send short (page 0 ∷ sync 1 ∷ []) ≡ 3 * 41 + 45
 unfolding boot one_step steps silently plain_after placement told silent_upto
 state_sent = refl
 
 -- the same page once more leaves as much to send
-page_again : left_to_send short (page 0 ∷ page 1 ∷ []) ≡ 2 * 44 + 44
+page_again : left_to_send short (page 0 ∷ page 1 ∷ []) ≡ 3 * 44 + 45
 unfolding boot one_step steps silently plain_after placement told silent_upto
 page_again = refl
 
 -- refused: by the same page once more less is left
-not_less : left_to_send short (page 0 ∷ page 1 ∷ []) ≡ 2 * 44 + 43 → ⊥
-not_less e = let wrong : 2 * 44 + 44 ≡ 2 * 44 + 43 = sym page_again ∙ e in omega (arith, wrong)
+not_less : left_to_send short (page 0 ∷ page 1 ∷ []) ≡ 3 * 44 + 44 → ⊥
+not_less e = let wrong : 3 * 44 + 45 ≡ 3 * 44 + 44 = sym page_again ∙ e in omega (arith, wrong)
