@@ -119,6 +119,7 @@ most-each p k j q made = by_pid (same_pid p q) refl
 
 -- ---- whether a process takes signals
 
+-- it is there in the kernel, and takes a signal that comes
 abbrev pub takes_in : Kernel → Pid → Bool
 takes_in k p = option_map_or (λ (s : ProcState). takes_signals s.small) (process_at k p) false
 
@@ -141,6 +142,7 @@ struck_takes_none false g s = and_false (is_live s.status)
 taken_takes_none : (s : ProcState) → takes_signals (taken s).small ≡ false
 taken_takes_none s = struck_takes_none (eqb (s.small).handler 0) (unwrap_or (first_signal s.mail) 0) s.small
 
+-- and one that can take the first that waits takes signals
 taker_takes : (s : ProcState) → can_take s ≡ true → takes_signals s.small ≡ true
 taker_takes s can = (and_parts (takes_signals s.small) _ can).0
 
@@ -175,6 +177,7 @@ module _ (start : Pid → ℕ) (uncut : Pid → Bool) (unsent : Pid → ℕ → 
   pairs-most : (k j : Kernel) (q : Pid) → most_in j q ≤ most_in k q → pairs_that (unsent q) (pages q) (most_in j q) ≤ pairs_that (unsent q) (pages q) (most_in k q)
   pairs-most k j q most = pairs-le (unsent q) (unsent q) (λ i n is. is) (pages q) (most_in j q) (most_in k q) most
 
+  -- where its steps stay, it is left no more but for a signal
   left-count : (k j : Kernel) (q : Pid) → done j q ≡ done k q → most_in j q ≤ most_in k q → left_in j q + one_if (takes_in k q) ≤ left_in k q + one_if (takes_in j q)
   left-count k j q count most =
       let same : one_if (ltb (start q) (done j q) || uncut q) ≡ one_if (ltb (start q) (done k q) || uncut q) = ap (λ n. one_if (ltb (start q) n || uncut q)) count in

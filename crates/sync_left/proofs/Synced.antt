@@ -168,7 +168,7 @@ module _ (system : System) (log : List Entry) (e : Entry) (stands : Stands syste
 
 -- ---- each synchronisation
 
--- what is left of the processes, of the births and of the steps, in sum, falls
+-- what is left of the processes, of the births and of the steps twice, in sum, falls
 pub sync_less : (system : System) (log : List Entry) (e : Entry) (stands : Stands system log e) (p : Pid) (small : SmallState) (read : List ℕ) (took : Option ℕ) → what e ≡ Sync p small read took → is_system system ≡ true → IsLegalBy Stands system log
     → sum_by (λ (q : Placed). left_of_process system (log ++ e ∷ []) q.pid) (unended_in (placement system log)) + log_births system (log ++ e ∷ []) + 2 * log_load system (log ++ e ∷ []) + 1 ≤ left_of_syncs system log + 2 * log_load system log
 sync_less system log e stands p small read None is valid legal = might_less system log e stands p small read None is (stepped system log e stands p small read is valid legal) valid legal
