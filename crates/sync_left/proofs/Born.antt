@@ -1,5 +1,5 @@
--- A birth leaves less: it uses up one of the births that were allowed, which pays for the synchronisation and the pages of the child, and two steps.
-use Rattle.std.proofs.Common.{◌≡◌, ℕ, ◌+◌, ◌-◌, ◌≤◌, sym, ◌∙◌, ap, subst, arith, List, [], ◌∷◌, ◌++◌, Bool, true, false, not, Some}
+-- A birth leaves less: it uses up one of the births that were allowed, which pays for the synchronisations and the pages of the child, and two steps.
+use Rattle.std.proofs.Common.{◌≡◌, ℕ, ◌+◌, ◌*◌, ◌-◌, ◌≤◌, sym, ◌∙◌, ap, subst, arith, List, [], ◌∷◌, ◌++◌, Bool, true, false, not, Some}
 use Rattle.std.specs.Prelude.{option_and_then, sum_by}
 use Rattle.std.specs.Option.{option_map_or}
 use Rattle.std.proofs.lemmas.Nat.{mul-le}
@@ -33,7 +33,7 @@ use Rattle.page_laws.proofs.BornSums.{born_sum, child_not_unended, others_most}
 use Rattle.page_laws.proofs.OneEntry.{turned}
 use Rattle.sync_laws.proofs.Beside.{start_stays}
 use Rattle.sync_left.specs.Load.{left_of_child, log_births, log_load}
-use Rattle.sync_left.specs.Left.{is_unsent, left_of_process, left_of_syncs, may_sync, most_of, most_steps}
+use Rattle.sync_left.specs.Left.{is_unsent, left_of_process, left_of_syncs, may_sync, may_take, most_of, most_steps}
 use Rattle.sync_left.proofs.Forked.{child_few}
 use Rattle.sync_left.proofs.Pairs.{pairs-within}
 use Rattle.sync_left.proofs.OneStep.{IsBounded, at_most_one, fork-bounded, one_step-bounded, take_step-bounded}
@@ -64,18 +64,18 @@ module _ (system : System) (log : List Entry) (e : Entry) (parent : Pid) (at : �
   -- ---- those that had not ended
 
   -- less is left of them, by what the child may send and by one more
-  those_less : sum_by (λ (q : Placed). left_then system log e stands q.pid) (unended_in (placement system log)) + log_births system (log ++ e ∷ []) + log_load system (log ++ e ∷ []) + left_of_child (fork.was).small + 1
-      ≤ left_of_syncs system log + log_load system log
+  those_less : sum_by (λ (q : Placed). left_then system log e stands q.pid) (unended_in (placement system log)) + log_births system (log ++ e ∷ []) + 2 * log_load system (log ++ e ∷ []) + left_of_child (fork.was).small + 1
+      ≤ left_of_syncs system log + 2 * log_load system log
   unfolding run fork
   those_less =
       let k = (there system log e stands).old in
       let new = (there system log e stands).new in
       let qs = unended_in (placement system log) in
-      let limit = left_of_syncs system log + log_load system log in
+      let limit = left_of_syncs system log + 2 * log_load system log in
       let start = start_steps system log in
       let uncut : Pid → Bool = λ p. not (has_state system log p) in
       let apart = unended_apart system log valid legal in
-      let ran = forkless_keep (IsBounded start uncut (is_unsent system log) (page_count system log) qs limit) (one_step-bounded start uncut (is_unsent system log) (page_count system log) qs limit apart) (take_step-bounded start uncut (is_unsent system log) (page_count system log) qs limit apart) run k parts.to
+      let ran = forkless_keep (IsBounded start uncut (is_unsent system log) (page_count system log) qs limit) (one_step-bounded start uncut (is_unsent system log) (page_count system log) qs limit apart) (take_step-bounded start uncut (is_unsent system log) (page_count system log) qs limit) run k parts.to
       (run_forkless parent (at - 1 - done k parent)) (bounded_before system log e stands) parts.ran in
       let less = fork-bounded start uncut (is_unsent system log) (page_count system log) parent child parts.to new fork qs limit apart (child_not_unended system log e parent at child end valid legal stands is) ran parts.forks in
       omega (arith, less, births_kernel system (log ++ e ∷ []) new (there system log e stands).after, load_kernel system (log ++ e ∷ []) new (there system log e stands).after)
@@ -100,16 +100,16 @@ module _ (system : System) (log : List Entry) (e : Entry) (parent : Pid) (at : �
       let few = child_few fork.was child (forks_can fork.was fork.forks) in
       let pairs = pairs-within unsent (page_count system (log ++ e ∷ []) child) (most_steps system (log ++ e ∷ []) child) in
       let within = mul-le (page_count system (log ++ e ∷ []) child) (most_steps system (log ++ e ∷ []) child + 1) ((fork.was).small).pages (((fork.was).small).left + 34) (omega (arith, pages)) (omega (arith, most, few)) in
-      omega (arith, at_most_one (may_sync system (log ++ e ∷ []) child), pairs, within)
+      omega (arith, at_most_one (may_sync system (log ++ e ∷ []) child), at_most_one (may_take system (log ++ e ∷ []) child), pairs, within)
 
   -- ---- in sum
 
-  pub birth_syncs : left_of_syncs system (log ++ e ∷ []) + log_load system (log ++ e ∷ []) + 1 ≤ left_of_syncs system log + log_load system log
+  pub birth_syncs : left_of_syncs system (log ++ e ∷ []) + 2 * log_load system (log ++ e ∷ []) + 1 ≤ left_of_syncs system log + 2 * log_load system log
   birth_syncs =
       let after : Pid → ℕ = left_of_process system (log ++ e ∷ []) in
       let born = born_sum after (placement system log) child (placed_at (placement system log) parent) in
       let most = others_most (λ (q : Placed). after q.pid) (λ (q : Placed). left_then system log e stands q.pid) child others (unended_in (placement system log)) (child_not_unended system log e parent at child end valid legal stands is) in
       let less = those_less in
       let own = child_most in
-      subst (λ (places : Places). sum_by (λ (q : Placed). after q.pid) (unended_in places) + log_births system (log ++ e ∷ []) + log_load system (log ++ e ∷ []) + 1 ≤ left_of_syncs system log + log_load system log)
+      subst (λ (places : Places). sum_by (λ (q : Placed). after q.pid) (unended_in places) + log_births system (log ++ e ∷ []) + 2 * log_load system (log ++ e ∷ []) + 1 ≤ left_of_syncs system log + 2 * log_load system log)
       (sym (placement-snoc system log e ∙ ap (placed_after (placement system log)) is)) (omega (arith, born, most, less, own))

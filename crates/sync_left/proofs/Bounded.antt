@@ -27,7 +27,7 @@ use Rattle.cert_sched.proofs.ThereLaws.{plain_there}
 use Rattle.page_laws.proofs.BornSums.{itself}
 use Rattle.page_laws.proofs.StepSizes.{Keeps, next_keeps}
 use Rattle.sync_left.specs.Load.{left_of_children}
-use Rattle.sync_left.specs.Left.{is_unsent, left_of_process, left_of_syncs, may_sync, most_of, most_of_process, most_steps, most_syncs}
+use Rattle.sync_left.specs.Left.{is_unsent, left_of_process, left_of_syncs, may_sync, may_take, most_of, most_of_process, most_steps, most_syncs}
 use Rattle.sync_left.proofs.Forked.{child_few, emits_births, fork_pays, silent_births}
 use Rattle.sync_left.proofs.Pairs.{pairs-within}
 use Rattle.sync_left.proofs.PlacedSums.{placed_most}
@@ -38,9 +38,9 @@ use Rattle.sys_calls.proofs.TakeLaws.{taken_strikes}
 
 -- ---- a step and a fork leave no more
 
--- a synchronisation, and each page at each step count
+-- a synchronisation, one that takes a signal, and each page at each step count
 abbrev own_most : SmallState → ℕ
-own_most s = 1 + s.pages * (s.steps + weight s + 1)
+own_most s = 2 + s.pages * (s.steps + weight s + 1)
 
 most_kept : (s t : ProcState) → (t.small).pages ≡ (s.small).pages → most_of t ≤ most_of s → left_of_children t.small + 0 ≤ left_of_children s.small → most_of_process t.small ≤ most_of_process s.small
 most_kept s t same steps births =
@@ -91,7 +91,7 @@ module _ (system : System) (log : List Entry) (k : Kernel) (is : plain_after sys
       let most : most_steps system log q.pid ≡ most_of s = ap (λ o. option_map_or most_of o 0) after in
       let pairs = pairs-within (is_unsent system log q.pid) (page_count system log q.pid) (most_steps system log q.pid) in
       let within = mul-le (page_count system log q.pid) (most_steps system log q.pid + 1) (s.small).pages (most_of s + 1) (omega (arith, pages)) (omega (arith, most)) in
-      omega (arith, at_most_one (may_sync system log q.pid), pairs, within)
+      omega (arith, at_most_one (may_sync system log q.pid), at_most_one (may_take system log q.pid), pairs, within)
 
 -- ---- all processes
 

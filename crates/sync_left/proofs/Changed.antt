@@ -1,5 +1,5 @@
 -- A changed page that is new leaves one pair of a page and a step count less.
-use Rattle.std.proofs.Common.{◌≡◌, ℕ, ◌+◌, ◌-◌, ◌≤◌, refl, sym, ◌∙◌, ap, subst, arith, List, [], ◌∷◌, ◌++◌, Bool, true, false, not, ◌&&◌, ◌||◌, eq-eqb, eqb-true, ltb, Option, Some, None}
+use Rattle.std.proofs.Common.{◌≡◌, ℕ, ◌+◌, ◌*◌, ◌-◌, ◌≤◌, refl, sym, ◌∙◌, ap, subst, arith, List, [], ◌∷◌, ◌++◌, Bool, true, false, not, ◌&&◌, ◌||◌, eq-eqb, eqb-true, ltb, Option, Some, None}
 use Rattle.std.specs.Prelude.{option_map, sum_by}
 use Rattle.std.specs.Option.{option_map_or}
 use Rattle.t32_base.specs.declared.process.Pid.{Pid}
@@ -101,7 +101,7 @@ module _ (system : System) (log : List Entry) (e : Entry) (stands : Stands syste
 
   -- what is left of the processes falls, and the steps that are left stay
   pub page_less : is_system system ≡ true → IsLegalBy Stands system log → is_new_page system log (what e) ≡ true
-      → sum_by (λ (q : Placed). left_of_process system (log ++ e ∷ []) q.pid) (unended_in (placement system log)) + log_births system (log ++ e ∷ []) + log_load system (log ++ e ∷ []) + 1 ≤ left_of_syncs system log + log_load system log
+      → sum_by (λ (q : Placed). left_of_process system (log ++ e ∷ []) q.pid) (unended_in (placement system log)) + log_births system (log ++ e ∷ []) + 2 * log_load system (log ++ e ∷ []) + 1 ≤ left_of_syncs system log + 2 * log_load system log
   page_less valid legal new =
       one_less system log e stands no_loss valid legal (ap is_birth is) p (sender_among (placement system log) (e.post).by p right) (λ q. stays_most system log e stands no_loss q.pid (no_birth q.pid) (start_same q.pid)) at_sender
     where

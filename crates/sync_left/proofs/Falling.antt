@@ -1,5 +1,5 @@
 -- Each entry that a cluster sends leaves less to send; the end and a stop leave no more.
-use Rattle.std.proofs.Common.{◌≡◌, ℕ, ◌+◌, ◌*◌, ◌<◌, ◌≤◌, refl, sym, ◌∙◌, ap, subst, arith, List, [], ◌∷◌, ◌++◌, true, false, Option, Some, None, true≢false}
+use Rattle.std.proofs.Common.{◌≡◌, ℕ, ◌+◌, ◌*◌, ◌<◌, ◌≤◌, refl, sym, ◌∙◌, ap, subst, arith, List, [], ◌∷◌, ◌++◌, true, false, Option, None, true≢false}
 use Rattle.std.specs.Prelude.{sum_by}
 use Rattle.t32_base.specs.declared.process.Pid.{Pid}
 use Rattle.t32_base.specs.declared.process.End.{End}
@@ -39,16 +39,16 @@ use Rattle.sync_left.proofs.Synced.{sync_less, sync_pages, sync_places}
 
 -- ---- the parts: steps, pages of moved processes, and synchronisations with their pages
 
-fewer_steps : (l m p q s t : ℕ) → m + 1 ≤ l → q ≤ p → t + m ≤ s + l → 2 * m + q + t < 2 * l + p + s
+fewer_steps : (l m p q s t : ℕ) → m + 1 ≤ l → q ≤ p → t + 2 * m ≤ s + 2 * l → 3 * m + q + t < 3 * l + p + s
 fewer_steps l m p q s t steps pages syncs = omega (arith, steps, pages, syncs)
 
-fewer_pages : (l m p q s t : ℕ) → m ≤ l → q < p → t + m ≤ s + l → 2 * m + q + t < 2 * l + p + s
+fewer_pages : (l m p q s t : ℕ) → m ≤ l → q < p → t + 2 * m ≤ s + 2 * l → 3 * m + q + t < 3 * l + p + s
 fewer_pages l m p q s t steps pages syncs = omega (arith, steps, pages, syncs)
 
-fewer_syncs : (l m p q s t : ℕ) → m ≤ l → q ≤ p → t + m + 1 ≤ s + l → 2 * m + q + t < 2 * l + p + s
+fewer_syncs : (l m p q s t : ℕ) → m ≤ l → q ≤ p → t + 2 * m + 1 ≤ s + 2 * l → 3 * m + q + t < 3 * l + p + s
 fewer_syncs l m p q s t steps pages syncs = omega (arith, steps, pages, syncs)
 
-no_more : (l m p q s t : ℕ) → m ≤ l → q ≤ p → t + m ≤ s + l → 2 * m + q + t ≤ 2 * l + p + s
+no_more : (l m p q s t : ℕ) → m ≤ l → q ≤ p → t + 2 * m ≤ s + 2 * l → 3 * m + q + t ≤ 3 * l + p + s
 no_more l m p q s t steps pages syncs = omega (arith, steps, pages, syncs)
 
 module _ (system : System) (log : List Entry) (e : Entry) (valid : is_system system ≡ true) (legal : IsLegalBy Stands system log) (stands : Stands system log e) where
@@ -59,15 +59,15 @@ module _ (system : System) (log : List Entry) (e : Entry) (valid : is_system sys
   Falls : Type 0
   Falls = left_to_send system (log ++ e ∷ []) < left_to_send system log
 
-  by_steps : log_load system (log ++ e ∷ []) + 1 ≤ log_load system log → left_of_pages system (log ++ e ∷ []) ≤ left_of_pages system log → left_of_syncs system (log ++ e ∷ []) + log_load system (log ++ e ∷ []) ≤ left_of_syncs system log + log_load system log → Falls
+  by_steps : log_load system (log ++ e ∷ []) + 1 ≤ log_load system log → left_of_pages system (log ++ e ∷ []) ≤ left_of_pages system log → left_of_syncs system (log ++ e ∷ []) + 2 * log_load system (log ++ e ∷ []) ≤ left_of_syncs system log + 2 * log_load system log → Falls
   unfolding Falls
   by_steps steps pages syncs = fewer_steps (log_load system log) (log_load system (log ++ e ∷ [])) (left_of_pages system log) (left_of_pages system (log ++ e ∷ [])) (left_of_syncs system log) (left_of_syncs system (log ++ e ∷ [])) steps pages syncs
 
-  by_pages : left_of_pages system (log ++ e ∷ []) < left_of_pages system log → left_of_syncs system (log ++ e ∷ []) + log_load system (log ++ e ∷ []) ≤ left_of_syncs system log + log_load system log → Falls
+  by_pages : left_of_pages system (log ++ e ∷ []) < left_of_pages system log → left_of_syncs system (log ++ e ∷ []) + 2 * log_load system (log ++ e ∷ []) ≤ left_of_syncs system log + 2 * log_load system log → Falls
   unfolding Falls
   by_pages pages syncs = fewer_pages (log_load system log) (log_load system (log ++ e ∷ [])) (left_of_pages system log) (left_of_pages system (log ++ e ∷ [])) (left_of_syncs system log) (left_of_syncs system (log ++ e ∷ [])) (load_most system log e stands) pages syncs
 
-  by_syncs : left_of_pages system (log ++ e ∷ []) ≤ left_of_pages system log → left_of_syncs system (log ++ e ∷ []) + log_load system (log ++ e ∷ []) + 1 ≤ left_of_syncs system log + log_load system log → Falls
+  by_syncs : left_of_pages system (log ++ e ∷ []) ≤ left_of_pages system log → left_of_syncs system (log ++ e ∷ []) + 2 * log_load system (log ++ e ∷ []) + 1 ≤ left_of_syncs system log + 2 * log_load system log → Falls
   unfolding Falls
   by_syncs pages syncs = fewer_syncs (log_load system log) (log_load system (log ++ e ∷ [])) (left_of_pages system log) (left_of_pages system (log ++ e ∷ [])) (left_of_syncs system log) (left_of_syncs system (log ++ e ∷ [])) (load_most system log e stands) pages syncs
 
@@ -88,17 +88,17 @@ module _ (system : System) (log : List Entry) (e : Entry) (valid : is_system sys
 
   -- an entry that starts no process again, bears none and moves none
   syncs_most : left_of_syncs system (log ++ e ∷ []) ≤ of_those → is_birth (what e) ≡ false → cluster_lost (what e) ≡ None → ((r : Pid) → is_cut r (what e) ≡ false) → ((r : Pid) → is_birth_of r (what e) ≡ false)
-      → left_of_syncs system (log ++ e ∷ []) + log_load system (log ++ e ∷ []) ≤ left_of_syncs system log + log_load system log
+      → left_of_syncs system (log ++ e ∷ []) + 2 * log_load system (log ++ e ∷ []) ≤ left_of_syncs system log + 2 * log_load system log
   unfolding of_those
   syncs_most most no_fork no_loss no_cut no_birth = let all = all_most system log e stands no_loss valid legal no_fork no_cut no_birth in omega (arith, most, all)
 
   still_most : (w : What) → what e ≡ w → placed_after (placement system log) w ≡ placement system log → is_birth w ≡ false → cluster_lost w ≡ None → ((r : Pid) → is_cut r w ≡ false) → ((r : Pid) → is_birth_of r w ≡ false)
-      → left_of_syncs system (log ++ e ∷ []) + log_load system (log ++ e ∷ []) ≤ left_of_syncs system log + log_load system log
+      → left_of_syncs system (log ++ e ∷ []) + 2 * log_load system (log ++ e ∷ []) ≤ left_of_syncs system log + 2 * log_load system log
   still_most w is same no_fork no_loss no_cut no_birth =
       let places = same_places w is same in
       syncs_most (omega (arith, places)) (ap is_birth is ∙ no_fork) (ap cluster_lost is ∙ no_loss) (λ r. ap (is_cut r) is ∙ no_cut r) (λ r. ap (is_birth_of r) is ∙ no_birth r)
 
-  exit_most : (p : Pid) (at : ℕ) (end : End) → what e ≡ Exit p at end → left_of_syncs system (log ++ e ∷ []) + log_load system (log ++ e ∷ []) ≤ left_of_syncs system log + log_load system log
+  exit_most : (p : Pid) (at : ℕ) (end : End) → what e ≡ Exit p at end → left_of_syncs system (log ++ e ∷ []) + 2 * log_load system (log ++ e ∷ []) ≤ left_of_syncs system log + 2 * log_load system log
   exit_most p at end is = syncs_most (exit_places p at end is) (ap is_birth is) (ap cluster_lost is) (λ r. ap (is_cut r) is) (λ r. ap (is_birth_of r) is)
 
   -- ---- by the kind of the entry
@@ -122,11 +122,11 @@ module _ (system : System) (log : List Entry) (e : Entry) (valid : is_system sys
       let less = page_less system log e stands p at i bytes is valid legal new in
       by_syncs (left_still system log e stands (Page p at i bytes) is refl (λ r. refl) refl (after_other (Page p at i bytes) refl (placement system log) (waiting_fetches system log))) (omega (arith, places, less))
 
-  sync_falls : (p : Pid) (small : SmallState) (read : List ℕ) → what e ≡ Sync p small read None → Falls
-  sync_falls p small read is =
-      let places = sync_places system log e stands p small read is (left_of_process system (log ++ e ∷ [])) in
-      let less = sync_less system log e stands p small read is valid legal in
-      by_syncs (sync_pages system log e stands p small read is) (omega (arith, places, less))
+  sync_falls : (p : Pid) (small : SmallState) (read : List ℕ) (took : Option ℕ) → what e ≡ Sync p small read took → Falls
+  sync_falls p small read took is =
+      let places = sync_places system log e stands p small read took is (left_of_process system (log ++ e ∷ [])) in
+      let less = sync_less system log e stands p small read took is valid legal in
+      by_syncs (sync_pages system log e stands p small read took is) (omega (arith, places, less))
 
   birth_falls : (parent : Pid) (at : ℕ) (child : Pid) (end : ℕ) → what e ≡ Birth parent at child end → Falls
   birth_falls parent at child end is =
@@ -138,8 +138,7 @@ module _ (system : System) (log : List Entry) (e : Entry) (valid : is_system sys
   falls_by (Birth parent at child end) is new from = birth_falls parent at child end is
   falls_by (Exit p at end) is new from = exit_falls p at end is
   falls_by (Page p at index bytes) is new from = page_falls p at index bytes is new
-  falls_by (Sync p small read None) is new from = sync_falls p small read is
-  falls_by (Sync p small read (Some g)) is new from = absurd (true≢false (sym from))
+  falls_by (Sync p small read took) is new from = sync_falls p small read took is
   falls_by (Fetch p index) is new from = by_pages (left_fetch system log e p index stands is) (still_most (Fetch p index) is refl refl refl (λ r. refl) (λ r. refl))
   falls_by (PageIs p index bytes) is new from = by_pages (left_page_is system log e p index bytes stands is) (still_most (PageIs p index bytes) is refl refl refl (λ r. refl) (λ r. refl))
   falls_by (Crash k cause) is new from = absurd (true≢false (sym from))
@@ -148,7 +147,7 @@ module _ (system : System) (log : List Entry) (e : Entry) (valid : is_system sys
   falls_by (Done rests) is new from = absurd (true≢false (sym from))
   falls_by Stop is new from = absurd (true≢false (sym from))
 
-  syncs_by : (w : What) → what e ≡ w → tells_or_closes w ≡ true → left_of_syncs system (log ++ e ∷ []) + log_load system (log ++ e ∷ []) ≤ left_of_syncs system log + log_load system log
+  syncs_by : (w : What) → what e ≡ w → tells_or_closes w ≡ true → left_of_syncs system (log ++ e ∷ []) + 2 * log_load system (log ++ e ∷ []) ≤ left_of_syncs system log + 2 * log_load system log
   syncs_by (Mail at letter) is tells = still_most (Mail at letter) is refl refl refl (λ r. refl) (λ r. refl)
   syncs_by (Birth parent at child end) is tells = absurd (true≢false (sym tells))
   syncs_by (Exit p at end) is tells = exit_most p at end is

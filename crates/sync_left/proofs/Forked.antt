@@ -17,7 +17,7 @@ use Rattle.sync_left.specs.Load.{left_of_child, left_of_children}
 -- ---- births
 
 -- a child costs no more where no more instructions are left
-child_most : (pages pages' left left' : ℕ) → pages' ≡ pages → left' ≤ left → 1 + pages' * (left' + 34) ≤ 1 + pages * (left + 34)
+child_most : (pages pages' left left' : ℕ) → pages' ≡ pages → left' ≤ left → 2 + pages' * (left' + 34) ≤ 2 + pages * (left + 34)
 child_most pages pages' left left' same fewer = let most = mul-le pages' (left' + 34) pages (left + 34) (omega (arith, same)) (omega (arith, fewer)) in omega (arith, most)
 
 births_kept : (s t : ProcState) → KeepsBirths s t → SameSize s t → left_of_children t.small + 0 ≤ left_of_children s.small
@@ -47,7 +47,7 @@ halved births some = omega (arith, some)
 -- a fork pays for the child
 pub fork_pays : (s : ProcState) (child : Pid) → CanFork s → left_of_children (fork_parent s child).small + left_of_children (fork_child s child).small + left_of_child s.small ≤ left_of_children s.small
 fork_pays s child can =
-    shared (s.small).births ((s.small).births - 1 - child_births (s.small).births) (child_births (s.small).births) (left_of_child s.small) (1 + (s.small).pages * ((s.small).left - 1 + 34))
+    shared (s.small).births ((s.small).births - 1 - child_births (s.small).births) (child_births (s.small).births) (left_of_child s.small) (2 + (s.small).pages * ((s.small).left - 1 + 34))
     (halved (s.small).births can.births) (child_most (s.small).pages (s.small).pages (s.small).left ((s.small).left - 1) refl (omega arith))
 
 -- ---- steps

@@ -8,6 +8,7 @@ pub mod OneEntry
 pub mod Born
 pub mod Changed
 pub mod Due
+pub mod Taken
 pub mod Synced
 pub mod Falling
 pub mod PlacedSums

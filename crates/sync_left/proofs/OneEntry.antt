@@ -1,11 +1,12 @@
--- One more entry, which moves no process and bears none: what is left of the processes, of the births and of the steps of the kernel, in sum, does not rise where starts stay.
-use Rattle.std.proofs.Common.{◌≡◌, ℕ, ◌+◌, ◌≤◌, refl, sym, ◌∙◌, ap, arith, List, [], ◌∷◌, ◌++◌, Bool, true, false, not, ◌||◌, ltb, Some, None}
+-- One more entry, which moves no process and bears none: what is left of the processes, of the births and of the steps of the kernel twice, in sum, does not rise where starts stay.
+use Rattle.std.proofs.Common.{◌≡◌, ℕ, ◌+◌, ◌*◌, ◌≤◌, refl, sym, ◌∙◌, ap, arith, List, [], ◌∷◌, ◌++◌, Bool, true, false, not, ◌||◌, ltb, Some, None}
 use Rattle.std.specs.Prelude.{option_and_then, sum_by}
 use Rattle.std.specs.List.{list_any}
 use Rattle.std.specs.Option.{option_map_or}
 use Rattle.t32_base.specs.declared.process.Pid.{Pid}
 use Rattle.sys_text.specs.declared.system.System.{System}
 use Rattle.sys_text.specs.Valid.{is_system}
+use Rattle.proc_state.specs.State.{ProcState}
 use Rattle.plain_kernel.specs.Kernel.{Kernel, process_at}
 use Rattle.bus_msg.specs.declared.entry.By.{By}
 use Rattle.bus_msg.specs.declared.entry.Entry.{Entry}
@@ -35,14 +36,17 @@ use Rattle.page_laws.proofs.PagesStay.{page_count-snoc}
 use Rattle.page_laws.proofs.Leaving.{one_if, sum_by-le-each, sum_by-less, unended_there}
 use Rattle.sync_laws.proofs.Beside.{start_stays}
 use Rattle.sync_left.specs.Load.{kernel_births, kernel_load, log_births, log_load}
-use Rattle.sync_left.specs.Left.{has_stepped, is_unsent, left_of_process, left_of_syncs, may_sync, most_of, most_steps, pairs_that}
+use Rattle.sync_left.specs.Left.{has_stepped, is_unsent, left_of_process, left_of_syncs, may_sync, may_take, most_of, most_steps, pairs_that, takes_signals}
 use Rattle.sync_left.proofs.Pairs.{one_if-le, pairs-le}
-use Rattle.sync_left.proofs.OneStep.{IsBounded, left_in, most_in, one_step-bounded, take_step-bounded}
+use Rattle.sync_left.proofs.OneStep.{IsBounded, left_in, most_in, one_step-bounded, take_step-bounded, takes_in}
 
 -- ---- the kernel after a log
 
 pub most_kernel : (system : System) (log : List Entry) (k : Kernel) (p : Pid) → plain_after system log ≡ Some k → most_steps system log p ≡ most_in k p
 most_kernel system log k p is = ap (λ o. option_map_or most_of (option_and_then (λ k. process_at k p) o) 0) is
+
+takes_kernel : (system : System) (log : List Entry) (k : Kernel) (p : Pid) → plain_after system log ≡ Some k → may_take system log p ≡ takes_in k p
+takes_kernel system log k p is = ap (λ o. option_map_or (λ (s : ProcState). takes_signals s.small) (option_and_then (λ k. process_at k p) o) false) is
 
 pub load_kernel : (system : System) (log : List Entry) (k : Kernel) → plain_after system log ≡ Some k → log_load system log ≡ kernel_load k
 load_kernel system log k is = ap (λ o. option_map_or kernel_load o 0) is
@@ -72,7 +76,7 @@ module _ (system : System) (log : List Entry) (e : Entry) (stands : Stands syste
   left_then r = left_in (start_steps system log) (λ p. not (has_state system log p)) (is_unsent system log) (page_count system log) there.new r
 
   -- what is left before the entry, of the processes that have not ended
-  pub bounded_before : IsBounded (start_steps system log) (λ p. not (has_state system log p)) (is_unsent system log) (page_count system log) (unended_in (placement system log)) (left_of_syncs system log + log_load system log) there.old
+  pub bounded_before : IsBounded (start_steps system log) (λ p. not (has_state system log p)) (is_unsent system log) (page_count system log) (unended_in (placement system log)) (left_of_syncs system log + 2 * log_load system log) there.old
   bounded_before =
       let a = there in
       let qs = unended_in (placement system log) in
@@ -83,7 +87,8 @@ module _ (system : System) (log : List Entry) (e : Entry) (stands : Stands syste
       let before : (r : Pid) → left_in start uncut unsent pages a.old r ≤ left_of_process system log r = λ r.
       let count = done_kernel system log a.old r a.before in
       let most = most_kernel system log a.old r a.before in
-      let same : left_of_process system log r ≡ left_in start uncut unsent pages a.old r = λ i. one_if (ltb (start r) (count i) || uncut r) + pairs_that (unsent r) (pages r) (most i) in
+      let takes = takes_kernel system log a.old r a.before in
+      let same : left_of_process system log r ≡ left_in start uncut unsent pages a.old r = λ i. one_if (ltb (start r) (count i) || uncut r) + one_if (takes i) + pairs_that (unsent r) (pages r) (most i) in
       omega (arith, same) in
       let sums = sum_by-le-each (λ (q : Placed). left_in start uncut unsent pages a.old q.pid) (λ (q : Placed). left_of_process system log q.pid) (λ q. before q.pid) qs in
       record { rising = plain_after-rising system log a.old a.before; left = omega (arith, sums, births_kernel system log a.old a.before, load_kernel system log a.old a.before) }
@@ -98,14 +103,14 @@ module _ (system : System) (log : List Entry) (e : Entry) (stands : Stands syste
   module _ (no_fork : is_birth (what e) ≡ false) where
     -- with these no more is left in sum
     pub then_most : is_system system ≡ true → IsLegalBy Stands system log
-        → sum_by (λ (q : Placed). left_then q.pid) (unended_in (placement system log)) + log_births system (log ++ e ∷ []) + log_load system (log ++ e ∷ []) ≤ left_of_syncs system log + log_load system log
+        → sum_by (λ (q : Placed). left_then q.pid) (unended_in (placement system log)) + log_births system (log ++ e ∷ []) + 2 * log_load system (log ++ e ∷ []) ≤ left_of_syncs system log + 2 * log_load system log
     then_most valid legal =
         let a = there in
         let qs = unended_in (placement system log) in
-        let limit = left_of_syncs system log + log_load system log in
+        let limit = left_of_syncs system log + 2 * log_load system log in
         let kept = forkless_keep (IsBounded (start_steps system log) (λ p. not (has_state system log p)) (is_unsent system log) (page_count system log) qs limit)
         (one_step-bounded (start_steps system log) (λ p. not (has_state system log p)) (is_unsent system log) (page_count system log) qs limit (unended_apart system log valid legal))
-        (take_step-bounded (start_steps system log) (λ p. not (has_state system log p)) (is_unsent system log) (page_count system log) qs limit (unended_apart system log valid legal)) (items_of a.old (what e)) a.old a.new
+        (take_step-bounded (start_steps system log) (λ p. not (has_state system log p)) (is_unsent system log) (page_count system log) qs limit) (items_of a.old (what e)) a.old a.new
         (items_forkless a.old (what e) no_fork) bounded_before a.made in
         omega (arith, kept.left, births_kernel system (log ++ e ∷ []) a.new a.after, load_kernel system (log ++ e ∷ []) a.new a.after)
 
@@ -116,12 +121,13 @@ module _ (system : System) (log : List Entry) (e : Entry) (stands : Stands syste
         let stays = moves_none system log e no_loss r in
         unsent_before (any_since_moved system log r (is_page_at r i n)) (is_page_at r i n (what e)) (sym (ap not (any_since-goes_on system log e r (is_page_at r i n) stays)) ∙ is)
 
-    -- the pairs that are left after the entry are those of the kernel after it, for a process that it does not bear
-    pub unsent_after : (r : Pid) → is_birth_of r (what e) ≡ false → left_of_process system (log ++ e ∷ []) r ≡ one_if (may_sync system (log ++ e ∷ []) r) + pairs_that (is_unsent system (log ++ e ∷ []) r) (page_count system log r) (most_in there.new r)
+    -- what is left after the entry but for a synchronisation is that of the kernel after it, for a process that it does not bear
+    pub unsent_after : (r : Pid) → is_birth_of r (what e) ≡ false → left_of_process system (log ++ e ∷ []) r ≡ one_if (may_sync system (log ++ e ∷ []) r) + one_if (takes_in there.new r) + pairs_that (is_unsent system (log ++ e ∷ []) r) (page_count system log r) (most_in there.new r)
     unsent_after r no_birth =
         let most = most_kernel system (log ++ e ∷ []) there.new r there.after in
         let pages = page_count-snoc system log e r no_birth stands.applies in
-        λ j. one_if (may_sync system (log ++ e ∷ []) r) + pairs_that (is_unsent system (log ++ e ∷ []) r) (pages j) (most j)
+        let takes = takes_kernel system (log ++ e ∷ []) there.new r there.after in
+        λ j. one_if (may_sync system (log ++ e ∷ []) r) + one_if (takes j) + pairs_that (is_unsent system (log ++ e ∷ []) r) (pages j) (most j)
 
     pub unsent_fewer : (r : Pid) → pairs_that (is_unsent system (log ++ e ∷ []) r) (page_count system log r) (most_in there.new r) ≤ pairs_that (is_unsent system log r) (page_count system log r) (most_in there.new r)
     unsent_fewer r = pairs-le (is_unsent system (log ++ e ∷ []) r) (is_unsent system log r) (unsent_still r) (page_count system log r) (most_in there.new r) (most_in there.new r) (omega arith)
@@ -153,7 +159,7 @@ module _ (system : System) (log : List Entry) (e : Entry) (stands : Stands syste
 
     -- an entry that starts no process again: after it, no more is left of the processes that had not ended
     pub all_most : is_system system ≡ true → IsLegalBy Stands system log → is_birth (what e) ≡ false → ((r : Pid) → is_cut r (what e) ≡ false) → ((r : Pid) → is_birth_of r (what e) ≡ false)
-        → sum_by (λ (q : Placed). left_of_process system (log ++ e ∷ []) q.pid) (unended_in (placement system log)) + log_births system (log ++ e ∷ []) + log_load system (log ++ e ∷ []) ≤ left_of_syncs system log + log_load system log
+        → sum_by (λ (q : Placed). left_of_process system (log ++ e ∷ []) q.pid) (unended_in (placement system log)) + log_births system (log ++ e ∷ []) + 2 * log_load system (log ++ e ∷ []) ≤ left_of_syncs system log + 2 * log_load system log
     all_most valid legal no_fork no_cut no_birth =
         let each = sum_by-le-each (λ (q : Placed). left_of_process system (log ++ e ∷ []) q.pid) (λ (q : Placed). left_then q.pid)
         (λ q. stays_most q.pid (no_birth q.pid) (start_stays system log e q.pid (no_cut q.pid) (no_birth q.pid))) (unended_in (placement system log)) in
@@ -162,7 +168,7 @@ module _ (system : System) (log : List Entry) (e : Entry) (stands : Stands syste
     -- where less is left of one of them by it, less is left in sum
     pub one_less : is_system system ≡ true → IsLegalBy Stands system log → is_birth (what e) ≡ false → (p : Pid) → list_any (λ (q : Placed). same_pid q.pid p) (unended_in (placement system log)) ≡ true
         → ((q : Placed) → left_of_process system (log ++ e ∷ []) q.pid ≤ left_then q.pid) → ((q : Placed) → same_pid q.pid p ≡ true → left_of_process system (log ++ e ∷ []) q.pid + 1 ≤ left_then q.pid)
-        → sum_by (λ (q : Placed). left_of_process system (log ++ e ∷ []) q.pid) (unended_in (placement system log)) + log_births system (log ++ e ∷ []) + log_load system (log ++ e ∷ []) + 1 ≤ left_of_syncs system log + log_load system log
+        → sum_by (λ (q : Placed). left_of_process system (log ++ e ∷ []) q.pid) (unended_in (placement system log)) + log_births system (log ++ e ∷ []) + 2 * log_load system (log ++ e ∷ []) + 1 ≤ left_of_syncs system log + 2 * log_load system log
     one_less valid legal no_fork p among each here =
         let less = sum_by-less (λ (q : Placed). left_of_process system (log ++ e ∷ []) q.pid) (λ (q : Placed). left_then q.pid) (λ (q : Placed). same_pid q.pid p) each here (unended_in (placement system log)) among in
         omega (arith, less, then_most no_fork valid legal)

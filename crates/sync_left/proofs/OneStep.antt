@@ -1,11 +1,13 @@
--- One step of a kernel, one fork and one take: what is left of each process, of the steps and of the births, in sum, does not rise; a fork leaves so much less that it pays for the child.
-use Rattle.std.proofs.Common.{◌≡◌, ℕ, ◌+◌, ◌≤◌, refl, sym, ◌∙◌, ap, subst, arith, List, Bool, true, false, ◌||◌, eqb, ltb, Option, Some, None, eqb-true, eq-eqb, true≢false}
+-- One step of a kernel, one fork and one take: what is left of each process, of the steps twice and of the births, in sum, does not rise; a fork leaves so much less that it pays for the
+-- child, and a take of one of the processes leaves one less.
+use Rattle.std.proofs.Common.{◌≡◌, ℕ, ◌+◌, ◌*◌, ◌≤◌, refl, sym, ◌∙◌, ap, subst, arith, List, Bool, true, false, ◌&&◌, ◌||◌, eqb, ltb, Option, Some, None, eqb-true, eq-eqb, true≢false}
 use Rattle.std.specs.Prelude.{◌≢◌, option_and_then, option_map, sum_by, unwrap_or}
 use Rattle.std.specs.List.{list_any}
 use Rattle.std.specs.Option.{option_map_or}
+use Rattle.std.proofs.lemmas.Bool.{and_parts}
 use Rattle.t32_base.specs.declared.process.Pid.{Pid}
 use Rattle.t32_base.specs.Small.{SmallState}
-use Rattle.proc_state.specs.State.{ProcState}
+use Rattle.proc_state.specs.State.{ProcState, can_take, is_live}
 use Rattle.sys_calls.specs.Small.{weight, weight_with_children}
 use Rattle.sys_calls.specs.declared.steps.Emission.{Emission}
 use Rattle.sys_calls.specs.Calls.{Next, Silent, Blocked, Forks, Emits, Over}
@@ -17,7 +19,7 @@ use Rattle.sys_calls.proofs.Weighing.{Leaves, next_leaves, emits_leaves}
 use Rattle.plain_kernel.specs.Kernel.{Kernel, process_at, with_process, emitted}
 use Rattle.plain_kernel.specs.Apply.{after_step, fork_step, one_step, take_step}
 use Rattle.plain_kernel.proofs.Entries.{some_same}
-use Rattle.plain_kernel.proofs.Forking.{ForkMade, fork-other, fork-parent, fork-steps_other}
+use Rattle.plain_kernel.proofs.Forking.{ForkMade, fork-other, fork-parent, fork-small, fork-steps_other}
 use Rattle.plain_kernel.proofs.Laws.{process_at-same}
 use Rattle.plain_kernel.proofs.Others.{small_at, small_at-emitted, one_step-other, one_step-small, process_at-other}
 use Rattle.plain_kernel.proofs.Pids.{IsRising}
@@ -30,9 +32,9 @@ use Rattle.cert_sched.proofs.MadeLaws.{apart_from}
 use Rattle.cert_sched.proofs.RisingLaws.{NoTwo}
 use Rattle.cert_sched.proofs.PidLaws.{placed_pids}
 use Rattle.page_laws.proofs.BornSums.{others_most}
-use Rattle.page_laws.proofs.Leaving.{one_if}
+use Rattle.page_laws.proofs.Leaving.{one_if, sum_by-le-each, sum_by-less}
 use Rattle.sync_left.specs.Load.{kernel_births, kernel_load, left_of_child, left_of_children}
-use Rattle.sync_left.specs.Left.{most_of, pairs_that}
+use Rattle.sync_left.specs.Left.{most_of, pairs_that, takes_signals}
 use Rattle.sync_left.proofs.Forked.{emits_births, fork_pays, silent_births}
 use Rattle.sync_left.proofs.ForkSums.{fork_sums}
 use Rattle.sync_left.proofs.StepsLeft.{rising_still}
@@ -115,6 +117,35 @@ most-each p k j q made = by_pid (same_pid p q) refl
         subst (λ q. most_in j q ≤ most_in k q) here (most-here p k j made)
     by_pid false is = let same = most-other p k j q made (apart_from p q is) in omega (arith, same)
 
+-- ---- whether a process takes signals
+
+-- it is there in the kernel, and takes a signal that comes
+abbrev pub takes_in : Kernel → Pid → Bool
+takes_in k p = option_map_or (λ (s : ProcState). takes_signals s.small) (process_at k p) false
+
+takes_small : (o : Option ProcState) → option_map_or (λ (s : ProcState). takes_signals s.small) o false ≡ option_map_or takes_signals (option_map (λ (s : ProcState). s.small) o) false
+takes_small None = refl
+takes_small (Some s) = refl
+
+takes_same : (k j : Kernel) (q : Pid) → small_at j q ≡ small_at k q → takes_in j q ≡ takes_in k q
+takes_same k j q same = takes_small (process_at j q) ∙ ap (λ o. option_map_or takes_signals o false) same ∙ sym (takes_small (process_at k q))
+
+-- a process that was struck closes or its handler runs, so it takes no more
+struck_takes_none : (b : Bool) (g : ℕ) (s : SmallState) → takes_signals (struck b g s) ≡ false
+struck_takes_none true g s = refl
+struck_takes_none false g s = and_false (is_live s.status)
+  where
+    and_false : (b : Bool) → (b && false) ≡ false
+    and_false true = refl
+    and_false false = refl
+
+taken_takes_none : (s : ProcState) → takes_signals (taken s).small ≡ false
+taken_takes_none s = struck_takes_none (eqb (s.small).handler 0) (unwrap_or (first_signal s.mail) 0) s.small
+
+-- and one that can take the first that waits takes signals
+taker_takes : (s : ProcState) → can_take s ≡ true → takes_signals s.small ≡ true
+taker_takes s can = (and_parts (takes_signals s.small) _ can).0
+
 not_same : (q p : Pid) → same_pid q p ≡ false → q.0 ≢ p.0
 not_same q p is same = true≢false (sym (eq-eqb q.0 p.0 same) ∙ is)
 
@@ -141,28 +172,35 @@ taken_children s = struck_children (eqb (s.small).handler 0) (unwrap_or (first_s
 module _ (start : Pid → ℕ) (uncut : Pid → Bool) (unsent : Pid → ℕ → ℕ → Bool) (pages : Pid → ℕ) where
   -- with this start, never cut or cut, with these pages that were not sent, and so many pages, in this kernel
   abbrev pub left_in : Kernel → Pid → ℕ
-  left_in k q = one_if (ltb (start q) (done k q) || uncut q) + pairs_that (unsent q) (pages q) (most_in k q)
+  left_in k q = one_if (ltb (start q) (done k q) || uncut q) + one_if (takes_in k q) + pairs_that (unsent q) (pages q) (most_in k q)
 
   pairs-most : (k j : Kernel) (q : Pid) → most_in j q ≤ most_in k q → pairs_that (unsent q) (pages q) (most_in j q) ≤ pairs_that (unsent q) (pages q) (most_in k q)
   pairs-most k j q most = pairs-le (unsent q) (unsent q) (λ i n is. is) (pages q) (most_in j q) (most_in k q) most
 
-  left-same : (k j : Kernel) (q : Pid) → done j q ≡ done k q → most_in j q ≤ most_in k q → left_in j q ≤ left_in k q
-  left-same k j q count most =
+  -- where its steps stay, it is left no more but for a signal
+  left-count : (k j : Kernel) (q : Pid) → done j q ≡ done k q → most_in j q ≤ most_in k q → left_in j q + one_if (takes_in k q) ≤ left_in k q + one_if (takes_in j q)
+  left-count k j q count most =
       let same : one_if (ltb (start q) (done j q) || uncut q) ≡ one_if (ltb (start q) (done k q) || uncut q) = ap (λ n. one_if (ltb (start q) n || uncut q)) count in
       omega (arith, same, pairs-most k j q most)
 
-  left-more : (k j : Kernel) (q : Pid) → most_in j q ≤ most_in k q → left_in j q ≤ left_in k q + 1
-  left-more k j q most = omega (arith, at_most_one (ltb (start q) (done j q) || uncut q), pairs-most k j q most)
+  left-same : (k j : Kernel) (q : Pid) → done j q ≡ done k q → small_at j q ≡ small_at k q → most_in j q ≤ most_in k q → left_in j q ≤ left_in k q
+  left-same k j q count small most =
+      let takes : one_if (takes_in j q) ≡ one_if (takes_in k q) = ap one_if (takes_same k j q small) in
+      omega (arith, left-count k j q count most, takes)
 
-  -- of these processes, of the steps and of the births of the kernel, no more than so much is left
+  left-more : (k j : Kernel) (q : Pid) → most_in j q ≤ most_in k q → left_in j q ≤ left_in k q + 2
+  left-more k j q most = omega (arith, at_most_one (ltb (start q) (done j q) || uncut q), at_most_one (takes_in j q), pairs-most k j q most)
+
+  -- of these processes, of the steps twice and of the births of the kernel, no more than so much is left
   pub record IsBounded (qs : List Placed) (most : ℕ) (k : Kernel) : Type 0 where
     pub rising : IsRising k
-    pub left : sum_by (λ (q : Placed). left_in k q.pid) qs + kernel_births k + kernel_load k ≤ most
+    pub left : sum_by (λ (q : Placed). left_in k q.pid) qs + kernel_births k + 2 * kernel_load k ≤ most
 
   pub one_step-bounded : (qs : List Placed) (most : ℕ) → NoTwo (placed_pids qs) → (p : Pid) (k j : Kernel) → IsBounded qs most k → one_step p k ≡ Some j → IsBounded qs most j
   one_step-bounded qs most apart p k j bounded made =
       let rises =
-      one_rises (λ (q : Placed). left_in k q.pid) (λ (q : Placed). left_in j q.pid) p 1 (λ q other. left-same k j q.pid (one_step-other p k j q.pid made (not_same q.pid p other)) (most-each p k j q.pid made))
+      one_rises (λ (q : Placed). left_in k q.pid) (λ (q : Placed). left_in j q.pid) p 2
+      (λ q other. left-same k j q.pid (one_step-other p k j q.pid made (not_same q.pid p other)) (one_step-small p k j q.pid made (not_same q.pid p other)) (most-each p k j q.pid made))
       (λ q is. left-more k j q.pid (most-each p k j q.pid made)) qs apart in
       let less = one_step_lightens p k j bounded.rising made in
       let births = births-most p k j bounded.rising made in
@@ -190,19 +228,60 @@ module _ (start : Pid → ℕ) (uncut : Pid → Bool) (unsent : Pid → ℕ → 
           let same : most_in j q ≡ most_in k q = ap (λ i. most_in i q) t.after ∙ ap (λ o. option_map_or most_of o 0) (process_at-other k p (taken t.was) q (apart_from p q is)) in
           omega (arith, same)
 
-  pub take_step-bounded : (qs : List Placed) (most : ℕ) → NoTwo (placed_pids qs) → (p : Pid) (k j : Kernel) → IsBounded qs most k → take_step p k ≡ Some j → IsBounded qs most j
-  take_step-bounded qs most apart p k j bounded made =
+  -- the steps and the births that are left do not rise
+  take_rest : (p : Pid) (k j : Kernel) → IsRising k → take_step p k ≡ Some j → kernel_births j + 2 * kernel_load j ≤ kernel_births k + 2 * kernel_load k
+  take_rest p k j rising made =
       let t = take_made p k j made in
-      let each : (q : Placed) → left_in j q.pid ≤ left_in k q.pid = λ q. left-same k j q.pid (take_counts p k j q.pid made) (take_most p k j q.pid made) in
-      let sums = one_rises (λ (q : Placed). left_in k q.pid) (λ (q : Placed). left_in j q.pid) p 0 (λ q other. each q) (λ q is. omega (arith, each q)) qs apart in
-      let births = process_sum left_of_children k p t.was (taken t.was) bounded.rising t.there in
-      let load = process_sum weight_with_children k p t.was (taken t.was) bounded.rising t.there in
+      let births = process_sum left_of_children k p t.was (taken t.was) rising t.there in
+      let load = process_sum weight_with_children k p t.was (taken t.was) rising t.there in
       let same = taken_children t.was in
       let less = (taken_strikes t.was t.can).weight_children in
-      record {
-        rising = take_step-rising p k j bounded.rising made;
-        left = omega (arith, sums, births, load, same, less, bounded.left, ap kernel_births t.after, ap kernel_load t.after);
-      }
+      omega (arith, births, load, same, less, ap kernel_births t.after, ap kernel_load t.after)
+
+  -- the process that takes might take a signal, and may no more
+  take_own : (p : Pid) (k j : Kernel) → take_step p k ≡ Some j → left_in j p + 1 ≤ left_in k p
+  take_own p k j made =
+      let t = take_made p k j made in
+      let now : one_if (takes_in j p) ≡ 0 =
+      ap (λ i. one_if (takes_in i p)) t.after ∙ ap (λ o. one_if (option_map_or (λ (s : ProcState). takes_signals s.small) o false)) (process_at-same k p (taken t.was)) ∙ ap one_if (taken_takes_none t.was) in
+      let was : one_if (takes_in k p) ≡ 1 = ap (λ o. one_if (option_map_or (λ (s : ProcState). takes_signals s.small) o false)) t.there ∙ ap one_if (taker_takes t.was t.can) in
+      omega (arith, left-count k j p (take_counts p k j p made) (take_most p k j p made), now, was)
+
+  take_each : (p : Pid) (k j : Kernel) (q : Pid) → take_step p k ≡ Some j → left_in j q ≤ left_in k q
+  take_each p k j q made = by_pid (same_pid p q) refl
+    where
+      t : TakesAt p k j
+      t = take_made p k j made
+
+      by_pid : (b : Bool) → same_pid p q ≡ b → left_in j q ≤ left_in k q
+      by_pid true is =
+          let same : p ≡ q = λ i. record { 0 = eqb-true p.0 q.0 is i } in
+          let less = take_own p k j made in
+          subst (λ q. left_in j q ≤ left_in k q) same (omega (arith, less))
+      by_pid false is =
+          let small : small_at j q ≡ small_at k q = ap (λ i. small_at i q) t.after ∙ ap (option_map (λ (s : ProcState). s.small)) (process_at-other k p (taken t.was) q (apart_from p q is)) in
+          left-same k j q (take_counts p k j q made) small (take_most p k j q made)
+
+  pub take_step-bounded : (qs : List Placed) (most : ℕ) (p : Pid) (k j : Kernel) → IsBounded qs most k → take_step p k ≡ Some j → IsBounded qs most j
+  take_step-bounded qs most p k j bounded made =
+      let sums = sum_by-le-each (λ (q : Placed). left_in j q.pid) (λ (q : Placed). left_in k q.pid) (λ q. take_each p k j q.pid made) qs in
+      let rest = take_rest p k j bounded.rising made in
+      let before = bounded.left in
+      record { rising = take_step-rising p k j bounded.rising made; left = omega (arith, sums, rest, before) }
+
+  -- one less where the process is one of these
+  pub take_step-less : (qs : List Placed) (most : ℕ) (p : Pid) (k j : Kernel) → IsBounded qs most k → list_any (λ (q : Placed). same_pid q.pid p) qs ≡ true → take_step p k ≡ Some j
+      → sum_by (λ (q : Placed). left_in j q.pid) qs + kernel_births j + 2 * kernel_load j + 1 ≤ most
+  take_step-less qs most p k j bounded among made =
+      let sums = sum_by-less (λ (q : Placed). left_in j q.pid) (λ (q : Placed). left_in k q.pid) (λ (q : Placed). same_pid q.pid p) (λ q. take_each p k j q.pid made) own qs among in
+      let rest = take_rest p k j bounded.rising made in
+      let before = bounded.left in
+      omega (arith, sums, rest, before)
+    where
+      own : (q : Placed) → same_pid q.pid p ≡ true → left_in j q.pid + 1 ≤ left_in k q.pid
+      own q same =
+          let here : p ≡ q.pid = λ i. record { 0 = sym (eqb-true (q.pid).0 p.0 same) i } in
+          subst (λ q. left_in j q + 1 ≤ left_in k q) here (take_own p k j made)
 
   -- ---- a fork
 
@@ -217,28 +296,28 @@ module _ (start : Pid → ℕ) (uncut : Pid → Bool) (unsent : Pid → ℕ → 
     fork_most-other : (q : Pid) → same_pid q p ≡ false → same_pid q c ≡ false → most_in j q ≤ most_in k q
     fork_most-other q other far = let same : most_in j q ≡ most_in k q = ap (λ o. option_map_or most_of o 0) (fork-other p c k j f q (not_same q p other) (not_same q c far)) in omega (arith, same)
 
-    fork_left : (q : Pid) → same_pid q c ≡ false → left_in j q ≤ left_in k q + one_if (same_pid q p)
+    fork_left : (q : Pid) → same_pid q c ≡ false → left_in j q ≤ left_in k q + 2 * one_if (same_pid q p)
     fork_left q far = by_pid (same_pid q p) refl
       where
-        by_pid : (b : Bool) → same_pid q p ≡ b → left_in j q ≤ left_in k q + one_if b
+        by_pid : (b : Bool) → same_pid q p ≡ b → left_in j q ≤ left_in k q + 2 * one_if b
         by_pid true is =
             let here : p ≡ q = λ i. record { 0 = sym (eqb-true q.0 p.0 is) i } in
-            subst (λ r. left_in j r ≤ left_in k r + 1) here (left-more k j p fork_most-parent)
+            subst (λ r. left_in j r ≤ left_in k r + 2) here (left-more k j p fork_most-parent)
         by_pid false is =
-            let same = left-same k j q (fork-steps_other p c k j f q (not_same q p is) (not_same q c far)) (fork_most-other q is far) in
+            let same = left-same k j q (fork-steps_other p c k j f q (not_same q p is) (not_same q c far)) (fork-small p c k j f q (not_same q p is) (not_same q c far)) (fork_most-other q is far) in
             omega (arith, same)
 
-    -- of these processes, none of which is the child, one more at most
-    forked_sum : (qs : List Placed) → NoTwo (placed_pids qs) → list_any (λ m. eqb m c.0) (placed_pids qs) ≡ false → sum_by (λ (q : Placed). left_in j q.pid) qs ≤ sum_by (λ (q : Placed). left_in k q.pid) qs + 1
+    -- of these processes, none of which is the child, two more at most
+    forked_sum : (qs : List Placed) → NoTwo (placed_pids qs) → list_any (λ m. eqb m c.0) (placed_pids qs) ≡ false → sum_by (λ (q : Placed). left_in j q.pid) qs ≤ sum_by (λ (q : Placed). left_in k q.pid) qs + 2
     forked_sum qs apart new =
-        let more : Placed → ℕ = λ q. left_in k q.pid + one_if (same_pid q.pid p) in
+        let more : Placed → ℕ = λ q. left_in k q.pid + 2 * one_if (same_pid q.pid p) in
         let most = others_most (λ (q : Placed). left_in j q.pid) more c (λ q far. fork_left q.pid far) qs new in
-        let rises = one_rises (λ (q : Placed). left_in k q.pid) more p 1 (λ q other. let none : one_if (same_pid q.pid p) ≡ 0 = ap one_if other in omega (arith, none)) (λ q is. omega (arith, at_most_one (same_pid q.pid p))) qs apart in
+        let rises = one_rises (λ (q : Placed). left_in k q.pid) more p 2 (λ q other. let none : one_if (same_pid q.pid p) ≡ 0 = ap one_if other in omega (arith, none)) (λ q is. omega (arith, at_most_one (same_pid q.pid p))) qs apart in
         omega (arith, most, rises)
 
     -- less is left by what the child may send, and by one more
     pub fork-bounded : (qs : List Placed) (most : ℕ) → NoTwo (placed_pids qs) → list_any (λ m. eqb m c.0) (placed_pids qs) ≡ false → IsBounded qs most k → fork_step p c k ≡ Some j
-        → sum_by (λ (q : Placed). left_in j q.pid) qs + kernel_births j + kernel_load j + left_of_child (f.was).small + 1 ≤ most
+        → sum_by (λ (q : Placed). left_in j q.pid) qs + kernel_births j + 2 * kernel_load j + left_of_child (f.was).small + 1 ≤ most
     fork-bounded qs most apart new bounded made =
         let rises = forked_sum qs apart new in
         let less = fork_step_lightens p c k j bounded.rising made in

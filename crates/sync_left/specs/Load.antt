@@ -23,9 +23,9 @@ log_load system log = option_map_or kernel_load (plain_after system log) 0
 
 -- ---- births
 
--- at least as much as the next child of a process may send beside its steps: a synchronisation, and each of its pages at each step count that the child can have
+-- at least as much as the next child of a process may send beside its steps: a synchronisation, one that takes a signal, and each of its pages at each step count that the child can have
 abbrev pub left_of_child : SmallState → ℕ
-left_of_child s = 1 + s.pages * (s.left + 34)
+left_of_child s = 2 + s.pages * (s.left + 34)
 
 -- the same of all children that the process, and they, may still fork
 abbrev pub left_of_children : SmallState → ℕ
