@@ -1,19 +1,21 @@
 //! The posts by which a process synchronises.
 ghost use Rattle.std.specs.Prelude.{◌≡◌, ◌<◌, length, IfOk, OnOk, OnErr};
-ghost use Rattle.sync_point.specs.Batch.{batch, page_post, page_posts, synced};
+ghost use Rattle.sync_point.specs.Batch.{batch, cut_of, page_post, page_posts, synced, took_by};
 
 use bus_msg::entry::{By, Post, What};
 use bus_msg::shared::Shared;
 use proc_state::process::Process;
 use std::alloc::Global;
+use sys_calls::signals::{can_take, state_after_take, take_signal};
 use t32_base::lists::List;
-use t32_base::process::ClusterNo;
+use t32_base::process::{ClusterNo, Small};
 use t32_base::streams::NoMemory;
 
 /// The posts by which a process of the cluster `by` synchronises, in the order in which they are sent: each page
 /// that changed since the last time, by rising index, and then its state with the numbers of the letters that it
-/// read. The process is synchronised by it. Its marks are looked at once, and the bytes of the marked pages alone
-/// are copied. All memory is taken first: where it is refused, the process is as it was.
+/// read. The first signal that waits is taken before that, if it can take one, and named. The process is synchronised
+/// by it. Its marks are looked at once, and the bytes of the marked pages alone are copied. All memory is taken first:
+/// where it is refused, the process is as it was.
 pub fn build(alloc: Global, process: &mut Process, by: ClusterNo) -> Result<List<Post>, NoMemory>
     ensures posts { IfOk result (λ posts. posts ≡ batch process.old by) }
     ensures synced { OnOk result (process.new ≡ synced process.old) }
@@ -21,8 +23,9 @@ pub fn build(alloc: Global, process: &mut Process, by: ClusterNo) -> Result<List
 {
     let mut posts = page_posts(alloc, process, by)?;
     posts.reserve(1)?;
-    let small = Shared::new(alloc, process.small.copy())?;
+    let small = Shared::new(alloc, cut_state(process))?;
     let pid = process.small.pid;
+    let took = take_first(process)?;
     let read = std::mem::replace(&mut process.read, List::new(alloc));
     process.synced();
     posts.push_reserved(Post {
@@ -31,11 +34,33 @@ pub fn build(alloc: Global, process: &mut Process, by: ClusterNo) -> Result<List
             pid,
             small,
             read,
-            // A signal that is taken will stand here.
-            took: None,
+            took,
         },
     });
     Ok(List::from_vec(posts))
+}
+
+// The state of a process after it took its first signal, if it can take one.
+fn cut_state(process: &Process) -> Small
+    ensures { result ≡ (cut_of process.now).small }
+{
+    if can_take(process) {
+        state_after_take(process)
+    } else {
+        process.small.copy()
+    }
+}
+
+// A process takes its first signal, if it can take one.
+fn take_first(process: &mut Process) -> Result<Option<u8>, NoMemory>
+    ensures signal { IfOk result (λ took. took ≡ took_by process.old) }
+    ensures cut { OnOk result (process.new ≡ cut_of process.old) }
+    ensures err { OnErr result (process.new ≡ process.old) }
+{
+    if !can_take(process) {
+        return Ok(None);
+    }
+    Ok(Some(take_signal(process)?))
 }
 
 // A post for each marked page, by rising index.

@@ -7,10 +7,11 @@ ghost use Rattle.t32_base.specs.declared.process.ClusterNo.{ClusterNo};
 ghost use Rattle.t32_base.specs.Account.{Account, page_in};
 ghost use Rattle.rv_mem.specs.Memory.{page_at};
 ghost use Rattle.proc_state.specs.declared.process.Process.{Process};
+ghost use Rattle.proc_state.specs.State.{can_take, state_of};
 ghost use Rattle.bus_msg.specs.declared.entry.By.TheVariants.{Cluster};
 ghost use Rattle.bus_msg.specs.declared.entry.Post.{Post};
 ghost use Rattle.sync_point.specs.Due.{is_due_by};
-ghost use Rattle.sync_point.specs.Batch.{batch, is_marked, sync_post, synced};
+ghost use Rattle.sync_point.specs.Batch.{batch, cut_of, is_marked, sync_post, synced, took_by};
 ghost use Rattle.sync_point.specs.Laws.{EndsWithSync, HasUnmarked, pages_sent, whole_memory, with_pages};
 
 /// A law and no code: the last post of a batch is its only `Sync`, and each before it is a page of the process at its
@@ -40,4 +41,12 @@ pub fn batches_bring_accounts_up_to_date()
 pub fn synchronised_processes_have_nothing_to_send()
     ensures alone { (p : Process) (by : ClusterNo) → batch (synced p) by ≡ sync_post (synced p) by ∷ [] }
     ensures due { (p : Process) (reads steps : ℕ) → 1 ≤ reads → 1 ≤ steps → is_due_by (synced p) reads steps ≡ false }
+{}
+
+/// A law and no code: a process that has just synchronised can take no signal, since its handler runs or it closes. One
+/// that can take none synchronises as it is, and its last post names no signal.
+pub fn signals_are_taken_at_most_once()
+    ensures after { (p : Process) → can_take (state_of (synced p)) ≡ false }
+    ensures untaken { (p : Process) → can_take (state_of p) ≡ false → cut_of p ≡ p }
+    ensures unnamed { (p : Process) → can_take (state_of p) ≡ false → took_by p ≡ None }
 {}

@@ -16,7 +16,7 @@ use crate::steps::{Emission, Step};
 use proc_state::process::Process;
 use rv_cpu::registers::read;
 use t32_base::letter::{Arrived, Body, Letter, To};
-use t32_base::process::Pid;
+use t32_base::process::{Pid, Small};
 use t32_base::streams::NoMemory;
 
 /// The greatest number of a signal.
@@ -133,4 +133,17 @@ pub fn take_signal(p: &mut Process) -> Result<u8, NoMemory>
     p.mail.take_on(0);
     strike(&mut p.small, signal);
     Ok(signal)
+}
+
+/// The state of a process after it takes the first signal that waits. Takes no memory.
+pub fn state_after_take(p: &Process) -> Small
+    requires { can_take_of (state_of p.now) ≡ true }
+    ensures { result ≡ (taken (state_of p.now)).small }
+{
+    let Some(signal) = signal_in(p.mail.first_on(0)) else {
+        unreachable!()
+    };
+    let mut small = p.small.copy();
+    strike(&mut small, signal);
+    small
 }
