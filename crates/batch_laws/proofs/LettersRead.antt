@@ -9,7 +9,7 @@ use Rattle.t32_base.specs.declared.letter.Letter.{Letter}
 use Rattle.cert_sched.specs.Deeds.{numbered}
 use Rattle.cert_sched.specs.Steps.{numbers_read}
 use Rattle.read_laws.specs.Numbered.{are_below}
-use Rattle.mark_laws.proofs.TakenNumbers.{has}
+use Rattle.sync_laws.proofs.TakenNumbers.{has}
 
 or_nothing : (b : Bool) → (b || false) ≡ b
 or_nothing true = refl

@@ -1,5 +1,5 @@
 -- A batch that is under way: some of its pages were sent, and the rest is left.
-use Rattle.std.specs.Prelude.{ℕ, ◌≡◌, ◌<◌, Bool, true, false, not, ◌&&◌, ◌==◌, nat_lt, List, [], ◌∷◌, ◌++◌, map, Some, None}
+use Rattle.std.specs.Prelude.{ℕ, ◌≡◌, ◌<◌, Bool, true, false, not, ◌&&◌, ◌==◌, nat_lt, List, [], ◌∷◌, ◌++◌, map, Option, Some}
 use Rattle.std.specs.List.{list_all, list_any}
 use Rattle.t32_base.specs.declared.process.Pid.{Pid}
 use Rattle.t32_base.specs.declared.process.ClusterNo.{ClusterNo}
@@ -17,6 +17,7 @@ use Rattle.cert_sched.specs.Moved.{any_since_moved, is_page_at}
 use Rattle.cert_sched.specs.Steps.{numbers_read, page_count, saved_of}
 use Rattle.cert_sched.specs.Kinds.{ChildrenSynced}
 use Rattle.sync_laws.specs.Sending.{MaySend, is_due_at}
+use Rattle.sync_laws.specs.Cut.{TakesTo}
 
 -- ---- the posts that are left
 
@@ -24,13 +25,13 @@ use Rattle.sync_laws.specs.Sending.{MaySend, is_due_at}
 abbrev pub page_left : ClusterNo → Pid → ProcState → ℕ → Post
 page_left k p s i = record { by = Cluster k; what = Page p (s.small).steps i (page_at s.memory i) }
 
--- its state, with the numbers of the letters that it has read
-abbrev pub sync_left : ClusterNo → Pid → ProcState → List ℕ → Post
-sync_left k p s read = record { by = Cluster k; what = Sync p s.small read None }
+-- its state, with the numbers of the letters that it has read, and the signal that it took, if it took one
+abbrev pub sync_left : ClusterNo → Pid → ProcState → List ℕ → Option ℕ → Post
+sync_left k p s read took = record { by = Cluster k; what = Sync p s.small read took }
 
 -- each page of these numbers, and then the state
-abbrev pub posts_left : ClusterNo → Pid → ProcState → List ℕ → List ℕ → List Post
-posts_left k p s read indices = map (page_left k p s) indices ++ sync_left k p s read ∷ []
+abbrev pub posts_left : ClusterNo → Pid → ProcState → List ℕ → Option ℕ → List ℕ → List Post
+posts_left k p s read took indices = map (page_left k p s) indices ++ sync_left k p s read took ∷ []
 
 -- ---- the pages that are left
 
@@ -50,10 +51,12 @@ abbrev pub with_letters : ProcState → List Letter → ProcState
 with_letters s [] = s
 with_letters s (l ∷ letters) = with_letters (delivered s l) letters
 
--- The home k of the process may send it as it is; it has not ended. The numbers of the pages that are left rise, each is one of its pages, and none was sent at its step
--- count since a crash moved it; any other page is that of its account. These are the letters that it has read, its children have synchronised, and it is due or a child that was never cut.
-pub record BatchMay (system : System) (log : List Entry) (k : ClusterNo) (p : Pid) (s : ProcState) (read indices : List ℕ) : Type 0 where
-  pub may : MaySend system log (Cluster k) p s
+-- The home k of the process may send it as it is before it takes the signal that is told, if one is; s is the process after that, and has not ended. The numbers of the pages that are left rise, each is one of its pages, and none was sent at its step
+-- count since a crash moved it; any other page is that of its account. These are the letters that it has read, its children have synchronised, and it is due, takes a signal, or is a child that was never cut.
+pub record BatchMay (system : System) (log : List Entry) (k : ClusterNo) (p : Pid) (s : ProcState) (read : List ℕ) (took : Option ℕ) (indices : List ℕ) : Type 0 where
+  pub before : ProcState
+  pub takes : TakesTo took before s
+  pub may : MaySend system log (Cluster k) p before
   pub runs : has_ended (s.small).status ≡ false
   pub in_order : are_rising indices ≡ true
   pub within : list_all (λ i. nat_lt i (page_count system log p)) indices ≡ true
@@ -61,4 +64,4 @@ pub record BatchMay (system : System) (log : List Entry) (k : ClusterNo) (p : Pi
   pub account : (i : ℕ) → i < page_count system log p → is_left indices i ≡ false → page_in (account_after system log p).now i ≡ Some (page_at s.memory i)
   pub reads : rising read ≡ numbers_read (saved_of system log p) s.mail
   pub children : ChildrenSynced system log p
-  pub due : is_due_at system log p s ≡ true
+  pub due : is_due_at system log p took before ≡ true

@@ -2,7 +2,6 @@ pub mod EntryMarks
 pub mod LetterMarks
 pub mod BootMarks
 pub mod TakenLetter
-pub mod TakenNumbers
 pub mod SentPages
 pub mod StepMarks
 pub mod SendingMarks

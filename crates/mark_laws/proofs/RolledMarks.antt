@@ -25,7 +25,7 @@ use Rattle.mark_laws.proofs.RolledReads.{ReadsOn, RolledOver, rolled_over}
 use Rattle.mark_laws.proofs.SavedCame.{Came, came}
 use Rattle.mark_laws.proofs.SentPages.{never_at, sent_later}
 use Rattle.mark_laws.proofs.StepMarks.{unset}
-use Rattle.mark_laws.proofs.TakenNumbers.{filter_in_order, has, has_filter}
+use Rattle.sync_laws.proofs.TakenNumbers.{filter_in_order, has, has_filter}
 
 pub rolled_sent : (system : System) (log : List Entry) (p : Pid) (n : ℕ) (old new : Process) (counts left : Counts) (births unborn : List Pid) → SentUpto system log p (old.small).steps
     → rolled_on n (going old counts births) ≡ Some (going new left unborn) → SentUpto system log p (new.small).steps

@@ -15,8 +15,8 @@ use Rattle.cert_sched.specs.Steps.{numbers_read}
 use Rattle.page_laws.proofs.StepSizes.{SameSize, Keeps, next_keeps}
 use Rattle.read_laws.specs.Numbered.{are_in_order}
 use Rattle.read_laws.proofs.MailNumbers.{without_in_order}
-use Rattle.mark_laws.proofs.TakenLetter.{TakesOut, silent_takes_out, length-step_marks}
-use Rattle.mark_laws.proofs.TakenNumbers.{has, one_more_read, taken_was_there, rising_last}
+use Rattle.sync_laws.proofs.TakenNumbers.{TakesOut, has, one_more_read, taken_was_there, rising_last}
+use Rattle.mark_laws.proofs.TakenLetter.{silent_takes_out, length-step_marks}
 
 -- ---- one step
 

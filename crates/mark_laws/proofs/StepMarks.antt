@@ -1,44 +1,31 @@
 -- A process that runs with its marks runs with them after a silent step.
-use Rattle.std.proofs.Common.{◌≡◌, ℕ, zero, suc, ◌-◌, ◌<◌, refl, sym, ◌∙◌, ap, subst, arith, List, [], ◌∷◌, length, Bool, true, false, eqb, slice_get, Option, Some, None}
+use Rattle.std.proofs.Common.{◌≡◌, ℕ, zero, suc, ◌-◌, ◌<◌, refl, sym, ◌∙◌, ap, subst, arith, List, [], ◌∷◌, length, Bool, true, false, slice_get, Option, Some, None}
 use Rattle.std.specs.Prelude.{option_and_then}
-use Rattle.std.specs.List.{list_any}
 use Rattle.std.specs.Option.{option_map_or}
-use Rattle.std.proofs.lemmas.Bool.{and_parts}
 use Rattle.t32_base.specs.declared.process.Pid.{Pid}
-use Rattle.t32_base.specs.declared.letter.Arrived.{Arrived}
 use Rattle.sys_text.specs.declared.system.System.{System}
 use Rattle.rv_mem.specs.Memory.{page_at}
 use Rattle.proc_state.specs.declared.process.Process.{Process}
-use Rattle.proc_state.specs.State.{ProcState, state_of, has_ended}
+use Rattle.proc_state.specs.State.{ProcState, state_of}
 use Rattle.sys_calls.specs.Next.{next_step, letter_taken, silent_of, silently}
-use Rattle.sys_calls.specs.Steps.{read_after}
 use Rattle.sys_calls.proofs.Counting.{CountsOne, silent_counts, silent_goes_on}
 use Rattle.bus_msg.specs.declared.entry.Entry.{Entry}
-use Rattle.backup_queue.specs.Queue.{is_unread}
-use Rattle.cert_sched.specs.Parts.{put_rising, rising}
+use Rattle.cert_sched.specs.Parts.{rising}
 use Rattle.cert_sched.specs.Schedule.{done_after, process_after}
-use Rattle.cert_sched.specs.Deeds.{arrived_count, saved_letters}
 use Rattle.cert_sched.specs.Account.{account_after, page_in}
 use Rattle.cert_sched.specs.Moved.{any_since_moved, is_page_at}
 use Rattle.cert_sched.specs.Steps.{numbers_read, saved_of, silent_upto}
-use Rattle.cert_sched.specs.Legal.{Stands}
-use Rattle.cert_sched.proofs.MailLaws.{silent_upto-ends}
-use Rattle.cert_sched.proofs.RollLaws.{all_roll, rolls_next}
 use Rattle.roll_forward.proofs.RollLaws.{silent_clean}
 use Rattle.page_laws.proofs.StepSizes.{SameSize, Keeps, next_keeps}
-use Rattle.read_laws.specs.Numbered.{are_below, are_in_order}
-use Rattle.read_laws.specs.ReadsFrom.{ReadsFrom}
-use Rattle.read_laws.proofs.LogReads.{itself, all_saved_numbered, silent_reads}
 use Rattle.sync_laws.specs.Marked.{IsMarked, arrived_below, is_dirty}
 use Rattle.sync_laws.specs.Running.{RunsMarked}
-use Rattle.sync_laws.proofs.MarksLead.{was_there, marks_count, marks_reads}
-use Rattle.sync_laws.proofs.SavedNumbers.{saved_arrived}
+use Rattle.sync_laws.proofs.MarksLead.{marks_count}
+use Rattle.sync_laws.proofs.ReadsOneMore.{came, one_more}
 use Rattle.sync_laws.proofs.Standing.{reached_later}
 use Rattle.mark_laws.specs.Sent.{SentUpto}
 use Rattle.mark_laws.specs.Stepped.{StepsSilently}
 use Rattle.mark_laws.proofs.SentPages.{never_at, sent_later}
-use Rattle.mark_laws.proofs.TakenLetter.{TakesOut, silent_takes_out, length-step_marks}
-use Rattle.mark_laws.proofs.TakenNumbers.{filter_in_order, has_filter, one_more_read, taken_was_there, rising_last}
+use Rattle.mark_laws.proofs.TakenLetter.{silent_takes_out, length-step_marks}
 
 -- ---- pages that were sent
 
@@ -91,45 +78,8 @@ module _ (system : System) (log : List Entry) (p : Pid) (old new : Process) (run
 
   -- ---- the letters
 
-  -- where the process was after the log
-  record Came : Type 0 where
-    pub rises : are_in_order (saved_of system log p) ≡ true
-    pub all : arrived_below (old.mail).next (saved_of system log p) ≡ saved_of system log p
-
-  came : Came
-  came =
-      let w = was_there system log p old runs in
-      let goes_on : has_ended ((w.was).small).status ≡ false = sym (silent_upto-ends system log p (old.small).steps w.was (state_of old) w.there runs.reached) ∙ runs.runs in
-      let rolls = (all_roll Stands itself system log runs.valid runs.legal).rolls p w.was w.there goes_on in
-      let is : saved_of system log p ≡ saved_letters log p rolls.start = ap (λ (o : Option ProcState). option_map_or (saved_letters log p) o []) rolls.started in
-      let numbered = all_saved_numbered system log p w.was runs.valid runs.legal w.there goes_on in
-      record {
-        rises = (and_parts (are_in_order (saved_of system log p)) (are_below (arrived_count log p) (saved_of system log p)) numbered).0;
-        all =
-            ap (arrived_below (old.mail).next) is
-            ∙ saved_arrived system log p rolls.start (old.mail).next rolls.started (w.next ∙ rolls_next system log p w.was rolls ∙ rolls.arrived)
-            ∙ sym is;
-      }
-
-  reads : ReadsFrom (saved_of system log p) (old.mail).letters
-  reads = silent_reads system log p (old.small).steps (state_of old) runs.valid runs.legal runs.reached runs.runs
-
-  in_order : are_in_order (old.mail).letters ≡ true
-  in_order =
-      ap are_in_order reads.left
-      ∙ filter_in_order (is_unread (numbers_read (saved_of system log p) (old.mail).letters)) (saved_of system log p) came.rises
-
-  read_now : (taken : Option Arrived) → TakesOut taken (old.mail).letters (new.mail).letters → rising (read_after old.read taken) ≡ numbers_read (saved_of system log p) (new.mail).letters
-  read_now None same = marks_reads system log p old runs ∙ ap (numbers_read (saved_of system log p)) (sym same)
-  read_now (Some a) taken =
-      let there = has_filter a.number (is_unread (numbers_read (saved_of system log p) (old.mail).letters)) (saved_of system log p)
-      (ap (λ mail. list_any (λ (b : Arrived). eqb b.number a.number) mail) (sym reads.left) ∙ taken_was_there (old.mail).letters (new.mail).letters a taken) in
-      rising_last old.read a.number
-      ∙ ap (put_rising a.number) (marks_reads system log p old runs)
-      ∙ sym (one_more_read (saved_of system log p) (old.mail).letters (new.mail).letters a came.rises in_order there taken)
-
   all_came : arrived_below (new.mail).next (saved_of system log p) ≡ saved_of system log p
-  all_came = ap (λ n. arrived_below n (saved_of system log p)) counts.next ∙ came.all
+  all_came = ap (λ n. arrived_below n (saved_of system log p)) counts.next ∙ (came system log p old runs).all
 
   -- ---- the pages
 
@@ -150,7 +100,7 @@ module _ (system : System) (log : List Entry) (p : Pid) (old new : Process) (run
     marked_now : IsMarked system log p new
     marked_now = record {
       since_start = (step.took).since ∙ (runs.marked).since_start;
-      read = ap rising (step.took).read ∙ read_now (letter_taken (state_of old)) (silent_takes_out (state_of old) (state_of new) step.makes)
+      read = ap rising (step.took).read ∙ one_more system log p old runs (letter_taken (state_of old)) (new.mail).letters (silent_takes_out (state_of old) (state_of new) step.makes)
           ∙ sym (ap (λ letters. numbers_read letters (new.mail).letters) all_came);
       clean = clean_now;
       unsent = λ i within is. unsent_now i;

@@ -23,17 +23,7 @@ use Rattle.sys_calls.specs.declared.reading.Reading.TheVariants.{Refused, AtEnd,
 use Rattle.sys_calls.specs.declared.reading.Wanted.{Wanted}
 use Rattle.sys_calls.specs.Calls.{Next, Silent, Blocked, Forks, Emits, Over, Call, ExitCall, Write, Read, ReadAny, ForkCall, GetPid, Handler, Kill, SigReturn, Close, Unknown, answers, arg, called, call_of, close_to, first_wanted, is_wanted, letter_called, letter_to, marks_called, marks_found, marks_read, read_any_checked, read_call, read_checked, read_found, refused, said_within, wanted_letter, write_to, handled_at, is_aligned, is_signal_number, signalled, sigreturn_call}
 use Rattle.sys_calls.specs.Next.{next_step, step_by, live_step, after_exec, closing_step, letter_by, letter_executed, letter_live, letter_taken, marks_by, marks_executed, marks_live, step_marks}
-
--- the letter is the first that passes a test, and the others are left
-pub record IsTaken (a : Arrived) (before after : List Arrived) : Type 0 where
-  pub wanted : Arrived → Bool
-  pub found : find wanted before ≡ Some a
-  pub left : after ≡ without_first wanted before
-
--- where no letter is taken the mailbox stays
-abbrev pub TakesOut : Option Arrived → List Arrived → List Arrived → Type 0
-TakesOut None before after = after ≡ before
-TakesOut (Some a) before after = IsTaken a before after
+use Rattle.sync_laws.proofs.TakenNumbers.{TakesOut}
 
 -- what a silent step does
 abbrev Takes : ProcState → Next → Option Arrived → Type 0

@@ -1,5 +1,5 @@
 -- A batch, post by post: each page may stand, and after them the state.
-use Rattle.std.proofs.Common.{◌≡◌, ℕ, ◌-◌, ◌<◌, refl, sym, ◌∙◌, ap, subst, arith, List, [], ◌∷◌, ◌++◌, append-nil, map, true, not, ◌||◌, ltb, Option, Some, None}
+use Rattle.std.proofs.Common.{◌≡◌, ℕ, ◌-◌, ◌<◌, refl, sym, ◌∙◌, ap, subst, arith, List, [], ◌∷◌, ◌++◌, append-nil, map, true, not, ◌||◌, ltb, Option, Some, is_some}
 use Rattle.std.specs.Prelude.{nat_le, length, option_and_then}
 use Rattle.std.specs.List.{list_all}
 use Rattle.std.specs.Option.{option_map_or}
@@ -10,6 +10,7 @@ use Rattle.t32_base.specs.declared.process.Pid.{Pid}
 use Rattle.t32_base.specs.declared.process.ClusterNo.{ClusterNo}
 use Rattle.t32_base.specs.declared.letter.Arrived.{Arrived}
 use Rattle.t32_base.specs.Account.{Account, with_page}
+use Rattle.t32_base.specs.Small.{SmallState}
 use Rattle.sys_text.specs.declared.system.System.{System}
 use Rattle.rv_mem.specs.Memory.{page_at}
 use Rattle.proc_state.specs.declared.process.Process.{Process}
@@ -20,9 +21,10 @@ use Rattle.bus_msg.specs.declared.entry.What.TheVariants.{Page, Sync}
 use Rattle.bus_msg.specs.declared.entry.By.TheVariants.{Cluster}
 use Rattle.bus_msg.specs.declared.entry.Post.{Post}
 use Rattle.bus_msg.specs.declared.entry.Entry.{Entry}
-use Rattle.sync_point.specs.Batch.{batch, page_post, page_posts, sync_post, synced, marked_pages}
+use Rattle.sync_point.specs.Batch.{batch, cut_of, page_post, page_posts, sync_post, synced, marked_pages, took_by}
 use Rattle.sync_point.specs.Due.{is_due_by}
 use Rattle.sync_point.specs.Laws.{page_sent, pages_sent, with_pages}
+use Rattle.sync_point.proofs.Cuts.{cut_keeps}
 use Rattle.sync_point.proofs.WhichMarked.{marked_within}
 use Rattle.cert_sched.specs.Appended.{entry_of}
 use Rattle.cert_sched.specs.Deeds.{start_of}
@@ -36,12 +38,13 @@ use Rattle.cert_sched.proofs.StepLaws.{silent_from, process_after-own}
 use Rattle.sync_laws.specs.Sending.{MaySend, MaySync, is_due_since}
 use Rattle.sync_laws.specs.Running.{RunsMarked}
 use Rattle.sync_laws.specs.Batched.{log_with, AllStand}
-use Rattle.sync_laws.specs.Cut.{CutsAt}
+use Rattle.sync_laws.specs.Cut.{CutsAt, TakesTo}
 use Rattle.sync_laws.specs.Marked.{IsMarked}
 use Rattle.sync_laws.proofs.PageEntry.{page_goes_on, page_places, page_process, page_silent, page_start, page_saved, page_stated, page_children, page_account}
 use Rattle.sync_laws.proofs.Standing.{page_stands, sync_stands}
-use Rattle.sync_laws.proofs.CutMarks.{cut_marks}
-use Rattle.sync_laws.proofs.MarksLead.{was_there, marks_count, marks_reads, marks_due, marks_account}
+use Rattle.sync_laws.proofs.CutReads.{cut_reads, cut_takes}
+use Rattle.sync_laws.proofs.CutMarks.{synced_marks}
+use Rattle.sync_laws.proofs.MarksLead.{was_there, marks_count, marks_due, marks_account}
 
 -- ---- posts in order
 
@@ -167,28 +170,42 @@ module _ (system : System) (log : List Entry) (p : Pid) (process : Process) (by 
       λ j. nat_le system.syncreads (length (numbers_read (after.has_saved j) (process.mail).letters))
       || nat_le system.syncsteps ((process.small).steps - option_map_or (λ (s : ProcState). (s.small).steps) (after.starts j) 0)
 
-  pub batch_stands : (is_due_by process system.syncreads system.syncsteps || not (has_state system log p)) ≡ true → AllStand system log (batch process by)
+  -- the take of its signal, if it can take one
+  takes : TakesTo (took_by process) (state_of process) (state_of (cut_of process))
+  takes = cut_takes process
+
+  pub batch_stands : (is_due_by process system.syncreads system.syncsteps || is_some (took_by process) || not (has_state system log p)) ≡ true → AllStand system log (batch process by)
   unfolding pages paged
   batch_stands due =
       all_pages_stand system p process by own (start_of system log p) (saved_of system log p) (marked_pages process) (account_after system log p) log (sync_post process by ∷ []) (marked_within process) before (last, tt)
     where
-      sync : MaySync system paged p (state_of process) process.read
+      sync : MaySync system paged p (state_of process) (cut_of process).read (took_by process)
       sync = record {
-        reads = marks_reads system log p process runs ∙ sym (ap (λ saved. numbers_read saved (process.mail).letters) after.has_saved);
+        takes = takes.can;
+        reads = cut_reads system log p process runs ∙ (λ j. numbers_read (sym after.has_saved j) (sym takes.after j).mail);
         children = after.children;
         account = whole;
-        due = (λ j. due_after j || not (pages_stated (marked_pages process) log j)) ∙ ap (λ b. b || not (has_state system log p)) (marks_due system log p process runs) ∙ due;
+        due = (λ j. due_after j || is_some (took_by process) || not (pages_stated (marked_pages process) log j))
+            ∙ ap (λ b. b || is_some (took_by process) || not (has_state system log p)) (marks_due system log p process runs) ∙ due;
       }
 
       last : Stands system paged (entry_of system paged (sync_post process by))
       last =
-          subst (λ q. Stands system paged (entry_of system paged (record { by = Cluster by; what = Sync q process.small process.read None }))) (sym own)
-          (sync_stands system paged (Cluster by) p (state_of process) process.read after.may sync)
+          subst (λ (r : Pid × SmallState). Stands system paged (entry_of system paged (record { by = Cluster by; what = Sync r.0 r.1 (cut_of process).read (took_by process) })))
+          (λ j. (sym own j, (takes.after j).small))
+          (sync_stands system paged (Cluster by) p (state_of process) (cut_of process).read (took_by process) after.may sync)
 
   pub batch_marks : IsMarked system (log_with system log (batch process by)) p (synced process)
   unfolding paged
   batch_marks =
-      let cut : CutsAt system paged (entry_of system paged (sync_post process by)) p (state_of process) =
-      record { read = process.read; says = ap (λ q. Sync q process.small process.read None) own; reached = (after.may).reached } in
+      let cut : CutsAt system paged (entry_of system paged (sync_post process by)) p (state_of (cut_of process)) =
+      record {
+        read = (cut_of process).read;
+        took = took_by process;
+        before = state_of process;
+        says = ap (λ q. Sync q (cut_of process).small (cut_of process).read (took_by process)) own;
+        reached = ap (silent_upto system paged p) (cut_keeps process).steps ∙ (after.may).reached;
+        takes = takes;
+      } in
       subst (λ l. IsMarked system l p (synced process)) (sym (log_append system log (page_posts process by) (sync_post process by ∷ [])))
-      (cut_marks system paged (entry_of system paged (sync_post process by)) p process runs.valid cut whole)
+      (synced_marks system paged (entry_of system paged (sync_post process by)) p process runs.valid cut whole)

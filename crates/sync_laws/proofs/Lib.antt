@@ -1,6 +1,8 @@
 pub mod Beside
 pub mod WholePages
 pub mod PageEntry
+pub mod TakeLeaves
+pub mod SyncMade
 pub mod Standing
 pub mod BirthStands
 pub mod CutEntry
@@ -9,6 +11,9 @@ pub mod PagedAccounts
 pub mod SilentSizes
 pub mod SavedNumbers
 pub mod MarksLead
+pub mod TakenNumbers
+pub mod ReadsOneMore
+pub mod CutReads
 pub mod BatchStands
 pub mod BatchIsNew
 mod WorkedSync

@@ -1,5 +1,5 @@
 -- A worked process: it changes its one page and is due after 64 steps. Its batch may stand, and it is marked as the log says then.
-use Rattle.std.proofs.Common.{◌≡◌, ℕ, zero, suc, ◌<◌, refl, ap, arith, [], ◌∷◌, true, false, not, ◌||◌, Some}
+use Rattle.std.proofs.Common.{◌≡◌, ℕ, zero, suc, ◌<◌, refl, ap, arith, [], ◌∷◌, true, false, not, ◌||◌, Some, is_some}
 use Rattle.std.specs.Option.{option_map_or}
 use Rattle.t32_base.specs.declared.process.Pid.{Pid}
 use Rattle.t32_base.specs.Account.{page_in}
@@ -11,7 +11,7 @@ use Rattle.sys_calls.specs.Next.{silently}
 use Rattle.plain_kernel.specs.Kernel.{boot}
 use Rattle.plain_kernel.specs.Apply.{one_step, steps}
 use Rattle.bus_msg.specs.declared.entry.By.TheVariants.{Cluster}
-use Rattle.sync_point.specs.Batch.{batch, synced}
+use Rattle.sync_point.specs.Batch.{batch, synced, took_by}
 use Rattle.sync_point.specs.Due.{is_due_by}
 use Rattle.cert_sched.specs.Schedule.{plain_after, placement}
 use Rattle.cert_sched.specs.Told.{told}
@@ -65,7 +65,7 @@ due = refl
 
 -- its batch, which is its page and its state, may stand
 stands : AllStand named [] (batch process (cluster 0))
-stands = batch_stands named [] it process (cluster 0) runs may refl (ap (λ b. b || not (has_state named [] it)) due)
+stands = batch_stands named [] it process (cluster 0) runs may refl (ap (λ b. b || is_some (took_by process) || not (has_state named [] it)) due)
 
 -- after it the process is marked as the log says
 marked : IsMarked named (log_with named [] (batch process (cluster 0))) it (synced process)

@@ -1,5 +1,5 @@
 //! The posts of a batch may stand one after the other.
-ghost use Rattle.std.specs.Prelude.{◌≡◌, true, not, ◌||◌, List};
+ghost use Rattle.std.specs.Prelude.{◌≡◌, true, not, ◌||◌, List, is_some};
 ghost use Rattle.t32_base.specs.declared.process.Pid.{Pid};
 ghost use Rattle.t32_base.specs.declared.process.ClusterNo.{ClusterNo};
 ghost use Rattle.sys_text.specs.declared.system.System.{System};
@@ -7,7 +7,7 @@ ghost use Rattle.proc_state.specs.declared.process.Process.{Process};
 ghost use Rattle.proc_state.specs.State.{state_of};
 ghost use Rattle.bus_msg.specs.declared.entry.By.TheVariants.{Cluster};
 ghost use Rattle.bus_msg.specs.declared.entry.Entry.{Entry};
-ghost use Rattle.sync_point.specs.Batch.{batch, synced};
+ghost use Rattle.sync_point.specs.Batch.{batch, synced, took_by};
 ghost use Rattle.sync_point.specs.Due.{is_due_by};
 ghost use Rattle.cert_sched.specs.Kinds.{ChildrenSynced};
 ghost use Rattle.cert_sched.specs.Record.{has_state};
@@ -16,10 +16,10 @@ ghost use Rattle.sync_laws.specs.Running.{RunsMarked};
 ghost use Rattle.sync_laws.specs.Batched.{AllNew, AllStand, log_with};
 ghost use Rattle.sync_laws.specs.Marked.{IsMarked};
 
-/// A law and no code: where a process whose children have synchronised is due by its own counts, or is a child that was
-/// never cut, its batch may stand, post by post.
+/// A law and no code: where a process whose children have synchronised is due by its own counts, takes a signal, or is a
+/// child that was never cut, its batch may stand, post by post.
 pub fn batches_stand()
-    ensures { (system : System) (log : List Entry) (p : Pid) (process : Process) (by : ClusterNo) → RunsMarked system log p process → MaySend system log (Cluster by) p (state_of process) → ChildrenSynced system log p → (is_due_by process system.syncreads system.syncsteps || not (has_state system log p)) ≡ true → AllStand system log (batch process by) }
+    ensures { (system : System) (log : List Entry) (p : Pid) (process : Process) (by : ClusterNo) → RunsMarked system log p process → MaySend system log (Cluster by) p (state_of process) → ChildrenSynced system log p → (is_due_by process system.syncreads system.syncsteps || is_some (took_by process) || not (has_state system log p)) ≡ true → AllStand system log (batch process by) }
 {}
 
 /// A law and no code: no page of a batch was sent at its step count already.

@@ -9,7 +9,7 @@ ghost use Rattle.proc_state.specs.State.{ProcState, state_of};
 ghost use Rattle.bus_msg.specs.declared.entry.Entry.{Entry};
 ghost use Rattle.bus_msg.specs.Places.{same_pid};
 ghost use Rattle.bus_msg.specs.PlacedAfter.{with_each, after_sync};
-ghost use Rattle.sync_point.specs.Batch.{synced};
+ghost use Rattle.sync_point.specs.Batch.{cut_of, synced};
 ghost use Rattle.cert_sched.specs.Schedule.{placement, process_after};
 ghost use Rattle.cert_sched.specs.Deeds.{start_of, since, arrived_count};
 ghost use Rattle.cert_sched.specs.Record.{backup_record};
@@ -46,8 +46,8 @@ pub fn cuts_leave_others()
     ensures account { (system : System) (log : List Entry) (e : Entry) (p : Pid) (s : ProcState) → CutsAt system log e p s → (q : Pid) → same_pid p q ≡ false → account_after system (log ++ e ∷ []) q ≡ account_after system log q }
 {}
 
-/// A law and no code: where the pages that came were its memory, the process has the marks of one that was just
-/// synchronised.
+/// A law and no code: where the pages that came were its memory, a process that was cut as it is after its take, if it
+/// can take a signal, has the marks of one that was just synchronised.
 pub fn cuts_clear_marks()
-    ensures { (system : System) (log : List Entry) (e : Entry) (p : Pid) (process : Process) → is_system system ≡ true → CutsAt system log e p (state_of process) → (account_after system log p).now ≡ all_pages (process.ram).bytes → IsMarked system (log ++ e ∷ []) p (synced process) }
+    ensures { (system : System) (log : List Entry) (e : Entry) (p : Pid) (process : Process) → is_system system ≡ true → CutsAt system log e p (state_of (cut_of process)) → (account_after system log p).now ≡ all_pages (process.ram).bytes → IsMarked system (log ++ e ∷ []) p (synced process) }
 {}

@@ -1,8 +1,15 @@
+use Rattle.sync_laws.proofs.CutReads.{cut_reads, cut_takes}
 use Rattle.sync_laws.proofs.MarksLead.{marks_reads, marks_due, marks_account}
 use Rattle.sync_laws.proofs.marks.marks_lead_there.Goals as goal
 
 pub returns-clause-reads : goal.returns-clause-reads
 returns-clause-reads c = marks_reads
+
+pub returns-clause-cut : goal.returns-clause-cut
+returns-clause-cut c = cut_reads
+
+pub returns-clause-takes : goal.returns-clause-takes
+returns-clause-takes c = cut_takes
 
 pub returns-clause-due : goal.returns-clause-due
 returns-clause-due c = marks_due

@@ -1,5 +1,5 @@
 -- A letter that is taken out of a mailbox is one more that was read: its number is put in its place among those read before.
-use Rattle.std.proofs.Common.{◌≡◌, ℕ, refl, sym, ◌∙◌, ap, arith, List, [], ◌∷◌, ◌++◌, map, Bool, true, false, cond, not, ◌||◌, ◌&&◌, eqb, eqb-true, eq-eqb, ltb, Some, true≢false}
+use Rattle.std.proofs.Common.{◌≡◌, ℕ, refl, sym, ◌∙◌, ap, arith, List, [], ◌∷◌, ◌++◌, map, Bool, true, false, cond, not, ◌||◌, ◌&&◌, eqb, eqb-true, eq-eqb, ltb, Option, Some, None, true≢false}
 use Rattle.std.specs.Prelude.{filter, find}
 use Rattle.std.specs.List.{list_any}
 use Rattle.std.proofs.lemmas.Bool.{and_parts, and_from}
@@ -11,7 +11,17 @@ use Rattle.cert_sched.specs.Parts.{put_rising, rising}
 use Rattle.cert_sched.specs.Steps.{numbers_read}
 use Rattle.cert_sched.proofs.RisingLaws.{rising-append, put_all-put, put_all-none}
 use Rattle.read_laws.specs.Numbered.{are_above, are_in_order}
-use Rattle.mark_laws.proofs.TakenLetter.{IsTaken}
+
+-- the letter is the first that passes a test, and the others are left
+pub record IsTaken (a : Arrived) (before after : List Arrived) : Type 0 where
+  pub wanted : Arrived → Bool
+  pub found : find wanted before ≡ Some a
+  pub left : after ≡ without_first wanted before
+
+-- where no letter is taken the mailbox stays
+abbrev pub TakesOut : Option Arrived → List Arrived → List Arrived → Type 0
+TakesOut None before after = after ≡ before
+TakesOut (Some a) before after = IsTaken a before after
 
 -- a letter of the list has the number
 abbrev pub has : ℕ → List Arrived → Bool
