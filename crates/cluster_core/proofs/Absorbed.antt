@@ -8,7 +8,6 @@ use Rattle.sys_text.specs.Valid.{is_system}
 use Rattle.channel_table.specs.Changes.{CanBeAbsorbed}
 use Rattle.sys_calls.specs.declared.steps.Emission.{Emission}
 use Rattle.sys_calls.specs.declared.steps.Emission.TheVariants.{Mail as Sent, Exit as Ended}
-use Rattle.sys_calls.proofs.Quiet.{sends_none}
 use Rattle.bus_msg.specs.declared.entry.What.{What}
 use Rattle.bus_msg.specs.declared.entry.Post.{Post}
 use Rattle.bus_msg.specs.declared.entry.Entry.{Entry}
@@ -23,7 +22,6 @@ use Rattle.cert_sched.specs.Rules.{home_at}
 use Rattle.bus_msg.specs.declared.placed.Placed.{Placed}
 use Rattle.cert_sched.specs.Schedule.{placement}
 use Rattle.cert_sched.proofs.LogLaws.{IsLegal-last}
-use Rattle.cert_sched.proofs.MailLaws.{sent_no_signal}
 use Rattle.cert_sched.proofs.NextChildren.{may_be_absorbed}
 use Rattle.cert_sched.proofs.StepLaws.{Tells}
 use Rattle.backup_records.specs.Records.{are_rising, record_in, records_after}
@@ -47,7 +45,7 @@ use Rattle.cluster_core.proofs.Synchronising.{follows_sync, home_same, sync_not_
 use Rattle.cluster_core.proofs.Births.{birth_taken, follows_birth, parent_not_here, spares_here}
 use Rattle.cluster_core.specs.Serving.{Serves}
 use Rattle.page_server.specs.Account.{PagerState}
-use Rattle.cluster_core.proofs.Owning.{brings_none, own_after, own_later, own_page}
+use Rattle.cluster_core.proofs.Owning.{own_after, own_later, own_page}
 use Rattle.cluster_core.proofs.Following.{Left, Next, apart, follows_foreign, follows_own, found_stays, left_of, next_of, told_taken}
 use Rattle.cluster_core.proofs.Beside.{FollowsBeside, all_of, beside_of, built_of}
 use Rattle.cluster_core.proofs.AfterSent.{sent_is}
@@ -185,23 +183,6 @@ absorbs c e server valid own order serves log now later ready = by_ready ready
 
 -- ---- what it brings
 
--- an entry that stands in a legal log brings no signal
-pub ready_quiet : (system : System) (log : List Entry) (e : Entry) → IsOpen BuiltMayFollow system log → IsOpen BuiltMayFollow system (log ++ e ∷ []) → brings_none (what e)
-ready_quiet system log e now later = by_loss (one_of system log e later)
-  where
-    by_emission : (n : Next system log e) (m : Emission) → Tells (n.told).pid (n.told).at m (what e) → sends_none m → brings_none (what e)
-    by_emission n (Sent letter) tells quiet = subst brings_none (sym tells.1) quiet
-    by_emission n (Ended end) tells quiet = subst brings_none (sym tells) tt
-
-    by_loss : OneOf (what e) → brings_none (what e)
-    by_loss (inl tells) =
-        let n = next_of system log e tells now later in
-        by_emission n (n.told).emission (n.told).tells (sent_no_signal system log (n.told).pid (n.told).at (n.told).emission (n.told).after (n.told).is)
-    by_loss (inr (inl of)) = by_page brings_none (λ pid index. tt) (λ pid index bytes. tt) (what e) of
-    by_loss (inr (inr (inl l))) = subst brings_none (sym l.same) tt
-    by_loss (inr (inr (inr (inl of)))) = by_sync brings_none (λ pid at index bytes. tt) (λ pid small read. tt) (what e) of
-    by_loss (inr (inr (inr (inr b)))) = subst brings_none (sym b.same) tt
-
 -- the processes that a loss moves here can wait for their pages, and none of them is here yet
 pub may_wait : (c : ClusterView) (e : Entry) → is_system c.system ≡ true → ReadyFor e c → CanWait (moved_by c.places c.number (what e) (records_after (what e) c.records)) (here_after (what e) c.here)
 may_wait c e valid r = by_loss (one_of c.system r.log e r.open_next)
@@ -226,7 +207,7 @@ may_wait c e valid r = by_loss (one_of c.system r.log e r.open_next)
     by_loss (inl tells) = nobody (none (what e) tells)
     by_loss (inr (inl of)) = nobody (none_by_page (what e) of)
     by_loss (inr (inr (inl l))) = lost l r.ready
-    by_loss (inr (inr (inr (inl of)))) = nobody (by_sync (λ w. moved_by c.places c.number w (records_after w c.records) ≡ []) (λ pid at index bytes. refl) (λ pid small read. refl) (what e) of)
+    by_loss (inr (inr (inr (inl of)))) = nobody (by_sync (λ w. moved_by c.places c.number w (records_after w c.records) ≡ []) (λ pid at index bytes. refl) (λ pid small read took. refl) (what e) of)
     by_loss (inr (inr (inr (inr b)))) = nobody (ap (λ w. moved_by c.places c.number w (records_after w c.records)) b.same)
 
 -- a page that comes may come to its process
@@ -262,7 +243,7 @@ may_come c e valid r = by_loss (one_of c.system r.log e r.open_next)
     by_loss (inl tells) = by_kind (λ w. CanCome w c.here) (λ at letter. tt) (λ pid at end. tt) (λ rests. tt) tt (what e) tells
     by_loss (inr (inl of)) = page (what e) of refl
     by_loss (inr (inr (inl l))) = subst (λ w. CanCome w c.here) (sym l.same) tt
-    by_loss (inr (inr (inr (inl of)))) = by_sync (λ w. CanCome w c.here) (λ pid at index bytes. tt) (λ pid small read. tt) (what e) of
+    by_loss (inr (inr (inr (inl of)))) = by_sync (λ w. CanCome w c.here) (λ pid at index bytes. tt) (λ pid small read took. tt) (what e) of
     by_loss (inr (inr (inr (inr b)))) = subst (λ w. CanCome w c.here) (sym b.same) tt
 
 -- ---- that it may be taken in, and what it makes of those that are here
@@ -291,10 +272,10 @@ ready_own c e r own = by_loss (one_of c.system r.log e r.open_next)
     later = own_later c.cursor c.here own
 
     by_loss : OneOf (what e) → AllOwn (c.cursor + 1) (here_after (what e) c.here)
-    by_loss (inl tells) = own_after c.cursor (what e) c.here tells (ready_quiet c.system r.log e r.open_log r.open_next) own
+    by_loss (inl tells) = own_after c.cursor (what e) c.here tells own
     by_loss (inr (inl of)) = by_page (λ w. AllOwn (c.cursor + 1) (here_after w c.here)) (λ pid index. later) (λ pid index bytes. own_page (c.cursor + 1) pid index bytes c.here later) (what e) of
     by_loss (inr (inr (inl l))) = subst (λ w. AllOwn (c.cursor + 1) (here_after w c.here)) (sym l.same) later
-    by_loss (inr (inr (inr (inl of)))) = by_sync (λ w. AllOwn (c.cursor + 1) (here_after w c.here)) (λ pid at index bytes. later) (λ pid small read. later) (what e) of
+    by_loss (inr (inr (inr (inl of)))) = by_sync (λ w. AllOwn (c.cursor + 1) (here_after w c.here)) (λ pid at index bytes. later) (λ pid small read took. later) (what e) of
     by_loss (inr (inr (inr (inr b)))) = subst (λ w. AllOwn (c.cursor + 1) (here_after w c.here)) (sym b.same) (own_born (c.cursor + 1) b.parent b.child c.here later)
 
 -- what is here as it was, or nothing, is its own

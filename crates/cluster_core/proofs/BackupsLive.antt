@@ -101,8 +101,8 @@ exit_live places r at end live p q b found backup = by_pid (same_pid p r) refl
     by_pid true same = let none : None ≡ Some q = sym (exit_there places r p at end same) ∙ found in cc
     by_pid false apart = live p q b (sym (exit_elsewhere places r p at end apart) ∙ found) backup
 
-cut_live : (places : Places) (r : Pid) (small : SmallState) (read : List ℕ) → BackupsLive places → BackupsLive (placed_after places (Sync r small read None))
-cut_live places r small read live p q b found backup = by_found (unended_at places p) refl (sym (synced_found places r p small read None) ∙ found)
+cut_live : (places : Places) (r : Pid) (small : SmallState) (read : List ℕ) (took : Option ℕ) → BackupsLive places → BackupsLive (placed_after places (Sync r small read took))
+cut_live places r small read took live p q b found backup = by_found (unended_at places p) refl (sym (synced_found places r p small read took) ∙ found)
   where
     by_found : (o : Option Placed) → unended_at places p ≡ o → option_map (after_sync r) o ≡ Some q → lives_in places b ≡ true
     by_found None there e = cc
@@ -146,7 +146,7 @@ next_live system log e differ live may = subst BackupsLive (sym (placement-snoc 
         by_parent : (o : Option Placed) → unended_at places b.parent ≡ o → option_map (next_child_at places) o ≡ Some b.child → BackupsLive (with_birth places b.child (placed_at places b.parent))
         by_parent None there is = cc
         by_parent (Some r) there is = birth_live places b.parent b.child r differ there live
-    by_loss (inr (inr (inr (inl of)))) = by_sync (λ w. BackupsLive (placed_after places w)) (λ pid at index bytes. live) (λ pid small read. cut_live places pid small read live) (what e) of
+    by_loss (inr (inr (inr (inl of)))) = by_sync (λ w. BackupsLive (placed_after places w)) (λ pid at index bytes. live) (λ pid small read took. cut_live places pid small read took live) (what e) of
 
 -- ---- the whole
 

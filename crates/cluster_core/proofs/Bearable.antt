@@ -75,5 +75,5 @@ module _ (c : ClusterView) (e : Entry) (valid : is_system c.system ≡ true) (mi
       by_kind_of (inl tells) = by_kind (λ w. CanBeBorn w c.here) (λ at letter. tt) (λ pid at end. tt) (λ rests. tt) tt (what e) tells
       by_kind_of (inr (inl of)) = by_page (λ w. CanBeBorn w c.here) (λ pid index. tt) (λ pid index bytes. tt) (what e) of
       by_kind_of (inr (inr (inl l))) = subst (λ w. CanBeBorn w c.here) (sym l.same) tt
-      by_kind_of (inr (inr (inr (inl of)))) = by_sync (λ w. CanBeBorn w c.here) (λ pid at index bytes. tt) (λ pid small read. tt) (what e) of
+      by_kind_of (inr (inr (inr (inl of)))) = by_sync (λ w. CanBeBorn w c.here) (λ pid at index bytes. tt) (λ pid small read took. tt) (what e) of
       by_kind_of (inr (inr (inr (inr b)))) = subst (λ w. CanBeBorn w c.here) (sym b.same) (by_ready b r.ready)

@@ -12,7 +12,6 @@ use Rattle.sys_text.specs.Valid.{is_system}
 use Rattle.sys_text.specs.Boot.{roots_of, with_pids}
 use Rattle.sys_text.proofs.Bounds.{root_tests, system_bounds, tests}
 use Rattle.proc_state.specs.declared.process.Process.{Process}
-use Rattle.proc_state.specs.Mail.{is_signal}
 use Rattle.proc_state.specs.State.{IsFresh, ProcState, state_of, has_ended}
 use Rattle.plain_kernel.specs.Kernel.{Kernel, boot, pid_cmp, process_at}
 use Rattle.plain_kernel.specs.Maps.{booted_ttys, linked_processes}
@@ -90,10 +89,6 @@ steps_now : (system : System) (p : Pid) (s : ProcState) → process_at (boot sys
 unfolding plain_after
 steps_now system p s there = at_once system [] p s there
 
--- no signal waits anywhere before the first entry
-pub boot_quiet : (system : System) (q : Pid) (s : ProcState) → process_at (boot system) q ≡ Some s → list_any is_signal s.mail ≡ false
-boot_quiet system q s there = boot-each (λ p s. list_any is_signal s.mail ≡ false) system (λ p r. refl) (λ p s peer far quiet. quiet) q s there
-
 -- ---- each process
 
 -- the pids here are those of the kernel that belong to the cluster
@@ -125,7 +120,6 @@ boot_own system number here is = all_own 0 here (here_apart system number here i
         let none = boot_arrived system p (state_of q) at in
         record {
           pid_is = process_after-own system [] p (state_of q) at;
-          quiet = boot_quiet system p (state_of q) at;
           arrived = omega (arith, none);
         }
 

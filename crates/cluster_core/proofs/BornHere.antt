@@ -109,8 +109,8 @@ module _ (p child : Pid) (process : Process) (here : List (Pid × Held)) (there 
   pub own_born : (cursor : ℕ) → AllOwn cursor here → AllOwn cursor (with_born p child here)
   own_born cursor own =
       let mine : IsOwn cursor p process = own_at cursor here p (Runs process) own there in
-      let parent : IsOwn cursor p (forked process child) = record { pid_is = mine.pid_is; quiet = mine.quiet; arrived = mine.arrived } in
-      let begun : IsOwn cursor child (newborn process child) = record { pid_is = refl; quiet = refl; arrived = omega arith } in
+      let parent : IsOwn cursor p (forked process child) = record { pid_is = mine.pid_is; arrived = mine.arrived } in
+      let begun : IsOwn cursor child (newborn process child) = record { pid_is = refl; arrived = omega arith } in
       subst (AllOwn cursor) (sym born_is)
       (own_more cursor child (Runs (newborn process child)) (with_changed p (Runs (forked process child)) here) begun (own_changed cursor p (Runs (forked process child)) here own parent))
 

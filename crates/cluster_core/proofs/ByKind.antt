@@ -1,5 +1,5 @@
 -- The kinds of entries that are built: those that tell of steps or close the log, those of pages, losses, those by which a process synchronises, and births. What holds of each of some kinds holds of every entry of them.
-use Rattle.std.proofs.Common.{◌≡◌, ◌⊎◌, ℕ, refl, sym, List, Bool, true, false, Some, None, true≢false, inl, inr}
+use Rattle.std.proofs.Common.{◌≡◌, ◌⊎◌, ℕ, refl, sym, List, Bool, true, false, Option, true≢false, inl, inr}
 use Rattle.t32_base.specs.declared.process.Pid.{Pid}
 use Rattle.t32_base.specs.declared.process.End.{End}
 use Rattle.t32_base.specs.declared.letter.Letter.{Letter}
@@ -33,15 +33,15 @@ by_page P fetch page (Fetch pid index) of = fetch pid index
 by_page P fetch page (PageIs pid index bytes) of = page pid index bytes
 by_page P fetch page _ of = absurd (true≢false (sym of))
 
--- a process synchronises: by a changed page, or by the cut, without a signal
+-- a process synchronises: by a changed page, or by the cut
 abbrev pub is_of_sync : What → Bool
 is_of_sync (Page pid at index bytes) = true
-is_of_sync (Sync pid small read None) = true
+is_of_sync (Sync pid small read took) = true
 is_of_sync _ = false
 
-pub by_sync : (P : What → Type 0) → ((pid : Pid) (at index : ℕ) (bytes : List ℕ) → P (Page pid at index bytes)) → ((pid : Pid) (small : SmallState) (read : List ℕ) → P (Sync pid small read None)) → (w : What) → is_of_sync w ≡ true → P w
+pub by_sync : (P : What → Type 0) → ((pid : Pid) (at index : ℕ) (bytes : List ℕ) → P (Page pid at index bytes)) → ((pid : Pid) (small : SmallState) (read : List ℕ) (took : Option ℕ) → P (Sync pid small read took)) → (w : What) → is_of_sync w ≡ true → P w
 by_sync P page cut (Page pid at index bytes) of = page pid at index bytes
-by_sync P page cut (Sync pid small read None) of = cut pid small read
+by_sync P page cut (Sync pid small read took) of = cut pid small read took
 by_sync P page cut _ of = absurd (true≢false (sym of))
 
 -- the loss of a cluster
@@ -72,8 +72,7 @@ kind_is (Done rests) built = inl refl
 kind_is Stop built = inl refl
 kind_is (Birth parent at child end) built = inr (inr (inr (inr (record { parent = parent; at = at; child = child; end = end; same = refl }))))
 kind_is (Page pid at index bytes) built = inr (inr (inr (inl refl)))
-kind_is (Sync pid small read None) built = inr (inr (inr (inl refl)))
-kind_is (Sync pid small read (Some g)) built = absurd (true≢false (sym built))
+kind_is (Sync pid small read took) built = inr (inr (inr (inl refl)))
 kind_is (Return k) built = absurd (true≢false (sym built))
 kind_is (Rebackup to fresh recs) built = absurd (true≢false (sym built))
 

@@ -170,7 +170,7 @@ forks_told w births here tells = forks_kept births (family_after w births) here 
 
 pub forks_synced : (w : What) (births : List Pair) (here : List (Pid × Held)) → is_of_sync w ≡ true → ForksLeft births here → ForksLeft (family_after w births) here
 forks_synced w births here of =
-    forks_kept births (family_after w births) here here (by_sync (λ w. AreAmong (family_after w births) births) (λ pid at index bytes parent child born. born) (λ pid small read. filter_among (λ (b : Pair). not (same_pid b.1 pid)) births) w of) (λ p h at. record { was = h; there = at; same = same_forks h })
+    forks_kept births (family_after w births) here here (by_sync (λ w. AreAmong (family_after w births) births) (λ pid at index bytes parent child born. born) (λ pid small read took. filter_among (λ (b : Pair). not (same_pid b.1 pid)) births) w of) (λ p h at. record { was = h; there = at; same = same_forks h })
 
 -- ---- a birth
 

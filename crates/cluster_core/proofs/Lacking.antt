@@ -215,7 +215,7 @@ unowed c none log go f first = by_server c.server ((f.accounts).there serves.unl
 -- ---- what a work says then
 
 pub rested_work : (c : ClusterView) → AllOwn c.cursor c.here → OwesNothing c → are_stuck (limits_of c.system) c.here ≡ true → any_waits c.here ≡ false → WorkIs c Rests (counted_once c)
-rested_work c own nothing stuck none = (nothing, stuck_rest (limits_of c.system) c.cursor c.here own none ∙ stuck, unowed c nothing.unowed, refl)
+rested_work c own nothing stuck none = (nothing, stuck_rest (limits_of c.system) c.here none ∙ stuck, unowed c nothing.unowed, refl)
 
 pub waited_work : (c : ClusterView) → is_system c.system ≡ true → c.queue ≡ [] → AllOwn c.cursor c.here → OwesNothing c → are_stuck (limits_of c.system) c.here ≡ true → any_waits c.here ≡ true → WorkIs c IsWaiting (counted_once c)
 waited_work c valid empty own nothing stuck waits = (nothing, waiting_rests_not (limits_of c.system) c.here waits, waited c valid empty own stuck waits nothing.none, unowed c nothing.unowed, refl)

@@ -26,7 +26,6 @@ mod PagePosts
 mod MovedRecords
 mod RecoveredHere
 mod HomesMoved
-mod QuietSaved
 mod Moving
 mod BackupsLive
 mod LostQueue

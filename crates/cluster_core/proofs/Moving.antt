@@ -24,7 +24,6 @@ use Rattle.page_waits.specs.Waiting.{page_count}
 use Rattle.wait_laws.specs.Waits.{first_wait}
 use Rattle.wait_laws.proofs.RecordPages.{StartsSo, has_pages, starts_so}
 use Rattle.cluster_core.specs.Parts.{WaitsOwn}
-use Rattle.cluster_core.proofs.QuietSaved.{saved_quiet}
 
 -- where there is a page, not all have come at first
 none_come : (n : ℕ) → 1 ≤ n → list_all (is_some {T = List ℕ}) (replicate n None) ≡ false
@@ -38,12 +37,11 @@ module _ (system : System) (valid : is_system system ≡ true) (log : List Entry
   record_is : record_from system log p s.start ≡ r
   record_is = record_of system log p s.start r s.started kept
 
-  -- it waits under its own pid, and lacks a page where its record has a state: no signal was saved for it, and no more letters came to it than the log has entries
+  -- it waits under its own pid, and lacks a page where its record has a state, and no more letters came to it than the log has entries
   pub waits_own : WaitsOwn (length log) p (first_wait r)
   waits_own = record {
     pid_is = sym (ap (λ (r : BackRec). r.pid) record_is);
     state = own_state r.state refl;
-    quiet = saved_quiet system log p r valid legal unended kept;
     arrived = next_fits system log p r kept;
     lacks = λ some. none_come (page_count r) (has_pages system log p r valid legal unended (stated some) kept).some;
   }

@@ -93,7 +93,7 @@ home_not_moved system log e p k differ here away = by_loss (cluster_lost (what e
 
 pub by_built : (P : What → Type 0) → ((at : ℕ) (letter : Letter) → P (Mail at letter)) → ((parent : Pid) (at : ℕ) (child : Pid) (end : ℕ) → P (Birth parent at child end)) → ((pid : Pid) (at : ℕ) (end : End) → P (Exit pid at end)) → ((pid : Pid) (index : ℕ) → P (Fetch pid index))
     → ((pid : Pid) (index : ℕ) (bytes : List ℕ) → P (PageIs pid index bytes)) → ((lost : ClusterNo) (cause : Cause) → P (Crash lost cause)) → ((pid : Pid) (at index : ℕ) (bytes : List ℕ) → P (Page pid at index bytes))
-    → ((pid : Pid) (small : SmallState) (read : List ℕ) → P (Sync pid small read None)) → ((rests : List (Pid × ℕ)) → P (Done rests)) → P Stop → (w : What) → is_built w ≡ true → P w
+    → ((pid : Pid) (small : SmallState) (read : List ℕ) (took : Option ℕ) → P (Sync pid small read took)) → ((rests : List (Pid × ℕ)) → P (Done rests)) → P Stop → (w : What) → is_built w ≡ true → P w
 by_built P mail birth exit fetch page crash changed cut done stop w built = by_one (kind_is w built)
   where
     by_one : OneOf w → P w
@@ -169,8 +169,8 @@ module _ (system : System) (valid : is_system system ≡ true) (log : List Entry
             absurd (true≢false (sym there ∙ ap is_some (ap (process_after system log) one ∙ child_absent system log e parent at child end is (may.stands).applies)))
         by_pid false apart = by_other (Birth parent at child end) is refl (sym (born_beside p child places (placed_at places parent) apart) ∙ found)
 
-    by_cut : (r : Pid) (small : SmallState) (read : List ℕ) → what e ≡ Sync r small read None → unended_at (placed_after places (Sync r small read None)) p ≡ Some q → q.backup ≡ None
-    by_cut r small read is found = by_found (unended_at places p) refl (sym (synced_found places r p small read None) ∙ found)
+    by_cut : (r : Pid) (small : SmallState) (read : List ℕ) (took : Option ℕ) → what e ≡ Sync r small read took → unended_at (placed_after places (Sync r small read took)) p ≡ Some q → q.backup ≡ None
+    by_cut r small read took is found = by_found (unended_at places p) refl (sym (synced_found places r p small read took) ∙ found)
       where
         by_found : (o : Option Placed) → unended_at places p ≡ o → option_map (after_sync r) o ≡ Some q → q.backup ≡ None
         by_found None there same = cc

@@ -207,14 +207,14 @@ exit_left system log k recs pid at end live keeps elsewhere = by_first recs refl
         absurd (true≢false (sym (named_goes places k (all_clusters places) lives (all_named places k lives)) ∙ elsewhere))
 
 -- a cut goes to the backup of its process
-cut_left : (system : System) (log : List Entry) (k : ClusterNo) (recs : List BackRec) (pid : Pid) (small : SmallState) (read : List ℕ) → BackupsLive (placement system log) → KeepsRecords system log k recs
-    → goes_to (route (placement system log) (Sync pid small read None)) k ≡ false → map (record_after (Sync pid small read None)) recs ≡ recs
-cut_left system log k recs pid small read live keeps elsewhere = all_left (has_backup_in system log k) (record_after (Sync pid small read None)) recs (backed system log k recs keeps) one
+cut_left : (system : System) (log : List Entry) (k : ClusterNo) (recs : List BackRec) (pid : Pid) (small : SmallState) (read : List ℕ) (took : Option ℕ) → BackupsLive (placement system log) → KeepsRecords system log k recs
+    → goes_to (route (placement system log) (Sync pid small read took)) k ≡ false → map (record_after (Sync pid small read took)) recs ≡ recs
+cut_left system log k recs pid small read took live keeps elsewhere = all_left (has_backup_in system log k) (record_after (Sync pid small read took)) recs (backed system log k recs keeps) one
   where
     places : Places
     places = placement system log
 
-    one : (r : BackRec) → has_backup_in system log k r.pid ≡ true → record_after (Sync pid small read None) r ≡ r
+    one : (r : BackRec) → has_backup_in system log k r.pid ≡ true → record_after (Sync pid small read took) r ≡ r
     one r here = by_pid (same_pid pid r.pid) refl
       where
         by_pid : (b : Bool) → same_pid pid r.pid ≡ b → cond b (with_cut small read r) r ≡ r
@@ -287,5 +287,5 @@ noted_next c e valid r elsewhere = by_loss (kind_is (what e) may.built)
         (sym (ap (λ w. goes_to (route (placement c.system r.log) w) c.number) b.same) ∙ ap (λ dests. goes_to dests c.number) (sym (((may.stands).placed).1)) ∙ elsewhere)
     by_loss (inr (inr (inr (inl of)))) =
         by_sync (λ w. goes_to (route (placement c.system r.log) w) c.number ≡ false → records_after w c.records ≡ c.records) (λ pid at index bytes away. refl)
-        (λ pid small read away. cut_left c.system r.log c.number c.records pid small read (backups_live c.system r.log valid (r.open_log).0) (kept_of c r.log e r.ready).records away) (what e) of
+        (λ pid small read took away. cut_left c.system r.log c.number c.records pid small read took (backups_live c.system r.log valid (r.open_log).0) (kept_of c r.log e r.ready).records away) (what e) of
         (ap (λ dests. goes_to dests c.number) (sym (((may.stands).placed).1)) ∙ elsewhere)

@@ -99,7 +99,7 @@ module _ (system : System) (valid : is_system system ≡ true) (log : List Entry
   same_whole : with_queue system log b.queue ≡ with_queue system later rest
   same_whole =
       ap (with_queue system log) posts
-      ∙ ap (λ plain. cond plain (with_queue system log rest) (with_queue system later rest)) (by_sync (λ w. is_rebackup w ≡ false) (λ pid at index bytes. refl) (λ pid small read. refl) head.what of)
+      ∙ ap (λ plain. cond plain (with_queue system log rest) (with_queue system later rest)) (by_sync (λ w. is_rebackup w ≡ false) (λ pid at index bytes. refl) (λ pid small read took. refl) head.what of)
 
   once : rising (pids_in b.here) ≡ rising (home_pids system log b.number)
   once = (f.processes).each_once

@@ -1,22 +1,20 @@
--- What is here keeps its pid, and no signal comes to it.
+-- What is here keeps its pid.
 use Rattle.std.proofs.Common.{◌≡◌, ℕ, ◌+◌, ◌-◌, ◌^◌, ◌<◌, ◌≤◌, ◌∙◌, refl, sym, subst, arith, List, [], ◌∷◌, Bool, true, false, cond, not, ◌&&◌, ◌||◌, eqb-true, Option, Some, None, is_some, ap, true≢false}
 use Rattle.std.specs.Prelude.{filter, find, option_map}
 use Rattle.t32_base.specs.declared.process.Pid.{Pid}
 use Rattle.t32_base.specs.declared.process.Counts.{Counts}
 use Rattle.t32_base.specs.declared.letter.Letter.{Letter}
 use Rattle.proc_state.specs.declared.process.Process.{Process}
-use Rattle.proc_state.specs.Mail.{carries_signal, is_signal}
-use Rattle.proc_state.specs.State.{state_of}
+use Rattle.proc_state.specs.State.{can_take, state_of}
 use Rattle.sys_calls.specs.Next.{next_step, has_step, silently}
 use Rattle.sys_calls.proofs.Counting.{silently_counts, emits_counts}
-use Rattle.sys_calls.proofs.Quiet.{delivered_quiet, emits_quiet, silently_quiet, takes_none}
 use Rattle.bus_msg.specs.declared.entry.What.{What}
 use Rattle.bus_msg.specs.declared.entry.What.TheVariants.{Mail}
 use Rattle.bus_msg.specs.Places.{same_pid}
 use Rattle.cert_sched.specs.Deeds.{is_end_of}
 use Rattle.sync_point.specs.Batch.{synced}
+use Rattle.sync_point.specs.Due.{is_due_by}
 use Rattle.quanta.specs.declared.limits.Limits.{Limits}
-use Rattle.quanta.specs.Limited.{is_due}
 use Rattle.cluster_core.specs.View.{Held, Runs, Rolls, Waits, arrived, arrived_held, held_of, next_number, asked_held, going_on, page_held, rolling_held, is_waiting}
 use Rattle.cluster_core.specs.Residents.{with_changed, are_stuck, is_stuck, HasRoom, are_settled, is_settled}
 use Rattle.cluster_core.specs.Parts.{IsHeldOwn, IsOwn, WaitsOwn, AllOwn}
@@ -35,9 +33,7 @@ use Rattle.cluster_core.specs.Work.{any_waits}
 use Rattle.recovery.specs.Begun.{begun}
 use Rattle.cert_sched.proofs.RisingLaws.{either_not}
 use Rattle.roll_forward.specs.RunsOut.{nothing_left}
-use Rattle.std.specs.List.{list_any}
 use Rattle.std.specs.Option.{IfSome, option_map_or}
-use Rattle.std.proofs.lemmas.List.Folds.{list_any-append}
 
 -- ---- one of them
 
@@ -66,21 +62,22 @@ has_room cursor here own room p h there = by_held h (own_at cursor here p h own 
 
 -- ---- none of them can move
 
--- who cannot move and does not wait for a page is at rest, since no signal waits
-one_rest : (limits : Limits) (cursor : ℕ) (p : Pid) (h : Held) → IsHeldOwn cursor p h → is_at_rest limits h ≡ is_settled limits h
-one_rest limits cursor p (Runs s) own =
-    (λ i. not (has_step (next_step (state_of s)) || takes_none (state_of s) own.quiet i) && not (is_due limits s)) ∙ alike (has_step (next_step (state_of s))) (is_due limits s)
+-- who cannot move and does not wait for a page is at rest, since who can take a signal is due
+one_rest : (limits : Limits) (h : Held) → is_at_rest limits h ≡ is_settled limits h
+one_rest limits (Runs s) = alike (has_step (next_step (state_of s))) (can_take (state_of s)) (is_due_by s limits.reads limits.steps)
   where
-    alike : (a b : Bool) → (not (a || false) && not b) ≡ (not (a || b) && true)
-    alike true b = refl
-    alike false true = refl
-    alike false false = refl
-one_rest limits cursor p (Rolls s counts births) own = refl
-one_rest limits cursor p (Waits waiting) own = refl
+    alike : (a t b : Bool) → (not (a || t) && not (b || t)) ≡ (not (a || (b || t)) && true)
+    alike true t b = refl
+    alike false true true = refl
+    alike false true false = refl
+    alike false false true = refl
+    alike false false false = refl
+one_rest limits (Rolls s counts births) = refl
+one_rest limits (Waits waiting) = refl
 
-pub settled_rest : (limits : Limits) (cursor : ℕ) (here : List (Pid × Held)) → AllOwn cursor here → are_at_rest limits here ≡ are_settled limits here
-settled_rest limits cursor [] own = refl
-settled_rest limits cursor (e ∷ here) own = λ i. one_rest limits cursor e.0 e.1 own.0 i && settled_rest limits cursor here own.1 i
+pub settled_rest : (limits : Limits) (here : List (Pid × Held)) → are_at_rest limits here ≡ are_settled limits here
+settled_rest limits [] = refl
+settled_rest limits (e ∷ here) = λ i. one_rest limits e.1 i && settled_rest limits here i
 
 -- where none waits, who cannot move is at rest
 none_waits : (limits : Limits) (here : List (Pid × Held)) → any_waits here ≡ false → are_settled limits here ≡ are_stuck limits here
@@ -96,8 +93,8 @@ none_waits limits (e ∷ here) none =
     by_stuck : (a b : Bool) → b ≡ false → (a && not b) ≡ a
     by_stuck a b is = ap (λ b. a && not b) is ∙ and_true a
 
-pub stuck_rest : (limits : Limits) (cursor : ℕ) (here : List (Pid × Held)) → AllOwn cursor here → any_waits here ≡ false → are_at_rest limits here ≡ are_stuck limits here
-stuck_rest limits cursor here own none = settled_rest limits cursor here own ∙ none_waits limits here none
+pub stuck_rest : (limits : Limits) (here : List (Pid × Held)) → any_waits here ≡ false → are_at_rest limits here ≡ are_stuck limits here
+stuck_rest limits here none = settled_rest limits here ∙ none_waits limits here none
 
 -- where one waits, not all rest
 pub waiting_rests_not : (limits : Limits) (here : List (Pid × Held)) → any_waits here ≡ true → are_at_rest limits here ≡ false
@@ -120,14 +117,13 @@ own_moved cursor pid was now steps own silent =
     let counts = silently_counts steps (state_of was) (state_of now) silent in
     record {
       pid_is = counts.pid ∙ own.pid_is;
-      quiet = silently_quiet steps (state_of was) (state_of now) silent own.quiet;
       arrived = subst (λ n. n ≤ cursor) (sym counts.next) own.arrived;
     }
 
 own_rolled : (cursor : ℕ) (pid : Pid) (was : Process) (counts left : Counts) (births unborn : List Pid) (n : ℕ) (now : Process) → rolled_on n (going was counts births) ≡ Some (going now left unborn) → IsOwn cursor pid was → IsOwn cursor pid now
 own_rolled cursor pid was counts left births unborn n now rolled own =
     let kept = rolled_keeps n (going was counts births) (going now left unborn) rolled in
-    record { pid_is = kept.pid ∙ own.pid_is; quiet = kept.quiet own.quiet; arrived = subst (λ n. n ≤ cursor) (sym kept.next) own.arrived }
+    record { pid_is = kept.pid ∙ own.pid_is; arrived = subst (λ n. n ≤ cursor) (sym kept.next) own.arrived }
 
 -- one that made steps that are withheld is its own
 pub own_between : (cursor : ℕ) (pid : Pid) (n : ℕ) (was between : Held) → IsHeldOwn cursor pid was → RollsTo n was between → IsHeldOwn cursor pid between
@@ -160,7 +156,6 @@ own_sent limits cursor pid made was sending new own s =
     let last = emits_counts (state_of s.before) (state_of s.now) sending.emission s.sends in
     record {
       pid_is = last.pid ∙ counts.pid ∙ mine.pid_is;
-      quiet = emits_quiet (state_of s.before) (state_of s.now) sending.emission s.sends (silently_quiet s.silent (state_of s.between) (state_of s.before) (s.runs).silent mine.quiet);
       arrived = subst (λ n. n ≤ cursor) (sym (last.next ∙ counts.next)) mine.arrived;
     }
 
@@ -170,7 +165,7 @@ own_at_fork limits cursor pid made was forking new own k = own_moved cursor pid 
 
 -- one that synchronised is its own as before
 pub own_synced : (cursor : ℕ) (pid : Pid) (p : Process) → IsOwn cursor pid p → IsOwn cursor pid (synced p)
-own_synced cursor pid p own = record { pid_is = own.pid_is; quiet = own.quiet; arrived = own.arrived }
+own_synced cursor pid p own = record { pid_is = own.pid_is; arrived = own.arrived }
 
 pub own_changed : (cursor : ℕ) (pid : Pid) (now : Held) (here : List (Pid × Held)) → AllOwn cursor here → IsHeldOwn cursor pid now → AllOwn cursor (with_changed pid now here)
 own_changed cursor pid now [] own mine = tt
@@ -182,18 +177,12 @@ own_changed cursor pid now (e ∷ here) own mine = (by_test (same_pid e.0 pid), 
 
 -- ---- an entry
 
--- an entry that brings no signal
-abbrev pub brings_none : What → Type 0
-brings_none (Mail at letter) = carries_signal letter.body ≡ false
-brings_none w = Unit {0}
-
 one_later : (cursor : ℕ) (pid : Pid) (h : Held) → IsHeldOwn cursor pid h → IsHeldOwn (cursor + 1) pid h
-one_later cursor pid (Runs s) own = record { pid_is = own.pid_is; quiet = own.quiet; arrived = omega (arith, own.arrived) }
-one_later cursor pid (Rolls s counts births) own = record { pid_is = own.pid_is; quiet = own.quiet; arrived = omega (arith, own.arrived) }
+one_later cursor pid (Runs s) own = record { pid_is = own.pid_is; arrived = omega (arith, own.arrived) }
+one_later cursor pid (Rolls s counts births) own = record { pid_is = own.pid_is; arrived = omega (arith, own.arrived) }
 one_later cursor pid (Waits waiting) own = record {
   pid_is = own.pid_is;
   state = own.state;
-  quiet = own.quiet;
   arrived = omega (arith, own.arrived);
   lacks = own.lacks;
 }
@@ -202,26 +191,25 @@ pub own_later : (cursor : ℕ) (here : List (Pid × Held)) → AllOwn cursor her
 own_later cursor [] own = tt
 own_later cursor (e ∷ here) own = (one_later cursor e.0 e.1 own.0, own_later cursor here own.1)
 
-own_arrived : (cursor : ℕ) (pid : Pid) (s : Process) (letter : Letter) → carries_signal letter.body ≡ false → IsOwn cursor pid s → IsOwn (cursor + 1) pid (arrived s letter)
-own_arrived cursor pid s letter other own = record { pid_is = own.pid_is; quiet = delivered_quiet (state_of s) letter other own.quiet; arrived = omega (arith, own.arrived) }
+own_arrived : (cursor : ℕ) (pid : Pid) (s : Process) (letter : Letter) → IsOwn cursor pid s → IsOwn (cursor + 1) pid (arrived s letter)
+own_arrived cursor pid s letter own = record { pid_is = own.pid_is; arrived = omega (arith, own.arrived) }
 
-one_letter : (cursor : ℕ) (pid : Pid) (h : Held) (letter : Letter) → carries_signal letter.body ≡ false → IsHeldOwn cursor pid h → IsHeldOwn (cursor + 1) pid (arrived_held h letter)
-one_letter cursor pid (Runs s) letter other own = own_arrived cursor pid s letter other own
-one_letter cursor pid (Rolls s counts births) letter other own = own_arrived cursor pid s letter other own
-one_letter cursor pid (Waits waiting) letter other own = record {
+one_letter : (cursor : ℕ) (pid : Pid) (h : Held) (letter : Letter) → IsHeldOwn cursor pid h → IsHeldOwn (cursor + 1) pid (arrived_held h letter)
+one_letter cursor pid (Runs s) letter own = own_arrived cursor pid s letter own
+one_letter cursor pid (Rolls s counts births) letter own = own_arrived cursor pid s letter own
+one_letter cursor pid (Waits waiting) letter own = record {
   pid_is = own.pid_is;
   state = own.state;
-  quiet = list_any-append is_signal (waiting.kept).saved (record { number = (waiting.kept).next; letter = letter } ∷ []) ∙ (λ i. own.quiet i || (other i || false));
   arrived = omega (arith, own.arrived);
   lacks = own.lacks;
 }
 
-own_letter : (cursor : ℕ) (letter : Letter) (here : List (Pid × Held)) → carries_signal letter.body ≡ false → AllOwn cursor here → AllOwn (cursor + 1) (here_after (Mail 0 letter) here)
-own_letter cursor letter [] other own = tt
-own_letter cursor letter (e ∷ here) other own = (by_test (is_end_of e.0 letter.to), own_letter cursor letter here other own.1)
+own_letter : (cursor : ℕ) (letter : Letter) (here : List (Pid × Held)) → AllOwn cursor here → AllOwn (cursor + 1) (here_after (Mail 0 letter) here)
+own_letter cursor letter [] own = tt
+own_letter cursor letter (e ∷ here) own = (by_test (is_end_of e.0 letter.to), own_letter cursor letter here own.1)
   where
     by_test : (b : Bool) → IsHeldOwn (cursor + 1) (cond b (e.0, arrived_held e.1 letter) e).0 (cond b (e.0, arrived_held e.1 letter) e).1
-    by_test true = one_letter cursor e.0 e.1 letter other own.0
+    by_test true = one_letter cursor e.0 e.1 letter own.0
     by_test false = one_later cursor e.0 e.1 own.0
 
 own_exit : (cursor : ℕ) (pid : Pid) (here : List (Pid × Held)) → AllOwn cursor here → AllOwn cursor (filter (λ (e : Pid × Held). not (same_pid e.0 pid)) here)
@@ -233,25 +221,25 @@ own_exit cursor pid (e ∷ here) own = by_test (not (same_pid e.0 pid)) (own_exi
     by_test true more = (own.0, more)
     by_test false more = more
 
-pub own_after : (cursor : ℕ) (w : What) (here : List (Pid × Held)) → tells_or_closes w ≡ true → brings_none w → AllOwn cursor here → AllOwn (cursor + 1) (here_after w here)
+pub own_after : (cursor : ℕ) (w : What) (here : List (Pid × Held)) → tells_or_closes w ≡ true → AllOwn cursor here → AllOwn (cursor + 1) (here_after w here)
 own_after cursor w here =
-    by_kind (λ w. brings_none w → AllOwn cursor here → AllOwn (cursor + 1) (here_after w here))
-    (λ at letter none own. own_letter cursor letter here none own) (λ pid at end none own. own_later cursor _ (own_exit cursor pid here own)) (λ rests none own. own_later cursor here own) (λ none own. own_later cursor here own) w
+    by_kind (λ w. AllOwn cursor here → AllOwn (cursor + 1) (here_after w here))
+    (λ at letter own. own_letter cursor letter here own) (λ pid at end own. own_later cursor _ (own_exit cursor pid here own)) (λ rests own. own_later cursor here own) (λ own. own_later cursor here own) w
 
 -- ---- a page comes
 
 -- where all pages have come to one that waits under its own pid, what goes on from there is its own
-own_going_on : (cursor : ℕ) (pid : Pid) (w : WaitingState) (o : Option SmallState) → (w.kept).state ≡ o → IfSome o (λ small. small.pid ≡ pid) → (w.kept).pid ≡ pid → list_any is_signal (w.kept).saved ≡ false → (w.kept).next ≤ cursor
+own_going_on : (cursor : ℕ) (pid : Pid) (w : WaitingState) (o : Option SmallState) → (w.kept).state ≡ o → IfSome o (λ small. small.pid ≡ pid) → (w.kept).pid ≡ pid → (w.kept).next ≤ cursor
     → IsHeldOwn cursor pid (going_on w)
-own_going_on cursor pid w o state_is small_is pid_is quiet arrived =
+own_going_on cursor pid w o state_is small_is pid_is arrived =
     subst (λ o. IsHeldOwn cursor pid (cond (is_whole w) (option_map_or rolling_held (option_map (λ (small : SmallState). begun (start_of w small) w.kept) o) (Waits w)) (Waits w))) (sym state_is) (by_state o state_is small_is)
   where
     by_left : (small : SmallState) → small.pid ≡ pid → (b : Bool) → IsHeldOwn cursor pid (cond b (Runs (begun (start_of w small) w.kept).process) (Rolls (begun (start_of w small) w.kept).process (w.kept).counts (w.kept).births))
-    by_left small is true = record { pid_is = is; quiet = quiet; arrived = arrived }
-    by_left small is false = record { pid_is = is; quiet = quiet; arrived = arrived }
+    by_left small is true = record { pid_is = is; arrived = arrived }
+    by_left small is false = record { pid_is = is; arrived = arrived }
 
     waits_on : (o : Option SmallState) → (w.kept).state ≡ o → IfSome o (λ small. small.pid ≡ pid) → (is_some o ≡ true → is_whole w ≡ false) → WaitsOwn cursor pid w
-    waits_on o is own lacks = record { pid_is = pid_is; state = subst (λ o. IfSome o (λ small. small.pid ≡ pid)) (sym is) own; quiet = quiet; arrived = arrived; lacks = λ some. lacks (ap is_some (sym is) ∙ some) }
+    waits_on o is own lacks = record { pid_is = pid_is; state = subst (λ o. IfSome o (λ small. small.pid ≡ pid)) (sym is) own; arrived = arrived; lacks = λ some. lacks (ap is_some (sym is) ∙ some) }
 
     by_state : (o : Option SmallState) → (w.kept).state ≡ o → IfSome o (λ small. small.pid ≡ pid)
         → IsHeldOwn cursor pid (cond (is_whole w) (option_map_or rolling_held (option_map (λ (small : SmallState). begun (start_of w small) w.kept) o) (Waits w)) (Waits w))
@@ -269,7 +257,7 @@ own_going_on cursor pid w o state_is small_is pid_is quiet arrived =
 one_page : (cursor : ℕ) (pid : Pid) (i : ℕ) (bytes : List ℕ) (h : Held) → IsHeldOwn cursor pid h → IsHeldOwn cursor pid (page_held i bytes h)
 one_page cursor pid i bytes (Runs s) own = own
 one_page cursor pid i bytes (Rolls s counts births) own = own
-one_page cursor pid i bytes (Waits waiting) own = own_going_on cursor pid (with_page i bytes waiting) (waiting.kept).state refl own.state own.pid_is own.quiet own.arrived
+one_page cursor pid i bytes (Waits waiting) own = own_going_on cursor pid (with_page i bytes waiting) (waiting.kept).state refl own.state own.pid_is own.arrived
 
 pub own_page : (cursor : ℕ) (p : Pid) (i : ℕ) (bytes : List ℕ) (here : List (Pid × Held)) → AllOwn cursor here → AllOwn cursor (with_page_come p i bytes here)
 own_page cursor p i bytes [] own = tt
@@ -284,4 +272,4 @@ own_page cursor p i bytes (e ∷ here) own = (by_test (same_pid e.0 p), own_page
 pub own_asked : (cursor : ℕ) (pid : Pid) (h : Held) → IsHeldOwn cursor pid h → IsHeldOwn cursor pid (asked_held h)
 own_asked cursor pid (Runs s) own = own
 own_asked cursor pid (Rolls s counts births) own = own
-own_asked cursor pid (Waits waiting) own = record { pid_is = own.pid_is; state = own.state; quiet = own.quiet; arrived = own.arrived; lacks = own.lacks }
+own_asked cursor pid (Waits waiting) own = record { pid_is = own.pid_is; state = own.state; arrived = own.arrived; lacks = own.lacks }

@@ -11,11 +11,11 @@ use Rattle.cluster_core.proofs.OwningWaits.{own_more}
 
 -- the parent has its pid and its letters still
 pub own_forked : (cursor : ℕ) (p child : Pid) (process : Process) → IsOwn cursor p process → IsOwn cursor p (forked process child)
-own_forked cursor p child process own = record { pid_is = own.pid_is; quiet = own.quiet; arrived = own.arrived }
+own_forked cursor p child process own = record { pid_is = own.pid_is; arrived = own.arrived }
 
 -- to the child came none
 pub own_newborn : (cursor : ℕ) (child : Pid) (process : Process) → IsOwn cursor child (newborn process child)
-own_newborn cursor child process = record { pid_is = refl; quiet = refl; arrived = omega arith }
+own_newborn cursor child process = record { pid_is = refl; arrived = omega arith }
 
 pub own_born : (cursor : ℕ) (p child : Pid) (here : List (Pid × Held)) → AllOwn cursor here → AllOwn cursor (with_born p child here)
 own_born cursor p child here own = by_found (held_of here p) refl

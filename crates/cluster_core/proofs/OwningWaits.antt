@@ -65,7 +65,7 @@ own_waiting cursor (r ∷ rest) here each own = own_waiting cursor rest (with_wa
 
 -- as many entries or more were taken in
 pub own_longer : (n m : ℕ) (p : Pid) (w : WaitingState) → n ≤ m → WaitsOwn n p w → WaitsOwn m p w
-own_longer n m p w fewer own = record { pid_is = own.pid_is; state = own.state; quiet = own.quiet; arrived = omega (arith, fewer, own.arrived); lacks = own.lacks }
+own_longer n m p w fewer own = record { pid_is = own.pid_is; state = own.state; arrived = omega (arith, fewer, own.arrived); lacks = own.lacks }
 
 -- ---- the whole
 
@@ -108,5 +108,5 @@ owns_waiting c e valid r order here own = by_loss (one_of c.system r.log e r.ope
     by_loss (inl tells) = nobody (none (what e) tells)
     by_loss (inr (inl of)) = nobody (none_by_page (what e) of)
     by_loss (inr (inr (inl l))) = lost l r.ready
-    by_loss (inr (inr (inr (inl of)))) = nobody (by_sync (λ w. moved_by c.places c.number w (records_after w c.records) ≡ []) (λ pid at index bytes. refl) (λ pid small read. refl) (what e) of)
+    by_loss (inr (inr (inr (inl of)))) = nobody (by_sync (λ w. moved_by c.places c.number w (records_after w c.records) ≡ []) (λ pid at index bytes. refl) (λ pid small read took. refl) (what e) of)
     by_loss (inr (inr (inr (inr b)))) = nobody (ap (λ w. moved_by c.places c.number w (records_after w c.records)) b.same)

@@ -100,11 +100,11 @@ told_rests c (Err e) own ordered told = tt
 told_rests c (Ok o) own ordered told = by_test (are_settled (limits_of c.system) c.here) refl told
   where
     by_test : (b : Bool) → are_settled (limits_of c.system) c.here ≡ b → o ≡ cond b (Some (rests_in c.here)) None → IfSome o (RestsIn c)
-    by_test true settled is = let P : Option (List (Pid × ℕ)) → Type 0 = λ o. IfSome o (RestsIn c) in subst P (sym is) (rests_told c ordered (settled_rest (limits_of c.system) c.cursor c.here own ∙ settled))
+    by_test true settled is = let P : Option (List (Pid × ℕ)) → Type 0 = λ o. IfSome o (RestsIn c) in subst P (sym is) (rests_told c ordered (settled_rest (limits_of c.system) c.here ∙ settled))
     by_test false settled is = let P : Option (List (Pid × ℕ)) → Type 0 = λ o. IfSome o (RestsIn c) in subst P (sym is) tt
 
 -- it answers so of the cluster
 pub answered_rests : {E : Type 0} (c : ClusterView) (result : Result (Option (List (Pid × ℕ))) E) → AllOwn c.cursor c.here
     → IfOk result (λ rests. rests ≡ cond (are_settled (limits_of c.system) c.here) (Some (rests_in c.here)) None) → IfOk result (λ rests. rests ≡ cond (is_resting c) (Some (rests_of c)) None)
 answered_rests c (Err e) own told = tt
-answered_rests c (Ok o) own told = told ∙ ap (λ b. cond b (Some (rests_in c.here)) None) (sym (settled_rest (limits_of c.system) c.cursor c.here own))
+answered_rests c (Ok o) own told = told ∙ ap (λ b. cond b (Some (rests_in c.here)) None) (sym (settled_rest (limits_of c.system) c.here))

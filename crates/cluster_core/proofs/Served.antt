@@ -77,7 +77,7 @@ plain_kind w unlost = by_one (kind_is w (unlost_built w unlost))
     by_one (inl tells) = by_kind (λ w. is_rebackup w ≡ false) (λ at letter. refl) (λ pid at end. refl) (λ rests. refl) refl w tells
     by_one (inr (inl of)) = by_page (λ w. is_rebackup w ≡ false) (λ pid index. refl) (λ pid index bytes. refl) w of
     by_one (inr (inr (inl loss))) = ap is_rebackup loss.same
-    by_one (inr (inr (inr (inl of)))) = by_sync (λ w. is_rebackup w ≡ false) (λ pid at index bytes. refl) (λ pid small read. refl) w of
+    by_one (inr (inr (inr (inl of)))) = by_sync (λ w. is_rebackup w ≡ false) (λ pid at index bytes. refl) (λ pid small read took. refl) w of
     by_one (inr (inr (inr (inr b)))) = ap is_rebackup b.same
 
 plain_post : (system : System) (log : List Entry) (q : Queued) → IsQueueLegal UnlostMayFollow system log (posts_of q) → IsPlain q

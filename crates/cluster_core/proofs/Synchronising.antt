@@ -1,5 +1,5 @@
 -- A cluster that takes in an entry by which a process of another cluster synchronises, a changed page or the cut, goes on to follow the log.
-use Rattle.std.proofs.Common.{◌≡◌, ℕ, ◌+◌, refl, sym, ◌∙◌, ap, subst, List, [], ◌∷◌, ◌++◌, append-nil, Bool, true, false, cond, eq-eqb, ne_eqb, Option, Some, None, slice_get, true≢false}
+use Rattle.std.proofs.Common.{◌≡◌, ℕ, ◌+◌, refl, sym, ◌∙◌, ap, subst, List, [], ◌∷◌, ◌++◌, Bool, true, false, cond, eq-eqb, ne_eqb, Option, Some, None, slice_get, true≢false}
 use Rattle.std.specs.Prelude.{◌≢◌, option_map}
 use Rattle.std.specs.Option.{option_map_or}
 use Rattle.t32_base.specs.declared.process.Pid.{Pid}
@@ -23,16 +23,17 @@ use Rattle.channel_table.specs.Changes.{pids_differ}
 use Rattle.cert_sched.specs.Built.{BuiltMayFollow}
 use Rattle.cert_sched.specs.CertAfter.{count_in}
 use Rattle.cert_sched.specs.Deeds.{deeds_in, is_cut, letter_for, is_birth_of}
-use Rattle.cert_sched.specs.Kinds.{KindHolds, after_take}
+use Rattle.cert_sched.specs.Kinds.{KindHolds, took_is}
 use Rattle.cert_sched.specs.Legal.{Stands}
 use Rattle.cert_sched.specs.Losses.{is_by_cluster, is_crash_of}
 use Rattle.cert_sched.specs.Moved.{is_fetch, is_page_is}
 use Rattle.cert_sched.specs.Rules.{home_at, is_by, is_by_home, is_by_right, is_living}
-use Rattle.cert_sched.specs.Schedule.{done_after, items_of, placement, process_after, run_upto}
+use Rattle.cert_sched.specs.Schedule.{done_after, items_of, placement, process_after}
 use Rattle.cert_sched.specs.Scripted.{is_done}
 use Rattle.cert_sched.specs.Steps.{emission_at, process_of, silent_upto}
 use Rattle.cert_sched.proofs.LogLaws.{IsLegal-last, placement-snoc}
-use Rattle.cert_sched.proofs.StepLaws.{done_after-other, process_after-beside}
+use Rattle.cert_sched.proofs.StepLaws.{done_after-other}
+use Rattle.sync_laws.proofs.SyncMade.{sync_made}
 use Rattle.backup_records.specs.Records.{record_after, records_after, with_cut}
 use Rattle.record_laws.specs.Kept.{KeepsRecords, changes_in_place}
 use Rattle.record_laws.proofs.KeptLaws.{records_kept}
@@ -70,7 +71,7 @@ sync_taken c e =
       records = left_by c.places c.number w (records_after w c.records);
       family = family_after w c.family;
       steps = next_count c.steps;
-    } ≡ record c { cursor = c.cursor + 1; places = placed_after c.places w; records = records_after w c.records; family = family_after w c.family; steps = next_count c.steps }) (λ pid at index bytes. refl) (λ pid small read. refl) (what e)
+    } ≡ record c { cursor = c.cursor + 1; places = placed_after c.places w; records = records_after w c.records; family = family_after w c.family; steps = next_count c.steps }) (λ pid at index bytes. refl) (λ pid small read took. refl) (what e)
 
 module _ (system : System) (valid : is_system system ≡ true) (log : List Entry) (e : Entry) (of : is_of_sync (what e) ≡ true) (now : IsOpen BuiltMayFollow system log) (next : IsOpen BuiltMayFollow system (log ++ e ∷ [])) where
   abbrev later : List Entry
@@ -107,15 +108,12 @@ module _ (system : System) (valid : is_system system ≡ true) (log : List Entry
       none : (k : Kernel) → items_of k (what e) ≡ []
       none k = ap (items_of k) is
 
-  by_cut : (pid : Pid) (small : SmallState) (read : List ℕ) → what e ≡ Sync pid small read None → is_by_right places (e.post).by (Sync pid small read None) ≡ true → KindHolds system log e (Sync pid small read None) → Synced
-  by_cut pid small read is right kind = by_run (silent_upto system log pid small.steps) refl kind.state
+  by_cut : (pid : Pid) (small : SmallState) (read : List ℕ) (took : Option ℕ) → what e ≡ Sync pid small read took → is_by_right places (e.post).by (Sync pid small read took) ≡ true → KindHolds system log e (Sync pid small read took) → Synced
+  by_cut pid small read took is right kind = by_run (silent_upto system log pid small.steps) refl kind.took_first
     where
-      items : (k : Kernel) → items_of k (what e) ≡ run_upto k pid small.steps
-      items k = ap (items_of k) is ∙ append-nil (run_upto k pid small.steps)
-
-      by_run : (o : Option ProcState) → silent_upto system log pid small.steps ≡ o → option_map (λ (s : ProcState). (after_take None s).small) o ≡ Some small → Synced
-      by_run None reached state = cc
-      by_run (Some t) reached state = record {
+      by_run : (o : Option ProcState) → silent_upto system log pid small.steps ≡ o → option_map (took_is took) o ≡ Some true → Synced
+      by_run None reached can = cc
+      by_run (Some t) reached can = record {
         pid = pid;
         process = ap process_of is;
         by_home = right;
@@ -124,14 +122,14 @@ module _ (system : System) (valid : is_system system ≡ true) (log : List Entry
       }
         where
           process : (q : Pid) → q.0 ≢ pid.0 → process_after system later q ≡ process_after system log q
-          process q other = process_after-beside system log e pid small.steps t q reached items other
+          process q other = (sync_made system log e pid small read took t is reached (some_same (took_is took t) true can)).others q (ne_eqb pid.0 q.0 (λ same. other (sym same)))
 
           steps : (q : Pid) → q.0 ≢ pid.0 → done_after system later q ≡ done_after system log q
           steps q other = done_after-other system log e pid q small.steps (ap is_done is) stands.applies (ap count_in is) other
 
   pub s : Synced
   s = by_sync (λ w. what e ≡ w → is_by_right places (e.post).by w ≡ true → KindHolds system log e w → Synced)
-      (λ pid at index bytes is right kind. by_changed pid at index bytes is right) (λ pid small read is right kind. by_cut pid small read is right kind) (what e) of refl stands.by_right stands.kind
+      (λ pid at index bytes is right kind. by_changed pid at index bytes is right) (λ pid small read took is right kind. by_cut pid small read took is right kind) (what e) of refl stands.by_right stands.kind
 
   -- a process that is at home in another cluster than the one that sent the entry is another
   other_here : (k : ClusterNo) (p : Pid) → HomeHere places p k → is_by_cluster k e ≡ false → p.0 ≢ (s.pid).0
@@ -145,31 +143,31 @@ module _ (system : System) (valid : is_system system ≡ true) (log : List Entry
 
   -- which it does not cut
   no_cut : (p : Pid) → p.0 ≢ (s.pid).0 → is_cut p (what e) ≡ false
-  no_cut p other = by_sync (λ w. process_of w ≡ Some s.pid → is_cut p w ≡ false) (λ pid at index bytes is. refl) (λ pid small read is. apart p pid other is) (what e) of s.process
+  no_cut p other = by_sync (λ w. process_of w ≡ Some s.pid → is_cut p w ≡ false) (λ pid at index bytes is. refl) (λ pid small read took is. apart p pid other is) (what e) of s.process
 
   -- and of whose record it makes nothing
   record_stays : (p : Pid) (r : BackRec) → r.pid ≡ p → p.0 ≢ (s.pid).0 → record_after (what e) r ≡ r
   record_stays p r own other =
       by_sync (λ w. is_cut p w ≡ false → record_after w r ≡ r) (λ pid at index bytes none. refl)
-      (λ pid small read none. ap (λ b. cond b (with_cut small read r) r) (ap (same_pid pid) own ∙ none)) (what e) of (no_cut p other)
+      (λ pid small read took none. ap (λ b. cond b (with_cut small read r) r) (ap (same_pid pid) own ∙ none)) (what e) of (no_cut p other)
 
   pub loses_none : (k : ClusterNo) → is_crash_of k (what e) ≡ false
-  loses_none k = by_sync (λ w. is_crash_of k w ≡ false) (λ pid at index bytes. refl) (λ pid small read. refl) (what e) of
+  loses_none k = by_sync (λ w. is_crash_of k w ≡ false) (λ pid at index bytes. refl) (λ pid small read took. refl) (what e) of
 
   -- ---- where processes are
 
   pub home_same : (q : Pid) → home_at (placement system later) q ≡ home_at places q
-  home_same q = ap (λ places. home_at places q) (placement-snoc system log e) ∙ by_sync (λ w. home_at (placed_after places w) q ≡ home_at places q) (λ pid at index bytes. refl) (λ pid small read. cut_home pid small read) (what e) of
+  home_same q = ap (λ places. home_at places q) (placement-snoc system log e) ∙ by_sync (λ w. home_at (placed_after places w) q ≡ home_at places q) (λ pid at index bytes. refl) (λ pid small read took. cut_home pid small read took) (what e) of
     where
       each : (r : Pid) (o : Option Placed) → option_map (λ (q : Placed). q.home) (option_map (after_sync r) o) ≡ option_map (λ (q : Placed). q.home) o
       each r None = refl
       each r (Some x) = ap Some (home_kept r x)
 
-      cut_home : (r : Pid) (small : SmallState) (read : List ℕ) → home_at (placed_after places (Sync r small read None)) q ≡ home_at places q
-      cut_home r small read = ap (option_map (λ (q : Placed). q.home)) (synced_found places r q small read None) ∙ each r (unended_at places q)
+      cut_home : (r : Pid) (small : SmallState) (read : List ℕ) (took : Option ℕ) → home_at (placed_after places (Sync r small read took)) q ≡ home_at places q
+      cut_home r small read took = ap (option_map (λ (q : Placed). q.home)) (synced_found places r q small read took) ∙ each r (unended_at places q)
 
   clusters_same : (placement system later).clusters ≡ places.clusters
-  clusters_same = ap (λ (places : Places). places.clusters) (placement-snoc system log e) ∙ by_sync (λ w. (placed_after places w).clusters ≡ places.clusters) (λ pid at index bytes. refl) (λ pid small read. refl) (what e) of
+  clusters_same = ap (λ (places : Places). places.clusters) (placement-snoc system log e) ∙ by_sync (λ w. (placed_after places w).clusters ≡ places.clusters) (λ pid at index bytes. refl) (λ pid small read took. refl) (what e) of
 
   living_same : (by : By) → is_living (placement system later) by ≡ is_living places by
   living_same (Cluster k) = ap (λ (cs : List ClusterPlace). option_map_or (λ (c : ClusterPlace). c.lives) (slice_get cs k.0) false) clusters_same
@@ -178,17 +176,17 @@ module _ (system : System) (valid : is_system system ≡ true) (log : List Entry
   pub pids_same : (k : ClusterNo) → pids_home k (placement system later).placed ≡ pids_home k places.placed
   pids_same k =
       ap (λ (places : Places). pids_home k places.placed) (placement-snoc system log e)
-      ∙ by_sync (λ w. pids_home k (placed_after places w).placed ≡ pids_home k places.placed) (λ pid at index bytes. refl) (λ pid small read. pids_synced k pid places.placed) (what e) of
+      ∙ by_sync (λ w. pids_home k (placed_after places w).placed ≡ pids_home k places.placed) (λ pid at index bytes. refl) (λ pid small read took. pids_synced k pid places.placed) (what e) of
 
   -- ---- what it leaves
 
   brings_nothing : BringsNothing system log e
   brings_nothing = record {
-    no_loss = by_sync (λ w. cluster_lost w ≡ None) (λ pid at index bytes. refl) (λ pid small read. refl) (what e) of;
-    no_letter = λ p. by_sync (λ w. letter_for p w ≡ []) (λ pid at index bytes. refl) (λ pid small read. refl) (what e) of;
-    no_fetch = λ p i. by_sync (λ w. is_fetch p i w ≡ false) (λ pid at index bytes. refl) (λ pid small read. refl) (what e) of;
-    no_page_is = λ p i. by_sync (λ w. is_page_is p i w ≡ false) (λ pid at index bytes. refl) (λ pid small read. refl) (what e) of;
-    no_exit = λ p. by_sync (λ w. is_exit_of p w ≡ false) (λ pid at index bytes. refl) (λ pid small read. refl) (what e) of;
+    no_loss = by_sync (λ w. cluster_lost w ≡ None) (λ pid at index bytes. refl) (λ pid small read took. refl) (what e) of;
+    no_letter = λ p. by_sync (λ w. letter_for p w ≡ []) (λ pid at index bytes. refl) (λ pid small read took. refl) (what e) of;
+    no_fetch = λ p i. by_sync (λ w. is_fetch p i w ≡ false) (λ pid at index bytes. refl) (λ pid small read took. refl) (what e) of;
+    no_page_is = λ p i. by_sync (λ w. is_page_is p i w ≡ false) (λ pid at index bytes. refl) (λ pid small read took. refl) (what e) of;
+    no_exit = λ p. by_sync (λ w. is_exit_of p w ≡ false) (λ pid at index bytes. refl) (λ pid small read took. refl) (what e) of;
     living = living_same;
   }
 
@@ -199,9 +197,9 @@ module _ (system : System) (valid : is_system system ≡ true) (log : List Entry
     emission = s.emission p other;
     home = home_same p;
     no_cut = no_cut p other;
-    no_birth = by_sync (λ w. is_birth_of p w ≡ false) (λ pid at index bytes. refl) (λ pid small read. refl) (what e) of;
-    no_page = by_sync (λ w. process_of w ≡ Some s.pid → is_some_page p w ≡ false) (λ pid at index bytes is. apart p pid other is) (λ pid small read is. refl) (what e) of s.process;
-    no_deed = by_sync (λ w. deeds_in p w ≡ []) (λ pid at index bytes. refl) (λ pid small read. refl) (what e) of;
+    no_birth = by_sync (λ w. is_birth_of p w ≡ false) (λ pid at index bytes. refl) (λ pid small read took. refl) (what e) of;
+    no_page = by_sync (λ w. process_of w ≡ Some s.pid → is_some_page p w ≡ false) (λ pid at index bytes is. apart p pid other is) (λ pid small read took is. refl) (what e) of s.process;
+    no_deed = by_sync (λ w. deeds_in p w ≡ []) (λ pid at index bytes. refl) (λ pid small read took. refl) (what e) of;
     kept = λ r own. record_stays p r own other;
   }
 
@@ -212,7 +210,7 @@ module _ (system : System) (valid : is_system system ≡ true) (log : List Entry
   held_still k q p h together home other own held = held_stays system valid log e now next brings_nothing k q p h together home (spares_other p other) own held
 
   pub records_stay : (k : ClusterNo) (recs : List BackRec) → KeepsRecords system log k recs → KeepsRecords system later k (records_after (what e) recs)
-  records_stay k recs keeps = records_kept system log e k recs valid (built_stands system later next.0) (by_sync (λ w. changes_in_place w ≡ true) (λ pid at index bytes. refl) (λ pid small read. refl) (what e) of) keeps
+  records_stay k recs keeps = records_kept system log e k recs valid (built_stands system later next.0) (by_sync (λ w. changes_in_place w ≡ true) (λ pid at index bytes. refl) (λ pid small read took. refl) (what e) of) keeps
 
   pub follows_sync : (which : Pid → Bool) (c : ClusterView) (server : Option PagerState) → AllOwn c.cursor c.here → Serves places e c.server server → FollowsBeside which system log c → is_by_cluster c.number e ≡ false
       → FollowsBeside which system later (with_server server (absorbed c e))
@@ -222,4 +220,4 @@ module _ (system : System) (valid : is_system system ≡ true) (log : List Entry
 
 -- one that is sent alone is no such entry
 pub sync_not_alone : (w : What) → is_of_sync w ≡ true → is_lone w ≡ false
-sync_not_alone = by_sync (λ w. is_lone w ≡ false) (λ pid at index bytes. refl) (λ pid small read. refl)
+sync_not_alone = by_sync (λ w. is_lone w ≡ false) (λ pid at index bytes. refl) (λ pid small read took. refl)

@@ -1,13 +1,12 @@
 -- The parts of a cluster as its code keeps them.
 use Rattle.std.specs.Prelude.{ℕ, ◌≡◌, ◌<◌, ◌≤◌, true, false, List, [], ◌∷◌, is_some, ⊤}
-use Rattle.std.specs.List.{list_any, list_all}
+use Rattle.std.specs.List.{list_all}
 use Rattle.std.specs.Option.{IfSome}
 use Rattle.t32_base.specs.declared.process.Pid.{Pid}
 use Rattle.t32_base.specs.declared.process.ClusterNo.{ClusterNo}
 use Rattle.sys_text.specs.declared.system.System.{System}
 use Rattle.sys_text.specs.Valid.{is_system}
 use Rattle.proc_state.specs.declared.process.Process.{Process}
-use Rattle.proc_state.specs.Mail.{is_signal}
 use Rattle.bus_msg.specs.declared.entry.Post.{Post}
 use Rattle.cert_sched.specs.Built.{is_unlost}
 use Rattle.cert_sched.specs.Losses.{is_from}
@@ -15,17 +14,15 @@ use Rattle.page_waits.specs.Waiting.{WaitingState, is_whole}
 use Rattle.quanta.specs.declared.limits.Limits.{Limits}
 use Rattle.cluster_core.specs.View.{Held, Runs, Rolls, Waits, limits_of}
 
--- a process that stands under its own pid; no signal waits for it, and no more letters came to it than the cluster took entries in
+-- a process that stands under its own pid, to which no more letters came than the cluster took entries in
 pub record IsOwn (cursor : ℕ) (pid : Pid) (p : Process) : Type 0 where
   pub pid_is : (p.small).pid ≡ pid
-  pub quiet : list_any is_signal (p.mail).letters ≡ false
   pub arrived : (p.mail).next ≤ cursor
 
--- a process that waits under its own pid: where its record has a state, that is its own, and it lacks a page; no signal was saved for it, and no more letters came to it than the cluster took entries in
+-- a process that waits under its own pid: where its record has a state, that is its own, and it lacks a page; no more letters came to it than the cluster took entries in
 pub record WaitsOwn (cursor : ℕ) (pid : Pid) (w : WaitingState) : Type 0 where
   pub pid_is : (w.kept).pid ≡ pid
   pub state : IfSome (w.kept).state (λ small. small.pid ≡ pid)
-  pub quiet : list_any is_signal (w.kept).saved ≡ false
   pub arrived : (w.kept).next ≤ cursor
   pub lacks : is_some (w.kept).state ≡ true → is_whole w ≡ false
 
