@@ -173,7 +173,7 @@ module _ (system : System) (log : List Entry) (e : Entry) (k : ClusterNo) (p : P
           let stays = done_stays in
           let none : g.made ≡ 0 = omega (arith, steps, delivered_steps, before, later, stays) in
           g.arrives ∙ ap (λ x. all_delivered x letters) (no_steps g.made w g.to none made ∙ same)
-      went now after (was_cut w here runs cut same) = absurd (true≢false (sym cut ∙ (comes.leaves).no_cut))
+      went now after (was_cut w here runs cut kept) = absurd (true≢false (sym cut ∙ (comes.leaves).no_cut))
       went now after (was_born birth none) = absurd (true≢false (sym birth ∙ (comes.leaves).no_birth))
 
       by_process : (o : Option ProcState) → process_after system (log ++ e ∷ []) p ≡ o → is_some o ≡ true → o ≡ Some (all_delivered was letters)
