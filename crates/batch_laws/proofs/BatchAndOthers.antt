@@ -1,5 +1,5 @@
 -- The posts of a batch leave the marks of every other process.
-use Rattle.std.proofs.Common.{◌≡◌, ℕ, refl, List, false}
+use Rattle.std.proofs.Common.{◌≡◌, ℕ, refl, List, false, Option}
 use Rattle.t32_base.specs.declared.process.Pid.{Pid}
 use Rattle.t32_base.specs.declared.process.ClusterNo.{ClusterNo}
 use Rattle.sys_text.specs.declared.system.System.{System}
@@ -15,5 +15,5 @@ module _ (system : System) (log : List Entry) (k : ClusterNo) (p q : Pid) (s : P
   pub page_beside : (i : ℕ) → same_pid p q ≡ false → LeavesMarks system log (entry_of system log (page_left k p s i)) q
   page_beside i apart = record { no_cut = refl; no_birth = refl; no_exit = refl; no_page = apart; stays = moves_none system log (entry_of system log (page_left k p s i)) refl q }
 
-  pub sync_beside : (read : List ℕ) → same_pid p q ≡ false → LeavesMarks system log (entry_of system log (sync_left k p s read)) q
-  sync_beside read apart = record { no_cut = apart; no_birth = refl; no_exit = refl; no_page = refl; stays = moves_none system log (entry_of system log (sync_left k p s read)) refl q }
+  pub sync_beside : (read : List ℕ) (took : Option ℕ) → same_pid p q ≡ false → LeavesMarks system log (entry_of system log (sync_left k p s read took)) q
+  sync_beside read took apart = record { no_cut = apart; no_birth = refl; no_exit = refl; no_page = refl; stays = moves_none system log (entry_of system log (sync_left k p s read took)) refl q }

@@ -6,6 +6,7 @@ use Rattle.std.specs.Option.{option_map_or}
 use Rattle.std.proofs.lemmas.Bool.{and_parts}
 use Rattle.t32_base.specs.declared.process.Pid.{Pid}
 use Rattle.t32_base.specs.declared.process.ClusterNo.{ClusterNo}
+use Rattle.t32_base.specs.declared.letter.Arrived.{Arrived}
 use Rattle.t32_base.specs.declared.letter.Letter.{Letter}
 use Rattle.t32_base.specs.Account.{Account, page_in}
 use Rattle.sys_text.specs.declared.system.System.{System}
@@ -30,6 +31,7 @@ use Rattle.cert_sched.specs.Record.{has_state}
 use Rattle.cert_sched.specs.Scripted.{is_done}
 use Rattle.cert_sched.specs.Simulation.{IsUnended}
 use Rattle.cert_sched.specs.Steps.{numbers_read, page_count, saved_of, silent_upto}
+use Rattle.cert_sched.specs.Kinds.{after_take}
 use Rattle.cert_sched.specs.Rules.{ends_run}
 use Rattle.cert_sched.specs.Legal.{IsLegalBy, Stands}
 use Rattle.cert_sched.proofs.BuiltCuts.{by_home_there}
@@ -48,13 +50,16 @@ use Rattle.page_laws.proofs.OneEntry.{or_nothing}
 use Rattle.page_laws.proofs.PagesStay.{page_count-snoc}
 use Rattle.read_laws.specs.Numbered.{are_below, are_in_order}
 use Rattle.read_laws.proofs.LogReads.{itself, all_saved_numbered}
+use Rattle.sync_laws.specs.Cut.{TakesTo}
 use Rattle.sync_laws.specs.Sending.{is_due_at}
+use Rattle.sync_laws.proofs.TakeLeaves.{LeavesSame, runs_before, takes_leave}
 use Rattle.sync_laws.proofs.Beside.{start_stays}
 use Rattle.mark_laws.proofs.EntryMarks.{account_stays, sent_stay, steps_stay}
 use Rattle.batch_laws.specs.Between.{ComesBetween}
 use Rattle.batch_laws.specs.Underway.{BatchMay, posts_left, with_letters}
 use Rattle.batch_laws.proofs.ChildrenStay.{children_stay, no_deed}
 use Rattle.batch_laws.proofs.LettersRead.{same_read}
+use Rattle.batch_laws.proofs.TakenLetters.{letters_come}
 
 -- ---- the count of a process after an entry that tells nothing that it did
 
@@ -103,14 +108,20 @@ no_steps : (n : ℕ) (s t : ProcState) → n ≡ 0 → Replays n s [] t → t �
 no_steps zero s t none made = made.1
 no_steps (suc n) s t none made = absurd (omega (arith, none))
 
-module _ (system : System) (log : List Entry) (e : Entry) (k : ClusterNo) (p : Pid) (s : ProcState) (read indices : List ℕ) (comes : ComesBetween system log e k p) (b : BatchMay system log k p s read indices) where
+module _ (system : System) (log : List Entry) (e : Entry) (k : ClusterNo) (p : Pid) (s : ProcState) (read : List ℕ) (took : Option ℕ) (indices : List ℕ) (comes : ComesBetween system log e k p) (b : BatchMay system log k p s read took indices) where
   abbrev letters : List Letter
   letters = letter_for p (what e)
 
   -- ---- where the process was after the log
 
-  from : SilentFrom system log p (s.small).steps s
-  from = silent_from system log p (s.small).steps s (b.may).reached
+  abbrev before : ProcState
+  before = b.before
+
+  same : LeavesSame before s
+  same = takes_leave took before s b.takes
+
+  from : SilentFrom system log p (before.small).steps before
+  from = silent_from system log p (before.small).steps before (b.may).reached
 
   abbrev was : ProcState
   was = from.was
@@ -119,7 +130,7 @@ module _ (system : System) (log : List Entry) (e : Entry) (k : ClusterNo) (p : P
   there = ap (option_and_then (λ k. process_at k p)) from.before ∙ from.there
 
   open_still : has_ended (was.small).status ≡ false
-  open_still = sym (silent_upto-ends system log p (s.small).steps was s there (b.may).reached) ∙ b.runs
+  open_still = sym (silent_upto-ends system log p (before.small).steps was before there (b.may).reached) ∙ runs_before took before s b.takes b.runs
 
   all : AllRoll system log
   all = all_roll Stands itself system log comes.valid comes.legal
@@ -127,8 +138,8 @@ module _ (system : System) (log : List Entry) (e : Entry) (k : ClusterNo) (p : P
   rolls : Rolls system log p was
   rolls = all.rolls p was there open_still
 
-  next : s.next ≡ arrived_count log p
-  next = (silently_counts ((s.small).steps - done from.kernel p) was s from.silent).next ∙ rolls_next system log p was rolls
+  next : before.next ≡ arrived_count log p
+  next = (silently_counts ((before.small).steps - done from.kernel p) was before from.silent).next ∙ rolls_next system log p was rolls
 
   -- ---- where it is after the entry
 
@@ -162,7 +173,7 @@ module _ (system : System) (log : List Entry) (e : Entry) (k : ClusterNo) (p : P
           let stays = done_stays in
           let none : g.made ≡ 0 = omega (arith, steps, delivered_steps, before, later, stays) in
           g.arrives ∙ ap (λ x. all_delivered x letters) (no_steps g.made w g.to none made ∙ same)
-      went now after (was_cut w here runs cut same) = absurd (true≢false (sym cut ∙ (comes.leaves).no_cut))
+      went now after (was_cut w here runs cut kept) = absurd (true≢false (sym cut ∙ (comes.leaves).no_cut))
       went now after (was_born birth none) = absurd (true≢false (sym birth ∙ (comes.leaves).no_birth))
 
       by_process : (o : Option ProcState) → process_after system (log ++ e ∷ []) p ≡ o → is_some o ≡ true → o ≡ Some (all_delivered was letters)
@@ -170,17 +181,17 @@ module _ (system : System) (log : List Entry) (e : Entry) (k : ClusterNo) (p : P
       by_process (Some now) after some =
           ap Some (went now after (came system log e comes.stands (two_apart system log all) p now after (unended_open Stands itself system (log ++ e ∷ []) p comes.valid legal_more unended now after)))
 
-  reached : silent_upto system (log ++ e ∷ []) p (s.small).steps ≡ Some (all_delivered s letters)
+  reached : silent_upto system (log ++ e ∷ []) p (before.small).steps ≡ Some (all_delivered before letters)
   unfolding silent_upto
   reached =
-      let steps : (s.small).steps - done_after system (log ++ e ∷ []) p ≡ (s.small).steps - done from.kernel p =
-      ap (λ n. (s.small).steps - n) (done_stays ∙ done_kernel system log from.kernel p from.before) in
+      let steps : (before.small).steps - done_after system (log ++ e ∷ []) p ≡ (before.small).steps - done from.kernel p =
+      ap (λ n. (before.small).steps - n) (done_stays ∙ done_kernel system log from.kernel p from.before) in
       (λ j. option_and_then (silently (steps j)) (arrives j))
-      ∙ silently-all_delivered ((s.small).steps - done from.kernel p) was s letters from.silent
+      ∙ silently-all_delivered ((before.small).steps - done from.kernel p) was before letters from.silent
 
   -- ---- the letters
 
-  saved_more : saved_of system (log ++ e ∷ []) p ≡ saved_of system log p ++ numbered s.next letters
+  saved_more : saved_of system (log ++ e ∷ []) p ≡ saved_of system log p ++ numbered before.next letters
   saved_more =
       ap (λ (o : Option ProcState). option_map_or (saved_letters (log ++ e ∷ []) p) o []) (start_stays system log e p (comes.leaves).no_cut (comes.leaves).no_birth ∙ rolls.started)
       ∙ saved_letters-other log e p rolls.start quiet
@@ -189,52 +200,67 @@ module _ (system : System) (log : List Entry) (e : Entry) (k : ClusterNo) (p : P
       quiet : starts p e ≡ false
       quiet = ap (λ b. b || is_birth_of p (what e)) (comes.leaves).no_cut ∙ (comes.leaves).no_birth
 
-  below : are_below s.next (saved_of system log p) ≡ true
+  below : are_below before.next (saved_of system log p) ≡ true
   below =
       ap (λ n. are_below n (saved_of system log p)) next
       ∙ (and_parts (are_in_order (saved_of system log p)) (are_below (arrived_count log p) (saved_of system log p)) (all_saved_numbered system log p was comes.valid comes.legal there open_still)).1
 
-  reads_stay : numbers_read (saved_of system (log ++ e ∷ []) p) (s.mail ++ numbered s.next letters) ≡ numbers_read (saved_of system log p) s.mail
-  reads_stay = ap (λ saved. numbers_read saved (s.mail ++ numbered s.next letters)) saved_more ∙ same_read s.next letters s.mail (saved_of system log p) below
+  -- of any mailbox the same were read
+  reads_stay : (mail : List Arrived) → numbers_read (saved_of system (log ++ e ∷ []) p) (mail ++ numbered before.next letters) ≡ numbers_read (saved_of system log p) mail
+  reads_stay mail = ap (λ saved. numbers_read saved (mail ++ numbered before.next letters)) saved_more ∙ same_read before.next letters mail (saved_of system log p) below
 
   -- ---- the batch
 
-  abbrev with_mail : ProcState
-  with_mail = record s { mail = s.mail ++ numbered s.next letters; next = s.next + length letters }
+  -- the process with these letters, before its take and after it
+  abbrev with_mail : ProcState → ProcState
+  with_mail t = record t { mail = t.mail ++ numbered t.next letters; next = t.next + length letters }
+
+  comes_to : (t : ProcState) → with_letters t letters ≡ with_mail t
+  comes_to t = as_delivered t letters ∙ all_delivered-is t letters
 
   stated : has_state system (log ++ e ∷ []) p ≡ has_state system log p
   stated = has_state-snoc system log e p ∙ ap (λ b. has_state system log p || b) (comes.leaves).no_cut ∙ or_nothing (has_state system log p)
 
-  due_stays : is_due_at system (log ++ e ∷ []) p with_mail ≡ is_due_at system log p s
-  due_stays = λ j. nat_le system.syncreads (length (reads_stay j)) || nat_le system.syncsteps ((s.small).steps - steps_stay system log e p comes.leaves j) || not (stated j)
+  due_stays : is_due_at system (log ++ e ∷ []) p took (with_mail before) ≡ is_due_at system log p took before
+  due_stays =
+      λ j. nat_le system.syncreads (length (reads_stay before.mail j)) || nat_le system.syncsteps ((before.small).steps - steps_stay system log e p comes.leaves j) || is_some took || not (stated j)
 
   counted : page_count system (log ++ e ∷ []) p ≡ page_count system log p
   counted = page_count-snoc system log e p (comes.leaves).no_birth (comes.stands).applies
 
-  goes : BatchMay system (log ++ e ∷ []) k p with_mail read indices
+  goes : BatchMay system (log ++ e ∷ []) k p (with_mail s) read took indices
   goes = record {
-    may = record { goes_on = comes.goes_on; by_home = comes.home; reached = reached ∙ ap Some (all_delivered-is s letters) };
+    before = with_mail before;
+    takes = subst (λ (r : ProcState × ProcState). TakesTo took r.0 r.1) (λ j. (comes_to before j, comes_to s j)) (letters_come took before s letters b.takes);
+    may = record { goes_on = comes.goes_on; by_home = comes.home; reached = reached ∙ ap Some (all_delivered-is before letters) };
     runs = b.runs;
     in_order = b.in_order;
     within = ap (λ n. list_all (λ i. ltb i n) indices) counted ∙ b.within;
     unsent = (λ j. list_all (λ i. not (sent_stay system log e p comes.leaves i (s.small).steps j)) indices) ∙ b.unsent;
     account = λ i within other. ap (λ (a : Account). page_in a.now i) (account_stays system log e p comes.leaves) ∙ b.account i (subst (λ n. i < n) counted within) other;
-    reads = b.reads ∙ sym reads_stay;
+    reads = b.reads ∙ sym (reads_stay s.mail) ∙ ap (λ n. numbers_read (saved_of system (log ++ e ∷ []) p) (s.mail ++ numbered n letters)) (sym same.next);
     children = children_stay system log e p comes.valid comes.legal comes.stands comes.no_deeds b.children;
     due = due_stays ∙ b.due;
   }
 
-  pub batch_stays : BatchMay system (log ++ e ∷ []) k p (with_letters s letters) read indices
-  batch_stays = subst (λ x. BatchMay system (log ++ e ∷ []) k p x read indices) (sym (as_delivered s letters ∙ all_delivered-is s letters)) goes
+  pub batch_stays : BatchMay system (log ++ e ∷ []) k p (with_letters s letters) read took indices
+  batch_stays = subst (λ x. BatchMay system (log ++ e ∷ []) k p x read took indices) (sym (comes_to s)) goes
 
-  pub batch_reached : silent_upto system (log ++ e ∷ []) p (s.small).steps ≡ Some (with_letters s letters)
-  batch_reached = reached ∙ ap Some (sym (as_delivered s letters))
+  -- where it was before its take, it is with the letters
+  pub batch_reached : (t : ProcState) → silent_upto system log p (s.small).steps ≡ Some t → silent_upto system (log ++ e ∷ []) p (s.small).steps ≡ Some (with_letters t letters)
+  batch_reached t is =
+      let here : before ≡ t = some_same before t (sym (b.may).reached ∙ ap (silent_upto system log p) (sym same.steps) ∙ is) in
+      ap (silent_upto system (log ++ e ∷ []) p) same.steps ∙ reached ∙ ap Some (sym (as_delivered before letters) ∙ ap (λ (x : ProcState). with_letters x letters) here)
 
-  pub batch_found : (t : ProcState) → silent_upto system (log ++ e ∷ []) p (s.small).steps ≡ Some t → BatchMay system (log ++ e ∷ []) k p t read indices
-  batch_found t is = subst (λ x. BatchMay system (log ++ e ∷ []) k p x read indices) (some_same (with_letters s letters) t (sym batch_reached ∙ is)) batch_stays
+  -- so the batch is under way with the process as it is after the take from there
+  pub batch_found : (at t : ProcState) → silent_upto system (log ++ e ∷ []) p (s.small).steps ≡ Some at → TakesTo took at t → BatchMay system (log ++ e ∷ []) k p t read took indices
+  batch_found at t is takes =
+      let here : with_letters before letters ≡ at = some_same (with_letters before letters) at (ap Some (as_delivered before letters) ∙ sym reached ∙ ap (silent_upto system (log ++ e ∷ []) p) (sym same.steps) ∙ is) in
+      let later : with_letters s letters ≡ t = sym (letters_come took before s letters b.takes).after ∙ ap (after_take took) here ∙ takes.after in
+      subst (λ x. BatchMay system (log ++ e ∷ []) k p x read took indices) later batch_stays
 
 -- ---- the posts
 
 -- letters that come leave them
-pub same_posts : (k : ClusterNo) (p : Pid) (s : ProcState) (letters : List Letter) (read indices : List ℕ) → posts_left k p (with_letters s letters) read indices ≡ posts_left k p s read indices
-same_posts k p s letters read indices = ap (λ x. posts_left k p x read indices) (as_delivered s letters ∙ all_delivered-is s letters)
+pub same_posts : (k : ClusterNo) (p : Pid) (s : ProcState) (letters : List Letter) (read : List ℕ) (took : Option ℕ) (indices : List ℕ) → posts_left k p (with_letters s letters) read took indices ≡ posts_left k p s read took indices
+same_posts k p s letters read took indices = ap (λ x. posts_left k p x read took indices) (as_delivered s letters ∙ all_delivered-is s letters)

@@ -1,5 +1,5 @@
 -- The posts of a batch are no pages of a later step.
-use Rattle.std.proofs.Common.{◌≡◌, ℕ, ◌≤◌, refl, ap, arith, List, [], ◌∷◌, ◌++◌, Bool, true, false, ◌&&◌, ltb}
+use Rattle.std.proofs.Common.{◌≡◌, ℕ, ◌≤◌, refl, ap, arith, List, [], ◌∷◌, ◌++◌, Bool, true, false, ◌&&◌, ltb, Option}
 use Rattle.std.proofs.lemmas.Bool.Decides.{nat_tests}
 use Rattle.t32_base.specs.declared.process.Pid.{Pid}
 use Rattle.t32_base.specs.declared.process.ClusterNo.{ClusterNo}
@@ -26,5 +26,5 @@ module _ (system : System) (log : List Entry) (k : ClusterNo) (p : Pid) (s : Pro
   pub others_upto : (q : Pid) (i n : ℕ) → same_pid p q ≡ false → SentUpto system log q n → SentUpto system (log ++ entry_of system log (page_left k p s i) ∷ []) q n
   others_upto q i n apart upto = sent_on system log q (entry_of system log (page_left k p s i)) n (ap (λ b. b && ltb n (s.small).steps) apart) upto
 
-  pub sync_upto : (q : Pid) (read : List ℕ) (n : ℕ) → SentUpto system log q n → SentUpto system (log ++ entry_of system log (sync_left k p s read) ∷ []) q n
-  sync_upto q read n upto = sent_on system log q (entry_of system log (sync_left k p s read)) n refl upto
+  pub sync_upto : (q : Pid) (read : List ℕ) (took : Option ℕ) (n : ℕ) → SentUpto system log q n → SentUpto system (log ++ entry_of system log (sync_left k p s read took) ∷ []) q n
+  sync_upto q read took n upto = sent_on system log q (entry_of system log (sync_left k p s read took)) n refl upto

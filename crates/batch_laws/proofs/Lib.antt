@@ -6,6 +6,7 @@ pub mod MarkedPages
 pub mod BatchBegins
 pub mod LettersRead
 pub mod ChildrenStay
+pub mod TakenLetters
 pub mod EntryBetween
 pub mod BatchAndOthers
 pub mod HomeStays

@@ -1,5 +1,5 @@
 -- Once its next page was sent, the rest of a batch is under way: the page is that of the account, and no other of them was sent.
-use Rattle.std.proofs.Common.{◌≡◌, ℕ, ◌-◌, ◌<◌, refl, sym, ◌∙◌, ap, subst, arith, List, [], ◌∷◌, ◌++◌, length, Bool, true, false, cond, not, ◌&&◌, ◌||◌, eqb, eqb-true, ltb, Option, Some}
+use Rattle.std.proofs.Common.{◌≡◌, ℕ, ◌-◌, ◌<◌, refl, sym, ◌∙◌, ap, subst, arith, List, [], ◌∷◌, ◌++◌, length, Bool, true, false, cond, not, ◌&&◌, ◌||◌, eqb, eqb-true, ltb, Option, Some, is_some}
 use Rattle.std.specs.Prelude.{nat_le}
 use Rattle.std.specs.List.{list_all}
 use Rattle.std.specs.Option.{option_map_or}
@@ -87,16 +87,18 @@ module _ (system : System) (log : List Entry) (k : ClusterNo) (p : Pid) (s : Pro
 
   -- ---- the rest
 
-  pub page_sent : (read js : List ℕ) → BatchMay system log k p s read (i ∷ js) → BatchMay system (log ++ page_entry ∷ []) k p s read js
-  page_sent read js b =
+  pub page_sent : (read : List ℕ) (took : Option ℕ) (js : List ℕ) → BatchMay system log k p s read took (i ∷ js) → BatchMay system (log ++ page_entry ∷ []) k p s read took js
+  page_sent read took js b =
       let order = and_parts (list_all (ltb i) js) _ b.in_order in
       let below = and_parts (ltb i (page_count system log p)) (list_all (λ j. ltb j (page_count system log p)) js) b.within in
       let fresh = and_parts (not (any_since_moved system log p (is_page_at p i (s.small).steps))) (list_all (λ j. not (any_since_moved system log p (is_page_at p j (s.small).steps))) js) b.unsent in
       record {
+        before = b.before;
+        takes = b.takes;
         may = record {
           goes_on = page_goes_on system log page_entry p (s.small).steps i bytes refl;
           by_home = ap (λ places. is_by_home places (Cluster k) (Some p)) (page_places system log page_entry p (s.small).steps i bytes refl) ∙ (b.may).by_home;
-          reached = page_silent system log page_entry p (s.small).steps i bytes refl p (s.small).steps ∙ (b.may).reached;
+          reached = page_silent system log page_entry p (s.small).steps i bytes refl p ((b.before).small).steps ∙ (b.may).reached;
         };
         runs = b.runs;
         in_order = order.1;
@@ -108,8 +110,8 @@ module _ (system : System) (log : List Entry) (k : ClusterNo) (p : Pid) (s : Pro
         due = same_due ∙ b.due;
       }
     where
-      same_due : is_due_at system (log ++ page_entry ∷ []) p s ≡ is_due_at system log p s
+      same_due : is_due_at system (log ++ page_entry ∷ []) p took b.before ≡ is_due_at system log p took b.before
       same_due =
-          λ j. nat_le system.syncreads (length (numbers_read (page_saved system log page_entry p (s.small).steps i bytes refl p j) s.mail))
-          || nat_le system.syncsteps ((s.small).steps - option_map_or (λ (s : ProcState). (s.small).steps) (page_start system log page_entry p (s.small).steps i bytes refl p j) 0)
-          || not (page_stated system log page_entry p (s.small).steps i bytes refl p j)
+          λ j. nat_le system.syncreads (length (numbers_read (page_saved system log page_entry p (s.small).steps i bytes refl p j) (b.before).mail))
+          || nat_le system.syncsteps (((b.before).small).steps - option_map_or (λ (s : ProcState). (s.small).steps) (page_start system log page_entry p (s.small).steps i bytes refl p j) 0)
+          || is_some took || not (page_stated system log page_entry p (s.small).steps i bytes refl p j)

@@ -1,5 +1,5 @@
 -- What the log says with the rest of a batch at its end: every other process has the marks that it had, and the pages were sent up to where they were.
-use Rattle.std.proofs.Common.{◌≡◌, ℕ, ◌+◌, ◌≤◌, refl, sym, ◌∙◌, ap, arith, List, [], ◌∷◌, ◌++◌, Bool, true, false, ◌||◌, None, is_some, true≢false}
+use Rattle.std.proofs.Common.{◌≡◌, ℕ, ◌+◌, ◌≤◌, refl, sym, ◌∙◌, ap, arith, List, [], ◌∷◌, ◌++◌, Bool, true, false, ◌||◌, None, is_some, true≢false, Option}
 use Rattle.t32_base.specs.declared.process.Pid.{Pid}
 use Rattle.t32_base.specs.declared.process.ClusterNo.{ClusterNo}
 use Rattle.sys_text.specs.declared.system.System.{System}
@@ -32,7 +32,7 @@ use Rattle.batch_laws.proofs.RestStands.{next_stands}
 
 -- ---- the marks of another process
 
-module _ (system : System) (k : ClusterNo) (p q : Pid) (s : ProcState) (read : List ℕ) (process : Process) (valid : is_system system ≡ true) (apart : same_pid p q ≡ false) where
+module _ (system : System) (k : ClusterNo) (p q : Pid) (s : ProcState) (read : List ℕ) (took : Option ℕ) (process : Process) (valid : is_system system ≡ true) (apart : same_pid p q ≡ false) where
   -- a page leaves it there, and brings it no letter
   unended_on : (log : List Entry) (i : ℕ) → IsUnended system log q → IsUnended system (log ++ entry_of system log (page_left k p s i) ∷ []) q
   unended_on log i unended = ap (λ places. is_some (unended_at places q)) (page_places system log (entry_of system log (page_left k p s i)) p (s.small).steps i (page_at s.memory i) refl) ∙ unended
@@ -42,21 +42,21 @@ module _ (system : System) (k : ClusterNo) (p q : Pid) (s : ProcState) (read : L
       let count : arrived_count (log ++ entry_of system log (page_left k p s i) ∷ []) q ≡ arrived_count log q + 0 = arrived_count-other log (entry_of system log (page_left k p s i)) q refl in
       omega (arith, low, count)
 
-  pub queued_kept : (log : List Entry) (indices : List ℕ) → IsLegalBy Stands system log → BatchMay system log k p s read indices → IsUnended system log q → (process.mail).next ≤ arrived_count log q
-      → IsMarked system log q process → IsMarked system (log_with system log (posts_left k p s read indices)) q process
-  queued_kept log [] legal b unended low marked = marks_kept system log (entry_of system log (sync_left k p s read)) q process valid legal unended (sync_beside system log k p q s read apart) low marked
+  pub queued_kept : (log : List Entry) (indices : List ℕ) → IsLegalBy Stands system log → BatchMay system log k p s read took indices → IsUnended system log q → (process.mail).next ≤ arrived_count log q
+      → IsMarked system log q process → IsMarked system (log_with system log (posts_left k p s read took indices)) q process
+  queued_kept log [] legal b unended low marked = marks_kept system log (entry_of system log (sync_left k p s read took)) q process valid legal unended (sync_beside system log k p q s read took apart) low marked
   queued_kept log (i ∷ js) legal b unended low marked =
-      queued_kept (log ++ entry_of system log (page_left k p s i) ∷ []) js (IsLegal-snoc Stands system log (entry_of system log (page_left k p s i)) legal (next_stands system log k p s read i js b))
-      (page_sent system log k p s i read js b) (unended_on log i unended) (low_on log i low)
+      queued_kept (log ++ entry_of system log (page_left k p s i) ∷ []) js (IsLegal-snoc Stands system log (entry_of system log (page_left k p s i)) legal (next_stands system log k p s read took i js b))
+      (page_sent system log k p s i read took js b) (unended_on log i unended) (low_on log i low)
       (marks_kept system log (entry_of system log (page_left k p s i)) q process valid legal unended (page_beside system log k p q s i apart) low marked)
 
-  pub queued_before : (log : List Entry) (indices : List ℕ) → IsLegalBy Stands system log → BatchMay system log k p s read indices → IsUnended system log q → (process.mail).next ≤ arrived_count log q
-      → IsMarked system (log_with system log (posts_left k p s read indices)) q process → IsMarked system log q process
-  queued_before log [] legal b unended low marked = marks_before system log (entry_of system log (sync_left k p s read)) q process valid legal unended (sync_beside system log k p q s read apart) low marked
+  pub queued_before : (log : List Entry) (indices : List ℕ) → IsLegalBy Stands system log → BatchMay system log k p s read took indices → IsUnended system log q → (process.mail).next ≤ arrived_count log q
+      → IsMarked system (log_with system log (posts_left k p s read took indices)) q process → IsMarked system log q process
+  queued_before log [] legal b unended low marked = marks_before system log (entry_of system log (sync_left k p s read took)) q process valid legal unended (sync_beside system log k p q s read took apart) low marked
   queued_before log (i ∷ js) legal b unended low marked =
       marks_before system log (entry_of system log (page_left k p s i)) q process valid legal unended (page_beside system log k p q s i apart) low
-      (queued_before (log ++ entry_of system log (page_left k p s i) ∷ []) js (IsLegal-snoc Stands system log (entry_of system log (page_left k p s i)) legal (next_stands system log k p s read i js b))
-      (page_sent system log k p s i read js b) (unended_on log i unended) (low_on log i low) marked)
+      (queued_before (log ++ entry_of system log (page_left k p s i) ∷ []) js (IsLegal-snoc Stands system log (entry_of system log (page_left k p s i)) legal (next_stands system log k p s read took i js b))
+      (page_sent system log k p s i read took js b) (unended_on log i unended) (low_on log i low) marked)
 
 -- ---- the pages that were sent
 
@@ -69,17 +69,17 @@ sent_before : (system : System) (log : List Entry) (e : Entry) (q : Pid) (n : �
 sent_before system log e q n none upto =
     first_false (any_since_moved system log q (is_later_page q n)) (is_later_page q n (what e)) (sym (any_since-goes_on system log e q (is_later_page q n) (moves_none system log e none q)) ∙ upto)
 
-module _ (system : System) (k : ClusterNo) (p : Pid) (s : ProcState) (read : List ℕ) (n : ℕ) where
-  pub queued_own : (log : List Entry) (indices : List ℕ) → (s.small).steps ≤ n → SentUpto system log p n → SentUpto system (log_with system log (posts_left k p s read indices)) p n
-  queued_own log [] low upto = sync_upto system log k p s p read n upto
+module _ (system : System) (k : ClusterNo) (p : Pid) (s : ProcState) (read : List ℕ) (took : Option ℕ) (n : ℕ) where
+  pub queued_own : (log : List Entry) (indices : List ℕ) → (s.small).steps ≤ n → SentUpto system log p n → SentUpto system (log_with system log (posts_left k p s read took indices)) p n
+  queued_own log [] low upto = sync_upto system log k p s p read took n upto
   queued_own log (i ∷ js) low upto = queued_own (log ++ entry_of system log (page_left k p s i) ∷ []) js low (own_upto system log k p s i n low upto)
 
   module _ (q : Pid) where
-    pub queued_others : (log : List Entry) (indices : List ℕ) → same_pid p q ≡ false → SentUpto system log q n → SentUpto system (log_with system log (posts_left k p s read indices)) q n
-    queued_others log [] apart upto = sync_upto system log k p s q read n upto
+    pub queued_others : (log : List Entry) (indices : List ℕ) → same_pid p q ≡ false → SentUpto system log q n → SentUpto system (log_with system log (posts_left k p s read took indices)) q n
+    queued_others log [] apart upto = sync_upto system log k p s q read took n upto
     queued_others log (i ∷ js) apart upto = queued_others (log ++ entry_of system log (page_left k p s i) ∷ []) js apart (others_upto system log k p s q i n apart upto)
 
-    pub queued_sent_before : (log : List Entry) (indices : List ℕ) → SentUpto system (log_with system log (posts_left k p s read indices)) q n → SentUpto system log q n
-    queued_sent_before log [] upto = sent_before system log (entry_of system log (sync_left k p s read)) q n refl upto
+    pub queued_sent_before : (log : List Entry) (indices : List ℕ) → SentUpto system (log_with system log (posts_left k p s read took indices)) q n → SentUpto system log q n
+    queued_sent_before log [] upto = sent_before system log (entry_of system log (sync_left k p s read took)) q n refl upto
     queued_sent_before log (i ∷ js) upto =
         sent_before system log (entry_of system log (page_left k p s i)) q n refl (queued_sent_before (log ++ entry_of system log (page_left k p s i) ∷ []) js upto)

@@ -25,15 +25,19 @@ use Rattle.page_laws.proofs.StepSizes.{SameSize}
 use Rattle.sync_laws.specs.Paged.{ArePaged}
 use Rattle.sync_laws.proofs.PagedAccounts.{both_paged}
 use Rattle.sync_laws.proofs.SilentSizes.{silent_sizes}
+use Rattle.sync_laws.proofs.TakeLeaves.{takes_leave}
 use Rattle.sync_laws.proofs.WholePages.{no_page_behind, page_found, pages_rise}
 use Rattle.batch_laws.specs.Underway.{BatchMay}
 
 holds : (b : Bool) → b ≡ true → T b
 holds b is = let P : Bool → Type 0 = λ b. T b in subst P (sym is) tt
 
-module _ (system : System) (log : List Entry) (k : ClusterNo) (p : Pid) (s : ProcState) (read : List ℕ) (valid : is_system system ≡ true) (legal : IsLegalBy Stands system log) (b : BatchMay system log k p s read []) where
-  from : SilentFrom system log p (s.small).steps s
-  from = silent_from system log p (s.small).steps s (b.may).reached
+module _ (system : System) (log : List Entry) (k : ClusterNo) (p : Pid) (s : ProcState) (read : List ℕ) (took : Option ℕ) (valid : is_system system ≡ true) (legal : IsLegalBy Stands system log) (b : BatchMay system log k p s read took []) where
+  abbrev before : ProcState
+  before = b.before
+
+  from : SilentFrom system log p (before.small).steps before
+  from = silent_from system log p (before.small).steps before (b.may).reached
 
   abbrev was : ProcState
   was = from.was
@@ -50,11 +54,11 @@ module _ (system : System) (log : List Entry) (k : ClusterNo) (p : Pid) (s : Pro
   count : page_count system log p ≡ n
   count = ap (λ (o : Option ProcState). option_map_or (λ (s : ProcState). (s.small).pages) o 0) there
 
-  same : SameSize was s
-  same = silent_sizes ((s.small).steps - done from.kernel p) was s from.silent
+  same : SameSize was before
+  same = silent_sizes ((before.small).steps - done from.kernel p) was before from.silent
 
   size : length s.memory ≡ 256 * n
-  size = same.bytes ∙ process_sized system log p was valid there
+  size = ap length (takes_leave took before s b.takes).memory ∙ same.bytes ∙ process_sized system log p was valid there
 
   paged : ArePaged n now
   paged = (both_paged system p log was valid legal there).now

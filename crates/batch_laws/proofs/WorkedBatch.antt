@@ -1,6 +1,6 @@
 -- A worked batch: a process changes its one page and is due after 64 steps. Its page is sent, the other cluster is lost, and then its state may stand. The page may not
 -- be sent a second time.
-use Rattle.std.proofs.Common.{◌≡◌, ℕ, zero, suc, ◌<◌, refl, sym, arith, List, [], ◌∷◌, ◌++◌, false, Some, true≢false}
+use Rattle.std.proofs.Common.{◌≡◌, ℕ, zero, suc, ◌<◌, refl, sym, arith, List, [], ◌∷◌, ◌++◌, false, Some, None, true≢false}
 use Rattle.std.specs.Option.{option_map_or}
 use Rattle.t32_base.specs.declared.process.Pid.{Pid}
 use Rattle.t32_base.specs.Account.{page_in}
@@ -43,9 +43,9 @@ abbrev there : ProcState
 there = option_map_or (λ s. s) (silent_upto named [] it 64) (root_state it 1 [] 0 0 0)
 
 -- its batch is under way, with its page left
-begins : BatchMay named [] (cluster 0) it there [] (0 ∷ [])
+begins : BatchMay named [] (cluster 0) it there [] None (0 ∷ [])
 unfolding boot one_step steps silently plain_after placement told is_over silent_upto account_after
-begins = record { may = record { goes_on = refl; by_home = refl; reached = refl }; runs = refl; in_order = refl; within = refl; unsent = refl; account = account; reads = refl; children = refl; due = refl }
+begins = record { before = there; takes = record { can = refl; after = refl }; may = record { goes_on = refl; by_home = refl; reached = refl }; runs = refl; in_order = refl; within = refl; unsent = refl; account = account; reads = refl; children = refl; due = refl }
   where
     account : (i : ℕ) → i < 1 → is_left (0 ∷ []) i ≡ false → page_in (account_after named [] it).now i ≡ Some (page_at (there.memory) i)
     account zero within other = absurd (true≢false other)
@@ -55,12 +55,12 @@ begins = record { may = record { goes_on = refl; by_home = refl; reached = refl 
 abbrev page_log : List Entry
 page_log = entry_of named [] (page_left (cluster 0) it there 0) ∷ []
 
-rest : BatchMay named page_log (cluster 0) it there [] []
-rest = page_sent named [] (cluster 0) it there 0 [] [] begins
+rest : BatchMay named page_log (cluster 0) it there [] None []
+rest = page_sent named [] (cluster 0) it there 0 [] None [] begins
 
 legal : IsLegalBy Stands named page_log
 unfolding IsLegalBy
-legal = (next_stands named [] (cluster 0) it there [] 0 [] begins, tt)
+legal = (next_stands named [] (cluster 0) it there [] None 0 [] begins, tt)
 
 -- the other cluster is lost
 abbrev loss : Entry
@@ -71,15 +71,15 @@ unfolding boot one_step steps silently plain_after placement told is_over silent
 loss_stands = record { placed = (refl, refl, refl); by_right = refl; applies = refl; kind = refl }
 
 -- the rest is under way still
-goes_on : BatchMay named (page_log ++ loss ∷ []) (cluster 0) it there [] []
+goes_on : BatchMay named (page_log ++ loss ∷ []) (cluster 0) it there [] None []
 unfolding boot one_step steps silently plain_after placement told is_over silent_upto
-goes_on = batch_stays named page_log loss (cluster 0) it there [] [] (others_between named page_log loss (cluster 0) it refl legal loss_stands refl refl refl refl) rest
+goes_on = batch_stays named page_log loss (cluster 0) it there [] None [] (others_between named page_log loss (cluster 0) it refl legal loss_stands refl refl refl refl) rest
 
 -- so its state may stand
-last : AllStand named (page_log ++ loss ∷ []) (posts_left (cluster 0) it there [] [])
-last = rest_stands named (page_log ++ loss ∷ []) (cluster 0) it there [] [] refl (IsLegal-snoc Stands named page_log loss legal loss_stands) goes_on
+last : AllStand named (page_log ++ loss ∷ []) (posts_left (cluster 0) it there [] None [])
+last = rest_stands named (page_log ++ loss ∷ []) (cluster 0) it there [] None [] refl (IsLegal-snoc Stands named page_log loss legal loss_stands) goes_on
 
 -- its page is not left once it was sent at that step count
-not_again : BatchMay named page_log (cluster 0) it there [] (0 ∷ []) → ⊥
+not_again : BatchMay named page_log (cluster 0) it there [] None (0 ∷ []) → ⊥
 unfolding boot one_step steps silently plain_after placement told silent_upto
 not_again b = true≢false (sym b.unsent)

@@ -1,5 +1,5 @@
 //! Entries that come between the posts of a batch.
-ghost use Rattle.std.specs.Prelude.{ℕ, ◌≡◌, true, false, List, [], ◌∷◌, ◌++◌, Some};
+ghost use Rattle.std.specs.Prelude.{ℕ, ◌≡◌, true, false, List, [], ◌∷◌, ◌++◌, Some, Option};
 ghost use Rattle.t32_base.specs.declared.process.Pid.{Pid};
 ghost use Rattle.t32_base.specs.declared.process.ClusterNo.{ClusterNo};
 ghost use Rattle.t32_base.specs.declared.letter.Letter.{Letter};
@@ -16,6 +16,7 @@ ghost use Rattle.cert_sched.specs.Steps.{silent_upto};
 ghost use Rattle.cert_sched.specs.Rules.{is_by_home, is_over};
 ghost use Rattle.cert_sched.specs.Legal.{IsLegalBy, Stands};
 ghost use Rattle.page_laws.specs.Next.{moves_next};
+ghost use Rattle.sync_laws.specs.Cut.{TakesTo};
 ghost use Rattle.mark_laws.specs.Beside.{LeavesMarks};
 ghost use Rattle.batch_laws.specs.Between.{ComesBetween};
 ghost use Rattle.batch_laws.specs.Underway.{BatchMay, posts_left, with_letters};
@@ -32,11 +33,13 @@ pub fn others_tell_no_deeds()
 /// A law and no code: an entry that comes between the posts of a batch leaves it under way, with the letters that it
 /// brings the process.
 pub fn entries_leave_batches()
-    ensures stays { (system : System) (log : List Entry) (e : Entry) (k : ClusterNo) (p : Pid) (s : ProcState) (read indices : List ℕ) → ComesBetween system log e k p → BatchMay system log k p s read indices → BatchMay system (log ++ e ∷ []) k p (with_letters s (letter_for p (what e))) read indices }
-    // Silent steps lead to the process with these letters,
-    ensures reached { (system : System) (log : List Entry) (e : Entry) (k : ClusterNo) (p : Pid) (s : ProcState) (read indices : List ℕ) → ComesBetween system log e k p → BatchMay system log k p s read indices → silent_upto system (log ++ e ∷ []) p (s.small).steps ≡ Some (with_letters s (letter_for p (what e))) }
-    // so the batch is under way with the process as it is found there;
-    ensures found { (system : System) (log : List Entry) (e : Entry) (k : ClusterNo) (p : Pid) (s t : ProcState) (read indices : List ℕ) → ComesBetween system log e k p → BatchMay system log k p s read indices → silent_upto system (log ++ e ∷ []) p (s.small).steps ≡ Some t → BatchMay system (log ++ e ∷ []) k p t read indices }
+    ensures stays { (system : System) (log : List Entry) (e : Entry) (k : ClusterNo) (p : Pid) (s : ProcState) (read : List ℕ) (took : Option ℕ) (indices : List ℕ) → ComesBetween system log e k p → BatchMay system log k p s read took indices → BatchMay system (log ++ e ∷ []) k p (with_letters s (letter_for p (what e))) read took indices }
+    // Silent steps lead to where they did, with these letters,
+    ensures reached { (system : System) (log : List Entry) (e : Entry) (k : ClusterNo) (p : Pid) (s t : ProcState) (read : List ℕ) (took : Option ℕ) (indices : List ℕ) → ComesBetween system log e k p → BatchMay system log k p s read took indices → silent_upto system log p (s.small).steps ≡ Some t → silent_upto system (log ++ e ∷ []) p (s.small).steps ≡ Some (with_letters t (letter_for p (what e))) }
+    // so the batch is under way with the process as it is after the take from what is found there,
+    ensures found { (system : System) (log : List Entry) (e : Entry) (k : ClusterNo) (p : Pid) (s at t : ProcState) (read : List ℕ) (took : Option ℕ) (indices : List ℕ) → ComesBetween system log e k p → BatchMay system log k p s read took indices → silent_upto system (log ++ e ∷ []) p (s.small).steps ≡ Some at → TakesTo took at t → BatchMay system (log ++ e ∷ []) k p t read took indices }
+    // which takes the same signal with the letters as without;
+    ensures takes { (took : Option ℕ) (at t : ProcState) (letters : List Letter) → TakesTo took at t → TakesTo took (with_letters at letters) (with_letters t letters) }
     // and the posts that are left are the same.
-    ensures posts { (k : ClusterNo) (p : Pid) (s : ProcState) (letters : List Letter) (read indices : List ℕ) → posts_left k p (with_letters s letters) read indices ≡ posts_left k p s read indices }
+    ensures posts { (k : ClusterNo) (p : Pid) (s : ProcState) (letters : List Letter) (read : List ℕ) (took : Option ℕ) (indices : List ℕ) → posts_left k p (with_letters s letters) read took indices ≡ posts_left k p s read took indices }
 {}

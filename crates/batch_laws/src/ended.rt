@@ -1,5 +1,5 @@
 //! A batch that was sent to its end.
-ghost use Rattle.std.specs.Prelude.{ℕ, ◌≡◌, true, false, List, [], replicate};
+ghost use Rattle.std.specs.Prelude.{ℕ, ◌≡◌, true, false, List, [], replicate, Option};
 ghost use Rattle.t32_base.specs.declared.process.Pid.{Pid};
 ghost use Rattle.t32_base.specs.declared.process.ClusterNo.{ClusterNo};
 ghost use Rattle.sys_text.specs.declared.system.System.{System};
@@ -17,7 +17,7 @@ ghost use Rattle.batch_laws.specs.Underway.{BatchMay, posts_left, sync_left};
 /// A law and no code: after the rest of its batch the process, without a mark and with no letter read, is marked as the
 /// log says.
 pub fn batches_end_marked()
-    ensures marked { (system : System) (log : List Entry) (k : ClusterNo) (p : Pid) (s : ProcState) (read indices : List ℕ) (process : Process) (n : ℕ) → is_system system ≡ true → IsLegalBy Stands system log → BatchMay system log k p s read indices → state_of process ≡ s → process.read ≡ [] → process.since ≡ (process.small).steps → (process.ram).dirty ≡ replicate n false → IsMarked system (log_with system log (posts_left k p s read indices)) p process }
+    ensures marked { (system : System) (log : List Entry) (k : ClusterNo) (p : Pid) (s : ProcState) (read : List ℕ) (took : Option ℕ) (indices : List ℕ) (process : Process) (n : ℕ) → is_system system ≡ true → IsLegalBy Stands system log → BatchMay system log k p s read took indices → state_of process ≡ s → process.read ≡ [] → process.since ≡ (process.small).steps → (process.ram).dirty ≡ replicate n false → IsMarked system (log_with system log (posts_left k p s read took indices)) p process }
     // Its last post cuts it where it is.
-    ensures cuts { (system : System) (log : List Entry) (k : ClusterNo) (p : Pid) (s : ProcState) (read : List ℕ) → BatchMay system log k p s read [] → CutsAt system log (entry_of system log (sync_left k p s read)) p s }
+    ensures cuts { (system : System) (log : List Entry) (k : ClusterNo) (p : Pid) (s : ProcState) (read : List ℕ) (took : Option ℕ) → BatchMay system log k p s read took [] → CutsAt system log (entry_of system log (sync_left k p s read took)) p s }
 {}

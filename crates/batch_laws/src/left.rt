@@ -1,5 +1,5 @@
 //! What is left of a batch may still be sent.
-ghost use Rattle.std.specs.Prelude.{ℕ, ◌≡◌, true, List, [], ◌∷◌, ◌++◌};
+ghost use Rattle.std.specs.Prelude.{ℕ, ◌≡◌, true, List, [], ◌∷◌, ◌++◌, Option};
 ghost use Rattle.t32_base.specs.declared.process.Pid.{Pid};
 ghost use Rattle.t32_base.specs.declared.process.ClusterNo.{ClusterNo};
 ghost use Rattle.sys_text.specs.declared.system.System.{System};
@@ -13,12 +13,12 @@ ghost use Rattle.batch_laws.specs.Underway.{BatchMay, page_left, posts_left};
 
 /// A law and no code: the posts that are left of a batch may stand, post by post.
 pub fn posts_left_stand()
-    ensures stand { (system : System) (log : List Entry) (k : ClusterNo) (p : Pid) (s : ProcState) (read indices : List ℕ) → is_system system ≡ true → IsLegalBy Stands system log → BatchMay system log k p s read indices → AllStand system log (posts_left k p s read indices) }
+    ensures stand { (system : System) (log : List Entry) (k : ClusterNo) (p : Pid) (s : ProcState) (read : List ℕ) (took : Option ℕ) (indices : List ℕ) → is_system system ≡ true → IsLegalBy Stands system log → BatchMay system log k p s read took indices → AllStand system log (posts_left k p s read took indices) }
     // None is a page that was sent at its step count already.
-    ensures new { (system : System) (log : List Entry) (k : ClusterNo) (p : Pid) (s : ProcState) (read indices : List ℕ) → BatchMay system log k p s read indices → AllNew system log (posts_left k p s read indices) }
+    ensures new { (system : System) (log : List Entry) (k : ClusterNo) (p : Pid) (s : ProcState) (read : List ℕ) (took : Option ℕ) (indices : List ℕ) → BatchMay system log k p s read took indices → AllNew system log (posts_left k p s read took indices) }
 {}
 
 /// A law and no code: once its next page was sent, the rest of a batch is under way.
 pub fn pages_go_one_by_one()
-    ensures { (system : System) (log : List Entry) (k : ClusterNo) (p : Pid) (s : ProcState) (read : List ℕ) (i : ℕ) (indices : List ℕ) → BatchMay system log k p s read (i ∷ indices) → BatchMay system (log ++ entry_of system log (page_left k p s i) ∷ []) k p s read indices }
+    ensures { (system : System) (log : List Entry) (k : ClusterNo) (p : Pid) (s : ProcState) (read : List ℕ) (took : Option ℕ) (i : ℕ) (indices : List ℕ) → BatchMay system log k p s read took (i ∷ indices) → BatchMay system (log ++ entry_of system log (page_left k p s i) ∷ []) k p s read took indices }
 {}

@@ -1,5 +1,5 @@
 //! The posts of a batch leave the marks of every other process.
-ghost use Rattle.std.specs.Prelude.{ℕ, ◌≡◌, false, List};
+ghost use Rattle.std.specs.Prelude.{ℕ, ◌≡◌, false, List, Option};
 ghost use Rattle.t32_base.specs.declared.process.Pid.{Pid};
 ghost use Rattle.t32_base.specs.declared.process.ClusterNo.{ClusterNo};
 ghost use Rattle.sys_text.specs.declared.system.System.{System};
@@ -14,5 +14,5 @@ ghost use Rattle.batch_laws.specs.Underway.{page_left, sync_left};
 pub fn batches_leave_marks_of_others()
     ensures pages { (system : System) (log : List Entry) (k : ClusterNo) (p q : Pid) (s : ProcState) (i : ℕ) → same_pid p q ≡ false → LeavesMarks system log (entry_of system log (page_left k p s i)) q }
     // and so does its state.
-    ensures sync { (system : System) (log : List Entry) (k : ClusterNo) (p q : Pid) (s : ProcState) (read : List ℕ) → same_pid p q ≡ false → LeavesMarks system log (entry_of system log (sync_left k p s read)) q }
+    ensures sync { (system : System) (log : List Entry) (k : ClusterNo) (p q : Pid) (s : ProcState) (read : List ℕ) (took : Option ℕ) → same_pid p q ≡ false → LeavesMarks system log (entry_of system log (sync_left k p s read took)) q }
 {}

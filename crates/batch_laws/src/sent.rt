@@ -1,5 +1,5 @@
 //! Up to which step the pages of the processes were sent, post by post.
-ghost use Rattle.std.specs.Prelude.{ℕ, ◌≡◌, ◌≤◌, false, List, [], ◌∷◌, ◌++◌};
+ghost use Rattle.std.specs.Prelude.{ℕ, ◌≡◌, ◌≤◌, false, List, [], ◌∷◌, ◌++◌, Option};
 ghost use Rattle.t32_base.specs.declared.process.Pid.{Pid};
 ghost use Rattle.t32_base.specs.declared.process.ClusterNo.{ClusterNo};
 ghost use Rattle.sys_text.specs.declared.system.System.{System};
@@ -17,5 +17,5 @@ pub fn batches_send_no_later_page()
     // and is none of another process;
     ensures others { (system : System) (log : List Entry) (k : ClusterNo) (p q : Pid) (s : ProcState) (i n : ℕ) → same_pid p q ≡ false → SentUpto system log q n → SentUpto system (log ++ entry_of system log (page_left k p s i) ∷ []) q n }
     // and the state is no page.
-    ensures sync { (system : System) (log : List Entry) (k : ClusterNo) (p q : Pid) (s : ProcState) (read : List ℕ) (n : ℕ) → SentUpto system log q n → SentUpto system (log ++ entry_of system log (sync_left k p s read) ∷ []) q n }
+    ensures sync { (system : System) (log : List Entry) (k : ClusterNo) (p q : Pid) (s : ProcState) (read : List ℕ) (took : Option ℕ) (n : ℕ) → SentUpto system log q n → SentUpto system (log ++ entry_of system log (sync_left k p s read took) ∷ []) q n }
 {}

@@ -1,13 +1,15 @@
--- A synchronisation of a process that is within its limits keeps them, and so does each post of its batch.
-use Rattle.std.proofs.Common.{◌≡◌, ℕ, ◌-◌, refl, sym, ◌∙◌, ap, subst, List, [], ◌∷◌, ◌++◌, map, length, true, false, ◌&&◌, leb, Option, None}
+-- A synchronisation of a process that is within its limits keeps them, whether it takes a signal or not, and so does each post of its batch.
+use Rattle.std.proofs.Common.{◌≡◌, ℕ, ◌-◌, refl, sym, ◌∙◌, ap, subst, List, [], ◌∷◌, ◌++◌, map, length, true, false, ◌&&◌, leb, Option}
 use Rattle.std.specs.Option.{option_map_or}
 use Rattle.t32_base.specs.declared.process.Pid.{Pid}
 use Rattle.t32_base.specs.declared.process.ClusterNo.{ClusterNo}
+use Rattle.t32_base.specs.Small.{SmallState}
 use Rattle.sys_text.specs.declared.system.System.{System}
 use Rattle.rv_mem.specs.Memory.{page_at}
 use Rattle.proc_state.specs.declared.process.Process.{Process}
 use Rattle.proc_state.specs.State.{ProcState, state_of}
-use Rattle.sync_point.specs.Batch.{batch, marked_pages, page_post, page_posts, sync_post}
+use Rattle.sync_point.specs.Batch.{batch, cut_of, marked_pages, page_post, page_posts, sync_post, took_by}
+use Rattle.sync_point.proofs.Cuts.{cut_keeps}
 use Rattle.bus_msg.specs.declared.entry.What.TheVariants.{Sync}
 use Rattle.bus_msg.specs.declared.entry.Post.{Post}
 use Rattle.bus_msg.specs.declared.entry.Entry.{Entry}
@@ -37,19 +39,19 @@ same_keep system log later p s same =
 
 -- the synchronisation keeps the limits after a later log
 module _ (system : System) (log : List Entry) (p : Pid) (process : Process) (runs : RunsMarked system log p process) (within : is_within_by process system.syncreads system.syncsteps ≡ true) where
-  later_within : (later : List Entry) (read : List ℕ) (took : Option ℕ) → SameLimits system log later p → is_within_limits system later (Sync p process.small read took) p ≡ true
-  later_within later read took same =
-      ap (λ o. option_map_or (keeps_limits system later p) o false) (same.silent (process.small).steps ∙ runs.reached)
+  later_within : (later : List Entry) (small : SmallState) (read : List ℕ) (took : Option ℕ) → small.steps ≡ (process.small).steps → SameLimits system log later p → is_within_limits system later (Sync p small read took) p ≡ true
+  later_within later small read took steps same =
+      ap (λ o. option_map_or (keeps_limits system later p) o false) (same.silent small.steps ∙ ap (silent_upto system log p) steps ∙ runs.reached)
       ∙ same_keep system log later p (state_of process) same
       ∙ own_limits system log p process runs
       ∙ within
 
-pub sync_within : (system : System) (log : List Entry) (p : Pid) (process : Process) (read : List ℕ) (took : Option ℕ) → RunsMarked system log p process → is_within_by process system.syncreads system.syncsteps ≡ true
-    → is_within_limits system log (Sync p process.small read took) p ≡ true
-sync_within system log p process read took runs within = later_within system log p process runs within log read took (record { start = refl; saved = refl; silent = λ n. refl })
+pub sync_within : (system : System) (log : List Entry) (p : Pid) (process : Process) (small : SmallState) (read : List ℕ) (took : Option ℕ) → RunsMarked system log p process → is_within_by process system.syncreads system.syncsteps ≡ true
+    → small.steps ≡ (process.small).steps → is_within_limits system log (Sync p small read took) p ≡ true
+sync_within system log p process small read took runs within steps = later_within system log p process runs within log small read took steps (record { start = refl; saved = refl; silent = λ n. refl })
 
-pub sync_keeps : (system : System) (log : List Entry) (p : Pid) (process : Process) (read : List ℕ) (took : Option ℕ) → RunsMarked system log p process → is_within_by process system.syncreads system.syncsteps ≡ true
-    → KeepsLimits system log (Sync p process.small read took)
+pub sync_keeps : (system : System) (log : List Entry) (p : Pid) (process : Process) (small : SmallState) (read : List ℕ) (took : Option ℕ) → RunsMarked system log p process → is_within_by process system.syncreads system.syncsteps ≡ true
+    → small.steps ≡ (process.small).steps → KeepsLimits system log (Sync p small read took)
 sync_keeps = sync_within
 
 -- ---- the batch
@@ -85,5 +87,5 @@ batch_keeps system log p process by runs within = pages_keep system p process by
   where
     last : KeepsLimits system (log_with system log (page_posts process by)) (sync_post process by).what
     last =
-        subst (λ q. KeepsLimits system (log_with system log (page_posts process by)) (Sync q process.small process.read None)) (sym (own_pid system log p (state_of process) (process.small).steps runs.reached))
-        (later_within system log p process runs within (log_with system log (page_posts process by)) process.read None (pages_same system p process by (marked_pages process) log))
+        subst (λ q. KeepsLimits system (log_with system log (page_posts process by)) (Sync q (cut_of process).small (cut_of process).read (took_by process))) (sym (own_pid system log p (state_of process) (process.small).steps runs.reached))
+        (later_within system log p process runs within (log_with system log (page_posts process by)) (cut_of process).small (cut_of process).read (took_by process) (cut_keeps process).steps (pages_same system p process by (marked_pages process) log))

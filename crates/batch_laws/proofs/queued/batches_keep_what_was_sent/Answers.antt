@@ -2,10 +2,10 @@ use Rattle.batch_laws.proofs.QueuedBatch.{queued_others, queued_own, queued_sent
 use Rattle.batch_laws.proofs.queued.batches_keep_what_was_sent.Goals as goal
 
 pub returns-clause-own : goal.returns-clause-own
-returns-clause-own c system log k p s read indices n = queued_own system k p s read n log indices
+returns-clause-own c system log k p s read took indices n = queued_own system k p s read took n log indices
 
 pub returns-clause-others : goal.returns-clause-others
-returns-clause-others c system log k p q s read indices n = queued_others system k p s read n q log indices
+returns-clause-others c system log k p q s read took indices n = queued_others system k p s read took n q log indices
 
 pub returns-clause-before : goal.returns-clause-before
-returns-clause-before c system log k p q s read indices n = queued_sent_before system k p s read n q log indices
+returns-clause-before c system log k p q s read took indices n = queued_sent_before system k p s read took n q log indices

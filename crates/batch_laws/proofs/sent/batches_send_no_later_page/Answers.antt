@@ -8,4 +8,4 @@ pub returns-clause-others : goal.returns-clause-others
 returns-clause-others c system log k p q s i n = others_upto system log k p s q i n
 
 pub returns-clause-sync : goal.returns-clause-sync
-returns-clause-sync c system log k p q s read n = sync_upto system log k p s q read n
+returns-clause-sync c system log k p q s read took n = sync_upto system log k p s q read took n

@@ -1,8 +1,11 @@
-use Rattle.limit_laws.proofs.RestLimits.{rest_keeps_limits, page_keeps, between_keeps}
+use Rattle.limit_laws.proofs.RestLimits.{rest_keeps_limits, page_leaves_sync, page_keeps, between_keeps}
 use Rattle.limit_laws.proofs.rest.posts_left_keep_limits.Goals as goal
 
 pub returns-clause-posts : goal.returns-clause-posts
 returns-clause-posts c = rest_keeps_limits
+
+pub returns-clause-sync : goal.returns-clause-sync
+returns-clause-sync c = page_leaves_sync
 
 pub returns-clause-page : goal.returns-clause-page
 returns-clause-page c = page_keeps
