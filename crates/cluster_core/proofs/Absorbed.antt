@@ -115,25 +115,25 @@ module _ (c : ClusterView) (log : List Entry) (e : Entry) (p : Pid) (process : P
   same_process : (h : Held) → held_at c p ≡ Some h → h ≡ Runs process
   same_process h at = let same : Some h ≡ Some (Runs process) = sym at ∙ there in cc
 
-  stays : (h : Held) → held_at (absorbed c e) p ≡ Some h → RunsStill process h
+  stays : (h : Held) → held_at (absorbed c e) p ≡ Some h → RunsStill (letter_for p (what e)) process h
   stays h at = by_kind_of (one_of c.system log e later)
     where
-      by_kind_of : OneOf (what e) → RunsStill process h
+      by_kind_of : OneOf (what e) → RunsStill (letter_for p (what e)) process h
       by_kind_of (inl tells) =
           let before = was_here (what e) c.here p h tells (ap (λ (v : ClusterView). held_at v p) (sym (told_taken c e tells)) ∙ at) in
-          subst (RunsStill process) (sym (before.same ∙ ap (arrival_at (what e) p) (same_process before.was before.there))) (still_told (what e) p process tells)
+          subst (RunsStill (letter_for p (what e)) process) (sym (before.same ∙ ap (arrival_at (what e) p) (same_process before.was before.there))) (still_told (what e) p process tells)
       by_kind_of (inr (inl of)) =
           let before = was_paged (what e) c.here p h of (ap (λ (v : ClusterView). held_at v p) (sym (page_taken c e of)) ∙ at) in
-          subst (RunsStill process) (sym (before.same ∙ ap (page_at (what e) p) (same_process before.was before.there))) (still_paged (what e) p process of)
+          subst (RunsStill (letter_for p (what e)) process) (sym (before.same ∙ ap (page_at (what e) p) (same_process before.was before.there))) (still_paged (what e) p process of)
       by_kind_of (inr (inr (inl l))) =
           let here : with_all_waiting (moved_by c.places c.number (what e) (records_after (what e) c.records)) (here_after (what e) c.here) ≡ with_all_waiting (filter (moves_here (placement c.system log) l.lost c.number) c.records) c.here =
           ap (λ w. with_all_waiting (moved_by c.places c.number w (records_after w c.records)) (here_after w c.here)) l.same ∙ ap (λ places. with_all_waiting (filter (moves_here places l.lost c.number) c.records) c.here) (f.log).places in
           let moved : are_rising (filter (moves_here (placement c.system log) l.lost c.number) c.records) ≡ true =
           ap (λ places. are_rising (filter (moves_here places l.lost c.number) c.records)) (sym (f.log).places) ∙ sym (ap (λ w. are_rising (moved_by c.places c.number w (records_after w c.records))) l.same) ∙ order in
           let still = still_here c.system valid log e l.lost l.cause (loss_of c.system log e l now later) c.number (other_lost c e l spared) c.records c.here p h f.records moved home (ap (λ here. held_of here p) (sym here) ∙ at) in
-          subst (RunsStill process) (sym (same_process h still)) (still_itself process)
-      by_kind_of (inr (inr (inr (inl of)))) = subst (RunsStill process) (sym (same_process h (ap (λ (v : ClusterView). held_at v p) (sym (sync_taken c e of)) ∙ at))) (still_itself process)
-      by_kind_of (inr (inr (inr (inr b)))) = subst (RunsStill process) (sym (same_process h (ap (λ (v : ClusterView). held_at v p) (sym (birth_taken c e b.parent b.at b.child b.end b.same (parent_not_here c.system valid log e b.parent b.at b.child b.end b.same now later c.number foreign c.here (f.processes).each_once))) ∙ at))) (still_itself process)
+          subst (RunsStill (letter_for p (what e)) process) (sym (same_process h still)) (still_itself process (letter_for p (what e)) (ap (letter_for p) l.same))
+      by_kind_of (inr (inr (inr (inl of)))) = subst (RunsStill (letter_for p (what e)) process) (sym (same_process h (ap (λ (v : ClusterView). held_at v p) (sym (sync_taken c e of)) ∙ at))) (still_itself process (letter_for p (what e)) (by_sync (λ w. letter_for p w ≡ []) (λ pid at index bytes. refl) (λ pid small read took. refl) (what e) of))
+      by_kind_of (inr (inr (inr (inr b)))) = subst (RunsStill (letter_for p (what e)) process) (sym (same_process h (ap (λ (v : ClusterView). held_at v p) (sym (birth_taken c e b.parent b.at b.child b.end b.same (parent_not_here c.system valid log e b.parent b.at b.child b.end b.same now later c.number foreign c.here (f.processes).each_once))) ∙ at))) (still_itself process (letter_for p (what e)) (ap (letter_for p) b.same))
 
 -- ---- the whole
 

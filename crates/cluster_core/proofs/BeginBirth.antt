@@ -79,7 +79,7 @@ module _ (c : ClusterView) (p : Pid) (made : ℕ) (was : Held) (forking : Forkin
   birth_beside = record {
     log = record { cursor = (f.log).cursor; places = (f.log).places };
     processes = record {
-      held = held_beside c log p (Runs k.now) [] f reached (λ q h other as_before. subst (λ ps. IsHeldAs c.system log ps q h) empty as_before);
+      held = λ q h at. any_of all_of c.system log [] q h (held_beside c log p (Runs k.now) [] f reached (λ q h other as_before. subst (λ ps. IsHeldAs c.system log ps q h) empty as_before) q h at);
       each_once = ap rising (pids_changed p (Runs k.now) c.here) ∙ (f.processes).each_once;
     };
     queue = record { own = refl; legal = tt };
@@ -108,6 +108,6 @@ module _ (c : ClusterView) (p : Pid) (made : ℕ) (was : Held) (forking : Forkin
     posts = refl;
     there = changed_there p (Runs k.now) c.here was there;
     stands = k.forks;
-    undue = k.undue;
+    undue = (or_parts (is_due_by k.now (c.system).syncreads (c.system).syncsteps) (can_take (state_of k.now)) k.undue).0;
     next = next;
   }

@@ -1,12 +1,15 @@
 -- A process that is due synchronises: with its batch queued a cluster goes on to follow each log that it followed.
-use Rattle.std.proofs.Common.{◌≡◌, ◌+◌, ◌≤◌, refl, sym, ◌∙◌, ap, subst, List, [], true, false, cond, not, ◌||◌, Some, is_some}
+use Rattle.std.proofs.Common.{◌≡◌, ◌+◌, ◌≤◌, refl, sym, ◌∙◌, ap, subst, List, [], true, false, Bool, cond, not, ◌||◌, ◌&&◌, eq-eqb, eqb-true, Some, None, is_none, is_some, true≢false}
 use Rattle.std.specs.Prelude.{replicate}
-use Rattle.std.proofs.lemmas.Bool.{not-true}
+use Rattle.std.proofs.lemmas.Bool.{and_parts, not-true}
 use Rattle.t32_base.specs.declared.process.Pid.{Pid}
 use Rattle.sys_text.specs.declared.system.System.{System}
 use Rattle.sys_text.specs.Valid.{is_system}
 use Rattle.proc_state.specs.declared.process.Process.{Process}
-use Rattle.proc_state.specs.State.{state_of}
+use Rattle.proc_state.specs.Mail.{first_signal}
+use Rattle.proc_state.specs.State.{can_take, is_live, state_of}
+use Rattle.rv_mem.specs.declared.memory.RAM.{RAM}
+use Rattle.std.specs.Option.{option_map_or}
 use Rattle.bus_msg.specs.declared.entry.By.TheVariants.{Cluster}
 use Rattle.bus_msg.specs.declared.entry.Entry.{Entry}
 use Rattle.bus_msg.specs.Places.{same_pid}
@@ -18,9 +21,12 @@ use Rattle.cert_sched.specs.Steps.{silent_upto}
 use Rattle.cert_sched.specs.Legal.{IsLegalBy, Stands}
 use Rattle.cert_sched.specs.Built.{BuiltMayFollow}
 use Rattle.cert_sched.specs.Losses.{capped, least_calls, least_steps}
-use Rattle.cert_sched.specs.Rules.{has_its_pages}
+use Rattle.cert_sched.specs.Rules.{has_its_pages, keeps_limits}
 use Rattle.record_laws.proofs.Standing.{built_stands}
-use Rattle.sync_point.specs.Batch.{batch, marked_pages, synced}
+use Rattle.sync_point.specs.Batch.{batch, cut_of, marked_pages, synced, took_by}
+use Rattle.sync_point.specs.Due.{is_due_by}
+use Rattle.sync_point.proofs.Cuts.{Keeps, cut_keeps}
+use Rattle.mark_laws.specs.Sent.{SentUpto}
 use Rattle.quanta.specs.Limited.{is_due}
 use Rattle.sync_laws.specs.Running.{RunsMarked}
 use Rattle.sync_laws.specs.Sending.{MaySend}
@@ -33,24 +39,42 @@ use Rattle.cluster_core.specs.Holds.{CarriesMarks, IsHeldAs, MarkedIfThere, unen
 use Rattle.cluster_core.specs.Syncing.{Synchronises}
 use Rattle.cluster_core.specs.Follows.{FollowsBuilt, IsOpen}
 use Rattle.cluster_core.specs.Calls.{GoesOn}
-use Rattle.cluster_core.proofs.Here.{changed_there, found_changed, is_among, pids_changed}
+use Rattle.cluster_core.proofs.Here.{FoundChanged, changed_there, found_changed, is_among, pids_changed}
 use Rattle.cluster_core.proofs.Homes.{HomeHere, differ_built, home_here, home_lives}
 use Rattle.cluster_core.proofs.Batching.{all_but, unqueued, with_batch}
 use Rattle.cluster_core.proofs.ForksAgain.{forks_changed}
-use Rattle.cluster_core.proofs.Beside.{FollowsBeside}
+use Rattle.cluster_core.proofs.Beside.{FollowsBeside, HeldOf, any_of}
 use Rattle.cluster_core.proofs.Within.{carried, own_within, runs_marked, synced_within}
-use Rattle.cluster_core.proofs.Working.{held_beside, home_by, limits_beside, more_counted, pages_beside, turned}
+use Rattle.cluster_core.proofs.Working.{home_by, limits_beside, more_counted, pages_beside, turned}
 
 -- ---- who may synchronise
 
--- its children synchronised, and it is due or never synchronised
+-- its children synchronised, and it is due, takes a signal, or never synchronised
 pub record MayCut (system : System) (log : List Entry) (p : Pid) (process : Process) : Type 0 where
   pub children : ChildrenSynced system log p
-  pub due : (is_due (limits_of system) process || not (has_state system log p)) ≡ true
+  pub due : (is_due_by process system.syncreads system.syncsteps || is_some (took_by process) || not (has_state system log p)) ≡ true
+
+-- one that is due, or can take a signal, may synchronise
+pub due_or_takes : (system : System) (process : Process) (new : Bool) → is_due (limits_of system) process ≡ true → (is_due_by process system.syncreads system.syncsteps || is_some (took_by process) || new) ≡ true
+due_or_takes system process new due = either (is_due_by process system.syncreads system.syncsteps) (can_take (state_of process)) refl due
+  where
+    takes : can_take (state_of process) ≡ true → is_some (took_by process) ≡ true
+    takes can =
+        ap (λ b. is_some (cond b (first_signal (process.mail).letters) None)) can
+        ∙ (and_parts (is_live (process.small).status && is_none (process.small).frame) (is_some (first_signal (process.mail).letters)) can).1
+
+    either : (a t : Bool) → can_take (state_of process) ≡ t → (a || t) ≡ true → (a || is_some (took_by process) || new) ≡ true
+    either true t is due = refl
+    either false true is due = ap (λ b. b || new) (takes is)
+    either false false is due = absurd (true≢false (sym due))
 
 -- so it is in each log that the cluster follows
 abbrev pub MayCutIn : ClusterView → Pid → Process → Type 0
 MayCutIn c p process = (log : List Entry) → IsOpen BuiltMayFollow c.system log → FollowsBuilt c.system log c → MayCut c.system log p process
+
+-- after its synchronisation it is as it is after the take
+synced_state : (process : Process) → state_of (synced process) ≡ state_of (cut_of process)
+synced_state process = ap (λ (r : RAM). record { small = (cut_of process).small; memory = r.bytes; mail = ((cut_of process).mail).letters; next = ((cut_of process).mail).next }) (sym (cut_keeps process).ram)
 
 -- ---- a process of a cluster that follows a log, where nothing is queued and the process may synchronise
 
@@ -87,11 +111,14 @@ module _ (c : ClusterView) (p : Pid) (process : Process) (valid : is_system c.sy
   may_send = record { goes_on = go.1; by_home = home_by (placement c.system log) c.number p (home_lives c.system log p c.number valid go.0 go.1 home) home; reached = reached }
 
   -- its batch is under way, with all its pages left
-  begins : BatchMay c.system log c.number p (state_of process) process.read (marked_pages process)
-  begins = batch_begins c.system log p process c.number marked may_send may.children may.due
+  begins : BatchMay c.system log c.number p (state_of (synced process)) (cut_of process).read (took_by process) (marked_pages process)
+  begins = subst (λ s. BatchMay c.system log c.number p s (cut_of process).read (took_by process) (marked_pages process)) (sym (synced_state process)) (batch_begins c.system log p process c.number marked may_send may.children may.due)
 
-  posts : batch process c.number ≡ posts_left c.number p (state_of process) process.read (marked_pages process)
-  posts = batch_posts c.system log p process c.number marked
+  posts : batch process c.number ≡ posts_left c.number p (state_of (synced process)) (cut_of process).read (took_by process) (marked_pages process)
+  posts = batch_posts c.system log p process c.number marked ∙ ap (λ s. posts_left c.number p s (cut_of process).read (took_by process) (marked_pages process)) (sym (synced_state process))
+
+  kept : Keeps process (cut_of process)
+  kept = cut_keeps process
 
   -- ---- the cluster then
 
@@ -102,15 +129,18 @@ module _ (c : ClusterView) (p : Pid) (process : Process) (valid : is_system c.sy
   synchronises = record {
     pid = p;
     process = synced process;
-    read = process.read;
+    read = (cut_of process).read;
+    took = took_by process;
     indices = marked_pages process;
     posts = posts;
     there = changed_there p (Runs (synced process)) c.here (Runs process) there;
-    within = own_within c.system log p process marked ∙ f.limits p (Runs process) there;
+    within =
+        ap (λ o. option_map_or (keeps_limits c.system log p) o false) (ap (silent_upto c.system log p) kept.steps ∙ reached)
+        ∙ own_within c.system log p process marked ∙ f.limits p (Runs process) there;
     may = begins;
     unread = refl;
-    since = refl;
-    unmarked = ap (λ n. replicate n false) (sym carries.pages);
+    since = sym kept.steps;
+    unmarked = ap (λ n. replicate n false) (sym carries.pages ∙ sym kept.pages);
   }
 
   -- the others have their marks as before
@@ -119,11 +149,22 @@ module _ (c : ClusterView) (p : Pid) (process : Process) (valid : is_system c.sy
       let w = found_changed p (Runs (synced process)) c.here q h at in
       subst (λ x. MarkedIfThere CarriesMarks c.system log q (unended_process x)) (sym (w.is.1 (turned q p (not-true (same_pid p q) other)))) (marked_so q w.was (f.marks q w.was w.there))
 
+  -- and are held as before
+  others_held : (q : Pid) (h : Held) → held_at new q ≡ Some h → HeldOf (all_but p) c.system log [] q h
+  others_held q h at = by_pid (same_pid p q) refl
+    where
+      w : FoundChanged p (Runs (synced process)) c.here q h
+      w = found_changed p (Runs (synced process)) c.here q h at
+
+      by_pid : (b : Bool) → same_pid p q ≡ b → HeldOf (all_but p) c.system log [] q h
+      by_pid true own = subst (λ x. HeldOf (all_but p) c.system log [] q x) (sym (w.is.0 (eq-eqb q.0 p.0 (sym (eqb-true p.0 q.0 own))))) (λ passes. absurd (true≢false (sym passes ∙ ap not own)))
+      by_pid false other = any_of (all_but p) c.system log [] q h (subst (λ x. IsHeldAs c.system log [] q x) (sym (w.is.1 (turned q p other))) (held_so q w.was w.there))
+
   beside : FollowsBeside (all_but p) c.system log (unqueued new)
   beside = record {
     log = record { cursor = (f.log).cursor; places = (f.log).places };
     processes = record {
-      held = held_beside c log p (Runs (synced process)) [] f reached (λ q h other as_before. subst (λ ps. IsHeldAs c.system log ps q h) empty as_before);
+      held = others_held;
       each_once = ap rising (pids_changed p (Runs (synced process)) c.here) ∙ (f.processes).each_once;
     };
     queue = record { own = refl; legal = tt };
@@ -145,7 +186,7 @@ module _ (c : ClusterView) (p : Pid) (process : Process) (valid : is_system c.sy
 
   follows_batch : FollowsBuilt c.system log new
   unfolding synchronises
-  follows_batch = with_batch c.system log new synchronises valid go beside carries.sent
+  follows_batch = with_batch c.system log new synchronises valid go beside (subst (SentUpto c.system log p) (sym kept.steps) carries.sent)
 
 -- Where nothing is queued and a process that runs here may synchronise, a cluster goes on with the process synchronised and its batch queued.
 pub batch_goes_on : (c : ClusterView) (p : Pid) (process : Process) → is_system c.system ≡ true → c.queue ≡ [] → held_at c p ≡ Some (Runs process) → MayCutIn c p process

@@ -1,13 +1,18 @@
--- A cluster that follows a log but for the marks of some processes, with at most one post in its queue. Where a process synchronises, the cluster does so beside the rest
+-- A cluster that follows a log but for some processes that run, with at most one post in its queue. Where a process synchronises, the cluster does so beside the rest
 -- of the batch.
 use Rattle.std.proofs.Common.{◌≡◌, refl, List, true, Bool, Some, inl}
+use Rattle.std.specs.Prelude.{⊤}
 use Rattle.t32_base.specs.declared.process.Pid.{Pid}
 use Rattle.sys_text.specs.declared.system.System.{System}
 use Rattle.bus_msg.specs.declared.entry.Entry.{Entry}
 use Rattle.cert_sched.specs.Built.{UnlostMayFollow}
-use Rattle.cluster_core.specs.View.{ClusterView, Held, held_at}
+use Rattle.bus_msg.specs.declared.entry.Post.{Post}
+use Rattle.cert_sched.specs.Parts.{rising}
+use Rattle.cert_sched.specs.Rests.{home_pids}
+use Rattle.cluster_core.specs.Residents.{pids_in}
+use Rattle.cluster_core.specs.View.{ClusterView, Held, Runs, Rolls, Waits, held_at}
 use Rattle.cluster_core.specs.Queue.{IsQueued, with_queue}
-use Rattle.cluster_core.specs.Holds.{CarriesMarks, HasNotFailed, HoldsAccounts, HoldsLimits, HoldsLog, HoldsPages, HoldsProcesses, HoldsQueue, HoldsRecords, HoldsSteps, MarkedIfThere, unended_process}
+use Rattle.cluster_core.specs.Holds.{CarriesMarks, HasNotFailed, HoldsAccounts, HoldsLimits, HoldsLog, HoldsPages, HoldsQueue, HoldsRecords, HoldsSteps, IsHeldAs, MarkedIfThere, unended_process}
 use Rattle.cluster_core.specs.Families.{HoldsFamily}
 use Rattle.cluster_core.specs.ForksAgain.{HoldsForks}
 use Rattle.cluster_core.specs.Follows.{FollowsBuilt}
@@ -16,9 +21,52 @@ use Rattle.cluster_core.specs.Follows.{FollowsBuilt}
 abbrev pub HoldsMarksOf : (Pid → Bool) → System → List Entry → ClusterView → Type 0
 HoldsMarksOf which system log c = (p : Pid) (h : Held) → held_at c p ≡ Some h → which p ≡ true → MarkedIfThere CarriesMarks system (with_queue system log c.queue) p (unended_process h)
 
+-- what is held of a process is what the log says; of one that runs this is asked where it passes the test
+abbrev pub HeldOf : (Pid → Bool) → System → List Entry → List Post → Pid → Held → Type 0
+HeldOf which system log queue p (Runs process) = which p ≡ true → IsHeldAs system log queue p (Runs process)
+HeldOf which system log queue p (Rolls process counts births) = IsHeldAs system log queue p (Rolls process counts births)
+HeldOf which system log queue p (Waits waiting) = IsHeldAs system log queue p (Waits waiting)
+
+pub any_of : (which : Pid → Bool) (system : System) (log : List Entry) (queue : List Post) (p : Pid) (h : Held) → IsHeldAs system log queue p h → HeldOf which system log queue p h
+any_of which system log queue p (Runs process) held = λ passes. held
+any_of which system log queue p (Rolls process counts births) held = held
+any_of which system log queue p (Waits waiting) held = held
+
+pub one_of_them : (which : Pid → Bool) (system : System) (log : List Entry) (queue : List Post) (p : Pid) (h : Held) → which p ≡ true → HeldOf which system log queue p h → IsHeldAs system log queue p h
+one_of_them which system log queue p (Runs process) passes held = held passes
+one_of_them which system log queue p (Rolls process counts births) passes held = held
+one_of_them which system log queue p (Waits waiting) passes held = held
+
+-- what follows for each that is what the log says follows for those
+pub of_them : (which : Pid → Bool) (system : System) (log later : List Entry) (before after : List Post) (p : Pid) (h : Held) → (IsHeldAs system log before p h → IsHeldAs system later after p h) → HeldOf which system log before p h → HeldOf which system later after p h
+of_them which system log later before after p (Runs process) follows held = λ passes. follows (held passes)
+of_them which system log later before after p (Rolls process counts births) follows held = follows held
+of_them which system log later before after p (Waits waiting) follows held = follows held
+
+-- one that waits is held as the log says
+abbrev pub WaitsAs : System → List Entry → List Post → Pid → Held → Type 0
+WaitsAs system log queue p (Runs process) = ⊤
+WaitsAs system log queue p (Rolls process counts births) = ⊤
+WaitsAs system log queue p (Waits waiting) = IsHeldAs system log queue p (Waits waiting)
+
+pub told_waits : (system : System) (log : List Entry) (queue : List Post) (p : Pid) (h : Held) → IsHeldAs system log queue p h → WaitsAs system log queue p h
+told_waits system log queue p (Runs process) held = tt
+told_waits system log queue p (Rolls process counts births) held = tt
+told_waits system log queue p (Waits waiting) held = held
+
+pub waits_as : (which : Pid → Bool) (system : System) (log : List Entry) (queue : List Post) (p : Pid) (h : Held) → HeldOf which system log queue p h → WaitsAs system log queue p h
+waits_as which system log queue p (Runs process) held = tt
+waits_as which system log queue p (Rolls process counts births) held = tt
+waits_as which system log queue p (Waits waiting) held = held
+
+-- each process at home here that has not ended stands here once, and those as the log and the queue say
+pub record HoldsThem (which : Pid → Bool) (system : System) (log : List Entry) (c : ClusterView) : Type 0 where
+  pub held : (p : Pid) (h : Held) → held_at c p ≡ Some h → HeldOf which system log c.queue p h
+  pub each_once : rising (pids_in c.here) ≡ rising (home_pids system log c.number)
+
 pub record FollowsBeside (which : Pid → Bool) (system : System) (entries : List Entry) (c : ClusterView) : Type 0 where
   pub log : HoldsLog system entries c
-  pub processes : HoldsProcesses system entries c
+  pub processes : HoldsThem which system entries c
   pub queue : HoldsQueue UnlostMayFollow system entries c
   pub queued : IsQueued c.queue
   pub steps : HoldsSteps entries c
@@ -39,7 +87,7 @@ all_of p = true
 pub beside_of : (system : System) (log : List Entry) (c : ClusterView) → FollowsBuilt system log c → IsQueued c.queue → FollowsBeside all_of system log c
 beside_of system log c f queued = record {
   log = f.log;
-  processes = f.processes;
+  processes = record { held = λ p h there. any_of all_of system log c.queue p h ((f.processes).held p h there); each_once = (f.processes).each_once };
   queue = f.queue;
   queued = queued;
   steps = f.steps;
@@ -56,7 +104,7 @@ beside_of system log c f queued = record {
 pub built_of : (system : System) (log : List Entry) (c : ClusterView) → FollowsBeside all_of system log c → FollowsBuilt system log c
 built_of system log c f = record {
   log = f.log;
-  processes = f.processes;
+  processes = record { held = λ p h there. one_of_them all_of system log c.queue p h refl ((f.processes).held p h there); each_once = (f.processes).each_once };
   queue = f.queue;
   queued = inl f.queued;
   steps = f.steps;

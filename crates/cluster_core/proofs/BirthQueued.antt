@@ -133,7 +133,7 @@ module _ (system : System) (log : List Entry) (c : ClusterView) (b : BearsChild 
     home = home_of p (Runs b.process) (f.processes).each_once b.there
 
     reached : silent_upto system log p (s.small).steps ≡ Some s
-    reached = (f.processes).held p (Runs b.process) b.there
+    reached = (f.processes).held p (Runs b.process) b.there refl
 
     marked : RunsMarked system log p b.process
     marked =
@@ -175,20 +175,20 @@ module _ (system : System) (log : List Entry) (c : ClusterView) (b : BearsChild 
     }
       where
         held : (q : Pid) (h : Held) → held_at c q ≡ Some h → IsHeldAs system log c.queue q h
-        held q h there = subst (λ ps. IsHeldAs system log ps q h) (sym b.posts) (held_alike system log [] (post ∷ []) q h refl refl (λ i. refl) ((f.processes).held q h there))
+        held q h there = subst (λ ps. IsHeldAs system log ps q h) (sym b.posts) (held_alike system log [] (post ∷ []) q h refl refl (λ i. refl) (one_of_them all_of system log [] q h refl ((f.processes).held q h there)))
 
         marks : (q : Pid) (h : Held) → held_at c q ≡ Some h → MarkedIfThere CarriesMarks system (with_queue system log c.queue) q (unended_process h)
         marks q h there =
             let unended : IsUnended system log q = ap is_some (home_of q h (f.processes).each_once there).found in
             subst (λ ps. MarkedIfThere CarriesMarks system (with_queue system log ps) q (unended_process h)) (sym b.posts)
-            (marks_with birth_may.stands q unended (unended_process h) (λ process is. came_to system log q valid legal unended Nothing h process tt tt ((f.processes).held q h there) is) (f.marks q h there refl))
+            (marks_with birth_may.stands q unended (unended_process h) (λ process is. came_to system log q valid legal unended Nothing h process tt tt (one_of_them all_of system log [] q h refl ((f.processes).held q h there)) is) (f.marks q h there refl))
 
   -- ---- beside the birth
 
   pub without_birth : FollowsBuilt system log c → FollowsBeside all_of system log (unqueued c)
   without_birth f = record {
     log = record { cursor = (f.log).cursor; places = (f.log).places };
-    processes = record { held = held; each_once = (f.processes).each_once };
+    processes = record { held = λ q h there. any_of all_of system log [] q h (held q h there); each_once = (f.processes).each_once };
     queue = record { own = refl; legal = tt };
     queued = record { queued = Nothing; posts = refl; together = tt };
     steps = record { counted = (f.steps).counted };

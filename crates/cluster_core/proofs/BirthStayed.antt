@@ -179,7 +179,7 @@ module _ (system : System) (valid : is_system system ≡ true) (log : List Entry
 pub bears_still : (c : ClusterView) (log : List Entry) (e : Entry) (b : BearsChild c.system log c) → is_system c.system ≡ true → IsOpen BuiltMayFollow c.system log → IsOpen BuiltMayFollow c.system (log ++ e ∷ [])
     → rising (pids_in c.here) ≡ rising (home_pids c.system log c.number) → is_by_cluster c.number e ≡ false → is_crash_of c.number (what e) ≡ false
     → (new : ClusterView) → new.system ≡ c.system → new.number ≡ c.number → new.queue ≡ c.queue → rising (pids_in new.here) ≡ rising (home_pids c.system (log ++ e ∷ []) c.number)
-    → home_at (placement c.system (log ++ e ∷ [])) b.pid ≡ home_at (placement c.system log) b.pid → ((h : Held) → held_at new b.pid ≡ Some h → RunsStill b.process h) → BearsChild c.system (log ++ e ∷ []) new
+    → home_at (placement c.system (log ++ e ∷ [])) b.pid ≡ home_at (placement c.system log) b.pid → ((h : Held) → held_at new b.pid ≡ Some h → RunsStill (letter_for b.pid (what e)) b.process h) → BearsChild c.system (log ++ e ∷ []) new
 bears_still c log e b valid now next here_now foreign away new system_is number queue here_then same_home stays = record {
   pid = b.pid;
   process = r.now;
@@ -207,8 +207,8 @@ bears_still c log e b valid now next here_now foreign away new system_is number 
     at : (h : Held) × (held_of new.here b.pid ≡ Some h)
     at = held_there new.here b.pid listed
 
-    r : RunsStill b.process at.0
+    r : RunsStill (letter_for b.pid (what e)) b.process at.0
     r = stays at.0 at.1
 
-    undue : is_due (limits_of c.system) r.now ≡ false
-    undue = (λ i. nat_le (limits_of c.system).reads (length (r.read i)) || nat_le (limits_of c.system).steps ((r.small i).steps - r.since i)) ∙ b.undue
+    undue : is_due_by r.now (c.system).syncreads (c.system).syncsteps ≡ false
+    undue = (λ i. nat_le (c.system).syncreads (length (r.read i)) || nat_le (c.system).syncsteps ((r.small i).steps - r.since i)) ∙ b.undue

@@ -63,7 +63,7 @@ use Rattle.cluster_core.proofs.Stayed.{RunsStill}
 
 pub follows_beside_birth : (c : ClusterView) (log : List Entry) (e : Entry) (b : BearsChild c.system log c) → is_system c.system ≡ true → IsOpen BuiltMayFollow c.system log → IsOpen BuiltMayFollow c.system (log ++ e ∷ []) → FollowsBuilt c.system log c
     → is_by_cluster c.number e ≡ false → is_crash_of c.number (what e) ≡ false → (server : Option PagerState) → FollowsBeside all_of c.system (log ++ e ∷ []) (with_server server (absorbed (unqueued c) e))
-    → home_at (placement c.system (log ++ e ∷ [])) b.pid ≡ home_at (placement c.system log) b.pid → ((h : Held) → held_at (absorbed c e) b.pid ≡ Some h → RunsStill b.process h) → FollowsBuilt c.system (log ++ e ∷ []) (with_server server (absorbed c e))
+    → home_at (placement c.system (log ++ e ∷ [])) b.pid ≡ home_at (placement c.system log) b.pid → ((h : Held) → held_at (absorbed c e) b.pid ≡ Some h → RunsStill (letter_for b.pid (what e)) b.process h) → FollowsBuilt c.system (log ++ e ∷ []) (with_server server (absorbed c e))
 follows_beside_birth c log e b valid now later f other spared server beside same_home stays =
     let new : ClusterView = with_server server (absorbed c e) in
     with_birth c.system (log ++ e ∷ []) new (bears_still c log e b valid now later (f.processes).each_once other spared new refl refl refl (beside.processes).each_once same_home stays) valid later beside

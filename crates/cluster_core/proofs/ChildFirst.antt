@@ -1,6 +1,6 @@
 -- Which child is to synchronise before a process that is here, and who waits for it.
-use Rattle.std.proofs.Common.{◌≡◌, arith, cond, Bool, ◌||◌, refl, sym, ◌∙◌, ap, List, Option, Some, None, is_none, is_some, true, false, true≢false}
-use Rattle.std.specs.Prelude.{option_and_then, not, Result, Ok, Err, IfOk, OnErr}
+use Rattle.std.proofs.Common.{◌≡◌, arith, cond, Bool, ◌||◌, refl, sym, ◌∙◌, ap, List, [], length, Option, Some, None, is_none, is_some, true, false, true≢false}
+use Rattle.std.specs.Prelude.{option_and_then, not, replicate, Result, Ok, Err, IfOk, OnErr}
 use Rattle.std.specs.Option.{option_map_or}
 use Rattle.std.proofs.lemmas.Bool.{or_left, or_right}
 use Rattle.std.proofs.lemmas.Bool.Decides.{nat_tests}
@@ -9,11 +9,13 @@ use Rattle.t32_base.specs.declared.process.ClusterNo.{ClusterNo}
 use Rattle.t32_base.specs.declared.streams.NoMemory.{NoMemory}
 use Rattle.bus_msg.specs.declared.entry.Post.{Post}
 use Rattle.proc_state.specs.declared.process.Process.{Process}
-use Rattle.proc_state.specs.State.{state_of}
+use Rattle.proc_state.specs.State.{can_take, state_of}
 use Rattle.sys_calls.specs.Calls.{Next, Silent, Blocked, Forks, Emits, Over}
 use Rattle.sys_calls.specs.Next.{next_step, has_step, is_exit}
 use Rattle.birth_notice.specs.Family.{first_unsynced}
-use Rattle.sync_point.specs.Batch.{synced}
+use Rattle.sync_point.specs.Batch.{cut_of, synced}
+use Rattle.sync_point.specs.Due.{is_due_by}
+use Rattle.sync_point.proofs.Cuts.{cut_keeps, cut_untaken, synced_takes_none}
 use Rattle.quanta.specs.declared.limits.Limits.{Limits}
 use Rattle.quanta.specs.Limited.{is_due}
 use Rattle.cluster_core.specs.ChildrenFirst.{child_before, comes_after_at, comes_after_children, is_hindered, is_running, runs_at}
@@ -41,15 +43,28 @@ comes_acts limits (Waits waiting) comes = absurd (true≢false (sym comes))
 
 -- one that has just synchronised is due only where it was
 due_still : (limits : Limits) (p : Process) → is_due limits (synced p) ≡ true → is_due limits p ≡ true
-due_still limits p due = grind (arith, nat_tests)
+due_still limits p due = or_left (is_due_by p limits.reads limits.steps) (can_take (state_of p)) (by_limits (cut_keeps p).steps (first (is_due_by (synced p) limits.reads limits.steps) (can_take (state_of (synced p))) (synced_takes_none p) due))
+  where
+    first : (a b : Bool) → b ≡ false → (a || b) ≡ true → a ≡ true
+    first true b none due = refl
+    first false b none due = absurd (true≢false (sym due ∙ none))
+
+    by_limits : ((cut_of p).small).steps ≡ (p.small).steps → is_due_by (synced p) limits.reads limits.steps ≡ true → is_due_by p limits.reads limits.steps ≡ true
+    by_limits same due = grind (arith, nat_tests)
 
 -- one that could not move cannot where it has just synchronised
 pub synced_acts : (limits : Limits) (p : Process) → can_act limits (Runs (synced p)) ≡ true → can_act limits (Runs p) ≡ true
-synced_acts limits p acts = by_step (has_step (next_step (state_of p))) acts
+synced_acts limits p acts = by_take (can_take (state_of p)) refl
   where
     by_step : (b : Bool) → (b || is_due limits (synced p)) ≡ true → (b || is_due limits p) ≡ true
     by_step true acts = refl
     by_step false acts = due_still limits p acts
+
+    by_take : (b : Bool) → can_take (state_of p) ≡ b → can_act limits (Runs p) ≡ true
+    by_take true can = or_right (has_step (next_step (state_of p))) (is_due limits p) (or_right (is_due_by p limits.reads limits.steps) (can_take (state_of p)) can)
+    by_take false none =
+        let same : state_of (synced p) ≡ state_of p = ap (λ (q : Process). state_of (record q { ram = record (p.ram) { dirty = replicate (length (p.ram).dirty) false }; read = []; since = (p.small).steps })) (cut_untaken p none) in
+        by_step (has_step (next_step (state_of p))) (ap (λ s. has_step (next_step s) || is_due limits (synced p)) (sym same) ∙ acts)
 
 -- ---- the child that comes before
 

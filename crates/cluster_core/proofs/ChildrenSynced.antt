@@ -23,7 +23,8 @@ use Rattle.family_laws.specs.Unsynced.{unsynced_births}
 use Rattle.family_laws.proofs.FirstChild.{first_has_none, first_kept, none_first}
 use Rattle.family_laws.proofs.UnsyncedChild.{first_lives_there, stateless}
 use Rattle.record_laws.proofs.Standing.{built_stands}
-use Rattle.quanta.specs.Limited.{is_due}
+use Rattle.sync_point.specs.Batch.{took_by}
+use Rattle.sync_point.specs.Due.{is_due_by}
 use Rattle.cluster_core.specs.View.{ClusterView, Held, held_at, held_of, limits_of}
 use Rattle.cluster_core.specs.Residents.{pids_in}
 use Rattle.cluster_core.specs.Follows.{FollowsBuilt, IsOpen}
@@ -88,7 +89,7 @@ module _ (c : ClusterView) (log : List Entry) (f : FollowsBuilt c.system log c) 
     pub first_may : (process : Process) → MayCut c.system log child process
     first_may process = record {
       children = childs;
-      due = or_right (is_due (limits_of c.system) process) (not (has_state c.system log child)) (ap not (stateless c.system log child valid legal (first_kept c.system log p child first_there)));
+      due = or_right (is_due_by process (c.system).syncreads (c.system).syncsteps || is_some (took_by process)) (not (has_state c.system log child)) (ap not (stateless c.system log child valid legal (first_kept c.system log p child first_there)));
     }
 
     -- it is here where the process is

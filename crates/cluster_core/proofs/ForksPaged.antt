@@ -89,10 +89,10 @@ bears_going_on w child among = by_whole (is_whole w) (w.kept).state
 
 module _ (system : System) (valid : is_system system ≡ true) (log : List Entry) (e : Entry) (before : IsLegalBy BuiltMayFollow system log) (legal : IsLegalBy BuiltMayFollow system (log ++ e ∷ [])) (of : is_of_page (what e) ≡ true) (queue : List Post) where
   -- no page comes to a child without a state
-  child_stays : (child : Pid) (was : Held) → IsHeldAs system log queue child was → has_state system log child ≡ false → is_waiting (page_at (what e) child was) ≡ is_waiting was
+  child_stays : (child : Pid) (was : Held) → WaitsAs system log queue child was → has_state system log child ≡ false → is_waiting (page_at (what e) child was) ≡ is_waiting was
   child_stays child was held none = by_page (λ w. what e ≡ w → is_waiting (page_at w child was) ≡ is_waiting was) (λ pid index is. refl) (λ pid index bytes is. by_pid pid index bytes is (same_pid pid child) refl) (what e) of refl
     where
-      by_held : (index : ℕ) (bytes : List ℕ) → what e ≡ PageIs child index bytes → (was : Held) → IsHeldAs system log queue child was → is_waiting (page_held index bytes was) ≡ is_waiting was
+      by_held : (index : ℕ) (bytes : List ℕ) → what e ≡ PageIs child index bytes → (was : Held) → WaitsAs system log queue child was → is_waiting (page_held index bytes was) ≡ is_waiting was
       by_held index bytes is (Runs p) held = refl
       by_held index bytes is (Rolls p counts births) held = refl
       by_held index bytes is (Waits w) held =
@@ -116,7 +116,7 @@ module _ (system : System) (valid : is_system system ≡ true) (log : List Entry
       by_pid index bytes true = by_held index bytes was refl
       by_pid index bytes false = refl
 
-  pub forks_paged : (births : List Pair) (here : List (Pid × Held)) → births ≡ unsynced_births system log → ((p : Pid) (h : Held) → held_of here p ≡ Some h → IsHeldAs system log queue p h) → ForksLeft births here
+  pub forks_paged : (births : List Pair) (here : List (Pid × Held)) → births ≡ unsynced_births system log → ((p : Pid) (h : Held) → held_of here p ≡ Some h → WaitsAs system log queue p h) → ForksLeft births here
       → ForksLeft (family_after (what e) births) (here_after (what e) here)
   forks_paged births here are held left parent child q h at_parent at_child born =
       let a = was_paged (what e) here parent q of at_parent in
@@ -125,7 +125,7 @@ module _ (system : System) (valid : is_system system ≡ true) (log : List Entry
       let so = born_so system log parent child (subst (λ bs. list_any (bears_by parent child) bs ≡ true) are before_born) in
       let in_record : (w : WaitingState) → a.was ≡ Waits w → list_any (same_pid child) (w.kept).births ≡ true =
       λ w is. in_the_record system log parent child w.kept valid (built_stands system log before) so.born so.unsynced
-      (kept_so system log parent (is_fetch_queued parent queue) w (subst (IsHeldAs system log queue parent) is (held parent a.was a.there)).1) in
+      (kept_so system log parent (is_fetch_queued parent queue) w (subst (WaitsAs system log queue parent) is (held parent a.was a.there)).1) in
       ap is_waiting b.same ∙ child_stays child b.was (held child b.was b.there) (stateless system log child valid (built_stands system log before) so.among)
       ∙ left parent child a.was b.was a.there b.there before_born
       ∙ sym (ap (has_to_bear child) a.same ∙ parent_stays parent child a.was in_record)

@@ -7,8 +7,10 @@ use Rattle.t32_base.specs.declared.process.ClusterNo.{ClusterNo}
 use Rattle.sys_text.specs.declared.system.System.{System}
 use Rattle.sys_text.specs.Valid.{is_system}
 use Rattle.proc_state.specs.declared.process.Process.{Process}
-use Rattle.proc_state.specs.State.{state_of}
-use Rattle.sync_point.specs.Batch.{synced}
+use Rattle.proc_state.specs.State.{can_take, state_of}
+use Rattle.sync_point.specs.Batch.{after_take, synced}
+use Rattle.sync_point.proofs.Cuts.{cut_keeps}
+use Rattle.sys_calls.proofs.TakeLaws.{taken_strikes}
 use Rattle.sys_calls.specs.Small.{weight_with_children}
 use Rattle.sys_calls.proofs.Bearing.{emits_lightens, silently_lightens}
 use Rattle.bus_msg.specs.declared.entry.Entry.{Entry}
@@ -124,13 +126,24 @@ module _ (old : ClusterView) (valid : is_system old.system ≡ true) (f : Follow
 
 -- one that has just synchronised has not moved since
 synced_unmoved : (p : Process) → has_moved (synced p) ≡ false
-synced_unmoved p = grind (arith, nat_tests)
+synced_unmoved p = (λ i. ltb (p.small).steps ((cut_keeps p).steps i) || false) ∙ not_itself (p.small).steps
+  where
+    not_itself : (n : ℕ) → (ltb n n || false) ≡ false
+    not_itself n = grind (arith, nat_tests)
+
+-- and has no more steps left where it took a signal
+synced_weight : (p : Process) → weight_with_children (synced p).small ≤ weight_with_children p.small
+synced_weight p = by_take (can_take (state_of p)) refl
+  where
+    by_take : (b : Bool) → can_take (state_of p) ≡ b → weight_with_children (cond b (after_take p) p).small ≤ weight_with_children p.small
+    by_take true can = (taken_strikes (state_of p) can).weight_children
+    by_take false none = omega arith
 
 -- one that synchronised has as many steps left, and no synchronisation before the next of them
 batch_lightens : (old new : ClusterView) → is_system old.system ≡ true → FollowsSome old → QueuesBatch old new → load new ≤ load old
 batch_lightens old new valid f one =
-    let after : process_load (synced one.process) ≡ 2 * weight_with_children (one.process).small + 0 = ap (λ b. 2 * weight_with_children (one.process).small + cond b 1 0) (synced_unmoved one.process) in
-    let less : held_load (Runs (synced one.process)) + 0 ≤ held_load (Runs one.process) = omega (arith, (process_bounds one.process).0, after) in
+    let after : process_load (synced one.process) ≡ 2 * weight_with_children (synced one.process).small + 0 = ap (λ b. 2 * weight_with_children (synced one.process).small + cond b 1 0) (synced_unmoved one.process) in
+    let less : held_load (Runs (synced one.process)) + 0 ≤ held_load (Runs one.process) = omega (arith, (process_bounds one.process).0, after, synced_weight one.process) in
     let fewer : sum_held (with_changed one.pid (Runs (synced one.process)) old.here) + 0 ≤ sum_held old.here = one_lighter one.pid (Runs one.process) (Runs (synced one.process)) 0 old.here (held_apart old valid f) one.there less in
     omega (arith, fewer, ap load one.rest)
 

@@ -417,16 +417,17 @@ module _ (system : System) (valid : is_system system ≡ true) (log : List Entry
       found : (p : Pid) (h : Held) → held_of (with_all_waiting moved c.here) p ≡ Some h → (held_of c.here p ≡ Some h) ⊎ Recovery (λ r. Moves c.records r.pid r) p h
       found p h at = held_waiting (λ r. Moves c.records r.pid r) moved c.here p h (all_recorded (λ r. Moves c.records r.pid r) moved order (λ r found. moving c.records r.pid r keeps found)) at
 
-      held : (p : Pid) (h : Held) → held_of (with_all_waiting moved c.here) p ≡ Some h → IsHeldAs system later c.queue p h
-      held p h at = subst (λ ps. IsHeldAs system later ps p h) (sym queue_is) (by_either (found p h at))
+      held : (p : Pid) (h : Held) → held_of (with_all_waiting moved c.here) p ≡ Some h → HeldOf which system later c.queue p h
+      held p h at = subst (λ ps. HeldOf which system later ps p h) (sym queue_is) (by_either (found p h at))
         where
-          by_either : (held_of c.here p ≡ Some h) ⊎ Recovery (λ r. Moves c.records r.pid r) p h → IsHeldAs system later (posts_of q) p h
-          by_either (inl there) = held_still q p h (f.queued).together (home_of p h there) (subst (λ ps. IsHeldAs system log ps p h) queue_is ((f.processes).held p h there))
+          by_either : (held_of c.here p ≡ Some h) ⊎ Recovery (λ r. Moves c.records r.pid r) p h → HeldOf which system later (posts_of q) p h
+          by_either (inl there) =
+              of_them which system log later c.queue (posts_of q) p h (λ was. held_still q p h (f.queued).together (home_of p h there) (subst (λ ps. IsHeldAs system log ps p h) queue_is was)) ((f.processes).held p h there)
           by_either (inr y) =
               let pids : (y.kept).pid ≡ p = pid_same (y.kept).pid p (eqb-true ((y.kept).pid).0 p.0 y.own) in
               let m : Moves c.records p y.kept = subst (λ p. Moves c.records p y.kept) pids y.has in
               let elsewhere = not_here c.records p y.kept m in
-              subst (λ x. IsHeldAs system later (posts_of q) p x) (sym y.is)
+              subst (λ x. HeldOf which system later (posts_of q) p x) (sym y.is)
               (waiting_held q c.records p y.kept m (no_move_queued system valid log e lost cause n k apart q p (f.queued).together posts_own posts_legal elsewhere) (λ i. no_fetch_queued system valid log e lost cause n k apart q p i (f.queued).together posts_own posts_legal elsewhere))
 
       -- who was here has its marks still
@@ -438,14 +439,15 @@ module _ (system : System) (valid : is_system system ≡ true) (log : List Entry
           marked_after system log e p q h h valid (built_stands system later n.more) (ap is_some home.found)
           (ap is_some (found_after system valid log e lost cause n k apart p ∙ ap (option_map (after_loss lost)) home.found)) (f.queued).together
           (queue_tells system log k q posts_own posts_legal) (queue_tells system later k q posts_own (queue_stays system valid log e lost cause n k apart q (f.queued).together posts_own foreign posts_legal))
-          (subst (λ ps. IsHeldAs system log ps p h) queue_is ((f.processes).held p h there)) now leaves (ap (is_exit_of p) n.same) (λ m. m)
+          (subst (λ ps. IsHeldAs system log ps p h) queue_is (one_of_them which system log c.queue p h among ((f.processes).held p h there))) now leaves (ap (is_exit_of p) n.same) (λ m. m)
           (subst (λ ps. MarkedIfThere CarriesMarks system (with_queue system log ps) p (unended_process h)) queue_is (f.marks p h there among))
 
       marks : (p : Pid) (h : Held) → held_of (with_all_waiting moved c.here) p ≡ Some h → which p ≡ true → MarkedIfThere CarriesMarks system (with_queue system later c.queue) p (unended_process h)
       marks p h at among = subst (λ ps. MarkedIfThere CarriesMarks system (with_queue system later ps) p (unended_process h)) (sym queue_is) (by_either (found p h at))
         where
           by_either : (held_of c.here p ≡ Some h) ⊎ Recovery (λ r. Moves c.records r.pid r) p h → MarkedIfThere CarriesMarks system (with_queue system later (posts_of q)) p (unended_process h)
-          by_either (inl there) = marks_still p h among there (held_still q p h (f.queued).together (home_of p h there) (subst (λ ps. IsHeldAs system log ps p h) queue_is ((f.processes).held p h there)))
+          by_either (inl there) = marks_still p h among there
+              (held_still q p h (f.queued).together (home_of p h there) (subst (λ ps. IsHeldAs system log ps p h) queue_is (one_of_them which system log c.queue p h among ((f.processes).held p h there))))
           by_either (inr y) = subst (λ x. MarkedIfThere CarriesMarks system (with_queue system later (posts_of q)) p (unended_process x)) (sym y.is) tt
 
       -- a child that is moved lives with its parent, which is moved too; so each of its forks is to be made again

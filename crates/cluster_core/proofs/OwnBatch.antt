@@ -53,7 +53,8 @@ use Rattle.cluster_core.proofs.Synchronising.{s as tells, differ, held_still, lo
 use Rattle.cluster_core.proofs.Telling.{at_once}
 use Rattle.child_waits.proofs.EitherWait.{so_alike}
 use Rattle.cluster_core.proofs.ForksAgain.{forks_synced}
-use Rattle.limit_laws.proofs.RestLimits.{page_keeps}
+use Rattle.limit_laws.proofs.RestLimits.{page_leaves_sync}
+use Rattle.cluster_core.proofs.Batching.{batch_state}
 
 -- ---- what a batch leaves of the other processes
 
@@ -78,8 +79,8 @@ none_aside : (p : Pid) → AsideOf p []
 none_aside p = record { moves = λ q apart. refl; fetches = λ q i. refl }
 
 -- so are those that are left of a batch
-batch_aside : (k : ClusterNo) (p : Pid) (s : ProcState) (read indices : List ℕ) → AsideOf p (posts_left k p s read indices)
-batch_aside k p s read indices = record { moves = λ q. batch_moves_other k p s read q indices; fetches = λ q i. batch_fetches_none k p s read q i indices }
+batch_aside : (k : ClusterNo) (p : Pid) (s : ProcState) (read : List ℕ) (took : Option ℕ) (indices : List ℕ) → AsideOf p (posts_left k p s read took indices)
+batch_aside k p s read took indices = record { moves = λ q. batch_moves_other k p s read took q indices; fetches = λ q i. batch_fetches_none k p s read took q i indices }
 
 -- ---- the head of a batch in the log
 
@@ -199,22 +200,23 @@ follows_own_batch c log e server valid own now next s y serves = by_indices y.in
         same : c ≡ left b rest
         same = s.sent ∙ ap (after_sent b) posts ∙ sent
 
-    by_indices : (indices : List ℕ) → b.queue ≡ posts_left b.number y.pid state y.read indices → BatchMay system log b.number y.pid state y.read indices → FollowsBuilt system (log ++ e ∷ []) (with_server server (absorbed c e))
+    by_indices : (indices : List ℕ) → b.queue ≡ posts_left b.number y.pid state y.read y.took indices → BatchMay system log b.number y.pid state y.read y.took indices → FollowsBuilt system (log ++ e ∷ []) (with_server server (absorbed c e))
     by_indices [] posts may =
-        from_head (sync_left b.number y.pid state y.read) [] posts refl refl refl (batch_aside b.number y.pid state y.read []) (none_aside y.pid)
-        (at_once system _ y.pid state (cut_process system log _ y.pid state (last_cuts system log b.number y.pid state y.read may))) (inl (record { queued = Nothing; posts = refl; together = tt }))
+        from_head (sync_left b.number y.pid state y.read y.took) [] posts refl refl refl (batch_aside b.number y.pid state y.read y.took []) (none_aside y.pid)
+        (at_once system _ y.pid state (cut_process system log _ y.pid state (last_cuts system log b.number y.pid state y.read y.took may))) (inl (record { queued = Nothing; posts = refl; together = tt }))
     by_indices (i ∷ indices) posts may =
         let sent = page_sent system log b.number y.pid state i y.read indices may in
-        from_head (page_left b.number y.pid state i) (posts_left b.number y.pid state y.read indices) posts refl refl refl (batch_aside b.number y.pid state y.read (i ∷ indices)) (batch_aside b.number y.pid state y.read indices)
-        (ap (state_by system _ y.pid (state.small).steps) (batch_moves b.number y.pid state y.read indices) ∙ ap (option_map (λ s. s)) (sent.may).reached)
+        from_head (page_left b.number y.pid state i) (posts_left b.number y.pid state y.read y.took indices) posts refl refl refl (batch_aside b.number y.pid state y.read y.took (i ∷ indices)) (batch_aside b.number y.pid state y.read y.took indices)
+        (ap (state_by system _ y.pid (state.small).steps) (batch_moves b.number y.pid state y.read y.took indices) ∙ batch_state system _ b.number y.pid state y.read y.took indices sent)
         (inr (record {
           pid = y.pid;
           process = y.process;
           read = y.read;
+          took = y.took;
           indices = indices;
           posts = refl;
           there = y.there;
-          within = page_keeps system log b.number y.pid state i ∙ y.within;
+          within = page_leaves_sync system log b.number y.pid state i state.small y.read y.took ∙ y.within;
           may = sent;
           unread = y.unread;
           since = y.since;

@@ -114,7 +114,7 @@ module _ (system : System) (valid : is_system system ≡ true) (log : List Entry
   unended = ap is_some (home p (Runs old) b.there).found
 
   reached : silent_upto system log p (old.small).steps ≡ Some (state_of old)
-  reached = (f.processes).held p (Runs old) b.there
+  reached = (f.processes).held p (Runs old) b.there refl
 
   carries : CarriesMarks system log p old
   carries = carried system log p old valid reached legal unended (f.marks p (Runs old) b.there refl)
@@ -240,12 +240,12 @@ module _ (system : System) (valid : is_system system ≡ true) (log : List Entry
   pub other_held : AllOwn c.cursor c.here → (q : Pid) (h : Held) → held_at c q ≡ Some h → same_pid p q ≡ false → IsHeldAs system later [] q h
   other_held own q h there apart =
       held_stays system valid log e now next brings_nothing c.number Nothing q h tt (home q h there) (spares_other q apart (home q h there))
-      (λ (waiting : WaitingState) waits. (own_at c.cursor c.here q (Waits waiting) own (there ∙ ap Some waits)).pid_is) ((f.processes).held q h there)
+      (λ (waiting : WaitingState) waits. (own_at c.cursor c.here q (Waits waiting) own (there ∙ ap Some waits)).pid_is) (one_of_them all_of system log [] q h refl ((f.processes).held q h there))
 
   pub other_marked : (q : Pid) (h : Held) → held_at c q ≡ Some h → same_pid p q ≡ false → MarkedIfThere CarriesMarks system later q (unended_process h)
   other_marked q h there apart =
       let s = spares_other q apart (home q h there) in
-      marked_next system log q valid legal (ap is_some (home q h there).found) e Nothing h tt tt ((f.processes).held q h there)
+      marked_next system log q valid legal (ap is_some (home q h there).found) e Nothing h tt tt (one_of_them all_of system log [] q h refl ((f.processes).held q h there))
       (s.no_cut, s.no_birth, s.no_page, ap (λ o. option_map_or (is_moved q places) o false) brings_nothing.no_loss) (brings_nothing.no_exit q) (f.marks q h there refl)
 
   pub other_pages : (q : Pid) (h : Held) → held_at c q ≡ Some h → same_pid p q ≡ false → is_some (process_in h) ≡ true → has_its_pages system later q ≡ true

@@ -13,6 +13,7 @@ use Rattle.bus_msg.specs.declared.entry.What.TheVariants.{Mail}
 use Rattle.bus_msg.specs.Places.{same_pid}
 use Rattle.cert_sched.specs.Deeds.{is_end_of}
 use Rattle.sync_point.specs.Batch.{synced}
+use Rattle.sync_point.proofs.Cuts.{cut_keeps}
 use Rattle.sync_point.specs.Due.{is_due_by}
 use Rattle.quanta.specs.declared.limits.Limits.{Limits}
 use Rattle.cluster_core.specs.View.{Held, Runs, Rolls, Waits, arrived, arrived_held, held_of, next_number, asked_held, going_on, page_held, rolling_held, is_waiting}
@@ -165,7 +166,7 @@ own_at_fork limits cursor pid made was forking new own k = own_moved cursor pid 
 
 -- one that synchronised is its own as before
 pub own_synced : (cursor : ℕ) (pid : Pid) (p : Process) → IsOwn cursor pid p → IsOwn cursor pid (synced p)
-own_synced cursor pid p own = record { pid_is = own.pid_is; arrived = own.arrived }
+own_synced cursor pid p own = record { pid_is = (cut_keeps p).pid ∙ own.pid_is; arrived = subst (λ n. n ≤ cursor) (sym (cut_keeps p).next) own.arrived }
 
 pub own_changed : (cursor : ℕ) (pid : Pid) (now : Held) (here : List (Pid × Held)) → AllOwn cursor here → IsHeldOwn cursor pid now → AllOwn cursor (with_changed pid now here)
 own_changed cursor pid now [] own mine = tt

@@ -218,6 +218,14 @@ module _ (system : System) (valid : is_system system ≡ true) (log : List Entry
       waits_come system log e after p i bytes waiting valid next unended (unended_later p unended) is (alike.unmoved held.0)
       (so_alike system log p (is_fetch_queued p before) (is_fetch_queued p after) waiting (λ j. alike.fetches j ∙ ap (λ w. is_fetch p j w || is_fetch_queued p after j) is) held.1)
 
+  -- one that runs goes on as it is
+  still_runs : (p : Pid) (s : Process) → page_at (what e) p (Runs s) ≡ Runs s
+  still_runs p s = by_page (λ w. page_at w p (Runs s) ≡ Runs s) (λ pid index. refl) (λ pid index bytes. either (same_pid pid p)) (what e) of
+    where
+      either : (b : Bool) → cond b (Runs s) (Runs s) ≡ Runs s
+      either true = refl
+      either false = refl
+
   held_after : (before after : List Post) (p : Pid) (was : Held) → IsUnended system log p → QueuesAlike before after p → IsHeldAs system log before p was → IsHeldAs system later after p (page_at (what e) p was)
   held_after before after p was unended alike held =
       by_page (λ w. what e ≡ w → IsHeldAs system later after p (page_at w p was))
@@ -227,8 +235,14 @@ module _ (system : System) (valid : is_system system ≡ true) (log : List Entry
       by_pid pid index bytes is true own = held_come before after p index bytes was unended alike (is ∙ ap (λ q. PageIs q index bytes) (pid_same pid p (eqb-true pid.0 p.0 own))) held
       by_pid pid index bytes is false other = held_still before after p was unended alike (λ i. ap (is_page_is p i) is ∙ ap (λ b. b && eqb index i) other) held
 
+  -- so it is for those of which it is asked
+  held_of_them : (which : Pid → Bool) (before after : List Post) (p : Pid) (was : Held) → IsUnended system log p → QueuesAlike before after p → HeldOf which system log before p was → HeldOf which system later after p (page_at (what e) p was)
+  held_of_them which before after p (Runs s) unended alike held = subst (HeldOf which system later after p) (sym (still_runs p s)) (λ passes. runs_still before after p s alike (held passes))
+  held_of_them which before after p (Rolls s counts births) unended alike held = any_of which system later after p (page_at (what e) p (Rolls s counts births)) (held_after before after p (Rolls s counts births) unended alike held)
+  held_of_them which before after p (Waits waiting) unended alike held = any_of which system later after p (page_at (what e) p (Waits waiting)) (held_after before after p (Waits waiting) unended alike held)
+
   -- who runs or rolls forward then has its pages
-  has_after : (before : List Post) (k : ClusterNo) (p : Pid) (was : Held) → HomeHere (placement system log) p k → IsHeldAs system log before p was → (is_some (process_in was) ≡ true → has_its_pages system log p ≡ true) → is_some (process_in (page_at (what e) p was)) ≡ true
+  has_after : (before : List Post) (k : ClusterNo) (p : Pid) (was : Held) → HomeHere (placement system log) p k → WaitsAs system log before p was → (is_some (process_in was) ≡ true → has_its_pages system log p ≡ true) → is_some (process_in (page_at (what e) p was)) ≡ true
       → has_its_pages system later p ≡ true
   has_after before k p was home held pages = by_was was held pages
     where
@@ -345,7 +359,7 @@ module _ (system : System) (valid : is_system system ≡ true) (log : List Entry
     pages = pages;
     marks = marks;
     family = family_next system log e c.family valid now next f.family;
-    forks = forks_paged system valid log e now.0 next.0 of c.queue c.family c.here f.family (f.processes).held f.forks;
+    forks = forks_paged system valid log e now.0 next.0 of c.queue c.family c.here f.family (λ p h there. waits_as which system log c.queue p h ((f.processes).held p h there)) f.forks;
     records = records_stay c.number c.records f.records;
     accounts = accounts_next system log e c (with_server server (paged c e)) q (foreign_no_answer c.number e foreign) serves refl queue_is queue_is posts_legal f.accounts;
     disk = ((f.disk).0, ahead_after (placement system log) e c.server server serves (f.disk).1);
@@ -369,26 +383,26 @@ module _ (system : System) (valid : is_system system ≡ true) (log : List Entry
       legal_still : IsQueueLegal UnlostMayFollow system later c.queue
       legal_still = subst (IsQueueLegal UnlostMayFollow system later) (sym queue_is) (queue_stays c.number q (f.queued).together foreign posts_own posts_legal)
 
-      held : (p : Pid) (h : Held) → held_of (here_after (what e) c.here) p ≡ Some h → IsHeldAs system later c.queue p h
+      held : (p : Pid) (h : Held) → held_of (here_after (what e) c.here) p ≡ Some h → HeldOf which system later c.queue p h
       held p h at =
           let before = was_paged (what e) c.here p h of at in
           let home = home_of c.number c.here p before.was once before.there in
-          let was : IsHeldAs system log (posts_of q) p before.was = subst (λ ps. IsHeldAs system log ps p before.was) queue_is ((f.processes).held p before.was before.there) in
-          subst (λ ps. IsHeldAs system later ps p h) (sym queue_is)
-          (subst (λ x. IsHeldAs system later (posts_of q) p x) (sym before.same) (held_after (posts_of q) (posts_of q) p before.was (ap is_some home.found) (alike_foreign c.number q p home foreign (f.queued).together) was))
+          let was : HeldOf which system log (posts_of q) p before.was = subst (λ ps. HeldOf which system log ps p before.was) queue_is ((f.processes).held p before.was before.there) in
+          subst (λ ps. HeldOf which system later ps p h) (sym queue_is)
+          (subst (λ x. HeldOf which system later (posts_of q) p x) (sym before.same) (held_of_them which (posts_of q) (posts_of q) p before.was (ap is_some home.found) (alike_foreign c.number q p home foreign (f.queued).together) was))
 
       marks : (p : Pid) (h : Held) → held_of (here_after (what e) c.here) p ≡ Some h → which p ≡ true → MarkedIfThere CarriesMarks system (with_queue system later c.queue) p (unended_process h)
       marks p h at among =
           let before = was_paged (what e) c.here p h of at in
           let home = home_of c.number c.here p before.was once before.there in
           let unended = ap is_some home.found in
-          let was : IsHeldAs system log (posts_of q) p before.was = subst (λ ps. IsHeldAs system log ps p before.was) queue_is ((f.processes).held p before.was before.there) in
+          let was : IsHeldAs system log (posts_of q) p before.was = subst (λ ps. IsHeldAs system log ps p before.was) queue_is (one_of_them which system log c.queue p before.was among ((f.processes).held p before.was before.there)) in
           let comes : MarkedIfThere CarriesMarks system later p (unended_process before.was) → MarkedIfThere CarriesMarks system later p (unended_process h) =
           λ m. subst (λ x. MarkedIfThere CarriesMarks system later p (unended_process x)) (sym before.same) (paged_marked (posts_of q) p before.was unended was m) in
           subst (λ ps. MarkedIfThere CarriesMarks system (with_queue system later ps) p (unended_process h)) (sym queue_is)
           (marked_after system log e p q before.was h valid (built_stands system later next.0) unended (unended_later p unended) (f.queued).together
           (queue_tells system log c.number q posts_own posts_legal) (queue_tells system later c.number q posts_own (queue_stays c.number q (f.queued).together foreign posts_own posts_legal))
-          was (subst (λ ps. IsHeldAs system later ps p h) queue_is (held p h at)) (page_leaves system log p (what e) of) no_exit comes
+          was (subst (λ ps. IsHeldAs system later ps p h) queue_is (one_of_them which system later c.queue p h among (held p h at))) (page_leaves system log p (what e) of) no_exit comes
           (subst (λ ps. MarkedIfThere CarriesMarks system (with_queue system log ps) p (unended_process before.was)) queue_is (f.marks p before.was before.there among)))
         where
           no_exit : is_exit_of p (what e) ≡ false
@@ -397,7 +411,7 @@ module _ (system : System) (valid : is_system system ≡ true) (log : List Entry
       pages : (p : Pid) (h : Held) → held_of (here_after (what e) c.here) p ≡ Some h → is_some (process_in h) ≡ true → has_its_pages system later p ≡ true
       pages p h at runs =
           let before = was_paged (what e) c.here p h of at in
-          has_after c.queue c.number p before.was (home_of c.number c.here p before.was once before.there) ((f.processes).held p before.was before.there) (f.pages p before.was before.there) (ap (λ x. is_some (process_in x)) (sym before.same) ∙ runs)
+          has_after c.queue c.number p before.was (home_of c.number c.here p before.was once before.there) (waits_as which system log c.queue p before.was ((f.processes).held p before.was before.there)) (f.pages p before.was before.there) (ap (λ x. is_some (process_in x)) (sym before.same) ∙ runs)
 
   pub follows_own_page : (c : ClusterView) (l : Left c log e) (server : Option PagerState) → system ≡ c.system → Serves (placement system log) e c.server server → FollowsBuilt system later (with_server server (absorbed c e))
   follows_own_page c l server system_is serves = subst (λ v. FollowsBuilt system later (with_server server v)) (sym (page_taken c e of)) (record {
@@ -416,7 +430,7 @@ module _ (system : System) (valid : is_system system ≡ true) (log : List Entry
     pages = pages;
     marks = λ p h at. subst (λ ps. MarkedIfThere CarriesMarks system (with_queue system later ps) p (unended_process h)) (sym empty) (marks p h at);
     family = family_next system log e c.family valid now next (ap (λ (d : ClusterView). d.family) l.same ∙ f.family);
-    forks = forks_paged system valid log e now.0 next.0 of (e.post ∷ []) c.family c.here (ap (λ (d : ClusterView). d.family) l.same ∙ f.family) was_held (subst HoldsForks (sym l.same) f.forks);
+    forks = forks_paged system valid log e now.0 next.0 of (e.post ∷ []) c.family c.here (ap (λ (d : ClusterView). d.family) l.same ∙ f.family) (λ p h there. told_waits system log (e.post ∷ []) p h (was_held p h there)) (subst HoldsForks (sym l.same) f.forks);
     records = records_stay c.number c.records (subst (λ recs. KeepsRecords system log c.number recs) (sym (ap (λ (d : ClusterView). d.records) l.same)) (subst (λ k. KeepsRecords system log k (l.before).records) number f.records));
     accounts =
         accounts_sent system log e l.before (with_server server (paged c e)) (page_unlost (what e) of) (subst (λ old. Serves (placement system log) e old server) (ap (λ (d : ClusterView). d.server) l.same) serves) (sym number) l.posts empty f.accounts;
@@ -458,5 +472,5 @@ module _ (system : System) (valid : is_system system ≡ true) (log : List Entry
       pages : (p : Pid) (h : Held) → held_of (here_after (what e) c.here) p ≡ Some h → is_some (process_in h) ≡ true → has_its_pages system later p ≡ true
       pages p h at runs =
           let before = was_paged (what e) c.here p h of at in
-          has_after (e.post ∷ []) c.number p before.was (home_of c.number c.here p before.was once before.there) (was_held p before.was before.there) (f.pages p before.was (ap (λ hs. held_of hs p) here ∙ before.there))
+          has_after (e.post ∷ []) c.number p before.was (home_of c.number c.here p before.was once before.there) (told_waits system log (e.post ∷ []) p before.was (was_held p before.was before.there)) (f.pages p before.was (ap (λ hs. held_of hs p) here ∙ before.there))
           (ap (λ x. is_some (process_in x)) (sym before.same) ∙ runs)

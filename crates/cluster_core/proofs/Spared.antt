@@ -275,11 +275,12 @@ module _ (system : System) (valid : is_system system ≡ true) (log : List Entry
       mine : (p : Pid) (h : Held) → held_of c.here p ≡ Some h → (waiting : WaitingState) → h ≡ Waits waiting → (waiting.kept).pid ≡ p
       mine p h there waiting is = (own_at c.cursor c.here p (Waits waiting) own (there ∙ ap Some is)).pid_is
 
-      held : (p : Pid) (h : Held) → held_of c.here p ≡ Some h → IsHeldAs system later c.queue p h
+      held : (p : Pid) (h : Held) → held_of c.here p ≡ Some h → HeldOf which system later c.queue p h
       held p h there =
           let home = home_of p h there in
-          subst (λ ps. IsHeldAs system later ps p h) (sym queue_is)
-          (held_stays c.number q p h (f.queued).together home (spares p home) (mine p h there) (subst (λ ps. IsHeldAs system log ps p h) queue_is ((f.processes).held p h there)))
+          of_them which system log later c.queue c.queue p h
+          (λ was. subst (λ ps. IsHeldAs system later ps p h) (sym queue_is) (held_stays c.number q p h (f.queued).together home (spares p home) (mine p h there) (subst (λ ps. IsHeldAs system log ps p h) queue_is was)))
+          ((f.processes).held p h there)
 
       marks : (p : Pid) (h : Held) → held_of c.here p ≡ Some h → which p ≡ true → MarkedIfThere CarriesMarks system (with_queue system later c.queue) p (unended_process h)
       marks p h there among =
@@ -288,6 +289,7 @@ module _ (system : System) (valid : is_system system ≡ true) (log : List Entry
           subst (λ ps. MarkedIfThere CarriesMarks system (with_queue system later ps) p (unended_process h)) (sym queue_is)
           (marked_after system log e p q h h valid (built_stands system later next.0) (ap is_some home.found) (unended_later p s (ap is_some home.found)) (f.queued).together
           (queue_tells system log c.number q posts_own posts_legal) (queue_tells system later c.number q posts_own posts_still)
-          (subst (λ ps. IsHeldAs system log ps p h) queue_is ((f.processes).held p h there)) (subst (λ ps. IsHeldAs system later ps p h) queue_is (held p h there))
+          (subst (λ ps. IsHeldAs system log ps p h) queue_is (one_of_them which system log c.queue p h among ((f.processes).held p h there)))
+          (subst (λ ps. IsHeldAs system later ps p h) queue_is (one_of_them which system later c.queue p h among (held p h there)))
           (s.no_cut, s.no_birth, s.no_page, moves_none p) (n.no_exit p) (λ m. m)
           (subst (λ ps. MarkedIfThere CarriesMarks system (with_queue system log ps) p (unended_process h)) queue_is (f.marks p h there among)))

@@ -17,15 +17,14 @@ use Rattle.bus_msg.specs.declared.entry.Entry.{Entry}
 use Rattle.bus_msg.specs.declared.placed.Placed.{Placed}
 use Rattle.bus_msg.specs.Places.{Places, is_at_home, same_cluster, same_pid, unended_at}
 use Rattle.bus_msg.specs.PlacedAfter.{what}
-use Rattle.cert_sched.specs.Built.{BuiltMayFollow, tells_or_closes}
+use Rattle.cert_sched.specs.Built.{BuiltMayFollow, KeepsLimits, tells_or_closes}
 use Rattle.cert_sched.specs.Deeds.{is_end_of, letter_for}
 use Rattle.cert_sched.specs.Legal.{Stands}
 use Rattle.cert_sched.specs.Losses.{is_by_cluster}
 use Rattle.cert_sched.specs.Parts.{rising}
 use Rattle.cert_sched.specs.Rests.{home_pids}
-use Rattle.cert_sched.specs.Rules.{home_at, is_by_home, keeps_limits}
+use Rattle.cert_sched.specs.Rules.{home_at, is_by_home}
 use Rattle.cert_sched.specs.Schedule.{placement}
-use Rattle.cert_sched.specs.Steps.{silent_upto}
 use Rattle.cert_sched.proofs.LogLaws.{IsLegal-last}
 use Rattle.cert_sched.proofs.RisingLaws.{rising-any}
 use Rattle.mark_laws.specs.Beside.{is_some_page}
@@ -33,9 +32,8 @@ use Rattle.mark_laws.specs.Sent.{SentUpto, is_later_page}
 use Rattle.mark_laws.proofs.SentPages.{sent_on}
 use Rattle.batch_laws.specs.Between.{ComesBetween}
 use Rattle.batch_laws.specs.Underway.{BatchMay, posts_left, with_letters}
-use Rattle.batch_laws.proofs.EntryBetween.{batch_found, batch_reached}
+use Rattle.batch_laws.proofs.EntryBetween.{batch_stays}
 use Rattle.batch_laws.proofs.OtherSenders.{others_between}
-use Rattle.plain_kernel.proofs.Entries.{some_same}
 use Rattle.limit_laws.proofs.RestLimits.{between_keeps}
 use Rattle.record_laws.proofs.Standing.{built_stands}
 use Rattle.cluster_core.specs.View.{ClusterView, Held, Runs, arrived, arrived_held, held_at, held_of, page_held}
@@ -52,36 +50,38 @@ use Rattle.cluster_core.proofs.Working.{home_by}
 
 -- ---- what stays of a process
 
--- it runs, and has letters more at most
-pub record RunsStill (process : Process) (h : Held) : Type 0 where
+-- it runs, and has these letters more
+pub record RunsStill (letters : List Letter) (process : Process) (h : Held) : Type 0 where
   pub now : Process
   pub is : h ≡ Runs now
   pub small : now.small ≡ process.small
   pub ram : now.ram ≡ process.ram
   pub read : now.read ≡ process.read
   pub since : now.since ≡ process.since
+  pub state : state_of now ≡ with_letters (state_of process) letters
 
-pub still_itself : (process : Process) → RunsStill process (Runs process)
-still_itself process = record { now = process; is = refl; small = refl; ram = refl; read = refl; since = refl }
+pub still_itself : (process : Process) (letters : List Letter) → letters ≡ [] → RunsStill letters process (Runs process)
+still_itself process letters none = record { now = process; is = refl; small = refl; ram = refl; read = refl; since = refl; state = ap (with_letters (state_of process)) (sym none) }
 
-pub still_told : (w : What) (p : Pid) (process : Process) → tells_or_closes w ≡ true → RunsStill process (arrival_at w p (Runs process))
-still_told w p process = by_kind (λ w. RunsStill process (arrival_at w p (Runs process))) (λ at letter. by_end letter (is_end_of p letter.to)) (λ pid at end. still_itself process) (λ rests. still_itself process) (still_itself process) w
+pub still_told : (w : What) (p : Pid) (process : Process) → tells_or_closes w ≡ true → RunsStill (letter_for p w) process (arrival_at w p (Runs process))
+still_told w p process =
+    by_kind (λ w. RunsStill (letter_for p w) process (arrival_at w p (Runs process))) (λ at letter. by_end letter (is_end_of p letter.to)) (λ pid at end. still_itself process [] refl) (λ rests. still_itself process [] refl) (still_itself process [] refl) w
   where
-    by_end : (letter : Letter) (b : Bool) → RunsStill process (cond b (arrived_held (Runs process) letter) (Runs process))
-    by_end letter true = record { now = arrived process letter; is = refl; small = refl; ram = refl; read = refl; since = refl }
-    by_end letter false = still_itself process
+    by_end : (letter : Letter) (b : Bool) → RunsStill (cond b (letter ∷ []) []) process (cond b (arrived_held (Runs process) letter) (Runs process))
+    by_end letter true = record { now = arrived process letter; is = refl; small = refl; ram = refl; read = refl; since = refl; state = refl }
+    by_end letter false = still_itself process [] refl
 
-pub still_paged : (w : What) (p : Pid) (process : Process) → is_of_page w ≡ true → RunsStill process (page_at w p (Runs process))
-still_paged w p process = by_page (λ w. RunsStill process (page_at w p (Runs process))) (λ pid index. still_itself process) (λ pid index bytes. by_pid index bytes (same_pid pid p)) w
+pub still_paged : (w : What) (p : Pid) (process : Process) → is_of_page w ≡ true → RunsStill (letter_for p w) process (page_at w p (Runs process))
+still_paged w p process = by_page (λ w. RunsStill (letter_for p w) process (page_at w p (Runs process))) (λ pid index. still_itself process [] refl) (λ pid index bytes. by_pid index bytes (same_pid pid p)) w
   where
-    by_pid : (index : ℕ) (bytes : List ℕ) (b : Bool) → RunsStill process (cond b (page_held index bytes (Runs process)) (Runs process))
-    by_pid index bytes true = still_itself process
-    by_pid index bytes false = still_itself process
+    by_pid : (index : ℕ) (bytes : List ℕ) (b : Bool) → RunsStill [] process (cond b (page_held index bytes (Runs process)) (Runs process))
+    by_pid index bytes true = still_itself process [] refl
+    by_pid index bytes false = still_itself process [] refl
 
 -- what is left of a batch is told by the small state and the memory
-same_posts : (k : ClusterNo) (p : Pid) (s t : ProcState) (read indices : List ℕ) → s.small ≡ t.small → s.memory ≡ t.memory → posts_left k p s read indices ≡ posts_left k p t read indices
-same_posts k p s t read indices small memory =
-    λ i. map (λ (n : ℕ). record { by = Cluster k; what = Page p (small i).steps n (page_bytes (memory i) n) }) indices ++ record { by = Cluster k; what = Sync p (small i) read None } ∷ []
+same_posts : (k : ClusterNo) (p : Pid) (s t : ProcState) (read : List ℕ) (took : Option ℕ) (indices : List ℕ) → s.small ≡ t.small → s.memory ≡ t.memory → posts_left k p s read took indices ≡ posts_left k p t read took indices
+same_posts k p s t read took indices small memory =
+    λ i. map (λ (n : ℕ). record { by = Cluster k; what = Page p (small i).steps n (page_bytes (memory i) n) }) indices ++ record { by = Cluster k; what = Sync p (small i) read took } ∷ []
 
 -- ---- who is at home is here
 
@@ -148,7 +148,7 @@ module _ (c : ClusterView) (log : List Entry) (e : Entry) (y : Synchronises c.sy
 
   -- beside the batch the cluster follows the log with the entry, by which the process neither moved nor changed but for letters that came: then it does so with the batch
   pub stays_with_batch : (new : ClusterView) → new.system ≡ c.system → new.number ≡ c.number → new.queue ≡ c.queue → FollowsBeside (all_but p) c.system later (unqueued new) → home_at (placement c.system later) p ≡ home_at (placement c.system log) p
-      → ((h : Held) → held_at new p ≡ Some h → RunsStill y.process h) → FollowsBuilt c.system later new
+      → ((h : Held) → held_at new p ≡ Some h → RunsStill (letter_for p (what e)) y.process h) → FollowsBuilt c.system later new
   stays_with_batch new system_is number queue beside same_home stays = with_batch c.system later new still valid next beside sent_still
     where
       home_then : HomeHere (placement c.system later) p c.number
@@ -164,7 +164,7 @@ module _ (c : ClusterView) (log : List Entry) (e : Entry) (y : Synchronises c.sy
       at : (h : Held) × (held_of new.here p ≡ Some h)
       at = held_there new.here p listed
 
-      r : RunsStill y.process at.0
+      r : RunsStill (letter_for p (what e)) y.process at.0
       r = stays at.0 at.1
 
       there : held_at new p ≡ Some (Runs r.now)
@@ -179,30 +179,28 @@ module _ (c : ClusterView) (log : List Entry) (e : Entry) (y : Synchronises c.sy
       between : ComesBetween c.system log e c.number p
       between = others_between c.system log e c.number p valid (built_stands c.system log now.0) stands foreign (by_home_of log now home_now) next.1 (by_home_of later next home_then)
 
-      reached : silent_upto c.system later p ((y.process).small).steps ≡ Some (state_of r.now)
-      reached = ap (λ (s : SmallState). silent_upto c.system later p s.steps) (sym r.small) ∙ (beside.processes).held p (Runs r.now) there
-
-      may : BatchMay c.system later c.number p (state_of r.now) y.read y.indices
-      may = batch_found c.system log e c.number p (state_of y.process) y.read y.indices between y.may (state_of r.now) reached
+      may : BatchMay c.system later c.number p (state_of r.now) y.read y.took y.indices
+      may =
+          subst (λ t. BatchMay c.system later c.number p t y.read y.took y.indices) (sym r.state)
+          (batch_stays c.system log e c.number p (state_of y.process) y.read y.took y.indices between y.may)
 
       -- the letters that came are not read
-      within : keeps_limits c.system later p (state_of r.now) ≡ true
+      within : KeepsLimits c.system later (Sync p (r.now).small y.read y.took)
       within =
-          let s = state_of y.process in
-          let letters = letter_for p (what e) in
-          let same : with_letters s letters ≡ state_of r.now = some_same (with_letters s letters) (state_of r.now) (sym (batch_reached c.system log e c.number p s y.read y.indices between y.may) ∙ reached) in
-          subst (λ t. keeps_limits c.system later p t ≡ true) same (between_keeps c.system log e c.number p s y.read y.indices between y.may y.within)
+          subst (λ small. KeepsLimits c.system later (Sync p small y.read y.took)) (sym r.small)
+          (between_keeps c.system log e c.number p (state_of y.process) y.read y.took y.indices between y.may y.within)
 
       still : Synchronises c.system later new
       still = record {
         pid = p;
         process = r.now;
         read = y.read;
+        took = y.took;
         indices = y.indices;
-        posts = queue ∙ y.posts ∙ same_posts c.number p (state_of y.process) (state_of r.now) y.read y.indices (sym r.small) (ap (λ ram. ram.bytes) (sym r.ram)) ∙ ap (λ k. posts_left k p (state_of r.now) y.read y.indices) (sym number);
+        posts = queue ∙ y.posts ∙ same_posts c.number p (state_of y.process) (state_of r.now) y.read y.took y.indices (sym r.small) (ap (λ ram. ram.bytes) (sym r.ram)) ∙ ap (λ k. posts_left k p (state_of r.now) y.read y.took y.indices) (sym number);
         there = there;
         within = within;
-        may = subst (λ k. BatchMay c.system later k p (state_of r.now) y.read y.indices) (sym number) may;
+        may = subst (λ k. BatchMay c.system later k p (state_of r.now) y.read y.took y.indices) (sym number) may;
         unread = r.read ∙ y.unread;
         since = r.since ∙ y.since ∙ ap (λ (s : SmallState). s.steps) (sym r.small);
         unmarked = ap (λ ram. ram.dirty) r.ram ∙ y.unmarked ∙ ap (λ (s : SmallState). replicate s.pages false) (sym r.small);

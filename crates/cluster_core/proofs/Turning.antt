@@ -190,7 +190,7 @@ module _ (c : ClusterView) (some : FollowsSome c) (empty : c.queue ≡ []) (own 
       let none : first_unsynced c.family pid ≡ None = sym (before_from (limits_of c.system) c.family c.here pid (Runs s.process) there comes) ∙ takes.alone in
       subst (Works c Queued here c.server) (sym s.posts_are)
       (batched pid acts.held pid s.process here nothing acts.there acts.acts there (inl s.due) none
-      (λ log go f. record { children = synced_where_none c log f pid none; due = or_left (is_due (limits_of c.system) s.process) (not (has_state c.system log pid)) s.due })
+      (λ log go f. record { children = synced_where_none c log f pid none; due = due_or_takes c.system s.process (not (has_state c.system log pid)) s.due })
       (one.here ∙ (λ i. with_changed pid (s.new_is i) (same i))))
 
   -- or the child that comes before it did

@@ -23,6 +23,7 @@ use Rattle.cert_sched.proofs.StepLaws.{SilentFrom, silent_from}
 use Rattle.page_laws.proofs.SizesStay.{process_sized}
 use Rattle.record_laws.proofs.Standing.{built_stands, itself}
 use Rattle.recovery_laws.specs.Behind.{RollsBehind}
+use Rattle.sync_point.proofs.Cuts.{cut_keeps}
 use Rattle.sync_point.specs.Batch.{synced}
 use Rattle.quanta.specs.declared.limits.Limits.{Limits}
 use Rattle.quanta.specs.Limited.{is_within}
@@ -96,7 +97,7 @@ start_within limits process unread here = (λ j. leb (length (unread j)) limits.
 
 -- so is one that has just synchronised
 pub synced_within : (system : System) (process : Process) → IsHeldWithin (limits_of system) (Runs (synced process))
-synced_within system process = start_within (limits_of system) (synced process) refl refl
+synced_within system process = start_within (limits_of system) (synced process) refl (sym (cut_keeps process).steps)
 
 -- ---- steps of roll-forward
 

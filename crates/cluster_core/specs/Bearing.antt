@@ -17,15 +17,15 @@ use Rattle.bus_msg.specs.declared.entry.Post.{Post}
 use Rattle.bus_msg.specs.Places.{same_pid, unended_at}
 use Rattle.cert_sched.specs.Kinds.{next_child_at}
 use Rattle.cert_sched.specs.Schedule.{placement}
-use Rattle.quanta.specs.Limited.{is_due}
+use Rattle.sync_point.specs.Due.{is_due_by}
 use Rattle.cluster_core.specs.Changed.{with_changed, with_more}
-use Rattle.cluster_core.specs.View.{ClusterView, Held, Runs, Rolls, Waits, held_at, held_of, limits_of}
+use Rattle.cluster_core.specs.View.{ClusterView, Held, Runs, Rolls, Waits, held_at, held_of}
 
 -- the birth of a child of a process that stands before its fork
 abbrev pub birth_post : ClusterNo → Pid → ProcState → Pid → Post
 birth_post k p s child = record { by = Cluster k; what = Birth p ((s.small).steps + 1) child (next_end s) }
 
--- All that is queued is the birth of the next child of a process that runs here, stands before its fork and is not due.
+-- All that is queued is the birth of the next child of a process that runs here, stands before its fork and is not due by its limits.
 pub record BearsChild (system : System) (log : List Entry) (c : ClusterView) : Type 0 where
   pub pid : Pid
   pub process : Process
@@ -33,7 +33,7 @@ pub record BearsChild (system : System) (log : List Entry) (c : ClusterView) : T
   pub posts : c.queue ≡ birth_post c.number pid (state_of process) child ∷ []
   pub there : held_at c pid ≡ Some (Runs process)
   pub stands : next_step (state_of process) ≡ Forks
-  pub undue : is_due (limits_of system) process ≡ false
+  pub undue : is_due_by process system.syncreads system.syncsteps ≡ false
   pub next : option_map (next_child_at (placement system log)) (unended_at (placement system log) pid) ≡ Some child
 
 -- ---- the fork

@@ -4,7 +4,6 @@ ghost use Rattle.proc_state.specs.State.{state_of};
 ghost use Rattle.roll_forward.specs.RunsOut.{RunsOut, nothing_left};
 ghost use Rattle.page_waits.specs.Waiting.{next_page};
 ghost use Rattle.cluster_core.specs.View.{Runs, Rolls, Waits, arrived_held, asked_held, can_act, is_waiting, next_number, page_held, page_lacked, rolling_held, steps_of_held};
-ghost use Rattle.quanta.specs.Limited.{is_due};
 ghost use Rattle.cluster_core.specs.ChildrenFirst.{comes_after_children, is_running};
 ghost use Rattle.cluster_core.specs.Quantum.{ActsOn, RunsQuantum, SyncsNow};
 ghost use Rattle.cluster_core.specs.Bearing.{CanForkNow, HasForked};
@@ -22,7 +21,6 @@ use roll_forward::rolling::Rolling;
 use std::alloc::Global;
 use std::marker::Model;
 use sync_point::batch::build;
-use sync_point::due::due;
 use sys_calls::forking::fork;
 use sys_calls::stepping::{can_step, exits_next};
 use t32_base::letter::Letter;
@@ -134,13 +132,13 @@ impl Resident {
         }
     }
 
-    /// Whether it can move by these limits: one that runs has a step or is due to synchronise, one that rolls forward can always, and
+    /// Whether it can move by these limits: one that runs has a step, is due to synchronise or can take a signal, one that rolls forward can always, and
     /// one that waits cannot. Takes no memory.
     pub fn can_act(&self, limits: Limits) -> bool
         ensures { result ≡ can_act limits self.now }
     {
         match &self.standing {
-            Some(Standing::Runs(process)) => can_step(process) || is_due(process, limits),
+            Some(Standing::Runs(process)) => can_step(process) || limits.ask(process),
             Some(Standing::Rolls(_)) => true,
             Some(Standing::Waits(_)) => false,
             None => unreachable!(),
@@ -153,7 +151,7 @@ impl Resident {
         ensures { result ≡ comes_after_children limits self.now }
     {
         match &self.standing {
-            Some(Standing::Runs(process)) => is_due(process, limits) || exits_next(process),
+            Some(Standing::Runs(process)) => limits.ask(process) || exits_next(process),
             Some(Standing::Rolls(_)) => false,
             Some(Standing::Waits(_)) => false,
             None => unreachable!(),
@@ -289,18 +287,11 @@ fn act_on(
     requires last { made ≡ 0 → comes_after_children limits (Runs process.old) ≡ true → childless ≡ true }
     ensures { ActsOn limits by 64 childless made process.old result process.new }
 {
-    if made == 0 && is_due(process, limits) {
+    if made == 0 && limits.ask(process) {
         return Ok(Quantum::Synced(build(alloc, process, by)?));
     }
     let ran = run_rest(alloc, process, limits, made)?;
     Ok(tell(process, ran, childless))
-}
-
-// Whether one that runs is due to synchronise.
-fn is_due(process: &Process, limits: Limits) -> bool
-    ensures { result ≡ is_due limits process.now }
-{
-    due(process, limits.reads, limits.steps)
 }
 
 // A letter arrives.

@@ -145,11 +145,17 @@ module _ (system : System) (log : List Entry) (e : Entry) (stands : Stands syste
   synced : SyncedAt system log p small read None
   synced = synced_at system log p small read None holds
 
+  reached : silent_upto system log p ((synced.at).small).steps ≡ Some synced.at
+  reached = ap (λ (s : SmallState). silent_upto system log p s.steps) synced.state ∙ synced.reached
+
   cut : CutsAt system log e p synced.at
   cut = record {
     read = read;
+    took = None;
+    before = synced.at;
     says = is ∙ (λ i. Sync p (sym synced.state i) read None);
-    reached = ap (λ (s : SmallState). silent_upto system log p s.steps) synced.state ∙ synced.reached;
+    reached = reached;
+    takes = record { can = refl; after = refl };
   }
 
   due : is_due system log p None synced.at ≡ true
@@ -164,7 +170,7 @@ module _ (system : System) (log : List Entry) (e : Entry) (stands : Stands syste
   stepped : is_system system ≡ true → IsLegalBy Stands system log → (ltb (start_steps system log p) (done (there system log e stands).new p) || not (has_state system log p)) ≡ true
   stepped valid legal =
       ap (λ n. ltb (start_steps system log p) n || not (has_state system log p)) at_kernel
-      ∙ due_stepped system log p synced.at valid legal (by_home_there (placement system log) (e.post).by p (right system log e stands p small read None is)) cut.reached due
+      ∙ due_stepped system log p synced.at valid legal (by_home_there (placement system log) (e.post).by p (right system log e stands p small read None is)) reached due
 
 -- ---- each synchronisation
 

@@ -2,7 +2,7 @@ use Rattle.std.proofs.Common.{◌≡◌, ◌∙◌, sym, false}
 use Rattle.quanta.specs.Limited.{is_due}
 use Rattle.cluster_core.proofs.RestTold.{rest_told}
 use Rattle.cluster_core.proofs.resident.act_on.Goals as goal
-use Rattle.cluster_core.proofs.resident.act_on.Goals.{else-made-eq0-via-then-made-eq0+else-is_due, else-made-eq0-via-else-made-eq0}
+use Rattle.cluster_core.proofs.resident.act_on.Goals.{else-made-eq0-via-then-made-eq0+else-ask, else-made-eq0-via-else-made-eq0}
 
 pub returns : goal.returns
 returns c =
@@ -10,6 +10,6 @@ returns c =
   where
     undue : c.args.made ≡ 0 → is_due c.args.limits c.args.process.now ≡ false
     undue none = elim c.else-made-eq0.branch [
-      | else-made-eq0-via-then-made-eq0+else-is_due w ↦ sym w.is_due.ensures ∙ w.if-is_due.false
+      | else-made-eq0-via-then-made-eq0+else-ask w ↦ sym w.ask.ensures ∙ w.if-ask.false
       | else-made-eq0-via-else-made-eq0 w ↦ absurd (w.if-made-eq0.false none)
     ]
