@@ -76,7 +76,10 @@ fn kept(small: &Small) -> Option<u32> {
 fn told(posts: &[Post]) -> Option<LastPost> {
     match &posts.last()?.what {
         What::Sync {
-            small, read, took, ..
+            small,
+            read,
+            took,
+            ..
         } => Some(LastPost {
             took: *took,
             reads: read.len(),
