@@ -1,5 +1,5 @@
 -- What the rest of a quantum answers, where it ends by no emission.
-use Rattle.std.proofs.Common.{◌≡◌, ℕ, zero, suc, ◌+◌, ◌≤◌, ◌∙◌, sym, ap, subst, arith, true, false, not, ◌||◌, Bool, cond, eqb, ne_eqb, Ok, Err}
+use Rattle.std.proofs.Common.{◌≡◌, ℕ, zero, suc, ◌+◌, ◌≤◌, ◌∙◌, refl, sym, ap, subst, arith, true, false, not, ◌||◌, Bool, cond, eqb, ne_eqb, Ok, Err}
 use Rattle.std.specs.Prelude.{Result}
 use Rattle.std.proofs.lemmas.Bool.{both_ways, eq-eqb, not_from_false, or_left, or_right}
 use Rattle.t32_base.specs.declared.streams.NoMemory.{NoMemory}

@@ -6,8 +6,6 @@ use quanta::limits::Limits;
 use quanta::quantum::{Ran, run_rest};
 use std::alloc::Global;
 use std::test::Fail;
-use sync_point::due::due;
-use sys_calls::signals::can_take;
 use t32_base::letter::{Body, Letter, To};
 use t32_base::process::Pid;
 use t32_base::shared_bytes::SharedBytes;
@@ -50,7 +48,7 @@ type Made = (bool, u64, usize);
 // What a process made in a quantum, where it was not due and could take no signal.
 fn made(alloc: Global, limits: Limits) -> Result<Option<Made>, NoMemory> {
     let mut p = begun(alloc)?;
-    if due(&p, limits.reads, limits.steps) || can_take(&p) {
+    if limits.ask(&p) {
         return Ok(None);
     }
     let ran = run_rest(alloc, &mut p, limits, 0)?;
