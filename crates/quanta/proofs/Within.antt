@@ -4,9 +4,10 @@ use Rattle.std.proofs.lemmas.Bool.{and_from, and_parts, le-leb, leb-true, leb-fa
 use Rattle.std.proofs.lemmas.List.{length-append}
 use Rattle.t32_base.specs.declared.letter.Arrived.{Arrived}
 use Rattle.proc_state.specs.declared.process.Process.{Process}
+use Rattle.proc_state.specs.State.{can_take, state_of}
 use Rattle.sys_calls.specs.Steps.{SameCount, Took}
 use Rattle.quanta.specs.declared.limits.Limits.{Limits}
-use Rattle.quanta.specs.Limited.{is_due, is_within, steps_until_due}
+use Rattle.quanta.specs.Limited.{instructions_allowed, is_due, is_within, steps_until_due}
 
 within : (limits : Limits) (p : Process) → length p.read ≤ limits.reads → (p.small).steps - p.since ≤ limits.steps → is_within limits p ≡ true
 within limits p reads steps =
@@ -49,3 +50,11 @@ steps_within limits n p q few same count inside = by_due (is_due limits p) few
     by_due : (b : Bool) → n ≤ cond b 0 (limits.steps - ((p.small).steps - p.since)) → is_within limits q ≡ true
     by_due true none = within limits q (omega (arith, reads, few_reads)) (omega (arith, few_steps, count, since, none))
     by_due false left = within limits q (omega (arith, reads, few_reads)) (omega (arith, few_steps, count, since, left))
+
+-- instructions are no more than steps until it is due
+pub allowed_until_due : (limits : Limits) (p : Process) → instructions_allowed limits p ≤ steps_until_due limits p
+allowed_until_due limits p = by_take (can_take (state_of p)) (steps_until_due limits p)
+  where
+    by_take : (b : Bool) (n : ℕ) → cond b 0 n ≤ n
+    by_take true n = omega arith
+    by_take false n = omega arith

@@ -1,16 +1,17 @@
 //! A quantum of a process that runs, or the rest of one that it began otherwise.
-ghost use Rattle.std.specs.Prelude.{◌≡◌, ◌≤◌, ◌==◌, false, true, min, if◌then◌else◌};
-ghost use Rattle.proc_state.specs.State.{state_of};
+ghost use Rattle.std.specs.Prelude.{◌≡◌, ◌≤◌, ◌==◌, ◌||◌, false, true, min, if◌then◌else◌};
+ghost use Rattle.proc_state.specs.State.{can_take as can_take_of, state_of};
 ghost use Rattle.sys_calls.specs.Next.{letter_taken, next_step, step_marks};
 ghost use Rattle.sys_calls.specs.Passing.{IsAtCall};
 ghost use Rattle.sys_calls.specs.Steps.{Makes, Marks, Shorter, Took, Touches, taken_by};
-ghost use Rattle.quanta.specs.Limited.{is_due, is_within, steps_until_due};
+ghost use Rattle.quanta.specs.Limited.{instructions_allowed, is_due, is_within};
 ghost use Rattle.quanta.specs.Quantum.{RunsRest, RunsUp, TellsRefusal};
 
 use crate::limits::Limits;
 use proc_state::process::Process;
 use std::alloc::Global;
 use sync_point::due::due;
+use sys_calls::signals::can_take;
 use sys_calls::stepping::{exits_next, run_to_call, step, step_at_call};
 use sys_calls::steps::{Emission, Step};
 use t32_base::letter::Letter;
@@ -33,9 +34,10 @@ pub enum Ran {
 pub const MOST: u32 = 64;
 
 /// The rest of a quantum in which a process made some steps: at most 64 with them, up to one that sends a letter, up
-/// to a read that waits, up to a fork or the end of the process, which is not made and counts as a step, or until it is due. Each
-/// step is made by a process that is not due; where none was made before, the caller has synchronised one that was. A later step for
-/// which memory is refused is not made; where it is the first of the quantum, nothing has changed.
+/// to a read that waits, up to a fork or the end of the process, which is not made and counts as a step, or until it is due or can take
+/// a signal. Each step is made by a process that is not due and can take none; where none was made before, the caller has synchronised
+/// one that was due, or could. A later step for which memory is refused is not made; where it is the first of the quantum, nothing has
+/// changed.
 pub fn run_rest(
     alloc: Global,
     p: &mut Process,
@@ -43,12 +45,12 @@ pub fn run_rest(
     before: u32,
 ) -> Result<Ran, NoMemory>
     requires few { before ≤ 64 }
-    requires begins { before ≡ 0 → is_due limits p.old ≡ false }
+    requires begins { before ≡ 0 → (is_due limits p.old || can_take_of (state_of p.old)) ≡ false }
     ensures runs { RunsRest limits 64 before p.old result p.new }
     ensures within { is_within limits p.old ≡ true → is_within limits p.new ≡ true }
 {
     let (mut made, mut calls) = run_up(p, limits, before);
-    'steps: while made < MOST && !due(p, limits.reads, limits.steps) {
+    'steps: while made < MOST && !due(p, limits.reads, limits.steps) && !can_take(p) {
         if exits_next(p) {
             return Ok(Ran::Ends(made));
         }
@@ -76,7 +78,7 @@ fn run_up(p: &mut Process, limits: Limits, made: u32) -> (u32, bool)
     ensures runs { RunsUp limits made p.old result.0 p.new }
     ensures calls { result.1 ≡ true → IsAtCall p.new }
 {
-    let (more, calls) = run_to_call(p, until_due(p, limits, MOST - made));
+    let (more, calls) = run_to_call(p, allowed(p, limits, MOST - made));
     (made + more, calls)
 }
 
@@ -96,11 +98,11 @@ fn make_step(alloc: Global, p: &mut Process, calls: bool) -> Result<Step, NoMemo
     }
 }
 
-// How many steps that read no letter a process may make until it is due, and at most so many.
-fn until_due(p: &Process, limits: Limits, most: u32) -> u32
-    ensures { result ≡ min most (steps_until_due limits p.now) }
+// How many instructions a process may make, and at most so many. None of them changes whether it can take a signal.
+fn allowed(p: &Process, limits: Limits, most: u32) -> u32
+    ensures { result ≡ min most (instructions_allowed limits p.now) }
 {
-    if due(p, limits.reads, limits.steps) {
+    if due(p, limits.reads, limits.steps) || can_take(p) {
         return 0;
     }
     let left = u64::from(limits.steps) - p.small.steps.saturating_sub(p.since);

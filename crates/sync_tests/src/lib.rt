@@ -1,8 +1,10 @@
 //! Tests of a quantum that ends where its process is due to synchronise, and of that: when it is due, what it sends, and what it
-//! is then. The expected values were worked by hand.
+//! is then, with a signal and without. The expected values were worked by hand.
 #![tactic(auto)]
 
 #[cfg(test)]
 mod running;
+#[cfg(test)]
+mod signalling;
 #[cfg(test)]
 mod synchronising;

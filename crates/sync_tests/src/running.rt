@@ -7,6 +7,7 @@ use quanta::quantum::{Ran, run_rest};
 use std::alloc::Global;
 use std::test::Fail;
 use sync_point::due::due;
+use sys_calls::signals::can_take;
 use t32_base::letter::{Body, Letter, To};
 use t32_base::process::Pid;
 use t32_base::shared_bytes::SharedBytes;
@@ -46,10 +47,10 @@ fn begun(alloc: Global) -> Result<Process, NoMemory> {
 // Whether it moved, its steps, and how many letters it read.
 type Made = (bool, u64, usize);
 
-// What a process made in a quantum, where it was not due.
+// What a process made in a quantum, where it was not due and could take no signal.
 fn made(alloc: Global, limits: Limits) -> Result<Option<Made>, NoMemory> {
     let mut p = begun(alloc)?;
-    if due(&p, limits.reads, limits.steps) {
+    if due(&p, limits.reads, limits.steps) || can_take(&p) {
         return Ok(None);
     }
     let ran = run_rest(alloc, &mut p, limits, 0)?;

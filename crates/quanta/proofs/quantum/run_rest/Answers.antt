@@ -5,9 +5,9 @@ use Rattle.quanta.specs.declared.quantum.Ran.{Ran}
 use Rattle.quanta.specs.Quantum.{RunsOn, RunsRest}
 use Rattle.quanta.proofs.RunningOn.{one_more_on, run_on_more}
 use Rattle.quanta.proofs.Within.{step_within}
-use Rattle.quanta.proofs.Ending.{none_left, over_due, over_full}
+use Rattle.quanta.proofs.Ending.{none_left, over_due, over_full, over_taker}
 use Rattle.quanta.proofs.quantum.run_rest.Goals as goal
-use Rattle.quanta.proofs.quantum.run_rest.Goals.{then-steps-test+else-not-due, else-steps-test}
+use Rattle.quanta.proofs.quantum.run_rest.Goals.{then-steps-test+else-not-due, then-steps-test+then-not-due+else-not-can_take, else-steps-test}
 
 pub steps-init : goal.steps-init
 steps-init c = let up = c.run_up-made.ensures.runs in record { from = up.from; runs = up.runs; few = up.few; unmoved = up.unmoved; within = up.within; calls = c.run_up-made.ensures.calls }
@@ -37,6 +37,9 @@ returns-clause-runs c =
       | then-steps-test+else-not-due w ↦
           over_due c.args.limits c.args.before (c.steps.made - c.args.before) c.steps.made c.args.p.now c.steps.p made c.steps.invariant.runs c.steps.invariant.few c.steps.invariant.unmoved c.requires.begins
           (sym w.due.ensures ∙ w.if-not-due.false)
+      | then-steps-test+then-not-due+else-not-can_take w ↦
+          over_taker c.args.limits c.args.before (c.steps.made - c.args.before) c.steps.made c.args.p.now c.steps.p made c.steps.invariant.runs c.steps.invariant.few c.steps.invariant.unmoved c.requires.begins
+          (sym w.can_take.ensures ∙ w.if-not-can_take.false)
       | else-steps-test w ↦
           over_full c.args.limits c.args.before (c.steps.made - c.args.before) c.steps.made c.args.p.now c.steps.p made c.steps.invariant.runs c.steps.invariant.few (omega (arith, w.steps-test.false))
     ]
