@@ -6,7 +6,7 @@ use Rattle.std.proofs.lemmas.Bool.{and_parts}
 use Rattle.std.proofs.lemmas.List.Folds.{find-append}
 use Rattle.t32_base.specs.declared.letter.Arrived.{Arrived}
 use Rattle.t32_base.specs.declared.letter.Letter.{Letter}
-use Rattle.proc_state.specs.Mail.{first_signal, is_on, signal_letter, signal_of, without_first}
+use Rattle.proc_state.specs.Mail.{first_signal, is_on, signal_of, without_first}
 use Rattle.proc_state.specs.State.{ProcState, can_take, delivered, is_live}
 use Rattle.sys_calls.specs.Take.{struck, taken}
 use Rattle.sys_calls.proofs.TakeLaws.{signal_there}

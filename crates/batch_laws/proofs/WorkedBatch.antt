@@ -1,13 +1,19 @@
 -- A worked batch: a process changes its one page and is due after 64 steps. Its page is sent, the other cluster is lost, and then its state may stand. The page may not
--- be sent a second time.
+-- be sent a second time. Letters that come meanwhile leave the signal that another process takes.
 use Rattle.std.proofs.Common.{◌≡◌, ℕ, zero, suc, ◌<◌, refl, sym, arith, List, [], ◌∷◌, ◌++◌, false, Some, None, true≢false}
 use Rattle.std.specs.Option.{option_map_or}
 use Rattle.t32_base.specs.declared.process.Pid.{Pid}
+use Rattle.t32_base.specs.declared.process.End.TheVariants.{Killed}
+use Rattle.t32_base.specs.declared.process.Status.TheVariants.{Closing}
+use Rattle.t32_base.specs.declared.letter.Body.TheVariants.{Signal}
+use Rattle.t32_base.specs.declared.letter.Letter.{Letter}
+use Rattle.t32_base.specs.declared.letter.To.TheVariants.{Proc}
 use Rattle.t32_base.specs.Account.{page_in}
 use Rattle.sys_text.specs.declared.system.System.{System}
 use Rattle.rv_mem.specs.Memory.{page_at}
-use Rattle.proc_state.specs.State.{ProcState, root_state}
+use Rattle.proc_state.specs.State.{ProcState, delivered, root_state}
 use Rattle.sys_calls.specs.Next.{silently}
+use Rattle.sys_calls.specs.Small.{with_status}
 use Rattle.plain_kernel.specs.Kernel.{boot}
 use Rattle.plain_kernel.specs.Apply.{one_step, steps}
 use Rattle.bus_msg.specs.declared.entry.What.TheVariants.{Crash}
@@ -24,10 +30,12 @@ use Rattle.cert_sched.specs.Legal.{IsLegalBy, Stands}
 use Rattle.cert_sched.proofs.LogLaws.{IsLegal-snoc}
 use Rattle.cert_sched.proofs.Systems.{cluster, store_system, store_words}
 use Rattle.sync_laws.specs.Batched.{AllStand}
-use Rattle.batch_laws.specs.Underway.{BatchMay, is_left, page_left, posts_left}
+use Rattle.sync_laws.specs.Cut.{TakesTo}
+use Rattle.batch_laws.specs.Underway.{BatchMay, is_left, page_left, posts_left, with_letters}
 use Rattle.batch_laws.proofs.PageSent.{page_sent}
 use Rattle.batch_laws.proofs.RestStands.{next_stands, rest_stands}
 use Rattle.batch_laws.proofs.EntryBetween.{batch_stays}
+use Rattle.batch_laws.proofs.TakenLetters.{letters_come}
 use Rattle.batch_laws.proofs.OtherSenders.{others_between}
 
 -- a program that stores to its page and then jumps to itself, by a name; its process is to synchronise after 64 steps
@@ -83,3 +91,27 @@ last = rest_stands named (page_log ++ loss ∷ []) (cluster 0) it there [] None 
 not_again : BatchMay named page_log (cluster 0) it there [] None (0 ∷ []) → ⊥
 unfolding boot one_step steps silently plain_after placement told silent_upto
 not_again b = true≢false (sym b.unsent)
+
+-- ---- a signal that is taken
+
+-- a signal waits for it, and another comes while its batch is under way: it takes the first one still, and the other waits
+abbrev signal : ℕ → Letter
+signal g = record { from = record { 0 = 17 }; out = 0; to = Proc it 0; body = Signal g }
+
+abbrev root : ProcState
+root = root_state it 1 [] 0 0 0
+
+abbrev signalled : ProcState
+signalled = delivered root (signal 9)
+
+abbrev closes : ProcState
+closes = record root { small = with_status root.small (Closing (Killed 9)); next = 1 }
+
+first_taken : TakesTo (Some 9) signalled closes
+first_taken = record { can = refl; after = refl }
+
+first_still : TakesTo (Some 9) (with_letters signalled (signal 10 ∷ [])) (with_letters closes (signal 10 ∷ []))
+first_still = letters_come (Some 9) signalled closes (signal 10 ∷ []) first_taken
+
+not_the_other : (s : ProcState) → TakesTo (Some 10) (with_letters signalled (signal 10 ∷ [])) s → ⊥
+not_the_other s takes = true≢false (sym takes.can)

@@ -51,8 +51,9 @@ abbrev pub with_letters : ProcState → List Letter → ProcState
 with_letters s [] = s
 with_letters s (l ∷ letters) = with_letters (delivered s l) letters
 
--- The home k of the process may send it as it is before it takes the signal that is told, if one is; s is the process after that, and has not ended. The numbers of the pages that are left rise, each is one of its pages, and none was sent at its step
--- count since a crash moved it; any other page is that of its account. These are the letters that it has read, its children have synchronised, and it is due, takes a signal, or is a child that was never cut.
+-- The home k of the process may send it as it is before it takes the signal that is told, if one is; s is the process after that, and has not ended. The numbers of the
+-- pages that are left rise, each is one of its pages, and none was sent at its step count since a crash moved it; any other page is that of its account. These are the
+-- letters that it has read, its children have synchronised, and it is due, takes a signal, or is a child that was never cut.
 pub record BatchMay (system : System) (log : List Entry) (k : ClusterNo) (p : Pid) (s : ProcState) (read : List ℕ) (took : Option ℕ) (indices : List ℕ) : Type 0 where
   pub before : ProcState
   pub takes : TakesTo took before s

@@ -18,6 +18,6 @@ ghost use Rattle.batch_laws.specs.Underway.{BatchMay, posts_left, sync_left};
 /// log says.
 pub fn batches_end_marked()
     ensures marked { (system : System) (log : List Entry) (k : ClusterNo) (p : Pid) (s : ProcState) (read : List ℕ) (took : Option ℕ) (indices : List ℕ) (process : Process) (n : ℕ) → is_system system ≡ true → IsLegalBy Stands system log → BatchMay system log k p s read took indices → state_of process ≡ s → process.read ≡ [] → process.since ≡ (process.small).steps → (process.ram).dirty ≡ replicate n false → IsMarked system (log_with system log (posts_left k p s read took indices)) p process }
-    // Its last post cuts it where it is.
+    // Its last post cuts it, as it is after its take.
     ensures cuts { (system : System) (log : List Entry) (k : ClusterNo) (p : Pid) (s : ProcState) (read : List ℕ) (took : Option ℕ) → BatchMay system log k p s read took [] → CutsAt system log (entry_of system log (sync_left k p s read took)) p s }
 {}

@@ -1,5 +1,5 @@
--- Worked counts at the limits and one beyond them, and a letter that the sixth step of a process sends.
-use Rattle.std.proofs.Common.{◌≡◌, ℕ, List, refl, [], ◌∷◌, true, false}
+-- Worked counts at the limits and one beyond them, a letter that the sixth step of a process sends, and a synchronisation before it.
+use Rattle.std.proofs.Common.{◌≡◌, ℕ, List, refl, [], ◌∷◌, true, false, Option}
 use Rattle.t32_base.specs.declared.process.Pid.{Pid}
 use Rattle.t32_base.specs.declared.process.Mode.TheVariants.{Quarter}
 use Rattle.t32_base.specs.declared.letter.Letter.{Letter}
@@ -12,9 +12,9 @@ use Rattle.sys_calls.specs.Next.{silently}
 use Rattle.plain_kernel.specs.Kernel.{boot}
 use Rattle.plain_kernel.specs.Apply.{one_step, steps}
 use Rattle.sync_point.specs.Due.{is_due_by}
-use Rattle.bus_msg.specs.declared.entry.What.TheVariants.{Fetch, Mail}
+use Rattle.bus_msg.specs.declared.entry.What.TheVariants.{Fetch, Mail, Sync}
 use Rattle.cert_sched.specs.Schedule.{plain_after}
-use Rattle.cert_sched.specs.Steps.{emission_at}
+use Rattle.cert_sched.specs.Steps.{emission_at, silent_upto}
 use Rattle.cert_sched.specs.Rules.{is_within_limits}
 use Rattle.cert_sched.proofs.Systems.{hi_words, root, system}
 use Rattle.limit_laws.specs.Within.{KeepsLimits, is_within_by}
@@ -69,3 +69,12 @@ letter_beyond = refl
 -- to ask for a page is not limited
 fetch_kept : KeepsLimits (limited 5) [] (Fetch it 0)
 fetch_kept = refl
+
+-- a synchronisation is within the limits by the steps before it, whether a signal is taken or not
+sync_kept : (took : Option ℕ) → KeepsLimits (limited 5) [] (Sync it (record (root_state it 1 [] 0 0 0).small { steps = 5 }) [] took)
+unfolding boot one_step steps silently plain_after silent_upto
+sync_kept took = refl
+
+sync_beyond : (took : Option ℕ) → is_within_limits (limited 4) [] (Sync it (record (root_state it 1 [] 0 0 0).small { steps = 5 }) [] took) it ≡ false
+unfolding boot one_step steps silently plain_after silent_upto
+sync_beyond took = refl

@@ -21,7 +21,6 @@ use Rattle.bus_msg.specs.declared.entry.What.TheVariants.{Birth}
 use Rattle.bus_msg.specs.declared.entry.By.{By}
 use Rattle.bus_msg.specs.declared.entry.Entry.{Entry}
 use Rattle.bus_msg.specs.Places.{unended_at}
-use Rattle.bus_msg.specs.PlacedAfter.{what}
 use Rattle.cert_sched.specs.Appended.{entry_of}
 use Rattle.cert_sched.specs.Schedule.{after_entry, done_after, placement, plain_after, process_after, run_upto}
 use Rattle.cert_sched.specs.Steps.{before_fork_at, silent_upto}

@@ -12,10 +12,8 @@ use Rattle.sys_calls.specs.Take.{taken}
 use Rattle.sys_calls.proofs.TakeLaws.{signal_there}
 use Rattle.bus_msg.specs.declared.entry.Entry.{Entry}
 use Rattle.sync_point.specs.Batch.{after_take as after_it, cut_of, took_by}
-use Rattle.sync_point.proofs.Cuts.{cut_keeps}
 use Rattle.cert_sched.specs.Parts.{rising}
 use Rattle.cert_sched.specs.Steps.{numbers_read, saved_of}
-use Rattle.cert_sched.specs.Kinds.{after_take, took_is}
 use Rattle.sync_laws.specs.Cut.{TakesTo}
 use Rattle.sync_laws.specs.Running.{RunsMarked}
 use Rattle.sync_laws.proofs.MarksLead.{marks_reads}

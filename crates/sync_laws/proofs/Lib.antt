@@ -5,6 +5,7 @@ pub mod TakeLeaves
 pub mod SyncMade
 pub mod Standing
 pub mod BirthStands
+pub mod SyncedCuts
 pub mod CutEntry
 pub mod CutMarks
 pub mod PagedAccounts

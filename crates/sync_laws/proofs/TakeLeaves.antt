@@ -1,5 +1,5 @@
 -- What the take of a signal, if one is told, leaves of a process.
-use Rattle.std.proofs.Common.{◌≡◌, ℕ, refl, sym, ◌∙◌, ap, subst, List, true, false, Option, Some, None}
+use Rattle.std.proofs.Common.{◌≡◌, ℕ, refl, ◌∙◌, ap, subst, true, false, Option, Some, None}
 use Rattle.std.proofs.lemmas.Bool.{and_parts}
 use Rattle.proc_state.specs.State.{ProcState, can_take, has_ended}
 use Rattle.sys_calls.proofs.TakeLaws.{taken_strikes, taker_lives}

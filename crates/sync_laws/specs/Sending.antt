@@ -27,7 +27,8 @@ is_due_since system log p s = nat_le system.syncreads (reads_since system log p 
 abbrev pub is_due_at : System → List Entry → Pid → Option ℕ → ProcState → Bool
 is_due_at system log p took s = is_due_since system log p s || is_some took || not (has_state system log p)
 
--- It can take the signal that is told, if one is; these are the letters that it has read after that, its children have synchronised, the pages that came are its memory, and it is due.
+-- It can take the signal that is told, if one is; these are the letters that it has read after that, its children have synchronised, the pages that came are its memory, and
+-- it is due.
 pub record MaySync (system : System) (log : List Entry) (p : Pid) (s : ProcState) (read : List ℕ) (took : Option ℕ) : Type 0 where
   pub takes : took_is took s ≡ true
   pub reads : rising read ≡ numbers_read (saved_of system log p) (after_take took s).mail
