@@ -67,6 +67,7 @@ use Rattle.cert_sched.specs.Rests.{home_pids}
 use Rattle.cluster_core.specs.Residents.{pids_in}
 use Rattle.cluster_core.proofs.OwningWaits.{loss_of, one_of, other_lost, own_no_loss}
 use Rattle.cluster_core.proofs.Here.{arrival_at, is_among, was_here}
+use Rattle.cert_sched.specs.Deeds.{letter_for}
 
 -- ---- an entry of another cluster
 

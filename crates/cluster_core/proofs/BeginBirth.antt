@@ -4,7 +4,7 @@ use Rattle.std.specs.Prelude.{find, option_and_then, option_map}
 use Rattle.t32_base.specs.declared.process.Pid.{Pid}
 use Rattle.sys_text.specs.declared.system.System.{System}
 use Rattle.sys_text.specs.Valid.{is_system}
-use Rattle.proc_state.specs.State.{ProcState, state_of}
+use Rattle.proc_state.specs.State.{ProcState, state_of, can_take}
 use Rattle.sys_calls.specs.Next.{next_step, silent_of, silently}
 use Rattle.sys_calls.proofs.Counting.{silently_counts}
 use Rattle.bus_msg.specs.declared.entry.Entry.{Entry}
@@ -27,9 +27,11 @@ use Rattle.cluster_core.specs.Quantum.{ComesToFork}
 use Rattle.cluster_core.proofs.Here.{changed_there, pids_changed, same_itself}
 use Rattle.cluster_core.proofs.Batching.{unqueued}
 use Rattle.cluster_core.proofs.ForksAgain.{forks_changed, run_forks}
-use Rattle.cluster_core.proofs.Beside.{FollowsBeside, all_of}
+use Rattle.cluster_core.proofs.Beside.{FollowsBeside, all_of, any_of}
 use Rattle.cluster_core.proofs.RunMarks.{marked_ran}
 use Rattle.cluster_core.proofs.Working.{ahead, held_beside, held_there, home_of_it, limits_beside, marked_now, marks_beside, more_counted, pages_beside}
+use Rattle.std.proofs.lemmas.Bool.{or_parts}
+use Rattle.sync_point.specs.Due.{is_due_by}
 
 -- ---- silent steps
 

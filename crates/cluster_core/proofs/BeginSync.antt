@@ -8,7 +8,7 @@ use Rattle.sys_text.specs.Valid.{is_system}
 use Rattle.proc_state.specs.declared.process.Process.{Process}
 use Rattle.proc_state.specs.Mail.{first_signal}
 use Rattle.proc_state.specs.State.{can_take, is_live, state_of}
-use Rattle.rv_mem.specs.declared.memory.RAM.{RAM}
+use Rattle.rv_mem.specs.declared.Ram.{Ram}
 use Rattle.std.specs.Option.{option_map_or}
 use Rattle.bus_msg.specs.declared.entry.By.TheVariants.{Cluster}
 use Rattle.bus_msg.specs.declared.entry.Entry.{Entry}
@@ -74,7 +74,7 @@ MayCutIn c p process = (log : List Entry) → IsOpen BuiltMayFollow c.system log
 
 -- after its synchronisation it is as it is after the take
 synced_state : (process : Process) → state_of (synced process) ≡ state_of (cut_of process)
-synced_state process = ap (λ (r : RAM). record { small = (cut_of process).small; memory = r.bytes; mail = ((cut_of process).mail).letters; next = ((cut_of process).mail).next }) (sym (cut_keeps process).ram)
+synced_state process = ap (λ (r : Ram). record { small = (cut_of process).small; memory = r.bytes; mail = ((cut_of process).mail).letters; next = ((cut_of process).mail).next }) (sym (cut_keeps process).ram)
 
 -- ---- a process of a cluster that follows a log, where nothing is queued and the process may synchronise
 

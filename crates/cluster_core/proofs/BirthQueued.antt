@@ -43,7 +43,7 @@ use Rattle.cluster_core.specs.Queue.{Nothing, IsQueueLegal, with_queue}
 use Rattle.cluster_core.specs.Holds.{CarriesMarks, IsHeldAs, MarkedIfThere, unended_process}
 use Rattle.cluster_core.specs.Follows.{FollowsBuilt, IsOpen}
 use Rattle.cluster_core.proofs.Batching.{held_alike, unqueued}
-use Rattle.cluster_core.proofs.Beside.{FollowsBeside, all_of}
+use Rattle.cluster_core.proofs.Beside.{FollowsBeside, all_of, any_of, one_of_them}
 use Rattle.cluster_core.proofs.Counted.{count_by-snoc}
 use Rattle.cluster_core.proofs.Here.{is_among}
 use Rattle.cluster_core.proofs.Homes.{HomeHere, differ_built, home_here, home_lives}

@@ -58,6 +58,7 @@ use Rattle.cluster_core.proofs.Homes.{HomeHere, differ_built, home_here, pids_ho
 use Rattle.cluster_core.proofs.OwnBirth.{child_held, child_marked, child_pages, child_within, other_held, other_marked, other_pages, parent_held, parent_marked, parent_pages, parent_within}
 use Rattle.cluster_core.proofs.Served.{accounts_on, ahead_after, brought}
 use Rattle.cluster_core.proofs.Stayed.{RunsStill}
+use Rattle.cert_sched.specs.Deeds.{letter_for}
 
 -- ---- an entry of another cluster
 

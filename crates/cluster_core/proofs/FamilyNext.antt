@@ -40,7 +40,7 @@ module _ (system : System) (log : List Entry) (e : Entry) (births : List (Pid ×
       (λ r at end is. ap (filter (λ (b : Pid × Pid). not (same_pid b.1 r))) kept ∙ sym (ended_goes system log e r at end is))
       (λ r index is. other (what e) refl (ap changes_unsynced is)) (λ r index bytes is. other (what e) refl (ap changes_unsynced is)) (λ lost cause is. other (what e) refl (ap changes_unsynced is))
       (λ r at index bytes is. other (what e) refl (ap changes_unsynced is))
-      (λ r small read is. ap (filter (λ (b : Pid × Pid). not (same_pid b.1 r))) kept ∙ sym (synced_goes system log e r small read _ is))
+      (λ r small read took is. ap (filter (λ (b : Pid × Pid). not (same_pid b.1 r))) kept ∙ sym (synced_goes system log e r small read took is))
       (λ rests is. other (what e) refl (ap changes_unsynced is)) (λ is. other (what e) refl (ap changes_unsynced is)) (what e) may.built refl
 
   -- a child that is born is new there
@@ -48,4 +48,4 @@ module _ (system : System) (log : List Entry) (e : Entry) (births : List (Pid ×
   can_join =
       by_built (λ w. what e ≡ w → CanJoin w births) (λ at letter is. tt)
       (λ parent at child end is. (child_apart system log e parent at child end valid legal may.stands is, ap (list_any (stands_in child)) kept ∙ stands_in_none system log e parent at child end valid legal may.stands is)) (λ r at end is. tt)
-      (λ r index is. tt) (λ r index bytes is. tt) (λ lost cause is. tt) (λ r at index bytes is. tt) (λ r small read is. tt) (λ rests is. tt) (λ is. tt) (what e) may.built refl
+      (λ r index is. tt) (λ r index bytes is. tt) (λ lost cause is. tt) (λ r at index bytes is. tt) (λ r small read took is. tt) (λ rests is. tt) (λ is. tt) (what e) may.built refl

@@ -41,6 +41,7 @@ use Rattle.cluster_core.proofs.ByKind.{by_page, is_of_page}
 use Rattle.cluster_core.proofs.ForksAgain.{bears_by}
 use Rattle.cluster_core.proofs.Here.{pid_same}
 use Rattle.cluster_core.proofs.Paged.{page_at, was_paged}
+use Rattle.cluster_core.proofs.Beside.{WaitsAs}
 
 -- ---- a birth of a child that never synchronised
 

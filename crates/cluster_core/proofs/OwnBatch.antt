@@ -205,7 +205,7 @@ follows_own_batch c log e server valid own now next s y serves = by_indices y.in
         from_head (sync_left b.number y.pid state y.read y.took) [] posts refl refl refl (batch_aside b.number y.pid state y.read y.took []) (none_aside y.pid)
         (at_once system _ y.pid state (cut_process system log _ y.pid state (last_cuts system log b.number y.pid state y.read y.took may))) (inl (record { queued = Nothing; posts = refl; together = tt }))
     by_indices (i ∷ indices) posts may =
-        let sent = page_sent system log b.number y.pid state i y.read indices may in
+        let sent = page_sent system log b.number y.pid state i y.read y.took indices may in
         from_head (page_left b.number y.pid state i) (posts_left b.number y.pid state y.read y.took indices) posts refl refl refl (batch_aside b.number y.pid state y.read y.took (i ∷ indices)) (batch_aside b.number y.pid state y.read y.took indices)
         (ap (state_by system _ y.pid (state.small).steps) (batch_moves b.number y.pid state y.read y.took indices) ∙ batch_state system _ b.number y.pid state y.read y.took indices sent)
         (inr (record {

@@ -58,7 +58,7 @@ use Rattle.cluster_core.specs.Holds.{CarriesMarks, IsHeldAs, MarkedIfThere, proc
 use Rattle.cluster_core.specs.Bearing.{BearsChild, birth_post, forked, newborn}
 use Rattle.cluster_core.specs.Follows.{IsOpen}
 use Rattle.cluster_core.proofs.Batching.{unqueued}
-use Rattle.cluster_core.proofs.Beside.{FollowsBeside, all_of}
+use Rattle.cluster_core.proofs.Beside.{FollowsBeside, all_of, one_of_them}
 use Rattle.cluster_core.proofs.HasPages.{pages_after}
 use Rattle.cluster_core.proofs.Here.{is_among}
 use Rattle.cluster_core.proofs.Homes.{HomeHere, differ_built, home_here}

@@ -41,7 +41,7 @@ use Rattle.cluster_core.specs.Follows.{FollowsBuilt, IsOpen}
 use Rattle.cluster_core.specs.Calls.{absorbed, here_after}
 use Rattle.cluster_core.proofs.FamilyNext.{family_next}
 use Rattle.cluster_core.proofs.ByKind.{by_page, is_of_page, lone_is, may_told, page_unlost, told_may}
-use Rattle.cluster_core.proofs.Beside.{FollowsBeside}
+use Rattle.cluster_core.proofs.Beside.{FollowsBeside, HeldOf, WaitsAs, any_of, one_of_them, told_waits, waits_as}
 use Rattle.cluster_core.proofs.Here.{is_among, pid_same}
 use Rattle.cluster_core.proofs.Homes.{HomeHere, differ_built, home_here, pids_home}
 use Rattle.cluster_core.proofs.Telling.{Telling, telling}
@@ -259,13 +259,6 @@ module _ (system : System) (valid : is_system system ≡ true) (log : List Entry
       same : (h : Held) → page_at (what e) p h ≡ h → is_some (process_in (page_at (what e) p h)) ≡ true → is_some (process_in h) ≡ true
       same h is runs = ap (λ h. is_some (process_in h)) (sym is) ∙ runs
 
-      runs_same : (s : Process) → page_at (what e) p (Runs s) ≡ Runs s
-      runs_same s = by_page (λ w. page_at w p (Runs s) ≡ Runs s) (λ pid index. refl) (λ pid index bytes. either (same_pid pid p)) (what e) of
-        where
-          either : (b : Bool) → cond b (Runs s) (Runs s) ≡ Runs s
-          either true = refl
-          either false = refl
-
       rolls_same : (s : Process) (counts : Counts) (births : List Pid) → page_at (what e) p (Rolls s counts births) ≡ Rolls s counts births
       rolls_same s counts births = by_page (λ w. page_at w p (Rolls s counts births) ≡ Rolls s counts births) (λ pid index. refl) (λ pid index bytes. either (same_pid pid p)) (what e) of
         where
@@ -273,8 +266,8 @@ module _ (system : System) (valid : is_system system ≡ true) (log : List Entry
           either true = refl
           either false = refl
 
-      by_was : (was : Held) → IsHeldAs system log before p was → (is_some (process_in was) ≡ true → has_its_pages system log p ≡ true) → is_some (process_in (page_at (what e) p was)) ≡ true → has_its_pages system later p ≡ true
-      by_was (Runs s) held pages runs = stays (pages (same (Runs s) (runs_same s) runs))
+      by_was : (was : Held) → WaitsAs system log before p was → (is_some (process_in was) ≡ true → has_its_pages system log p ≡ true) → is_some (process_in (page_at (what e) p was)) ≡ true → has_its_pages system later p ≡ true
+      by_was (Runs s) held pages runs = stays (pages (same (Runs s) (still_runs p s) runs))
       by_was (Rolls s counts births) held pages runs = stays (pages (same (Rolls s counts births) (rolls_same s counts births) runs))
       by_was (Waits waiting) held pages runs = come waiting held (what e) of refl runs
 

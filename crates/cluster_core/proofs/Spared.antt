@@ -54,7 +54,7 @@ use Rattle.cluster_core.specs.Queue.{AreTogether, Queued, Nothing, One, posts_of
 use Rattle.cluster_core.specs.Holds.{IsHeldAs, is_fetch_queued, CarriesMarks, MarkedIfThere, unended_process}
 use Rattle.cluster_core.specs.Follows.{IsOpen}
 use Rattle.cluster_core.proofs.FamilyNext.{family_next}
-use Rattle.cluster_core.proofs.Beside.{FollowsBeside}
+use Rattle.cluster_core.proofs.Beside.{FollowsBeside, HeldOf, of_them, one_of_them}
 use Rattle.cluster_core.specs.Calls.{absorbed}
 use Rattle.cluster_core.specs.Serving.{Serves}
 use Rattle.cluster_core.proofs.ByKind.{by_kind, is_of_page, lone_is, may_told, told_may}

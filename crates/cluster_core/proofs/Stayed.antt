@@ -18,7 +18,7 @@ use Rattle.bus_msg.specs.declared.placed.Placed.{Placed}
 use Rattle.bus_msg.specs.Places.{Places, is_at_home, same_cluster, same_pid, unended_at}
 use Rattle.bus_msg.specs.PlacedAfter.{what}
 use Rattle.cert_sched.specs.Built.{BuiltMayFollow, KeepsLimits, tells_or_closes}
-use Rattle.cert_sched.specs.Deeds.{is_end_of, letter_for}
+use Rattle.cert_sched.specs.Deeds.{is_end_of, letter_for, to_process}
 use Rattle.cert_sched.specs.Legal.{Stands}
 use Rattle.cert_sched.specs.Losses.{is_by_cluster}
 use Rattle.cert_sched.specs.Parts.{rising}
@@ -47,6 +47,8 @@ use Rattle.cluster_core.proofs.Here.{arrival_at, is_among}
 use Rattle.cluster_core.proofs.Homes.{HomeHere, differ_built, home_here, home_lives, home_more, pids_home}
 use Rattle.cluster_core.proofs.Paged.{page_at}
 use Rattle.cluster_core.proofs.Working.{home_by}
+use Rattle.t32_base.specs.declared.letter.To.{To}
+use Rattle.t32_base.specs.declared.letter.To.TheVariants.{Proc, Tty}
 
 -- ---- what stays of a process
 
@@ -65,11 +67,15 @@ still_itself process letters none = record { now = process; is = refl; small = r
 
 pub still_told : (w : What) (p : Pid) (process : Process) → tells_or_closes w ≡ true → RunsStill (letter_for p w) process (arrival_at w p (Runs process))
 still_told w p process =
-    by_kind (λ w. RunsStill (letter_for p w) process (arrival_at w p (Runs process))) (λ at letter. by_end letter (is_end_of p letter.to)) (λ pid at end. still_itself process [] refl) (λ rests. still_itself process [] refl) (still_itself process [] refl) w
+    by_kind (λ w. RunsStill (letter_for p w) process (arrival_at w p (Runs process))) (λ at letter. by_to letter letter.to) (λ pid at end. still_itself process [] refl) (λ rests. still_itself process [] refl) (still_itself process [] refl) w
   where
-    by_end : (letter : Letter) (b : Bool) → RunsStill (cond b (letter ∷ []) []) process (cond b (arrived_held (Runs process) letter) (Runs process))
-    by_end letter true = record { now = arrived process letter; is = refl; small = refl; ram = refl; read = refl; since = refl; state = refl }
-    by_end letter false = still_itself process [] refl
+    by_pid : (letter : Letter) (b : Bool) → RunsStill (cond b (letter ∷ []) []) process (cond b (arrived_held (Runs process) letter) (Runs process))
+    by_pid letter true = record { now = arrived process letter; is = refl; small = refl; ram = refl; read = refl; since = refl; state = refl }
+    by_pid letter false = still_itself process [] refl
+
+    by_to : (letter : Letter) (to : To) → RunsStill (to_process p letter to) process (cond (is_end_of p to) (arrived_held (Runs process) letter) (Runs process))
+    by_to letter (Proc q end) = by_pid letter (same_pid q p)
+    by_to letter (Tty t) = still_itself process [] refl
 
 pub still_paged : (w : What) (p : Pid) (process : Process) → is_of_page w ≡ true → RunsStill (letter_for p w) process (page_at w p (Runs process))
 still_paged w p process = by_page (λ w. RunsStill (letter_for p w) process (page_at w p (Runs process))) (λ pid index. still_itself process [] refl) (λ pid index bytes. by_pid index bytes (same_pid pid p)) w

@@ -40,7 +40,7 @@ use Rattle.cluster_core.proofs.Fetching.{asked_goes_on, asked_work, fetch_own}
 use Rattle.cluster_core.proofs.Lacking.{rested_work, waited_work}
 use Rattle.cluster_core.proofs.BirthTurn.{birth_goes_on}
 use Rattle.cluster_core.proofs.Owning.{own_asked, own_at, own_at_fork, own_before_sent, own_changed, own_quantum, own_sent, own_synced}
-use Rattle.cluster_core.proofs.BeginSync.{MayCutIn, batch_goes_on}
+use Rattle.cluster_core.proofs.BeginSync.{MayCutIn, batch_goes_on, due_or_takes}
 use Rattle.cluster_core.proofs.ChildFirst.{before_from, before_is, comes_acts}
 use Rattle.cluster_core.proofs.ChildrenKept.{synced_where_none}
 use Rattle.cluster_core.proofs.ChildrenSynced.{first_childless, first_may}

@@ -59,6 +59,8 @@ use Rattle.cluster_core.proofs.Marking.{marked_queued, queue_tells}
 use Rattle.cluster_core.proofs.RunMarks.{marked_ran, marked_rolled, marked_runs, marked_sends}
 use Rattle.record_laws.proofs.Standing.{built_stands}
 use Rattle.cluster_core.proofs.Homes.{HomeHere, differ_built, home_here, home_lives}
+use Rattle.std.proofs.lemmas.Bool.{or_parts}
+use Rattle.sync_point.specs.Due.{is_due_by}
 
 -- ---- kernel steps
 
@@ -151,6 +153,7 @@ still_queued system log c tried steps (inr (inl batch)) = inr (inl (record {
   pid = batch.pid;
   process = batch.process;
   read = batch.read;
+  took = batch.took;
   indices = batch.indices;
   posts = batch.posts;
   there = batch.there;
@@ -503,7 +506,7 @@ module _ (c : ClusterView) (p : Pid) (made : ℕ) (was : Held) (sending : Sendin
         let unended = ap is_some (home_of_it c p was empty there valid log go f).found in
         let legal = built_stands c.system log go.0 in
         let marked = runs_marked c.system log p s.before valid reached_before legal unended (carried c.system log p s.before valid reached_before legal unended marked_before) in
-        sent_keeps c.system log p s.before e (state_of s.now) marked s.undue s.sends
+        sent_keeps c.system log p s.before e (state_of s.now) marked (or_parts (is_due_by s.before (c.system).syncreads (c.system).syncsteps) (can_take (state_of s.before)) s.undue).0 s.sends
 
     may_follow : UnlostMayFollow c.system log (entry_of c.system log (post_told c.number p at e))
     may_follow = record {
