@@ -9,6 +9,8 @@ mod reads;
 #[cfg(test)]
 mod running;
 #[cfg(test)]
+mod signals;
+#[cfg(test)]
 mod steps;
 #[cfg(test)]
 mod writes;

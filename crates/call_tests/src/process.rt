@@ -44,7 +44,8 @@ fn say(alloc: Global, p: &mut Process, end: u8, bytes: &[u8]) -> Result<(), NoMe
     arrive(p, end, Body::Said(said))
 }
 
-fn arrive(p: &mut Process, end: u8, body: Body) -> Result<(), NoMemory>
+/// A letter with this body arrives for an end of process 16.
+pub fn arrive(p: &mut Process, end: u8, body: Body) -> Result<(), NoMemory>
     requires { p.old.mail.next < 100 }
     ensures { OnOk result (p.new.mail.next ≡ p.old.mail.next + 1) }
 {
@@ -166,14 +167,26 @@ pub fn begun(alloc: Global, begin: Begin) -> Result<Process, NoMemory> {
     Ok(p)
 }
 
+/// One whose handler runs, at its first word, the call `sigreturn`; so does what it returns to. Signals 11 and 12 wait.
+pub fn signalled(alloc: Global) -> Result<Process, NoMemory> {
+    let mut p = root(alloc)?;
+    arrive(&mut p, 0, Body::Signal(11))?;
+    arrive(&mut p, 0, Body::Signal(12))?;
+    set_call(&mut p.small, &[0, 0, 0, 9]);
+    p.small.handler = 0x10000;
+    p.small.frame = Some(p.small.regs.copy());
+    Ok(p)
+}
+
 /// What a step was: silent, also one that lets the process close; how many bytes were sent, and where; an end letter, from
-/// which end and where; how the process ended; or why no step was made, for one that has ended with its end.
+/// which end and where; a signal, and where it goes; how the process ended; or why no step was made, for one that has ended with its end.
 #[derive(Clone, Copy, PartialEq, Eq, Debug)]
 pub enum Made {
     Silent,
     Closing(End),
     Said(To, usize),
     Shut(u8, To),
+    Signal(u8, To),
     Exit(End),
     Blocked,
     Over(End),
@@ -199,7 +212,7 @@ fn sent_by(letter: &Letter) -> Made {
     match &letter.body {
         Body::Said(bytes) => Made::Said(letter.to, bytes.len()),
         Body::EndOf => Made::Shut(letter.out, letter.to),
-        Body::Signal(_) => Made::Other,
+        Body::Signal(signal) => Made::Signal(signal, letter.to),
     }
 }
 

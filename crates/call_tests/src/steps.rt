@@ -11,14 +11,24 @@ use t32_base::process::{End, EndState, Pid, Small};
 use t32_base::streams::NoMemory;
 use test_asserts::same;
 
-// The argument and the number of the call; what its step was, and the register a0 after it.
-static CALLS: [Row; 8] = [
+// Where a signal to process 99 goes.
+const STRANGER: To = To::Proc(Pid(99), 0);
+
+// The arguments and the number of the call; what its step was, and the register a0 after it.
+static CALLS: [Row; 15] = [
     ([0x1ff, 0, 0, 1], Made::Closing(End::Exit(255)), (0x1ff, 0)),
     ([7, 0, 0, 6], Made::Silent, (16, 0)),
     ([7, 0, 0, 0], Made::Silent, (0xffffffea, 0)),
     ([7, 0, 0, 3], Made::Silent, (REFUSED_END, 0)),
     ([0, 0, 0, 4], Made::Silent, (REFUSED_END, 0)),
     ([7, 0, 0, 10], Made::Silent, (REFUSED_END, 0)),
+    ([0x10010, 0, 0, 7], Made::Silent, (0, 0)),
+    ([0, 0, 0, 7], Made::Silent, (0, 0)),
+    ([0x10012, 0, 0, 7], Made::Silent, (0xffffffea, 0)),
+    ([99, 31, 0, 8], Made::Signal(31, STRANGER), (0, 31)),
+    ([99, 0, 0, 8], Made::Silent, (0xffffffea, 0)),
+    ([99, 32, 0, 8], Made::Silent, (0xffffffea, 32)),
+    ([7, 0, 0, 9], Made::Silent, (0xffffffea, 0)),
     ([7, 0, 0, 11], Made::Silent, (0xffffffea, 0)),
     ([7, 0, 0, 0xffffffff], Made::Silent, (0xffffffea, 0)),
 ];

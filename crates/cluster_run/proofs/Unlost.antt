@@ -18,7 +18,7 @@ use Rattle.sync_left.specs.Left.{is_from_cluster}
 use Rattle.cluster_core.specs.View.{ClusterView, after_head}
 
 pub by_unlost : (P : What → Type 0) → ((at : ℕ) (letter : Letter) → P (Mail at letter)) → ((parent : Pid) (at : ℕ) (child : Pid) (end : ℕ) → P (Birth parent at child end)) → ((pid : Pid) (at : ℕ) (end : End) → P (Exit pid at end)) → ((pid : Pid) (index : ℕ) → P (Fetch pid index)) → ((pid : Pid) (index : ℕ) (bytes : List ℕ) → P (PageIs pid index bytes))
-    → ((pid : Pid) (at index : ℕ) (bytes : List ℕ) → P (Page pid at index bytes)) → ((pid : Pid) (small : SmallState) (read : List ℕ) → P (Sync pid small read None)) → ((rests : List (Pid × ℕ)) → P (Done rests)) → P Stop → (w : What) → is_unlost w ≡ true → P w
+    → ((pid : Pid) (at index : ℕ) (bytes : List ℕ) → P (Page pid at index bytes)) → ((pid : Pid) (small : SmallState) (read : List ℕ) (took : Option ℕ) → P (Sync pid small read took)) → ((rests : List (Pid × ℕ)) → P (Done rests)) → P Stop → (w : What) → is_unlost w ≡ true → P w
 by_unlost P mail birth exit fetch page changed cut done stop (Mail at letter) unlost = mail at letter
 by_unlost P mail birth exit fetch page changed cut done stop (Exit pid at end) unlost = exit pid at end
 by_unlost P mail birth exit fetch page changed cut done stop (Fetch pid index) unlost = fetch pid index
@@ -27,8 +27,7 @@ by_unlost P mail birth exit fetch page changed cut done stop (Done rests) unlost
 by_unlost P mail birth exit fetch page changed cut done stop Stop unlost = stop
 by_unlost P mail birth exit fetch page changed cut done stop (Birth parent at child end) unlost = birth parent at child end
 by_unlost P mail birth exit fetch page changed cut done stop (Page pid at index bytes) unlost = changed pid at index bytes
-by_unlost P mail birth exit fetch page changed cut done stop (Sync pid small read None) unlost = cut pid small read
-by_unlost P mail birth exit fetch page changed cut done stop (Sync pid small read (Some g)) unlost = absurd (true≢false (sym unlost))
+by_unlost P mail birth exit fetch page changed cut done stop (Sync pid small read took) unlost = cut pid small read took
 by_unlost P mail birth exit fetch page changed cut done stop (Crash k cause) unlost = absurd (true≢false (sym unlost))
 by_unlost P mail birth exit fetch page changed cut done stop (Return k) unlost = absurd (true≢false (sym unlost))
 by_unlost P mail birth exit fetch page changed cut done stop (Rebackup to fresh recs) unlost = absurd (true≢false (sym unlost))
@@ -36,15 +35,15 @@ by_unlost P mail birth exit fetch page changed cut done stop (Rebackup to fresh 
 -- where the head of a queue was sent, nothing else changed
 pub same_after : (w : What) (c : ClusterView) → is_unlost w ≡ true → after_head c w ≡ c
 same_after w c =
-    by_unlost (λ w. after_head c w ≡ c) (λ at letter. refl) (λ parent at child end. refl) (λ pid at end. refl) (λ pid index. refl) (λ pid index bytes. refl) (λ pid at index bytes. refl) (λ pid small read. refl) (λ rests. refl) refl w
+    by_unlost (λ w. after_head c w ≡ c) (λ at letter. refl) (λ parent at child end. refl) (λ pid at end. refl) (λ pid index. refl) (λ pid index bytes. refl) (λ pid at index bytes. refl) (λ pid small read took. refl) (λ rests. refl) refl w
 
 -- such an entry loses no cluster
 pub no_loss : (k : ClusterNo) (w : What) → is_unlost w ≡ true → is_crash_of k w ≡ false
-no_loss k = by_unlost (λ w. is_crash_of k w ≡ false) (λ at letter. refl) (λ parent at child end. refl) (λ pid at end. refl) (λ pid index. refl) (λ pid index bytes. refl) (λ pid at index bytes. refl) (λ pid small read. refl) (λ rests. refl) refl
+no_loss k = by_unlost (λ w. is_crash_of k w ≡ false) (λ at letter. refl) (λ parent at child end. refl) (λ pid at end. refl) (λ pid index. refl) (λ pid index bytes. refl) (λ pid at index bytes. refl) (λ pid small read took. refl) (λ rests. refl) refl
 
 -- a log ends by it exactly where it closes that
 pub ends_closed : (places : Places) (w : What) → is_unlost w ≡ true → ends_run places w ≡ closes w
-ends_closed places = by_unlost (λ w. ends_run places w ≡ closes w) (λ at letter. refl) (λ parent at child end. refl) (λ pid at end. refl) (λ pid index. refl) (λ pid index bytes. refl) (λ pid at index bytes. refl) (λ pid small read. refl) (λ rests. refl) refl
+ends_closed places = by_unlost (λ w. ends_run places w ≡ closes w) (λ at letter. refl) (λ parent at child end. refl) (λ pid at end. refl) (λ pid index. refl) (λ pid index bytes. refl) (λ pid at index bytes. refl) (λ pid small read took. refl) (λ rests. refl) refl
 
 pub not_bus : (k : ClusterNo) (by : By) → is_from k by ≡ true → is_bus by ≡ true → ⊥
 not_bus k Bus own bus = true≢false (sym own)

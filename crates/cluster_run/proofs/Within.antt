@@ -14,7 +14,7 @@ use Rattle.t32_base.specs.Small.{SmallState}
 use Rattle.sys_text.specs.declared.system.System.{System}
 use Rattle.sys_text.specs.Valid.{is_system}
 use Rattle.proc_state.specs.declared.process.Process.{Process}
-use Rattle.proc_state.specs.State.{ProcState, state_of}
+use Rattle.proc_state.specs.State.{ProcState, state_of, can_take}
 use Rattle.sys_calls.specs.Small.{weight_with_children}
 use Rattle.sys_calls.specs.Calls.{Next, Silent, Blocked, Forks, Emits, Over}
 use Rattle.sys_calls.specs.Fork.{before_fork, fork_parent}
@@ -32,7 +32,7 @@ use Rattle.cert_sched.specs.Parts.{put_rising, rising, upto_last}
 use Rattle.cert_sched.specs.Deeds.{since, starts}
 use Rattle.cert_sched.specs.Rolling.{refilled}
 use Rattle.cert_sched.specs.Schedule.{done_after, placement, plain_after, process_after}
-use Rattle.cert_sched.specs.Kinds.{after_take}
+use Rattle.cert_sched.specs.Kinds.{after_take, took_is}
 use Rattle.cert_sched.specs.Steps.{before_fork_at, emission_at, silent_upto}
 use Rattle.cert_sched.specs.Appended.{entry_of}
 use Rattle.cert_sched.specs.Rests.{home_pids}
@@ -48,8 +48,8 @@ use Rattle.cluster_core.specs.View.{ClusterView, Held, Runs, Rolls, Waits, after
 use Rattle.cluster_core.specs.Holds.{IsHeldAs}
 use Rattle.cluster_core.specs.Calls.{FollowsSome}
 use Rattle.cluster_core.specs.Follows.{FollowsBuilt, IsOpen}
-use Rattle.cluster_core.specs.Queue.{IsQueueLegal, is_move_of, state_by}
-use Rattle.cluster_core.proofs.Here.{same_itself}
+use Rattle.cluster_core.specs.Queue.{IsQueueLegal, is_move_of, state_by, AreTogether, IsQueued, Queued, is_lone, move_of, posts_of}
+use Rattle.cluster_core.proofs.Here.{same_itself, pid_same}
 use Rattle.cluster_core.specs.Residents.{pids_in}
 use Rattle.cluster_core.proofs.Lightening.{held_apart}
 use Rattle.sys_calls.proofs.Counting.{last_sent}
@@ -72,6 +72,15 @@ use Rattle.cluster_run.proofs.StepLosses.{gone_inside, same_sent}
 use Rattle.cluster_run.proofs.Together.{one_member}
 use Rattle.cluster_run.proofs.Unlost.{by_unlost, same_after}
 use Rattle.page_laws.specs.Left.{left_of_pages}
+use Rattle.sys_calls.proofs.TakeLaws.{taken_strikes}
+use Rattle.std.proofs.lemmas.Bool.{and_parts}
+use Rattle.plain_kernel.proofs.Entries.{some_same}
+use Rattle.cluster_core.specs.Syncing.{Synchronises}
+use Rattle.cluster_core.specs.Bearing.{BearsChild}
+use Rattle.cluster_core.proofs.BatchPosts.{batch_moves, batch_moves_other}
+use Rattle.batch_laws.specs.Underway.{posts_left}
+use Rattle.sync_laws.proofs.TakeLeaves.{takes_leave}
+use Rattle.bus_msg.specs.declared.entry.What.TheVariants.{Mail, Exit, Fetch, PageIs, Sync}
 
 -- ---- a process
 
@@ -136,15 +145,25 @@ emitted_within system log p at t (Some sent) is there =
     let same : weight_with_children (sent.1).small ≡ weight_with_children t.small = ap (λ o. option_map_or (λ (u : ProcState). weight_with_children u.small) o (weight_with_children t.small)) there in
     omega (arith, same, silently_lightens l.earlier s.was l.before l.silent, emits_lightens l.before sent.1 sent.0 l.last, within_kernel system log p s.was s.kernel s.before s.there)
 
+-- a process that takes the signal of an entry can do so
+abbrev TakesRightly : System → List Entry → What → Type 0
+TakesRightly system log (Sync pid small read took) = option_map (took_is took) (silent_upto system log pid small.steps) ≡ Some true
+TakesRightly system log w = Unit {0}
+
+-- which leaves it no more
+took_within : (took : Option ℕ) (s : ProcState) → took_is took s ≡ true → weight_with_children (after_take took s).small ≤ weight_with_children s.small
+took_within None s can = omega arith
+took_within (Some g) s can = (taken_strikes s (and_parts (can_take s) _ can).0).weight_children
+
 -- a process that has moved ahead of the log
-moved_within : (system : System) (log : List Entry) (p : Pid) (steps : ℕ) (t : ProcState) (w : What) → is_unlost w ≡ true → state_by system log p steps (Some w) ≡ Some t → weight_with_children t.small ≤ boot_load system
+moved_within : (system : System) (log : List Entry) (p : Pid) (steps : ℕ) (t : ProcState) (w : What) → is_unlost w ≡ true → TakesRightly system log w → state_by system log p steps (Some w) ≡ Some t → weight_with_children t.small ≤ boot_load system
 unfolding before_fork_at
 moved_within system log p steps t =
-    by_unlost (λ w. state_by system log p steps (Some w) ≡ Some t → weight_with_children t.small ≤ boot_load system)
-    (λ at letter there. emitted_within system log letter.from at t (emission_at system log letter.from at) refl (same_option _ ∙ there))
-    (λ parent at child end there. forked_within parent at child (before_fork_at system log parent at) refl there)
-    (λ pid at end there. emitted_within system log pid at t (emission_at system log pid at) refl (same_option _ ∙ there))
-    (λ pid index there. cc) (λ pid index bytes there. cc) (λ pid at index bytes there. cc) (λ pid small read there. cut_within pid small (silent_upto system log pid small.steps) refl there) (λ rests there. cc) (λ there. cc)
+    by_unlost (λ w. TakesRightly system log w → state_by system log p steps (Some w) ≡ Some t → weight_with_children t.small ≤ boot_load system)
+    (λ at letter can there. emitted_within system log letter.from at t (emission_at system log letter.from at) refl (same_option _ ∙ there))
+    (λ parent at child end can there. forked_within parent at child (before_fork_at system log parent at) refl there)
+    (λ pid at end can there. emitted_within system log pid at t (emission_at system log pid at) refl (same_option _ ∙ there))
+    (λ pid index can there. cc) (λ pid index bytes can there. cc) (λ pid at index bytes can there. cc) (λ pid small read took can there. cut_within pid small took (silent_upto system log pid small.steps) refl can there) (λ rests can there. cc) (λ can there. cc)
   where
     -- a fork leaves its parent less
     forked_within : (parent : Pid) (at : ℕ) (child : Pid) (o : Option ProcState) → before_fork_at system log parent at ≡ o → option_map (λ s. s) (option_map (λ s. fork_parent s child) o) ≡ Some t → weight_with_children t.small ≤ boot_load system
@@ -162,11 +181,11 @@ moved_within system log p steps t =
             let here : weight_with_children (fork_parent u child).small ≡ weight_with_children t.small = ap (λ (x : ProcState). weight_with_children x.small) same in
             omega (arith, here, less, silently_lightens _ s u f.silent, process_within system log parent s there)
 
-    cut_within : (pid : Pid) (small : SmallState) (o : Option ProcState) → silent_upto system log pid small.steps ≡ o → option_map (after_take None) o ≡ Some t → weight_with_children t.small ≤ boot_load system
-    cut_within pid small None is there = cc
-    cut_within pid small (Some u) is there =
-        let same : u ≡ t = cc in
-        subst (λ (u : ProcState). weight_with_children u.small ≤ boot_load system) same (silent_within system log pid small.steps u is)
+    cut_within : (pid : Pid) (small : SmallState) (took : Option ℕ) (o : Option ProcState) → silent_upto system log pid small.steps ≡ o → option_map (took_is took) o ≡ Some true → option_map (after_take took) o ≡ Some t → weight_with_children t.small ≤ boot_load system
+    cut_within pid small took None is can there = cc
+    cut_within pid small took (Some u) is can there =
+        let same = some_same (after_take took u) t there in
+        subst (λ (x : ProcState). weight_with_children x.small ≤ boot_load system) same (let less = took_within took u (some_same (took_is took u) true can) in omega (arith, less, silent_within system log pid small.steps u is))
 
     same_option : (o : Option ProcState) → o ≡ option_map (λ (s : ProcState). s) o
     same_option None = refl
@@ -182,9 +201,9 @@ queued_unlost system log (first ∷ queue) test post legal found = by_test (test
     by_test false found more = more found
 
 runs_within : (system : System) (log : List Entry) (queue : List Post) (p : Pid) (steps : ℕ) (t : ProcState) → IsQueueLegal UnlostMayFollow system log queue → (o : Option Post) → find (is_move_of p) queue ≡ o
-    → state_by system log p steps (option_map (λ (post : Post). post.what) o) ≡ Some t → weight_with_children t.small ≤ boot_load system
-runs_within system log queue p steps t legal None found is = silent_within system log p steps t is
-runs_within system log queue p steps t legal (Some post) found is = moved_within system log p steps t post.what (queued_unlost system log queue (is_move_of p) post legal found) is
+    → ((w : What) → option_map (λ (post : Post). post.what) o ≡ Some w → TakesRightly system log w) → state_by system log p steps (option_map (λ (post : Post). post.what) o) ≡ Some t → weight_with_children t.small ≤ boot_load system
+runs_within system log queue p steps t legal None found can is = silent_within system log p steps t is
+runs_within system log queue p steps t legal (Some post) found can is = moved_within system log p steps t post.what (queued_unlost system log queue (is_move_of p) post legal found) (can post.what refl) is
 
 -- two for each step that the system's processes have left at boot, and one for a synchronisation
 abbrev pub most_held : System → ℕ
@@ -197,15 +216,54 @@ process_load_within system process within = by_test (has_moved process)
     by_test true = omega (arith, within)
     by_test false = omega (arith, within)
 
-held_within : (system : System) (log : List Entry) (queue : List Post) (p : Pid) (h : Held) → IsQueueLegal UnlostMayFollow system log queue → IsHeldAs system log queue p h → held_load h ≤ most_held system
-held_within system log queue p (Runs process) legal is =
-    process_load_within system process (runs_within system log queue p (process.small).steps (state_of process) legal (find (is_move_of p) queue) refl is)
-held_within system log queue p (Rolls process counts births) legal held =
+-- what is sent alone takes no signal
+lone_rightly : (system : System) (log : List Entry) (w : What) → is_lone w ≡ true → TakesRightly system log w
+lone_rightly system log (Mail at letter) lone = tt
+lone_rightly system log (Exit pid at end) lone = tt
+lone_rightly system log (Fetch pid index) lone = tt
+lone_rightly system log (PageIs pid index bytes) lone = tt
+lone_rightly system log _ lone = absurd (true≢false (sym lone))
+
+-- a signal that is queued as taken is one that its process can take
+queued_rightly : (system : System) (log : List Entry) (c : ClusterView) (p : Pid) → IsQueued c.queue ⊎ Synchronises system log c ⊎ BearsChild system log c → (w : What) → move_of p c.queue ≡ Some w → TakesRightly system log w
+queued_rightly system log c p (inl alone) w is = by_queued alone.queued alone.together (ap (move_of p) (sym alone.posts) ∙ is)
+  where
+    by_test : (post : Post) (b : Bool) → is_lone post.what ≡ true → option_map (λ (post : Post). post.what) (cond b (Some post) None) ≡ Some w → TakesRightly system log w
+    by_test post true lone is = subst (TakesRightly system log) (some_same post.what w is) (lone_rightly system log post.what lone)
+    by_test post false lone is = cc
+
+    by_queued : (q : Queued) → AreTogether q → move_of p (posts_of q) ≡ Some w → TakesRightly system log w
+    by_queued Nothing together is = cc
+    by_queued (One post) together is = by_test post (is_move_of p post) together is
+queued_rightly system log c p (inr (inl y)) w is = by_pid (same_pid y.pid p) refl
+  where
+    s : ProcState
+    s = state_of y.process
+
+    here : move_of p (posts_left c.number y.pid s y.read y.took y.indices) ≡ Some w
+    here = ap (move_of p) (sym y.posts) ∙ is
+
+    can : option_map (took_is y.took) (silent_upto system log y.pid (s.small).steps) ≡ Some true
+    can =
+        ap (option_map (took_is y.took)) (ap (silent_upto system log y.pid) (takes_leave y.took (y.may).before s (y.may).takes).steps ∙ ((y.may).may).reached)
+        ∙ ap Some ((y.may).takes).can
+
+    by_pid : (b : Bool) → same_pid y.pid p ≡ b → TakesRightly system log w
+    by_pid true own =
+        let moves = ap (λ q. move_of q (posts_left c.number y.pid s y.read y.took y.indices)) (sym (pid_same y.pid p (eqb-true (y.pid).0 p.0 own))) ∙ batch_moves c.number y.pid s y.read y.took y.indices in
+        subst (TakesRightly system log) (some_same (Sync y.pid s.small y.read y.took) w (sym moves ∙ here)) can
+    by_pid false other = let none : None ≡ Some w = sym (batch_moves_other c.number y.pid s y.read y.took p y.indices other) ∙ here in cc
+queued_rightly system log c p (inr (inr b)) w is = let none : None ≡ Some w = ap (move_of p) (sym b.posts) ∙ is in cc
+
+held_within : (system : System) (log : List Entry) (queue : List Post) (p : Pid) (h : Held) → IsQueueLegal UnlostMayFollow system log queue → ((w : What) → move_of p queue ≡ Some w → TakesRightly system log w) → IsHeldAs system log queue p h → held_load h ≤ most_held system
+held_within system log queue p (Runs process) legal can is =
+    process_load_within system process (runs_within system log queue p (process.small).steps (state_of process) legal (find (is_move_of p) queue) refl can is)
+held_within system log queue p (Rolls process counts births) legal can held =
     let rolls = (held.1).rolls in
     let start = process_within system (upto_last (starts p) log) p rolls.start rolls.started in
     let fewer = replayed_leaves rolls.steps (refilled log p rolls.start) (state_of process) (births_in (since log p)) rolls.done rolls.replays in
     process_load_within system process (omega (arith, start, fewer))
-held_within system log queue p (Waits kept) legal is = omega arith
+held_within system log queue p (Waits kept) legal can is = omega arith
 
 -- ---- all that a cluster holds
 
@@ -263,7 +321,7 @@ most_load system = placed_count system * most_held system
 load_within : (system : System) (log : List Entry) (c : ClusterView) → is_system system ≡ true → IsLegalBy BuiltMayFollow system log → FollowsBuilt system log c → NoTwo (pids_in c.here) → load c ≤ most_load system
 load_within system log c valid legal follows two =
     let each : All (λ (e : Pid × Held). held_load e.1 ≤ most_held system) c.here =
-    each_held (λ h. held_load h ≤ most_held system) c.here two (λ p h at. held_within system log c.queue p h (follows.queue).legal ((follows.processes).held p h at)) in
+    each_held (λ h. held_load h ≤ most_held system) c.here two (λ p h at. held_within system log c.queue p h (follows.queue).legal (queued_rightly system log c p follows.queued) ((follows.processes).held p h at)) in
     omega (arith, sum_by-le (λ (e : Pid × Held). held_load e.1) (most_held system) c.here each, mul-le (length c.here) (most_held system) (placed_count system) (most_held system) (few_here system log c valid legal (follows.processes).each_once) (omega arith))
 
 -- ---- all clusters
@@ -353,14 +411,14 @@ steps_within system log = by_kernel (plain_after system log) refl
 
 -- the most that clusters may send
 abbrev pub most_posts : System → ℕ
-most_posts system = 2 * boot_load system + most_pages system + most_syncs system
+most_posts system = 3 * boot_load system + most_pages system + most_syncs system
 
 pub posts_within : (system : System) (log : List Entry) → is_system system ≡ true → IsLegalBy BuiltMayFollow system log → length log < 2 ^ 64 → left_to_send system log ≤ most_posts system
 posts_within system log valid legal fits =
     all_parts (log_load system log) (boot_load system) (left_of_pages system log) (most_pages system) (left_of_syncs system log) (most_syncs system) (steps_within system log) (pages_within system log valid legal fits)
     (syncs_within system log valid (built_stands system log legal))
   where
-    all_parts : (a b c d m n : ℕ) → a ≤ b → c ≤ d → m ≤ n → 2 * a + c + m ≤ 2 * b + d + n
+    all_parts : (a b c d m n : ℕ) → a ≤ b → c ≤ d → m ≤ n → 3 * a + c + m ≤ 3 * b + d + n
     all_parts a b c d m n first second third = omega (arith, first, second, third)
 
 -- ---- one number for the parts

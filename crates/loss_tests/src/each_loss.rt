@@ -1,5 +1,5 @@
-//! Each loss of a talk of two, of a conversation of three and of a ring of four, and of processes with children, by `sim`, and losses at
-//! random by `run`, where processes synchronise after each letter that they read, and where they do so seldom. What is wanted stands in
+//! Each loss of a talk of two, of a conversation of three and of a ring of four, of processes with children, and of signals, by `sim`, and
+//! losses at random by `run`, where processes synchronise after each letter that they read, and where they do so seldom. What is wanted stands in
 //! the systems: in the conversation the asker hears two answers, in either order, and all others have one order of letters alone.
 use program_calls::answer;
 use std::alloc::Global;
@@ -7,7 +7,9 @@ use std::sync::Wait;
 use std::test::Fail;
 use std::thread::Threads;
 use test_asserts::same;
-use test_systems::{CHAIN, CONVERSATION, FORKER, RING, SERVER, TALK, TREE};
+use test_systems::{
+    CHAIN, CONVERSATION, EARLY, FORKER, RING, SERVER, SIGNALLED, SIGNALLER, TALK, TREE,
+};
 
 // What a report of the talk begins with.
 const SAID: &str = "tty 0 2\nx\n\npid 16 exit 0\npid 17 exit 0\n";
@@ -30,6 +32,12 @@ const LEAVES: &str = "tty 0 4\nabcd\n";
 
 const SERVED: &str = "tty 0 0\n\ntty 1 6\nHELLO\n\ntty 2 6\nAGAIN\n\n";
 
+const STRUCK: &str = "tty 0 2\ns\n\npid 16 exit 0\n";
+
+const UNSTRUCK: &str = "tty 0 0\n\n";
+
+const KILLED: &str = "tty 0 2\nab\ntty 1 2\nk\n\npid 16 killed 7\npid 17 exit 0\n";
+
 // A system, how many letters a process of it may read between two synchronisations, what its report begins with, how many processes follow
 // there, all ended with exit 0, of which some have a pid by where they were born, how many clusters the system has, and more places and
 // steps than any of them has.
@@ -42,7 +50,7 @@ struct Case {
     most: u32,
 }
 
-static CASES: [Case; 12] = [
+static CASES: [Case; 16] = [
     Case {
         text: TALK,
         reads: 1,
@@ -138,6 +146,38 @@ static CASES: [Case; 12] = [
         exits: 5,
         clusters: 3,
         most: 90,
+    },
+    Case {
+        text: SIGNALLER,
+        reads: 32,
+        fronts: [STRUCK, STRUCK],
+        exits: 0,
+        clusters: 2,
+        most: 16,
+    },
+    Case {
+        text: EARLY,
+        reads: 32,
+        fronts: [UNSTRUCK, UNSTRUCK],
+        exits: 2,
+        clusters: 2,
+        most: 24,
+    },
+    Case {
+        text: SIGNALLED,
+        reads: 1,
+        fronts: [KILLED, KILLED],
+        exits: 0,
+        clusters: 3,
+        most: 90,
+    },
+    Case {
+        text: SIGNALLED,
+        reads: 32,
+        fronts: [KILLED, KILLED],
+        exits: 0,
+        clusters: 3,
+        most: 60,
     },
 ];
 
@@ -287,7 +327,7 @@ fn losses_at_random_on_threads(rt: HostRuntime) -> Result<(), Fail> {
     let mut seed: u32 = 1;
     for round in 0..200 {
         seed = seed.wrapping_mul(1103515245).wrapping_add(12345);
-        let case = &CASES[round % 12];
+        let case = &CASES[round % 16];
         let k = (seed >> 16) % case.clusters.max(1);
         let n = (seed >> 8) % case.most.max(1);
         let line = match (seed >> 6) & 3 {

@@ -4,11 +4,17 @@ use std::sync::Wait;
 use std::test::Fail;
 use std::thread::Threads;
 use test_systems::{
-    BAD, CHANNEL, CHANNEL_SCHEDULE, COMMENTED, FORKER, HI, LINKED, MISSING, NO_STEPS, PAIR, SPIN,
-    TOO_MANY_STEPS, WAIT, WHOLE,
+    BAD, CHANNEL, CHANNEL_SCHEDULE, COMMENTED, EARLY, FORKER, HI, LINKED, MISSING, NO_STEPS, PAIR,
+    SIGNALLED, SIGNALLER, SPIN, TOO_MANY_STEPS, WAIT, WHOLE,
 };
 
-static DEFAULT_RUNS: [(&str, &str); 5] = [
+static DEFAULT_RUNS: [(&str, &str); 8] = [
+    (SIGNALLER, STRUCK),
+    (EARLY, "tty 0 0\n\npid 16 exit 0\npid 32 exit 0\n"),
+    (
+        SIGNALLED,
+        "tty 0 2\nab\ntty 1 2\nk\n\npid 16 killed 7\npid 17 exit 0\n",
+    ),
     (HI, "tty 0 3\nhi\n\npid 16 exit 0\n"),
     (COMMENTED, "tty 0 3\nhi\n\npid 16 exit 0\n"),
     (BAD, "tty 0 0\n\npid 16 trap 2\n"),
@@ -125,6 +131,51 @@ static FORKS: [(&str, u8, &str); 10] = [
 fn a_schedule_says_where_a_process_forks(rt: HostRuntime) -> Result<(), Fail> {
     for (schedule, status, written) in FORKS {
         assert_scheduled(&rt, FORKER, schedule, status, written)?;
+    }
+    Ok(())
+}
+
+const STRUCK: &str = "tty 0 2\ns\n\npid 16 exit 0\n";
+
+// A take is an item of its own, and no run waits for it. It is refused where no signal has come yet, where the handler runs, and where
+// the process is not there.
+static TAKES: [(&str, u8, &str); 6] = [
+    (
+        "schedule 4\nrun 16 9\ntake 16\nrun 16 6\nrun 16 6\n",
+        0,
+        STRUCK,
+    ),
+    (
+        "schedule 1\nrun 16 9\n",
+        0,
+        "tty 0 0\n\npid 16 running\n",
+    ),
+    (
+        "schedule 2\nrun 16 9\nrun 16 4\n",
+        0,
+        "tty 0 0\n\npid 16 exit 0\n",
+    ),
+    (
+        "schedule 2\nrun 16 8\ntake 16\n",
+        3,
+        "t32: schedule item 1\n",
+    ),
+    (
+        "schedule 3\nrun 16 9\ntake 16\ntake 16\n",
+        3,
+        "t32: schedule item 2\n",
+    ),
+    (
+        "schedule 2\nrun 16 9\ntake 17\n",
+        3,
+        "t32: schedule item 1\n",
+    ),
+];
+
+#[test]
+fn a_schedule_says_where_a_signal_is_taken(rt: HostRuntime) -> Result<(), Fail> {
+    for (schedule, status, written) in TAKES {
+        assert_scheduled(&rt, SIGNALLER, schedule, status, written)?;
     }
     Ok(())
 }

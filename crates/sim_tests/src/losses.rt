@@ -2,7 +2,7 @@
 //! are those of the run without a loss.
 use program_calls::assert_answer;
 use std::test::Fail;
-use test_systems::{CHANNEL, CUT, FORKER, HI, TWO};
+use test_systems::{CHANNEL, CUT, EARLY, FORKER, HI, SIGNALLER, TWO};
 
 // What stands before the lines of the losses and of the bus, and what stands behind them.
 type Around = (&'static str, &'static str);
@@ -65,7 +65,46 @@ const FORKER_NONE: &str = "crash none\nbus 9 syncs 1 withheld 0\n";
 
 const FORKER_AT_2: &str = "crash 0 at 2\nbus 12 syncs 1 withheld 2\n";
 
-static LOSSES: [(&[u8], &str, Around, &str); 35] = [
+const SIGNALLER_AROUND: Around = (
+    "tty 0 2\ns\n\npid 16 exit 0\n",
+    "schedule 4\nrun 16 9\ntake 16\nrun 16 6\nrun 16 6\n",
+);
+
+const SIGNALLER_NONE: &str = "crash none\nbus 5 syncs 1 withheld 0\n";
+
+const SIGNALLER_AT_1: &str = "crash 0 at 1\nbus 8 syncs 1 withheld 1\n";
+
+const SIGNALLER_AT_2: &str = "crash 0 at 2\nbus 8 syncs 1 withheld 0\n";
+
+const EARLY_AROUND: Around = (
+    "tty 0 0\n\npid 16 exit 0\npid 32 exit 0\n",
+    "schedule 7\nrun 16 4\nrun 16 1\nfork 16 32\nrun 32 4\nrun 16 4\nrun 32 1\nrun 16 1\n",
+);
+
+const EARLY_NONE: &str = "crash none\nbus 7 syncs 0 withheld 0\n";
+
+static LOSSES: [(&[u8], &str, Around, &str); 41] = [
+    (b"sim", SIGNALLER, SIGNALLER_AROUND, SIGNALLER_NONE),
+    (b"run", SIGNALLER, SIGNALLER_AROUND, SIGNALLER_NONE),
+    (
+        b"sim crash:0@bus:1",
+        SIGNALLER,
+        SIGNALLER_AROUND,
+        SIGNALLER_AT_1,
+    ),
+    (
+        b"sim crash:0@bus:2",
+        SIGNALLER,
+        SIGNALLER_AROUND,
+        SIGNALLER_AT_2,
+    ),
+    (
+        b"run crash:0@bus:1",
+        SIGNALLER,
+        SIGNALLER_AROUND,
+        SIGNALLER_AT_1,
+    ),
+    (b"sim", EARLY, EARLY_AROUND, EARLY_NONE),
     (b"sim", TWO, TWO_AROUND, TWO_NONE),
     (b"sim crash:0@bus:0", TWO, TWO_AROUND, TWO_AT_0),
     (b"sim crash:0@bus:1", TWO, TWO_AROUND, TWO_AT_1),

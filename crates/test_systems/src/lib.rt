@@ -91,6 +91,20 @@ pub const TREE: &str =
 pub const SERVER: &str =
     "clusters 3\npager 0 1\nsyncreads 32\nsyncsteps 4096\nasm server 1\nli s0, 1\naccept:\nli a7, 3\nmv a0, s0\nla a1, word\nli a2, 16\necall\nmv s1, a0\nli a7, 5\necall\nbeq a0, zero, child\nla t0, ends\nadd t0, t0, s0\nsb a1, 0(t0)\naddi s0, s0, 1\nli t1, 3\nblt s0, t1, accept\nli s0, 1\nanswer:\nla t0, ends\nadd t0, t0, s0\nlb a0, 0(t0)\nli a7, 3\nla a1, word\nli a2, 16\necall\nmv a2, a0\nli a7, 2\nmv a0, s0\nla a1, word\necall\naddi s0, s0, 1\nli t1, 3\nblt s0, t1, answer\nli a7, 1\nli a0, 0\necall\nchild:\nla t0, word\naddi t1, s1, -1\ncapital:\nlb t2, 0(t0)\naddi t2, t2, -32\nsb t2, 0(t0)\naddi t0, t0, 1\naddi t1, t1, -1\nbne t1, zero, capital\nli a7, 2\nli a0, 1\nla a1, word\nmv a2, s1\necall\nli a7, 1\nli a0, 0\necall\nends: .word 0\nword: .ascii \"                \"\nend\nasm hello 1\nli a7, 2\nli a0, 1\nla a1, word\nli a2, 6\necall\nli a7, 3\nli a0, 1\nla a1, word\nli a2, 16\necall\nmv a2, a0\nli a7, 2\nli a0, 0\nla a1, word\necall\nli a7, 1\nli a0, 0\necall\nword: .ascii \"hello\\n          \"\nend\nasm again 1\nli a7, 2\nli a0, 1\nla a1, word\nli a2, 6\necall\nli a7, 3\nli a0, 1\nla a1, word\nli a2, 16\necall\nmv a2, a0\nli a7, 2\nli a0, 0\nla a1, word\necall\nli a7, 1\nli a0, 0\necall\nword: .ascii \"again\\n          \"\nend\nroot 0 1 quarter server 1000 3 0\nroot 1 2 quarter hello 1000 0 1\nroot 2 0 quarter again 1000 0 2\nchan 1 2\nchan 1 3\n";
 
+/// Sets a handler, signals itself and exits; the handler writes two bytes to the terminal.
+pub const SIGNALLER: &str =
+    "clusters 2\npager 0 1\nsyncreads 32\nsyncsteps 4096\nasm sig 1\nla a0, h\nli a7, 7\necall\nli a7, 6\necall\nli a1, 10\nli a7, 8\necall\nli a7, 1\nli a0, 0\necall\nh:\nli a7, 2\nli a0, 0\nla a1, m\nli a2, 2\necall\nli a7, 9\necall\nm: .ascii \"s\\n\"\nend\nroot 0 1 quarter sig 1000 0 0\n";
+
+/// Signals its child before that is born, and forks it; both exit.
+pub const EARLY: &str =
+    "clusters 2\npager 0 1\nsyncreads 32\nsyncsteps 4096\nasm early 1\nli a0, 32\nli a1, 9\nli a7, 8\necall\nli a7, 5\necall\nli a7, 1\nli a0, 0\necall\nend\nroot 0 1 quarter early 1000 1 0\n";
+
+/// Two roots. The second hears the first three times, and each time signals it before it answers. The first writes a letter by its
+/// first handler, which asks again and puts another in its place; the next one writes another letter and removes itself; so the third
+/// signal kills. A fourth goes to the ended.
+pub const SIGNALLED: &str =
+    "clusters 3\npager 0 1\nsyncreads 32\nsyncsteps 4096\nasm target 1\nla a0, first\nli a7, 7\necall\nask:\nli a7, 2\nli a0, 1\nla a1, word\nli a2, 1\necall\nli a7, 3\nli a0, 1\nla a1, word\nli a2, 1\necall\nj ask\nfirst:\nli a7, 2\nli a0, 0\nla a1, a\nli a2, 1\necall\nli a0, 1\necall\nli a7, 3\nli a0, 1\nla a1, word\nli a2, 1\necall\nla a0, second\nli a7, 7\necall\nli a7, 9\necall\nsecond:\nli a7, 2\nli a0, 0\nla a1, b\nli a2, 1\necall\nli a0, 0\nli a7, 7\necall\nli a7, 9\necall\na: .ascii \"a\"\nb: .ascii \"b\"\nword: .ascii \"?\"\nend\nasm sender 1\nli s0, 5\nhear:\nli a7, 3\nli a0, 1\nla a1, word\nli a2, 1\necall\nbeq a0, zero, over\nli a7, 8\nli a0, 16\nmv a1, s0\necall\nli a7, 2\nli a0, 1\nla a1, word\nli a2, 1\necall\naddi s0, s0, 1\nj hear\nover:\nli a7, 8\nli a0, 16\nli a1, 9\necall\nli a7, 2\nli a0, 0\nla a1, k\nli a2, 2\necall\nli a7, 1\nli a0, 0\necall\nword: .ascii \"?\"\nk: .ascii \"k\\n\"\nend\nroot 0 1 quarter target 1000 0 0\nroot 1 2 quarter sender 1000 0 1\nchan 1 2\n";
+
 /// The first system up to its sixth line.
 pub const CUT: &str =
     "clusters 2\npager 0 1\nsyncreads 32\nsyncsteps 4096\nimage hi 1\nwords 00200893 00000513 000105b7 02458593 00300613 00000073 00100893 00000513\n";
