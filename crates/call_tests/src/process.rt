@@ -212,7 +212,7 @@ fn sent_by(letter: &Letter) -> Made {
     match &letter.body {
         Body::Said(bytes) => Made::Said(letter.to, bytes.len()),
         Body::EndOf => Made::Shut(letter.out, letter.to),
-        Body::Signal(signal) => Made::Signal(signal, letter.to),
+        Body::Signal(signal) => Made::Signal(*signal, letter.to),
     }
 }
 
