@@ -34,7 +34,7 @@ mod OwningWaits
 mod Unmoved
 mod AfterSent
 mod Beside
-mod BatchPosts
+pub mod BatchPosts
 mod Batching
 mod Stayed
 mod BirthStayed

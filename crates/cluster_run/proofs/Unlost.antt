@@ -1,5 +1,5 @@
 -- The kinds of entries that stand in a log without a loss: what holds of each of them holds of every such entry. A cluster sends only such.
-use Rattle.std.proofs.Common.{◌≡◌, ℕ, refl, sym, List, true, false, Some, None, true≢false}
+use Rattle.std.proofs.Common.{◌≡◌, ℕ, refl, sym, List, Option, true, false, true≢false}
 use Rattle.t32_base.specs.declared.process.Pid.{Pid}
 use Rattle.t32_base.specs.declared.process.End.{End}
 use Rattle.t32_base.specs.declared.process.ClusterNo.{ClusterNo}
