@@ -53,12 +53,12 @@ not_bus k (Cluster j) own bus = true≢false (sym bus)
 pub closes_not : (k : ClusterNo) (places : Places) (by : By) (w : What) → is_unlost w ≡ true → is_from k by ≡ true → is_by_right places by w ≡ true → closes w ≡ false
 closes_not k places by =
     by_unlost (λ w. is_from k by ≡ true → is_by_right places by w ≡ true → closes w ≡ false)
-    (λ at letter own right. refl) (λ parent at child end own right. refl) (λ pid at end own right. refl) (λ pid index own right. refl) (λ pid index bytes own right. refl) (λ pid at index bytes own right. refl) (λ pid small read own right. refl)
+    (λ at letter own right. refl) (λ parent at child end own right. refl) (λ pid at end own right. refl) (λ pid index own right. refl) (λ pid index bytes own right. refl) (λ pid at index bytes own right. refl) (λ pid small read took own right. refl)
     (λ rests own right. absurd (not_bus k by own right)) (λ own right. absurd (not_bus k by own right))
 
 -- what does not close a log is of a kind that clusters send
 pub from_cluster : (w : What) → is_unlost w ≡ true → closes w ≡ false → is_from_cluster w ≡ true
 from_cluster =
     by_unlost (λ w. closes w ≡ false → is_from_cluster w ≡ true)
-    (λ at letter still. refl) (λ parent at child end still. refl) (λ pid at end still. refl) (λ pid index still. refl) (λ pid index bytes still. refl) (λ pid at index bytes still. refl) (λ pid small read still. refl)
+    (λ at letter still. refl) (λ parent at child end still. refl) (λ pid at end still. refl) (λ pid index still. refl) (λ pid index bytes still. refl) (λ pid at index bytes still. refl) (λ pid small read took still. refl)
     (λ rests still. absurd (true≢false still)) (λ still. absurd (true≢false still))

@@ -48,7 +48,7 @@ use Rattle.cluster_core.specs.View.{ClusterView, Held, Runs, Rolls, Waits, after
 use Rattle.cluster_core.specs.Holds.{IsHeldAs}
 use Rattle.cluster_core.specs.Calls.{FollowsSome}
 use Rattle.cluster_core.specs.Follows.{FollowsBuilt, IsOpen}
-use Rattle.cluster_core.specs.Queue.{IsQueueLegal, is_move_of, state_by, AreTogether, IsQueued, Queued, is_lone, move_of, posts_of}
+use Rattle.cluster_core.specs.Queue.{Nothing, One, IsQueueLegal, is_move_of, state_by, AreTogether, IsQueued, Queued, is_lone, move_of, posts_of}
 use Rattle.cluster_core.proofs.Here.{same_itself, pid_same}
 use Rattle.cluster_core.specs.Residents.{pids_in}
 use Rattle.cluster_core.proofs.Lightening.{held_apart}
