@@ -2,12 +2,9 @@
 use Rattle.std.proofs.Common.{◌≡◌, ◌⊎◌, ℕ, ◌+◌, refl, sym, ◌∙◌, ap, subst, List, [], ◌∷◌, ◌++◌, true, false, Bool, eqb-true, Option, Some, None, is_some, inl, inr, true≢false}
 use Rattle.std.specs.Prelude.{filter, option_map}
 use Rattle.t32_base.specs.declared.process.Pid.{Pid}
-use Rattle.sys_text.specs.declared.system.System.{System}
 use Rattle.proc_state.specs.declared.process.Process.{Process}
 use Rattle.sys_text.specs.Valid.{is_system}
 use Rattle.channel_table.specs.Changes.{CanBeAbsorbed}
-use Rattle.sys_calls.specs.declared.steps.Emission.{Emission}
-use Rattle.sys_calls.specs.declared.steps.Emission.TheVariants.{Mail as Sent, Exit as Ended}
 use Rattle.bus_msg.specs.declared.entry.What.{What}
 use Rattle.bus_msg.specs.declared.entry.Post.{Post}
 use Rattle.bus_msg.specs.declared.entry.Entry.{Entry}
@@ -23,7 +20,6 @@ use Rattle.bus_msg.specs.declared.placed.Placed.{Placed}
 use Rattle.cert_sched.specs.Schedule.{placement}
 use Rattle.cert_sched.proofs.LogLaws.{IsLegal-last}
 use Rattle.cert_sched.proofs.NextChildren.{may_be_absorbed}
-use Rattle.cert_sched.proofs.StepLaws.{Tells}
 use Rattle.backup_records.specs.Records.{are_rising, record_in, records_after}
 use Rattle.family_laws.specs.Unsynced.{unsynced_births}
 use Rattle.cluster_core.specs.Families.{CanJoin}
@@ -46,7 +42,7 @@ use Rattle.cluster_core.proofs.Births.{birth_taken, follows_birth, parent_not_he
 use Rattle.cluster_core.specs.Serving.{Serves}
 use Rattle.page_server.specs.Account.{PagerState}
 use Rattle.cluster_core.proofs.Owning.{own_after, own_later, own_page}
-use Rattle.cluster_core.proofs.Following.{Left, Next, apart, follows_foreign, follows_own, found_stays, left_of, next_of, told_taken}
+use Rattle.cluster_core.proofs.Following.{Left, apart, follows_foreign, follows_own, found_stays, left_of, next_of, told_taken}
 use Rattle.cluster_core.proofs.Beside.{FollowsBeside, all_of, beside_of, built_of}
 use Rattle.cluster_core.proofs.AfterSent.{sent_is}
 use Rattle.cluster_core.specs.Bearing.{BearsChild}

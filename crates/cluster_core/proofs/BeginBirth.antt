@@ -1,6 +1,6 @@
 -- A process here comes to its fork: with the birth of its child queued a cluster goes on to follow each log that it followed.
-use Rattle.std.proofs.Common.{◌≡◌, ℕ, zero, suc, ◌+◌, ◌-◌, ◌≤◌, refl, sym, ◌∙◌, ap, subst, arith, List, [], ◌∷◌, Bool, true, false, cond, add-zero, Option, Some, None, is_some, true≢false}
-use Rattle.std.specs.Prelude.{find, option_and_then, option_map}
+use Rattle.std.proofs.Common.{◌≡◌, ℕ, zero, suc, ◌+◌, ◌-◌, ◌≤◌, refl, ◌∙◌, ap, subst, arith, List, [], ◌∷◌, true, cond, add-zero, Option, Some, None, is_some}
+use Rattle.std.specs.Prelude.{option_and_then, option_map}
 use Rattle.t32_base.specs.declared.process.Pid.{Pid}
 use Rattle.sys_text.specs.declared.system.System.{System}
 use Rattle.sys_text.specs.Valid.{is_system}
@@ -8,7 +8,7 @@ use Rattle.proc_state.specs.State.{ProcState, state_of, can_take}
 use Rattle.sys_calls.specs.Next.{next_step, silent_of, silently}
 use Rattle.sys_calls.proofs.Counting.{silently_counts}
 use Rattle.bus_msg.specs.declared.entry.Entry.{Entry}
-use Rattle.bus_msg.specs.Places.{same_pid, unended_at}
+use Rattle.bus_msg.specs.Places.{unended_at}
 use Rattle.cert_sched.specs.Parts.{rising}
 use Rattle.cert_sched.specs.Kinds.{next_child_at}
 use Rattle.cert_sched.specs.Schedule.{placement, done_after}
@@ -17,14 +17,14 @@ use Rattle.cert_sched.specs.Built.{BuiltMayFollow}
 use Rattle.cert_sched.specs.Losses.{capped, least_calls, least_steps}
 use Rattle.record_laws.proofs.Standing.{built_stands}
 use Rattle.cluster_core.specs.declared.quantum.Forking.{Forking}
-use Rattle.cluster_core.specs.View.{ClusterView, Held, Runs, disk_calls, held_at, held_of, limits_of, next_count}
+use Rattle.cluster_core.specs.View.{ClusterView, Held, Runs, disk_calls, held_at, limits_of, next_count}
 use Rattle.cluster_core.specs.Residents.{with_changed}
 use Rattle.cluster_core.specs.Queue.{Nothing, with_queue}
 use Rattle.cluster_core.specs.Holds.{CarriesMarks, IsHeldAs, MarkedIfThere, process_in, unended_process}
 use Rattle.cluster_core.specs.Bearing.{BearsChild, birth_post}
 use Rattle.cluster_core.specs.Follows.{FollowsBuilt, IsOpen}
 use Rattle.cluster_core.specs.Quantum.{ComesToFork}
-use Rattle.cluster_core.proofs.Here.{changed_there, pids_changed, same_itself}
+use Rattle.cluster_core.proofs.Here.{changed_there, pids_changed}
 use Rattle.cluster_core.proofs.Batching.{unqueued}
 use Rattle.cluster_core.proofs.ForksAgain.{forks_changed, run_forks}
 use Rattle.cluster_core.proofs.Beside.{FollowsBeside, all_of, any_of}

@@ -36,9 +36,8 @@ use Rattle.cert_sched.proofs.FreshLaws.{BornRightly, born_rightly, kept_elsewher
 use Rattle.cert_sched.proofs.LogLaws.{IsLegal-last, placement-snoc}
 use Rattle.cert_sched.proofs.PidLaws.{apart_of}
 use Rattle.cert_sched.proofs.RisingLaws.{rising-any}
-use Rattle.quanta.specs.Limited.{is_due}
 use Rattle.cluster_core.specs.Bearing.{BearsChild, birth_post}
-use Rattle.cluster_core.specs.View.{ClusterView, Held, Runs, held_at, held_of, limits_of}
+use Rattle.cluster_core.specs.View.{ClusterView, Held, Runs, held_at, held_of}
 use Rattle.cluster_core.specs.Residents.{pids_in}
 use Rattle.cluster_core.specs.Follows.{IsOpen}
 use Rattle.cluster_core.proofs.Following.{by_home_of, by_one}

@@ -16,7 +16,6 @@ use Rattle.proc_state.specs.State.{IsFresh, ProcState, state_of, has_ended}
 use Rattle.plain_kernel.specs.Kernel.{Kernel, boot, pid_cmp, process_at}
 use Rattle.plain_kernel.specs.Maps.{booted_ttys, linked_processes}
 use Rattle.plain_kernel.proofs.Entries.{found_fresh, lookup_state}
-use Rattle.plain_kernel.proofs.AtBoot.{boot-each}
 use Rattle.plain_kernel.proofs.Roots.{booted}
 use Rattle.bus_msg.specs.declared.placed.Placed.{Placed}
 use Rattle.bus_msg.specs.Places.{same_pid, is_at_home}

@@ -1,5 +1,5 @@
 -- Which child is to synchronise before a process that is here, and who waits for it.
-use Rattle.std.proofs.Common.{◌≡◌, arith, cond, Bool, ◌||◌, refl, sym, ◌∙◌, ap, List, [], length, Option, Some, None, is_none, is_some, true, false, true≢false, subst}
+use Rattle.std.proofs.Common.{◌≡◌, arith, cond, Bool, ◌||◌, refl, sym, ◌∙◌, ap, List, [], length, Option, Some, None, is_none, is_some, true, false, true≢false}
 use Rattle.std.specs.Prelude.{option_and_then, not, replicate, Result, Ok, Err, IfOk, OnErr}
 use Rattle.std.specs.Option.{option_map_or}
 use Rattle.std.proofs.lemmas.Bool.{or_left, or_right}

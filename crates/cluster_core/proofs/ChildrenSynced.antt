@@ -25,7 +25,7 @@ use Rattle.family_laws.proofs.UnsyncedChild.{first_lives_there, stateless}
 use Rattle.record_laws.proofs.Standing.{built_stands}
 use Rattle.sync_point.specs.Batch.{took_by}
 use Rattle.sync_point.specs.Due.{is_due_by}
-use Rattle.cluster_core.specs.View.{ClusterView, Held, held_at, held_of, limits_of}
+use Rattle.cluster_core.specs.View.{ClusterView, Held, held_at, held_of}
 use Rattle.cluster_core.specs.Residents.{pids_in}
 use Rattle.cluster_core.specs.Follows.{FollowsBuilt, IsOpen}
 use Rattle.cluster_core.proofs.BeginSync.{MayCut}

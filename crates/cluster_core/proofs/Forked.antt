@@ -1,6 +1,6 @@
 -- A process forks where it is kept, and the others stay.
-use Rattle.std.proofs.Common.{◌≡◌, ℕ, refl, sym, ◌∙◌, ap, subst, List, [], ◌∷◌, true, false, cond, eqb, ◌||◌, find, Option, Some, None, is_some, true≢false}
-use Rattle.std.specs.Prelude.{option_map, Result, Ok, Err, OnErr, IfOk}
+use Rattle.std.proofs.Common.{◌≡◌, ℕ, refl, sym, ◌∙◌, ap, subst, List, [], ◌∷◌, true, false, eqb, ◌||◌, Option, Some, None, is_some, true≢false}
+use Rattle.std.specs.Prelude.{Result, Ok, Err, OnErr, IfOk}
 use Rattle.std.specs.List.{AllByRecursion, list_any}
 use Rattle.std.specs.Map.{lookup}
 use Rattle.std.specs.Option.{option_map_or}
@@ -13,7 +13,7 @@ use Rattle.plain_kernel.specs.Maps.{at_key, pid_of}
 use Rattle.quanta.specs.declared.limits.Limits.{Limits}
 use Rattle.cluster_core.specs.View.{Held, Runs, Rolls, Waits, held_of, page_lacked}
 use Rattle.cluster_core.specs.Residents.{pids_in, with_changed, with_more}
-use Rattle.cluster_core.specs.Slots.{IsKept, in_slot, stands_in}
+use Rattle.cluster_core.specs.Slots.{IsKept, stands_in}
 use Rattle.cluster_core.specs.Bearing.{ForksAt, ForksFrom, HasForked, forked, newborn, with_born, with_fork}
 use Rattle.cluster_core.proofs.Here.{pids_changed}
 use Rattle.cluster_core.proofs.Kept.{written_back}

@@ -36,7 +36,7 @@ use Rattle.cluster_core.specs.View.{Held, Runs, Rolls, Waits, going_on, held_of,
 use Rattle.cluster_core.specs.Calls.{here_after}
 use Rattle.cluster_core.specs.Families.{family_after}
 use Rattle.cluster_core.specs.ForksAgain.{ForksLeft, has_to_bear}
-use Rattle.cluster_core.specs.Holds.{IsHeldAs, is_fetch_queued}
+use Rattle.cluster_core.specs.Holds.{is_fetch_queued}
 use Rattle.cluster_core.proofs.ByKind.{by_page, is_of_page}
 use Rattle.cluster_core.proofs.ForksAgain.{bears_by}
 use Rattle.cluster_core.proofs.Here.{pid_same}

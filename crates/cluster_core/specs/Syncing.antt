@@ -1,5 +1,5 @@
 -- A process here that synchronises: the rest of its batch is queued.
-use Rattle.std.specs.Prelude.{ℕ, ◌≡◌, true, false, List, [], Option, Some, replicate}
+use Rattle.std.specs.Prelude.{ℕ, ◌≡◌, false, List, [], Option, Some, replicate}
 use Rattle.t32_base.specs.declared.process.Pid.{Pid}
 use Rattle.sys_text.specs.declared.system.System.{System}
 use Rattle.proc_state.specs.declared.process.Process.{Process}

@@ -145,11 +145,7 @@ static TAKES: [(&str, u8, &str); 6] = [
         0,
         STRUCK,
     ),
-    (
-        "schedule 1\nrun 16 9\n",
-        0,
-        "tty 0 0\n\npid 16 running\n",
-    ),
+    ("schedule 1\nrun 16 9\n", 0, "tty 0 0\n\npid 16 running\n"),
     (
         "schedule 2\nrun 16 9\nrun 16 4\n",
         0,

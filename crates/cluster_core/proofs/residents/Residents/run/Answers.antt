@@ -1,4 +1,4 @@
-use Rattle.std.proofs.Common.{◌≡◌, ◌∙◌, ap, sym, subst, true, arith}
+use Rattle.std.proofs.Common.{◌≡◌, sym, subst, true, arith}
 use Rattle.plain_kernel.specs.Maps.{pid_of}
 use Rattle.quanta.specs.declared.limits.Limits.{Limits}
 use Rattle.cluster_core.specs.ChildrenFirst.{comes_after_at}
