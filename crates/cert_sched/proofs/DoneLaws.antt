@@ -8,7 +8,7 @@ use Rattle.t32_base.specs.declared.process.Pid.{Pid}
 use Rattle.sys_text.specs.declared.system.System.{System}
 use Rattle.sys_text.specs.Valid.{is_system}
 use Rattle.proc_state.specs.State.{ProcState, can_take, has_ended, is_live}
-use Rattle.sys_calls.specs.Next.{next_step, has_step}
+use Rattle.sys_calls.specs.Next.{has_step}
 use Rattle.sys_calls.proofs.Counting.{ended_is_over}
 use Rattle.plain_kernel.specs.Kernel.{Kernel, process_at}
 use Rattle.plain_kernel.specs.Still.{is_still}

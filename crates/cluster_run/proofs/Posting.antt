@@ -1,5 +1,5 @@
 -- A cluster goes on posting, by what became of its head.
-use Rattle.std.proofs.Common.{◌≡◌, ℕ, ◌+◌, ◌-◌, ◌≤◌, ◌<◌, cond, Some, None, sym, ◌∙◌, ap, subst, arith, List, [], ◌∷◌, length, take, drop, length-append, refl, ◌++◌, false, inl, inr, is_some, true}
+use Rattle.std.proofs.Common.{◌≡◌, ℕ, ◌+◌, ◌≤◌, ◌<◌, cond, Some, None, sym, ◌∙◌, ap, subst, arith, List, [], ◌∷◌, length, take, drop, length-append, refl, ◌++◌, false, inl, inr, is_some, true}
 use Rattle.std.specs.List.{list_all, list_any}
 use Rattle.t32_base.specs.declared.process.ClusterNo.{ClusterNo}
 use Rattle.sys_text.specs.declared.system.System.{System}

@@ -1,5 +1,5 @@
 -- The letters that a synchronisation tells of were read from the fronts of the ends of its process.
-use Rattle.std.proofs.Common.{◌≡◌, ℕ, refl, sym, ◌∙◌, List, true, Option, Some, None, is_some, true≢false, ap, false}
+use Rattle.std.proofs.Common.{◌≡◌, ℕ, refl, sym, ◌∙◌, List, true, Option, Some, None, is_some, true≢false, false}
 use Rattle.std.specs.Prelude.{option_map}
 use Rattle.t32_base.specs.declared.process.Pid.{Pid}
 use Rattle.t32_base.specs.Small.{SmallState}

@@ -1,6 +1,5 @@
 -- What steps of a process that rolls forward keep: its pid and the number of the next letter; and each leaves it fewer steps.
 use Rattle.std.proofs.Common.{◌≡◌, ℕ, zero, suc, ◌+◌, ◌≤◌, add-zero, refl, sym, ◌∙◌, ap, subst, arith, Option, Some, None, option_and_then}
-use Rattle.t32_base.specs.declared.process.Pid.{Pid}
 use Rattle.proc_state.specs.State.{ProcState}
 use Rattle.sys_calls.specs.declared.steps.Emission.{Emission}
 use Rattle.sys_calls.specs.declared.steps.Emission.TheVariants.{Mail as Sent, Exit as Ended}

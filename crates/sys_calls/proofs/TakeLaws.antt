@@ -1,5 +1,5 @@
 -- What the take of a signal leaves of a process, and what it changes.
-use Rattle.std.proofs.Common.{◌≡◌, ℕ, ◌≤◌, refl, sym, ◌∙◌, ap, arith, Bool, true, false, ◌&&◌, true≢false, eqb, Option, None, Some, is_some, option_and_then}
+use Rattle.std.proofs.Common.{◌≡◌, ℕ, ◌≤◌, refl, sym, ap, arith, Bool, true, false, ◌&&◌, true≢false, eqb, Option, None, Some, is_some, option_and_then}
 use Rattle.std.specs.Prelude.{unwrap_or}
 use Rattle.t32_base.specs.declared.process.Status.{Status}
 use Rattle.t32_base.specs.declared.process.Status.TheVariants.{Live, Closing, Ended}
