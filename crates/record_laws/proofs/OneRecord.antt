@@ -20,7 +20,7 @@ use Rattle.sys_calls.specs.declared.steps.Emission.TheVariants.{Mail as Sent, Ex
 use Rattle.sys_calls.specs.Next.{silently}
 use Rattle.sys_calls.proofs.Counting.{last_sent}
 use Rattle.sys_calls.proofs.Leaving.{silent_ends, letter_leaves}
-use Rattle.plain_kernel.specs.Kernel.{Kernel, process_at}
+use Rattle.plain_kernel.specs.Kernel.{process_at}
 use Rattle.plain_kernel.proofs.Laws.{last_silent, no_silent}
 use Rattle.bus_msg.specs.declared.entry.What.{What}
 use Rattle.bus_msg.specs.declared.entry.What.TheVariants.{Mail, Birth, Exit, Page, Sync, Fetch, PageIs, Crash, Return, Rebackup, Done, Stop}

@@ -1,6 +1,6 @@
 -- Worked logs: the wait of a process with two pages, from the loss of its home to the first page that comes.
-use Rattle.std.proofs.Common.{◌≡◌, ℕ, zero, suc, ◌<◌, refl, sym, ◌∙◌, arith, List, [], ◌∷◌, ◌++◌, false, Some, None, true≢false}
-use Rattle.std.specs.Prelude.{nat_lt, replicate, ◌||◌}
+use Rattle.std.proofs.Common.{ℕ, zero, suc, ◌<◌, refl, sym, arith, List, [], ◌∷◌, Some, None, true≢false}
+use Rattle.std.specs.Prelude.{replicate}
 use Rattle.t32_base.specs.declared.process.Pid.{Pid}
 use Rattle.t32_base.specs.declared.process.Mode.TheVariants.{Quarter}
 use Rattle.t32_base.specs.declared.letter.BackRec.{BackRec}
