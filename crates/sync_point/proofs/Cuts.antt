@@ -1,15 +1,13 @@
 -- The signal that a process takes when it synchronises: what the take leaves, and that none can be taken after it.
-use Rattle.std.proofs.Common.{◌≡◌, ℕ, refl, ap, Bool, true, false, ◌&&◌, cond, eqb, [], length, replicate, None, is_none, is_some}
+use Rattle.std.proofs.Common.{◌≡◌, ℕ, refl, ap, Bool, true, false, ◌&&◌, cond, eqb, None, is_none, is_some}
 use Rattle.std.specs.Prelude.{unwrap_or}
-use Rattle.t32_base.specs.declared.process.ClusterNo.{ClusterNo}
 use Rattle.t32_base.specs.Small.{SmallState}
 use Rattle.proc_state.specs.declared.process.Process.{Process}
 use Rattle.proc_state.specs.Mail.{first_signal}
 use Rattle.proc_state.specs.State.{can_take, is_live, state_of}
-use Rattle.sys_calls.specs.Take.{struck, taken}
+use Rattle.sys_calls.specs.Take.{struck}
 use Rattle.sys_calls.proofs.TakeLaws.{taken_strikes}
-use Rattle.bus_msg.specs.declared.entry.What.TheVariants.{Sync}
-use Rattle.sync_point.specs.Batch.{after_take, cut_of, sync_post, synced, took_by}
+use Rattle.sync_point.specs.Batch.{after_take, cut_of, synced, took_by}
 
 -- ---- without a take
 
@@ -18,25 +16,6 @@ cut_untaken p none = ap (λ b. cond b (after_take p) p) none
 
 pub took_none : (p : Process) → can_take (state_of p) ≡ false → took_by p ≡ None
 took_none p none = ap (λ b. cond b (first_signal (p.mail).letters) None) none
-
--- its last post has the state as it is
-pub sync_untaken : (p : Process) (by : ClusterNo) → can_take (state_of p) ≡ false → (sync_post p by).what ≡ Sync (p.small).pid p.small p.read None
-sync_untaken p by none = ap (λ b. Sync (p.small).pid (cond b (after_take p) p).small (cond b (after_take p) p).read (cond b (first_signal (p.mail).letters) None)) none
-
-pub synced_untaken : (p : Process) → can_take (state_of p) ≡ false → synced p ≡ record p { ram = record (p.ram) { dirty = replicate (length (p.ram).dirty) false }; read = []; since = (p.small).steps }
-synced_untaken p none = ap (λ b. record (cond b (after_take p) p) { ram = record (p.ram) { dirty = replicate (length (p.ram).dirty) false }; read = []; since = (p.small).steps }) none
-
--- ---- with one
-
-pub cut_taken : (p : Process) → can_take (state_of p) ≡ true → cut_of p ≡ after_take p
-cut_taken p can = ap (λ b. cond b (after_take p) p) can
-
-pub took_first : (p : Process) → can_take (state_of p) ≡ true → took_by p ≡ first_signal (p.mail).letters
-took_first p can = ap (λ b. cond b (first_signal (p.mail).letters) None) can
-
--- it is the take of a signal
-pub cut_is_taken : (p : Process) → can_take (state_of p) ≡ true → state_of (cut_of p) ≡ taken (state_of p)
-cut_is_taken p can = ap state_of (cut_taken p can)
 
 -- ---- with one or without
 
