@@ -1,14 +1,16 @@
 -- An end that is linked leaves as many steps.
-use Rattle.std.proofs.Common.{◌≡◌, ℕ, ◌<◌, true, false, List, length, get_or, arith, refl, cond, position, unwrap_or, Option, Some, None}
+use Rattle.std.proofs.Common.{◌≡◌, ℕ, ◌<◌, true, false, List, length, get_or, arith, refl, cond, Option, Some, None}
 use Rattle.std.specs.List.{count_by}
 use Rattle.std.specs.Prelude.{slice_set}
+use Rattle.std.specs.Option.{option_map_or}
+use Rattle.std.proofs.Math.ListN.{length-set}
 use Rattle.std.proofs.lemmas.List.Sums.{sum_by-set}
 use Rattle.std.proofs.lemmas.List.Quantifiers.{position-Some}
 use Rattle.t32_base.specs.declared.process.Pid.{Pid}
 use Rattle.t32_base.specs.declared.process.EndState.{EndState}
 use Rattle.t32_base.specs.declared.process.EndState.TheVariants.{Never, Tty, Linked, Shut}
 use Rattle.t32_base.specs.Small.{is_unshut}
-use Rattle.proc_state.specs.Ends.{is_never, free_end}
+use Rattle.proc_state.specs.Ends.{ends_linked_to, free_end, is_never}
 
 never_is_unshut : (end : EndState) → is_never end ≡ true → is_unshut end ≡ true
 never_is_unshut Never is = is
@@ -22,16 +24,16 @@ as_many ends e end within was is =
     let plain = rw (was, is) at whole in
     omega (arith, plain)
 
--- the lowest end that was never linked is not shut
-free_place : (ends : List EndState) (o : Option ℕ) → position is_never ends ≡ o → unwrap_or o 32 < 32 → is_unshut (get_or ends (unwrap_or o 32) Shut) ≡ true
-free_place ends None is below = absurd (omega arith)
-free_place ends (Some e) is below = never_is_unshut (get_or ends e Shut) (position-Some is_never ends e Shut is).1
+-- the lowest end that was never linked is one of them, and not shut
+pub linked_as_many : (ends : List EndState) (e : ℕ) (peer : Pid) (far : ℕ) → free_end ends ≡ Some e → count_by is_unshut (slice_set ends e (Linked peer far false)) ≡ count_by is_unshut ends
+linked_as_many ends e peer far is =
+    let there = position-Some is_never ends e Shut is in
+    as_many ends e (Linked peer far false) there.0 (never_is_unshut (get_or ends e Shut) there.1) refl
 
-within : (ends : List EndState) (o : Option ℕ) → position is_never ends ≡ o → unwrap_or o 32 < 32 → unwrap_or o 32 < length ends
-within ends None is below = absurd (omega arith)
-within ends (Some e) is below = (position-Some is_never ends e Shut is).0
-
-pub linked_as_many : (ends : List EndState) (e : ℕ) (peer : Pid) (far : ℕ) → e ≡ free_end ends → free_end ends < 32
-    → count_by is_unshut (slice_set ends e (Linked peer far false)) ≡ count_by is_unshut ends
-linked_as_many ends e peer far is below =
-    rw is (as_many ends (free_end ends) (Linked peer far false) (within ends (position is_never ends) refl below) (free_place ends (position is_never ends) refl below) refl)
+-- as many ends as before
+pub length-linked : (ends : List EndState) (peer : Pid) (far : ℕ) → length (ends_linked_to ends peer far) ≡ length ends
+length-linked ends peer far = by_free (free_end ends)
+  where
+    by_free : (o : Option ℕ) → length (option_map_or (λ end. slice_set ends end (Linked peer far false)) o ends) ≡ length ends
+    by_free None = refl
+    by_free (Some e) = length-set ends e (Linked peer far false)

@@ -1,6 +1,7 @@
 -- The ends of a process.
-use Rattle.std.specs.Prelude.{ℕ, Bool, true, false, List, Option, Some, None, slice_get, slice_set, position, option_and_then, is_some, unwrap_or}
+use Rattle.std.specs.Prelude.{ℕ, Bool, true, false, List, Option, Some, None, slice_get, slice_set, position, option_and_then, is_some}
 use Rattle.std.specs.Option.{option_map_or}
+use Rattle.t32_base.specs.declared.process.Pid.{Pid}
 use Rattle.t32_base.specs.declared.process.EndState.{EndState}
 use Rattle.t32_base.specs.declared.process.EndState.TheVariants.{Never, Tty, Linked, Shut}
 use Rattle.t32_base.specs.declared.letter.To.{To}
@@ -60,6 +61,10 @@ finished_end Shut = Shut
 abbrev pub finished_at : List EndState → ℕ → List EndState
 finished_at ends i = option_map_or (λ end. slice_set ends i (finished_end end)) (slice_get ends i) ends
 
--- the lowest end that was never linked; 32 where there is none
-abbrev pub free_end : List EndState → ℕ
-free_end ends = unwrap_or (position is_never ends) 32
+-- the lowest end that was never linked, if there is one
+abbrev pub free_end : List EndState → Option ℕ
+free_end ends = position is_never ends
+
+-- that end is linked to an end of a peer, and no end letter was read; where there is none, nothing is linked
+abbrev pub ends_linked_to : List EndState → Pid → ℕ → List EndState
+ends_linked_to ends peer far = option_map_or (λ end. slice_set ends end (Linked peer far false)) (free_end ends) ends

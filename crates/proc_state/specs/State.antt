@@ -3,13 +3,13 @@ use Rattle.std.specs.Prelude.{ℕ, ◌≡◌, ◌+◌, ◌-◌, ◌*◌, Bool, t
 use Rattle.t32_base.specs.declared.process.Pid.{Pid}
 use Rattle.t32_base.specs.declared.process.Status.{Status}
 use Rattle.t32_base.specs.declared.process.Status.TheVariants.{Live, Closing, Ended}
-use Rattle.t32_base.specs.declared.process.EndState.TheVariants.{Never, Tty, Linked}
+use Rattle.t32_base.specs.declared.process.EndState.TheVariants.{Never, Tty}
 use Rattle.t32_base.specs.declared.letter.Arrived.{Arrived}
 use Rattle.t32_base.specs.declared.letter.Letter.{Letter}
 use Rattle.t32_base.specs.Registers.{Registers}
 use Rattle.t32_base.specs.Small.{SmallState}
 use Rattle.proc_state.specs.declared.process.Process.{Process}
-use Rattle.proc_state.specs.Ends.{free_end}
+use Rattle.proc_state.specs.Ends.{ends_linked_to}
 use Rattle.proc_state.specs.Mail.{first_signal}
 
 -- its state, the bytes of its memory, the letters that arrived and were not read in order of arrival, and how many have arrived
@@ -50,9 +50,9 @@ delivered p letter = record p { mail = p.mail ++ record { number = p.next; lette
 abbrev pub can_take : ProcState → Bool
 can_take p = is_live (p.small).status && is_none (p.small).frame && is_some (first_signal p.mail)
 
--- the lowest end that was never linked is linked to an end of a peer, and no end letter was read
+-- the lowest end that was never linked is linked to an end of a peer, and no end letter was read; where there is none, the process is as it was
 abbrev pub linked_to : ProcState → Pid → ℕ → ProcState
-linked_to p peer far = with_small p (record (p.small) { ends = slice_set (p.small).ends (free_end (p.small).ends) (Linked peer far false) })
+linked_to p peer far = with_small p (record (p.small) { ends = ends_linked_to (p.small).ends peer far })
 
 -- ---- a root at its start
 

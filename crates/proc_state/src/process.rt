@@ -1,5 +1,5 @@
 //! A process as a kernel runs it.
-ghost use Rattle.std.specs.Prelude.{◌≡◌, ◌*◌, ◌≤◌, ◌+◌, ◌-◌, ◌^◌, ◌<◌, length, slice_set, position, count_by, IfOk, OnOk, OnErr, [], replicate, false};
+ghost use Rattle.std.specs.Prelude.{◌≡◌, ◌*◌, ◌≤◌, ◌+◌, ◌-◌, ◌^◌, ◌<◌, length, slice_set, position, count_by, IfOk, OnOk, OnErr, [], replicate, false, Some};
 
 use crate::mailbox::Mailbox;
 use rv_mem::{BASE, Ram};
@@ -80,16 +80,16 @@ impl Process {
         self.mail.receive(letter)
     }
 
-    /// The lowest end that was never linked; 32 where there is none.
-    pub fn free_end(&self) -> u8
+    /// The lowest end that was never linked, if there is one.
+    pub fn free_end(&self) -> Option<u8>
         ensures { result ≡ free_end self.now.small.ends }
     {
         free_end(&self.small)
     }
 
     /// Links the lowest end that was never linked to the end `far` of a peer, and answers its number. Where
-    /// there is none, nothing is linked and 32 is the answer.
-    pub fn link(&mut self, peer: Pid, far: u8) -> u8
+    /// there is none, nothing is linked.
+    pub fn link(&mut self, peer: Pid, far: u8) -> Option<u8>
         ensures number { result ≡ free_end self.old.small.ends }
         ensures linked { state_of self.new ≡ linked_to (state_of self.old) peer far }
         ensures rest { SameRest self.old self.new }
@@ -140,23 +140,21 @@ pub fn first_small(pid: Pid, pages: u16, limit: u32, births: u8, tty: u8) -> Sma
 }
 
 ghost use Rattle.t32_base.specs.Small.{is_unshut, steps_left};
-ghost use Rattle.proc_state.specs.Ends.{free_end as free_end_in, is_never};
+ghost use Rattle.proc_state.specs.Ends.{ends_linked_to, free_end as free_end_in, is_never};
 
-/// The lowest end that was never linked; 32 where there is none. Takes no memory.
-pub fn free_end(small: &Small) -> u8
+/// The lowest end that was never linked, if there is one. Takes no memory.
+pub fn free_end(small: &Small) -> Option<u8>
     ensures { result ≡ free_end_in small.now.ends }
 {
     lowest_never(&small.ends)
 }
 
-// The lowest of these ends that was never linked; 32 where there is none.
-fn lowest_never(ends: &[EndState; 32]) -> u8
+// The lowest of these ends that was never linked, if there is one.
+fn lowest_never(ends: &[EndState; 32]) -> Option<u8>
     ensures { result ≡ free_end_in ends.now }
 {
-    match never_linked(ends) {
-        Some(number) => number as u8,
-        None => 32,
-    }
+    let number = never_linked(ends)?;
+    Some(number as u8)
 }
 
 // The first end that was never linked.
@@ -167,28 +165,26 @@ fn never_linked(ends: &[EndState; 32]) -> Option<usize>
 }
 
 /// Links the lowest end that was never linked to the end `far` of a peer, and answers its number; that leaves as many
-/// steps. Where there is none, nothing is linked and 32 is the answer. Takes no memory.
-pub fn link_lowest(small: &mut Small, peer: Pid, far: u8) -> u8
+/// steps. Where there is none, nothing is linked. Takes no memory.
+pub fn link_lowest(small: &mut Small, peer: Pid, far: u8) -> Option<u8>
     ensures number { result ≡ free_end_in small.old.ends }
-    ensures linked { small.new ≡ record small.old { ends = slice_set small.old.ends result (EndState.Linked peer far false) } }
+    ensures linked { small.new ≡ record small.old { ends = ends_linked_to small.old.ends peer far } }
     ensures load { steps_left small.new.left small.new.ends small.new.status ≡ steps_left small.old.left small.old.ends small.old.status }
 {
-    let number = free_end(small);
+    let number = free_end(small)?;
     link_at(&mut small.ends, number, peer, far);
-    number
+    Some(number)
 }
 
-// Links the end with a number, if there is one.
+// Links the lowest end that was never linked, which has this number.
 fn link_at(ends: &mut [EndState; 32], number: u8, peer: Pid, far: u8)
-    requires { number ≡ free_end_in ends.old }
-    ensures linked { ends.new ≡ slice_set ends.old number (EndState.Linked peer far false) }
+    requires { free_end_in ends.old ≡ Some number }
+    ensures linked { ends.new ≡ ends_linked_to ends.old peer far }
     ensures unshut { count_by is_unshut ends.new ≡ count_by is_unshut ends.old }
 {
-    if number < 32 {
-        ends[usize::from(number)] = EndState::Linked {
-            peer,
-            far,
-            finished: false,
-        };
-    }
+    ends[usize::from(number)] = EndState::Linked {
+        peer,
+        far,
+        finished: false,
+    };
 }
