@@ -1,5 +1,5 @@
 -- The letter that a silent step takes is the first in the mailbox that it wants. A step leaves as many marks as there were.
-use Rattle.std.proofs.Common.{◌≡◌, ℕ, refl, sym, ◌∙◌, ap, subst, List, length, Bool, true, false, cond, not, ltb, eqb, Option, Some, None}
+use Rattle.std.proofs.Common.{◌≡◌, ℕ, refl, sym, ◌∙◌, ap, subst, List, length, Bool, true, false, cond, not, ltb, eqb, Option, Some, None, is_none}
 use Rattle.std.specs.Prelude.{find}
 use Rattle.t32_base.specs.declared.process.End.{End}
 use Rattle.t32_base.specs.declared.process.Status.{Status}
@@ -93,7 +93,7 @@ called_takes s ExitCall = refl
 called_takes s Write = let p = with_small s (spent s.small) in written s p refl (arg p 0) (arg p 1) (arg p 2) (leads_at (p.small).ends (arg p 0))
 called_takes s Read = read s (read_checked s)
 called_takes s ReadAny = read s (read_any_checked s)
-called_takes s ForkCall = let p = with_small s (spent s.small) in forked s p refl (eqb (p.small).births 0) (not (ltb (free_end (p.small).ends) 32))
+called_takes s ForkCall = let p = with_small s (spent s.small) in forked s p refl (eqb (p.small).births 0) (is_none (free_end (p.small).ends))
 called_takes s GetPid = refl
 called_takes s Handler = let p = with_small s (spent s.small) in handles s p refl (is_aligned (arg p 0))
 called_takes s Kill = let p = with_small s (spent s.small) in signals s p refl (is_signal_number (arg p 1))

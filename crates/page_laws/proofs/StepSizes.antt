@@ -1,5 +1,5 @@
 -- A step leaves the number of pages and the size of the memory.
-use Rattle.std.proofs.Common.{◌≡◌, ℕ, ◌≤◌, refl, ◌∙◌, arith, List, length, length-take, Bool, true, false, cond, not, ◌||◌, eqb, ltb, Option, Some, None}
+use Rattle.std.proofs.Common.{◌≡◌, ℕ, ◌≤◌, refl, ◌∙◌, arith, List, length, length-take, Bool, true, false, cond, not, ◌||◌, eqb, ltb, Option, Some, None, is_none}
 use Rattle.std.specs.List.{list_any}
 use Rattle.t32_base.specs.declared.process.End.{End}
 use Rattle.t32_base.specs.declared.process.Status.{Status}
@@ -132,7 +132,7 @@ module _ (s p : ProcState) (pages : (p.small).pages ≡ (s.small).pages) (bytes 
   called_keeps Write = written (arg p 0) (arg p 1) (arg p 2) (leads_at (p.small).ends (arg p 0))
   called_keeps Read = read (read_checked p) (room_of_read p)
   called_keeps ReadAny = read (read_any_checked p) (room_of_read_any p)
-  called_keeps ForkCall = forked (eqb (p.small).births 0) (not (ltb (free_end (p.small).ends) 32))
+  called_keeps ForkCall = forked (eqb (p.small).births 0) (is_none (free_end (p.small).ends))
   called_keeps Close = closed_to (arg p 0) (leads_at (p.small).ends (arg p 0))
   called_keeps GetPid = record { pages = pages; bytes = bytes }
   called_keeps Handler = handles (is_aligned (arg p 0))

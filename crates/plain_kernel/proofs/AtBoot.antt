@@ -12,7 +12,7 @@ use Rattle.sys_text.specs.declared.system.System.{System}
 use Rattle.sys_text.specs.declared.system.Root.{Root}
 use Rattle.sys_text.specs.Boot.{roots_of}
 use Rattle.proc_state.specs.State.{ProcState, linked_to}
-use Rattle.plain_kernel.specs.Kernel.{Kernel, pid_cmp, process_at, with_process, with_root, root_process, empty, boot, boot_roots, free_end_at, link_put, root_pid, with_chan, with_end_linked}
+use Rattle.plain_kernel.specs.Kernel.{Kernel, pid_cmp, process_at, with_process, with_root, root_process, empty, boot, boot_roots, ends_linked, free_end_at, link_put, root_pid, with_chan, with_end_linked}
 use Rattle.plain_kernel.proofs.Entries.{some_same}
 use Rattle.plain_kernel.proofs.Laws.{pid_cmp_total, process_at-with_process}
 use Rattle.plain_kernel.proofs.Others.{steps_at}
@@ -31,8 +31,7 @@ pub chans-keep : (P : Kernel → Type 0) → ((k : Kernel) (p : Pid) (s : ProcSt
 chans-keep P one system k [] has = has
 chans-keep P one system k (chan ∷ chans) has =
     chans-keep P one system (record k { processes = with_chan system k.processes chan }) chans
-    (linked _ (root_pid system chan.1) (root_pid system chan.0) (free_end_at k.processes (root_pid system chan.0))
-    (linked k (root_pid system chan.0) (root_pid system chan.1) (free_end_at k.processes (root_pid system chan.1)) has))
+    (by_ends (root_pid system chan.0) (root_pid system chan.1) (free_end_at k.processes (root_pid system chan.0)) (free_end_at k.processes (root_pid system chan.1)))
   where
     by_process : (j : Kernel) (p peer : Pid) (far : ℕ) (o : Option ProcState) → process_at j p ≡ o → P j → P (record j { processes = link_put p peer far o j.processes })
     by_process j p peer far None there has = has
@@ -40,6 +39,11 @@ chans-keep P one system k (chan ∷ chans) has =
 
     linked : (j : Kernel) (p peer : Pid) (far : ℕ) → P j → P (record j { processes = with_end_linked j.processes p peer far })
     linked j p peer far has = by_process j p peer far (process_at j p) refl has
+
+    by_ends : (p q : Pid) (near far : Option ℕ) → P (record k { processes = ends_linked k.processes p q near far })
+    by_ends p q None far = has
+    by_ends p q (Some near) None = has
+    by_ends p q (Some near) (Some far) = linked (record k { processes = with_end_linked k.processes p q far }) q p near (linked k p q far has)
 
 -- what is kept by a root, and by an end that is linked, holds at boot
 pub boot-keeps : (P : Kernel → Type 0) (system : System) → P empty → ((k : Kernel) (r : Pid × Root) → P k → P (with_root system k r))

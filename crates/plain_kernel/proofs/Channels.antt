@@ -45,7 +45,7 @@ root_pid_is system number d least most =
 pub free_there : (pid : ℕ) (es : List (ℕ × ProcState)) (s : ProcState) → lookup (at_key pid) es ≡ Some s → free_end (s.small).ends ≡ free_end_at (starts_in es) (pid_of pid)
 free_there pid es s found = rw (lookup_start pid es, found) refl
 
-pub free_nowhere : (pid : ℕ) (es : List (ℕ × ProcState)) → lookup (at_key pid) es ≡ None → 32 ≡ free_end_at (starts_in es) (pid_of pid)
+pub free_nowhere : (pid : ℕ) (es : List (ℕ × ProcState)) → lookup (at_key pid) es ≡ None → None ≡ free_end_at (starts_in es) (pid_of pid)
 free_nowhere pid es none = rw (lookup_start pid es, none) refl
 
 pub linked_there : (old new : List (ℕ × ProcState)) (pid : ℕ) (peer : Pid) (far : ℕ) (was now : ProcState) → lookup (at_key pid) old ≡ Some was → new ≡ set_value (at_key pid) old now → IsStrictlySortedBy nat_cmp (keys old)

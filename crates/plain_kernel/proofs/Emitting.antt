@@ -1,5 +1,5 @@
 -- A step that sends something lets no process take a signal that could take none.
-use Rattle.std.proofs.Common.{◌≡◌, ℕ, refl, subst, Bool, true, false, cond, not, ltb, eqb, Option, Some, None}
+use Rattle.std.proofs.Common.{◌≡◌, ℕ, refl, subst, Bool, true, false, cond, not, ltb, eqb, Option, Some, None, is_none}
 use Rattle.t32_base.specs.declared.process.End.{End}
 use Rattle.t32_base.specs.declared.process.Status.{Status}
 use Rattle.t32_base.specs.declared.process.Status.TheVariants.{Live, Closing, Ended}
@@ -84,7 +84,7 @@ module _ (p : ProcState) where
   called_so Write = written (arg p 0) (arg p 1) (arg p 2) (leads_at (p.small).ends (arg p 0))
   called_so Read = read (read_checked p)
   called_so ReadAny = read (read_any_checked p)
-  called_so ForkCall = forked (eqb (p.small).births 0) (not (ltb (free_end (p.small).ends) 32))
+  called_so ForkCall = forked (eqb (p.small).births 0) (is_none (free_end (p.small).ends))
   called_so GetPid = tt
   called_so Handler = handles (is_aligned (arg p 0))
   called_so Kill = signals (is_signal_number (arg p 1))

@@ -123,7 +123,7 @@ boot_small system valid =
     chans-keep (EachSmall StartsSmall)
     (λ k p s peer far there each.
     let was = each p s.small (found_small k p s there) in
-    put_small StartsSmall k p (linked_to s peer far) each (record { left = was.left; ends = length-set (s.small).ends (free_end (s.small).ends) (Linked peer far false) ∙ was.ends }))
+    put_small StartsSmall k p (linked_to s peer far) each (record { left = was.left; ends = length-linked (s.small).ends peer far ∙ was.ends }))
     system (boot_roots system) system.chans
     (roots_small system empty (roots_of system) (limits_fit system b.clusters [] system.roots t.each) (λ p small there. cc))
 

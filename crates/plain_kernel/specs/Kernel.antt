@@ -1,5 +1,5 @@
 -- The kernel without failures: a finite map of processes, and what each terminal was sent. It knows no clusters, backups, counts or pages.
-use Rattle.std.specs.Prelude.{ℕ, ◌-◌, List, [], ◌++◌, fold, slice_get, Option, Some, None, unwrap_or, if◌then◌else◌}
+use Rattle.std.specs.Prelude.{ℕ, ◌-◌, List, [], ◌++◌, fold, slice_get, Option, Some, None, option_and_then, unwrap_or, if◌then◌else◌}
 use Rattle.std.specs.Option.{option_map_or}
 use Rattle.std.specs.declared.cmp.Ordering.{Ordering}
 use Rattle.std.specs.Ordering.{nat_cmp}
@@ -60,9 +60,9 @@ empty = record { processes = []; ttys = [] }
 abbrev pub boot_roots : System → Kernel
 boot_roots system = fold (with_root system) empty (roots_of system)
 
--- the lowest end of a process that was never linked; 32 where there is none
-abbrev pub free_end_at : List (Pid × ProcState) → Pid → ℕ
-free_end_at processes p = option_map_or (λ (s : ProcState). free_end (s.small).ends) (find pid_cmp p processes) 32
+-- the lowest end of a process that was never linked, if it is there and has one
+abbrev pub free_end_at : List (Pid × ProcState) → Pid → Option ℕ
+free_end_at processes p = option_and_then (λ (s : ProcState). free_end (s.small).ends) (find pid_cmp p processes)
 
 abbrev pub link_put : Pid → Pid → ℕ → Option ProcState → List (Pid × ProcState) → List (Pid × ProcState)
 link_put p peer far None processes = processes
@@ -72,9 +72,15 @@ link_put p peer far (Some s) processes = put pid_cmp p (linked_to s peer far) pr
 abbrev pub with_end_linked : List (Pid × ProcState) → Pid → Pid → ℕ → List (Pid × ProcState)
 with_end_linked processes p peer far = link_put p peer far (find pid_cmp p processes) processes
 
+-- an end of each of two processes is linked to the other's; where one has none to link, nothing is
+abbrev pub ends_linked : List (Pid × ProcState) → Pid → Pid → Option ℕ → Option ℕ → List (Pid × ProcState)
+ends_linked processes p q None far = processes
+ends_linked processes p q (Some near) None = processes
+ends_linked processes p q (Some near) (Some far) = with_end_linked (with_end_linked processes p q far) q p near
+
 -- the lowest such ends of two processes are linked to each other
 abbrev pub with_link : List (Pid × ProcState) → Pid → Pid → List (Pid × ProcState)
-with_link processes p q = with_end_linked (with_end_linked processes p q (free_end_at processes q)) q p (free_end_at processes p)
+with_link processes p q = ends_linked processes p q (free_end_at processes p) (free_end_at processes q)
 
 -- the pid of a root, whose number is counted from 1 in the order of the text
 abbrev pub root_pid : System → ℕ → Pid

@@ -11,7 +11,7 @@ use std::collections::BTreeMap;
 use sys_text::system::System;
 use t32_base::process::Pid;
 
-/// Links the lowest free ends of the two roots that a channel names.
+/// Links the lowest free ends of the two roots that a channel names to each other; where one of them has none, nothing is linked.
 pub fn link_roots(starts: &mut BTreeMap<u32, Start>, system: &System, chan: (u8, u8))
     requires valid { is_system system.now ≡ true }
     requires first { (1 ≤ chan.0) × (chan.0 ≤ length system.now.roots) }
@@ -21,10 +21,10 @@ pub fn link_roots(starts: &mut BTreeMap<u32, Start>, system: &System, chan: (u8,
 {
     let one = root_pid(system, chan.0);
     let other = root_pid(system, chan.1);
-    let near = free_end_at(starts, one.0);
-    let far = free_end_at(starts, other.0);
-    link_at(starts, one.0, other, far);
-    link_at(starts, other.0, one, near);
+    if let (Some(near), Some(far)) = (free_end_at(starts, one.0), free_end_at(starts, other.0)) {
+        link_at(starts, one.0, other, far);
+        link_at(starts, other.0, one, near);
+    }
 }
 
 // The pid of a root, whose number is counted from 1.
@@ -39,14 +39,11 @@ fn root_pid(system: &System, number: u8) -> Pid
     pid_after(&roots[..place], roots[place])
 }
 
-// The lowest end of the root with a pid that was never linked; 32 where there is none.
-fn free_end_at(starts: &BTreeMap<u32, Start>, pid: u32) -> u8
+// The lowest end of the root with a pid that was never linked, if it is there and has one.
+fn free_end_at(starts: &BTreeMap<u32, Start>, pid: u32) -> Option<u8>
     ensures { result ≡ free_end_in (starts_in starts.now.entries) (pid_of pid) }
 {
-    match starts.get(&pid) {
-        Some(start) => start.free_end(),
-        None => 32,
-    }
+    starts.get(&pid)?.free_end()
 }
 
 // Links that end to an end of a peer, if the root is there.

@@ -75,8 +75,8 @@ impl<'a> Start<'a> {
         page_of(self.image.words.as_slice(), i)
     }
 
-    /// The lowest end that was never linked; 32 where there is none. Takes no memory.
-    pub fn free_end(&self) -> u8
+    /// The lowest end that was never linked, if there is one. Takes no memory.
+    pub fn free_end(&self) -> Option<u8>
         ensures { result ≡ free_end_in self.now.small.ends }
     {
         free_end(&self.small)

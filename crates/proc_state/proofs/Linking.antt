@@ -30,7 +30,15 @@ linked_as_many ends e peer far is =
     let there = position-Some is_never ends e Shut is in
     as_many ends e (Linked peer far false) there.0 (never_is_unshut (get_or ends e Shut) there.1) refl
 
--- as many ends as before
+-- so its link leaves as many that are not shut
+pub linked_unshut : (ends : List EndState) (peer : Pid) (far : ℕ) → count_by is_unshut (ends_linked_to ends peer far) ≡ count_by is_unshut ends
+linked_unshut ends peer far = by_free (free_end ends) refl
+  where
+    by_free : (o : Option ℕ) → free_end ends ≡ o → count_by is_unshut (option_map_or (λ end. slice_set ends end (Linked peer far false)) o ends) ≡ count_by is_unshut ends
+    by_free None is = refl
+    by_free (Some e) is = linked_as_many ends e peer far is
+
+-- and as many ends
 pub length-linked : (ends : List EndState) (peer : Pid) (far : ℕ) → length (ends_linked_to ends peer far) ≡ length ends
 length-linked ends peer far = by_free (free_end ends)
   where

@@ -1,5 +1,5 @@
 -- The letters in the mailbox of a process stand by rising number, each below the next one.
-use Rattle.std.proofs.Common.{◌≡◌, ℕ, ◌+◌, refl, sym, ◌∙◌, subst, arith, List, [], ◌∷◌, ◌++◌, Bool, true, false, cond, not, eqb, ltb, Option, Some, None}
+use Rattle.std.proofs.Common.{◌≡◌, ℕ, ◌+◌, refl, sym, ◌∙◌, subst, arith, List, [], ◌∷◌, ◌++◌, Bool, true, false, cond, not, eqb, ltb, Option, Some, None, is_none}
 use Rattle.std.specs.Prelude.{nat_lt, option_map, option_and_then}
 use Rattle.std.specs.List.{list_all}
 use Rattle.std.specs.Ordering.{is_eq}
@@ -173,7 +173,7 @@ module _ (p : ProcState) (numbered : IsNumbered p) where
   called_numbered Write = written (arg p 0) (arg p 1) (arg p 2) (leads_at (p.small).ends (arg p 0))
   called_numbered Read = read (read_checked p)
   called_numbered ReadAny = read (read_any_checked p)
-  called_numbered ForkCall = forked (eqb (p.small).births 0) (not (ltb (free_end (p.small).ends) 32))
+  called_numbered ForkCall = forked (eqb (p.small).births 0) (is_none (free_end (p.small).ends))
   called_numbered Close = closed_to (arg p 0) (leads_at (p.small).ends (arg p 0))
   called_numbered GetPid = numbered
   called_numbered Handler = handles (is_aligned (arg p 0))

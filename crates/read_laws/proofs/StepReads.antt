@@ -1,5 +1,5 @@
 -- A step of a process reads the first letter that waits for one of its ends, or leaves the mailbox as it is.
-use Rattle.std.proofs.Common.{◌≡◌, ℕ, ◌<◌, refl, sym, ◌∙◌, subst, List, length, Bool, true, false, cond, not, ◌||◌, eqb, ltb, find, slice_get, Option, Some, None, option_map, true≢false}
+use Rattle.std.proofs.Common.{◌≡◌, ℕ, ◌<◌, refl, sym, ◌∙◌, subst, List, length, Bool, true, false, cond, not, ◌||◌, eqb, ltb, find, slice_get, Option, Some, None, is_none, option_map, true≢false}
 use Rattle.std.specs.List.{list_any}
 use Rattle.std.specs.Option.{option_map_or}
 use Rattle.std.proofs.lemmas.Option.{slice_get_within}
@@ -135,7 +135,7 @@ module _ (p : ProcState) where
   called_reads Write = written (arg p 0) (arg p 1) (arg p 2) (leads_at (p.small).ends (arg p 0))
   called_reads Read = read (read_checked p) read_asks
   called_reads ReadAny = read (read_any_checked p) any_asks
-  called_reads ForkCall = forked (eqb (p.small).births 0) (not (ltb (free_end (p.small).ends) 32))
+  called_reads ForkCall = forked (eqb (p.small).births 0) (is_none (free_end (p.small).ends))
   called_reads Close = closed_to (arg p 0) (leads_at (p.small).ends (arg p 0))
   called_reads GetPid = none refl
   called_reads Handler = handles (is_aligned (arg p 0))

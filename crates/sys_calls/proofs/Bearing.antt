@@ -1,16 +1,12 @@
 -- Each step leaves fewer steps to a process and the children that it may still fork, and a fork leaves fewer to the two.
-use Rattle.std.proofs.Common.{◌≡◌, ℕ, zero, suc, ◌+◌, ◌-◌, ◌*◌, ◌/◌, ◌<◌, ◌≤◌, refl, ◌∙◌, ap, subst, arith, List, get_or, Bool, true, false, cond, eqb, ltb, not, position, Option, Some, None, option_and_then, unwrap_or}
-use Rattle.std.specs.Prelude.{slice_set}
+use Rattle.std.proofs.Common.{◌≡◌, ℕ, zero, suc, ◌+◌, ◌-◌, ◌*◌, ◌/◌, ◌<◌, ◌≤◌, refl, ◌∙◌, ap, subst, arith, Bool, true, false, cond, eqb, ltb, not, Option, Some, None, is_none, option_and_then, unwrap_or}
 use Rattle.std.specs.List.{count_by}
 use Rattle.std.proofs.lemmas.Nat.{mul-le}
-use Rattle.std.proofs.lemmas.List.Sums.{count_by-le-length, sum_by-set}
-use Rattle.std.proofs.lemmas.List.Quantifiers.{position-Some}
+use Rattle.std.proofs.lemmas.List.Sums.{count_by-le-length}
 use Rattle.t32_base.specs.declared.process.Pid.{Pid}
 use Rattle.t32_base.specs.declared.process.End.{End}
 use Rattle.t32_base.specs.declared.process.Status.{Status}
 use Rattle.t32_base.specs.declared.process.Status.TheVariants.{Live, Closing, Ended}
-use Rattle.t32_base.specs.declared.process.EndState.{EndState}
-use Rattle.t32_base.specs.declared.process.EndState.TheVariants.{Never, Tty as OnTty, Linked, Shut}
 use Rattle.t32_base.specs.declared.letter.Letter.{Letter}
 use Rattle.t32_base.specs.declared.letter.Body.TheVariants.{Said}
 use Rattle.t32_base.specs.declared.letter.Arrived.{Arrived}
@@ -20,8 +16,9 @@ use Rattle.t32_base.specs.Small.{is_unshut, stages}
 use Rattle.rv_mem.specs.Memory.{is_inside, bytes_at}
 use Rattle.t32_base.specs.Registers.{Registers}
 use Rattle.rv_cpu.specs.Exec.{Executed, Steps, Calls, Traps, exec, reg}
-use Rattle.proc_state.specs.Ends.{free_end, is_never, leads_at}
+use Rattle.proc_state.specs.Ends.{free_end, leads_at}
 use Rattle.proc_state.specs.State.{ProcState, delivered, with_small}
+use Rattle.proc_state.proofs.Linking.{linked_unshut}
 use Rattle.sys_calls.specs.Small.{lowest_linked, spent, weight, weight_with_children}
 use Rattle.sys_calls.specs.declared.steps.Emission.{Emission}
 use Rattle.sys_calls.specs.declared.steps.Emission.TheVariants.{Mail}
@@ -106,7 +103,7 @@ module _ (s p : ProcState) (kept : KeepsBirths s p) where
   called_bears Write = written (arg p 0) (arg p 1) (arg p 2) (leads_at (p.small).ends (arg p 0))
   called_bears Read = read (read_checked p)
   called_bears ReadAny = read (read_any_checked p)
-  called_bears ForkCall = forked (eqb (p.small).births 0) (not (ltb (free_end (p.small).ends) 32))
+  called_bears ForkCall = forked (eqb (p.small).births 0) (is_none (free_end (p.small).ends))
   called_bears GetPid = kept
   called_bears Handler = handles (is_aligned (arg p 0))
   called_bears Kill = signals (is_signal_number (arg p 1))
@@ -178,23 +175,6 @@ silently_lightens (suc n) s t is = by_case (silently n s) refl is (λ q. silentl
 
 -- ---- a fork
 
--- no more ends are unshut where the lowest that was never linked is linked
-linked_no_more : (ends : List EndState) (o : Option ℕ) (child : Pid) → position is_never ends ≡ o → unwrap_or o 32 < 32
-    → count_by is_unshut (slice_set ends (unwrap_or o 32) (Linked child 1 false)) ≤ count_by is_unshut ends
-linked_no_more ends None child is below = absurd (omega arith)
-linked_no_more ends (Some e) child is below =
-    let at = position-Some is_never ends e Shut is in
-    let whole = sum_by-set (λ (end : EndState). cond (is_unshut end) 1 0) ends e (Linked child 1 false) Shut at.0 in
-    let never : is_unshut (get_or ends e Shut) ≡ true = unshut_never (get_or ends e Shut) at.1 in
-    let one = rw never at whole in
-    omega (arith, one)
-  where
-    unshut_never : (end : EndState) → is_never end ≡ true → is_unshut end ≡ true
-    unshut_never Never is = refl
-    unshut_never (OnTty t) is = refl
-    unshut_never (Linked peer far finished) is = refl
-    unshut_never Shut is = cc
-
 -- of so many births one is used up, and the two share the rest; each has one instruction less
 shared : (births left rest unshut parent child kept given : ℕ) → births ≡ 1 + given + kept → left ≡ rest + 1 → parent ≤ unshut → child ≤ 32
     → rest + parent + 2 + kept * (rest + 34) + (rest + child + 2 + given * (rest + 34)) + 2 ≤ left + unshut + 2 + births * (left + 34)
@@ -210,7 +190,7 @@ pub fork_lightens : (s : ProcState) (child : Pid) → CanFork s → weight_with_
 fork_lightens s child can =
     let base = shared (s.small).births (s.small).left ((s.small).left - 1) (count_by is_unshut (s.small).ends) (count_by is_unshut ((fork_parent s child).small).ends) (count_by is_unshut ((fork_child s child).small).ends)
     ((s.small).births - 1 - child_births (s.small).births) (child_births (s.small).births) (halved (s.small).births can.births) (omega (arith, can.some))
-    (linked_no_more (s.small).ends (position is_never (s.small).ends) child refl can.end) (count_by-le-length is_unshut ((fork_child s child).small).ends) in
+    (let same = linked_unshut (s.small).ends child 1 in omega (arith, same)) (count_by-le-length is_unshut ((fork_child s child).small).ends) in
     omega (arith, base, ap stages can.live)
 
 -- ---- a letter that arrives

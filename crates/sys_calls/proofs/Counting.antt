@@ -1,5 +1,5 @@
 -- What each step counts, whose letter it sends, and which step is the last of a process.
-use Rattle.std.proofs.Common.{◌≡◌, ℕ, zero, suc, ◌+◌, refl, sym, ◌∙◌, ap, subst, arith, Bool, true, false, cond, eqb, ltb, not, Option, Some, None, option_and_then, unwrap_or, true≢false, add-zero}
+use Rattle.std.proofs.Common.{◌≡◌, ℕ, zero, suc, ◌+◌, refl, sym, ◌∙◌, ap, subst, arith, Bool, true, false, cond, eqb, ltb, not, Option, Some, None, is_none, option_and_then, unwrap_or, true≢false, add-zero}
 use Rattle.t32_base.specs.declared.process.End.{End}
 use Rattle.t32_base.specs.declared.process.Status.{Status}
 use Rattle.t32_base.specs.declared.process.Status.TheVariants.{Live, Closing, Ended}
@@ -98,7 +98,7 @@ module _ (s p : ProcState) (one : CountsOne s p) (open_still : has_ended (p.smal
   called_counts Write = written (arg p 0) (arg p 1) (arg p 2) (leads_at (p.small).ends (arg p 0))
   called_counts Read = read (read_checked p)
   called_counts ReadAny = read (read_any_checked p)
-  called_counts ForkCall = forked (eqb (p.small).births 0) (not (ltb (free_end (p.small).ends) 32))
+  called_counts ForkCall = forked (eqb (p.small).births 0) (is_none (free_end (p.small).ends))
   called_counts Close = closed_to (arg p 0) (leads_at (p.small).ends (arg p 0))
   called_counts GetPid = (record { steps = one.steps; pid = one.pid; next = one.next }, open_still)
   called_counts Handler = handles (is_aligned (arg p 0))

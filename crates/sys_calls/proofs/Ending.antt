@@ -1,5 +1,5 @@
 -- A process ends by no instruction: the step by which it ends is one of a process that closes, with no end linked. A live one has a step, or waits.
-use Rattle.std.proofs.Common.{◌≡◌, ℕ, refl, sym, Bool, true, false, cond, not, eqb, ltb, Option, Some, None, ◌∙◌, true≢false}
+use Rattle.std.proofs.Common.{◌≡◌, ℕ, refl, sym, Bool, true, false, cond, not, eqb, ltb, Option, Some, None, is_none, ◌∙◌, true≢false}
 use Rattle.t32_base.specs.declared.process.End.{End}
 use Rattle.t32_base.specs.declared.letter.Arrived.{Arrived}
 use Rattle.t32_base.specs.declared.letter.Body.TheVariants.{Said}
@@ -76,7 +76,7 @@ module _ (p : ProcState) where
   no_call Write = written (arg p 0) (arg p 1) (arg p 2) (leads_at (p.small).ends (arg p 0))
   no_call Read = read (read_checked p)
   no_call ReadAny = read (read_any_checked p)
-  no_call ForkCall = forked (eqb (p.small).births 0) (not (ltb (free_end (p.small).ends) 32))
+  no_call ForkCall = forked (eqb (p.small).births 0) (is_none (free_end (p.small).ends))
   no_call Close = closed (arg p 0) (leads_at (p.small).ends (arg p 0))
   no_call GetPid = refl
   no_call Handler = handles (is_aligned (arg p 0))

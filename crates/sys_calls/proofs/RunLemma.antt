@@ -1,5 +1,5 @@
 -- Letters that arrive change no step that can be made without them.
-use Rattle.std.proofs.Common.{◌≡◌, ℕ, zero, suc, refl, ap, ◌∙◌, List, [], ◌∷◌, ◌++◌, Bool, true, false, cond, eqb, ltb, not, Option, Some, None, unwrap_or}
+use Rattle.std.proofs.Common.{◌≡◌, ℕ, zero, suc, refl, ap, ◌∙◌, List, [], ◌∷◌, ◌++◌, Bool, true, false, cond, eqb, ltb, not, Option, Some, None, is_none, unwrap_or}
 use Rattle.std.specs.Prelude.{find, option_and_then, option_map}
 use Rattle.std.specs.Option.{option_or}
 use Rattle.std.proofs.lemmas.List.Folds.{find-append}
@@ -103,7 +103,7 @@ called-delivered l ExitCall p = λ _. refl
 called-delivered l Write p = write-delivered l p (arg p 0) (arg p 1) (arg p 2) (leads_at (p.small).ends (arg p 0))
 called-delivered l Read p = read-delivered l p (read_checked p)
 called-delivered l ReadAny p = read-delivered l p (read_any_checked p)
-called-delivered l ForkCall p = either l (eqb (p.small).births 0) _ _ _ _ (λ _. refl) (either l (not (ltb (free_end (p.small).ends) 32)) _ _ _ _ (λ _. refl) (λ _. refl))
+called-delivered l ForkCall p = either l (eqb (p.small).births 0) _ _ _ _ (λ _. refl) (either l (is_none (free_end (p.small).ends)) _ _ _ _ (λ _. refl) (λ _. refl))
 called-delivered l GetPid p = λ _. refl
 called-delivered l Handler p = handles l p (is_aligned (arg p 0))
 called-delivered l Kill p = signals l p (is_signal_number (arg p 1))

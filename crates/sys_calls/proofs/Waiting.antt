@@ -1,5 +1,5 @@
 -- Only a read waits.
-use Rattle.std.proofs.Common.{◌≡◌, ℕ, Bool, true, false, cond, eqb, ltb, not, Option, Some, None, refl, sym, ap, ◌∙◌, unwrap_or}
+use Rattle.std.proofs.Common.{◌≡◌, ℕ, Bool, true, false, cond, eqb, ltb, not, Option, Some, None, is_none, refl, sym, ap, ◌∙◌, unwrap_or}
 use Rattle.t32_base.specs.declared.letter.Arrived.{Arrived}
 use Rattle.t32_base.specs.declared.letter.To.{To}
 use Rattle.t32_base.specs.declared.letter.To.TheVariants.{Proc, Tty}
@@ -63,7 +63,7 @@ no_read p ExitCall e = refl
 no_read p Write e = writes (with_small p (spent p.small)) (arg p 0) (arg p 1) (arg p 2) (leads_at (p.small).ends (arg p 0))
 no_read p Read e = cc
 no_read p ReadAny e = cc
-no_read p ForkCall e = either (eqb (p.small).births 0) _ _ refl (either (not (ltb (free_end (p.small).ends) 32)) _ _ refl refl)
+no_read p ForkCall e = either (eqb (p.small).births 0) _ _ refl (either (is_none (free_end (p.small).ends)) _ _ refl refl)
 no_read p GetPid e = refl
 no_read p Handler e = let q = with_small p (spent p.small) in handles q (is_aligned (arg q 0))
 no_read p Kill e = let q = with_small p (spent p.small) in signals q (is_signal_number (arg q 1))

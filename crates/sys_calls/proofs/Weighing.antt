@@ -1,5 +1,5 @@
 -- Each step of a process leaves it fewer steps.
-use Rattle.std.proofs.Common.{◌≡◌, ℕ, zero, suc, ◌+◌, ◌≤◌, refl, sym, ◌∙◌, ap, subst, arith, List, [], ◌∷◌, Bool, true, false, cond, eqb, ltb, not, Option, Some, None, option_and_then, unwrap_or}
+use Rattle.std.proofs.Common.{◌≡◌, ℕ, zero, suc, ◌+◌, ◌≤◌, refl, sym, ◌∙◌, ap, subst, arith, List, [], ◌∷◌, Bool, true, false, cond, eqb, ltb, not, Option, Some, None, is_none, option_and_then, unwrap_or}
 use Rattle.std.specs.Prelude.{slice_get, slice_set}
 use Rattle.std.specs.List.{count_by}
 use Rattle.std.specs.Option.{option_map_or}
@@ -161,7 +161,7 @@ module _ (s p : ProcState) (one : weight p.small + 1 ≤ weight s.small) (lives 
   call_leaves Write = written (arg p 0) (arg p 1) (arg p 2) (leads_at (p.small).ends (arg p 0))
   call_leaves Read = read (read_checked p)
   call_leaves ReadAny = read (read_any_checked p)
-  call_leaves ForkCall = forked (eqb (p.small).births 0) (not (ltb (free_end (p.small).ends) 32))
+  call_leaves ForkCall = forked (eqb (p.small).births 0) (is_none (free_end (p.small).ends))
   call_leaves Close = closed_to (arg p 0) (leads_at (p.small).ends (arg p 0))
   call_leaves GetPid = one
   call_leaves Handler = handles (is_aligned (arg p 0))

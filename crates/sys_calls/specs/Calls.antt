@@ -1,5 +1,5 @@
 -- The system calls that are built: their numbers, what each checks, in this order, and what each does.
-use Rattle.std.specs.Prelude.{◌≡◌, ℕ, ◌<◌, ◌+◌, ◌-◌, ◌%◌, ◌^◌, min, Bool, true, false, not, ◌&&◌, ◌||◌, ◌==◌, nat_lt, if◌then◌else◌, List, [], length, take, find, Option, Some, None, option_and_then}
+use Rattle.std.specs.Prelude.{◌≡◌, ℕ, ◌<◌, ◌+◌, ◌-◌, ◌%◌, ◌^◌, min, Bool, true, false, not, ◌&&◌, ◌||◌, ◌==◌, nat_lt, if◌then◌else◌, List, [], length, take, find, Option, Some, None, is_none, option_and_then}
 use Rattle.std.specs.List.{list_any}
 use Rattle.std.specs.Option.{option_map_or}
 use Rattle.t32_base.specs.declared.process.End.TheVariants.{Exit}
@@ -175,7 +175,7 @@ read_call p (Wants wanted ptr room) = read_found p wanted ptr room (first_wanted
 abbrev pub fork_call : ProcState → Next
 fork_call p =
     if (p.small).births == 0 then refused p 11
-    else if not (nat_lt (free_end (p.small).ends) 32) then refused p 24
+    else if is_none (free_end (p.small).ends) then refused p 24
     else Forks
 
 -- ---- signals

@@ -28,9 +28,6 @@ const MOST: u32 = 256;
 /// The number of the call that forks.
 const FORK: u32 = 5;
 
-/// The ends of a process.
-const ENDS: u8 = 32;
-
 /// The process makes the call whose number is in a7.
 #[inline(always)]
 pub fn call(alloc: Global, p: &mut Process) -> Result<Step, NoMemory>
@@ -170,7 +167,7 @@ fn fork_call(p: &mut Process) -> Step
     if p.small.births == 0 {
         return refuse(p, NO_BIRTH);
     }
-    if p.free_end() >= ENDS {
+    if p.free_end().is_none() {
         return refuse(p, NO_END);
     }
     Step::Forks
@@ -183,5 +180,5 @@ pub fn would_fork(p: &Process) -> bool
     if read(&p.small.regs, 17) != FORK {
         return false;
     }
-    p.small.births != 0 && p.free_end() < ENDS
+    p.small.births != 0 && p.free_end().is_some()
 }
