@@ -11,7 +11,7 @@ use t32_base::streams::NoMemory;
 use test_asserts::same;
 
 // The end by which it is linked, and three reads from end 1.
-type Reads = (u8, [Shown; 3]);
+type Reads = (Option<u8>, [Shown; 3]);
 
 fn read_thrice(alloc: Global, p: &mut Process) -> Result<Reads, NoMemory> {
     let end = p.link(Pid(17), 1);
@@ -40,7 +40,7 @@ const LETTER_ON_1: (bool, bool, bool) = (true, false, false);
 
 const READS: Result<(Reads, HasRead), NoMemory> = Ok((
     (
-        1,
+        Some(1),
         [
             (true, Made::Silent, (2, 0x10010), (0x10004, 1), LETTER_ON_1),
             (true, Made::Silent, (0, 0x10010), (0x10004, 2), NO_LETTERS),
@@ -56,12 +56,12 @@ fn a_read_takes_the_first_letter_of_its_end(rt: HostRuntime) -> Result<(), Fail>
     same("the reads", &all_read(rt.alloc()), &wanted)
 }
 
-fn link_three(p: &mut Process) -> [u8; 3] {
+fn link_three(p: &mut Process) -> [Option<u8>; 3] {
     [p.link(Pid(17), 1), p.link(Pid(17), 1), p.link(Pid(17), 1)]
 }
 
 // The ends by which it is linked, and three reads of any end.
-type ReadsOfAny = ([u8; 3], [Shown; 3]);
+type ReadsOfAny = ([Option<u8>; 3], [Shown; 3]);
 
 fn any_read(alloc: Global) -> Result<ReadsOfAny, NoMemory> {
     let mut p = begun(alloc, Begin::Two)?;
@@ -71,7 +71,7 @@ fn any_read(alloc: Global) -> Result<ReadsOfAny, NoMemory> {
 
 // The third waits.
 const READS_OF_ANY: Result<ReadsOfAny, NoMemory> = Ok((
-    [1, 2, 3],
+    [Some(1), Some(2), Some(3)],
     [
         (true, Made::Silent, (5, 3), (0x10004, 1), LETTER_ON_1),
         (true, Made::Silent, (3, 1), (0x10004, 2), NO_LETTERS),

@@ -64,14 +64,14 @@ fn a_process_without_instructions_runs_on_to_its_end(rt: HostRuntime) -> Result<
 }
 
 // A process that reads end 1, where nothing has come: the end by which it is linked, and at what it stopped.
-fn reading_ran(alloc: Global) -> Result<(u8, Stops), NoMemory> {
+fn reading_ran(alloc: Global) -> Result<(Option<u8>, Stops), NoMemory> {
     let mut reading = begun(alloc, Begin::Root)?;
     set_call(&mut reading.small, &[1, 0x10010, 2, 3]);
     let end = reading.link(Pid(17), 1);
     Ok((end, run_four(alloc, reading)?))
 }
 
-const WAITING: Result<(u8, Stops), NoMemory> = Ok((1, [(Made::Blocked, 0); 4]));
+const WAITING: Result<(Option<u8>, Stops), NoMemory> = Ok((Some(1), [(Made::Blocked, 0); 4]));
 
 #[test]
 fn a_process_that_waits_runs_no_further(rt: HostRuntime) -> Result<(), Fail> {

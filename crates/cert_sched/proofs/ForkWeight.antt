@@ -1,15 +1,8 @@
 -- To the parent itself a fork leaves one step less at least.
-use Rattle.std.proofs.Common.{◌≡◌, ℕ, ◌+◌, ◌<◌, ◌≤◌, refl, arith, List, get_or, true, cond, position, false, Option, Some, None, unwrap_or}
-use Rattle.std.specs.Prelude.{slice_set}
-use Rattle.std.specs.List.{count_by}
-use Rattle.std.proofs.lemmas.List.Sums.{sum_by-set}
-use Rattle.std.proofs.lemmas.List.Quantifiers.{position-Some}
+use Rattle.std.proofs.Common.{ℕ, ◌+◌, ◌≤◌, arith}
 use Rattle.t32_base.specs.declared.process.Pid.{Pid}
-use Rattle.t32_base.specs.declared.process.EndState.{EndState}
-use Rattle.t32_base.specs.declared.process.EndState.TheVariants.{Never, Tty as OnTty, Linked, Shut}
-use Rattle.t32_base.specs.Small.{is_unshut}
-use Rattle.proc_state.specs.Ends.{is_never}
 use Rattle.proc_state.specs.State.{ProcState}
+use Rattle.proc_state.proofs.Linking.{linked_unshut}
 use Rattle.sys_calls.specs.Small.{weight}
 use Rattle.sys_calls.specs.Fork.{CanFork, fork_parent}
 

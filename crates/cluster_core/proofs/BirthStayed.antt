@@ -1,5 +1,5 @@
 -- The birth of a child that is queued while an entry of another cluster is taken in: the parent still stands before its fork, and its next child has the pid that it had.
-use Rattle.std.proofs.Common.{◌≡◌, ℕ, zero, suc, ◌+◌, ◌-◌, refl, sym, ◌∙◌, ap, subst, List, [], ◌∷◌, ◌++◌, Bool, true, false, cond, not, ◌||◌, eqb, eqb-true, eq-eqb, ltb, Option, Some, None, slice_get, true≢false}
+use Rattle.std.proofs.Common.{◌≡◌, ℕ, zero, suc, ◌+◌, ◌-◌, refl, sym, ◌∙◌, ap, subst, List, [], ◌∷◌, ◌++◌, Bool, true, false, cond, ◌||◌, eqb, eqb-true, eq-eqb, Option, Some, None, is_none, slice_get, true≢false}
 use Rattle.std.specs.Prelude.{length, nat_le, option_map}
 use Rattle.std.specs.List.{list_any}
 use Rattle.std.specs.Option.{option_map_or}
@@ -14,7 +14,7 @@ use Rattle.proc_state.specs.Ends.{free_end}
 use Rattle.proc_state.specs.State.{ProcState, state_of, with_small}
 use Rattle.sys_calls.specs.Small.{spent}
 use Rattle.sys_calls.specs.Calls.{Forks, call_of, called, refused}
-use Rattle.sys_calls.specs.Fork.{next_end}
+use Rattle.sys_calls.specs.Fork.{fork_end}
 use Rattle.sys_calls.specs.Next.{after_exec, live_step, next_step, step_by}
 use Rattle.sys_calls.proofs.ForkLaws.{IsForking, is_forking}
 use Rattle.bus_msg.specs.declared.entry.What.TheVariants.{Birth}
@@ -59,8 +59,8 @@ fork_next t f =
     ∙ ap (λ b. live_step b t) f.some
     ∙ ap (λ x. after_exec x p) f.calls
     ∙ ap (λ c. called c p) f.forks
-    ∙ ap (λ b. cond b (refused p 11) (cond (not (ltb (next_end t) 32)) (refused p 24) Forks)) f.births
-    ∙ ap (λ b. cond (not b) (refused p 24) Forks) f.end
+    ∙ ap (λ b. cond b (refused p 11) (cond (is_none (free_end (t.small).ends)) (refused p 24) Forks)) f.births
+    ∙ ap (λ b. cond b (refused p 24) Forks) f.end
 
 -- whether a process stands before its fork is told by the small state and the memory: it does so with more letters
 pub forks_alike : (s t : ProcState) → s.small ≡ t.small → s.memory ≡ t.memory → next_step s ≡ Forks → next_step t ≡ Forks
@@ -76,12 +76,12 @@ forks_alike s t small memory forks = fork_next t alike
       calls = (λ i. exec (sym small i).regs (sym memory i)) ∙ f.calls;
       forks = ap (λ (x : SmallState). call_of (reg x.regs 17)) (sym small) ∙ f.forks;
       births = ap (λ (x : SmallState). eqb x.births 0) (sym small) ∙ f.births;
-      end = ap (λ (x : SmallState). ltb (free_end x.ends) 32) (sym small) ∙ f.end;
+      end = ap (λ (x : SmallState). is_none (free_end x.ends)) (sym small) ∙ f.end;
     }
 
 -- the birth is told by the small state
 same_birth : (k : ClusterNo) (p : Pid) (s t : ProcState) (child : Pid) → s.small ≡ t.small → birth_post k p s child ≡ birth_post k p t child
-same_birth k p s t child small = ap (λ (x : SmallState). let post : Post = record { by = Cluster k; what = Birth p (x.steps + 1) child (free_end x.ends) } in post) small
+same_birth k p s t child small = ap (λ (x : SmallState). let post : Post = record { by = Cluster k; what = Birth p (x.steps + 1) child (fork_end x) } in post) small
 
 -- ---- the next serials
 

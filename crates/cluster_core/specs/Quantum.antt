@@ -7,12 +7,12 @@ use Rattle.t32_base.specs.declared.process.Counts.{Counts}
 use Rattle.t32_base.specs.declared.process.End.{End}
 use Rattle.t32_base.specs.Small.{SmallState}
 use Rattle.proc_state.specs.declared.process.Process.{Process}
-use Rattle.proc_state.specs.Ends.{free_end}
 use Rattle.proc_state.specs.State.{state_of}
 use Rattle.sys_calls.specs.declared.steps.Emission.{Emission}
 use Rattle.sys_calls.specs.declared.steps.Emission.TheVariants.{Mail as SentMail, Exit as SentExit}
 use Rattle.sys_calls.specs.Calls.{Emits, Forks}
 use Rattle.sys_calls.specs.Next.{next_step, has_step, is_end, is_exit}
+use Rattle.sys_calls.specs.Fork.{CanFork, fork_end}
 use Rattle.roll_forward.specs.RunsOut.{RunsOut}
 use Rattle.roll_forward.specs.Advancing.{going, rolled_on}
 use Rattle.bus_msg.specs.declared.entry.What.{What}
@@ -86,7 +86,7 @@ pub record Sends (limits : Limits) (most made : ℕ) (old : Held) (sending : Sen
 
 -- the step that the fork of a process with this state is, and the end that it links
 abbrev pub forking_of : SmallState → Forking
-forking_of small = record { pid = small.pid; at = small.steps + 1; end = free_end small.ends }
+forking_of small = record { pid = small.pid; at = small.steps + 1; end = fork_end small }
 
 -- silent steps, after which a process that is not due stands before its fork
 pub record ComesToFork (limits : Limits) (most made : ℕ) (old : Held) (forking : Forking) (new : Held) : Type 0 where
@@ -157,9 +157,9 @@ Tells RanStuck childless old quantum new = (quantum ≡ Stuck) × (new ≡ old)
 Tells RanToFork childless old quantum new = (quantum ≡ AtFork (forking_of old.small)) × (new ≡ old)
 Tells (RanToEnd count) childless old quantum new = EndsOrStays childless old quantum new
 
--- one that is to fork has an instruction left, and one that is to end stands before its end
+-- one that is to fork can fork, and one that is to end stands before its end
 abbrev pub CanTell : Ran → Process → Type 0
-CanTell RanToFork p = 0 < (p.small).left
+CanTell RanToFork p = CanFork (state_of p)
 CanTell (RanToEnd count) p = is_exit (next_step (state_of p)) ≡ true
 CanTell ran p = ⊤
 

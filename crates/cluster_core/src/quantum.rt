@@ -1,12 +1,14 @@
 //! What a process did when it had its turn.
-ghost use Rattle.std.specs.Prelude.{◌≡◌, ◌<◌, true};
+ghost use Rattle.std.specs.Prelude.{◌≡◌, ◌<◌, true, is_some};
+ghost use Rattle.proc_state.specs.Ends.{free_end};
 ghost use Rattle.proc_state.specs.State.{state_of};
 ghost use Rattle.sys_calls.specs.Next.{is_exit, next_step};
 ghost use Rattle.cluster_core.specs.Quantum.{forking_of, sending_of, CanTell, EndsOrStays, Tells};
 
 use bus_msg::entry::Post;
-use proc_state::process::{Process, free_end};
+use proc_state::process::Process;
 use quanta::quantum::Ran;
+use sys_calls::forking::fork_end;
 use sys_calls::stepping::exit;
 use sys_calls::steps::Emission;
 use t32_base::lists::List;
@@ -81,12 +83,13 @@ fn sending_of(small: &Small, emission: Emission) -> Sending
 
 // The next step of a process that stands before its fork. Takes no memory.
 fn forking_of(small: &Small) -> Forking
-    requires { 0 < small.now.left }
+    requires some { 0 < small.now.left }
+    requires end { is_some (free_end small.now.ends) ≡ true }
     ensures { result ≡ forking_of small.now }
 {
     Forking {
         pid: small.pid,
         at: small.steps + 1,
-        end: free_end(small),
+        end: fork_end(small),
     }
 }

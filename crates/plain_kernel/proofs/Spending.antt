@@ -3,20 +3,18 @@ use Rattle.std.proofs.Common.{◌≡◌, ℕ, ◌+◌, ◌≤◌, refl, sym, ◌
 use Rattle.std.specs.Prelude.{fold, option_and_then, option_map}
 use Rattle.std.specs.List.{list_all}
 use Rattle.std.specs.Option.{option_map_or}
-use Rattle.std.proofs.lemmas.List.{length-set}
 use Rattle.std.proofs.lemmas.List.Sums.{count_by-le-length}
 use Rattle.t32_base.specs.declared.process.Pid.{Pid}
 use Rattle.t32_base.specs.declared.process.Status.{Status}
 use Rattle.t32_base.specs.declared.process.Status.TheVariants.{Live, Closing, Ended}
-use Rattle.t32_base.specs.declared.process.EndState.TheVariants.{Linked}
 use Rattle.t32_base.specs.Small.{SmallState, is_unshut, stages}
 use Rattle.sys_text.specs.declared.system.System.{System}
 use Rattle.sys_text.specs.declared.system.Root.{Root}
 use Rattle.sys_text.specs.Valid.{is_root, is_system}
 use Rattle.sys_text.specs.Boot.{roots_of, with_pids}
 use Rattle.sys_text.proofs.Bounds.{first_of_two, second_of_two, root_fits, root_tests, system_bounds, tests}
-use Rattle.proc_state.specs.Ends.{free_end}
 use Rattle.proc_state.specs.State.{ProcState, linked_to}
+use Rattle.proc_state.proofs.Linking.{length-linked}
 use Rattle.sys_calls.specs.Small.{weight}
 use Rattle.sys_calls.specs.Calls.{Next, Silent, Blocked, Forks, Emits, Over}
 use Rattle.sys_calls.specs.Next.{next_step}
