@@ -7,6 +7,7 @@ use Rattle.proc_state.specs.State.{ProcState, state_of}
 use Rattle.sys_calls.specs.Next.{is_exit, next_step, silently}
 use Rattle.sys_calls.specs.declared.steps.Emission.TheVariants.{Mail as SentMail, Exit as SentExit}
 use Rattle.sys_calls.proofs.Counting.{emits_counts}
+use Rattle.sys_calls.proofs.ForkLaws.{forks_can}
 use Rattle.quanta.specs.declared.limits.Limits.{Limits}
 use Rattle.quanta.specs.declared.quantum.Ran.{Ran}
 use Rattle.quanta.specs.declared.quantum.Ran.TheVariants.{Moved as RanOn, Refused, Sent as RanSending, Stuck as RanStuck, Forks as RanToFork, Ends as RanToEnd}
@@ -16,7 +17,7 @@ use Rattle.quanta.proofs.Within.{step_within}
 use Rattle.cluster_core.specs.declared.quantum.Quantum.{Quantum}
 use Rattle.cluster_core.specs.declared.quantum.Quantum.TheVariants.{Moved, Sent, Stuck, Forks as AtFork}
 use Rattle.cluster_core.specs.ChildrenFirst.{comes_after_children}
-use Rattle.cluster_core.specs.Quantum.{ActsOn, EndsNow, EndsOrStays, Tells, forking_of, sending_of}
+use Rattle.cluster_core.specs.Quantum.{ActsOn, CanTell, EndsNow, EndsOrStays, Tells, forking_of, sending_of}
 use Rattle.cluster_core.specs.View.{Runs}
 use Rattle.cluster_core.proofs.Quanta.{none_silent}
 
@@ -33,6 +34,15 @@ made_some limits childless zero zero old mid last silent ends stays =
     absurd (true≢false (sym (last refl (or_right (is_due limits old) (is_exit (next_step (state_of old))) (ap (λ (s : ProcState). is_exit (next_step s)) same ∙ ends))) ∙ stays))
 made_some limits childless zero (suc n) old mid last silent ends stays = omega arith
 made_some limits childless (suc n) steps old mid last silent ends stays = omega arith
+
+-- of what ran a cluster can tell
+pub runs_told : (limits : Limits) (made : ℕ) (old mid : Process) (ran : Ran) → RunsRest limits 64 made old (Ok ran) mid → CanTell ran mid
+runs_told limits made old mid RanOn runs = tt
+runs_told limits made old mid Refused runs = tt
+runs_told limits made old mid (RanSending letter) runs = tt
+runs_told limits made old mid RanStuck runs = tt
+runs_told limits made old mid RanToFork runs = forks_can (state_of mid) runs.forks
+runs_told limits made old mid (RanToEnd count) runs = runs.ends
 
 module _ (limits : Limits) (by : ClusterNo) (childless : Bool) (made : ℕ) (old mid : Process) (undue : made ≡ 0 → is_due limits old ≡ false) (last : made ≡ 0 → comes_after_children limits (Runs old) ≡ true → childless ≡ true) (within : is_within limits old ≡ true → is_within limits mid ≡ true) where
   abbrev Acts : Quantum → Process → Type 0

@@ -1,8 +1,11 @@
 use Rattle.std.proofs.Common.{◌≡◌, ◌∙◌, sym, false}
 use Rattle.quanta.specs.Limited.{is_due}
-use Rattle.cluster_core.proofs.RestTold.{rest_told}
+use Rattle.cluster_core.proofs.RestTold.{rest_told, runs_told}
 use Rattle.cluster_core.proofs.resident.act_on.Goals as goal
 use Rattle.cluster_core.proofs.resident.act_on.Goals.{else-made-eq0-via-then-made-eq0+else-ask, else-made-eq0-via-else-made-eq0}
+
+pub tell-requires : goal.tell-requires
+tell-requires c = runs_told c.args.limits c.args.made c.args.process.now c.run_rest.new.p c.in_ok-ran.ran c.in_ok-ran.ensures.runs
 
 pub returns : goal.returns
 returns c =
