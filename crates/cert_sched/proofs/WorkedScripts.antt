@@ -11,11 +11,12 @@ use Rattle.bus_msg.specs.PlacedAfter.{what}
 use Rattle.cert_sched.specs.declared.script.ScriptWord.{ScriptWord}
 use Rattle.cert_sched.specs.declared.script.ScriptWord.TheVariants.{CrashAt, CrashStep, DiskAt, ReturnAt}
 use Rattle.cert_sched.specs.Schedule.{placement}
+use Rattle.cert_sched.specs.Told.{told}
 use Rattle.cert_sched.specs.Looked.{Looked, at_start, gives_nothing, gives, goes_on, none_reached, is_reached, first_reached, given_by, without_reached, waits_for_no_word, waits_for_words}
 use Rattle.cert_sched.specs.Losses.{is_scripted_loss}
 use Rattle.cert_sched.specs.Scripted.{IsScripted, is_unused_rightly}
 use Rattle.cert_sched.proofs.Systems.{cluster, hi_system, two_system}
-use Rattle.cert_sched.proofs.WorkedLogs.{entry, hi_0, hi_log, later_0, later_1}
+use Rattle.cert_sched.proofs.WorkedLogs.{entry, hi_0, hi_1, hi_2, hi_log, later_0, later_1}
 
 -- ---- words for a place
 
@@ -200,6 +201,20 @@ call_not_reached = refl
 
 call_reached : is_unused_rightly hi_log (7 ∷ 5 ∷ []) (1 ∷ 1 ∷ []) (DiskAt (cluster 1) 0) ≡ false
 call_reached = refl
+
+-- ---- a whole script
+
+-- a word for a step that was not reached, with the steps and the disk calls of both clusters
+hi_scripted : IsScripted hi_system hi_log (CrashStep (cluster 0) 7 ∷ []) (7 ∷ 5 ∷ []) (1 ∷ 1 ∷ [])
+unfolding placement told
+hi_scripted = record {
+  each = (refl, refl);
+  left = [];
+  looked = none_reached (none_reached (none_reached at_start hi_0 refl refl) hi_1 refl refl) hi_2 refl refl;
+  losses = refl;
+  unused = λ finished. refl;
+  counted = λ finished. refl;
+}
 
 -- counts that are not told of each cluster
 counts_left_out : IsScripted hi_system hi_log (CrashStep (cluster 1) 6 ∷ []) (7 ∷ []) (1 ∷ []) → ⊥

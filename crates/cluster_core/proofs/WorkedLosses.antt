@@ -1,5 +1,5 @@
 -- Worked views of the cluster that takes over: cluster 0 is lost directly after the synchronisation of the reader, and after its letter to the terminal; by computation, and views that are refused.
-use Rattle.std.proofs.Common.{◌≡◌, ℕ, refl, ap, arith, List, [], ◌∷◌, replicate, length, false, cond, get_or, Option, Some, None, inl, lit<, lit≤}
+use Rattle.std.proofs.Common.{◌≡◌, ℕ, refl, sym, ap, arith, List, [], ◌∷◌, replicate, length, true, false, cond, get_or, Option, Some, None, inl, lit<, lit≤, true≢false}
 use Rattle.std.specs.Prelude.{slice_set}
 use Rattle.std.specs.Option.{option_map_or}
 use Rattle.t32_base.specs.declared.process.Pid.{Pid}
@@ -27,7 +27,7 @@ use Rattle.cert_sched.specs.Told.{told}
 use Rattle.cert_sched.specs.Record.{backup_record}
 use Rattle.cert_sched.specs.Account.{account_after}
 use Rattle.cert_sched.specs.Steps.{silent_upto, emission_at, before_fork_at}
-use Rattle.cert_sched.specs.Rules.{is_over}
+use Rattle.cert_sched.specs.Rules.{is_over, has_its_pages}
 use Rattle.cert_sched.specs.Legal.{IsLegalBy}
 use Rattle.cert_sched.specs.Built.{BuiltMayFollow}
 use Rattle.record_laws.specs.Kept.{has_backup_in}
@@ -35,9 +35,9 @@ use Rattle.page_waits.specs.Waiting.{WaitingState}
 use Rattle.wait_laws.specs.Waits.{WaitsAs, none_queued}
 use Rattle.child_waits.proofs.EitherWait.{kept_so}
 use Rattle.cluster_core.specs.View.{ClusterView, Held, Runs, Rolls, Waits, page_held}
-use Rattle.cluster_core.specs.Holds.{HoldsProcesses, HoldsRecords, IsHeldAs}
+use Rattle.cluster_core.specs.Holds.{HoldsPages, HoldsProcesses, HoldsRecords, IsHeldAs}
 use Rattle.cluster_core.proofs.WorkedRecords.{each_pid, ended_4, ended_log}
-use Rattle.cluster_core.proofs.WorkedViews.{pid, cluster, by_cluster, image_page, entry, reader_words, far_system, upto, sent_at, unmarked, empty_view, both, one_page, differ, written_by, far_0, far_1, far_2, came, synced_3, synced_log, read_page}
+use Rattle.cluster_core.proofs.WorkedViews.{pid, cluster, by_cluster, image_page, entry, reader_words, far_system, upto, sent_at, unmarked, empty_view, both, one, one_page, differ, written_by, far_0, far_1, far_2, came, synced_3, synced_log, read_page}
 
 -- ---- the log up to the synchronisation
 
@@ -255,3 +255,17 @@ reader_rolls = (
 runs_refused : IsHeldAs far_system rolled_log [] (pid 16) (Runs resumed) → ⊥
 unfolding boot one_step steps silently plain_after silent_upto emission_at
 runs_refused held = differ 10 6 refl (ap (λ (o : Option ProcState). option_map_or (λ (s : ProcState). (s.small).steps) o 0) held)
+
+-- cluster 1 where it rolls forward
+abbrev rolls_view : List Entry → ClusterView
+rolls_view log = record (empty_view far_system 1 log) { here = (pid 16, Rolls resumed one_by_end_0 []) ∷ [] }
+
+-- it may after its page,
+rolls_paged : HoldsPages far_system rolled_log (rolls_view rolled_log)
+unfolding boot one_step steps silently plain_after placement told silent_upto emission_at backup_record account_after
+rolls_paged p h at some = one (pid 16, Rolls resumed one_by_end_0 []) (λ p h. has_its_pages far_system rolled_log p ≡ true) refl p h at
+
+-- and not where its page is still to come
+rolls_refused : HoldsPages far_system (far_0 ∷ far_1 ∷ far_2 ∷ synced_3 ∷ ended_4 ∷ said_5 ∷ said_6 ∷ said_7 ∷ []) (rolls_view (far_0 ∷ far_1 ∷ far_2 ∷ synced_3 ∷ ended_4 ∷ said_5 ∷ said_6 ∷ said_7 ∷ [])) → ⊥
+unfolding boot one_step steps silently plain_after placement told silent_upto emission_at backup_record account_after
+rolls_refused pages = true≢false (sym (pages (pid 16) (Rolls resumed one_by_end_0 []) refl refl))

@@ -1,27 +1,29 @@
 -- Worked views of whole lines: the records and the accounts of a cluster are those of the log, for the two processes of the system by computation and for every other pid; and for each line views that it refuses.
-use Rattle.std.proofs.Common.{◌≡◌, ◌≤◌, ℕ, refl, sym, ◌∙◌, ap, subst, arith, List, [], ◌∷◌, length, Bool, true, false, eqb, eqb-true, Some, None, is_some, lit≤, true≢false}
+use Rattle.std.proofs.Common.{◌≡◌, ◌≤◌, ℕ, refl, sym, ◌∙◌, ap, subst, arith, List, [], ◌∷◌, length, Bool, true, false, eqb, eqb-true, Some, None, is_some, lit<, lit≤, true≢false}
 use Rattle.std.specs.Ordering.{is_eq, nat_cmp}
 use Rattle.std.proofs.lemmas.Bool.Decides.{nat_tests}
 use Rattle.t32_base.specs.declared.process.Pid.{Pid}
 use Rattle.t32_base.specs.declared.process.End.TheVariants.{Exit as Exited}
 use Rattle.t32_base.specs.declared.letter.BackRec.{BackRec}
+use Rattle.sys_text.specs.declared.system.System.{System}
 use Rattle.sys_calls.specs.Next.{silently}
 use Rattle.plain_kernel.specs.Kernel.{boot}
 use Rattle.plain_kernel.specs.Apply.{one_step, steps}
-use Rattle.bus_msg.specs.declared.entry.What.TheVariants.{Exit}
+use Rattle.bus_msg.specs.declared.entry.What.TheVariants.{Birth, Exit}
 use Rattle.bus_msg.specs.declared.entry.Entry.{Entry}
 use Rattle.bus_msg.specs.Places.{same_pid}
 use Rattle.cert_sched.specs.Schedule.{plain_after, placement}
 use Rattle.cert_sched.specs.Told.{told}
 use Rattle.cert_sched.specs.Record.{backup_record}
 use Rattle.cert_sched.specs.Account.{Account, account_after, no_pages}
-use Rattle.cert_sched.specs.Steps.{silent_upto, emission_at}
+use Rattle.cert_sched.specs.Steps.{silent_upto, emission_at, before_fork_at}
+use Rattle.cert_sched.specs.Kinds.{BirthHolds}
 use Rattle.backup_records.specs.Records.{record_in}
 use Rattle.mark_laws.proofs.EntryMarks.{account_stays}
 use Rattle.cluster_core.specs.View.{ClusterView, account_at}
 use Rattle.cluster_core.specs.Holds.{HoldsAccounts, HoldsRecords}
 use Rattle.cluster_core.proofs.Here.{pid_same}
-use Rattle.cluster_core.proofs.WorkedViews.{pid, by_cluster, image_page, entry, writer_words, far_system, empty_view, differ, far_0, far_1, far_2, came, synced_3, synced_log, read_page, one_account, reader_record, writer_record, one_by_end_1, records_view, record_due, writer_kept, reader_not_kept}
+use Rattle.cluster_core.proofs.WorkedViews.{pid, by_cluster, image, image_page, root, entry, writer_words, far_system, empty_view, differ, far_0, far_1, far_2, came, synced_3, synced_log, read_page, one_account, reader_record, writer_record, one_by_end_1, records_view, record_due, writer_kept, reader_not_kept}
 
 -- what holds of the two processes of the system, and of every pid that is of neither
 pub each_pid : (P : Pid → Type 0) → P (pid 16) → P (pid 17) → ((p : Pid) → same_pid (pid 16) p ≡ false → same_pid (pid 17) p ≡ false → P p) → (p : Pid) → P p
@@ -161,3 +163,70 @@ ended_held = record {
 ended_refused : HoldsAccounts far_system ended_log (served_view ended_log (reader_pages ∷ writer_pages ∷ []) [] 3) → ⊥
 unfolding boot told account_after
 ended_refused holds = differ 1 0 refl (ap (λ (a : Account). length a.now) ((holds.keeps).accounts (pid 17)))
+
+-- ---- accounts: a child is born, and none of its pages has come
+
+-- forks, and exits
+abbrev fork_words : List ℕ
+fork_words = 0x00500893 ∷ 0x00000073 ∷ 0x00100893 ∷ 0x00000513 ∷ 0x00000073 ∷ []
+
+-- process 16 runs this in place of the reader, and may fork once
+abbrev fork_system : System
+fork_system = record far_system { images = image fork_words ∷ image writer_words ∷ []; roots = record (root 0 1 0) { births = 1 } ∷ root 1 0 1 ∷ [] }
+
+abbrev birth_0 : Entry
+birth_0 = entry 0 (by_cluster 0) 3 (Birth (pid 16) 2 (pid 32) 2)
+
+abbrev birth_log : List Entry
+birth_log = birth_0 ∷ []
+
+-- by its step 2 it forks process 32, by its end 2
+birth_holds : BirthHolds fork_system [] (pid 16) 2 (pid 32) 2
+unfolding boot one_step steps silently plain_after placement before_fork_at
+birth_holds = record { later = lit< tt; end_is = refl; child_is = refl }
+
+-- cluster 1 after it, which keeps these accounts
+abbrev born_view : List (Pid × Account) → ClusterView
+born_view accounts = record (empty_view fork_system 1 birth_log) { server = (served_view birth_log accounts [] 2).server }
+
+abbrev parent_pages : Pid × Account
+parent_pages = (pid 16, one_account (image_page fork_words) (image_page fork_words))
+
+abbrev child_pages : Pid × Account
+child_pages = (pid 32, one_account (image_page fork_words) (image_page fork_words))
+
+-- a child begins with the account with no pages
+child_account : account_after fork_system birth_log (pid 32) ≡ no_pages
+unfolding boot told account_after
+child_account = refl
+
+module _ (p : Pid) (parent : same_pid (pid 16) p ≡ false) (writer : same_pid (pid 17) p ≡ false) where
+  after_birth : account_after fork_system birth_log p ≡ no_pages
+  unfolding boot told account_after
+  after_birth =
+      let first : is_eq (nat_cmp p.0 16) ≡ false = tied p.0 16 ∙ parent in
+      let second : is_eq (nat_cmp p.0 17) ≡ false = tied p.0 17 ∙ writer in
+      rw (first, second)
+
+  child_absent : account_at (born_view (parent_pages ∷ writer_pages ∷ [])) p ≡ account_after fork_system birth_log p
+  child_absent =
+      let first : is_eq (nat_cmp p.0 16) ≡ false = tied p.0 16 ∙ parent in
+      let second : is_eq (nat_cmp p.0 17) ≡ false = tied p.0 17 ∙ writer in
+      rw (first, second) (sym after_birth)
+
+-- so the page server has the pages of the two roots alone,
+child_held : HoldsAccounts fork_system birth_log (born_view (parent_pages ∷ writer_pages ∷ []))
+unfolding boot one_step steps silently plain_after placement told silent_upto emission_at account_after
+child_held = record {
+  keeps = record {
+    accounts = each_pid (λ p. account_at (born_view (parent_pages ∷ writer_pages ∷ [])) p ≡ account_after fork_system birth_log p) refl refl child_absent;
+    waits = refl;
+  };
+  there = λ never_lost serves. refl;
+  calls = λ never_lost serves. lit≤ tt;
+}
+
+-- and none of the child
+child_refused : HoldsAccounts fork_system birth_log (born_view (parent_pages ∷ writer_pages ∷ child_pages ∷ [])) → ⊥
+unfolding boot told account_after
+child_refused holds = differ 1 0 refl (ap (λ (a : Account). length a.now) ((holds.keeps).accounts (pid 32)))

@@ -7,7 +7,7 @@ use Rattle.t32_base.specs.declared.process.ClusterNo.{ClusterNo}
 use Rattle.t32_base.specs.declared.process.Counts.{Counts}
 use Rattle.t32_base.specs.declared.process.Mode.TheVariants.{Quarter}
 use Rattle.t32_base.specs.declared.letter.BackRec.{BackRec}
-use Rattle.t32_base.specs.declared.letter.Body.TheVariants.{Said, EndOf}
+use Rattle.t32_base.specs.declared.letter.Body.TheVariants.{Said, EndOf, Signal}
 use Rattle.t32_base.specs.declared.letter.Letter.{Letter}
 use Rattle.t32_base.specs.declared.letter.To.TheVariants.{Proc}
 use Rattle.sys_text.specs.declared.system.Image.{Image}
@@ -19,6 +19,7 @@ use Rattle.write_count.specs.Counting.{no_counts}
 use Rattle.proc_state.specs.declared.process.Process.{Process}
 use Rattle.proc_state.specs.State.{ProcState, root_state}
 use Rattle.sys_calls.specs.declared.steps.Emission.{Emission}
+use Rattle.sys_calls.specs.declared.steps.Emission.TheVariants.{Mail as Sent}
 use Rattle.sys_calls.specs.Next.{silently}
 use Rattle.plain_kernel.specs.Kernel.{boot}
 use Rattle.plain_kernel.specs.Apply.{one_step, steps}
@@ -59,14 +60,14 @@ abbrev pub by_cluster : ℕ → By
 by_cluster n = Cluster (cluster n)
 
 -- one page with a program at its front
-abbrev image : List ℕ → Image
+abbrev pub image : List ℕ → Image
 image words = record { name = []; pages = 1; words = words }
 
 abbrev pub image_page : List ℕ → List ℕ
 image_page words = page_at (bytes_of_words words ++ replicate 256 0) 0
 
 -- a root with a home and a backup, which runs an image
-abbrev root : ℕ → ℕ → ℕ → Root
+abbrev pub root : ℕ → ℕ → ℕ → Root
 root home backup number = record { home = cluster home; backup = cluster backup; mode = Quarter; image = number; limit = 1000; births = 0; tty = 0 }
 
 -- the entry at a place: by whom, to which clusters, a bit each, and what it says
@@ -200,6 +201,40 @@ near_refused : HoldsMarks IsMarked near_system [] (near_view (0 ∷ [])) → ⊥
 unfolding boot one_step steps silently plain_after placement told silent_upto emission_at account_after
 near_refused marks = differ 1 0 refl (ap length (marks (pid 16) (Runs (record near_reader { read = 0 ∷ [] })) refl).read)
 
+-- ---- marks: a process has sent a signal to itself, which is queued and has not arrived
+
+-- sends signal 9 to process 16, and exits
+abbrev signal_words : List ℕ
+signal_words = 0x00800893 ∷ 0x01000513 ∷ 0x00900593 ∷ 0x00000073 ∷ 0x00100893 ∷ 0x00000513 ∷ 0x00000073 ∷ []
+
+-- process 16 runs this in place of the reader
+abbrev signal_system : System
+signal_system = record near_system { images = image signal_words ∷ image writer_words ∷ [] }
+
+abbrev own_signal : Letter
+own_signal = record { from = pid 16; out = 0; to = Proc (pid 16) 0; body = Signal 9 }
+
+abbrev own_post : Post
+own_post = record { by = by_cluster 0; what = Mail 4 own_signal }
+
+abbrev own_sender : Process
+own_sender = unmarked (sent_at signal_system [] 16 4)
+
+-- it sends the signal by its step 4
+own_signal_sent : option_map (λ (r : Emission × ProcState). r.0) (emission_at signal_system [] (pid 16) 4) ≡ Some (Sent own_signal)
+unfolding boot one_step steps silently plain_after emission_at
+own_signal_sent = refl
+
+-- the signal has yet to arrive: it is neither among the saved letters that came to it nor among those that it has read,
+own_signal_marked : IsMarked signal_system (with_queue signal_system [] (own_post ∷ [])) (pid 16) own_sender
+unfolding boot one_step steps silently plain_after placement told silent_upto emission_at account_after
+own_signal_marked = record { since_start = refl; read = refl; clean = one_page _ (λ none. refl); unsent = one_page _ (λ marked. absurd (true≢false (sym marked))) }
+
+-- and may not be counted as read
+own_signal_refused : IsMarked signal_system (with_queue signal_system [] (own_post ∷ [])) (pid 16) (record own_sender { read = 0 ∷ [] }) → ⊥
+unfolding boot one_step steps silently plain_after placement told silent_upto emission_at account_after
+own_signal_refused marks = differ 1 0 refl (ap length marks.read)
+
 -- ---- records: the writer, whose backup is in cluster 0, has sent a letter by its end 1
 
 abbrev pub far_0 : Entry
@@ -296,6 +331,21 @@ waits_queued = record { kept = refl; moved = refl; pages = refl; some = omega ar
 waits_asked : WaitsAs far_system asked_log (pid 16) none_queued (reader_waits 1 None)
 unfolding boot one_step steps silently plain_after placement told silent_upto emission_at backup_record account_after
 waits_asked = record { kept = refl; moved = refl; pages = refl; some = omega arith; at_most = omega arith; asked = one_page _ refl; come = one_page _ refl }
+
+-- it may not say that it has asked for fewer pages than the log has fetches of,
+asked_refused : WaitsAs far_system asked_log (pid 16) none_queued (reader_waits 0 None) → ⊥
+unfolding boot one_step steps silently plain_after placement told silent_upto emission_at backup_record account_after
+asked_refused waits = true≢false (sym (waits.asked 0 (lit< tt)))
+
+-- nor for fewer than are queued,
+queued_refused : WaitsAs far_system lost_log (pid 16) (is_fetch_queued (pid 16) (fetch_of ∷ [])) (reader_waits 0 None) → ⊥
+unfolding boot one_step steps silently plain_after placement told silent_upto emission_at backup_record account_after
+queued_refused waits = true≢false (sym (waits.asked 0 (lit< tt)))
+
+-- nor for more than both have
+unasked_refused : WaitsAs far_system lost_log (pid 16) none_queued (reader_waits 1 None) → ⊥
+unfolding boot one_step steps silently plain_after placement told silent_upto emission_at backup_record account_after
+unasked_refused waits = true≢false (waits.asked 0 (lit< tt))
 
 -- the page that comes is that of its start
 waits_whole : WaitsAs far_system fetched_log (pid 16) none_queued (reader_waits 1 (Some (image_page reader_words)))

@@ -58,6 +58,12 @@ makes_a_step : default_item (one_process handles) ≡ Some (Run (record { 0 = 16
 unfolding default_item
 makes_a_step = refl
 
+-- ---- a run of no steps is no item: it cannot be applied, after none, and the kernel stands as before
+
+run_of_none : Applies (Run (record { 0 = 16 }) 0) (Err (Disabled 0)) reader reader
+unfolding steps
+run_of_none = (refl, refl, inl (refl, refl))
+
 -- ---- no call may answer so
 
 -- a run of no steps made one
@@ -70,3 +76,7 @@ refused_after_all p old new a = omega (arith, a.1)
 
 refused_after_a_step : (p c : Pid) (old new : Kernel) → Applies (Fork p c) (Err (NoMemory 1)) old new → ⊥
 refused_after_a_step p c old new a = omega (arith, a.1)
+
+-- or after a step of a take, which has none
+take_refused_after_a_step : (p : Pid) (old new : Kernel) → Applies (Take p) (Err (NoMemory 1)) old new → ⊥
+take_refused_after_a_step p old new a = omega (arith, a.1)
