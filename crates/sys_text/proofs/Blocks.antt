@@ -18,6 +18,7 @@ use Rattle.rv_asm.specs.Answers.{Refuses as AsmRefuses}
 use Rattle.sys_text.specs.declared.refusal.SystemRefused.{SystemRefused}
 use Rattle.sys_text.specs.declared.refusal.SystemRefused.TheVariants as refusals
 use Rattle.sys_text.specs.declared.refusal.Rule.TheVariants.{Room}
+use Rattle.sys_text.specs.declared.system.Image.{Image}
 use Rattle.sys_text.specs.declared.state.State.{State}
 use Rattle.sys_text.specs.Refusal.{number_of_rule}
 use Rattle.sys_text.specs.Reading.{Answer, Place, Step, Refuses, InBlock, close_block, rule_in_block, is_end, lines_before_end, ended_in_block, reading_from, goes_on}
@@ -166,8 +167,8 @@ refused_closes state header n lines (asm_refusals.Line asm_line asm_rule) (refus
     (rule_in_block a.0, ap (close_block state header n) a.1 ∙ ap (λ (k : ℕ). Refuses k (rule_in_block a.0)) (sym r.0), r.1 ∙ rule_is a.0 asm_rule a.2)
 refused_closes state header n lines asm_refusals.NoMemory (refusals.BadLine line rule) a r = absurd r
 
-pub words_too_many : (state : State) (header n : ℕ) (words : List ℕ) → 64 * state.open_image.pages < length words → close_block state header n (Ok words) ≡ Refuses n Room
-words_too_many state header n words lt = rw (lt-leb (length words) (64 * state.open_image.pages) lt) refl
+pub words_too_many : (state : State) (header n : ℕ) (words : List ℕ) (image : Image) → state.block ≡ Some image → 64 * image.pages < length words → close_block state header n (Ok words) ≡ Refuses n Room
+words_too_many state header n words image is lt = rw (is, lt-leb (length words) (64 * image.pages) lt) refl
 
 -- ---- the answer
 

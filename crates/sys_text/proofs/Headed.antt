@@ -1,5 +1,5 @@
 -- The four lines of a header that is printed are read.
-use Rattle.std.proofs.Common.{◌≡◌, ℕ, ◌<◌, ◌^◌, Bool, true, false, not, ◌&&◌, nat_lt, eqb, List, [], ◌∷◌, Some, refl, arith}
+use Rattle.std.proofs.Common.{◌≡◌, ℕ, ◌<◌, ◌^◌, Bool, true, false, not, ◌&&◌, nat_lt, eqb, List, [], ◌∷◌, Some, None, refl, arith}
 use Rattle.std.specs.Prelude.{codes}
 use Rattle.std.specs.Fmt.{decimal}
 use Rattle.text_parts.specs.Numbers.{number_of}
@@ -14,7 +14,7 @@ use Rattle.sys_text.specs.declared.system.Root.{Root}
 use Rattle.sys_text.specs.declared.state.State.{State}
 use Rattle.sys_text.specs.Valid.{is_within, is_pair, is_header, is_system}
 use Rattle.sys_text.specs.Line as lines
-use Rattle.sys_text.specs.Rules.{no_image, add}
+use Rattle.sys_text.specs.Rules.{add}
 use Rattle.sys_text.specs.Reading.{nothing_yet}
 use Rattle.sys_text.specs.Text.{header_lines}
 use Rattle.sys_text.proofs.Bounds.{first_of_two, second_of_two, system_bounds, tests}
@@ -63,7 +63,7 @@ abbrev numbers : Stage → ℕ → ClusterNo × ClusterNo → ℕ → ℕ → St
 numbers stage clusters pager reads steps = record {
   stage = stage;
   system = record { clusters = clusters; pager = pager; syncreads = reads; syncsteps = steps; images = []; roots = []; chans = [] };
-  open_image = no_image;
+  block = None;
 }
 
 abbrev no_pager : ClusterNo × ClusterNo
@@ -82,7 +82,7 @@ with_lists s images roots chans = record {
 }
 
 abbrev pub at_images : System → List Image → State
-at_images s done = record { stage = Images; system = with_lists s done [] []; open_image = no_image }
+at_images s done = record { stage = Images; system = with_lists s done [] []; block = None }
 
 adds_clusters : (f : List ℕ) (n : ℕ) → number_of f ≡ Some n → add nothing_yet keywords.Clusters (f ∷ []) ≡ numbers AfterClusters n no_pager 0 0
 adds_clusters f n e = rw e refl

@@ -1,5 +1,5 @@
 -- The image blocks that are printed are read.
-use Rattle.std.proofs.Common.{◌≡◌, ℕ, zero, suc, ◌+◌, ◌*◌, ◌<◌, ◌≤◌, ◌^◌, Bool, true, false, not, ◌&&◌, cond, leb, List, [], ◌∷◌, ◌++◌, length, map, take, drop, Some, None, Ok, refl, sym, ap, ◌∙◌, arith, append_assoc, append-nil, length-append, length-drop}
+use Rattle.std.proofs.Common.{◌≡◌, ℕ, zero, suc, ◌+◌, ◌*◌, ◌<◌, ◌≤◌, ◌^◌, Bool, true, false, not, ◌&&◌, cond, List, [], ◌∷◌, ◌++◌, length, map, take, drop, Some, None, Ok, refl, sym, ap, ◌∙◌, arith, append_assoc, append-nil, length-append, length-drop}
 use Rattle.std.specs.List.{flat_map, list_all}
 use Rattle.std.specs.Prelude.{codes, count_by, is_some}
 use Rattle.std.specs.Fmt.{decimal}
@@ -19,7 +19,7 @@ use Rattle.sys_text.specs.declared.state.State.{State}
 use Rattle.sys_text.specs.Valid.{is_within, is_name, is_word, is_image, is_named_once, are_images}
 use Rattle.sys_text.specs.Line.{words_in, is_word_field, line_of}
 use Rattle.sys_text.specs.Line as lines
-use Rattle.sys_text.specs.Rules.{place_of, add}
+use Rattle.sys_text.specs.Rules.{place_of, takes_more, add}
 use Rattle.sys_text.specs.Text.{word_text, words_line, words_lines, words_lines_upto, image_lines}
 use Rattle.sys_text.proofs.Bounds.{first_of_two, second_of_two, image_fits}
 use Rattle.sys_text.proofs.Keeping.{Keeps}
@@ -30,7 +30,7 @@ use Rattle.sys_text.proofs.Leading.{Leads, leads_none, leads_then, leads_one}
 -- ---- the first line of a block
 
 abbrev in_image : System → List Image → List ℕ → ℕ → List ℕ → State
-in_image s done name pages words = record { stage = InImage; system = with_lists s done [] []; open_image = record { name = name; pages = pages; words = words } }
+in_image s done name pages words = record { stage = InImage; system = with_lists s done [] []; block = Some (record { name = name; pages = pages; words = words }) }
 
 keeps_image : (state : State) (name f : List ℕ) (pages : ℕ) → is_name name ≡ true → number_of f ≡ Some pages → is_within 1 256 pages ≡ true → place_of state.system.images name ≡ None → Keeps state keywords.Image (name ∷ f ∷ [])
 keeps_image state name f pages h e w none = record { line = lines.Image name pages; read = rw (h, e) refl; rules = record { limits = rw w refl; same = refl; name = rw none refl; room = refl } }
@@ -65,11 +65,11 @@ words_read : (fields : List (List ℕ)) → 1 ≤ length fields → list_all is_
 words_read [] some kinds = absurd (omega (arith, some))
 words_read (field ∷ fields) some kinds = rw kinds refl
 
-keeps_words : (state : State) (fields : List (List ℕ)) (ws : List ℕ) → 1 ≤ length fields → list_all is_word_field fields ≡ true → words_in fields ≡ ws → length state.open_image.words + length ws ≤ 64 * state.open_image.pages → Keeps state keywords.Words fields
+keeps_words : (state : State) (fields : List (List ℕ)) (ws : List ℕ) → 1 ≤ length fields → list_all is_word_field fields ≡ true → words_in fields ≡ ws → takes_more state.block (length ws) ≡ true → Keeps state keywords.Words fields
 keeps_words state fields ws some kinds is fits = record {
   line = lines.Words ws;
   read = words_read fields some kinds ∙ ap (λ (words : List ℕ). Ok (lines.Words words)) is;
-  rules = record { limits = refl; same = refl; name = refl; room = not_of (leb (length state.open_image.words + length ws) (64 * state.open_image.pages)) (le-leb (length state.open_image.words + length ws) (64 * state.open_image.pages) fits) };
+  rules = record { limits = refl; same = refl; name = refl; room = not_of (takes_more state.block (length ws)) fits };
 }
 
 adds_words : (s : System) (done : List Image) (name : List ℕ) (pages : ℕ) (before ws : List ℕ) (fields : List (List ℕ)) → 1 ≤ length fields → list_all is_word_field fields ≡ true → words_in fields ≡ ws → add (in_image s done name pages before) keywords.Words fields ≡ in_image s done name pages (before ++ ws)
@@ -81,7 +81,7 @@ leads_line s done name pages before ws some words fits =
     let state = in_image s done name pages before in
     let same : length (map word_text ws) ≡ length ws = length-map ws word_text in
     leads_one state (in_image s done name pages (before ++ ws)) keywords.Words (codes "words") (map word_text ws) (both _ _ refl (plain_words ws)) refl refl refl
-    (keeps_words state (map word_text ws) ws (omega (arith, some, same)) (words_are_kinds ws words) (words_again ws words) fits) (adds_words s done name pages before ws (map word_text ws) (omega (arith, some, same)) (words_are_kinds ws words) (words_again ws words))
+    (keeps_words state (map word_text ws) ws (omega (arith, some, same)) (words_are_kinds ws words) (words_again ws words) (le-leb (length before + length ws) (64 * pages) fits)) (adds_words s done name pages before ws (map word_text ws) (omega (arith, some, same)) (words_are_kinds ws words) (words_again ws words))
 
 split_words : (ws : List ℕ) → list_all is_word ws ≡ true → (list_all is_word (take 8 ws) && list_all is_word (drop 8 ws)) ≡ true
 split_words ws h = sym (list_all-append is_word (take 8 ws) (drop 8 ws)) ∙ ap (list_all is_word) (take-append-drop 8 ws) ∙ h

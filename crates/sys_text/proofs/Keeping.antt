@@ -1,20 +1,23 @@
 -- What a line that breaks no rule keeps.
-use Rattle.std.proofs.Common.{◌≡◌, ℕ, ◌+◌, ◌*◌, ◌≤◌, Bool, true, false, not, leb, List, [], ◌∷◌, ◌++◌, length, Option, Some, None, Result, Ok, Err, refl, arith}
+use Rattle.std.proofs.Common.{◌≡◌, ℕ, ◌+◌, ◌≤◌, Bool, true, false, not, leb, List, [], ◌∷◌, ◌++◌, Option, Some, None, Result, Ok, Err, refl, arith}
 use Rattle.std.specs.List.{find}
+use Rattle.std.specs.Option.{option_map}
+use Rattle.std.specs.Prelude.{is_some}
 use Rattle.std.proofs.lemmas.Bool.{ltb-false}
 use Rattle.std.proofs.lemmas.Bool.Decides.{nat_tests}
-use Rattle.std.proofs.lemmas.List.{length-append, length_push}
+use Rattle.std.proofs.lemmas.List.{length_push}
 use Rattle.std.proofs.lemmas.List.Sums.{sum_by_push}
 use Rattle.sys_text.specs.declared.stage.Keyword.{Keyword}
 use Rattle.sys_text.specs.declared.refusal.Rule.{Rule}
 use Rattle.sys_text.specs.declared.refusal.Rule.TheVariants.{ForeignByte, Misplaced, FieldCount, FieldKind, Limit, Same, Name, Room, Assembler, Ended}
 use Rattle.sys_text.specs.declared.line.RootFields.{RootFields}
+use Rattle.sys_text.specs.declared.system.Image.{Image}
 use Rattle.sys_text.specs.declared.system.Root.{Root}
 use Rattle.sys_text.specs.declared.state.State.{State}
 use Rattle.sys_text.specs.Valid.{is_within, births_of}
 use Rattle.sys_text.specs.Line.{Line, line_of}
 use Rattle.sys_text.specs.Line as lines
-use Rattle.sys_text.specs.Rules.{image_named, places_with, keeps_limits, are_same, misnames, overfills, breaks_as, breaks_said, lowest_of, lowest_with, root_of, with_root, add_line, add, HasRoom}
+use Rattle.sys_text.specs.Rules.{image_named, places_with, keeps_limits, are_same, misnames, overfills, breaks_as, breaks_said, lowest_of, lowest_with, root_of, with_root, image_with, add_line, add, HasRoom}
 
 -- ---- each rule by itself
 
@@ -91,21 +94,23 @@ root_room state fields None free r = r
 root_room state fields (Some place) free r =
     let room = ltb-false 32 (places_with state.system fields.births) free in
     let root = root_of fields place in
-    record { clusters = r.clusters; places = omega (arith, room, length_push state.system.roots root, births-root state.system.roots root); pages = r.pages; words = r.words }
+    record { clusters = r.clusters; places = omega (arith, room, length_push state.system.roots root, births-root state.system.roots root); image = λ e. absurd cc }
+
+still_some : (f : Image → Image) (o : Option Image) → is_some o ≡ true → is_some (option_map f o) ≡ true
+still_some f None h = absurd cc
+still_some f (Some image) h = refl
 
 room_line : (state : State) (line : Line) → KeepsRules state line → HasRoom state → HasRoom (add_line state line)
-room_line state (lines.Clusters count) k r = record { clusters = within_le 2 16 count k.limits; places = r.places; pages = r.pages; words = r.words }
-room_line state (lines.Pager first second) k r = record { clusters = r.clusters; places = r.places; pages = r.pages; words = r.words }
-room_line state (lines.Syncreads count) k r = record { clusters = r.clusters; places = r.places; pages = r.pages; words = r.words }
-room_line state (lines.Syncsteps count) k r = record { clusters = r.clusters; places = r.places; pages = r.pages; words = r.words }
-room_line state (lines.Image name pages) k r = record { clusters = r.clusters; places = r.places; pages = within_le 1 256 pages k.limits; words = omega arith }
-room_line state (lines.Asm name pages) k r = record { clusters = r.clusters; places = r.places; pages = within_le 1 256 pages k.limits; words = omega arith }
-room_line state (lines.Words words) k r =
-    let room = le_of (length state.open_image.words + length words) (64 * state.open_image.pages) k.room in
-    record { clusters = r.clusters; places = r.places; pages = r.pages; words = omega (arith, room, length-append state.open_image.words words) }
-room_line state lines.End k r = record { clusters = r.clusters; places = r.places; pages = omega arith; words = omega arith }
+room_line state (lines.Clusters count) k r = record { clusters = within_le 2 16 count k.limits; places = r.places; image = λ e. absurd cc }
+room_line state (lines.Pager first second) k r = record { clusters = r.clusters; places = r.places; image = λ e. absurd cc }
+room_line state (lines.Syncreads count) k r = record { clusters = r.clusters; places = r.places; image = λ e. absurd cc }
+room_line state (lines.Syncsteps count) k r = record { clusters = r.clusters; places = r.places; image = λ e. absurd cc }
+room_line state (lines.Image name pages) k r = record { clusters = r.clusters; places = r.places; image = λ e. refl }
+room_line state (lines.Asm name pages) k r = record { clusters = r.clusters; places = r.places; image = λ e. refl }
+room_line state (lines.Words words) k r = record { clusters = r.clusters; places = r.places; image = λ e. still_some (λ image. image_with image (image.words ++ words)) state.block (r.image e) }
+room_line state lines.End k r = record { clusters = r.clusters; places = r.places; image = λ e. absurd cc }
 room_line state (lines.Root root image) k r = root_room state root (image_named state.system image) k.room r
-room_line state (lines.Chan first second) k r = record { clusters = r.clusters; places = r.places; pages = r.pages; words = r.words }
+room_line state (lines.Chan first second) k r = record { clusters = r.clusters; places = r.places; image = λ e. absurd cc }
 
 pub room_kept : (state : State) (keyword : Keyword) (fields : List (List ℕ)) → lowest_with state keyword fields ≡ None → HasRoom state → HasRoom (add state keyword fields)
 room_kept state keyword fields e r =

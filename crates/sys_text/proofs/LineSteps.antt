@@ -1,9 +1,11 @@
 -- What a line that is read leads to.
-use Rattle.std.proofs.Common.{◌≡◌, ℕ, ◌≤◌, Bool, true, false, not, ◌&&◌, ◌||◌, leb, nat_lt, List, ◌∷◌, length, Option, Some, None, Ok, refl, ◌∙◌, arith}
+use Rattle.std.proofs.Common.{◌≡◌, ℕ, ◌≤◌, Bool, true, false, not, ◌&&◌, ◌||◌, leb, nat_lt, List, ◌∷◌, length, Option, Some, None, Ok, refl, sym, ap, ◌∙◌, arith}
+use Rattle.std.specs.Prelude.{is_some}
 use Rattle.std.proofs.lemmas.Bool.Decides.{nat_tests}
 use Rattle.text_parts.specs.Lines.{are_printable, fields_of}
 use Rattle.sys_text.specs.declared.stage.Keyword.{Keyword}
 use Rattle.sys_text.specs.declared.stage.Keyword.TheVariants.{Words}
+use Rattle.sys_text.specs.declared.stage.Keyword.TheVariants as keywords
 use Rattle.sys_text.specs.declared.refusal.Rule.{Rule}
 use Rattle.sys_text.specs.declared.refusal.Rule.TheVariants.{ForeignByte, Misplaced}
 use Rattle.sys_text.specs.declared.refusal.SystemRefused.{SystemRefused}
@@ -12,13 +14,15 @@ use Rattle.sys_text.specs.declared.state.State.{State}
 use Rattle.sys_text.specs.Valid.{is_within}
 use Rattle.sys_text.specs.Line.{Line, line_of}
 use Rattle.sys_text.specs.Line as lines
-use Rattle.sys_text.specs.Rules.{keyword_in, begins_comment, is_skipped, broken_by, lowest_of, add_line, add, HasRoom}
+use Rattle.sys_text.specs.Rules.{may_stand, keyword_in, begins_comment, is_skipped, broken_by, lowest_of, add_line, add, HasRoom}
 use Rattle.sys_text.specs.Numbers.{Fits}
 use Rattle.sys_text.specs.Fronts.{Starts}
 use Rattle.sys_text.specs.Reading.{is_asm, kept, kept_line, step_outside}
 use Rattle.sys_text.specs.Answers.{RefusesStep, TakesLine}
 use Rattle.sys_text.specs.WordLines.{IsWordsLine, RefusesBy}
 use Rattle.sys_text.proofs.Keeping.{kept_rules, lowest_read, within_le}
+use Rattle.sys_text.proofs.Spelling.{keyword_said, said_keyword}
+use Rattle.sys_text.proofs.Standing.{rank, in_image, stands, stands_at}
 
 -- ---- the front of a line
 
@@ -32,10 +36,10 @@ pub misplaced : (state : State) (line first : List ℕ) (fields : List (List ℕ
 misplaced state line first fields printable cut comment key = rw (printable, cut, comment, key) refl
 
 pub starts : (state : State) (line : List ℕ) (keyword : Keyword) (first : List ℕ) (fields : List (List ℕ)) → are_printable line ≡ true → fields_of line ≡ first ∷ fields → begins_comment first ≡ false → keyword_in state.stage first ≡ Some keyword → Starts state line keyword fields
-starts state line keyword first fields printable cut comment key = record { broken = rw (printable, cut, comment, key) refl; kept = rw (cut, comment, key) refl }
+starts state line keyword first fields printable cut comment key = record { stands = stands state.stage _ keyword key; broken = rw (printable, cut, comment, key) refl; kept = rw (cut, comment, key) refl }
 
 pub words_start : (state : State) (line rest : List ℕ) → IsWordsLine state.stage line rest → Starts state line Words (fields_of rest)
-words_start state line rest w = record { broken = rw (w.printable, w.fields, w.in_image) refl; kept = rw (w.fields, w.in_image) refl }
+words_start state line rest w = record { stands = rw w.in_image refl; broken = rw (w.printable, w.fields, w.in_image) refl; kept = rw (w.fields, w.in_image) refl }
 
 -- ---- a line that breaks no rule
 
@@ -75,6 +79,28 @@ fits state (lines.Root root image) e r =
 fits state (lines.Chan first second) e r =
     let le = chan_le (length state.system.roots) first second (kept_rules state (lines.Chan first second) e).name in
     (omega (arith, le.0, r.places), omega (arith, le.1, r.places))
+
+-- ---- the block that is open where it stands, or behind it
+
+pub end_closes : (state : State) (keyword : Keyword) (fields : List (List ℕ)) (read : Line) → line_of keyword fields ≡ Ok read → may_stand state.stage keyword ≡ true → HasRoom state → read ≡ lines.End → is_some state.block ≡ true
+end_closes state keyword fields read e stands room is =
+    let same : keyword ≡ keywords.End = sym (said_keyword keyword fields read e) ∙ ap keyword_said is in
+    room.image (in_image state.stage (stands_at state.stage keywords.End (ap (may_stand state.stage) (sym same) ∙ stands)))
+
+pub asm_line : (state : State) (line : Line) → is_asm (keyword_said line) ≡ true → (rank (add_line state line).stage ≡ 5) × (is_some (add_line state line).block ≡ true)
+asm_line state (lines.Clusters count) h = absurd cc
+asm_line state (lines.Pager first second) h = absurd cc
+asm_line state (lines.Syncreads count) h = absurd cc
+asm_line state (lines.Syncsteps count) h = absurd cc
+asm_line state (lines.Image name pages) h = absurd cc
+asm_line state (lines.Asm name pages) h = (refl, refl)
+asm_line state (lines.Words words) h = absurd cc
+asm_line state lines.End h = absurd cc
+asm_line state (lines.Root root image) h = absurd cc
+asm_line state (lines.Chan first second) h = absurd cc
+
+pub asm_opens_block : (state after : State) (keyword : Keyword) (fields : List (List ℕ)) (read : Line) (opens : Bool) → line_of keyword fields ≡ Ok read → after ≡ add_line state read → opens ≡ is_asm keyword → opens ≡ true → is_some after.block ≡ true
+asm_opens_block state after keyword fields read opens e is asm h = rw is (asm_line state read (ap is_asm (said_keyword keyword fields read e) ∙ sym asm ∙ h)).1
 
 -- ---- what it leads to
 

@@ -1,7 +1,7 @@
 -- The system of a text keeps the rules.
-use Rattle.std.proofs.Common.{◌≡◌, ℕ, ◌+◌, ◌*◌, ◌≤◌, Bool, true, false, ◌&&◌, nat_le, nat_lt, List, [], ◌∷◌, ◌++◌, length, Option, Some, None, Result, Ok, Err, refl, sym, ap, ◌∙◌, arith}
+use Rattle.std.proofs.Common.{◌≡◌, ℕ, ◌+◌, ◌≤◌, Bool, true, false, ◌&&◌, nat_le, nat_lt, List, [], ◌∷◌, ◌++◌, length, Option, Some, None, Result, Ok, Err, refl, ap, ◌∙◌, arith}
 use Rattle.std.specs.List.{list_all, range_with_len}
-use Rattle.std.proofs.lemmas.Bool.{le-leb, leb-true}
+use Rattle.std.proofs.lemmas.Bool.{le-leb}
 use Rattle.text_parts.specs.Lines.{are_printable, lines_of, fields_of}
 use Rattle.rv_asm.specs.Program.{reading_of_lines}
 use Rattle.rv_asm.specs.declared.refusal.Rule.{Rule as AsmRule}
@@ -15,18 +15,17 @@ use Rattle.sys_text.specs.declared.system.Root.{Root}
 use Rattle.sys_text.specs.declared.state.State.{State}
 use Rattle.sys_text.specs.Valid.{is_within, is_pair, is_word, is_image, is_root, births_of, links, are_images, are_roots, are_chans, is_system}
 use Rattle.sys_text.specs.Types.{have_words, have_numbers}
-use Rattle.sys_text.specs.Line.{Line}
-use Rattle.sys_text.specs.Line as lines
-use Rattle.sys_text.specs.Rules.{may_stand, keyword_in, allowed, first_of, rest_of, is_skipped, broken_by, fit_pages, closed, add_line, add}
+use Rattle.sys_text.specs.Rules.{keyword_in, first_of, rest_of, is_skipped, broken_by, fit_open, closed_with, add}
 use Rattle.sys_text.specs.Reading.{Answer, Place, Step, Goes, Refuses, Outside, InBlock, close_block, is_end, is_asm, kept, kept_line, line_or_rule, step, ended, ended_in_block, may_end, nothing_yet, reading_from, system_of_lines, reading_of}
 use Rattle.sys_text.proofs.Bounds.{first_of_two, second_of_two}
 use Rattle.sys_text.proofs.Keeping.{Keeps, keeps}
-use Rattle.sys_text.proofs.Spelling.{keyword_said, said_keyword}
+use Rattle.sys_text.proofs.Spelling.{said_keyword}
 use Rattle.sys_text.proofs.Taking.{lowest_none}
 use Rattle.sys_text.proofs.Printed.{both}
-use Rattle.sys_text.proofs.Standing.{rank, stands_at}
+use Rattle.sys_text.proofs.LineSteps.{asm_line}
+use Rattle.sys_text.proofs.Standing.{rank, stands, stands_at}
 use Rattle.sys_text.proofs.Sound.{IsSound, is_shaped, is_placed}
-use Rattle.sys_text.proofs.Sounding.{sound_add, sound_closed}
+use Rattle.sys_text.proofs.Sounding.{sound_add, sound_closed_with}
 
 -- ---- places
 
@@ -54,28 +53,8 @@ nothing_is_sound = record {
 
 -- ---- a line outside blocks
 
-stands : (stage : Stage) (o : Option Keyword) (keyword : Keyword) → allowed stage o ≡ Some keyword → may_stand stage keyword ≡ true
-stands stage None keyword e = absurd cc
-stands stage (Some other) keyword e = by_test (may_stand stage other) refl
-  where
-    by_test : (b : Bool) → may_stand stage other ≡ b → may_stand stage keyword ≡ true
-    by_test true h = let f = rw h at e in let same : other ≡ keyword = cc in ap (may_stand stage) (sym same) ∙ h
-    by_test false h = let f = rw h at e in absurd cc
-
-asm_line : (state : State) (line : Line) → is_asm (keyword_said line) ≡ true → rank (add_line state line).stage ≡ 5
-asm_line state (lines.Clusters count) h = absurd cc
-asm_line state (lines.Pager first second) h = absurd cc
-asm_line state (lines.Syncreads count) h = absurd cc
-asm_line state (lines.Syncsteps count) h = absurd cc
-asm_line state (lines.Image name pages) h = absurd cc
-asm_line state (lines.Asm name pages) h = refl
-asm_line state (lines.Words words) h = absurd cc
-asm_line state lines.End h = absurd cc
-asm_line state (lines.Root root image) h = absurd cc
-asm_line state (lines.Chan first second) h = absurd cc
-
 asm_opens : (state : State) (keyword : Keyword) (fields : List (List ℕ)) → Keeps state keyword fields → is_asm keyword ≡ true → rank (add state keyword fields).stage ≡ 5
-asm_opens state keyword fields k h = rw k.read (asm_line state k.line (ap is_asm (said_keyword keyword fields k.line k.read) ∙ h))
+asm_opens state keyword fields k h = rw k.read (asm_line state k.line (ap is_asm (said_keyword keyword fields k.line k.read) ∙ h)).0
 
 -- a state that is sound, and has an open image where it opens a block
 IsSoundAfter : State × Bool → Type 0
@@ -117,10 +96,10 @@ outside_goes_on state n line (Some rule) next broken e s = absurd cc
 
 block_closes : (state : State) (header n : ℕ) (answer : Result (List ℕ) (ℕ × AsmRule)) (next : Place) → close_block state header n answer ≡ Goes next → IsSound state → rank state.stage ≡ 5 → IsSoundAt next
 block_closes state header n (Err refused) next e s at = absurd cc
-block_closes state header n (Ok words) next e s at = by_fit (fit_pages (length words) state.open_image.pages) refl
+block_closes state header n (Ok words) next e s at = by_fit (fit_open state.block (length words)) refl
   where
-    by_fit : (b : Bool) → fit_pages (length words) state.open_image.pages ≡ b → IsSoundAt next
-    by_fit true h = let f = rw h at e in rw (← goes (Outside (closed state words)) next f) (sound_closed state words at (leb-true (length words) (64 * state.open_image.pages) h) s)
+    by_fit : (b : Bool) → fit_open state.block (length words) ≡ b → IsSoundAt next
+    by_fit true h = let f = rw h at e in rw (← goes (Outside (closed_with state words)) next f) (sound_closed_with state words at h s)
     by_fit false h = let f = rw h at e in absurd cc
 
 step_sound : (place : Place) (n : ℕ) (line : List ℕ) (next : Place) → step place n line ≡ Goes next → IsSoundAt place → IsSoundAt next

@@ -1,5 +1,5 @@
 -- The canonical text of a system that keeps the rules is read as this system.
-use Rattle.std.proofs.Common.{◌≡◌, ℕ, ◌+◌, ◌<◌, ◌≤◌, ◌^◌, Bool, true, false, ◌&&◌, ◌||◌, cond, eqb, leb, List, [], ◌∷◌, ◌++◌, length, map, Some, Ok, refl, sym, ap, ◌∙◌, arith, append_assoc, append-nil}
+use Rattle.std.proofs.Common.{◌≡◌, ℕ, ◌+◌, ◌<◌, ◌≤◌, ◌^◌, Bool, true, false, ◌&&◌, ◌||◌, cond, eqb, leb, List, [], ◌∷◌, ◌++◌, length, map, Some, None, Ok, refl, sym, ap, ◌∙◌, arith, append_assoc, append-nil}
 use Rattle.std.specs.List.{flat_map, list_all}
 use Rattle.std.specs.Prelude.{codes}
 use Rattle.std.specs.Fmt.{decimal}
@@ -14,7 +14,7 @@ use Rattle.sys_text.specs.declared.system.System.{System}
 use Rattle.sys_text.specs.declared.state.State.{State}
 use Rattle.sys_text.specs.Valid.{is_chan, links, is_system}
 use Rattle.sys_text.specs.Line as lines
-use Rattle.sys_text.specs.Rules.{keyword_in, is_full, has_root, no_image, add}
+use Rattle.sys_text.specs.Rules.{keyword_in, is_full, has_root, add}
 use Rattle.sys_text.specs.Reading.{Outside, may_end, nothing_yet, reading_from, system_of_lines, reading_of}
 use Rattle.sys_text.specs.Text.{chan_line, root_line, image_lines, header_lines, system_lines, system_text}
 use Rattle.sys_text.proofs.Bounds.{first_of_two, second_of_two, tests, system_bounds, link_bounds}
@@ -28,7 +28,7 @@ use Rattle.sys_text.proofs.Leading.{Leads, Ends, leads_one, leads_to_end}
 -- ---- a channel
 
 abbrev at_chans : Stage → System → List (ℕ × ℕ) → State
-at_chans stage s done = record { stage = stage; system = with_lists s s.images s.roots done; open_image = no_image }
+at_chans stage s done = record { stage = stage; system = with_lists s s.images s.roots done; block = None }
 
 record ChanParts (s : System) (chan : ℕ × ℕ) : Type 0 where
   first : has_root s chan.0 ≡ true

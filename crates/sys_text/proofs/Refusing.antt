@@ -16,7 +16,7 @@ use Rattle.sys_text.specs.declared.refusal.Rule.TheVariants.{ForeignByte, Mispla
 use Rattle.sys_text.specs.declared.refusal.SystemRefused.{SystemRefused}
 use Rattle.sys_text.specs.declared.refusal.SystemRefused.TheVariants as refusals
 use Rattle.sys_text.specs.Refusal.{number_of_rule}
-use Rattle.sys_text.specs.Rules.{breaks, rules, broken_by, closed, fit_pages}
+use Rattle.sys_text.specs.Rules.{breaks, rules, broken_by, closed_with, fit_open}
 use Rattle.sys_text.specs.Reading.{Answer, Place, Outside, InBlock, nothing_yet, rule_in_block, is_end, last_line, may_end, ended, ended_in_block, close_block, kept, kept_line, step_outside, goes_on, reading_from, reading_of, system_of_lines}
 use Rattle.sys_text.specs.RuleByRule.{place_with, place_after, breaks_outside, lacks_room, before_end, refuses_line, refuses_in, fails_to_assemble, may_end_at, ends_early, breaks_line, breaks_among, one_or_more, place_behind, system_at, IsSystemOf, IsFirstBroken, HasCause}
 use Rattle.sys_text.specs.Answers.{Answers}
@@ -381,7 +381,7 @@ module _ (state : State) (header : ℕ) where
       (subst (λ (p : Place). Q p (n + 1) (lines ++ end ∷ after)) (sym (same_place done (n + 1) line o.0)) rest)
 
   -- the end of a block whose words fit
-  keeps_end : (done : List (List ℕ)) (n : ℕ) (line : List ℕ) (after : List (List ℕ)) (words : List ℕ) → reading_of_lines done ≡ Ok words → is_end (fields_of line) ≡ true → fit_pages (length words) state.open_image.pages ≡ true → Keeps (InBlock state header done) n line after
+  keeps_end : (done : List (List ℕ)) (n : ℕ) (line : List ℕ) (after : List (List ℕ)) (words : List ℕ) → reading_of_lines done ≡ Ok words → is_end (fields_of line) ≡ true → fit_open state.block (length words) ≡ true → Keeps (InBlock state header done) n line after
   keeps_end done n line after words asm ends fits = record {
     foreign = ap not (end_printable line ends);
     fields = λ rule le. refl;
@@ -391,19 +391,19 @@ module _ (state : State) (header : ℕ) where
 
   -- the end of a block of which the assembler gives the words
   end_line : (done : List (List ℕ)) (n : ℕ) (line : List ℕ) (after : List (List ℕ)) (words : List ℕ) (m : ℕ) (rule : Rule) → reading_of_lines done ≡ Ok words → is_end (fields_of line) ≡ true → goes_on (close_block state header (n + 1) (Ok words)) (λ next. reading_from next (n + 1) after) ≡ Err (m, rule)
-      → (reading_from (Outside (closed state words)) (n + 1) after ≡ Err (m, rule) → Found (Outside (closed state words)) (n + 1) after m rule) → FirstAmong (InBlock state header done) n (line ∷ after) m rule
-  end_line done n line after words m rule asm ends e next = by_fit (fit_pages (length words) state.open_image.pages) refl
+      → (reading_from (Outside (closed_with state words)) (n + 1) after ≡ Err (m, rule) → Found (Outside (closed_with state words)) (n + 1) after m rule) → FirstAmong (InBlock state header done) n (line ∷ after) m rule
+  end_line done n line after words m rule asm ends e next = by_fit (fit_open state.block (length words)) refl
     where
       printable : not (are_printable line) ≡ false
       printable = ap not (end_printable line ends)
 
-      asked : lacks_room (InBlock state header done) line ≡ not (fit_pages (length words) state.open_image.pages)
+      asked : lacks_room (InBlock state header done) line ≡ not (fit_open state.block (length words))
       asked = rw (ends, asm) refl
 
-      by_fit : (b : Bool) → fit_pages (length words) state.open_image.pages ≡ b → FirstAmong (InBlock state header done) n (line ∷ after) m rule
+      by_fit : (b : Bool) → fit_open state.block (length words) ≡ b → FirstAmong (InBlock state header done) n (line ∷ after) m rule
       by_fit true h =
           let f = rw h at e in
-          behind (InBlock state header done) (Outside (closed state words)) n line after m rule (keeps_end done (n + 1) line after words asm ends h) (rw (ends, asm) refl) (next f)
+          behind (InBlock state header done) (Outside (closed_with state words)) n line after m rule (keeps_end done (n + 1) line after words asm ends h) (rw (ends, asm) refl) (next f)
       by_fit false h =
           let f = rw h at e in
           renamed (InBlock state header done) n (line ∷ after) (n + 1, Room) (m, rule) f (now (InBlock state header done) n line after Room (asked ∙ ap not h) (λ lower lt. below_room done (n + 1) line after printable lower lt))
@@ -472,7 +472,7 @@ line_inside state header done n line lines m rule next e at o = by_end (is_end (
         (refused_block state header [] header 1 done done line lines refused.0 refused.1 refl asm o h refl (refused_prints done refused.0 refused.1 asm))
     by_words h (Ok words) asm f =
         words_block state header (λ place n lines. FirstAmong place n lines m rule) (λ place n line lines. later place n line lines m rule) [] header done done words line lines refl asm o h (words_print done words asm)
-        (subst (λ (i : ℕ). FirstAmong (InBlock state header done) i (line ∷ lines) m rule) at (end_line state header done n line lines words m rule asm h f (λ g. next (Outside (closed state words)) g)))
+        (subst (λ (i : ℕ). FirstAmong (InBlock state header done) i (line ∷ lines) m rule) at (end_line state header done n line lines words m rule asm h f (λ g. next (Outside (closed_with state words)) g)))
 
     by_end : (b : Bool) → is_end (fields_of line) ≡ b → Found (InBlock state header []) header (done ++ line ∷ lines) m rule
     by_end true h = let f = rw h at e in some_lines (InBlock state header []) header done line lines m rule (by_words h (reading_of_lines done) refl f)
@@ -551,11 +551,11 @@ kept_inside : (state : State) (header : ℕ) (done : List (List ℕ)) (n : ℕ) 
     → reading_from (InBlock state header done) n (line ∷ lines) ≡ Ok system → n ≡ header + length done → IsOpen done → AllKept (InBlock state header []) header (done ++ line ∷ lines) system
 kept_inside state header done n line lines system next e at o = by_end (is_end (fields_of line)) refl
   where
-    at_end_line : (words : List ℕ) → is_end (fields_of line) ≡ true → reading_of_lines done ≡ Ok words → (b : Bool) → fit_pages (length words) state.open_image.pages ≡ b → goes_on (close_block state header (n + 1) (Ok words)) (λ next. reading_from next (n + 1) lines) ≡ Ok system
+    at_end_line : (words : List ℕ) → is_end (fields_of line) ≡ true → reading_of_lines done ≡ Ok words → (b : Bool) → fit_open state.block (length words) ≡ b → goes_on (close_block state header (n + 1) (Ok words)) (λ next. reading_from next (n + 1) lines) ≡ Ok system
         → AllKept (InBlock state header done) n (line ∷ lines) system
     at_end_line words h asm true fits f =
         let g = rw fits at f in
-        kept_behind (InBlock state header done) (Outside (closed state words)) n line lines system (keeps_end state header done (n + 1) line lines words asm h fits) (rw (h, asm) refl) (next (Outside (closed state words)) g)
+        kept_behind (InBlock state header done) (Outside (closed_with state words)) n line lines system (keeps_end state header done (n + 1) line lines words asm h fits) (rw (h, asm) refl) (next (Outside (closed_with state words)) g)
     at_end_line words h asm false fits f = let g = rw fits at f in absurd cc
 
     by_words : is_end (fields_of line) ≡ true → (reading : Result (List ℕ) (ℕ × AsmRule)) → reading_of_lines done ≡ reading → goes_on (close_block state header (n + 1) reading) (λ next. reading_from next (n + 1) lines) ≡ Ok system
@@ -563,7 +563,7 @@ kept_inside state header done n line lines system next e at o = by_end (is_end (
     by_words h (Err refused) asm f = absurd cc
     by_words h (Ok words) asm f =
         words_block state header (λ place n lines. AllKept place n lines system) (λ place n line lines. kept_later place n line lines system) [] header done done words line lines refl asm o h (words_print done words asm)
-        (subst (λ (i : ℕ). AllKept (InBlock state header done) i (line ∷ lines) system) at (at_end_line words h asm (fit_pages (length words) state.open_image.pages) refl f))
+        (subst (λ (i : ℕ). AllKept (InBlock state header done) i (line ∷ lines) system) at (at_end_line words h asm (fit_open state.block (length words)) refl f))
 
     by_end : (b : Bool) → is_end (fields_of line) ≡ b → AllKept (InBlock state header []) header (done ++ line ∷ lines) system
     by_end true h = let f = rw h at e in by_words h (reading_of_lines done) refl f

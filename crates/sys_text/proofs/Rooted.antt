@@ -1,5 +1,5 @@
 -- The lines of roots and of channels that are printed are read.
-use Rattle.std.proofs.Common.{◌≡◌, ℕ, zero, suc, ◌+◌, ◌<◌, ◌≤◌, ◌^◌, Bool, true, false, nat_lt, eqb, List, [], ◌∷◌, ◌++◌, length, map, Some, refl, sym, ap, ◌∙◌, arith, append_assoc, append-nil, length-append, slice_get}
+use Rattle.std.proofs.Common.{◌≡◌, ℕ, zero, suc, ◌+◌, ◌<◌, ◌≤◌, ◌^◌, Bool, true, false, nat_lt, eqb, List, [], ◌∷◌, ◌++◌, length, map, Some, None, refl, sym, ap, ◌∙◌, arith, append_assoc, append-nil, length-append, slice_get}
 use Rattle.std.specs.List.{list_all}
 use Rattle.std.specs.Prelude.{codes}
 use Rattle.std.specs.Fmt.{decimal}
@@ -19,7 +19,7 @@ use Rattle.sys_text.specs.Valid.{is_within, is_name, is_image, is_root, is_named
 use Rattle.sys_text.specs.declared.line.RootFields.{RootFields}
 use Rattle.sys_text.specs.Kinds.{mode_named}
 use Rattle.sys_text.specs.Line as lines
-use Rattle.sys_text.specs.Rules.{keyword_in, place_of, places_with, no_image, add}
+use Rattle.sys_text.specs.Rules.{keyword_in, place_of, places_with, add}
 use Rattle.sys_text.specs.Text.{image_name, root_line, mode_text}
 use Rattle.sys_text.proofs.Bounds.{first_of_two, second_of_two, root_fits, root_image, root_tests, tests, system_bounds}
 use Rattle.sys_text.proofs.Keeping.{Keeps}
@@ -60,7 +60,7 @@ place_again (x ∷ images) (suc i) image e once = by_name (λ h. place_again ima
 -- ---- a root
 
 abbrev pub at_roots : Stage → System → List Root → State
-at_roots stage s done = record { stage = stage; system = with_lists s s.images done []; open_image = no_image }
+at_roots stage s done = record { stage = stage; system = with_lists s s.images done []; block = None }
 
 -- the fields of a line stand for the parts of a root
 record Spells (s : System) (root : Root) (home backup mode name limit births tty : List ℕ) : Type 0 where

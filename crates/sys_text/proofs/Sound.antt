@@ -31,6 +31,13 @@ is_placed clusters images root = is_pair clusters root.home root.backup && nat_l
 abbrev pub are_once : List Image → List Image → Bool
 are_once all images = list_all (λ (image : Image). is_named_once all image.name) images
 
+-- an image is open that is well shaped, and whose name is new
+pub record HasOpen (images : List Image) (block : Option Image) : Type 0 where
+  pub image : Image
+  pub is_open : block ≡ Some image
+  pub shaped : is_shaped image ≡ true
+  pub fresh : place_of images image.name ≡ None
+
 pub record IsSound (state : State) : Type 0 where
   pub clusters : 1 ≤ rank state.stage → is_within 2 16 state.system.clusters ≡ true
   pub pager : 2 ≤ rank state.stage → is_pair state.system.clusters (state.system.pager).0 (state.system.pager).1 ≡ true
@@ -44,7 +51,7 @@ pub record IsSound (state : State) : Type 0 where
   pub some : 6 ≤ rank state.stage → 1 ≤ length state.system.roots
   pub chans : list_all (is_chan (length state.system.roots)) state.system.chans ≡ true
   pub linked : (root : ℕ) → links state.system.chans root ≤ 31
-  pub block : rank state.stage ≡ 5 → (is_shaped state.open_image ≡ true) × (place_of state.system.images state.open_image.name ≡ None)
+  pub block : rank state.stage ≡ 5 → HasOpen state.system.images state.block
 
 -- ---- small facts
 

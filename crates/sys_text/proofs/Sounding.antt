@@ -1,9 +1,9 @@
 -- Lines that break no rule keep a system sound.
-use Rattle.std.proofs.Common.{◌≡◌, ℕ, ◌+◌, ◌*◌, ◌<◌, ◌≤◌, Bool, true, false, not, ◌&&◌, ◌||◌, eqb, leb, nat_le, nat_lt, List, [], ◌∷◌, ◌++◌, length, Option, Some, None, refl, ap, ◌∙◌, arith, length-append}
+use Rattle.std.proofs.Common.{◌≡◌, ℕ, ◌+◌, ◌*◌, ◌<◌, ◌≤◌, Bool, true, false, not, ◌&&◌, ◌||◌, eqb, nat_le, nat_lt, List, [], ◌∷◌, ◌++◌, length, Option, Some, None, refl, ap, ◌∙◌, arith, length-append}
 use Rattle.std.specs.List.{list_all}
 use Rattle.std.specs.Prelude.{is_none}
-use Rattle.std.proofs.lemmas.Bool.{not-false, le-leb, ltb-false, lt-ltb}
-use Rattle.std.proofs.lemmas.Bool.Decides.{nat_tests}
+use Rattle.std.specs.Option.{option_map}
+use Rattle.std.proofs.lemmas.Bool.{not-false, le-leb, leb-true, ltb-false, lt-ltb}
 use Rattle.sys_text.specs.declared.stage.Keyword.{Keyword}
 use Rattle.sys_text.specs.declared.line.RootFields.{RootFields}
 use Rattle.sys_text.specs.declared.system.Image.{Image}
@@ -11,13 +11,13 @@ use Rattle.sys_text.specs.declared.state.State.{State}
 use Rattle.sys_text.specs.Valid.{is_within, is_name, is_chan}
 use Rattle.sys_text.specs.Line.{Line}
 use Rattle.sys_text.specs.Line as lines
-use Rattle.sys_text.specs.Rules.{place_of, image_named, has_root, places_with, keeps_limits, root_of, with_root, with_open, closed, add_line, add}
+use Rattle.sys_text.specs.Rules.{place_of, image_named, has_root, places_with, keeps_limits, root_of, with_root, fit_open, takes_more, no_words, image_with, with_open, closed, closed_with, add_line, add}
 use Rattle.sys_text.proofs.Bounds.{first_of_two, second_of_two}
 use Rattle.sys_text.proofs.Keeping.{Keeps, KeepsRules, le_of, births-root}
 use Rattle.sys_text.proofs.Printed.{both, all_joined}
 use Rattle.sys_text.proofs.Spelling.{keyword_said, said_keyword, HasName, has_name}
 use Rattle.sys_text.proofs.Standing.{rank, StandsAt}
-use Rattle.sys_text.proofs.Sound.{IsSound, is_shaped, is_placed, not_true, none_of, once_push, place_within, more_images, more_roots, links_few}
+use Rattle.sys_text.proofs.Sound.{HasOpen, IsSound, is_shaped, is_placed, not_true, none_of, once_push, place_within, more_images, more_roots, links_few}
 
 -- ---- the header
 
@@ -117,36 +117,40 @@ sound_opened state image pages name within none st s = record {
   some = λ r. absurd (omega (arith, r));
   chans = s.chans;
   linked = s.linked;
-  block = λ e. (both _ _ (both _ _ name within) (fits_none pages), none);
+  block = λ e. record { image = no_words image pages; is_open = refl; shaped = both _ _ (both _ _ name within) (fits_none pages); fresh = none };
 }
 
-shape_with : (image : Image) (words : List ℕ) → is_shaped image ≡ true → length words ≤ 64 * image.pages → is_shaped (record image { words = words }) ≡ true
+shape_with : (image : Image) (words : List ℕ) → is_shaped image ≡ true → length words ≤ 64 * image.pages → is_shaped (image_with image words) ≡ true
 shape_with image words h few =
     both _ _ (first_of_two (is_name image.name && is_within 1 256 image.pages) _ h) (le-leb (4 * length words) (256 * image.pages) (omega (arith, few)))
 
-sound_words : (state : State) (words : List ℕ) → not (leb (length state.open_image.words + length words) (64 * state.open_image.pages)) ≡ false → rank state.stage ≡ 5 → IsSound state → IsSound (add_line state (lines.Words words))
-sound_words state words room st s =
-    let fit = le_of (length state.open_image.words + length words) (64 * state.open_image.pages) room in
-    let few : length (state.open_image.words ++ words) ≤ 64 * state.open_image.pages = omega (arith, fit, length-append state.open_image.words words) in
-    record {
-      clusters = s.clusters;
-      pager = s.pager;
-      reads = s.reads;
-      steps = s.steps;
-      images = s.images;
-      once = s.once;
-      begins = s.begins;
-      roots = s.roots;
-      few = s.few;
-      some = s.some;
-      chans = s.chans;
-      linked = s.linked;
-      block = λ e. (shape_with state.open_image (state.open_image.words ++ words) (s.block e).0 few, (s.block e).1);
-    }
+open_more : (images : List Image) (block : Option Image) (words : List ℕ) → not (takes_more block (length words)) ≡ false → HasOpen images block → HasOpen images (option_map (λ image. image_with image (image.words ++ words)) block)
+open_more images block words room h =
+    let image = h.image in
+    let free = rw h.is_open at room in
+    let fit = le_of (length image.words + length words) (64 * image.pages) free in
+    let few : length (image.words ++ words) ≤ 64 * image.pages = omega (arith, fit, length-append image.words words) in
+    record { image = image_with image (image.words ++ words); is_open = rw h.is_open refl; shaped = shape_with image (image.words ++ words) h.shaped few; fresh = h.fresh }
 
-pub sound_closed : (state : State) (words : List ℕ) → rank state.stage ≡ 5 → length words ≤ 64 * state.open_image.pages → IsSound state → IsSound (closed state words)
-sound_closed state words st few s =
-    let image = record state.open_image { words = words } in
+sound_words : (state : State) (words : List ℕ) → not (takes_more state.block (length words)) ≡ false → IsSound state → IsSound (add_line state (lines.Words words))
+sound_words state words room s = record {
+  clusters = s.clusters;
+  pager = s.pager;
+  reads = s.reads;
+  steps = s.steps;
+  images = s.images;
+  once = s.once;
+  begins = s.begins;
+  roots = s.roots;
+  few = s.few;
+  some = s.some;
+  chans = s.chans;
+  linked = s.linked;
+  block = λ e. open_more state.system.images state.block words room (s.block e);
+}
+
+sound_closed : (state : State) (image : Image) → rank state.stage ≡ 5 → is_shaped image ≡ true → place_of state.system.images image.name ≡ None → IsSound state → IsSound (closed state (Some image))
+sound_closed state image st shaped fresh s =
     let images = state.system.images in
     let one_more : length (images ++ image ∷ []) ≡ length images + 1 = length-append images (image ∷ []) in
     record {
@@ -154,8 +158,8 @@ sound_closed state words st few s =
       pager = λ r. s.pager (omega (arith, st));
       reads = λ r. s.reads (omega (arith, st));
       steps = λ r. s.steps (omega (arith, st));
-      images = all_joined is_shaped images (image ∷ []) s.images (both _ _ (shape_with state.open_image words (s.block st).0 few) refl);
-      once = once_push images image (s.block st).1 s.once;
+      images = all_joined is_shaped images (image ∷ []) s.images (both _ _ shaped refl);
+      once = once_push images image fresh s.once;
       begins = λ e. absurd (omega (arith, e));
       roots = ap (λ n. list_all (is_placed state.system.clusters n) state.system.roots) one_more ∙ more_images state.system.clusters (length images) state.system.roots s.roots;
       few = s.few;
@@ -165,11 +169,16 @@ sound_closed state words st few s =
       block = λ e. absurd (omega (arith, e));
     }
 
-fit_of : (image : Image) → is_shaped image ≡ true → length image.words ≤ 64 * image.pages
-fit_of image h = by_size (length image.words) image.pages (second_of_two (is_name image.name && is_within 1 256 image.pages) _ h)
-  where
-    by_size : (n p : ℕ) → nat_le (4 * n) (256 * p) ≡ true → n ≤ 64 * p
-    by_size n p h = grind (arith, nat_tests)
+pub sound_closed_with : (state : State) (words : List ℕ) → rank state.stage ≡ 5 → fit_open state.block (length words) ≡ true → IsSound state → IsSound (closed_with state words)
+sound_closed_with state words st fit s =
+    let h = s.block st in
+    let few = leb-true (length words) (64 * h.image.pages) (rw h.is_open at fit) in
+    rw h.is_open (sound_closed state (image_with h.image words) st (shape_with h.image words h.shaped few) h.fresh s)
+
+sound_end : (state : State) → rank state.stage ≡ 5 → IsSound state → IsSound (closed state state.block)
+sound_end state st s =
+    let h = s.block st in
+    rw h.is_open (sound_closed state h.image st h.shaped h.fresh s)
 
 -- ---- roots
 
@@ -253,8 +262,8 @@ sound_line state (lines.Syncreads count) k named st s = sound_syncreads state co
 sound_line state (lines.Syncsteps count) k named st s = sound_syncsteps state count (not-false _ k.limits) st s
 sound_line state (lines.Image name pages) k named st s = sound_opened state name pages named (not-false _ k.limits) (none_of (place_of state.system.images name) k.name) st s
 sound_line state (lines.Asm name pages) k named st s = sound_opened state name pages named (not-false _ k.limits) (none_of (place_of state.system.images name) k.name) st s
-sound_line state (lines.Words words) k named st s = sound_words state words k.room st s
-sound_line state lines.End k named st s = sound_closed state state.open_image.words st (fit_of state.open_image (s.block st).0) s
+sound_line state (lines.Words words) k named st s = sound_words state words k.room s
+sound_line state lines.End k named st s = sound_end state st s
 sound_line state (lines.Root root image) k named st s = sound_root state root image k st s
 sound_line state (lines.Chan first second) k named st s = sound_chan state first second k st s
 

@@ -1,10 +1,10 @@
 -- How far the text has come where a line may stand.
-use Rattle.std.proofs.Common.{◌≡◌, ℕ, ◌≤◌, true, refl, arith}
+use Rattle.std.proofs.Common.{◌≡◌, ℕ, ◌≤◌, Bool, true, false, Option, Some, None, refl, sym, ap, ◌∙◌, arith}
 use Rattle.sys_text.specs.declared.stage.Keyword.{Keyword}
 use Rattle.sys_text.specs.declared.stage.Keyword.TheVariants as keywords
 use Rattle.sys_text.specs.declared.stage.Stage.{Stage}
 use Rattle.sys_text.specs.declared.stage.Stage.TheVariants.{Start, AfterClusters, AfterPager, AfterSyncreads, Images, InImage, Roots, Chans}
-use Rattle.sys_text.specs.Rules.{may_stand}
+use Rattle.sys_text.specs.Rules.{may_stand, allowed}
 
 -- the stages in their order
 abbrev pub rank : Stage → ℕ
@@ -16,6 +16,16 @@ rank Images = 4
 rank InImage = 5
 rank Roots = 6
 rank Chans = 7
+
+pub in_image : (stage : Stage) → rank stage ≡ 5 → stage ≡ InImage
+in_image Start h = absurd (omega (arith, h))
+in_image AfterClusters h = absurd (omega (arith, h))
+in_image AfterPager h = absurd (omega (arith, h))
+in_image AfterSyncreads h = absurd (omega (arith, h))
+in_image Images h = absurd (omega (arith, h))
+in_image InImage h = refl
+in_image Roots h = absurd (omega (arith, h))
+in_image Chans h = absurd (omega (arith, h))
 
 -- where a line with this keyword may stand
 abbrev pub StandsAt : ℕ → Keyword → Type 0
@@ -111,3 +121,12 @@ stands_at Images keywords.Chan h = absurd cc
 stands_at InImage keywords.Chan h = absurd cc
 stands_at Roots keywords.Chan h = omega arith
 stands_at Chans keywords.Chan h = omega arith
+
+-- the keyword that a line has may stand here
+pub stands : (stage : Stage) (o : Option Keyword) (keyword : Keyword) → allowed stage o ≡ Some keyword → may_stand stage keyword ≡ true
+stands stage None keyword e = absurd cc
+stands stage (Some other) keyword e = by_test (may_stand stage other) refl
+  where
+    by_test : (b : Bool) → may_stand stage other ≡ b → may_stand stage keyword ≡ true
+    by_test true h = let f = rw h at e in let same : other ≡ keyword = cc in ap (may_stand stage) (sym same) ∙ h
+    by_test false h = let f = rw h at e in absurd cc

@@ -11,16 +11,16 @@ use Rattle.text_parts.specs.Numbers.{word_of}
 use Rattle.sys_text.specs.declared.stage.Keyword.TheVariants.{Words}
 use Rattle.sys_text.specs.declared.refusal.Rule.TheVariants.{FieldCount, FieldKind, Room}
 use Rattle.sys_text.specs.declared.refusal.SystemRefused.{SystemRefused}
+use Rattle.sys_text.specs.declared.system.Image.{Image}
 use Rattle.sys_text.specs.declared.state.State.{State}
 use Rattle.sys_text.specs.Line.{words_in, is_word_field, line_of}
 use Rattle.sys_text.specs.Line as lines
-use Rattle.sys_text.specs.Rules.{broken_by, lowest_with, add_line, add, HasRoom}
+use Rattle.sys_text.specs.Rules.{broken_by, lowest_with, image_with, add}
 use Rattle.sys_text.specs.Fronts.{Starts}
 use Rattle.sys_text.specs.Reading.{Goes, Outside, step_outside}
 use Rattle.sys_text.specs.Answers.{ClosesBlock}
 use Rattle.sys_text.specs.WordLines.{lowest_of_words, RefusesBy}
 use Rattle.sys_text.proofs.LineSteps.{refused_at}
-use Rattle.sys_text.proofs.Taking.{taken_keeps}
 
 -- the fields so far are words, and stand behind the old ones
 pub record SoFar (old new rest : List ℕ) (all : List (List ℕ)) : Type 0 where
@@ -110,16 +110,16 @@ in_room old new all pages r differ fits =
 
 -- ---- what the line leads to
 
-words_lowest : (state : State) (fields : List (List ℕ)) → lowest_with state Words fields ≡ lowest_of_words (length state.open_image.words) state.open_image.pages fields
-words_lowest state [] = refl
-words_lowest state (field ∷ fields) = by_words (list_all is_word_field (field ∷ fields)) refl
+words_lowest : (state : State) (image : Image) (fields : List (List ℕ)) → state.block ≡ Some image → lowest_with state Words fields ≡ lowest_of_words (length image.words) image.pages fields
+words_lowest state image [] is = refl
+words_lowest state image (field ∷ fields) is = by_words (list_all is_word_field (field ∷ fields)) refl
   where
-    by_words : (b : Bool) → list_all is_word_field (field ∷ fields) ≡ b → lowest_with state Words (field ∷ fields) ≡ lowest_of_words (length state.open_image.words) state.open_image.pages (field ∷ fields)
-    by_words true h = rw (some_fields [] fields field, h, words_length (field ∷ fields) h) refl
+    by_words : (b : Bool) → list_all is_word_field (field ∷ fields) ≡ b → lowest_with state Words (field ∷ fields) ≡ lowest_of_words (length image.words) image.pages (field ∷ fields)
+    by_words true h = rw (some_fields [] fields field, h, words_length (field ∷ fields) h, is) refl
     by_words false h = rw (some_fields [] fields field, h) refl
 
-words_rules : (state : State) (line rest : List ℕ) → Starts state line Words (fields_of rest) → broken_by state line ≡ lowest_of_words (length state.open_image.words) state.open_image.pages (fields_of rest)
-words_rules state line rest s = s.broken ∙ words_lowest state (fields_of rest)
+words_rules : (state : State) (image : Image) (line rest : List ℕ) → state.block ≡ Some image → Starts state line Words (fields_of rest) → broken_by state line ≡ lowest_of_words (length image.words) image.pages (fields_of rest)
+words_rules state image line rest is s = s.broken ∙ words_lowest state image (fields_of rest) is
 
 words_read : (words pages : ℕ) (fields : List (List ℕ)) → lowest_of_words words pages fields ≡ None → line_of Words fields ≡ Ok (lines.Words (words_in fields))
 words_read words pages [] e = absurd cc
@@ -129,26 +129,20 @@ words_read words pages (field ∷ fields) e = by_words (list_all is_word_field (
     by_words true h = rw h refl
     by_words false h = let f = rw (some_fields [] fields field, h) at e in absurd cc
 
-words_kept : (state : State) (fields : List (List ℕ)) → lowest_of_words (length state.open_image.words) state.open_image.pages fields ≡ None → add state Words fields ≡ add_line state (lines.Words (words_in fields))
-words_kept state fields e = rw (words_read (length state.open_image.words) state.open_image.pages fields e) refl
+-- the state with this image of the block
+abbrev pub with_block : State → Image → State
+with_block state image = record { stage = state.stage; system = state.system; block = Some image }
 
-words_go : (state : State) (n : ℕ) (line rest : List ℕ) → Starts state line Words (fields_of rest) → lowest_of_words (length state.open_image.words) state.open_image.pages (fields_of rest) ≡ None → step_outside state n line ≡ Goes (Outside (add_line state (lines.Words (words_in (fields_of rest)))))
-words_go state n line rest s none =
-    let broken : broken_by state line ≡ None = words_rules state line rest s ∙ none in
-    rw (broken, s.kept, words_kept state (fields_of rest) none) refl
+words_kept : (state : State) (image : Image) (fields : List (List ℕ)) → state.block ≡ Some image → lowest_of_words (length image.words) image.pages fields ≡ None → add state Words fields ≡ with_block state (image_with image (image.words ++ words_in fields))
+words_kept state image fields is e = rw (words_read (length image.words) image.pages fields e, is) refl
 
--- the state where the words of the open image are these
-abbrev pub with_words : State → List ℕ → State
-with_words state words = record { stage = state.stage; system = state.system; open_image = record { name = state.open_image.name; pages = state.open_image.pages; words = words } }
+words_go : (state : State) (image : Image) (n : ℕ) (line rest : List ℕ) → state.block ≡ Some image → Starts state line Words (fields_of rest) → lowest_of_words (length image.words) image.pages (fields_of rest) ≡ None → step_outside state n line ≡ Goes (Outside (with_block state (image_with image (image.words ++ words_in (fields_of rest)))))
+words_go state image n line rest is s none =
+    let broken : broken_by state line ≡ None = words_rules state image line rest is s ∙ none in
+    rw (broken, s.kept, words_kept state image (fields_of rest) is none) refl
 
-pub words_step : (state : State) (n : ℕ) (line rest : List ℕ) (r : Result (Unit {0}) SystemRefused) (new : List ℕ) → Starts state line Words (fields_of rest)
-    → OnOk r (new ≡ state.open_image.words ++ words_in (fields_of rest)) → OnOk r (lowest_of_words (length state.open_image.words) state.open_image.pages (fields_of rest) ≡ None)
-    → IfErr r (λ refused. RefusesBy refused n (lowest_of_words (length state.open_image.words) state.open_image.pages (fields_of rest))) → ClosesBlock r (with_words state new) (step_outside state n line)
-words_step state n line rest (Ok done) new w added none by = rw added (words_go state n line rest w none)
-words_step state n line rest (Err refused) new w added none by = refused_at state n line (lowest_of_words (length state.open_image.words) state.open_image.pages (fields_of rest)) refused (words_rules state line rest w) by
-
-pub words_room : (state : State) (line rest : List ℕ) (r : Result (Unit {0}) SystemRefused) (new : List ℕ) → Starts state line Words (fields_of rest) → HasRoom state
-    → OnOk r (new ≡ state.open_image.words ++ words_in (fields_of rest)) → OnOk r (lowest_of_words (length state.open_image.words) state.open_image.pages (fields_of rest) ≡ None) → OnOk r (HasRoom (with_words state new))
-words_room state line rest (Ok done) new w room added none =
-    rw (added, ← words_kept state (fields_of rest) none) (taken_keeps state (add state Words (fields_of rest)) line false (words_rules state line rest w ∙ none) w.kept room)
-words_room state line rest (Err refused) new w room added none = tt
+pub words_step : (state : State) (image new : Image) (n : ℕ) (line rest : List ℕ) (r : Result (Unit {0}) SystemRefused) → state.block ≡ Some image → Starts state line Words (fields_of rest)
+    → OnOk r (new ≡ image_with image (image.words ++ words_in (fields_of rest))) → OnOk r (lowest_of_words (length image.words) image.pages (fields_of rest) ≡ None)
+    → IfErr r (λ refused. RefusesBy refused n (lowest_of_words (length image.words) image.pages (fields_of rest))) → ClosesBlock r (with_block state new) (step_outside state n line)
+words_step state image new n line rest (Ok done) is w added none by = rw added (words_go state image n line rest is w none)
+words_step state image new n line rest (Err refused) is w added none by = refused_at state n line (lowest_of_words (length image.words) image.pages (fields_of rest)) refused (words_rules state image line rest is w) by

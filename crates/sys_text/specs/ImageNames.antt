@@ -9,7 +9,6 @@ use Rattle.sys_text.specs.Rules.{place_of}
 abbrev pub FindImages : List (List ℕ × ℕ) → List Image → Type 0
 FindImages places images = (name : List ℕ) → lookup places name ≡ place_of images name
 
--- the places are those of the images that are closed, and the name is that of the image that is open
+-- the places are those of the images that are closed
 pub record KnowsImages (reader : Reader) : Type 0 where
   pub places : FindImages reader.places reader.state.system.images
-  pub open_name : reader.open_name.now ≡ reader.state.open_image.name

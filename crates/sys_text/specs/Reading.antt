@@ -14,7 +14,7 @@ use Rattle.sys_text.specs.declared.refusal.Rule.{Rule}
 use Rattle.sys_text.specs.declared.refusal.Rule.TheVariants.{ForeignByte, Room, Assembler, Ended}
 use Rattle.sys_text.specs.declared.system.System.{System}
 use Rattle.sys_text.specs.declared.state.State.{State}
-use Rattle.sys_text.specs.Rules.{keyword_in, first_of, rest_of, is_skipped, broken_by, add, closed, no_image, fit_pages}
+use Rattle.sys_text.specs.Rules.{keyword_in, first_of, rest_of, is_skipped, broken_by, add, closed_with, fit_open}
 
 -- the system, or the line that is refused and the rule that is named
 abbrev pub Answer : Type 0
@@ -22,7 +22,7 @@ Answer = Result System (ℕ × Rule)
 
 -- before the first line
 abbrev pub nothing_yet : State
-nothing_yet = record { stage = Start; system = record { clusters = 0; pager = (record { 0 = 0 }, record { 0 = 0 }); syncreads = 0; syncsteps = 0; images = []; roots = []; chans = [] }; open_image = no_image }
+nothing_yet = record { stage = Start; system = record { clusters = 0; pager = (record { 0 = 0 }, record { 0 = 0 }); syncreads = 0; syncsteps = 0; images = []; roots = []; chans = [] }; block = None }
 
 -- ---- the end of an assembler block, and of the text
 
@@ -71,7 +71,7 @@ pub data Step : Type 0 where
 -- line n ends a block, of which the assembler gives the words or refuses a line, counted from 1 behind the header
 abbrev pub close_block : State → (header n : ℕ) → Result (List ℕ) (ℕ × AsmRule) → Step
 close_block state header n (Err refused) = Refuses (header + refused.0) (rule_in_block refused.1)
-close_block state header n (Ok words) = if fit_pages (length words) state.open_image.pages then Goes (Outside (closed state words)) else Refuses n Room
+close_block state header n (Ok words) = if fit_open state.block (length words) then Goes (Outside (closed_with state words)) else Refuses n Room
 
 -- the line opens an assembler block
 abbrev pub is_asm : Keyword → Bool

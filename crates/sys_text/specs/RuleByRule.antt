@@ -5,13 +5,14 @@ use Rattle.text_parts.specs.Lines.{are_printable, lines_of, fields_of}
 use Rattle.rv_asm.specs.Program.{reading_of_lines}
 use Rattle.rv_asm.specs.declared.refusal.Rule.{Rule as AsmRule}
 use Rattle.sys_text.specs.declared.state.State.{State}
+use Rattle.sys_text.specs.declared.system.Image.{Image}
 use Rattle.sys_text.specs.declared.system.System.{System}
 use Rattle.sys_text.specs.declared.refusal.Rule.{Rule}
 use Rattle.sys_text.specs.declared.refusal.Rule.TheVariants.{ForeignByte, Room, Assembler, Ended}
 use Rattle.sys_text.specs.declared.refusal.SystemRefused.{SystemRefused}
 use Rattle.sys_text.specs.declared.refusal.SystemRefused.TheVariants as refusals
 use Rattle.sys_text.specs.Refusal.{number_of_rule}
-use Rattle.sys_text.specs.Rules.{breaks, closed, fit_pages}
+use Rattle.sys_text.specs.Rules.{breaks, closed_with, fit_open}
 use Rattle.sys_text.specs.Reading.{Place, Outside, InBlock, nothing_yet, kept, is_end, may_end}
 
 -- ---- where a line stands
@@ -27,7 +28,7 @@ place_with n after = if after.1 then InBlock after.0 n [] else Outside after.0
 
 -- behind a line of an assembler block: outside where it is the block's end
 abbrev pub place_in_block : State → (header : ℕ) → List (List ℕ) → (line : List ℕ) → Place
-place_in_block state header block line = if is_end (fields_of line) then Outside (closed state (words_or_none (reading_of_lines block))) else InBlock state header (block ++ line ∷ [])
+place_in_block state header block line = if is_end (fields_of line) then Outside (closed_with state (words_or_none (reading_of_lines block))) else InBlock state header (block ++ line ∷ [])
 
 -- where the line behind line n stands
 abbrev pub place_after : Place → (n : ℕ) → (line : List ℕ) → Place
@@ -41,15 +42,15 @@ abbrev pub breaks_outside : Place → List ℕ → Rule → Bool
 breaks_outside (Outside state) line rule = breaks state line rule
 breaks_outside (InBlock state header block) line rule = false
 
--- the words of a block do not fit its pages
-abbrev pub overflows : (pages : ℕ) → Result (List ℕ) (ℕ × AsmRule) → Bool
-overflows pages (Ok words) = not (fit_pages (length words) pages)
-overflows pages (Err refused) = false
+-- the words of a block do not fit the pages of its image
+abbrev pub overflows : Option Image → Result (List ℕ) (ℕ × AsmRule) → Bool
+overflows block (Ok words) = not (fit_open block (length words))
+overflows block (Err refused) = false
 
 -- rule 8: of a line outside assembler blocks as `breaks` says, and of the end of a block whose words do not fit
 abbrev pub lacks_room : Place → List ℕ → Bool
 lacks_room (Outside state) line = breaks state line Room
-lacks_room (InBlock state header block) line = is_end (fields_of line) && overflows state.open_image.pages (reading_of_lines block)
+lacks_room (InBlock state header block) line = is_end (fields_of line) && overflows state.block (reading_of_lines block)
 
 -- the lines before the first end; None where no line is one
 abbrev pub before_end : List (List ℕ) → Option (List (List ℕ))

@@ -1,5 +1,5 @@
 -- The rules of a line, by what the lines before it said, and what it adds to that.
-use Rattle.std.specs.Prelude.{ℕ, ◌+◌, ◌*◌, ◌≤◌, Bool, true, false, not, List, [], ◌∷◌, ◌++◌, length, Option, Some, None, Result, Ok, Err, nat_lt, nat_le, ◌==◌, ◌&&◌, ◌||◌, is_none, is_some, if◌then◌else◌}
+use Rattle.std.specs.Prelude.{◌≡◌, ℕ, ◌+◌, ◌*◌, ◌≤◌, Bool, true, false, not, List, [], ◌∷◌, ◌++◌, length, Option, Some, None, Result, Ok, Err, nat_lt, nat_le, ◌==◌, ◌&&◌, ◌||◌, is_none, is_some, if◌then◌else◌}
 use Rattle.std.specs.List.{find}
 use Rattle.std.specs.Str.{bytes_eq}
 use Rattle.std.specs.Option.{option_map}
@@ -85,6 +85,16 @@ image_named system name = place_of system.images name
 abbrev pub fit_pages : (words pages : ℕ) → Bool
 fit_pages words pages = nat_le words (64 * pages)
 
+-- so many words fit the pages of the open image, and none where no image is open
+abbrev pub fit_open : Option Image → (words : ℕ) → Bool
+fit_open None words = false
+fit_open (Some image) words = fit_pages words image.pages
+
+-- so many words more fit the pages of the open image, and none where no image is open
+abbrev pub takes_more : Option Image → (words : ℕ) → Bool
+takes_more None words = false
+takes_more (Some image) words = fit_pages (length image.words + words) image.pages
+
 -- a root with this number, counted from 1
 abbrev pub has_root : System → ℕ → Bool
 has_root system root = is_within 1 (length system.roots) root
@@ -127,7 +137,7 @@ misnames system line = false
 
 -- there is no room for the words, the root and its births, or one end more
 abbrev pub overfills : State → Line → Bool
-overfills state (lines.Words words) = not (fit_pages (length state.open_image.words + length words) state.open_image.pages)
+overfills state (lines.Words words) = not (takes_more state.block (length words))
 overfills state (lines.Root root image) = nat_lt 32 (places_with state.system root.births)
 overfills state (lines.Chan first second) = is_full state.system first || is_full state.system second
 overfills state line = false
@@ -184,13 +194,9 @@ lowest_with state keyword fields = find (breaks_with state keyword fields) (Fiel
 
 -- ---- what a line that breaks no rule adds
 
--- the image that is open where none is
-abbrev pub no_image : Image
-no_image = record { name = []; pages = 0; words = [] }
-
 -- the next stage, and what is known of the system there
 abbrev pub at : Stage → State → System → State
-at stage state system = record { stage = stage; system = system; open_image = state.open_image }
+at stage state system = record { stage = stage; system = system; block = state.block }
 
 -- the root of these fields, whose image has this place
 abbrev pub root_of : RootFields → (image : ℕ) → Root
@@ -209,13 +215,30 @@ abbrev pub with_root : State → RootFields → Option ℕ → State
 with_root state root None = state
 with_root state root (Some image) = at Roots state (record state.system { roots = state.system.roots ++ root_of root image ∷ [] })
 
+-- an image of no words yet
+abbrev pub no_words : (name : List ℕ) → (pages : ℕ) → Image
+no_words name pages = record { name = name; pages = pages; words = [] }
+
+-- the image with these words in place of its own
+abbrev pub image_with : Image → List ℕ → Image
+image_with image words = record image { words = words }
+
 -- a block begins
 abbrev pub with_open : State → (name : List ℕ) → (pages : ℕ) → State
-with_open state name pages = record { stage = InImage; system = state.system; open_image = record { name = name; pages = pages; words = [] } }
+with_open state name pages = record { stage = InImage; system = state.system; block = Some (no_words name pages) }
+
+-- the images with the one of the block, where one is open
+abbrev pub with_image : List Image → Option Image → List Image
+with_image images None = images
+with_image images (Some image) = images ++ image ∷ []
+
+-- the block ends with this image
+abbrev pub closed : State → Option Image → State
+closed state image = record { stage = Images; system = record state.system { images = with_image state.system.images image }; block = None }
 
 -- the block ends, and its image has these words
-abbrev pub closed : State → List ℕ → State
-closed state words = record { stage = Images; system = record state.system { images = state.system.images ++ record state.open_image { words = words } ∷ [] }; open_image = no_image }
+abbrev pub closed_with : State → List ℕ → State
+closed_with state words = closed state (option_map (λ image. image_with image words) state.block)
 
 -- the state after the line
 abbrev pub add_line : State → Line → State
@@ -225,8 +248,8 @@ add_line state (lines.Syncreads count) = at AfterSyncreads state (record state.s
 add_line state (lines.Syncsteps count) = at Images state (record state.system { syncsteps = count })
 add_line state (lines.Image name pages) = with_open state name pages
 add_line state (lines.Asm name pages) = with_open state name pages
-add_line state (lines.Words words) = record state { open_image = record state.open_image { words = state.open_image.words ++ words } }
-add_line state lines.End = closed state state.open_image.words
+add_line state (lines.Words words) = record state { block = option_map (λ image. image_with image (image.words ++ words)) state.block }
+add_line state lines.End = closed state state.block
 add_line state (lines.Root root image) = with_root state root (image_named state.system image)
 add_line state (lines.Chan first second) = at Chans state (record state.system { chans = state.system.chans ++ (first, second) ∷ [] })
 
@@ -241,9 +264,8 @@ add state keyword fields = add_said state (line_of keyword fields)
 
 -- ---- what the rules have kept so far
 
--- 16 clusters at most, 32 processes with all births, and words that fit the pages of the open image
+-- 16 clusters at most, 32 processes with all births, and an open image inside a block
 pub record HasRoom (state : State) : Type 0 where
   pub clusters : state.system.clusters ≤ 16
   pub places : length state.system.roots + births_of state.system.roots ≤ 32
-  pub pages : state.open_image.pages ≤ 256
-  pub words : length state.open_image.words ≤ 64 * state.open_image.pages
+  pub image : state.stage ≡ InImage → is_some state.block ≡ true

@@ -1,5 +1,5 @@
 //! The assembler blocks of a system text.
-ghost use Rattle.std.specs.Prelude.{◌≡◌, ◌+◌, ◌≤◌, ◌<◌, ◌^◌, [], Some, None, Ok, OnOk, IfOk, IfSome, MatchOption, length, take, drop, codes};
+ghost use Rattle.std.specs.Prelude.{◌≡◌, ◌+◌, ◌≤◌, ◌<◌, ◌^◌, true, [], Some, None, Ok, OnOk, IfOk, IfSome, MatchOption, is_some, length, take, drop, codes};
 ghost use Rattle.std.specs.Str.{bytes_eq};
 ghost use Rattle.text_parts.specs.Lines.{lines_of, fields_of};
 ghost use Rattle.rv_asm.specs.Program.{reading_of_lines};
@@ -106,18 +106,22 @@ fn close_with(
     words: List<u32>,
 ) -> Result<(), SystemRefused>
     requires room { HasRoom reader.old.state }
+    requires open_block { is_some reader.old.state.block ≡ true }
     requires known { KnowsImages reader.old }
     ensures step { ClosesBlock result reader.new.state (close_block reader.old.state header number (Ok words)) }
     ensures room { OnOk result (HasRoom reader.new.state) }
     ensures known { OnOk result (KnowsImages reader.new) }
 {
-    if words.len() > 64 * usize::from(reader.state.open_image.pages) {
+    let Some(block) = reader.state.block.as_mut() else {
+        unreachable!()
+    };
+    if words.len() > 64 * usize::from(block.pages()) {
         return Err(SystemRefused::BadLine {
             line: number,
             rule: Rule::Room.number(),
         });
     }
-    reader.state.open_image.words = words;
+    block.set_words(words);
     close_image(alloc, reader)?;
     Ok(())
 }
@@ -145,6 +149,7 @@ fn close_block(
     block: &[u8],
 ) -> Result<(), SystemRefused>
     requires room { HasRoom reader.old.state }
+    requires open_block { is_some reader.old.state.block ≡ true }
     requires known { KnowsImages reader.old }
     requires few { header + length block.now < 2 ^ 64 }
     ensures step { ClosesBlock result reader.new.state (close_block reader.old.state header number (reading_of_lines (lines_of block.now))) }
@@ -166,6 +171,7 @@ pub fn take_block<'a>(
     text: &'a [u8],
 ) -> Result<(u64, &'a [u8]), SystemRefused>
     requires room { HasRoom reader.old.state }
+    requires open_block { is_some reader.old.state.block ≡ true }
     requires known { KnowsImages reader.old }
     requires few { header + length text.now < 2 ^ 64 }
     ensures read { TakesLines result reader.new.state (reading_from (InBlock reader.old.state header []) header (lines_of text.now)) }

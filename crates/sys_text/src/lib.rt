@@ -5,6 +5,7 @@ mod adding;
 mod block;
 mod kinds;
 mod line;
+mod open_block;
 pub mod printer;
 mod reading;
 mod refusal;

@@ -1,5 +1,5 @@
 //! From a text to its system.
-ghost use Rattle.std.specs.Prelude.{◌≡◌, ◌+◌, ◌≤◌, ◌<◌, ◌^◌, true, Ok, OnOk, IfOk, IfErr, length};
+ghost use Rattle.std.specs.Prelude.{◌≡◌, ◌+◌, ◌≤◌, ◌<◌, ◌^◌, true, Ok, OnOk, IfOk, IfErr, is_some, length};
 ghost use Rattle.text_parts.specs.Lines.{lines_of, fields_of};
 ghost use Rattle.sys_text.specs.declared.stage.Keyword.TheVariants.{Words as WordsOf};
 ghost use Rattle.sys_text.specs.Rules.{HasRoom};
@@ -12,7 +12,7 @@ ghost use Rattle.sys_text.specs.Text.{system_text};
 ghost use Rattle.sys_text.specs.Answers.{Answers, ClosesBlock, TakesLine, TakesLines};
 ghost use Rattle.sys_text.specs.RuleByRule.{IsSystemOf, HasCause};
 
-use crate::adding::{add_line, empty_image};
+use crate::adding::add_line;
 use crate::block::take_block;
 use crate::line::line_of;
 use crate::refusal::{Rule, SystemRefused};
@@ -21,7 +21,7 @@ use crate::stage::{Keyword, Stage};
 use crate::state::{Reader, State};
 use crate::system::System;
 use crate::types::{all_numbers_fit, all_words_fit};
-use crate::word_lines::{read_words, refused};
+use crate::word_lines::refused;
 use std::alloc::Global;
 use t32_base::lists::List;
 use t32_base::process::ClusterNo;
@@ -51,9 +51,10 @@ fn take_words(
     ensures room { OnOk result (HasRoom reader.new.state) }
     ensures known { OnOk result (KnowsImages reader.new) }
 {
-    let pages = reader.state.open_image.pages;
-    let words = &mut reader.state.open_image.words;
-    read_words(words, pages, number, fields)
+    let Some(block) = reader.state.block.as_mut() else {
+        unreachable!()
+    };
+    block.read_words(number, fields)
 }
 
 /// Takes line `number`, which has this keyword and this text after it. Does it open an assembler block?
@@ -70,6 +71,7 @@ fn take_fields<'a>(
     requires room { HasRoom reader.old.state }
     requires known { KnowsImages reader.old }
     ensures step { TakesLine result reader.new.state number (step_outside reader.old.state number line.now) }
+    ensures opens { IfOk result (λ is_asm. is_asm ≡ true → is_some reader.new.state.block ≡ true) }
     ensures room { OnOk result (HasRoom reader.new.state) }
     ensures known { OnOk result (KnowsImages reader.new) }
 {
@@ -95,6 +97,7 @@ fn take_line<'a>(
     requires room { HasRoom reader.old.state }
     requires known { KnowsImages reader.old }
     ensures step { TakesLine result reader.new.state number (step_outside reader.old.state number line.now) }
+    ensures opens { IfOk result (λ is_asm. is_asm ≡ true → is_some reader.new.state.block ≡ true) }
     ensures room { OnOk result (HasRoom reader.new.state) }
     ensures known { OnOk result (KnowsImages reader.new) }
 {
@@ -138,14 +141,14 @@ fn take_next<'a>(
 }
 
 /// Nothing has been read.
-fn nothing_yet(alloc: Global) -> State
+fn nothing_yet<'a>(alloc: Global) -> State<'a>
     ensures state { result ≡ nothing_yet }
     ensures room { HasRoom result }
 {
     State {
         stage: Stage::Start,
         system: empty_system(alloc),
-        open_image: empty_image(alloc),
+        block: None,
     }
 }
 
@@ -188,13 +191,12 @@ fn new_reader<'a>(alloc: Global) -> Reader<'a>
     Reader {
         state: nothing_yet(alloc),
         places: Names::new(alloc),
-        open_name: &[],
     }
 }
 
 /// The system, where the text may end.
-fn ended(state: State, lines: u64) -> Result<System, SystemRefused>
-    ensures { Answers result (ended state.stage state.system lines) }
+fn ended(state: State<'_>, lines: u64) -> Result<System, SystemRefused>
+    ensures { Answers result (ended state.entry.stage state.entry.system lines) }
 {
     if may_end(state.stage) {
         Ok(state.system)

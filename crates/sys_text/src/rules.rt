@@ -135,7 +135,7 @@ fn is_either_full(system: &System, first: u64, second: u64) -> bool
 }
 
 /// Is there no room for the line?
-fn overfills(state: &State, line: Line<'_>) -> bool
+fn overfills(state: &State<'_>, line: Line<'_>) -> bool
     requires { HasRoom state.now }
     ensures { result ≡ overfills state.now (said line.entry) }
 {
@@ -187,7 +187,7 @@ pub enum Front<'a> {
 }
 
 /// The front of a line that is no plain line of words.
-fn front_by_name<'a>(state: &State, line: &'a [u8]) -> Front<'a>
+fn front_by_name<'a>(state: &State<'_>, line: &'a [u8]) -> Front<'a>
     ensures { IsFront state.now line.now result }
 {
     if !are_printable(line) {
@@ -206,7 +206,7 @@ fn front_by_name<'a>(state: &State, line: &'a [u8]) -> Front<'a>
 }
 
 /// What the line begins with, outside assembler blocks.
-pub fn front_of<'a>(state: &State, line: &'a [u8]) -> Front<'a>
+pub fn front_of<'a>(state: &State<'_>, line: &'a [u8]) -> Front<'a>
     ensures { IsFront state.now line.now result }
 {
     match after_words(state.stage, line) {

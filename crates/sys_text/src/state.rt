@@ -3,24 +3,24 @@ ghost use Rattle.std.specs.Prelude.{◌≡◌};
 ghost use Rattle.sys_text.specs.Rules.{place_of};
 ghost use Rattle.sys_text.specs.ImageNames.{KnowsImages};
 
+use crate::open_block::OpenBlock;
 use crate::stage::Stage;
-use crate::system::{Image, System};
+use crate::system::System;
 use text_parts::Names;
 
-/// What the lines so far said, and the image of the block that is open.
+/// What the lines so far said, and the block that is open, if one is.
 #[derive(Drop)]
-pub struct State {
+pub struct State<'a> {
     pub stage: Stage,
     pub system: System,
-    pub open_image: Image,
+    pub block: Option<OpenBlock<'a>>,
 }
 
-/// The state of a reading, the places of its images by their names, and the name of the image that is open.
+/// The state of a reading, and the places of its images by their names.
 #[derive(Drop)]
 pub struct Reader<'a> {
-    pub state: State,
+    pub state: State<'a>,
     pub places: Names<'a, u64>,
-    pub open_name: &'a [u8],
 }
 
 impl<'a> Reader<'a> {

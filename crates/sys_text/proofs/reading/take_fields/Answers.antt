@@ -2,13 +2,19 @@ use Rattle.std.proofs.Common.{Some, sym, ◌∙◌}
 use Rattle.text_parts.specs.Lines.{fields_of}
 use Rattle.sys_text.specs.Line.{said}
 use Rattle.sys_text.proofs.Spelling.{rule_named}
-use Rattle.sys_text.proofs.Keeping.{lowest_read}
-use Rattle.sys_text.proofs.LineSteps.{fits, none_broken, kept_read, goes_on, refused_at}
+use Rattle.sys_text.proofs.Keeping.{kept_rules, lowest_read}
+use Rattle.sys_text.proofs.LineSteps.{fits, end_closes, asm_opens_block, none_broken, kept_read, goes_on, refused_at}
 use Rattle.sys_text.proofs.Taking.{taken_keeps}
 use Rattle.sys_text.proofs.reading.take_fields.Goals as goal
 
 pub add_line-requires-clause-numbers : goal.add_line-requires-clause-numbers
 add_line-requires-clause-numbers c = fits c.args.reader.now.state (said c.in-Ok.read) (sym c.in-None.ensures) c.requires.room
+
+pub add_line-requires-clause-named : goal.add_line-requires-clause-named
+add_line-requires-clause-named c = (kept_rules c.args.reader.now.state (said c.in-Ok.read) (sym c.in-None.ensures)).name
+
+pub add_line-requires-clause-open_block : goal.add_line-requires-clause-open_block
+add_line-requires-clause-open_block c = end_closes c.args.reader.now.state c.args.keyword (fields_of c.args.text.now) (said c.in-Ok.read) (sym c.in-Ok.ensures) c.requires.starts.stands c.requires.room
 
 pub returns-in-Err-clause-step : goal.returns-in-Err-clause-step
 returns-in-Err-clause-step c =
@@ -27,6 +33,10 @@ returns-in_ok-add_line-in-None-clause-step c =
     let none = none_broken state c.args.line.now c.args.keyword (fields_of c.args.text.now) read c.requires.starts (sym c.in-Ok.ensures) (sym c.in-None.ensures) in
     let kept = kept_read state c.add_line.new.reader.state c.args.line.now c.args.keyword (fields_of c.args.text.now) read c.opens_block.result c.requires.starts (sym c.in-Ok.ensures) c.in_ok-add_line-in-None.ensures.added c.opens_block.ensures in
     goes_on state c.add_line.new.reader.state c.args.number c.args.line.now c.opens_block.result none kept
+
+pub returns-in_ok-add_line-in-None-clause-opens : goal.returns-in_ok-add_line-in-None-clause-opens
+returns-in_ok-add_line-in-None-clause-opens c =
+    asm_opens_block c.args.reader.now.state c.add_line.new.reader.state c.args.keyword (fields_of c.args.text.now) (said c.in-Ok.read) c.opens_block.result (sym c.in-Ok.ensures) c.in_ok-add_line-in-None.ensures.added c.opens_block.ensures
 
 pub returns-in_ok-add_line-in-None-clause-room : goal.returns-in_ok-add_line-in-None-clause-room
 returns-in_ok-add_line-in-None-clause-room c =
