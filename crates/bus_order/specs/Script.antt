@@ -49,6 +49,13 @@ is_unpassed k log steps (CrashStep j step) = not (same_cluster j k) || list_any 
 is_unpassed k log steps (DiskAt j call) = true
 is_unpassed k log steps (ReturnAt j place) = true
 
+-- a word for a disk call of this cluster names none that was made
+abbrev pub is_uncalled : ClusterNo → ℕ → ScriptWord → Bool
+is_uncalled k calls (CrashAt j place) = true
+is_uncalled k calls (CrashStep j step) = true
+is_uncalled k calls (DiskAt j call) = not (same_cluster j k) || nat_le calls call
+is_uncalled k calls (ReturnAt j place) = true
+
 -- ---- off
 
 -- an entry that tells of the loss or the return of this cluster

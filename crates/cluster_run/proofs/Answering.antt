@@ -13,12 +13,12 @@ use Rattle.bus_msg.specs.declared.entry.Post.{Post}
 use Rattle.cert_sched.specs.Appended.{entry_of}
 use Rattle.cert_sched.specs.Built.{BuiltMayFollow, UnlostMayFollow}
 use Rattle.cert_sched.specs.Legal.{IsLegalBy}
-use Rattle.cert_sched.specs.Losses.{is_from, least_steps, capped, was_lost_in}
+use Rattle.cert_sched.specs.Losses.{is_from, least_calls, least_steps, capped, was_lost_in}
 use Rattle.cert_sched.specs.Rests.{IsRestOf}
 use Rattle.cert_sched.specs.Rules.{is_over}
 use Rattle.cert_sched.specs.Schedule.{placement}
 use Rattle.cert_sched.proofs.UnlostLaws.{may_unlost}
-use Rattle.cluster_core.specs.View.{ClusterView, head_of}
+use Rattle.cluster_core.specs.View.{ClusterView, disk_calls, head_of}
 use Rattle.cluster_core.specs.Follows.{FollowsBuilt, IsOpen}
 use Rattle.cluster_core.specs.Calls.{OwesNoAnswer, WaitsForPages}
 use Rattle.cluster_run.specs.Progress.{AwaitsPage, HasAnswered}
@@ -27,7 +27,8 @@ use Rattle.cert_sched.specs.Parts.{first_of}
 use Rattle.bus_msg.specs.Places.{servers_in}
 use Rattle.bus_msg.specs.declared.entry.Entry.{Entry}
 use Rattle.std.specs.Prelude.{List, ◌≢◌}
-use Rattle.cluster_core.specs.Queue.{IsQueueLegal}
+use Rattle.cluster_core.specs.Queue.{IsQueueLegal, with_queue}
+use Rattle.cert_sched.specs.Scripted.{is_server}
 use Rattle.bus_lock.specs.Lists.{MayAdd}
 use Rattle.bus_order.specs.Log.{author, author_of}
 use Rattle.bus_order.specs.declared.marks.Mark.{Mark}
@@ -36,12 +37,13 @@ use Rattle.bus_order.specs.declared.marks.Idled.TheVariants.{Marked, Done as Was
 use Rattle.bus_order.specs.declared.refused.Refused.{Refused}
 use Rattle.bus_order.specs.declared.refused.Refused.TheVariants.{Over, Off, Behind, NoMemory}
 use Rattle.bus_order.specs.declared.shared.Origin.{Origin}
-use Rattle.bus_order.specs.Script.{is_unpassed}
+use Rattle.bus_order.specs.Script.{is_uncalled, is_unpassed}
 use Rattle.bus_order.specs.View.{Admits, BusView, Ends, Idles, MayIdle, MayTransmit, Transmits, after_words, is_awaited, with_mark, with_post}
 use Rattle.script_laws.proofs.OffLosses.{not_off_not_lost}
 use Rattle.cluster_run.specs.declared.offers.Offered.TheVariants.{Sent}
 use Rattle.cluster_run.specs.Along.{IsAlong, IsSound}
 use Rattle.cluster_run.specs.Offers.{Adds, GoesOnFor, IsToldBy, OfferAnswers, OfferIs, TellAnswers, TellIs}
+use Rattle.cluster_run.proofs.DiskCalls.{disk_uncalled}
 use Rattle.cluster_run.proofs.Heads.{head_first, tail_of}
 use Rattle.cluster_run.proofs.Offering.{adds_worded, along_worded}
 use Rattle.cluster_run.proofs.Owning.{adds_more}
@@ -109,6 +111,11 @@ may_be_told b c m k n sound along told k_is n_is =
             rests = subst (λ s. IsRestOf s b.log c.number m.rests) same (told.rests told.empty b.log (subst (λ s. IsLegalBy BuiltMayFollow s b.log) (sym same) sound.legal, ap (λ s. is_over s b.log) same ∙ goes_on) follows);
             counted = subst (λ s. capped (least_steps b.log b.log c.number) ≤ s) (sym told.steps) enough;
             passed = ap (λ n. list_all (is_unpassed c.number b.log n) b.script) told.steps ∙ along.passed;
+            called = λ serves.
+                let calls = (follows.accounts).calls (seen_lives b c along seen) (ap (λ s. is_server s c.number) same ∙ serves) in
+                let shown = subst (λ ps. capped (least_calls c.system b.log (with_queue c.system b.log ps) c.number) ≤ disk_calls c) told.empty calls in
+                subst (λ s. capped (least_calls s b.log b.log c.number) ≤ m.calls) same (subst (λ n. capped (least_calls c.system b.log b.log c.number) ≤ n) (sym told.calls) shown);
+            uncalled = ap (λ n. list_all (is_uncalled c.number n) b.script) told.calls ∙ disk_uncalled b.script c along.disk (follows.disk).1;
           };
     }))
   where

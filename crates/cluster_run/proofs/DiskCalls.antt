@@ -18,8 +18,8 @@ use Rattle.page_server.specs.Account.{PagerState}
 use Rattle.page_server.specs.Disk.{Fails}
 use Rattle.cluster_core.specs.Serving.{IsAheadThere, IsFailing}
 use Rattle.cluster_core.specs.View.{ClusterView, calls_in, disk_calls, failing_in}
-use Rattle.bus_order.specs.Script.{has_unused, is_word_for}
-use Rattle.cluster_run.specs.Disks.{IsDiskOf, call_of, calls_for, is_uncalled}
+use Rattle.bus_order.specs.Script.{has_unused, is_uncalled, is_word_for}
+use Rattle.cluster_run.specs.Disks.{IsDiskOf, call_of, calls_for}
 
 -- ---- a call that fails is named
 

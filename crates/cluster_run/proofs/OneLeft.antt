@@ -9,7 +9,7 @@ use Rattle.cluster_core.specs.Follows.{FollowsBuilt}
 use Rattle.bus_order.specs.Script.{is_unpassed}
 use Rattle.bus_order.specs.View.{BusView}
 use Rattle.script_laws.specs.Off.{IsItsLoss}
-use Rattle.cluster_run.specs.Disks.{is_uncalled}
+use Rattle.bus_order.specs.Script.{is_uncalled}
 use Rattle.cluster_run.specs.Gone.{LeftAs, StoodAs}
 use Rattle.cluster_run.specs.Lived.{EndsBy, cause_in, end_of_life}
 use Rattle.cluster_run.proofs.LostLives.{ended_by_done, ends_with_log, lost_cause, lost_ends, lost_in}

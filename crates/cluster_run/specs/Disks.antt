@@ -1,5 +1,5 @@
 -- The disks of clusters, of which the words of a script make calls fail.
-use Rattle.std.specs.Prelude.{ℕ, ◌≡◌, ◌<◌, ◌-◌, ◌^◌, Bool, true, not, ◌&&◌, ◌||◌, nat_le, nat_lt, if◌then◌else◌, List, [], ◌∷◌, Some, None}
+use Rattle.std.specs.Prelude.{ℕ, ◌≡◌, ◌<◌, ◌-◌, ◌^◌, true, ◌&&◌, nat_lt, if◌then◌else◌, List, [], ◌∷◌, Some, None}
 use Rattle.std.specs.List.{flat_map}
 use Rattle.t32_base.specs.declared.process.ClusterNo.{ClusterNo}
 use Rattle.bus_msg.specs.declared.entry.Cause.TheVariants.{Disk}
@@ -24,13 +24,6 @@ calls_for k script = flat_map (call_of k) script
 -- the cluster has a disk exactly where it is a page server, of which just the calls fail that the script names
 abbrev pub IsDiskOf : List ScriptWord → ClusterView → Type 0
 IsDiskOf script c = failing_in c.server ≡ (if is_server c.system c.number then Some (Some (calls_for c.number script)) else None)
-
--- a word for a disk call of this cluster names none that was made
-abbrev pub is_uncalled : ClusterNo → ℕ → ScriptWord → Bool
-is_uncalled k calls (CrashAt j place) = true
-is_uncalled k calls (CrashStep j step) = true
-is_uncalled k calls (DiskAt j call) = not (same_cluster j k) || nat_le calls call
-is_uncalled k calls (ReturnAt j place) = true
 
 -- a call of its disk failed, which a word of the script names, and no process is there any more
 pub record HasFailed (script : List ScriptWord) (c : ClusterView) : Type 0 where

@@ -15,9 +15,9 @@ use Rattle.cluster_core.specs.View.{ClusterView, disk_calls}
 use Rattle.cluster_core.specs.Follows.{FollowsBuilt, StandsBetween}
 use Rattle.bus_lock.specs.Lists.{is_author}
 use Rattle.bus_order.specs.Log.{author_of}
-use Rattle.bus_order.specs.Script.{is_unpassed}
+use Rattle.bus_order.specs.Script.{is_uncalled, is_unpassed}
 use Rattle.bus_order.specs.View.{BusView}
-use Rattle.cluster_run.specs.Disks.{HasFailed, is_uncalled}
+use Rattle.cluster_run.specs.Disks.{HasFailed}
 use Rattle.cluster_run.specs.Lived.{EndsBy, end_cause, end_of_life}
 
 -- ---- what a cluster tells
