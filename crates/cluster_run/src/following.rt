@@ -134,7 +134,8 @@ fn sleep<R: Wait>(
     }
 }
 
-// Sleeps until woken, unless the log has grown since the cluster looked at it. Answers whether it slept.
+// Sleeps until woken, unless the log has grown since the cluster looked at it. Answers whether the caller is to look again: false
+// where the log had grown at once.
 fn naps<R: Wait>(
     rt: &R,
     lock: &LogLock<SharedBus>,
