@@ -6,7 +6,7 @@ use std::alloc::Global;
 use std::sync::Wait;
 use std::test::Fail;
 use std::thread::Threads;
-use t32_base::gate::OpenGate;
+use t32_base::gate::{Gate, OpenGate};
 use t32_base::lists::{Bytes, List, Text};
 use t32_base::memory::{MemSink, MemSource};
 use t32_base::streams::NoMemory;
@@ -38,9 +38,10 @@ pub fn sink(alloc: Global) -> Result<MemSink, NoMemory> {
     MemSink::new(alloc, ROOM, List::new(alloc), 7)
 }
 
-/// Calls the program with the words of a line over a source and a sink: the status, and the run that it handed out.
-pub fn call_for_run<R: AllocGlobal + Threads + Wait + Sync>(
+/// Calls the program with the words of a line over a source, a sink and a gate: the status, and the run that it handed out.
+pub fn call_by<R: AllocGlobal + Threads + Wait + Sync, G: Gate + Sync>(
     rt: &R,
+    gate: &G,
     line: &[u8],
     input: &mut MemSource,
     output: &mut MemSink,
@@ -48,11 +49,21 @@ pub fn call_for_run<R: AllocGlobal + Threads + Wait + Sync>(
     let alloc = rt.alloc();
     let list = words(alloc, line)?;
     let mut ran = None;
-    let status = targon(rt, alloc, &list, input, output, &OpenGate, &mut ran);
+    let status = targon(rt, alloc, &list, input, output, gate, &mut ran);
     Ok((status, ran))
 }
 
-/// The same: the status, and whether a run was handed out.
+/// The same by an open gate.
+pub fn call_for_run<R: AllocGlobal + Threads + Wait + Sync>(
+    rt: &R,
+    line: &[u8],
+    input: &mut MemSource,
+    output: &mut MemSink,
+) -> Result<(u8, Option<Ran>), NoMemory> {
+    call_by(rt, &OpenGate, line, input, output)
+}
+
+/// The status, and whether a run was handed out.
 pub fn call<R: AllocGlobal + Threads + Wait + Sync>(
     rt: &R,
     line: &[u8],

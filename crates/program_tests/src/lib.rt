@@ -1,7 +1,9 @@
-//! Tests of the program as a whole: which words it takes, what it tells of its input and its output, and which run it hands
-//! out.
+//! Tests of the program as a whole: which words it takes, what it tells of its input and its output, which run it hands out, and
+//! that the clusters of a run run beside each other.
 #![tactic(auto)]
 
+#[cfg(test)]
+mod beside;
 #[cfg(test)]
 mod handed;
 #[cfg(test)]
