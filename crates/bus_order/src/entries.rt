@@ -238,23 +238,6 @@ fn handles_shared(
     Ok(news)
 }
 
-/// A handle of the entry that stands last; of a copy, where it stands by itself.
-pub fn last_handle(entries: &Entries) -> Result<Arc<Entry>, NoMemory>
-    requires { 0 < length (entries_in entries.now) }
-    ensures { IfOk result (λ entry. slice_get (entries_in entries.now) (length (entries_in entries.now) - 1) ≡ Some (arc_value entry)) }
-{
-    match entries {
-        Entries::Own(own) => match own.last() {
-            Some(entry) => handle_of_copy(*own.allocator(), entry),
-            None => unreachable!(),
-        },
-        Entries::Shared(shared) => match shared.last() {
-            Some(entry) => Ok(Arc::try_clone(entry)?),
-            None => unreachable!(),
-        },
-    }
-}
-
 /// The entries by themselves. One behind a handle that has others is copied.
 pub fn into_list(entries: Entries) -> Result<Vec<Entry>, NoMemory>
     ensures { IfOk result (λ all. all.items ≡ entries_in entries) }
