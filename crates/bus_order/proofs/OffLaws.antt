@@ -1,5 +1,5 @@
 -- A cluster of the system lives exactly where no crash of it stands that no return follows.
-use Rattle.std.proofs.Common.{◌≡◌, ℕ, zero, suc, ◌+◌, ◌<◌, length, take, refl, sym, ◌∙◌, ap, arith, List, [], ◌∷◌, ◌++◌, map, Bool, true, false, cond, ◌||◌, eqb, eqb-true, eq-eqb, Option, Some, None, is_none, Bor, true≢false}
+use Rattle.std.proofs.Common.{◌≡◌, ℕ, zero, suc, ◌+◌, ◌<◌, length, take, refl, sym, ◌∙◌, ap, subst, arith, List, [], ◌∷◌, ◌++◌, map, Bool, true, false, cond, not, ◌||◌, eqb, eqb-true, eq-eqb, Option, Some, None, is_none, Bor, true≢false}
 use Rattle.std.specs.Prelude.{slice_get}
 use Rattle.std.specs.List.{list_any}
 use Rattle.std.specs.Option.{option_copied, option_map_or}
@@ -11,13 +11,14 @@ use Rattle.bus_msg.specs.declared.entry.What.{What}
 use Rattle.bus_msg.specs.declared.entry.What.TheVariants.{Mail, Birth, Exit, Page, Sync, Fetch, PageIs, Crash, Return, Rebackup, Done, Stop}
 use Rattle.bus_msg.specs.declared.entry.Cause.{Cause}
 use Rattle.bus_msg.specs.declared.entry.Entry.{Entry}
-use Rattle.bus_msg.specs.Places.{ClusterPlace, Places, placed_at, same_cluster, lives_in}
-use Rattle.bus_msg.specs.PlacedAfter.{what, placed_after, changed_at, lost_cluster}
+use Rattle.bus_msg.specs.Places.{ClusterPlace, Places, placed_at, same_cluster, lives_in, is_lost_in}
+use Rattle.bus_msg.specs.PlacedAfter.{what, placed_after, changed_at, lost_cluster, returned_cluster}
 use Rattle.cert_sched.specs.Parts.{last_that}
 use Rattle.cert_sched.specs.Schedule.{placement, placed_root}
 use Rattle.cert_sched.specs.Losses.{is_crash_of}
-use Rattle.cert_sched.specs.Legal.{IsLegalBy}
-use Rattle.cert_sched.specs.Built.{BuiltMayFollow, is_built}
+use Rattle.cert_sched.specs.Kinds.{KindHolds}
+use Rattle.cert_sched.specs.Legal.{IsLegalBy, Stands}
+use Rattle.cert_sched.specs.Built.{BuiltMayFollow}
 use Rattle.cert_sched.proofs.LogLaws.{placement-snoc}
 use Rattle.cert_sched.proofs.Induction.{legal_induction}
 use Rattle.cert_sched.proofs.FreshLaws.{kept_elsewhere, put_here}
@@ -87,33 +88,62 @@ crash_lives places j k cause = by_number (eqb j.0 k.0) refl
         elsewhere None = refl
         elsewhere (Some c) = ap at (kept_elsewhere places.clusters j.0 k.0 (lost_cluster c) (λ e. true≢false (sym (eq-eqb j.0 k.0 (sym e)) ∙ apart)))
 
+-- who was lost and returns lives, and nobody else is changed
+return_lives : (places : Places) (j k : ClusterNo) → is_lost_in places j ≡ true → lives_in (placed_after places (Return j)) k ≡ cond (same_cluster j k) true (lives_in places k)
+return_lives places j k lost = by_number (eqb j.0 k.0) refl
+  where
+    at : Option ClusterPlace → Bool
+    at o = option_map_or (λ (c : ClusterPlace). c.lives) o false
+
+    by_number : (b : Bool) → eqb j.0 k.0 ≡ b → at (slice_get (changed_at j.0 returned_cluster (slice_get places.clusters j.0) places.clusters) k.0) ≡ cond b true (at (slice_get places.clusters k.0))
+    by_number true same =
+        sym (ap (λ n. at (slice_get (changed_at j.0 returned_cluster (slice_get places.clusters j.0) places.clusters) n)) (eqb-true j.0 k.0 same)) ∙ here (slice_get places.clusters j.0) refl lost
+      where
+        here : (o : Option ClusterPlace) → slice_get places.clusters j.0 ≡ o → option_map_or (λ (c : ClusterPlace). not c.lives) o false ≡ true → at (slice_get (changed_at j.0 returned_cluster o places.clusters) j.0) ≡ true
+        here None there lost = absurd (true≢false (sym lost))
+        here (Some c) there lost = ap at (put_here places.clusters j.0 (returned_cluster c) c there)
+    by_number false apart = elsewhere (slice_get places.clusters j.0)
+      where
+        elsewhere : (o : Option ClusterPlace) → at (slice_get (changed_at j.0 returned_cluster o places.clusters) k.0) ≡ at (slice_get places.clusters k.0)
+        elsewhere None = refl
+        elsewhere (Some c) = ap at (kept_elsewhere places.clusters j.0 k.0 (returned_cluster c) (λ e. true≢false (sym (eq-eqb j.0 k.0 (sym e)) ∙ apart)))
+
 -- whether it lives after an entry, where it lives exactly where it is not off
-lives_after : (places : Places) (off : Option ℕ) (k : ClusterNo) (e : Entry) (w : What) → what e ≡ w → is_built w ≡ true → lives_in places k ≡ is_none off → lives_in (placed_after places w) k ≡ is_none (cond (turns k w) (place_of_loss k (Some e)) off)
-lives_after places off k e (Mail at letter) is built before = before
-lives_after places off k e (Birth parent at child end) is built before = birth_keeps (λ (c : ClusterPlace). c.lives) (λ c. refl) places child (placed_at places parent) k ∙ before
-lives_after places off k e (Exit pid at end) is built before = before
-lives_after places off k e (Page pid at index bytes) is built before = before
-lives_after places off k e (Sync pid small read took) is built before = before
-lives_after places off k e (Fetch pid index) is built before = before
-lives_after places off k e (PageIs pid index bytes) is built before = before
-lives_after places off k e (Crash j cause) is built before = crash_lives places j k cause ∙ by_test (same_cluster j k) refl
+lives_after : (places : Places) (off : Option ℕ) (k : ClusterNo) (e : Entry) (w : What) → what e ≡ w → ((j : ClusterNo) → w ≡ Return j → is_lost_in places j ≡ true) → lives_in places k ≡ is_none off → lives_in (placed_after places w) k ≡ is_none (cond (turns k w) (place_of_loss k (Some e)) off)
+lives_after places off k e (Mail at letter) is lost before = before
+lives_after places off k e (Birth parent at child end) is lost before = birth_keeps (λ (c : ClusterPlace). c.lives) (λ c. refl) places child (placed_at places parent) k ∙ before
+lives_after places off k e (Exit pid at end) is lost before = before
+lives_after places off k e (Page pid at index bytes) is lost before = before
+lives_after places off k e (Sync pid small read took) is lost before = before
+lives_after places off k e (Fetch pid index) is lost before = before
+lives_after places off k e (PageIs pid index bytes) is lost before = before
+lives_after places off k e (Crash j cause) is lost before = crash_lives places j k cause ∙ by_test (same_cluster j k) refl
   where
     by_test : (b : Bool) → same_cluster j k ≡ b → cond b false (lives_in places k) ≡ is_none (cond b (place_of_loss k (Some e)) off)
     by_test true same = sym (ap (λ c. is_none (cond c (Some e.place) None)) (ap (is_crash_of k) is ∙ same))
     by_test false apart = before
-lives_after places off k e (Return j) is built before = absurd (true≢false (sym built))
-lives_after places off k e (Rebackup to fresh recs) is built before = absurd (true≢false (sym built))
-lives_after places off k e (Done rests) is built before = before
-lives_after places off k e Stop is built before = before
+lives_after places off k e (Return j) is lost before = return_lives places j k (lost j refl) ∙ by_test (same_cluster j k)
+  where
+    by_test : (b : Bool) → cond b true (lives_in places k) ≡ is_none (cond b (place_of_loss k (Some e)) off)
+    by_test true = sym (ap (λ w. is_none (cond (is_crash_of k w) (Some e.place) None)) is)
+    by_test false = before
+lives_after places off k e (Rebackup to fresh recs) is lost before = before
+lives_after places off k e (Done rests) is lost before = before
+lives_after places off k e Stop is lost before = before
+
+-- in any log that stands, also where clusters return
+module _ (May : System → List Entry → Entry → Type 0) (stands_in : (system : System) (log : List Entry) (e : Entry) → May system log e → Stands system log e) where
+  pub lives_where_not_off : (system : System) (log : List Entry) (k : ClusterNo) → IsLegalBy May system log → k.0 < system.clusters → lives_in (placement system log) k ≡ is_none (off_at log k)
+  unfolding placement
+  lives_where_not_off system log k legal within =
+      legal_induction May system (λ log. lives_in (placement system log) k ≡ is_none (off_at log k)) (boot_lives system (map placed_root (roots_of system)) k.0 within)
+      (λ log e before may.
+      ap (λ p. lives_in p k) (placement-snoc system log e)
+      ∙ lives_after (placement system log) (off_at log k) k e (what e) refl (λ j is. subst (KindHolds system log e) is (stands_in system log e may).kind) before
+      ∙ sym (ap is_none (off_at-snoc log e k))) log legal
 
 lives_unless_off : (system : System) (log : List Entry) (k : ClusterNo) → IsLegalBy BuiltMayFollow system log → k.0 < system.clusters → lives_in (placement system log) k ≡ is_none (off_at log k)
-unfolding placement
-lives_unless_off system log k legal within =
-    legal_induction BuiltMayFollow system (λ log. lives_in (placement system log) k ≡ is_none (off_at log k)) (boot_lives system (map placed_root (roots_of system)) k.0 within)
-    (λ log e before may.
-    ap (λ p. lives_in p k) (placement-snoc system log e)
-    ∙ lives_after (placement system log) (off_at log k) k e (what e) refl may.built before
-    ∙ sym (ap is_none (off_at-snoc log e k))) log legal
+lives_unless_off = lives_where_not_off BuiltMayFollow (λ system log e may. may.stands)
 
 is_nothing : (o : Option ℕ) → is_none o ≡ true → o ≡ None
 is_nothing None h = refl

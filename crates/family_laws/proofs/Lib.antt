@@ -1,5 +1,6 @@
 pub mod Filters
 pub mod OtherEntries
+pub mod NewBackups
 pub mod NewBirth
 pub mod FamilyKept
 pub mod FirstChild

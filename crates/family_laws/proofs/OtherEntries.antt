@@ -71,7 +71,7 @@ births_after system log e w is =
     λ i. filter (λ (b : Pair). is_unsynced (places i) b.1) (births i)
 
 -- an entry that bears no child, and leaves who never synchronised but for one process
-without_one : (system : System) (log : List Entry) (e : Entry) (w : What) (r : Pid) → what e ≡ w → born w ≡ [] → ((p : Pid) → is_unsynced (placed_after (placement system log) w) p ≡ (is_unsynced (placement system log) p && not (same_pid p r)))
+pub without_one : (system : System) (log : List Entry) (e : Entry) (w : What) (r : Pid) → what e ≡ w → born w ≡ [] → ((p : Pid) → is_unsynced (placed_after (placement system log) w) p ≡ (is_unsynced (placement system log) p && not (same_pid p r)))
     → unsynced_births system (log ++ e ∷ []) ≡ filter (λ (b : Pair). not (same_pid b.1 r)) (unsynced_births system log)
 without_one system log e w r is none change =
     births_after system log e w is
@@ -87,7 +87,7 @@ pub ended_goes : (system : System) (log : List Entry) (e : Entry) (pid : Pid) (a
 ended_goes system log e pid at end is = without_one system log e (Exit pid at end) pid is refl (unsynced_after_exit (placement system log) pid at end)
 
 -- an entry that bears no child, and leaves who never synchronised
-births_stay : (system : System) (log : List Entry) (e : Entry) (w : What) → what e ≡ w → born w ≡ [] → ((p : Pid) → is_unsynced (placed_after (placement system log) w) p ≡ is_unsynced (placement system log) p)
+pub births_stay : (system : System) (log : List Entry) (e : Entry) (w : What) → what e ≡ w → born w ≡ [] → ((p : Pid) → is_unsynced (placed_after (placement system log) w) p ≡ is_unsynced (placement system log) p)
     → unsynced_births system (log ++ e ∷ []) ≡ unsynced_births system log
 births_stay system log e w is none same =
     births_after system log e w is

@@ -3,10 +3,12 @@ ghost use Rattle.std.specs.Prelude.{ℕ, ◌≡◌, true, false, not, List, [], 
 ghost use Rattle.std.specs.List.{list_any};
 ghost use Rattle.t32_base.specs.declared.process.Pid.{Pid};
 ghost use Rattle.t32_base.specs.declared.process.End.{End};
+ghost use Rattle.t32_base.specs.declared.process.ClusterNo.{ClusterNo};
+ghost use Rattle.t32_base.specs.declared.letter.BackRec.{BackRec};
 ghost use Rattle.t32_base.specs.Small.{SmallState};
 ghost use Rattle.sys_text.specs.declared.system.System.{System};
 ghost use Rattle.sys_text.specs.Valid.{is_system};
-ghost use Rattle.bus_msg.specs.declared.entry.What.TheVariants.{Birth, Exit, Sync};
+ghost use Rattle.bus_msg.specs.declared.entry.What.TheVariants.{Birth, Exit, Sync, Return, Rebackup};
 ghost use Rattle.bus_msg.specs.declared.entry.Entry.{Entry};
 ghost use Rattle.bus_msg.specs.Places.{same_pid};
 ghost use Rattle.bus_msg.specs.PlacedAfter.{what};
@@ -41,6 +43,16 @@ pub fn synced_and_ended_go()
 /// A law and no code: in any log, every other entry of a kind that is built leaves them as they are.
 pub fn others_leave_births()
     ensures { (system : System) (log : List Entry) (e : Entry) → is_built (what e) ≡ true → changes_unsynced (what e) ≡ false → unsynced_births system (log ++ e ∷ []) ≡ unsynced_births system log }
+{}
+
+/// A law and no code: in any log, of new backups and returns.
+pub fn births_follow_new_backups()
+    // The birth of a process that has run goes with its new backup, as with its synchronisation;
+    ensures fresh { (system : System) (log : List Entry) (e : Entry) (to : ClusterNo) (r : BackRec) → what e ≡ Rebackup to true (r ∷ []) → unsynced_births system (log ++ e ∷ []) ≡ filter (λ b. not (same_pid b.1 r.pid)) (unsynced_births system log) }
+    // the new backup of a family that was moved leaves them as they are,
+    ensures standing { (system : System) (log : List Entry) (e : Entry) (to : ClusterNo) (recs : List BackRec) → what e ≡ Rebackup to false recs → unsynced_births system (log ++ e ∷ []) ≡ unsynced_births system log }
+    // and so does a return.
+    ensures back { (system : System) (log : List Entry) (e : Entry) (k : ClusterNo) → what e ≡ Return k → unsynced_births system (log ++ e ∷ []) ≡ unsynced_births system log }
 {}
 
 /// A law and no code: these births may stand in a `Family`, which then answers what the rule of children asks.

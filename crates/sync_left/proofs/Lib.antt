@@ -14,3 +14,4 @@ pub mod Falling
 pub mod PlacedSums
 pub mod Bounded
 mod WorkedSending
+pub mod Renewing

@@ -1,0 +1,13 @@
+pub mod Families
+pub mod Named
+pub mod RenewedRecords
+pub mod Since
+pub mod Follows
+pub mod Modes
+pub mod AwaitedFamilies
+pub mod Given
+pub mod FreshStands
+pub mod StandingStands
+pub mod Fewer
+pub mod SpreadSafe
+pub mod ReturnedEmpty

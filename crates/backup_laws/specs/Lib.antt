@@ -1,0 +1,4 @@
+pub mod Renewed
+pub mod Posts
+pub mod Owed
+pub mod LostBy
