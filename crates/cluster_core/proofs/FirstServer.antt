@@ -28,7 +28,7 @@ use Rattle.cluster_core.specs.Work.{is_first_server}
 
 -- ---- an entry
 
-same_pager : (w : What) (places : Places) → is_built w ≡ true → (placed_after places w).pager ≡ places.pager
+pub same_pager : (w : What) (places : Places) → is_built w ≡ true → (placed_after places w).pager ≡ places.pager
 same_pager (Mail at letter) places built = refl
 same_pager (Birth parent at child end) places built = by_parent (placed_at places parent)
   where
@@ -58,7 +58,7 @@ lost_now clusters k = by_place (slice_get clusters k) refl
     by_place (Some c) there = ap was_never (put_here clusters k (lost_cluster c) c there)
 
 -- that of another leaves a cluster as it was
-lost_other : (clusters : List ClusterPlace) (j k : ℕ) → eqb j k ≡ false → slice_get (changed_at j lost_cluster (slice_get clusters j) clusters) k ≡ slice_get clusters k
+pub lost_other : (clusters : List ClusterPlace) (j k : ℕ) → eqb j k ≡ false → slice_get (changed_at j lost_cluster (slice_get clusters j) clusters) k ≡ slice_get clusters k
 lost_other clusters j k apart = by_place (slice_get clusters j)
   where
     by_place : (o : Option ClusterPlace) → slice_get (changed_at j lost_cluster o clusters) k ≡ slice_get clusters k

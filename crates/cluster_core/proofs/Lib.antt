@@ -105,6 +105,13 @@ mod WorkedRecords
 mod WorkedLosses
 pub mod Arriving
 mod Noting
+mod Shadow
+mod Unheard
+mod PassedOver
+mod KnownPlaces
+mod Heard
+mod OwnChildren
+mod OwnUnheard
 mod FirstRecords
 pub mod ByKind
 pub mod Posted

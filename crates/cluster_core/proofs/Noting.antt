@@ -89,7 +89,7 @@ within places k lives = by_place (slice_get places.clusters k.0) refl lives
     by_place None at h = absurd (true≢false (sym h))
     by_place (Some c) at h = slice_get_within places.clusters k.0 c at
 
-all_named : (places : Places) (k : ClusterNo) → lives_in places k ≡ true → list_any (λ j. same_cluster j k) (all_clusters places) ≡ true
+pub all_named : (places : Places) (k : ClusterNo) → lives_in places k ≡ true → list_any (λ j. same_cluster j k) (all_clusters places) ≡ true
 all_named places k lives = in_range k 0 (length places.clusters) (omega arith) (omega (arith, within places k lives))
 
 -- the backup of a process that has not ended

@@ -21,3 +21,4 @@ pub mod Booting
 pub mod Slots
 pub mod Absorbing
 pub mod Told
+pub mod Hearing

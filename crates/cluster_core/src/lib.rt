@@ -5,6 +5,7 @@ mod absorb;
 mod booting;
 pub mod cluster;
 mod families;
+pub mod hearing;
 pub mod hurt;
 pub mod quantum;
 pub mod resident;
