@@ -73,6 +73,11 @@ fn clusters_run_beside_each_other(rt: HostRuntime) -> Result<(), Fail> {
     let meeting = Meeting::new();
     let (status, written) = met(&rt, &meeting)?;
     same("the gate", &meeting.failures.load(Ordering::SeqCst), &0)?;
+    let came = (
+        meeting.first.load(Ordering::SeqCst),
+        meeting.second.load(Ordering::SeqCst),
+    );
+    same("who came to the gate", &came, &(1, 1))?;
     let shown = (status, written.starts_with(BOTH.as_bytes()));
     same("the answer", &shown, &(0, true))
 }
