@@ -90,6 +90,9 @@ fn follow_on<R: Wait, G: Gate>(
     ensures origin { seat_origin port.new.seat ≡ Some (made_of (arc_value port.old.system.now) port.old.script.now) }
     ensures ended { OnOk result (HasEnded (made_of (arc_value port.old.system.now) port.old.script.now) cluster.old.number.0 (seen port.new.seat) cluster.new) }
 {
+    if port.sleepers.has_given_up() {
+        return Err(NoMemory);
+    }
     let rt = port.rt;
     for _ in rt.forever() {
         match take_turn(port, cluster)? {

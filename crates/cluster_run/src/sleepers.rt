@@ -2,7 +2,7 @@
 //! nothing looks, and sleeps again.
 use std::alloc::Global;
 use std::sync::Wait;
-use std::sync::atomic::{AtomicU64, Ordering};
+use std::sync::atomic::{AtomicBool, AtomicU64, Ordering};
 use std::thread::{Parker, yield_now};
 use t32_base::process::ClusterNo;
 use t32_base::streams::NoMemory;
@@ -27,6 +27,8 @@ pub struct Sleepers {
     // And for each that has gone.
     gone: AtomicU64,
     all: u64,
+    // Whether no cluster that has not begun is to begin.
+    given_up: AtomicBool,
     parkers: Vec<Parker>,
 }
 
@@ -43,6 +45,7 @@ impl Sleepers {
             asleep: AtomicU64::new(0),
             gone: AtomicU64::new(0),
             all,
+            given_up: AtomicBool::new(false),
             parkers,
         })
     }
@@ -107,6 +110,16 @@ impl Sleepers {
     pub fn go(&self, number: ClusterNo) {
         self.gone.fetch_or(bit_of(number), Ordering::SeqCst);
         self.wake_these(self.all);
+    }
+
+    /// No thread could be started for a cluster: each that has not begun ends the run for want of memory.
+    pub fn give_up(&self) {
+        self.given_up.store(true, Ordering::SeqCst);
+    }
+
+    /// Whether a cluster that begins is to end the run for want of memory.
+    pub fn has_given_up(&self) -> bool {
+        self.given_up.load(Ordering::SeqCst)
     }
 
     // Wakes those of these that lie.

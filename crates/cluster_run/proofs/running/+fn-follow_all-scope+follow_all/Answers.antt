@@ -2,7 +2,7 @@ use Rattle.std.proofs.Common.{rules, ◌≡◌, sym, subst, arith, vec_len}
 use Rattle.std.specs.Arc.{arc_value}
 use Rattle.cluster_run.specs.Seated.{made_of}
 use Rattle.cluster_run.specs.Threads.{HoldsFirst}
-use Rattle.cluster_run.proofs.running.+fn-follow_all-join+arg3+follow_all.Goals as goal
+use Rattle.cluster_run.proofs.running.+fn-follow_all-scope+follow_all.Goals as goal
 
 pub returns-then-is_empty-clause-seat : goal.returns-then-is_empty-clause-seat
 returns-then-is_empty-clause-seat g n c =
