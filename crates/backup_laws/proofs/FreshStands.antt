@@ -27,7 +27,8 @@ use Rattle.cert_sched.proofs.OpenLaws.{unended_open}
 use Rattle.cert_sched.proofs.BuiltCuts.{by_home_there}
 use Rattle.record_laws.proofs.Standing.{itself}
 use Rattle.sync_laws.specs.Sending.{MaySend}
-use Rattle.backup_laws.specs.Posts.{MayRenew, fresh_post, renewed_record}
+use Rattle.backup_mode.specs.Posts.{fresh_post, renewed_record}
+use Rattle.backup_laws.specs.Posts.{MayRenew}
 
 module _ (system : System) (log : List Entry) (k to : ClusterNo) (p : Pid) (s : ProcState) (valid : is_system system ≡ true) (legal : IsLegalBy Stands system log) (may : MaySend system log (Cluster k) p s) where
   abbrev e : Entry

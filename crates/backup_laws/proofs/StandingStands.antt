@@ -33,7 +33,8 @@ use Rattle.cert_sched.proofs.UnplacedLaws.{never_moved}
 use Rattle.cert_sched.proofs.ThereLaws.{plain_there}
 use Rattle.page_laws.specs.Next.{moves_next}
 use Rattle.page_laws.proofs.OneEntry.{any_since-goes_on, any_since-snoc}
-use Rattle.backup_laws.specs.Posts.{MayHandOn, standing_post}
+use Rattle.backup_mode.specs.Posts.{standing_post}
+use Rattle.backup_laws.specs.Posts.{MayHandOn}
 use Rattle.backup_laws.proofs.Since.{mode_at, was_moved-snoc}
 use Rattle.backup_laws.proofs.Modes.{mode_stays}
 use Rattle.backup_laws.proofs.Follows.{wait_ended}

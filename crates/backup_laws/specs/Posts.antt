@@ -1,14 +1,11 @@
--- The posts by which processes get new backups.
-use Rattle.std.specs.Prelude.{◌≡◌, true, false, List, [], ◌∷◌, map, Some}
+-- When the posts by which processes get new backups may be sent.
+use Rattle.std.specs.Prelude.{◌≡◌, true, false, List, ◌∷◌, map, Some}
 use Rattle.t32_base.specs.declared.process.Pid.{Pid}
 use Rattle.t32_base.specs.declared.process.ClusterNo.{ClusterNo}
 use Rattle.t32_base.specs.declared.letter.BackRec.{BackRec}
-use Rattle.write_count.specs.Counting.{no_counts}
 use Rattle.sys_text.specs.declared.system.System.{System}
 use Rattle.proc_state.specs.State.{ProcState}
-use Rattle.bus_msg.specs.declared.entry.Post.{Post}
 use Rattle.bus_msg.specs.declared.entry.By.TheVariants.{Cluster}
-use Rattle.bus_msg.specs.declared.entry.What.TheVariants.{Rebackup}
 use Rattle.bus_msg.specs.declared.entry.Entry.{Entry}
 use Rattle.bus_msg.specs.NewBackup.{next_backup_at}
 use Rattle.cert_sched.specs.Parts.{rising}
@@ -18,18 +15,6 @@ use Rattle.cert_sched.specs.Account.{account_after, all_pages}
 use Rattle.cert_sched.specs.Family.{unsynced_family}
 use Rattle.cert_sched.specs.Kinds.{ChildrenSynced}
 use Rattle.cert_sched.specs.Rules.{has_awaited_backup, is_by_home, is_over}
-
--- the record of a process that runs, as it is: its state, the letters that it has not read, and nothing that it did since
-abbrev pub renewed_record : Pid → ProcState → BackRec
-renewed_record p s = record { pid = p; state = Some s.small; saved = s.mail; next = s.next; counts = no_counts; births = [] }
-
--- the post by which it gets its new backup
-abbrev pub fresh_post : ClusterNo → ClusterNo → Pid → ProcState → Post
-fresh_post k to p s = record { by = Cluster k; what = Rebackup to true (renewed_record p s ∷ []) }
-
--- the post by which a family that was moved gets its new backup
-abbrev pub standing_post : ClusterNo → ClusterNo → List BackRec → Post
-standing_post k to recs = record { by = Cluster k; what = Rebackup to false recs }
 
 -- it is owed this backup, its children have synchronised, and the pages that came are its memory
 pub record MayRenew (system : System) (log : List Entry) (p : Pid) (s : ProcState) (to : ClusterNo) : Type 0 where

@@ -16,7 +16,8 @@ ghost use Rattle.cert_sched.specs.Rules.{has_awaited_backup, has_its_pages, keep
 ghost use Rattle.cert_sched.specs.Legal.{IsLegal, IsLegalBy, MayFollow, Stands};
 ghost use Rattle.cert_sched.specs.Simulation.{IsUnended};
 ghost use Rattle.sync_laws.specs.Sending.{MaySend};
-ghost use Rattle.backup_laws.specs.Posts.{MayHandOn, MayRenew, fresh_post, renewed_record, standing_post};
+ghost use Rattle.backup_mode.specs.Posts.{fresh_post, renewed_record, standing_post};
+ghost use Rattle.backup_laws.specs.Posts.{MayHandOn, MayRenew};
 
 /// A law and no code: the new backup of a process that has run, with its record as the process is.
 pub fn fresh_backups_follow()

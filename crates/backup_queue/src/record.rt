@@ -1,6 +1,7 @@
 //! What a backup keeps of a process.
-ghost use Rattle.std.specs.Prelude.{◌≡◌, ◌+◌, ◌-◌, ◌^◌, ◌<◌, [], ◌∷◌, ◌++◌, Some, OnOk, OnErr};
+ghost use Rattle.std.specs.Prelude.{◌≡◌, ◌+◌, ◌-◌, ◌^◌, ◌<◌, [], ◌∷◌, ◌++◌, Some, IfOk, OnOk, OnErr};
 ghost use Rattle.std.specs.Option.{option_copied};
+ghost use Rattle.proc_state.specs.Mail.{RiseTo};
 ghost use Rattle.backup_queue.specs.Queue.{saved_with, unread};
 ghost use Rattle.backup_queue.specs.Fronts.{AreFronts, AreOnEnds};
 ghost use Rattle.backup_queue.specs.Record.{record_of};
@@ -10,7 +11,7 @@ use crate::fronts::drop_fronts;
 use proc_state::mailbox::Mailbox;
 use std::alloc::Global;
 use std::marker::Model;
-use t32_base::letter::Letter;
+use t32_base::letter::{BackRec, Letter};
 use t32_base::lists::List;
 use t32_base::process::{Counts, Pid, Small};
 use t32_base::streams::NoMemory;
@@ -61,6 +62,39 @@ impl Record {
                 births: List::new(alloc),
             },
         }
+    }
+
+    /// The record of an entry of the log. The letters' texts are shared.
+    pub fn of(rec: &BackRec) -> Result<Self, NoMemory>
+        requires { RiseTo 0 rec.now.saved rec.now.next }
+        ensures { IfOk result (λ r. r ≡ rec.now) }
+    {
+        let alloc = rec.births.allocator();
+        Ok(Record {
+            parts: RecordParts {
+                pid: rec.pid,
+                state: copied_state(&rec.state),
+                saved: Mailbox::of(alloc, rec.saved.as_slice(), rec.next)?,
+                counts: rec.counts,
+                births: copied_pids(alloc, rec.births.as_slice())?,
+            },
+        })
+    }
+
+    /// The record as an entry of the log has it. The letters' texts are shared.
+    pub fn told(&self) -> Result<BackRec, NoMemory>
+        ensures record { IfOk result (λ rec. rec ≡ self.now) }
+        ensures numbers { IfOk result (λ rec. RiseTo 0 rec.saved rec.next) }
+    {
+        let alloc = self.parts.births.allocator();
+        Ok(BackRec {
+            pid: self.parts.pid,
+            state: copied_state(&self.parts.state),
+            saved: self.parts.saved.listed(alloc)?,
+            next: self.parts.saved.next(),
+            counts: self.parts.counts,
+            births: copied_pids(alloc, self.parts.births.as_slice())?,
+        })
     }
 
     /// Saves a letter: it is put last, with the number `next`, which is then one more. After want of memory
@@ -156,4 +190,23 @@ impl Record {
     {
         self.parts
     }
+}
+
+fn copied_state(state: &Option<Small>) -> Option<Small>
+    ensures { result ≡ state.now }
+{
+    match state {
+        Some(small) => Some(small.copy()),
+        None => None,
+    }
+}
+
+fn copied_pids(alloc: Global, pids: &[Pid]) -> Result<List<Pid>, NoMemory>
+    ensures { IfOk result (λ c. c ≡ pids.now) }
+{
+    let mut copies = List::new(alloc);
+    for pid in pids {
+        copies.push(*pid)?;
+    }
+    Ok(copies)
 }

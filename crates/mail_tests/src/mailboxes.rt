@@ -228,3 +228,38 @@ fn many_letters_are_read_in_time_linear_in_them(rt: HostRuntime) -> Result<(), F
         &(None, true, true),
     )
 }
+
+// Letters came for the ends 5, 1, 5, 2 and 1, and the first for end 1 was taken out.
+fn four_left(alloc: Global) -> Result<Mailbox, NoMemory> {
+    let mut mailbox = mailbox_of(alloc, &[5, 1, 5, 2, 1])?;
+    mailbox.take_on(1);
+    Ok(mailbox)
+}
+
+fn four_numbers(letters: &[Arrived]) -> Option<[u64; 4]> {
+    match letters {
+        [a, b, c, d] => Some([a.number, b.number, c.number, d.number]),
+        _ => None,
+    }
+}
+
+// Its letters in order; those of a mailbox that is made of them; and the number that the next letter gets there.
+type Listed = (Option<[u64; 4]>, Option<[u64; 4]>, u64);
+
+fn listed(alloc: Global) -> Result<Listed, NoMemory> {
+    let mailbox = four_left(alloc)?;
+    let letters = mailbox.listed(alloc)?;
+    let again = Mailbox::of(alloc, letters.as_slice(), mailbox.next())?;
+    let same = again.listed(alloc)?;
+    Ok((
+        four_numbers(letters.as_slice()),
+        four_numbers(same.as_slice()),
+        again.next(),
+    ))
+}
+
+#[test]
+fn letters_are_listed_in_order_and_make_an_equal_mailbox(rt: HostRuntime) -> Result<(), Fail> {
+    let left = Some([0, 2, 3, 4]);
+    same("the letters", &listed(rt.alloc())?, &(left, left, 5))
+}

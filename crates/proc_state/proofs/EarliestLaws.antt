@@ -4,7 +4,7 @@ use Rattle.std.proofs.lemmas.Bool.{cases_lt}
 use Rattle.t32_base.specs.declared.letter.Arrived.{Arrived}
 use Rattle.t32_base.specs.declared.process.EndState.{EndState}
 use Rattle.proc_state.specs.Ends.{is_linked_at}
-use Rattle.proc_state.specs.Queues.{queue_of, waiting, IsEarliest}
+use Rattle.proc_state.specs.Queues.{queue_of, waiting, first_number, IsEarliest, IsEarliestOfAll}
 
 pub record IsLeastBelow (upto : ℕ) (ends : List EndState) (queues : List (List Arrived)) (e number : ℕ) : Type 0 where
   pub waits : waiting ends queues e ≡ Some number
@@ -48,5 +48,34 @@ earliest_of_all ends queues upto e number long found = record {
   least = λ j m waits. elim (cases_lt j upto) [
     | inl below ↦ found.least j m below waits
     | inr past ↦ let none = none_waits ends queues j (omega (arith, long, past)) in cc
+  ];
+}
+
+-- ---- at any end
+
+pub record IsLeastOfAllBelow (upto : ℕ) (queues : List (List Arrived)) (e number : ℕ) : Type 0 where
+  pub within : e < length queues
+  pub waits : first_number queues e ≡ Some number
+  pub least : (j m : ℕ) → j < upto → first_number queues j ≡ Some m → number ≤ m
+
+-- what is the best of the ends below a number
+abbrev pub IsBestOfAllBelow : ℕ → List (List Arrived) → Option (ℕ × ℕ) → Type 0
+IsBestOfAllBelow upto queues None = (j : ℕ) → j < upto → first_number queues j ≡ None
+IsBestOfAllBelow upto queues (Some best) = IsLeastOfAllBelow upto queues best.0 best.1
+
+none_behind : (queues : List (List Arrived)) (j : ℕ) → length queues ≤ j → first_number queues j ≡ None
+none_behind queues j past = ap (λ (queue : List Arrived). option_map (λ (a : Arrived). a.number) (slice_get queue 0)) (no_queue queues j past)
+
+pub none_of_every : (queues : List (List Arrived)) (upto : ℕ) → length queues ≤ upto → IsBestOfAllBelow upto queues None → (j : ℕ) → first_number queues j ≡ None
+none_of_every queues upto long none j = elim (cases_lt j upto) [ inl below ↦ none j below | inr past ↦ none_behind queues j (omega (arith, long, past)) ]
+
+pub earliest_of_every : (queues : List (List Arrived)) (upto e number : ℕ) → length queues ≤ upto → IsLeastOfAllBelow upto queues e number → IsEarliestOfAll queues e
+earliest_of_every queues upto e number long found = record {
+  number = number;
+  within = found.within;
+  waits = found.waits;
+  least = λ j m waits. elim (cases_lt j upto) [
+    | inl below ↦ found.least j m below waits
+    | inr past ↦ let none = none_behind queues j (omega (arith, long, past)) in cc
   ];
 }

@@ -113,17 +113,23 @@ linked_waits ends queues e a rest linked is =
 before_queue : (a b : Arrived) (rest : List Arrived) → a.number < b.number → AllPairs IsBefore (b ∷ rest) → All (IsBefore a) (b ∷ rest)
 before_queue a b rest less rising = All-cons (IsBefore a) b rest less (All-weaker (IsBefore b) (IsBefore a) (λ c later. omega arith) rest (pairs_head b rest rising))
 
-first_of_linked : (ends : List EndState) (queues : List (List Arrived)) (next e : ℕ) (a : Arrived) (rest : List Arrived) → AreQueues queues next
-    → is_linked_at ends e ≡ true → queue_of queues e ≡ a ∷ rest → ((j m : ℕ) → waiting ends queues j ≡ Some m → a.number ≤ m) → IsFirst (is_linked_at ends) queues e a rest
-first_of_linked ends queues next e a rest q linked is least = record { is = is; asked = linked; others = λ d other asked. at d other asked (queue_of queues d) refl }
+-- the letter a is the first of these ends where no first letter of one comes before it
+pub first_of_ends : (ends : ℕ → Bool) (queues : List (List Arrived)) (next e : ℕ) (a : Arrived) (rest : List Arrived) → AreQueues queues next → ends e ≡ true → queue_of queues e ≡ a ∷ rest
+    → ((d : ℕ) (b : Arrived) (more : List Arrived) → ends d ≡ true → queue_of queues d ≡ b ∷ more → a.number ≤ b.number) → IsFirst ends queues e a rest
+first_of_ends ends queues next e a rest q asks is least = record { is = is; asked = asks; others = λ d other asked. at d other asked (queue_of queues d) refl }
   where
-    at : (d : ℕ) → d ≢ e → is_linked_at ends d ≡ true → (queue : List Arrived) → queue_of queues d ≡ queue → All (IsBefore a) (queue_of queues d)
+    at : (d : ℕ) → d ≢ e → ends d ≡ true → (queue : List Arrived) → queue_of queues d ≡ queue → All (IsBefore a) (queue_of queues d)
     at d other asked [] there = subst (All (IsBefore a)) (sym there) (All-nil (IsBefore a))
     at d other asked (b ∷ more) there =
-        let most : a.number ≤ b.number = least d b.number (linked_waits ends queues d b more asked there) in
+        let most : a.number ≤ b.number = least d b more asked there in
         let apart : AreApart (a ∷ rest) (b ∷ more) = subst (λ xs. AreApart xs (b ∷ more)) is (subst (AreApart (queue_of queues e)) there (q.apart e d (λ same. other (sym same)))) in
         let differ : a.number ≢ b.number = All-head (DiffersFrom a) b more (All-head (λ x. All (DiffersFrom x) (b ∷ more)) a rest apart) in
         subst (All (IsBefore a)) (sym there) (before_queue a b more (omega arith) (subst (AllPairs IsBefore) there (q.rising d)))
+
+first_of_linked : (ends : List EndState) (queues : List (List Arrived)) (next e : ℕ) (a : Arrived) (rest : List Arrived) → AreQueues queues next
+    → is_linked_at ends e ≡ true → queue_of queues e ≡ a ∷ rest → ((j m : ℕ) → waiting ends queues j ≡ Some m → a.number ≤ m) → IsFirst (is_linked_at ends) queues e a rest
+first_of_linked ends queues next e a rest q linked is least =
+    first_of_ends (is_linked_at ends) queues next e a rest q linked is (λ d b more asked there. least d b.number (linked_waits ends queues d b more asked there))
 
 -- the end at which the first letter waits is that of the first letter for a linked end
 pub earliest_found : (ends : List EndState) (queues : List (List Arrived)) (next e : ℕ) → AreQueues queues next → IsEarliest ends queues e

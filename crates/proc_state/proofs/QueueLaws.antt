@@ -95,7 +95,7 @@ without_first-none p (x ∷ xs) none =
 
 -- ---- the letters of queues
 
-All-put_each : (P : Arrived → Type 0) (queue xs : List Arrived) → All P queue → All P xs → All P (put_each queue xs)
+pub All-put_each : (P : Arrived → Type 0) (queue xs : List Arrived) → All P queue → All P xs → All P (put_each queue xs)
 All-put_each P [] xs each all = all
 All-put_each P (a ∷ rest) xs each all = All-put P a (put_each rest xs) (All-head P a rest each) (All-put_each P rest xs (All-tail P a rest each) all)
 
@@ -297,10 +297,10 @@ is_for ends a = ends (end_of (a.letter).to)
 placed_for : (ends : ℕ → Bool) (d : ℕ) (b : Arrived) → IsOn d b → is_for ends b ≡ ends d
 placed_for ends d b on = ap ends (eqb-true (end_of (b.letter).to) d on)
 
-differs_rest : (a : Arrived) (rest : List Arrived) → All (IsBefore a) rest → All (DiffersFrom a) rest
+pub differs_rest : (a : Arrived) (rest : List Arrived) → All (IsBefore a) rest → All (DiffersFrom a) rest
 differs_rest a rest before = All-weaker (IsBefore a) (DiffersFrom a) (λ b less. λ same. omega arith) rest before
 
-in_order-taken : (queues : List (List Arrived)) (next e : ℕ) (a : Arrived) (rest : List Arrived) → AreQueues queues next → queue_of queues e ≡ a ∷ rest
+pub in_order-taken : (queues : List (List Arrived)) (next e : ℕ) (a : Arrived) (rest : List Arrived) → AreQueues queues next → queue_of queues e ≡ a ∷ rest
     → in_order queues ≡ put_by_number a (in_order (set queues e rest))
 in_order-taken queues next e a rest q is =
     let rising : AllPairs IsBefore (a ∷ rest) = subst (AllPairs IsBefore) is (q.rising e) in
@@ -322,7 +322,7 @@ later_others ends queues next e a rest q first d other = λ k x within.
     let b : Arrived = get_or (queue_of queues d) k x in
     λ passes. first.others d other (sym (placed_for ends d b (q.placed d k x within)) ∙ passes) k x within
 
-later_taken : (ends : ℕ → Bool) (queues : List (List Arrived)) (next e : ℕ) (a : Arrived) (rest : List Arrived) → AreQueues queues next → IsFirst ends queues e a rest
+pub later_taken : (ends : ℕ → Bool) (queues : List (List Arrived)) (next e : ℕ) (a : Arrived) (rest : List Arrived) → AreQueues queues next → IsFirst ends queues e a rest
     → All (PassesLater (is_for ends) a) (in_order (set queues e rest))
 later_taken ends queues next e a rest q first =
     let rising : AllPairs IsBefore (a ∷ rest) = subst (AllPairs IsBefore) first.is (q.rising e) in
@@ -400,11 +400,11 @@ without_first-on queues next e q = at (queue_of queues e) refl
     at [] is = without_first-none (is_on e) (in_order queues) (fails_on_end queues next e q is) ∙ ap in_order (sym (same_written queues e [] (sym is)))
     at (a ∷ rest) is = without_first-first (is_end e) queues next e a rest q (first_on_end queues e a rest is)
 
-queue_from_first : (queue : List Arrived) (a : Arrived) → slice_get queue 0 ≡ Some a → queue ≡ a ∷ drop 1 queue
+pub queue_from_first : (queue : List Arrived) (a : Arrived) → slice_get queue 0 ≡ Some a → queue ≡ a ∷ drop 1 queue
 queue_from_first [] a is = cc
 queue_from_first (b ∷ rest) a is = cc
 
-queue_from_none : (queue : List Arrived) → slice_get queue 0 ≡ None → queue ≡ []
+pub queue_from_none : (queue : List Arrived) → slice_get queue 0 ≡ None → queue ≡ []
 queue_from_none [] is = refl
 queue_from_none (b ∷ rest) is = cc
 

@@ -1,5 +1,5 @@
 -- A mailbox: the letters that have arrived and were not read, in order of arrival.
-use Rattle.std.specs.Prelude.{ℕ, Bool, true, false, ◌==◌, if◌then◌else◌, List, [], ◌∷◌, find, Option, Some, None, option_and_then}
+use Rattle.std.specs.Prelude.{ℕ, ◌+◌, ◌≤◌, Bool, true, false, ◌==◌, if◌then◌else◌, List, [], ◌∷◌, find, Option, Some, None, option_and_then}
 use Rattle.t32_base.specs.declared.process.EndState.{EndState}
 use Rattle.t32_base.specs.declared.letter.Arrived.{Arrived}
 use Rattle.t32_base.specs.declared.letter.To.{To}
@@ -52,3 +52,8 @@ signal_letter mail = find (is_on 0) mail
 -- the first signal that waits
 abbrev pub first_signal : List Arrived → Option ℕ
 first_signal mail = option_and_then (λ (a : Arrived). signal_of (a.letter).body) (signal_letter mail)
+
+-- the numbers of these letters rise: none is below the first number, and each is below the last
+abbrev pub RiseTo : ℕ → List Arrived → ℕ → Type 0
+RiseTo first [] last = first ≤ last
+RiseTo first (a ∷ rest) last = (first ≤ a.number) × RiseTo (a.number + 1) rest last

@@ -70,8 +70,19 @@ pub record PutsLast (old new : List (List Arrived)) (e : ℕ) (a : Arrived) : Ty
 abbrev pub waiting : List EndState → List (List Arrived) → ℕ → Option ℕ
 waiting ends queues e = if is_linked_at ends e then option_map (λ (a : Arrived). a.number) (slice_get (queue_of queues e) 0) else None
 
+-- the number of the first letter that waits at an end
+abbrev pub first_number : List (List Arrived) → ℕ → Option ℕ
+first_number queues e = option_map (λ (a : Arrived). a.number) (slice_get (queue_of queues e) 0)
+
 -- no letter waits at a linked end before this one
 pub record IsEarliest (ends : List EndState) (queues : List (List Arrived)) (e : ℕ) : Type 0 where
   pub number : ℕ
   pub waits : waiting ends queues e ≡ Some number
   pub least : (j m : ℕ) → waiting ends queues j ≡ Some m → number ≤ m
+
+-- no letter waits at any end before this one
+pub record IsEarliestOfAll (queues : List (List Arrived)) (e : ℕ) : Type 0 where
+  pub number : ℕ
+  pub within : e < length queues
+  pub waits : first_number queues e ≡ Some number
+  pub least : (j m : ℕ) → first_number queues j ≡ Some m → number ≤ m

@@ -1,5 +1,5 @@
 //! The letters that wait at one end.
-ghost use Rattle.std.specs.Prelude.{◌≡◌, [], ◌∷◌, ◌++◌, drop, slice_get, OnOk, OnErr, option_copied};
+ghost use Rattle.std.specs.Prelude.{◌≡◌, [], ◌∷◌, ◌++◌, drop, slice_get, IfOk, OnOk, OnErr, option_copied};
 
 use std::alloc::Global;
 use std::collections::VecDeque;
@@ -30,6 +30,17 @@ impl Queue {
         Queue {
             letters: VecDeque::new(alloc),
         }
+    }
+
+    /// An equal queue. The letters' texts are shared.
+    pub fn copy(&self, alloc: Global) -> Result<Self, NoMemory>
+        ensures { IfOk result (λ q. q ≡ self.now) }
+    {
+        let mut letters = VecDeque::new(alloc);
+        for index in 0..self.letters.len() {
+            letters.push_back(self.letters[index].copy()?)?;
+        }
+        Ok(Queue { letters })
     }
 
     /// The first letter.

@@ -175,6 +175,22 @@ fn what_a_record_is_told_is_handed_over(rt: HostRuntime) -> Result<(), Fail> {
     )
 }
 
+// What a record hands over that is made of the record that another tells.
+fn told_and_handed_over(alloc: Global) -> Result<(Taken, u32, Option<(Pid, Pid)>), NoMemory> {
+    let told = all_told(alloc)?.told()?;
+    Ok(handed_over(Record::of(&told)?))
+}
+
+#[test]
+fn a_record_that_is_told_makes_an_equal_one(rt: HostRuntime) -> Result<(), Fail> {
+    let letters = (3, [Some(0), Some(2), Some(1)], true);
+    same(
+        "what it hands over",
+        &told_and_handed_over(rt.alloc())?,
+        &(letters, 2, BIRTHS),
+    )
+}
+
 // A record with three letters and a birth.
 fn with_birth(alloc: Global) -> Result<Record, NoMemory>
     ensures fronts { IfOk result (λ rec. AreFronts (1 ∷ 0 ∷ []) rec.saved) }

@@ -63,9 +63,9 @@ fn take_first(process: &mut Process) -> Result<Option<u8>, NoMemory>
     Ok(Some(take_signal(process)?))
 }
 
-// A post for each marked page, by rising index.
+/// A post for each page that changed since the last time, by rising index.
 #[tactic(auto, using(crate::proofs::Marked::one_passes, crate::proofs::Marked::none_passes))]
-fn page_posts(alloc: Global, process: &Process, by: ClusterNo) -> Result<Vec<Post>, NoMemory>
+pub fn page_posts(alloc: Global, process: &Process, by: ClusterNo) -> Result<Vec<Post>, NoMemory>
     ensures { IfOk result (λ posts. posts.items ≡ page_posts process.now by) }
 {
     let mut posts = Vec::new(alloc);
